@@ -1,0 +1,4 @@
+pub mod Range
+pub mod Arithmetic
+pub mod Literal
+pub mod NumText

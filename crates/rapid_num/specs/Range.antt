@@ -1,0 +1,13 @@
+-- Which counts of thousandths are nums.
+use Rattle.std.specs.Prelude.{ℕ, ◌≤◌, ℤ, nat_abs, Bool, nat_le}
+
+-- the greatest size of a num, in thousandths
+abbrev pub greatest : ℕ
+greatest = 9_999_999_999_999
+
+-- a count of thousandths that is a num
+pub record IsNum (count : ℤ) : Type 0 where
+  pub size : nat_abs count ≤ greatest
+
+abbrev pub is_num : ℤ → Bool
+is_num count = nat_le (nat_abs count) greatest

@@ -1,0 +1,14 @@
+//! Numbers of RAPID as whole thousandths, and the joints, bounds and shapes that are made of them.
+#![tactic(auto)]
+
+mod joints;
+mod num;
+mod shape;
+
+pub use joints::Joints;
+pub use num::Num;
+pub use shape::{Bound, Shape};
+
+/// Memory was refused. What the call was lent is as it was.
+#[derive(Clone, Copy, Debug, PartialEq, Eq)]
+pub struct Memory;

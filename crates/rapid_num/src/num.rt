@@ -1,0 +1,52 @@
+ghost use Rattle.std.specs.Prelude.{◌≡◌, ◌↔◌, ℤ, IsSome, IfSome, Some, option_map};
+ghost use Rattle.rapid_num.specs.Range.{IsNum};
+ghost use Rattle.rapid_num.specs.Arithmetic.{num_of, difference_of};
+
+use std::marker::Model;
+
+/// A RAPID num: a whole count of thousandths of at most 9 999 999 999 999 in size (RAPID Overview, basic elements;
+/// ABB's num is a float, this profile's is exact). Contracts see it as that count.
+#[derive(Clone, Copy, Debug, PartialEq, Eq)]
+pub struct Num {
+    thousandths: i64,
+}
+
+impl Model for Num {
+    ghost use Rattle.std.specs.Prelude.{ℤ};
+    ghost use Rattle.rapid_num.specs.Range.{IsNum};
+
+    ghost Value = { ℤ };
+
+    ghost view = { λ n. n.thousandths };
+
+    ghost invariant = { λ n. IsNum n.thousandths };
+
+    ghost inverse = { λ z. record { thousandths = z } };
+}
+
+impl Num {
+    /// The num of so many thousandths: `None` exactly where the count is out of range.
+    pub fn new(thousandths: i64) -> Option<Num>
+        ensures { result ≡ num_of thousandths }
+    {
+        if thousandths < -9_999_999_999_999 || thousandths > 9_999_999_999_999 {
+            return None;
+        }
+        Some(Num { thousandths })
+    }
+
+    /// The count of thousandths.
+    pub fn thousandths(self) -> i64
+        ensures same { result ≡ self }
+        ensures range { IsNum self }
+    {
+        self.thousandths
+    }
+
+    /// The exact difference: `None` exactly where it is out of range.
+    pub fn sub(self, other: Num) -> Option<Num>
+        ensures { result ≡ difference_of self other }
+    {
+        Num::new(self.thousandths - other.thousandths)
+    }
+}
