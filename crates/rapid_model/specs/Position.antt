@@ -1,0 +1,20 @@
+-- Where an arm may be.
+use Rattle.std.specs.Prelude.{◌&&◌, Bool, nat_le, ℤ, nat_abs, take, drop, ◌==◌}
+use Rattle.std.specs.List.{list_all}
+use Rattle.rapid_num.specs.declared.joints.Joints.{Joints}
+
+-- an axis within 720.000 degrees
+abbrev pub is_in_reach : ℤ → Bool
+is_in_reach angle = nat_le (nat_abs angle) 720_000
+
+-- 9E9, which stands for an external axis that is not there
+abbrev pub is_absent : ℤ → Bool
+is_absent angle = nat_abs angle == 9_000_000_000_000
+
+-- axes 1 to 6 are in reach
+abbrev pub is_reachable : Joints → Bool
+is_reachable joints = list_all is_in_reach (take 6 joints.axis)
+
+-- a position of an arm without external axes
+abbrev pub is_position : Joints → Bool
+is_position joints = is_reachable joints && list_all is_absent (drop 6 joints.axis)

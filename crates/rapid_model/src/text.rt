@@ -1,0 +1,66 @@
+ghost use Rattle.std.specs.Prelude.{◌≡◌, ◌≤◌, ◌<◌, ◌++◌, [], ◌∷◌, ◌↔◌, length, IsTrue, if◌then◌else◌};
+ghost use Rattle.rapid_model.specs.Printable.{IsPrintable, ArePrintable, takes};
+
+use arrayvec::ArrayVec;
+use std::marker::Model;
+
+/// A text of at most 80 bytes, each from 20 to 7E hexadecimal. Contracts see it as the list of its bytes.
+#[derive(Debug, PartialEq, Eq, Drop)]
+pub struct Text {
+    characters: ArrayVec<u8, 80>,
+}
+
+impl Model for Text {
+    ghost use Rattle.std.specs.Prelude.{ℕ, List};
+    ghost use Rattle.rapid_model.specs.Printable.{ArePrintable};
+
+    ghost Value = { List ℕ };
+
+    ghost view = { λ t. t.characters.items };
+
+    ghost invariant = { λ t. ArePrintable t.characters.items };
+
+    ghost inverse = { λ bytes. record { characters = record { items = bytes } } };
+}
+
+impl Text {
+    /// The empty text.
+    pub fn new() -> Text
+        ensures { result ≡ [] }
+    {
+        Text {
+            characters: ArrayVec::new(),
+        }
+    }
+
+    /// Appends the byte. No exactly where 80 bytes are held or the byte is outside 20 to 7E hexadecimal; nothing
+    /// changes then.
+    pub fn push(&mut self, byte: u8) -> bool
+        ensures taken { result ≡ takes 80 self.old byte }
+        ensures pushed { self.new ≡ (if result then self.old ++ byte ∷ [] else self.old) }
+    {
+        if !(32..=126).contains(&byte) {
+            return false;
+        }
+        self.characters.try_push(byte).is_ok()
+    }
+
+    /// The bytes.
+    pub fn bytes(&self) -> &[u8]
+        ensures same { result.now ≡ self.now }
+        ensures printable { ArePrintable self.now }
+        ensures short { length self.now ≤ 80 }
+    {
+        self.characters.as_slice()
+    }
+
+    /// An equal text.
+    pub fn copy(&self) -> Text
+        ensures { result ≡ self.now }
+    {
+        let mut characters = ArrayVec::new();
+        let copied = characters.try_extend_from_slice(self.characters.as_slice());
+        prove!(copied.is_ok());
+        Text { characters }
+    }
+}
