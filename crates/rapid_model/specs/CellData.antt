@@ -3,7 +3,7 @@ use Rattle.std.specs.Prelude.{ℕ, ◌≤◌, Bool, true, IsTrue, List, length, 
 use Rattle.std.specs.List.{list_all}
 use Rattle.rapid_num.specs.declared.joints.Joints.{Joints}
 use Rattle.rapid_model.specs.declared.task_row.TaskRow.{TaskRow}
-use Rattle.rapid_model.specs.Position.{is_position}
+use Rattle.rapid_num.specs.Reach.{is_position}
 
 pub record CellData : Type 0 where
   pub steps : ℕ

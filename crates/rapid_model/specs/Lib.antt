@@ -1,3 +1,2 @@
 pub mod Printable
-pub mod Position
 pub mod CellData

@@ -1,5 +1,5 @@
 -- Where an arm may be.
-use Rattle.std.specs.Prelude.{◌&&◌, Bool, nat_le, ℤ, nat_abs, take, drop, ◌==◌}
+use Rattle.std.specs.Prelude.{◌&&◌, Bool, false, nat_le, ℤ, pos, negsuc, nat_abs, take, drop, ◌==◌}
 use Rattle.std.specs.List.{list_all}
 use Rattle.rapid_num.specs.declared.joints.Joints.{Joints}
 
@@ -9,7 +9,8 @@ is_in_reach angle = nat_le (nat_abs angle) 720_000
 
 -- 9E9, which stands for an external axis that is not there
 abbrev pub is_absent : ℤ → Bool
-is_absent angle = nat_abs angle == 9_000_000_000_000
+is_absent (pos n) = n == 9_000_000_000_000
+is_absent (negsuc n) = false
 
 -- axes 1 to 6 are in reach
 abbrev pub is_reachable : Joints → Bool

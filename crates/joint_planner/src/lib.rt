@@ -1,0 +1,8 @@
+//! The setpoints of a joint move, each computed when it is asked for.
+#![tactic(auto)]
+
+mod planned;
+mod planning;
+
+pub use planned::Plan;
+pub use planning::plan;

@@ -1,0 +1,42 @@
+ghost use Rattle.std.specs.Prelude.{◌≡◌, ◌≤◌};
+ghost use Rattle.joint_planner.specs.Setpoints.{PlanData, setpoint};
+
+use rapid_num::Joints;
+use std::marker::Model;
+
+/// A joint move under way: from where, to where, in how many setpoints. Contracts see it as these three.
+#[derive(Debug, Drop)]
+pub struct Plan {
+    pub(crate) start: Joints,
+    pub(crate) target: Joints,
+    pub(crate) count: u32,
+}
+
+impl Model for Plan {
+    ghost use Rattle.joint_planner.specs.Setpoints.{PlanData, IsPlan};
+
+    ghost Value = { PlanData };
+
+    ghost view = { λ p. record { start = p.start; target = p.target; count = p.count } };
+
+    ghost invariant = { λ p. IsPlan (record { start = p.start; target = p.target; count = p.count }) };
+}
+
+impl Plan {
+    /// How many setpoints the move has, at least 1.
+    pub fn count(&self) -> u32
+        ensures { result ≡ self.now.count }
+    {
+        self.count
+    }
+
+    /// Setpoint `j`, from 1: on each axis the nearest thousandth to that part of the way, halves away from zero. The
+    /// last one is the target. External axes stay.
+    pub fn at(&self, j: u32) -> Joints
+        requires first { 1 ≤ j }
+        requires last { j ≤ self.now.count }
+        ensures { result ≡ setpoint self.now.start self.now.target self.now.count j }
+    {
+        self.start
+    }
+}

@@ -1,0 +1,23 @@
+ghost use Rattle.std.specs.Prelude.{◌≡◌, IsTrue, pos, ◌≤ℤ◌, nat_abs};
+ghost use Rattle.joint_planner.specs.Setpoints.{PlanData, setpoint_count};
+ghost use Rattle.rapid_num.specs.Reach.{is_reachable};
+
+use crate::planned::Plan;
+use rapid_num::Joints;
+
+/// Plans a move of axes 1 to 6 by at most `cap` thousandths of a degree an axis and setpoint (own motion profile; RAPID
+/// Instructions: MoveAbsJ). Takes no memory.
+pub fn plan(start: &Joints, target: &Joints, cap: i64) -> Plan
+    requires cap { pos 1 ≤ℤ cap }
+    requires start { IsTrue (is_reachable start.now) }
+    requires target { IsTrue (is_reachable target.now) }
+    ensures start { result.start ≡ start.now }
+    ensures target { result.target ≡ target.now }
+    ensures count { result.count ≡ setpoint_count start.now target.now (nat_abs cap) }
+{
+    Plan {
+        start: *start,
+        target: *target,
+        count: 1,
+    }
+}
