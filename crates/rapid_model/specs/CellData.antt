@@ -10,12 +10,12 @@ pub record CellData : Type 0 where
   pub tasks : List TaskRow
 
 -- an arm, where there is one, starts at a position
+abbrev pub is_start : Option Joints → Bool
+is_start None = true
+is_start (Some start) = is_position start
+
 abbrev pub starts_well : TaskRow → Bool
 starts_well row = is_start row.arm
-  where
-    is_start : Option Joints → Bool
-    is_start None = true
-    is_start (Some start) = is_position start
 
 -- the limits that every cell keeps
 pub record IsCell (cell : CellData) : Type 0 where

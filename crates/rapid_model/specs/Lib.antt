@@ -1,2 +1,4 @@
 pub mod Printable
+pub mod Names
 pub mod CellData
+pub mod ScriptData

@@ -1,5 +1,5 @@
 -- Where an arm may be.
-use Rattle.std.specs.Prelude.{◌&&◌, Bool, false, nat_le, ℤ, pos, negsuc, nat_abs, take, drop, ◌==◌}
+use Rattle.std.specs.Prelude.{◌&&◌, Bool, false, nat_le, ℤ, pos, negsuc, nat_abs, List, replicate, take, drop, ◌==◌}
 use Rattle.std.specs.List.{list_all}
 use Rattle.rapid_num.specs.declared.joints.Joints.{Joints}
 
@@ -11,6 +11,10 @@ is_in_reach angle = nat_le (nat_abs angle) 720_000
 abbrev pub is_absent : ℤ → Bool
 is_absent (pos n) = n == 9_000_000_000_000
 is_absent (negsuc n) = false
+
+-- external axes that are not given
+abbrev pub absent_axes : List ℤ
+absent_axes = replicate 6 (pos 9_000_000_000_000)
 
 -- axes 1 to 6 are in reach
 abbrev pub is_reachable : Joints → Bool

@@ -1,0 +1,17 @@
+ghost use Rattle.std.specs.Prelude.{◌≡◌, IfOk, Err, Ok, ◌⊎◌};
+ghost use Rattle.module_parser.specs.Grammar.{SpellsModule};
+ghost use Rattle.rapid_model.specs.declared.tree.Tree.{Tree};
+
+use crate::fault::ModuleFault;
+use rapid_model::{Sequence, Tree};
+use std::alloc::Global;
+
+/// The tree that the whole text spells (RAPID Kernel, module declarations).
+pub fn read_module(alloc: Global, source: &[u8]) -> Result<Tree, ModuleFault>
+    ensures spelled { IfOk result (λ tree. SpellsModule tree source.now) }
+    // No other tree is spelled, and what is spelled is read unless memory runs out.
+    ensures only { (tree : Tree) → SpellsModule tree source.now → (result ≡ Ok tree) ⊎ (result ≡ Err ModuleFault.Memory) }
+    ensures refused { result ≡ Err ModuleFault.NotBuilt → (tree : Tree) → SpellsModule tree source.now → ⊥ }
+{
+    Err(ModuleFault::Memory)
+}
