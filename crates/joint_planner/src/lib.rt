@@ -2,7 +2,5 @@
 #![tactic(auto)]
 
 mod planned;
-mod planning;
 
 pub use planned::Plan;
-pub use planning::plan;

@@ -1,5 +1,4 @@
 ghost use Rattle.std.specs.Prelude.{◌≡◌, ◌≤◌};
-ghost use Rattle.joint_planner.specs.Setpoints.{PlanData, setpoint};
 
 use rapid_num::Joints;
 use std::marker::Model;
@@ -28,15 +27,5 @@ impl Plan {
         ensures { result ≡ self.now.count }
     {
         self.count
-    }
-
-    /// Setpoint `j`, from 1: on each axis the nearest thousandth to that part of the way, halves away from zero. The
-    /// last one is the target. External axes stay.
-    pub fn at(&self, j: u32) -> Joints
-        requires first { 1 ≤ j }
-        requires last { j ≤ self.now.count }
-        ensures { result ≡ setpoint self.now.start self.now.target self.now.count j }
-    {
-        self.start
     }
 }

@@ -1,13 +1,8 @@
-// A library with one function.
+//! A machine runs one task: it asks what the task's tree asks, one request at a time.
 #![tactic(auto)]
 
-ghost use Rattle.std.specs.Prelude.{◌≡◌};
-ghost use Rattle.task_machine.specs.Echo.{echo_of};
+mod machine;
+mod stage;
 
-// The `ensures` clause is the contract: what `echo` returns is `echo_of` of its argument, a definition
-// in `specs/Echo.antt`, which a caller's clause can cite too.
-pub fn echo(x: usize) -> usize
-    ensures { result ≡ echo_of x }
-{
-    x
-}
+pub use machine::Machine;
+pub use stage::Stage;

@@ -1,0 +1,3 @@
+pub mod CoreData
+pub mod Serving
+pub mod Soundness
