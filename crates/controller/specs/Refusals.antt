@@ -1,0 +1,52 @@
+-- The status and the line of a refusal.
+use Rattle.std.specs.Prelude.{ℕ, List, [], ◌∷◌, ◌++◌, Option, Some, None, codes, decimal, slice_get, length, ◌==◌, if◌then◌else◌}
+use Rattle.std.specs.Option.{unwrap_or}
+use Rattle.rapid_model.specs.declared.script.ScriptRule.{ScriptRule}
+use Rattle.rapid_model.specs.declared.script.ScriptRule.TheVariants as rules
+use Rattle.controller.specs.declared.refused.Refused.{Refused}
+use Rattle.controller.specs.declared.refused.Refused.TheVariants.{Words, Script, Module, Read, Write, Memory, TooLong}
+use Rattle.controller.specs.declared.refused.ModuleRule.{ModuleRule}
+use Rattle.controller.specs.declared.refused.ModuleRule.TheVariants as modules
+use Rattle.controller.specs.declared.refused.Place.{Place}
+
+abbrev pub status_of : Refused → ℕ
+status_of (Words place) = 2
+status_of (Script key rule) = 3
+status_of (Module file place rule) = 4
+status_of (Read file) = 5
+status_of Write = 6
+status_of Memory = 7
+status_of (TooLong file) = 10
+
+abbrev pub script_rule_name : ScriptRule → List ℕ
+script_rule_name rules.NotToml = codes "NotToml"
+script_rule_name rules.NotBuilt = codes "NotBuilt"
+
+abbrev pub module_rule_name : ModuleRule → List ℕ
+module_rule_name modules.NotBuilt = codes "NotBuilt"
+
+-- an empty key is shown as a minus
+abbrev pub key_words : List ℕ → List ℕ
+key_words [] = codes "-"
+key_words (b ∷ bs) = b ∷ bs
+
+abbrev pub place_words : Place → List ℕ
+place_words place = decimal place.line ++ (58 ∷ decimal place.column)
+
+-- the name of a file by its number, the script's being 0
+abbrev pub name_at : List (List ℕ) → ℕ → List ℕ
+name_at names file = unwrap_or (slice_get names file) []
+
+-- the words behind `rapid_cell: `
+abbrev pub refusal_words : List (List ℕ) → Refused → List ℕ
+refusal_words names (Words place) = codes "words " ++ decimal place
+refusal_words names (Script key rule) = codes "script " ++ (key_words key ++ (32 ∷ script_rule_name rule))
+refusal_words names (Module file place rule) = codes "module " ++ (name_at names file ++ (32 ∷ place_words place ++ (32 ∷ module_rule_name rule)))
+refusal_words names (Read file) = codes "read " ++ name_at names file
+refusal_words names Write = codes "write"
+refusal_words names Memory = codes "memory"
+refusal_words names (TooLong file) = codes "long " ++ name_at names file
+
+-- the line that tells a refusal; names are those of the files, in the order in which they are read
+abbrev pub refusal_line : List (List ℕ) → Refused → List ℕ
+refusal_line names refused = codes "rapid_cell: " ++ (refusal_words names refused ++ codes "\n")

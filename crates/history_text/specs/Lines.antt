@@ -1,0 +1,63 @@
+-- The lines that are printed of a history. Each ends with 0A.
+use Rattle.std.specs.Prelude.{ℕ, ℤ, List, [], ◌∷◌, ◌++◌, Option, Some, None, codes, take, slice_get}
+use Rattle.std.specs.List.{flat_map}
+use Rattle.rapid_num.specs.NumText.{fixed_text}
+use Rattle.rapid_num.specs.declared.joints.Joints.{Joints}
+use Rattle.rapid_model.specs.CellData.{CellData}
+use Rattle.rapid_model.specs.declared.answer.Answer.{Answer}
+use Rattle.rapid_model.specs.declared.answer.Answer.TheVariants as answers
+use Rattle.rapid_model.specs.declared.event.Event.{Event}
+use Rattle.rapid_model.specs.declared.fate.Fate.{Fate}
+use Rattle.rapid_model.specs.declared.fate.Fate.TheVariants as fates
+use Rattle.rapid_model.specs.declared.fate.Fault.{Fault}
+use Rattle.rapid_model.specs.declared.fate.Fault.TheVariants.{JointRange}
+use Rattle.rapid_model.specs.declared.request.Request.{Request}
+use Rattle.rapid_model.specs.declared.request.Request.TheVariants.{Setpoint}
+use Rattle.rapid_model.specs.declared.task_row.TaskRow.{TaskRow}
+
+-- numbers with three decimals, each after a space
+abbrev pub number_words : List ℤ → List ℕ
+number_words [] = []
+number_words (z ∷ zs) = 32 ∷ fixed_text z ++ number_words zs
+
+-- the name of a task
+abbrev pub task_name : List TaskRow → ℕ → List ℕ
+task_name tasks actor = named (slice_get tasks actor)
+  where
+    named : Option TaskRow → List ℕ
+    named (Some row) = row.name
+    named None = []
+
+-- a setpoint that was given: S, the task, and axes 1 to 6 in degrees
+abbrev pub setpoint_line : List ℕ → Joints → List ℕ
+setpoint_line name to = codes "S " ++ (name ++ (number_words (take 6 to.axis) ++ codes "\n"))
+
+-- the line of an event, or nothing
+abbrev pub line_between : List ℕ → Request → Answer → List ℕ
+line_between name (Setpoint to) answers.Given = setpoint_line name to
+line_between name _ _ = []
+
+abbrev pub line_of : List TaskRow → Event → List ℕ
+line_of tasks e = line_between (task_name tasks e.actor) e.request e.answer
+
+abbrev pub fault_name : Fault → List ℕ
+fault_name JointRange = codes "JointRange"
+
+abbrev pub fate_words : Fate → List ℕ
+fate_words fates.Done = codes "Done"
+fate_words (fates.Fault fault) = codes "Fault " ++ fault_name fault
+fate_words fates.Held = codes "Held"
+fate_words fates.Cut = codes "Cut"
+
+-- how a task stands in the end: E, the task, and its fate
+abbrev pub fate_line : List ℕ → Fate → List ℕ
+fate_line name fate = codes "E " ++ (name ++ (32 ∷ fate_words fate ++ codes "\n"))
+
+abbrev pub fate_lines : List TaskRow → List Fate → List ℕ
+fate_lines [] fates = []
+fate_lines (row ∷ rows) [] = []
+fate_lines (row ∷ rows) (fate ∷ fates) = fate_line row.name fate ++ fate_lines rows fates
+
+-- what a run prints: the lines of its events in order, and then those of the tasks in script order
+abbrev pub output_of : CellData → List Event → List Fate → List ℕ
+output_of cell history fates = flat_map (line_of cell.tasks) history ++ fate_lines cell.tasks fates

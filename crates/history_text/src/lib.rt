@@ -1,0 +1,8 @@
+//! The lines of a history, built in room of fixed size.
+#![tactic(auto)]
+
+mod event_line;
+mod fate_line;
+
+pub use event_line::write_event;
+pub use fate_line::write_fate;
