@@ -2,3 +2,5 @@ mod Examples
 pub mod NumberSteps
 pub mod TenPowers
 pub mod Cuts
+pub mod DecimalDigits
+pub mod ReadBack
