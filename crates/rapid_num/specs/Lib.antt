@@ -1,5 +1,6 @@
 pub mod Range
+pub mod Reach
 pub mod Arithmetic
 pub mod Literal
 pub mod NumText
-pub mod Reach
+pub mod Reading
