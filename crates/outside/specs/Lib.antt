@@ -1,0 +1,6 @@
+pub mod Count
+pub mod Told
+pub mod Reads
+pub mod Writes
+pub mod MemoryShelf
+pub mod MemorySink

@@ -1,0 +1,13 @@
+-- A shelf in memory, as contracts see it.
+use Rattle.std.specs.Prelude.{ℕ, List, map, String, Vec, string_bytes}
+use Rattle.std.specs.declared.alloc.Global.{Global}
+use Rattle.outside.specs.Told.{Told}
+
+-- what it tells, and its count of faults
+pub record MemoryShelfState : Type 0 where
+  pub told : Told
+  pub faults : ℕ
+
+-- names and bytes
+abbrev pub files_of : List (String Global × Vec ℕ Global) → List (List ℕ × List ℕ)
+files_of files = map (λ f. (string_bytes f.0, f.1.items)) files
