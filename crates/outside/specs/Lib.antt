@@ -4,3 +4,4 @@ pub mod Reads
 pub mod Writes
 pub mod MemoryShelf
 pub mod MemorySink
+pub mod StreamSink

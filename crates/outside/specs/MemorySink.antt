@@ -1,5 +1,5 @@
 -- A sink in memory, as contracts see it.
-use Rattle.std.specs.Prelude.{ℕ, ◌+◌, ◌-◌, List, Bool, ◌==◌, ◌||◌, ◌++◌, [], length, take, min, Result, Ok, Err, if◌then◌else◌}
+use Rattle.std.specs.Prelude.{ℕ, ◌-◌, List, Bool, ◌==◌, ◌||◌, ◌++◌, length, take, if◌then◌else◌}
 use Rattle.std.specs.List.{list_any}
 use Rattle.outside.specs.Count.{raised}
 

@@ -1,5 +1,6 @@
 ghost use Rattle.std.specs.Prelude.{◌≡◌, ℕ, ◌+◌, ◌≤◌, ◌<◌, List, ◌++◌, length, None};
-ghost use Rattle.outside.specs.Reads.{Extends};
+ghost use Rattle.outside.specs.Count.{Rose};
+ghost use Rattle.outside.specs.Reads.{Gains, Extends, faults_after_read};
 
 use super::memory_shelf::append;
 use super::{Shelf, ShelfFault};
@@ -41,17 +42,25 @@ impl<'a, R: Files> Shelf for FileShelf<'a, R> {
 
     ghost faults = { λ shelf. shelf };
 
-    /// A file that cannot be opened, and any error of a read, are failures.
+    /// A file that cannot be opened, and any error of a read, are failures; each raises the count of faults by one.
     fn read(
         &mut self,
         _alloc: Global,
         name: &str,
         limit: usize,
         into: &mut Vec<u8>,
-    ) -> Result<(), ShelfFault> {
+    ) -> Result<(), ShelfFault>
+        ensures faults_never_fall { self.old ≤ self.new }
+        ensures failed_only_where_faults_rose { result ≡ Err ShelfFault.Failed → Rose self.old self.new }
+        ensures into_gains { Gains limit into.old.items into.new.items result }
+
+        ensures failures_are_counted { self.new ≡ faults_after_read self.old result }
+    {
         let start = into.len();
         let result = read_path(self.runtime, name, limit, into);
-        if let Err(fault) = result && fault != ShelfFault::TooLong {
+        if let Err(fault) = result
+            && fault != ShelfFault::TooLong
+        {
             into.truncate(start);
             if fault == ShelfFault::Failed {
                 self.faults = self.faults.saturating_add(1);

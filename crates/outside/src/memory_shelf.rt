@@ -1,10 +1,9 @@
-ghost use Rattle.std.specs.Prelude.{◌≡◌, ℕ, ◌<◌, ◌≤◌, List, ◌++◌, length, take, map, Option, Some, option_map, string_bytes, bytes_eq, IfSome, OnOk, OnErr, IfErr};
-ghost use Rattle.std.specs.List.{IsDistinct};
-ghost use Rattle.std.specs.Map.{lookup, keys_of};
+ghost use Rattle.std.specs.Prelude.{◌≡◌, ℕ, ◌<◌, ◌≤◌, List, ◌++◌, length, take, map, Option, Some, option_map, string_bytes, bytes_eq, IfSome, OnOk, OnErr, IfErr, IsTrue};
+ghost use Rattle.std.specs.Map.{lookup};
 ghost use Rattle.outside.specs.Count.{Rose};
 ghost use Rattle.outside.specs.Told.{Told, found, after_reads};
 ghost use Rattle.outside.specs.Reads.{Gains, Follows, faults_after_read};
-ghost use Rattle.outside.specs.MemoryShelf.{MemoryShelfState, files_of};
+ghost use Rattle.outside.specs.MemoryShelf.{files_of, names_differ};
 
 use super::listed::is_listed;
 use super::{Shelf, ShelfFault};
@@ -32,7 +31,7 @@ impl Model for MemoryShelf {
 impl MemoryShelf {
     /// A shelf of these files, by name; no name stands twice. The reads whose numbers, from 0, stand in `failing` fail.
     pub fn new(files: Vec<(String, Vec<u8>)>, failing: Vec<u32>) -> MemoryShelf
-        requires names_differ { IsDistinct bytes_eq (keys_of (files_of files.items)) }
+        requires names_differ { IsTrue (names_differ (files_of files.items)) }
         ensures files { result.told.files ≡ files_of files.items }
         ensures no_reads_yet { result.told.calls ≡ 0 }
         ensures failing { result.told.failing ≡ failing.items }
@@ -96,8 +95,7 @@ fn bytes_at<'a>(files: &'a [(String, Vec<u8>)], name: &str) -> Option<&'a [u8]>
 
 // Appends the bytes, or the first of them where there are more than the limit.
 fn append_within(bytes: &[u8], limit: usize, into: &mut Vec<u8>) -> Result<(), ShelfFault>
-    ensures follows { Follows (Some bytes.now) limit into.old.items into.new.items result }
-    ensures unchanged_without_memory { result ≡ Err ShelfFault.Memory → into.new.items ≡ into.old.items }
+    ensures { Follows (Some bytes.now) limit into.old.items into.new.items result }
 {
     if bytes.len() <= limit {
         append(bytes, into)
