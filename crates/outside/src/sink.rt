@@ -1,4 +1,5 @@
-ghost use Rattle.std.specs.Prelude.{◌≡◌, ℕ, ◌<◌, ◌≤◌, List, ◌++◌, length, Option, IfOk, OnErr, option_map};
+ghost use Rattle.std.specs.Prelude.{◌≡◌, ℕ, ◌<◌, ◌≤◌, List, length, Option, IfOk, OnErr};
+ghost use Rattle.std.specs.Io.KnownBytes.{append_known};
 ghost use Rattle.outside.specs.Count.{Rose};
 ghost use Rattle.outside.specs.Writes.{taken};
 
@@ -22,5 +23,5 @@ pub trait Sink {
         ensures takes_at_most_all { IfOk result (λ n. n ≤ length piece.now) }
 
         // Where the sink tells nothing it goes on telling nothing.
-        ensures told_after { told self.new ≡ option_map (λ held. held ++ taken result piece.now) (told self.old) };
+        ensures told_after { told self.new ≡ append_known (told self.old) (taken result piece.now) };
 }
