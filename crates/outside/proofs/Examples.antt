@@ -1,0 +1,58 @@
+-- The definitions on examples worked by hand.
+use Rattle.std.proofs.Common.{◌≡◌, refl, Some, None, true, [], ◌∷◌, ◌-◌, ◌^◌}
+use Rattle.std.specs.Prelude.{codes, Ok, Err}
+use Rattle.outside.specs.Count.{raised}
+use Rattle.outside.specs.Told.{Told, file_at, found, after_reads}
+use Rattle.outside.specs.Reads.{answer_for, gain_for}
+use Rattle.outside.specs.MemorySink.{MemorySinkState, refuses, after_write}
+use Rattle.outside.specs.declared.shelf_fault.ShelfFault.TheVariants.{Failed, TooLong}
+
+raised_twice : raised 2 5 ≡ 7
+raised_twice = refl
+
+raised_at_last : raised 3 (2 ^ 64 - 2) ≡ 2 ^ 64 - 1
+raised_at_last = refl
+
+-- two files; the second read fails
+abbrev two_files : Told
+two_files = record { files = (codes "a", 1 ∷ 2 ∷ []) ∷ (codes "ab", 3 ∷ []) ∷ []; calls = 0; failing = 1 ∷ [] }
+
+held : file_at two_files (codes "ab") ≡ Some (3 ∷ [])
+held = refl
+
+absent : file_at two_files (codes "b") ≡ None
+absent = refl
+
+first_read : found two_files (codes "a") ≡ Some (1 ∷ 2 ∷ [])
+first_read = refl
+
+second_read : found (after_reads 1 two_files) (codes "a") ≡ None
+second_read = refl
+
+third_read : found (after_reads 2 two_files) (codes "a") ≡ Some (1 ∷ 2 ∷ [])
+third_read = refl
+
+within : answer_for (Some (1 ∷ 2 ∷ [])) 2 ≡ Ok tt
+within = refl
+
+too_long : answer_for (Some (1 ∷ 2 ∷ [])) 1 ≡ Err TooLong
+too_long = refl
+
+too_long_by_two : gain_for (Some (1 ∷ 2 ∷ 3 ∷ [])) 1 ≡ 1 ∷ 2 ∷ []
+too_long_by_two = refl
+
+none_found : answer_for None 1 ≡ Err Failed
+none_found = refl
+
+-- room for three bytes, one held; the second write fails
+abbrev one_held : MemorySinkState
+one_held = record { bytes = 7 ∷ []; room = 3; writes = 0; failing = 1 ∷ []; faults = 0 }
+
+fills_up : after_write one_held (8 ∷ 9 ∷ 10 ∷ []) ≡ record { bytes = 7 ∷ 8 ∷ 9 ∷ []; room = 3; writes = 1; failing = 1 ∷ []; faults = 0 }
+fills_up = refl
+
+refused_when_listed : after_write (after_write one_held (8 ∷ [])) (9 ∷ []) ≡ record { bytes = 7 ∷ 8 ∷ []; room = 3; writes = 2; failing = 1 ∷ []; faults = 1 }
+refused_when_listed = refl
+
+refused_when_full : refuses (after_write one_held (8 ∷ 9 ∷ [])) ≡ true
+refused_when_full = refl

@@ -1,0 +1,4 @@
+mod Examples
+pub mod Counting
+pub mod Reading
+pub mod Writing

@@ -1,0 +1,7 @@
+pub mod Count
+pub mod Told
+pub mod Reads
+pub mod Writes
+pub mod MemoryShelf
+pub mod MemorySink
+pub mod StreamSink

@@ -1,0 +1,106 @@
+ghost use Rattle.std.specs.Prelude.{◌≡◌, ℕ, ◌+◌, ◌≤◌, ◌<◌, List, ◌++◌, length, None};
+ghost use Rattle.outside.specs.Count.{Rose};
+ghost use Rattle.outside.specs.Reads.{Gains, Extends, faults_after_read};
+
+use super::memory_shelf::append;
+use super::{Shelf, ShelfFault};
+use std::alloc::Global;
+use std::fs;
+use std::io::Read;
+use std::marker::Model;
+use std::rt::Files;
+
+// How many bytes are asked for at once.
+const CHUNK: usize = 4096;
+
+/// The files of the runtime; names are paths. It tells nothing of them. Contracts see it as its count of faults.
+#[derive(Drop)]
+pub struct FileShelf<'a, R: Files> {
+    runtime: &'a R,
+    faults: u64,
+}
+
+impl<'a, R: Files> Model for FileShelf<'a, R> {
+    ghost use Rattle.std.specs.Prelude.{ℕ};
+
+    ghost Value = { ℕ };
+
+    ghost view = { λ shelf. shelf.faults };
+}
+
+impl<'a, R: Files> FileShelf<'a, R> {
+    /// The files that the runtime gives.
+    pub fn new(runtime: &'a R) -> FileShelf<'a, R>
+        ensures no_faults_yet { result ≡ 0 }
+    {
+        FileShelf { runtime, faults: 0 }
+    }
+}
+
+impl<'a, R: Files> Shelf for FileShelf<'a, R> {
+    ghost told = { λ _. None };
+
+    ghost faults = { λ shelf. shelf };
+
+    /// A file that cannot be opened, and any error of a read, are failures; each raises the count of faults by one.
+    fn read(
+        &mut self,
+        _alloc: Global,
+        name: &str,
+        limit: usize,
+        into: &mut Vec<u8>,
+    ) -> Result<(), ShelfFault>
+        ensures faults_never_fall { self.old ≤ self.new }
+        ensures failed_only_where_faults_rose { result ≡ Err ShelfFault.Failed → Rose self.old self.new }
+        ensures into_gains { Gains limit into.old.items into.new.items result }
+
+        ensures failures_are_counted { self.new ≡ faults_after_read self.old result }
+    {
+        let start = into.len();
+        let result = read_path(self.runtime, name, limit, into);
+        if let Err(fault) = result
+            && fault != ShelfFault::TooLong
+        {
+            into.truncate(start);
+            if fault == ShelfFault::Failed {
+                self.faults = self.faults.saturating_add(1);
+            }
+        }
+        result
+    }
+}
+
+// Appends the file's bytes, up to one more than the limit.
+fn read_path<R: Files>(
+    runtime: &R,
+    name: &str,
+    limit: usize,
+    into: &mut Vec<u8>,
+) -> Result<(), ShelfFault>
+    ensures { Extends limit into.old.items into.new.items result }
+{
+    match fs::open(runtime, name) {
+        Ok(mut file) => read_to_limit(&mut file, limit, into),
+        Err(_) => Err(ShelfFault::Failed),
+    }
+}
+
+// Appends what the reader gives, up to one byte more than the limit.
+fn read_to_limit<F: Read>(file: &mut F, limit: usize, into: &mut Vec<u8>) -> Result<(), ShelfFault>
+    ensures { Extends limit into.old.items into.new.items result }
+{
+    let mut chunk = [0; CHUNK];
+    let mut gained = 0;
+    while gained <= limit {
+        let want = (limit - gained).min(CHUNK - 1) + 1;
+        match file.read(&mut chunk[..want]) {
+            Ok(0) => return Ok(()),
+            Ok(count) => {
+                append(&chunk[..count], into)?;
+                gained += count;
+            }
+            Err(_) => return Err(ShelfFault::Failed),
+        }
+    }
+    Err(ShelfFault::TooLong)
+}

@@ -1,0 +1,26 @@
+//! What the product reads and writes: shelves of named files and sinks of bytes, with their faults counted.
+#![tactic(auto)]
+
+mod failed;
+mod file_shelf;
+mod listed;
+mod memory;
+mod memory_shelf;
+mod memory_sink;
+mod shelf;
+mod shelf_fault;
+mod sink;
+mod stream_sink;
+
+pub use failed::Failed;
+pub use file_shelf::FileShelf;
+pub use memory::Memory;
+pub use memory_shelf::MemoryShelf;
+pub use memory_sink::MemorySink;
+pub use shelf::Shelf;
+pub use shelf_fault::ShelfFault;
+pub use sink::Sink;
+pub use stream_sink::StreamSink;
+
+#[cfg(test)]
+mod tests;

@@ -1,0 +1,91 @@
+ghost use Rattle.std.specs.Prelude.{◌≡◌, ℕ, ◌-◌, ◌<◌, ◌≤◌, ◌↔◌, List, ◌++◌, [], length, Some, min, Ok, Err, IfOk, OnOk, OnErr, IsErr, IsTrue, option_map};
+ghost use Rattle.outside.specs.Count.{Rose};
+ghost use Rattle.outside.specs.Writes.{taken};
+ghost use Rattle.outside.specs.MemorySink.{MemorySinkState, refuses, after_write};
+
+use super::listed::is_listed;
+use super::{Failed, Memory, Sink};
+use std::alloc::Global;
+use std::marker::Model;
+
+/// Bytes in memory, with room for so many, and with the writes that fail chosen beforehand. Contracts see it as these
+/// bytes, the room, the number of writes so far, the numbers of the writes that fail, and the count of faults.
+#[derive(Drop)]
+pub struct MemorySink {
+    bytes: Vec<u8>,
+    room: usize,
+    writes: u64,
+    failing: Vec<u32>,
+    faults: u64,
+}
+
+impl Model for MemorySink {
+    ghost use Rattle.std.specs.Prelude.{◌≤◌, vec_len, vec_capacity};
+    ghost use Rattle.outside.specs.MemorySink.{MemorySinkState};
+
+    ghost Value = { MemorySinkState };
+
+    ghost view = { λ sink. record { bytes = sink.bytes.items; room = sink.room; writes = sink.writes; failing = sink.failing.items; faults = sink.faults } };
+
+    ghost invariant = { λ sink. (vec_len sink.bytes ≤ sink.room) × (sink.room ≤ vec_capacity sink.bytes) };
+}
+
+impl MemorySink {
+    /// An empty sink with room for so many bytes. The writes whose numbers, from 0, stand in `failing` fail.
+    pub fn new(alloc: Global, room: usize, failing: Vec<u32>) -> Result<MemorySink, Memory>
+        ensures empty { IfOk result (λ sink. sink.bytes ≡ []) }
+        ensures room { IfOk result (λ sink. sink.room ≡ room) }
+        ensures no_writes_yet { IfOk result (λ sink. sink.writes ≡ 0) }
+        ensures failing { IfOk result (λ sink. sink.failing ≡ failing.items) }
+        ensures no_faults_yet { IfOk result (λ sink. sink.faults ≡ 0) }
+    {
+        let bytes = Vec::with_capacity(alloc, room).map_err(|_| Memory)?;
+        Ok(MemorySink {
+            bytes,
+            room,
+            writes: 0,
+            failing,
+            faults: 0,
+        })
+    }
+
+    /// The bytes that it holds.
+    pub fn bytes(&self) -> &[u8]
+        ensures { result.now ≡ self.now.bytes }
+    {
+        self.bytes.as_slice()
+    }
+}
+
+impl Sink for MemorySink {
+    ghost told = { λ sink. Some sink.bytes };
+
+    ghost faults = { λ sink. sink.faults };
+
+    /// Takes what it has room for. A write into a full sink and a write that is listed fail, and raise the count of
+    /// faults by one.
+    fn write(&mut self, piece: &[u8]) -> Result<usize, Failed>
+        requires not_empty { 0 < length piece.now }
+        ensures faults_never_fall { self.old.faults ≤ self.new.faults }
+        ensures failed_only_where_faults_rose { OnErr result (Rose self.old.faults self.new.faults) }
+        ensures takes_some { IfOk result (λ n. 0 < n) }
+        ensures takes_at_most_all { IfOk result (λ n. n ≤ length piece.now) }
+        ensures told_after { self.new.bytes ≡ self.old.bytes ++ taken result piece.now }
+
+        ensures fails_exactly_where_it_refuses { IsErr result ↔ IsTrue (refuses self.old) }
+        ensures takes_what_fits { IfOk result (λ n. n ≡ min (length piece.now) (self.old.room - length self.old.bytes)) }
+        ensures after { self.new ≡ after_write self.old piece.now }
+    {
+        let fails = is_listed(&self.failing, self.writes) || self.bytes.len() == self.room;
+        self.writes = self.writes.saturating_add(1);
+        if fails {
+            self.faults = self.faults.saturating_add(1);
+            return Err(Failed);
+        }
+        let count = piece.len().min(self.room - self.bytes.len());
+        match self.bytes.extend_from_slice(&piece[..count]) {
+            Ok(()) => Ok(count),
+            Err(_) => unreachable!(),
+        }
+    }
+}

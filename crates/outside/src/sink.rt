@@ -1,0 +1,27 @@
+ghost use Rattle.std.specs.Prelude.{◌≡◌, ℕ, ◌<◌, ◌≤◌, List, length, Option, IfOk, OnErr};
+ghost use Rattle.std.specs.Io.KnownBytes.{append_known};
+ghost use Rattle.outside.specs.Count.{Rose};
+ghost use Rattle.outside.specs.Writes.{taken};
+
+use super::Failed;
+
+/// A place for bytes. A sink may tell the bytes that it holds; it always counts its faults, in a u64 that stays at its
+/// last value.
+pub trait Sink {
+    // The bytes that the sink holds, if it tells them.
+    ghost told: { Self → Option (List ℕ) };
+
+    // The number of its faults.
+    ghost faults: { Self → ℕ };
+
+    /// Appends the first bytes of `piece`, at least one, and answers how many.
+    fn write(&mut self, piece: &[u8]) -> Result<usize, Failed>
+        requires not_empty { 0 < length piece.now }
+        ensures faults_never_fall { faults self.old ≤ faults self.new }
+        ensures failed_only_where_faults_rose { OnErr result (Rose (faults self.old) (faults self.new)) }
+        ensures takes_some { IfOk result (λ n. 0 < n) }
+        ensures takes_at_most_all { IfOk result (λ n. n ≤ length piece.now) }
+
+        // Where the sink tells nothing it goes on telling nothing.
+        ensures told_after { told self.new ≡ append_known (told self.old) (taken result piece.now) };
+}
