@@ -2,6 +2,7 @@ ghost use Rattle.std.specs.Prelude.{◌≡◌, IsTrue, pos, ◌≤ℤ◌, nat_ab
 ghost use Rattle.joint_planner.specs.Setpoints.{PlanData, setpoint_count};
 ghost use Rattle.rapid_num.specs.Reach.{is_reachable};
 
+use crate::change::greatest_change;
 use crate::planned::Plan;
 use rapid_num::Joints;
 
@@ -15,9 +16,10 @@ pub fn plan(start: &Joints, target: &Joints, cap: i64) -> Plan
     ensures target { result.target ≡ target.now }
     ensures count { result.count ≡ setpoint_count start.now target.now (nat_abs cap) }
 {
+    let steps = greatest_change(start, target).div_ceil(cap as u64);
     Plan {
         start: *start,
         target: *target,
-        count: 1,
+        count: steps.max(1) as u32,
     }
 }

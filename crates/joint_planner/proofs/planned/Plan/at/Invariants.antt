@@ -1,0 +1,6 @@
+use Rattle.std.proofs.Common.{◌≡◌}
+use Rattle.joint_planner.specs.Setpoints.{step_of}
+use Rattle.joint_planner.proofs.planned.Plan.at.Given as goal
+
+abbrev pub invariant-loop-k : goal.invariant-loop-k
+invariant-loop-k l = l.joints.axis ≡ step_of l.k l.self-inside.start.axis l.self-inside.target.axis l.self-inside.count l.j
