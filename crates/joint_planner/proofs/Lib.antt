@@ -1,3 +1,4 @@
 pub mod Rounding
 pub mod Setpoints
 pub mod Loops
+pub mod Casts

@@ -7,5 +7,5 @@ pub returns-clause-count : goal.returns-clause-count
 returns-clause-count c =
     let some : 1 ≤ nat_abs c.args.cap = omega (arith, ints) in
     let steps = div_ceil_is c.greatest_change.result (nat_abs c.args.cap) some in
-    let h = simp to_z-of_z at c.div_ceil-steps.ensures in
-    ?
+    let rounded = simp (to_z-of_z, c.ranges.cap) at c.div_ceil-steps.ensures in
+    rw (← c.greatest_change.ensures.change) (omega arith)
