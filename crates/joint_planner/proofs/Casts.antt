@@ -1,11 +1,11 @@
 -- The casts on an axis's way to its setpoint lose nothing.
-use Rattle.std.proofs.Common.{◌≡◌, ◌≤◌, ◌<◌, ◌^◌, ℕ, ◌+◌, ◌*◌, IsTrue, refl, ap, sym, ◌∙◌, arith, rules, ℤ, pos, nat_abs, ◌+ℤ◌, ◌-ℤ◌, ◌*ℤ◌, FitsSigned, w64, lit<, inl, inr}
+use Rattle.std.proofs.Common.{◌≡◌, ◌≤◌, ◌<◌, ◌^◌, ℕ, IsTrue, ◌∙◌, arith, ℤ, pos, nat_abs, ◌-ℤ◌, ◌*ℤ◌, FitsSigned, w64, lit<, inl, inr}
 use Rattle.std.specs.Int.{w128}
 use mir.Val.{to_z, of_z}
 use Rattle.std.proofs.lemmas.Int.{ints, to_z-of_z, fits_signed_mul}
 use Rattle.rapid_num.specs.Arithmetic.{rounded_ratio}
 use Rattle.rapid_num.specs.Reach.{is_in_reach}
-use Rattle.joint_planner.proofs.Setpoints.{reach_size, reach_on_way}
+use Rattle.joint_planner.proofs.Setpoints.{reach_size}
 use Rattle.joint_planner.proofs.Rounding.{rounded_ratio-on_way}
 
 fits_small : (z : ℤ) → nat_abs z ≤ 1_440_000 → FitsSigned w64 z

@@ -1,4 +1,5 @@
 pub mod Rounding
 pub mod Setpoints
-pub mod Loops
-pub mod Casts
+mod Casts
+mod Loops
+mod Examples

@@ -1,10 +1,10 @@
 -- One axis more, in a loop over the axes.
-use Rattle.std.proofs.Common.{◌≡◌, ◌≤◌, ◌<◌, ℕ, zero, suc, ◌+◌, ◌*◌, max, IsTrue, refl, ap, sym, ◌∙◌, arith, rules, List, [], ◌∷◌, length, take, get_or, ℤ, pos, nat_abs, ◌+ℤ◌, ◌-ℤ◌, ◌*ℤ◌}
+use Rattle.std.proofs.Common.{◌≡◌, ◌<◌, ℕ, zero, suc, max, IsTrue, refl, ap, arith, List, [], ◌∷◌, length, take, get_or, ℤ, pos, nat_abs, ◌+ℤ◌, ◌-ℤ◌, ◌*ℤ◌}
 use Rattle.std.proofs.Math.ListN.{set}
 use Rattle.std.specs.List.{list_all}
 use Rattle.std.proofs.lemmas.Bool.{and_parts}
 use Rattle.rapid_num.specs.Arithmetic.{rounded_ratio}
-use Rattle.rapid_num.specs.Reach.{is_in_reach, is_reachable}
+use Rattle.rapid_num.specs.Reach.{is_in_reach}
 use Rattle.joint_planner.specs.Setpoints.{step_of, greatest_change}
 
 pub step_of_more : (k : ℕ) (ps qs : List ℤ) (n j : ℕ) (d e : ℤ) → k < length ps → k < length qs → set (step_of k ps qs n j) k (get_or ps k d +ℤ rounded_ratio ((get_or qs k e -ℤ get_or ps k d) *ℤ pos j) n) ≡ step_of (suc k) ps qs n j

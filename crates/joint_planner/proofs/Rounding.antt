@@ -1,5 +1,5 @@
 -- A rounded part of a way lies on the way.
-use Rattle.std.proofs.Common.{◌≡◌, ℕ, zero, suc, ◌+◌, ◌*◌, ◌/◌, ◌%◌, ◌-◌, ◌≤◌, ◌<◌, refl, ap, sym, add-one, ◌∙◌, arith, rules, subst, ℤ, pos, negsuc, ◌+ℤ◌, ◌-ℤ◌, ◌*ℤ◌, neg_ℤ, nat_abs, ◌≤ℤ◌, ◌⊎◌, inl, inr}
+use Rattle.std.proofs.Common.{◌≡◌, ℕ, zero, suc, ◌+◌, ◌*◌, ◌/◌, ◌%◌, ◌-◌, ◌≤◌, ◌<◌, ap, sym, add-one, ◌∙◌, arith, ℤ, pos, negsuc, ◌+ℤ◌, ◌-ℤ◌, ◌*ℤ◌, neg_ℤ, nat_abs, ◌≤ℤ◌, ◌⊎◌, inl, inr}
 use Rattle.std.proofs.Math.Nat.{mul-le-mul_left}
 use Rattle.std.specs.Int.{div_ceil}
 use Rattle.std.proofs.lemmas.Bool.{cases_eq}
@@ -53,11 +53,11 @@ nat_abs-on_way p q r most from to way =
 pub div_ceil_is : (x y : ℕ) → 1 ≤ y → div_ceil x y ≡ (x + (y - 1)) / y
 div_ceil_is x y some =
     elim (cases_eq (x % y) 0) [
-        inl none ↦
-            let parts : x + (y - 1) ≡ x / y * y + (y - 1) = omega (arith, div-add-mod' x y) in
-            omega (arith, ap (λ t. t / y) parts ∙ div-mul-add (x / y) y (y - 1) (omega arith))
-        | inr more ↦
-            let here : 1 ≤ x % y = omega arith in
-            let parts : x + (y - 1) ≡ (x / y + 1) * y + (x % y - 1) = omega (arith, div-add-mod' x y) in
-            omega (arith, ap (λ t. t / y) parts ∙ div-mul-add (x / y + 1) y (x % y - 1) (omega (arith, mod_below x y some)))
+      | inl none ↦
+          let parts : x + (y - 1) ≡ x / y * y + (y - 1) = omega (arith, div-add-mod' x y) in
+          omega (arith, ap (λ t. t / y) parts ∙ div-mul-add (x / y) y (y - 1) (omega arith))
+      | inr more ↦
+          let here : 1 ≤ x % y = omega arith in
+          let parts : x + (y - 1) ≡ (x / y + 1) * y + (x % y - 1) = omega (arith, div-add-mod' x y) in
+          omega (arith, ap (λ t. t / y) parts ∙ div-mul-add (x / y + 1) y (x % y - 1) (omega (arith, mod_below x y some)))
     ]

@@ -1,5 +1,5 @@
 -- What every setpoint of a joint move keeps.
-use Rattle.std.proofs.Common.{◌≡◌, ◌≤◌, ◌<◌, ℕ, zero, suc, ◌+◌, ◌*◌, Bool, true, false, ◌&&◌, IsTrue, refl, ap, sym, ◌∙◌, arith, rules, List, [], ◌∷◌, length, take, drop, ℤ, pos, nat_abs, ◌+ℤ◌, ◌-ℤ◌, ◌*ℤ◌}
+use Rattle.std.proofs.Common.{◌≡◌, ◌≤◌, ℕ, zero, suc, IsTrue, refl, ap, ◌∙◌, arith, List, [], ◌∷◌, length, take, drop, ℤ, pos, nat_abs, ◌+ℤ◌, ◌-ℤ◌, ◌*ℤ◌}
 use Rattle.std.specs.List.{list_all}
 use Rattle.std.proofs.lemmas.Bool.{and_parts, and_from}
 use Rattle.std.proofs.lemmas.Int.{ints}
@@ -7,7 +7,7 @@ use Rattle.std.proofs.lemmas.Bool.Decides.{nat_tests}
 use Rattle.rapid_num.specs.Arithmetic.{rounded_ratio}
 use Rattle.rapid_num.specs.Reach.{is_in_reach, is_absent, is_reachable, is_position}
 use Rattle.rapid_num.specs.declared.joints.Joints.{Joints}
-use Rattle.joint_planner.specs.Setpoints.{step_of, setpoint, moved_axes}
+use Rattle.joint_planner.specs.Setpoints.{step_of, setpoint}
 use Rattle.joint_planner.proofs.Rounding.{rounded_ratio-on_way, rounded_ratio-whole, nat_abs-on_way}
 
 pub reach_size : (angle : ℤ) → IsTrue (is_in_reach angle) → nat_abs angle ≤ 720_000

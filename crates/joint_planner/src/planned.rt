@@ -28,7 +28,8 @@ impl Model for Plan {
 impl Plan {
     /// How many setpoints the move has, at least 1.
     pub fn count(&self) -> u32
-        ensures { result ≡ self.now.count }
+        ensures same { result ≡ self.now.count }
+        ensures at_least_one { 1 ≤ result }
     {
         self.count
     }
@@ -41,7 +42,7 @@ impl Plan {
         ensures setpoint { result ≡ setpoint self.now.start self.now.target self.now.count j }
 
         // It is in reach again, a position where the start is one, and at the end the target.
-        ensures reachable { IsTrue (is_reachable result) }
+        ensures reach { IsTrue (is_reachable result) }
         ensures position { IsTrue (is_position self.now.start) → IsTrue (is_position result) }
         ensures last_is_target { j ≡ self.now.count → take moved_axes result.axis ≡ take moved_axes self.now.target.axis }
     {

@@ -1,4 +1,4 @@
-use Rattle.std.proofs.Common.{◌≡◌, ◌≤◌, ◌∙◌, ap, arith, nat_abs, max, rules}
+use Rattle.std.proofs.Common.{◌≤◌, arith, nat_abs}
 use Rattle.std.proofs.lemmas.Int.{ints, to_z-of_z}
 use Rattle.joint_planner.proofs.Rounding.{div_ceil_is}
 use Rattle.joint_planner.proofs.planning.plan.Goals as goal

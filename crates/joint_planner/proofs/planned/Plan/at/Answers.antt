@@ -1,4 +1,4 @@
-use Rattle.std.proofs.Common.{◌≡◌, ◌≤◌, ◌∙◌, ap, arith, add-one, refl, rules}
+use Rattle.std.proofs.Common.{◌≡◌, ◌≤◌, arith, add-one, refl, rules}
 use Rattle.joint_planner.specs.Setpoints.{step_of}
 use Rattle.joint_planner.proofs.Loops.{step_of_more, reach_at}
 use Rattle.joint_planner.proofs.Setpoints.{setpoint_reach, setpoint_position, take-setpoint_last}
@@ -19,8 +19,8 @@ loop-k-preserved c =
     let next = add-one c.loop-k.k in
     record { so_far = cc; start = omega arith; target = omega arith }
 
-pub returns-clause-reachable : goal.returns-clause-reachable
-returns-clause-reachable c =
+pub returns-clause-reach : goal.returns-clause-reach
+returns-clause-reach c =
     let plan = c.self.inside in
     let done : c.loop-k.k ≡ 6 = omega arith in
     let last : c.args.j ≤ plan.count = search rules in

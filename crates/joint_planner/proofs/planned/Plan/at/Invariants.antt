@@ -6,5 +6,5 @@ abbrev pub invariant-loop-k : goal.invariant-loop-k
 invariant-loop-k l = record {
   so_far : l.joints.axis ≡ step_of l.k l.self-inside.start.axis l.self-inside.target.axis l.self-inside.count l.j;
   start : l.k ≤ length l.self-inside.start.axis;
-  target : l.k ≤ length l.self-inside.target.axis
+  target : l.k ≤ length l.self-inside.target.axis;
 }
