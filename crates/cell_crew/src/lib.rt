@@ -1,0 +1,8 @@
+//! Runs the tasks of a cell by turns on one thread.
+#![tactic(auto)]
+
+mod ran;
+mod round;
+
+pub use ran::Ran;
+pub use round::run_round;
