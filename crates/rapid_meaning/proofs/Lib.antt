@@ -1,3 +1,5 @@
 mod Examples
 pub mod Lists
 pub mod ByTurns
+pub mod Grows
+pub mod Suits

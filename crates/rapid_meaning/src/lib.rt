@@ -3,4 +3,4 @@
 
 mod laws;
 
-pub use laws::{run_by_turns_is_legal_and_whole, run_by_turns_is_one};
+pub use laws::{run_by_turns_is_legal_and_whole, run_by_turns_is_one, tree_suits_task};
