@@ -5,6 +5,7 @@ use Rattle.std.specs.Fmt.{digits}
 use Rattle.rapid_num.specs.Literal.{literal_value}
 use Rattle.rapid_num.specs.NumText.{shortest_text, fixed_text}
 use Rattle.rapid_num.specs.Arithmetic.{rounded_ratio}
+use Rattle.rapid_num.specs.Reading.{size_within, within, number_onto, number_of, scaled_mantissa}
 
 whole : literal_value (codes "5") ≡ Some (pos 5000)
 whole = refl
@@ -50,3 +51,38 @@ fixed = refl
 
 away_from_zero : rounded_ratio (neg_ℤ (pos 5)) 2 ≡ neg_ℤ (pos 3)
 away_from_zero = refl
+
+greatest_size : size_within 9_999_999_999_999 ≡ Some 9_999_999_999_999
+greatest_size = refl
+
+size_too_great : within (Some 10_000_000_000_000) ≡ None
+size_too_great = refl
+
+digits_onto_one : number_onto 10 1 (codes "25") ≡ Some 125
+digits_onto_one = refl
+
+no_binary_digit : number_onto 2 1 (codes "2") ≡ None
+no_binary_digit = refl
+
+octal_digits : number_of 8 (codes "17") ≡ Some 15
+octal_digits = refl
+
+digits_missing : number_of 8 (codes "") ≡ None
+digits_missing = refl
+
+one_and_a_half_hundred : scaled_mantissa (codes "1.5") (pos 2) ≡ Some 150_000
+one_and_a_half_hundred = refl
+
+negative_fixed : fixed_text (neg_ℤ (pos 1010)) ≡ codes "-1.010"
+unfolding digits
+negative_fixed = refl
+
+shortest_hundredths : shortest_text (pos 1010) ≡ codes "1.01"
+unfolding digits
+shortest_hundredths = refl
+
+thirty_bytes : literal_value (codes "000000000000000000000000000001") ≡ Some (pos 1000)
+thirty_bytes = refl
+
+too_long : literal_value (codes "0000000000000000000000000000001") ≡ None
+too_long = refl
