@@ -1,9 +1,11 @@
 -- The definitions on examples worked by hand.
-use Rattle.std.proofs.Common.{◌≡◌, refl, Some, None, true, [], ◌∷◌, ◌-◌, ◌^◌}
+use Rattle.std.proofs.Common.{◌≡◌, refl, Some, None, true, [], ◌∷◌, ◌-◌, ◌^◌, false, ℕ}
 use Rattle.std.specs.Prelude.{codes, Ok, Err}
 use Rattle.outside.specs.Count.{raised}
 use Rattle.outside.specs.Told.{Told, file_at, found, after_reads}
 use Rattle.outside.specs.Reads.{answer_for, gain_for}
+use Rattle.outside.specs.Writes.{taken}
+use Rattle.outside.specs.MemoryShelf.{names_differ}
 use Rattle.outside.specs.MemorySink.{MemorySinkState, refuses, after_write}
 use Rattle.outside.specs.declared.shelf_fault.ShelfFault.TheVariants.{Failed, TooLong}
 
@@ -56,3 +58,12 @@ refused_when_listed = refl
 
 refused_when_full : refuses (after_write one_held (8 ∷ 9 ∷ [])) ≡ true
 refused_when_full = refl
+
+some_taken : taken {E = ℕ} (Ok 2) (7 ∷ 8 ∷ 9 ∷ []) ≡ 7 ∷ 8 ∷ []
+some_taken = refl
+
+names_that_differ : names_differ ((codes "a", []) ∷ (codes "ab", []) ∷ []) ≡ true
+names_that_differ = refl
+
+name_twice : names_differ ((codes "a", []) ∷ (codes "b", []) ∷ (codes "a", 1 ∷ []) ∷ []) ≡ false
+name_twice = refl

@@ -1,4 +1,6 @@
-ghost use Rattle.std.specs.Prelude.{◌≡◌, ℕ, ◌+◌, ◌≤◌, ◌<◌, List, ◌++◌, length, None};
+ghost use Rattle.std.specs.Prelude.{◌≡◌, ℕ, ◌+◌, ◌≤◌, ◌<◌, List, ◌++◌, length, None, ◌≢◌, OnOk};
+ghost use Rattle.std.specs.Io.{appended_bytes};
+ghost use Rattle.std.specs.Io.KnownBytes.{Consumes, IsAtEnd};
 ghost use Rattle.outside.specs.Count.{Rose};
 ghost use Rattle.outside.specs.Reads.{Gains, Extends, faults_after_read};
 
@@ -10,7 +12,7 @@ use std::io::Read;
 use std::marker::Model;
 use std::rt::Files;
 
-// How many bytes are asked for at once.
+// The most bytes that are asked for at once.
 const CHUNK: usize = 4096;
 
 /// The files of the runtime; names are paths. It tells nothing of them. Contracts see it as its count of faults.
@@ -42,7 +44,8 @@ impl<'a, R: Files> Shelf for FileShelf<'a, R> {
 
     ghost faults = { λ shelf. shelf };
 
-    /// A file that cannot be opened, and any error of a read, are failures; each raises the count of faults by one.
+    /// A file that cannot be opened, and any error of a call, an interruption included, are failures; each raises the
+    /// count of faults by one.
     fn read(
         &mut self,
         _alloc: Global,
@@ -87,7 +90,9 @@ fn read_path<R: Files>(
 
 // Appends what the reader gives, up to one byte more than the limit.
 fn read_to_limit<F: Read>(file: &mut F, limit: usize, into: &mut Vec<u8>) -> Result<(), ShelfFault>
-    ensures { Extends limit into.old.items into.new.items result }
+    ensures into_extends { Extends limit into.old.items into.new.items result }
+    ensures reads_to_the_end { OnOk result (IsAtEnd (F.remaining file.new)) }
+    ensures none_lost { result ≢ Err ShelfFault.Memory → Consumes (F.remaining file.old) (F.remaining file.new) (appended_bytes into.old.items into.new.items) }
 {
     let mut chunk = [0; CHUNK];
     let mut gained = 0;
