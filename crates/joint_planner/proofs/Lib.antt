@@ -1,0 +1,5 @@
+pub mod Rounding
+pub mod Setpoints
+mod Casts
+mod Loops
+mod Examples

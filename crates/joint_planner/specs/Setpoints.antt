@@ -1,5 +1,5 @@
 -- The setpoints of a joint move from a position to a target.
-use Rattle.std.specs.Prelude.{◌≤◌, IsTrue, ℕ, zero, suc, ◌+◌, ◌-◌, ◌*◌, ◌/◌, max, ℤ, pos, ◌+ℤ◌, ◌-ℤ◌, ◌*ℤ◌, nat_abs, List, [], ◌∷◌}
+use Rattle.std.specs.Prelude.{◌≤◌, IsTrue, ℕ, zero, suc, ◌+◌, ◌-◌, ◌/◌, max, ℤ, pos, ◌+ℤ◌, ◌-ℤ◌, ◌*ℤ◌, nat_abs, List, ◌∷◌}
 use Rattle.rapid_num.specs.Arithmetic.{rounded_ratio}
 use Rattle.rapid_num.specs.Reach.{is_reachable}
 use Rattle.rapid_num.specs.declared.joints.Joints.{Joints}

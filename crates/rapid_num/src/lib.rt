@@ -3,10 +3,12 @@
 
 mod joints;
 mod num;
+mod round;
 mod shape;
 
 pub use joints::Joints;
 pub use num::Num;
+pub use round::round_ratio;
 pub use shape::{Bound, Shape};
 
 /// Memory was refused. What the call was lent is as it was.
