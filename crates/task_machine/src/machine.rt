@@ -5,9 +5,11 @@ ghost use Rattle.rapid_meaning.specs.Runs.{asked_after};
 ghost use Rattle.task_machine.specs.MachineData.{fresh, request_of};
 ghost use Rattle.task_machine.specs.Standing.{StandsFor, fits_last};
 
+use crate::advance::{advance, before_statement};
 use crate::stage::Stage;
 use rapid_model::{Answer, Request, Tree};
 use std::marker::Model;
+use std::mem;
 
 /// A task under way: its tree, and how far it has come. It keeps no list of setpoints and takes no memory.
 #[derive(Debug, Drop)]
@@ -19,10 +21,13 @@ pub struct Machine {
 
 impl Model for Machine {
     ghost use Rattle.task_machine.specs.MachineData.{MachineData};
+    ghost use Rattle.task_machine.specs.Stages.{IsMachine};
 
     ghost Value = { MachineData };
 
     ghost view = { λ m. record { tree = m.tree; begun = m.begun; stage = m.stage } };
+
+    ghost invariant = { λ m. IsMachine (record { tree = m.tree; begun = m.begun; stage = m.stage }) };
 }
 
 impl Machine {
@@ -45,7 +50,8 @@ impl Machine {
         ensures asks { asked_after self.new.tree [] ≡ runs.asks result }
         ensures stands { StandsFor self.new [] }
     {
-        Request::Look
+        self.stage = before_statement(&self.tree, 0);
+        self.stage.request()
     }
 
     /// Asks the request that follows the answer to the last one.
@@ -56,7 +62,9 @@ impl Machine {
         ensures asks { (answers : List Answer) → StandsFor self.old answers → asked_after self.new.tree (answers ++ answer ∷ []) ≡ runs.asks result }
         ensures stands { (answers : List Answer) → StandsFor self.old answers → StandsFor self.new (answers ++ answer ∷ []) }
     {
-        Request::Look
+        let stage = mem::replace(&mut self.stage, Stage::Fresh);
+        (self.begun, self.stage) = advance(&self.tree, self.begun, stage, answer);
+        self.stage.request()
     }
 
     /// The request that was asked last.
@@ -64,6 +72,6 @@ impl Machine {
         requires { IsSome (request_of self.now) }
         ensures { request_of self.now ≡ Some result }
     {
-        Request::Look
+        self.stage.request()
     }
 }
