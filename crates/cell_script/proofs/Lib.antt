@@ -1,0 +1,5 @@
+mod Arms
+mod Cells
+mod Chains
+mod Entries
+mod Tasks
