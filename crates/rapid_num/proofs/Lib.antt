@@ -1,1 +1,4 @@
 mod Examples
+pub mod NumberSteps
+pub mod TenPowers
+pub mod Cuts

@@ -3,3 +3,4 @@ pub mod Arithmetic
 pub mod Literal
 pub mod NumText
 pub mod Reach
+pub mod Reading

@@ -1,12 +1,19 @@
 //! Numbers of RAPID as whole thousandths, and the joints, bounds and shapes that are made of them.
 #![tactic(auto)]
 
+mod decimal;
+mod digits;
 mod joints;
+mod literal;
 mod num;
+mod round;
+mod scale;
 mod shape;
 
 pub use joints::Joints;
+pub use literal::{BadLiteral, read_literal};
 pub use num::Num;
+pub use round::round_ratio;
 pub use shape::{Bound, Shape};
 
 /// Memory was refused. What the call was lent is as it was.
