@@ -1,0 +1,5 @@
+pub mod Fields
+pub mod Names
+pub mod Literals
+pub mod Speeds
+pub mod Moves
