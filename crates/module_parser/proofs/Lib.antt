@@ -3,3 +3,5 @@ pub mod Names
 pub mod Literals
 pub mod Speeds
 pub mod Moves
+pub mod Lists
+pub mod Modules
