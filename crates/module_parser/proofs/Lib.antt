@@ -1,0 +1,7 @@
+pub mod Fields
+pub mod Names
+pub mod Literals
+pub mod Speeds
+pub mod Moves
+pub mod Lists
+pub mod Modules

@@ -1,2 +1,3 @@
 pub mod Speeds
 pub mod Grammar
+pub mod Reading

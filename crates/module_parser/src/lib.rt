@@ -2,7 +2,13 @@
 #![tactic(auto)]
 
 mod fault;
+mod header;
+mod list;
 mod module;
+mod move_line;
+mod number;
+mod speed;
+mod text;
 
 pub use fault::ModuleFault;
 pub use module::read_module;

@@ -3,6 +3,8 @@ ghost use Rattle.module_parser.specs.Grammar.{SpellsModule};
 ghost use Rattle.rapid_model.specs.declared.tree.Tree.{Tree};
 
 use crate::fault::ModuleFault;
+use crate::header::body_of;
+use crate::list::list_at;
 use rapid_model::{Sequence, Tree};
 use std::alloc::Global;
 
@@ -13,5 +15,16 @@ pub fn read_module(alloc: Global, source: &[u8]) -> Result<Tree, ModuleFault>
     ensures only { (tree : Tree) → SpellsModule tree source.now → (result ≡ Ok tree) ⊎ (result ≡ Err ModuleFault.Memory) }
     ensures refused { result ≡ Err ModuleFault.NotBuilt → (tree : Tree) → SpellsModule tree source.now → ⊥ }
 {
-    Err(ModuleFault::Memory)
+    let Some(body) = body_of(source) else {
+        return Err(ModuleFault::NotBuilt);
+    };
+    let Ok((list, rest)) = list_at(alloc, source, body) else {
+        return Err(ModuleFault::Memory);
+    };
+    if rest != b"ENDPROC\nENDMODULE\n".as_slice() {
+        return Err(ModuleFault::NotBuilt);
+    }
+    Ok(Tree {
+        list: Sequence::from_vec(list),
+    })
 }
