@@ -1,5 +1,5 @@
 -- What command words and files come to: the first refusal, or the cell and the trees of its tasks.
-use Rattle.std.specs.Prelude.{◌≡◌, ℕ, ◌+◌, nat_le, ◌⊎◌, List, [], ◌∷◌, ◌++◌, length, Option, Some, None, Result, Ok, Err, if◌then◌else◌}
+use Rattle.std.specs.Prelude.{◌≡◌, ℕ, ◌+◌, ◌⊎◌, List, [], ◌∷◌, Option, Some, None, Result, Ok, Err}
 use Rattle.outside.specs.Told.{Told, found, after_reads}
 use Rattle.rapid_model.specs.CellData.{CellData}
 use Rattle.rapid_model.specs.ScriptData.{ScriptData, cell_of, module_names}
@@ -8,8 +8,9 @@ use Rattle.rapid_model.specs.declared.tree.Tree.{Tree}
 use Rattle.cell_script.specs.ScriptOf.{ScriptOf}
 use Rattle.module_parser.specs.Grammar.{SpellsModule}
 use Rattle.controller.specs.declared.refused.Refused.{Refused}
-use Rattle.controller.specs.declared.refused.Refused.TheVariants.{Words, Script, Module, Read, TooLong}
+use Rattle.controller.specs.declared.refused.Refused.TheVariants.{Words, Script, Module}
 use Rattle.controller.specs.declared.refused.ModuleRule.TheVariants.{NotBuilt}
+use Rattle.controller.specs.Files.{text_of}
 use Rattle.controller.specs.Words.{refused_place, script_name}
 
 -- the most bytes of a script and of a module
@@ -25,13 +26,9 @@ pub data Verdict : Type 0 where
   refuses : List (List ℕ) → Refused → Verdict
   runs : List (List ℕ) → CellData → List Tree → Verdict
 
--- what the read of a file of this number comes to: it fails, the file is too long, or its bytes
+-- what the read of a file of this number comes to
 abbrev pub file_text : Told → ℕ → ℕ → List ℕ → Result (List ℕ) Refused
-file_text told file limit name = within (found (after_reads file told) name)
-  where
-    within : Option (List ℕ) → Result (List ℕ) Refused
-    within None = Err (Read file)
-    within (Some bytes) = if nat_le (length bytes) limit then Ok bytes else Err (TooLong file)
+file_text told file limit name = text_of file limit (found (after_reads file told) name)
 
 -- the text is that of a module, or is refused at its first byte
 abbrev pub ModuleOf : ℕ → List ℕ → Result Tree Refused → Type 0

@@ -1,6 +1,6 @@
 -- The status and the line of a refusal.
-use Rattle.std.specs.Prelude.{ℕ, List, [], ◌∷◌, ◌++◌, Option, Some, None, codes, decimal, slice_get, length, ◌==◌, if◌then◌else◌}
-use Rattle.std.specs.Option.{unwrap_or}
+use Rattle.std.specs.Prelude.{ℕ, List, [], ◌∷◌, ◌++◌, Option, Some, None, codes, decimal, slice_get}
+use Rattle.std.specs.Option.{unwrap_or, option_map_or}
 use Rattle.rapid_model.specs.declared.script.ScriptRule.{ScriptRule}
 use Rattle.rapid_model.specs.declared.script.ScriptRule.TheVariants as rules
 use Rattle.controller.specs.declared.refused.Refused.{Refused}
@@ -37,16 +37,30 @@ place_words place = decimal place.line ++ (58 ∷ decimal place.column)
 abbrev pub name_at : List (List ℕ) → ℕ → List ℕ
 name_at names file = unwrap_or (slice_get names file) []
 
--- the words behind `rapid_cell: `
-abbrev pub refusal_words : List (List ℕ) → Refused → List ℕ
-refusal_words names (Words place) = codes "words " ++ decimal place
-refusal_words names (Script key rule) = codes "script " ++ (key_words key ++ (32 ∷ script_rule_name rule))
-refusal_words names (Module file place rule) = codes "module " ++ (name_at names file ++ (32 ∷ place_words place ++ (32 ∷ module_rule_name rule)))
-refusal_words names (Read file) = codes "read " ++ name_at names file
-refusal_words names Write = codes "write"
-refusal_words names Memory = codes "memory"
-refusal_words names (TooLong file) = codes "long " ++ name_at names file
+-- the number of the file that a refusal speaks of
+abbrev pub file_of : Refused → Option ℕ
+file_of (Words place) = None
+file_of (Script key rule) = None
+file_of (Module file place rule) = Some file
+file_of (Read file) = Some file
+file_of Write = None
+file_of Memory = None
+file_of (TooLong file) = Some file
 
--- the line that tells a refusal; names are those of the files, in the order in which they are read
+-- the words behind `rapid_cell: `, with the name of the file that they speak of
+abbrev pub refusal_words : List ℕ → Refused → List ℕ
+refusal_words name (Words place) = codes "words " ++ decimal place
+refusal_words name (Script key rule) = codes "script " ++ (key_words key ++ (32 ∷ script_rule_name rule))
+refusal_words name (Module file place rule) = codes "module " ++ (name ++ (32 ∷ place_words place ++ (32 ∷ module_rule_name rule)))
+refusal_words name (Read file) = codes "read " ++ name
+refusal_words name Write = codes "write"
+refusal_words name Memory = codes "memory"
+refusal_words name (TooLong file) = codes "long " ++ name
+
+-- the line that tells a refusal
+abbrev pub refusal_text : List ℕ → Refused → List ℕ
+refusal_text name refused = codes "rapid_cell: " ++ (refusal_words name refused ++ codes "\n")
+
+-- the same, with the names of the files in the order in which they are read
 abbrev pub refusal_line : List (List ℕ) → Refused → List ℕ
-refusal_line names refused = codes "rapid_cell: " ++ (refusal_words names refused ++ codes "\n")
+refusal_line names refused = refusal_text (option_map_or (name_at names) (file_of refused) []) refused

@@ -1,6 +1,6 @@
 -- The run theorem: what the report of a run tells.
-use Rattle.std.specs.Prelude.{◌≡◌, ℕ, Bool, true, false, ◌||◌, List, [], ◌∷◌, length, map, Option, Some, None, if◌then◌else◌}
-use Rattle.std.specs.List.{list_any}
+use Rattle.std.specs.Prelude.{◌≡◌, ℕ, Bool, true, false, List, length, IsTrue, is_some, if◌then◌else◌}
+use Rattle.std.specs.List.{list_any, list_all}
 use Rattle.rapid_model.specs.CellData.{CellData}
 use Rattle.rapid_model.specs.declared.event.Event.{Event}
 use Rattle.rapid_model.specs.declared.fate.Fate.{Fate}
@@ -10,8 +10,6 @@ use Rattle.rapid_meaning.specs.Runs.{tree_asks}
 use Rattle.rapid_meaning.specs.Histories.{IsLegal, IsWhole, is_spent, fates_after}
 use Rattle.rapid_meaning.specs.Turns.{IsByTurns}
 use Rattle.controller.specs.declared.report.Report.{Report}
-use Rattle.controller.specs.declared.refused.Refused.{Refused}
-use Rattle.controller.specs.declared.refused.Refused.TheVariants.{Write}
 
 -- The history interleaves whole traces of the tasks' trees, each answer being what one shared cell gives at that point;
 -- it is the run by turns, and the fates follow from it.
@@ -33,3 +31,8 @@ run_status cell history =
     if is_spent cell history then 9
     else if list_any is_fault (fates_after cell history (length cell.tasks)) then 1
     else 0
+
+-- the cell has one task, and it has an arm
+pub record IsOneArm (cell : CellData) : Type 0 where
+  pub one : length cell.tasks ≡ 1
+  pub arms : IsTrue (list_all (λ row. is_some row.arm) cell.tasks)

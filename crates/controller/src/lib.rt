@@ -1,10 +1,19 @@
 //! The controller: from command words and files to a run, its report and what is printed of it.
 #![tactic(auto)]
 
-mod quiet;
+mod action;
+mod file;
+mod load;
+mod print;
+
+mod refuse;
 mod refused;
 mod report;
+mod run;
+mod status;
+mod words;
+mod write;
 
-pub use quiet::quiet;
+pub use action::quiet;
 pub use refused::{ModuleRule, Place, Refused};
 pub use report::Report;
