@@ -42,16 +42,16 @@ where_split (g ∷ history) (b ∷ before) after e f h =
     let same : g ≡ b = cc in
     let tail : history ++ e ∷ [] ≡ before ++ f ∷ after = cc in
     elim (where_split history before after e f tail) [
-      inl last ↦ inl (record { all_before = ap (λ (xs : List Event). b ∷ xs) last.all_before ∙ ap (λ (x : Event). x ∷ history) (sym same); same = last.same })
-    | inr among ↦ inr (record { rest = among.rest; split = ap (λ (x : Event). x ∷ history) same ∙ ap (λ (xs : List Event). b ∷ xs) among.split })
+      | inl last ↦ inl (record { all_before = ap (λ (xs : List Event). b ∷ xs) last.all_before ∙ ap (λ (x : Event). x ∷ history) (sym same); same = last.same })
+      | inr among ↦ inr (record { rest = among.rest; split = ap (λ (x : Event). x ∷ history) same ∙ ap (λ (xs : List Event). b ∷ xs) among.split })
     ]
 
 IsSound-more : (cell : CellData) (history : List Event) (e : Event) → IsSound cell history → IsServed cell history e → IsSound cell (history ++ e ∷ [])
 IsSound-more cell history e sound served = record {
   at = λ before after f h. elim (where_split history before after e f h) [
-      inl last ↦ let P : List Event → Type 0 = λ xs. IsServed cell xs f in subst P (sym last.all_before) (let Q : Event → Type 0 = λ g. IsServed cell history g in subst Q (sym last.same) served)
+    | inl last ↦ let P : List Event → Type 0 = λ xs. IsServed cell xs f in subst P (sym last.all_before) (let Q : Event → Type 0 = λ g. IsServed cell history g in subst Q (sym last.same) served)
     | inr among ↦ sound.at before among.rest f among.split
-    ];
+  ];
 }
 
 -- the arms
@@ -59,25 +59,25 @@ arm_more : (cell : CellData) (history : List Event) (arms : List (Option Joints)
     → ((k : ℕ) (d : Option Joints) → k < length cell.tasks → get_or arms k d ≡ arm_after cell history k)
     → (k : ℕ) (d : Option Joints) → k < length cell.tasks → get_or (set arms e.actor (arm_with (get_or arms e.actor None) e)) k d ≡ arm_after cell (history ++ e ∷ []) k
 arm_more cell history arms e within count at k d h = elim (cases_eq k e.actor) [
-    inl same ↦ (let P : ℕ → Type 0 = λ j. get_or (set arms e.actor (arm_with (get_or arms e.actor None) e)) j d ≡ arm_after cell (history ++ e ∷ []) j in
+  | inl same ↦ (let P : ℕ → Type 0 = λ j. get_or (set arms e.actor (arm_with (get_or arms e.actor None) e)) j d ≡ arm_after cell (history ++ e ∷ []) j in
       subst P (sym same) (get_or-set_same arms e.actor (arm_with (get_or arms e.actor None) e) d within
-        ∙ ap (λ (arm : Option Joints). arm_with arm e) (at e.actor None (omega arith)) ∙ sym (arm_after-own cell history e)))
+      ∙ ap (λ (arm : Option Joints). arm_with arm e) (at e.actor None (omega arith)) ∙ sym (arm_after-own cell history e)))
   | inr other ↦ get_or-set_other arms e.actor k (arm_with (get_or arms e.actor None) e) d other ∙ at k d h
       ∙ sym (arm_after-other cell history e k (λ same. other (sym same)))
-  ]
+]
 
 -- the ends
 end_more : (history : List Event) (tasks : ℕ) (ends : List (Option Fate)) (e : Event) → e.actor < length ends → length ends ≡ tasks
     → ((k : ℕ) (d : Option Fate) → k < tasks → get_or ends k d ≡ end_of (part_of k history))
     → (k : ℕ) (d : Option Fate) → k < tasks → get_or (set ends e.actor (end_with (get_or ends e.actor None) e)) k d ≡ end_of (part_of k (history ++ e ∷ []))
 end_more history tasks ends e within count at k d h = elim (cases_eq k e.actor) [
-    inl same ↦ (let P : ℕ → Type 0 = λ j. get_or (set ends e.actor (end_with (get_or ends e.actor None) e)) j d ≡ end_of (part_of j (history ++ e ∷ [])) in
+  | inl same ↦ (let P : ℕ → Type 0 = λ j. get_or (set ends e.actor (end_with (get_or ends e.actor None) e)) j d ≡ end_of (part_of j (history ++ e ∷ [])) in
       subst P (sym same) (get_or-set_same ends e.actor (end_with (get_or ends e.actor None) e) d within
-        ∙ ap (λ (told : Option Fate). end_with told e) (at e.actor None (omega arith)) ∙ sym (end_of-more (part_of e.actor history) e)
-        ∙ sym (ap end_of (part_of-own e.actor history e refl))))
+      ∙ ap (λ (told : Option Fate). end_with told e) (at e.actor None (omega arith)) ∙ sym (end_of-more (part_of e.actor history) e)
+      ∙ sym (ap end_of (part_of-own e.actor history e refl))))
   | inr other ↦ get_or-set_other ends e.actor k (end_with (get_or ends e.actor None) e) d other ∙ at k d h
       ∙ sym (ap end_of (part_of-other k history e (λ same. other (sym same))))
-  ]
+]
 
 -- the count
 count_more : (served : ℕ) (request : Request) → count_with served request ≡ served + cond (is_counted request) 1 0

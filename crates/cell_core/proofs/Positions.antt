@@ -98,6 +98,6 @@ pub answer_fits_request : (cell : CellData) (history : List Event) (actor : ℕ)
 answer_fits_request cell history actor Look limits sound asked = refl
 answer_fits_request cell history actor Position limits sound asked =
     row_fits (slice_get cell.tasks actor) (part_of actor history) (asked_allowed cell actor (part_of actor history) Position asked)
-      (λ row h. starts_at cell.tasks actor row limits.starts h) (well_part actor history (sound_well cell history sound))
+    (λ row h. starts_at cell.tasks actor row limits.starts h) (well_part actor history (sound_well cell history sound))
 answer_fits_request cell history actor (Setpoint to) limits sound asked = refl
 answer_fits_request cell history actor (End fate) limits sound asked = refl

@@ -6,6 +6,8 @@ mod boards;
 mod fits;
 mod served;
 mod shared;
+#[cfg(test)]
+mod tests;
 
 pub use served::Served;
 pub use shared::Core;

@@ -11,4 +11,4 @@ returns c =
     let spent : c.spent.result ≡ is_spent core.cell core.events.items = rw (← c.self.view_is) at c.spent.ensures in
     let within = rw (← c.self.view_is) at c.requires in
     rw (← c.self.view_is) (c.stands.ensures ∙ ap (λ (s : Bool). standing s c.index.result.now) spent
-      ∙ stands_after core.cell core.events.items c.index.result.now c.args.task (c.index.ensures ∙ keeps.end_at c.args.task c.index.result.now within))
+    ∙ stands_after core.cell core.events.items c.index.result.now c.args.task (c.index.ensures ∙ keeps.end_at c.args.task c.index.result.now within))

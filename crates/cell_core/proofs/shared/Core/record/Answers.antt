@@ -12,8 +12,9 @@ append-requires c =
 pub invariant_of-self : goal.invariant_of-self
 invariant_of-self c =
     let core = c.self.inside in
-    let served = rw (← c.self.view_is) at c.requires in
-    (rw (c.append.ensures.items, c.add.ensures.arms, c.add.ensures.ends, c.add.ensures.counted)
-      (Keeps-more core.cell core.events.items core.boards.arms.items core.boards.ends.items core.steps core.boards.counted c.args.event c.self.invariant.0 served),
+    let served = rw (← c.self.view_is) at c.requires in (
+      rw (c.append.ensures.items, c.add.ensures.arms, c.add.ensures.ends, c.add.ensures.counted)
+          (Keeps-more core.cell core.events.items core.boards.arms.items core.boards.ends.items core.steps core.boards.counted c.args.event c.self.invariant.0 served),
       rw c.append.ensures.capacity c.self.invariant.1,
-      c.self.invariant.2)
+      c.self.invariant.2,
+    )
