@@ -1,8 +1,13 @@
 //! One shared cell: it answers one request at a time, and keeps the history of all.
 #![tactic(auto)]
 
+mod append;
+mod boards;
+mod fits;
 mod served;
 mod shared;
+#[cfg(test)]
+mod tests;
 
 pub use served::Served;
 pub use shared::Core;
