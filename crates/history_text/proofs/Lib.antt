@@ -1,0 +1,4 @@
+mod Examples
+mod Printable
+mod NumberWords
+pub mod LineLengths

@@ -1,8 +1,11 @@
-ghost use Rattle.std.specs.Prelude.{◌≡◌, ◌<◌, [], length};
-ghost use Rattle.history_text.specs.Lines.{line_of};
+ghost use Rattle.std.specs.Prelude.{◌≡◌, ◌+◌, ◌≤◌, [], ◌++◌, length};
+ghost use Rattle.history_text.specs.Lines.{line_of, setpoint_line, task_name};
 
+use crate::axes::push_axes;
+use crate::name::push_name;
 use arrayvec::ArrayString;
-use rapid_model::{Event, TaskRow};
+use rapid_model::{Answer, Event, Request, TaskRow};
+use rapid_num::Joints;
 
 /// Writes the event's line: for a setpoint that was given `S TASK` and the six axes in degrees with three decimals. The
 /// line stays empty for an event that has none. Takes no memory.
@@ -10,4 +13,31 @@ pub fn write_event(tasks: &[TaskRow], event: &Event, line: &mut ArrayString<1200
     requires { line.old.bytes ≡ [] }
     ensures { line.new.bytes ≡ line_of tasks.now event.now }
 {
+    if let Request::Setpoint { to } = &event.request
+        && let Answer::Given = &event.answer
+    {
+        write_setpoint(tasks, event.actor, to, line);
+    }
+}
+
+/// The line of a setpoint that was given.
+fn write_setpoint(tasks: &[TaskRow], actor: u32, to: &Joints, line: &mut ArrayString<1200>)
+    requires { line.old.bytes ≡ [] }
+    ensures { line.new.bytes ≡ setpoint_line (task_name tasks.now actor) to.now }
+{
+    line.push_str("S ");
+    push_task(tasks, actor, line);
+    push_axes(to, line);
+    line.push('\n');
+}
+
+/// Appends the name of a task, and nothing where there is no such task.
+fn push_task(tasks: &[TaskRow], actor: u32, line: &mut ArrayString<1200>)
+    requires room { length line.old.bytes + 32 ≤ 1200 }
+    ensures text { line.new.bytes ≡ line.old.bytes ++ task_name tasks.now actor }
+    ensures short { length line.new.bytes ≤ length line.old.bytes + 32 }
+{
+    if let Some(row) = tasks.get(actor as usize) {
+        push_name(&row.name, line);
+    }
 }

@@ -1,8 +1,10 @@
 //! The lines of a history, built in room of fixed size.
 #![tactic(auto)]
 
+mod axes;
 mod event_line;
 mod fate_line;
+mod name;
 
 pub use event_line::write_event;
 pub use fate_line::write_fate;

@@ -1,0 +1,48 @@
+-- The lines on examples worked by hand.
+use Rattle.std.proofs.Common.{◌≡◌, refl, List, [], ◌∷◌, Some, None}
+use Rattle.std.specs.Prelude.{codes, pos}
+use Rattle.std.specs.Fmt.{digits}
+use Rattle.rapid_num.specs.declared.joints.Joints.{Joints}
+use Rattle.rapid_model.specs.declared.answer.Answer.TheVariants as answers
+use Rattle.rapid_model.specs.declared.event.Event.{Event}
+use Rattle.rapid_model.specs.declared.fate.Fate.TheVariants as fates
+use Rattle.rapid_model.specs.declared.fate.Fault.TheVariants.{JointRange}
+use Rattle.rapid_model.specs.declared.request.Request.{Request}
+use Rattle.rapid_model.specs.declared.request.Request.TheVariants.{Look, Position, Setpoint}
+use Rattle.rapid_model.specs.declared.answer.Answer.{Answer}
+use Rattle.rapid_model.specs.declared.task_row.TaskRow.{TaskRow}
+use Rattle.history_text.specs.Lines.{line_of, fate_line, output_of}
+
+-- axis 1 is at 0.833 degrees, and the others at 0
+turned : Joints
+turned = record { axis = pos 833 ∷ pos 0 ∷ pos 0 ∷ pos 0 ∷ pos 0 ∷ pos 0 ∷ pos 0 ∷ pos 0 ∷ pos 0 ∷ pos 0 ∷ pos 0 ∷ pos 0 ∷ [] }
+
+tasks : List TaskRow
+tasks = record { name = codes "A"; arm = None } ∷ []
+
+asked : Request → Answer → Event
+asked request answer = record { actor = 0; request = request; answer = answer }
+
+setpoint : line_of tasks (asked (Setpoint turned) answers.Given) ≡ codes "S A 0.833 0.000 0.000 0.000 0.000 0.000\n"
+unfolding digits turned tasks asked
+setpoint = refl
+
+look : line_of tasks (asked Look (answers.Go 3)) ≡ []
+unfolding tasks asked
+look = refl
+
+position : line_of tasks (asked Position (answers.At turned)) ≡ []
+unfolding tasks asked
+position = refl
+
+done : fate_line (codes "A") fates.Done ≡ codes "E A Done\n"
+done = refl
+
+cut : fate_line (codes "A") fates.Cut ≡ codes "E A Cut\n"
+cut = refl
+
+held : fate_line (codes "A") fates.Held ≡ codes "E A Held\n"
+held = refl
+
+fault : fate_line (codes "A") (fates.Fault JointRange) ≡ codes "E A Fault JointRange\n"
+fault = refl

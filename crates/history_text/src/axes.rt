@@ -1,0 +1,29 @@
+ghost use Rattle.std.specs.Prelude.{◌≡◌, ◌+◌, ◌≤◌, ◌∷◌, ◌++◌, length, take};
+ghost use Rattle.rapid_num.specs.NumText.{fixed_text};
+ghost use Rattle.history_text.specs.Lines.{number_words};
+
+use arrayvec::ArrayString;
+use rapid_num::{Joints, Num, write_fixed};
+
+/// Appends axes 1 to 6 in degrees, each after a space.
+pub(crate) fn push_axes(to: &Joints, line: &mut ArrayString<1200>)
+    requires room { length line.old.bytes + 96 ≤ 1200 }
+    ensures text { line.new.bytes ≡ line.old.bytes ++ number_words (take 6 to.now.axis) }
+    ensures short { length line.new.bytes ≤ length line.old.bytes + 96 }
+{
+    for axis in &to.axis[..6] {
+        push_number(*axis, line);
+    }
+}
+
+/// Appends a space and the number with three decimals.
+fn push_number(number: Num, line: &mut ArrayString<1200>)
+    requires room { length line.old.bytes + 16 ≤ 1200 }
+    ensures text { line.new.bytes ≡ line.old.bytes ++ 32 ∷ fixed_text number }
+    ensures short { length line.new.bytes ≤ length line.old.bytes + 16 }
+{
+    let mut text = ArrayString::new();
+    write_fixed(number, &mut text);
+    line.push(' ');
+    line.push_str(text.as_str());
+}
