@@ -112,7 +112,7 @@ none_read text h tree spelled =
     none-some r.body (sym h ∙ r.body_is)
 
 -- a text spells at most one tree
-pub one_tree : (tree tree' : Tree) (text : List ℕ) → SpellsModule tree text → SpellsModule tree' text → tree ≡ tree'
-one_tree tree tree' text h h' =
+pub one_tree : {tree tree' : Tree} {text : List ℕ} → SpellsModule tree text → SpellsModule tree' text → tree ≡ tree'
+one_tree {tree} {tree'} {text} h h' =
     let r = spelled_read tree text h in
     ap (λ (list : List Stmt). let t : Tree = record { list = list } in t) (only_read text r.body last_lines tree.list r.body_is r.list nothing_moves tree' h').0
