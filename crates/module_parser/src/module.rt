@@ -32,5 +32,4 @@ pub fn read_module(alloc: Global, source: &[u8]) -> Result<Tree, ModuleFault>
 /// A text spells at most one tree.
 pub fn one_tree()
     ensures { (tree other : Tree) (text : List ℕ) → SpellsModule tree text → SpellsModule other text → tree ≡ other }
-{
-}
+{}

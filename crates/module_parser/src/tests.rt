@@ -3,7 +3,8 @@ use rapid_model::{Form, Tree};
 use std::alloc::{AllocError, Global};
 use std::test::Fail;
 
-const ONE_MOVE: &[u8] = b"MODULE M\nPROC main()\nMoveAbsJ [[2.5,0,0,0,0,0],[9E9,9E9,9E9,9E9,9E9,9E9]]\\NoEOffs, v1000, fine, tool0;\nENDPROC\nENDMODULE\n";
+const ONE_MOVE: &[u8] =
+    b"MODULE M\nPROC main()\nMoveAbsJ [[2.5,0,0,0,0,0],[9E9,9E9,9E9,9E9,9E9,9E9]]\\NoEOffs, v1000, fine, tool0;\nENDPROC\nENDMODULE\n";
 
 fn is_refused(alloc: Global, source: &[u8]) -> bool {
     matches!(read_module(alloc, source), Err(ModuleFault::NotBuilt))
@@ -64,9 +65,11 @@ fn absent_first_axis(rt: HostRuntime) -> Result<(), Fail> {
 #[test]
 fn other_lines(rt: HostRuntime) {
     let alloc = rt.alloc();
-    let blank = b"MoveAbsJ [[0,0,0,0,0,0],[9E9,9E9,9E9,9E9,9E9,9E9]]\\NoEOffs,  v1000, fine, tool0;";
+    let blank =
+        b"MoveAbsJ [[0,0,0,0,0,0],[9E9,9E9,9E9,9E9,9E9,9E9]]\\NoEOffs,  v1000, fine, tool0;";
     assert!(rt; is_refused_line(alloc, blank));
-    let lower_case = b"moveabsj [[0,0,0,0,0,0],[9E9,9E9,9E9,9E9,9E9,9E9]]\\NoEOffs, v1000, fine, tool0;";
+    let lower_case =
+        b"moveabsj [[0,0,0,0,0,0],[9E9,9E9,9E9,9E9,9E9,9E9]]\\NoEOffs, v1000, fine, tool0;";
     assert!(rt; is_refused_line(alloc, lower_case));
     let zone = b"MoveAbsJ [[0,0,0,0,0,0],[9E9,9E9,9E9,9E9,9E9,9E9]]\\NoEOffs, v1000, z10, tool0;";
     assert!(rt; is_refused_line(alloc, zone));
@@ -78,7 +81,8 @@ fn other_lines(rt: HostRuntime) {
 fn other_counts(rt: HostRuntime) {
     let five = b"MoveAbsJ [[0,0,0,0,0],[9E9,9E9,9E9,9E9,9E9,9E9]]\\NoEOffs, v1000, fine, tool0;";
     assert!(rt; is_refused_line(rt.alloc(), five));
-    let seven = b"MoveAbsJ [[0,0,0,0,0,0,0],[9E9,9E9,9E9,9E9,9E9,9E9]]\\NoEOffs, v1000, fine, tool0;";
+    let seven =
+        b"MoveAbsJ [[0,0,0,0,0,0,0],[9E9,9E9,9E9,9E9,9E9,9E9]]\\NoEOffs, v1000, fine, tool0;";
     assert!(rt; is_refused_line(rt.alloc(), seven));
 }
 
