@@ -1,5 +1,5 @@
 -- Statements, line after line: what is read is spelled, and no other list is.
-use Rattle.std.proofs.Common.{◌≡◌, ℕ, ◌+◌, ◌-◌, ◌<◌, ◌≤◌, ℤ, List, [], ◌∷◌, ◌++◌, length, Option, Some, None, refl, sym, ap, ap₂, subst, ◌∙◌, append_assoc, arith}
+use Rattle.std.proofs.Common.{◌≡◌, ℕ, ◌+◌, ◌-◌, ◌<◌, ℤ, List, [], ◌∷◌, ◌++◌, length, Option, Some, None, refl, sym, ap, ap₂, subst, ◌∙◌, append_assoc, arith}
 use Rattle.std.proofs.lemmas.List.{length-append, append-nil}
 use Rattle.std.proofs.lemmas.Option.{none-some}
 use Rattle.rapid_num.specs.declared.joints.Joints.{Joints}
@@ -44,7 +44,7 @@ move_read start whole body list rest target speed after ends reads h =
     record {
       lines = reads.lines ++ m.line;
       spelled = SpellsList-push start list reads.lines reads.spelled s m.line place m.spelled;
-      parts = reads.parts ∙ ap (λ (r : List ℕ). reads.lines ++ r) m.parts ∙ sym (append_assoc reads.lines m.line after)
+      parts = reads.parts ∙ ap (λ (r : List ℕ). reads.lines ++ r) m.parts ∙ sym (append_assoc reads.lines m.line after);
     }
 
 -- ---- no other list

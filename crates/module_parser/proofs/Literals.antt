@@ -1,8 +1,8 @@
 -- A number has no comma and no bracket.
-use Rattle.std.proofs.Common.{◌≡◌, ℕ, suc, ◌+◌, ◌<◌, ◌≤◌, ℤ, Bool, true, false, eqb, ltb, cond, List, [], ◌∷◌, ◌++◌, length, get_or, take, drop, Option, Some, None, refl, sym, ap, subst, ◌∙◌, arith, inl, inr, ◌⊎◌, pos, neg_ℤ, ◌+ℤ◌, ◌*◌}
-use Rattle.std.specs.Prelude.{◌-ℤ◌, if◌then◌else◌, option_and_then, option_map, nat_lt, ◌==◌, nat_le, ◌&&◌, not, ◌||◌}
+use Rattle.std.proofs.Common.{◌≡◌, ℕ, ◌+◌, ◌<◌, ◌≤◌, ℤ, Bool, true, false, eqb, ltb, cond, List, [], ◌∷◌, ◌++◌, length, get_or, Option, Some, None, refl, sym, ap, subst, arith, inl, inr, ◌⊎◌, pos, neg_ℤ, ◌+ℤ◌, ◌*◌}
+use Rattle.std.specs.Prelude.{◌-ℤ◌, if◌then◌else◌, option_map, nat_lt, ◌==◌, nat_le, ◌&&◌, not, ◌||◌}
 use Rattle.std.specs.List.{before_first, after_first, position_or_len, list_all, list_any}
-use Rattle.std.proofs.lemmas.Bool.{eqb-true, eq-eqb, ltb-true, ltb-false, le-ltb, and_parts, or_parts, cases_Bool}
+use Rattle.std.proofs.lemmas.Bool.{eqb-true, ltb-true, ltb-false, le-ltb, and_parts, or_parts, cases_Bool}
 use Rattle.std.proofs.lemmas.List.{take_all, drop_all}
 use Rattle.std.proofs.lemmas.List.Sums.{split_at_first, passes_at_first}
 use Rattle.std.proofs.lemmas.Option.{cond_some}
@@ -39,10 +39,10 @@ lacks_split p c fails text before after =
     let n = position_or_len p text in
     elim (cases_Bool (ltb n (length text))) [
       | inl holds ↦
-        let lt : n < length text = ltb-true n (length text) holds in
-        let here = differs_by p (get_or text n 0) c (passes_at_first p text 0 lt) fails in
-        let whole : Lacks c (before_first p text ++ (get_or text n 0 ∷ after_first p text)) = Lacks-append c (before_first p text) (get_or text n 0 ∷ after_first p text) before (here, after) in
-        subst (λ (x : List ℕ). Lacks c x) (sym (split_at_first p text 0 lt)) whole
+          let lt : n < length text = ltb-true n (length text) holds in
+          let here = differs_by p (get_or text n 0) c (passes_at_first p text 0 lt) fails in
+          let whole : Lacks c (before_first p text ++ (get_or text n 0 ∷ after_first p text)) = Lacks-append c (before_first p text) (get_or text n 0 ∷ after_first p text) before (here, after) in
+          subst (λ (x : List ℕ). Lacks c x) (sym (split_at_first p text 0 lt)) whole
       | inr past ↦ subst (λ (x : List ℕ). Lacks c x) (take_all n text (ltb-false n (length text) past)) before
     ]
 
@@ -64,19 +64,19 @@ exponent_lacks c stop [] z e = tt
 exponent_lacks c stop (b ∷ ds) z e =
     elim (cases_Bool (eqb b 43)) [
       | inl plus ↦
-        let e' : cond (are_digits 10 ds) (Some (pos (digits_number 10 ds))) None ≡ Some z = rw plus at e in
-        let g = cond_some (are_digits 10 ds) (pos (digits_number 10 ds)) z e' in
-        (differs_by (λ x. eqb x 43) b c plus stop.plus, digits_lack c stop 10 (omega arith) ds g.0)
+          let e' : cond (are_digits 10 ds) (Some (pos (digits_number 10 ds))) None ≡ Some z = rw plus at e in
+          let g = cond_some (are_digits 10 ds) (pos (digits_number 10 ds)) z e' in
+          (differs_by (λ x. eqb x 43) b c plus stop.plus, digits_lack c stop 10 (omega arith) ds g.0)
       | inr no_plus ↦ elim (cases_Bool (eqb b 45)) [
         | inl minus ↦
-          let e' : cond (are_digits 10 ds) (Some (neg_ℤ (pos (digits_number 10 ds)))) None ≡ Some z = rw (no_plus, minus) at e in
-          let g = cond_some (are_digits 10 ds) (neg_ℤ (pos (digits_number 10 ds))) z e' in
-          (differs_by (λ x. eqb x 45) b c minus stop.minus, digits_lack c stop 10 (omega arith) ds g.0)
+            let e' : cond (are_digits 10 ds) (Some (neg_ℤ (pos (digits_number 10 ds)))) None ≡ Some z = rw (no_plus, minus) at e in
+            let g = cond_some (are_digits 10 ds) (neg_ℤ (pos (digits_number 10 ds))) z e' in
+            (differs_by (λ x. eqb x 45) b c minus stop.minus, digits_lack c stop 10 (omega arith) ds g.0)
         | inr no_minus ↦
-          let e' : cond (are_digits 10 (b ∷ ds)) (Some (pos (digits_number 10 (b ∷ ds)))) None ≡ Some z = rw (no_plus, no_minus) at e in
-          let g = cond_some (are_digits 10 (b ∷ ds)) (pos (digits_number 10 (b ∷ ds))) z e' in
-          digits_lack c stop 10 (omega arith) (b ∷ ds) g.0
-        ]
+            let e' : cond (are_digits 10 (b ∷ ds)) (Some (pos (digits_number 10 (b ∷ ds)))) None ≡ Some z = rw (no_plus, no_minus) at e in
+            let g = cond_some (are_digits 10 (b ∷ ds)) (pos (digits_number 10 (b ∷ ds))) z e' in
+            digits_lack c stop 10 (omega arith) (b ∷ ds) g.0
+      ]
     ]
 
 map_some : {A B : Type 0} (f : A → B) (o : Option A) (y : B) → option_map f o ≡ Some y → (x : A) × (o ≡ Some x)
@@ -100,12 +100,12 @@ unfolding exponent_part
 exponent_part_lacks c stop text z e =
     elim (cases_Bool (list_any is_exponent_letter text)) [
       | inl holds ↦
-        let e' : exponent_of (after_first is_exponent_letter text) ≡ Some z = rw holds at e in
-        exponent_lacks c stop (after_first is_exponent_letter text) z e'
+          let e' : exponent_of (after_first is_exponent_letter text) ≡ Some z = rw holds at e in
+          exponent_lacks c stop (after_first is_exponent_letter text) z e'
       | inr fails ↦
-        let n = none_after is_exponent_letter text fails in
-        let nothing : after_first is_exponent_letter text ≡ [] = drop_all (position_or_len is_exponent_letter text + 1) text (omega arith) in
-        subst (λ (x : List ℕ). Lacks c x) (sym nothing) tt
+          let n = none_after is_exponent_letter text fails in
+          let nothing : after_first is_exponent_letter text ≡ [] = drop_all (position_or_len is_exponent_letter text + 1) text (omega arith) in
+          subst (λ (x : List ℕ). Lacks c x) (sym nothing) tt
     ]
 
 decimal_lacks : (c : ℕ) → IsStop c → (text : List ℕ) (n : ℕ) → decimal_thousandths text ≡ Some n → Lacks c text
@@ -134,9 +134,9 @@ base_differs : (c : ℕ) → IsStop c → (b base : ℕ) → base_of b ≡ Some 
 base_differs c stop b base e =
     elim (cases_Bool (eqb b c)) [
       | inl same ↦
-        let k : base_of b ≡ base_of c = ap base_of (eqb-true b c same) in
-        let other = stop.base in
-        absurd cc
+          let k : base_of b ≡ base_of c = ap base_of (eqb-true b c same) in
+          let other = stop.base in
+          absurd cc
       | inr other ↦ other
     ]
 
@@ -147,17 +147,17 @@ spelled_lacks c stop (a ∷ b ∷ ds) n e =
     elim (cases_Bool (eqb a 48)) [
       | inl zero ↦ elim (option_cases (base_of b)) [
         | inl none ↦
-          let e' : decimal_thousandths (a ∷ b ∷ ds) ≡ Some n = rw (zero, none) at e in
-          decimal_lacks c stop (a ∷ b ∷ ds) n e'
+            let e' : decimal_thousandths (a ∷ b ∷ ds) ≡ Some n = rw (zero, none) at e in
+            decimal_lacks c stop (a ∷ b ∷ ds) n e'
         | inr known ↦
-          let is_known : base_of b ≡ Some known.0 = known.1 in
-          let e' : based_thousandths ds known.0 ≡ Some n = rw (zero, is_known) at e in
-          let g = cond_some (are_digits known.0 ds) (digits_number known.0 ds * 1000) n e' in
-          (differs_by (λ x. eqb x 48) a c zero stop.zero, (base_differs c stop b known.0 known.1, digits_lack c stop known.0 (base_low b known.0 known.1) ds g.0))
-        ]
+            let is_known : base_of b ≡ Some known.0 = known.1 in
+            let e' : based_thousandths ds known.0 ≡ Some n = rw (zero, is_known) at e in
+            let g = cond_some (are_digits known.0 ds) (digits_number known.0 ds * 1000) n e' in
+            (differs_by (λ x. eqb x 48) a c zero stop.zero, (base_differs c stop b known.0 known.1, digits_lack c stop known.0 (base_low b known.0 known.1) ds g.0))
+      ]
       | inr other ↦
-        let e' : decimal_thousandths (a ∷ b ∷ ds) ≡ Some n = rw other at e in
-        decimal_lacks c stop (a ∷ b ∷ ds) n e'
+          let e' : decimal_thousandths (a ∷ b ∷ ds) ≡ Some n = rw other at e in
+          decimal_lacks c stop (a ∷ b ∷ ds) n e'
     ]
 
 literal_lacks : (c : ℕ) → IsStop c → (text : List ℕ) (z : ℤ) → literal_value text ≡ Some z → Lacks c text
@@ -170,10 +170,10 @@ number_lacks c stop [] z e = tt
 number_lacks c stop (b ∷ bs) z e =
     elim (cases_Bool (eqb b 45)) [
       | inl minus ↦
-        let e' : option_map neg_ℤ (literal_value bs) ≡ Some z = rw minus at e in
-        let a = map_some neg_ℤ (literal_value bs) z e' in
-        (differs_by (λ x. eqb x 45) b c minus stop.minus, literal_lacks c stop bs a.0 a.1)
+          let e' : option_map neg_ℤ (literal_value bs) ≡ Some z = rw minus at e in
+          let a = map_some neg_ℤ (literal_value bs) z e' in
+          (differs_by (λ x. eqb x 45) b c minus stop.minus, literal_lacks c stop bs a.0 a.1)
       | inr other ↦
-        let e' : literal_value (b ∷ bs) ≡ Some z = rw other at e in
-        literal_lacks c stop (b ∷ bs) z e'
+          let e' : literal_value (b ∷ bs) ≡ Some z = rw other at e in
+          literal_lacks c stop (b ∷ bs) z e'
     ]

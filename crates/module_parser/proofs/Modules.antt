@@ -1,5 +1,5 @@
 -- A module: what is read is spelled, what is spelled is read, and a text spells at most one tree.
-use Rattle.std.proofs.Common.{◌≡◌, ℕ, ◌+◌, ◌-◌, ◌≤◌, Bool, true, false, List, [], ◌∷◌, ◌++◌, length, Option, Some, None, refl, sym, ap, subst, ◌∙◌, append_assoc, arith}
+use Rattle.std.proofs.Common.{◌≡◌, ℕ, ◌-◌, ◌≤◌, Bool, true, false, List, ◌∷◌, ◌++◌, length, Option, Some, None, refl, sym, ap, subst, ◌∙◌, arith}
 use Rattle.std.specs.Prelude.{codes, if◌then◌else◌}
 use Rattle.std.proofs.lemmas.List.{length-append}
 use Rattle.std.proofs.lemmas.Option.{none-some}
@@ -46,7 +46,7 @@ body_takes text body h =
     record {
       name = b.0.0;
       is_named = g.0;
-      parts = words_takes first_line text a.0 a.1 ∙ ap (λ (r : List ℕ). first_line ++ r) (field_takes 10 a.0 b.0.0 b.0.1 b.1 ∙ ap (λ (r : List ℕ). b.0.0 ++ 10 ∷ r) (words_takes second_line b.0.1 body g.1))
+      parts = words_takes first_line text a.0 a.1 ∙ ap (λ (r : List ℕ). first_line ++ r) (field_takes 10 a.0 b.0.0 b.0.1 b.1 ∙ ap (λ (r : List ℕ). b.0.0 ++ 10 ∷ r) (words_takes second_line b.0.1 body g.1));
     }
 
 body_again : (name body : List ℕ) → is_name name ≡ true → body_of (first_line ++ (name ++ 10 ∷ (second_line ++ body))) ≡ Some body
@@ -76,7 +76,7 @@ read_spelled text body rest list h reads e =
       list = reads.lines;
       is_named = b.is_named;
       statements = subst (λ (k : ℕ). SpellsList k list reads.lines) (same_place text body b.name b.parts) reads.spelled;
-      text_is = b.parts ∙ ap (λ (r : List ℕ). first_line ++ (b.name ++ 10 ∷ (second_line ++ r))) (reads.parts ∙ ap (λ (r : List ℕ). reads.lines ++ r) e)
+      text_is = b.parts ∙ ap (λ (r : List ℕ). first_line ++ (b.name ++ 10 ∷ (second_line ++ r))) (reads.parts ∙ ap (λ (r : List ℕ). reads.lines ++ r) e);
     }
 
 -- what is read of a text that spells a tree
@@ -94,8 +94,8 @@ spelled_read tree text h =
       list = record {
         lines = h.list;
         spelled = subst (λ (k : ℕ). SpellsList k tree.list h.list) (sym (same_place text body h.name h.text_is)) h.statements;
-        parts = refl
-      }
+        parts = refl;
+      };
     }
 
 pub only_read : (text body rest : List ℕ) (list : List Stmt) → body_of text ≡ Some body → ReadsList (length text - length body) list rest body → move_at rest ≡ None
@@ -112,7 +112,7 @@ none_read text h tree spelled =
     none-some r.body (sym h ∙ r.body_is)
 
 -- a text spells at most one tree
-pub one_tree : (tree tree' : Tree) (text : List ℕ) → SpellsModule tree text → SpellsModule tree' text → tree ≡ tree'
-one_tree tree tree' text h h' =
+pub one_tree : {tree tree' : Tree} {text : List ℕ} → SpellsModule tree text → SpellsModule tree' text → tree ≡ tree'
+one_tree {tree} {tree'} {text} h h' =
     let r = spelled_read tree text h in
     ap (λ (list : List Stmt). let t : Tree = record { list = list } in t) (only_read text r.body last_lines tree.list r.body_is r.list nothing_moves tree' h').0

@@ -1,6 +1,6 @@
 -- A name of a speed: what is read is spelled, and what is spelled is read.
-use Rattle.std.proofs.Common.{◌≡◌, ℕ, zero, suc, ◌+◌, ◌*◌, ◌%◌, ◌^◌, ◌<◌, ◌≤◌, ℤ, pos, Bool, true, false, eqb, ltb, cond, List, [], ◌∷◌, ◌++◌, length, get_or, Option, Some, None, refl, sym, ap, subst, ◌∙◌, arith, rules, inl, inr, ◌⊎◌}
-use Rattle.std.specs.Prelude.{codes, decimal, Contains, nat_lt}
+use Rattle.std.proofs.Common.{◌≡◌, ℕ, zero, suc, ◌+◌, ◌*◌, ◌%◌, ◌^◌, ◌<◌, ℤ, pos, true, false, eqb, List, [], ◌∷◌, ◌++◌, length, get_or, Some, None, refl, sym, ap, subst, ◌∙◌, arith, rules, inl, inr, ◌⊎◌}
+use Rattle.std.specs.Prelude.{codes, decimal, Contains}
 use Rattle.std.specs.List.{AllByRecursion}
 use Rattle.std.specs.Str.{bytes_eq}
 use Rattle.std.proofs.lemmas.Bool.{cases_Bool, ne_eqb, true≢false}
@@ -46,12 +46,12 @@ among_takes name [] speed e = absurd cc
 among_takes name (n ∷ ns) speed e =
     elim (cases_Bool (bytes_eq name (codes "v" ++ decimal n))) [
       | inl holds ↦
-        let e' : Some (pos (n * 1000)) ≡ Some speed = rw holds at e in
-        (n, (0, omega arith, refl), (bytes_eq-Decides name (codes "v" ++ decimal n)).0 holds, sym (some_is _ _ e'))
+          let e' : Some (pos (n * 1000)) ≡ Some speed = rw holds at e in
+          (n, (0, omega arith, refl), (bytes_eq-Decides name (codes "v" ++ decimal n)).0 holds, sym (some_is _ _ e'))
       | inr fails ↦
-        let e' : speed_among name ns ≡ Some speed = rw fails at e in
-        let more = among_takes name ns speed e' in
-        (more.0, (suc more.1.0, omega (arith, more.1.1), more.1.2), more.2, more.3)
+          let e' : speed_among name ns ≡ Some speed = rw fails at e in
+          let more = among_takes name ns speed e' in
+          (more.0, (suc more.1.0, omega (arith, more.1.1), more.1.2), more.2, more.3)
     ]
 
 pub speed_takes : (name : List ℕ) (speed : ℤ) → speed_of name ≡ Some speed → SpellsSpeed speed name
@@ -59,11 +59,11 @@ unfolding speed_of
 speed_takes name speed e =
     elim (cases_Bool (bytes_eq name (codes "vmax"))) [
       | inl holds ↦
-        let e' : Some (pos 5_000_000) ≡ Some speed = rw holds at e in
-        inr ((bytes_eq-Decides name (codes "vmax")).0 holds, sym (some_is _ _ e'))
+          let e' : Some (pos 5_000_000) ≡ Some speed = rw holds at e in
+          inr ((bytes_eq-Decides name (codes "vmax")).0 holds, sym (some_is _ _ e'))
       | inr fails ↦
-        let e' : speed_among name named_speeds ≡ Some speed = rw fails at e in
-        inl (among_takes name named_speeds speed e')
+          let e' : speed_among name named_speeds ≡ Some speed = rw fails at e in
+          inl (among_takes name named_speeds speed e')
     ]
 
 contains_cases : (k m : ℕ) (ns : List ℕ) (n : ℕ) → k < length (m ∷ ns) → get_or (m ∷ ns) k n ≡ n → (m ≡ n) ⊎ Contains ns n
@@ -75,16 +75,16 @@ among_again name [] n small s h e = absurd (omega (arith, h.1))
 among_again name (m ∷ ns) n small s h e =
     elim (cases_Bool (bytes_eq name (codes "v" ++ decimal m))) [
       | inl holds ↦
-        let same : name ≡ codes "v" ++ decimal m = (bytes_eq-Decides name (codes "v" ++ decimal m)).0 holds in
-        let digits : decimal m ≡ decimal n = cc in
-        let k : m ≡ n = decimal_injective m n small.0 s digits in
-        rw holds (ap (λ (x : ℕ). Some (pos (x * 1000))) k)
+          let same : name ≡ codes "v" ++ decimal m = (bytes_eq-Decides name (codes "v" ++ decimal m)).0 holds in
+          let digits : decimal m ≡ decimal n = cc in
+          let k : m ≡ n = decimal_injective m n small.0 s digits in
+          rw holds (ap (λ (x : ℕ). Some (pos (x * 1000))) k)
       | inr fails ↦ elim (contains_cases h.0 m ns n h.1 h.2) [
         | inl same ↦
-          let holds : bytes_eq name (codes "v" ++ decimal m) ≡ true = (bytes_eq-Decides name (codes "v" ++ decimal m)).1 (e ∙ ap (λ (x : ℕ). codes "v" ++ decimal x) (sym same)) in
-          absurd cc
+            let holds : bytes_eq name (codes "v" ++ decimal m) ≡ true = (bytes_eq-Decides name (codes "v" ++ decimal m)).1 (e ∙ ap (λ (x : ℕ). codes "v" ++ decimal x) (sym same)) in
+            absurd cc
         | inr more ↦ rw fails (among_again name ns n small.1 s more e)
-        ]
+      ]
     ]
 
 pub speed_again : (name : List ℕ) (speed : ℤ) → SpellsSpeed speed name → speed_of name ≡ Some speed
@@ -94,9 +94,9 @@ speed_again name speed (inl h) =
     let letters : Lacks 109 (decimal h.0) = decimal_lacks 109 (λ k lt. ne_eqb _ _ (λ e. omega arith)) h.0 small in
     elim (cases_Bool (bytes_eq name (codes "vmax"))) [
       | inl holds ↦
-        let most : name ≡ codes "vmax" = (bytes_eq-Decides name (codes "vmax")).0 holds in
-        let digits : decimal h.0 ≡ codes "max" = cc in
-        absurd (true≢false (subst (λ (x : List ℕ). Lacks 109 x) digits letters).0)
+          let most : name ≡ codes "vmax" = (bytes_eq-Decides name (codes "vmax")).0 holds in
+          let digits : decimal h.0 ≡ codes "max" = cc in
+          absurd (true≢false (subst (λ (x : List ℕ). Lacks 109 x) digits letters).0)
       | inr fails ↦ rw fails (among_again name named_speeds h.0 (search rules) small h.1 h.2 ∙ ap Some (sym h.3))
     ]
 speed_again name speed (inr h) = rw ((bytes_eq-Decides name (codes "vmax")).1 h.0) (ap Some (sym h.1))

@@ -11,4 +11,7 @@ mod speed;
 mod text;
 
 pub use fault::ModuleFault;
-pub use module::read_module;
+pub use module::{one_tree, read_module};
+
+#[cfg(test)]
+mod tests;

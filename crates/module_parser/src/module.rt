@@ -1,4 +1,4 @@
-ghost use Rattle.std.specs.Prelude.{◌≡◌, IfOk, Err, Ok, ◌⊎◌};
+ghost use Rattle.std.specs.Prelude.{◌≡◌, ℕ, List, IfOk, Err, Ok, ◌⊎◌};
 ghost use Rattle.module_parser.specs.Grammar.{SpellsModule};
 ghost use Rattle.rapid_model.specs.declared.tree.Tree.{Tree};
 
@@ -28,3 +28,8 @@ pub fn read_module(alloc: Global, source: &[u8]) -> Result<Tree, ModuleFault>
         list: Sequence::from_vec(list),
     })
 }
+
+/// A text spells at most one tree.
+pub fn one_tree()
+    ensures { (tree other : Tree) (text : List ℕ) → SpellsModule tree text → SpellsModule other text → tree ≡ other }
+{}

@@ -1,4 +1,4 @@
-use Rattle.std.proofs.Common.{◌-◌, ◌≤◌, length}
+use Rattle.std.proofs.Common.{◌-◌, length}
 use Rattle.module_parser.specs.Reading.{ReadsList}
 use Rattle.module_parser.proofs.list.list_at.Given as goal
 

@@ -1,4 +1,4 @@
-use Rattle.std.proofs.Common.{◌≡◌, length, List, ℕ, Ok, Err, Result, inl, ap, ◌∙◌, arith, rules}
+use Rattle.std.proofs.Common.{◌≡◌, List, Ok, Result, inl, ap, ◌∙◌, rules}
 use Rattle.rapid_model.specs.declared.tree.Stmt.{Stmt}
 use Rattle.rapid_model.specs.declared.tree.Tree.{Tree}
 use Rattle.module_parser.specs.declared.fault.ModuleFault.{ModuleFault}

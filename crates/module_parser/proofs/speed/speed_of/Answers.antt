@@ -1,4 +1,4 @@
-use Rattle.std.proofs.Common.{rules, ◌≡◌, ◌++◌, codes, decimal, ℕ, ◌<◌, Bool, false, get_or, Some, sym, ap, ◌∙◌, below_more, arith}
+use Rattle.std.proofs.Common.{◌≡◌, codes, false, Some, sym, ap, ◌∙◌, below_more, arith}
 use Rattle.std.specs.Str.{bytes_eq}
 use Rattle.module_parser.proofs.Speeds.{speed_found, speed_nowhere}
 use Rattle.module_parser.proofs.speed.speed_of.Goals as goal
