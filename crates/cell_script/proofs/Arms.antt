@@ -33,7 +33,7 @@ AreAngles-angles_of (d ∷ items) =
     let Q : ℤ → Type 0 = λ z. is_in_reach z ≡ true in
     record {
       count = omega (arith, others.count);
-      reach = and_from (is_in_reach angle) (list_all is_in_reach angles) (IfSome-at Q (angle_of d) angle (angle_in_reach d) first) others.reach
+      reach = and_from (is_in_reach angle) (list_all is_in_reach angles) (IfSome-at Q (angle_of d) angle (angle_in_reach d) first) others.reach;
     }))
 
 six_only : (o : Option (List ℤ)) (n : ℕ) → IfSome o (λ angles. length angles ≡ n) → (n ≡ 6 → ⊥)

@@ -25,5 +25,5 @@ IsCell-from script steps rows is same_steps same_rows =
       few_steps = rw same_steps is.few_steps;
       some_tasks = rw count (omega arith);
       few_tasks = rw count (omega arith);
-      starts = rw same_rows (starts script.tasks is.tasks)
+      starts = rw same_rows (starts script.tasks is.tasks);
     }
