@@ -1,12 +1,11 @@
 -- The definitions on small scripts, worked by hand.
 use Rattle.std.proofs.Common.{◌≡◌, [], ◌∷◌, codes, Some, None, refl, ℤ}
 use Rattle.std.specs.Prelude.{pos, negsuc}
-use Rattle.rapid_model.specs.declared.script_task.ScriptTask.{ScriptTask}
 use Rattle.rapid_num.specs.declared.joints.Joints.{Joints}
-use Rattle.toml.specs.Data.{Data, string, integer, array, table, Items, no_items, item, Members, no_members, member}
+use Rattle.toml.specs.Data.{Data, string, integer, array, table, no_items, item, Members, no_members, member}
 use Rattle.toml.specs.Parse.{parse_document}
 use Rattle.toml.proofs.OnLiterals.{toml_on_literals}
-use Rattle.cell_script.specs.FirstForm.{key_count, only_item, name_of, file_of, angle_of, arm_of, version_of, script_of_table}
+use Rattle.cell_script.specs.FirstForm.{name_of, file_of, angle_of, version_of, script_of_table}
 
 abbrev six : Data → Data
 six d = array (item d (item d (item d (item d (item d (item d no_items))))))

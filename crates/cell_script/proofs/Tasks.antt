@@ -1,13 +1,12 @@
 -- The tasks that a script gives.
-use Rattle.std.proofs.Common.{◌≡◌, ℕ, Bool, true, ◌&&◌, IsTrue, List, [], ◌∷◌, length, codes, ◌==◌, lit≤, Some, None, Option, refl}
+use Rattle.std.proofs.Common.{◌≡◌, ℕ, true, List, [], ◌∷◌, codes, ◌==◌, lit≤, Some, None, Option, refl}
 use Rattle.std.specs.Prelude.{IfSome, option_and_then}
-use Rattle.std.proofs.lemmas.Bool.{and_from}
 use Rattle.rapid_num.specs.Reach.{is_position}
 use Rattle.rapid_num.specs.declared.joints.Joints.{Joints}
 use Rattle.rapid_model.specs.declared.script_task.ScriptTask.{ScriptTask}
 use Rattle.rapid_model.specs.Names.{is_name}
-use Rattle.rapid_model.specs.ScriptData.{ScriptData, IsScript, is_task}
-use Rattle.toml.specs.Data.{Data, Members, as_str, as_table, get_member}
+use Rattle.rapid_model.specs.ScriptData.{IsScript, is_task}
+use Rattle.toml.specs.Data.{Data, as_str, as_table, get_member}
 use Rattle.cell_script.specs.FirstForm.{◌>>=◌, given_that, key_count, only_item, name_of, file_of, arm_of, task_of}
 use Rattle.cell_script.proofs.Chains.{IfSome-then, IfSome-given_that, IfSome-at}
 use Rattle.cell_script.proofs.Arms.{is_position-arm_of}
