@@ -1,13 +1,13 @@
 -- The arms that a script gives.
-use Rattle.std.proofs.Common.{◌≡◌, ◌+◌, ℕ, zero, suc, Bool, true, false, ◌&&◌, IsTrue, ℤ, List, [], ◌∷◌, ◌++◌, length, take, drop, eqb, ◌==◌, Some, None, Option, refl, ap, ◌∙◌, sym, arith, subst}
+use Rattle.std.proofs.Common.{◌≡◌, ℕ, true, ℤ, List, [], ◌∷◌, ◌++◌, length, take, drop, ◌==◌, Some, None, Option, refl, ◌∙◌, sym, arith}
 use Rattle.std.specs.Prelude.{IfSome}
 use Rattle.std.specs.List.{list_all}
 use Rattle.std.proofs.Math.Seq.{take-append_seam, drop-append_seam}
 use Rattle.std.proofs.lemmas.Bool.{ne_eqb, eqb-true, and_from}
-use Rattle.rapid_num.specs.Reach.{is_in_reach, is_absent, absent_axes, is_position, is_reachable}
+use Rattle.rapid_num.specs.Reach.{is_in_reach, is_absent, absent_axes, is_position}
 use Rattle.rapid_num.specs.declared.joints.Joints.{Joints}
 use Rattle.toml.specs.Data.{Data, as_integer, as_array}
-use Rattle.toml.specs.View.{view, items_view}
+use Rattle.toml.specs.View.{items_view}
 use Rattle.toml.specs.declared.value.Value.{Value}
 use Rattle.cell_script.specs.FirstForm.{◌>>=◌, given_that, items_list, angle_of, angles_of, arm_of}
 use Rattle.cell_script.proofs.Chains.{IfSome-then, IfSome-given_that, IfSome-at}
@@ -33,7 +33,7 @@ AreAngles-angles_of (d ∷ items) =
     let Q : ℤ → Type 0 = λ z. is_in_reach z ≡ true in
     record {
       count = omega (arith, others.count);
-      reach = and_from (is_in_reach angle) (list_all is_in_reach angles) (IfSome-at Q (angle_of d) angle (angle_in_reach d) first) others.reach
+      reach = and_from (is_in_reach angle) (list_all is_in_reach angles) (IfSome-at Q (angle_of d) angle (angle_in_reach d) first) others.reach;
     }))
 
 six_only : (o : Option (List ℤ)) (n : ℕ) → IfSome o (λ angles. length angles ≡ n) → (n ≡ 6 → ⊥)

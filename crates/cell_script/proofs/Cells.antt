@@ -1,11 +1,11 @@
 -- The limits of a script are those of its cell.
-use Rattle.std.proofs.Common.{◌≡◌, ℕ, Bool, true, ◌&&◌, IsTrue, List, [], ◌∷◌, length, map, ◌==◌, refl, ◌∙◌, subst, arith}
+use Rattle.std.proofs.Common.{◌≡◌, ℕ, true, ◌&&◌, List, [], ◌∷◌, length, map, ◌==◌, refl, arith}
 use Rattle.std.specs.List.{list_all}
 use Rattle.std.proofs.lemmas.Bool.{and_parts, and_from}
 use Rattle.std.proofs.lemmas.List.{length-map}
 use Rattle.rapid_model.specs.declared.script_task.ScriptTask.{ScriptTask}
 use Rattle.rapid_model.specs.declared.task_row.TaskRow.{TaskRow}
-use Rattle.rapid_model.specs.CellData.{CellData, IsCell, is_start, starts_well}
+use Rattle.rapid_model.specs.CellData.{IsCell, is_start, starts_well}
 use Rattle.rapid_model.specs.Names.{is_name}
 use Rattle.rapid_model.specs.ScriptData.{ScriptData, IsScript, is_task, row_of}
 
@@ -25,5 +25,5 @@ IsCell-from script steps rows is same_steps same_rows =
       few_steps = rw same_steps is.few_steps;
       some_tasks = rw count (omega arith);
       few_tasks = rw count (omega arith);
-      starts = rw same_rows (starts script.tasks is.tasks)
+      starts = rw same_rows (starts script.tasks is.tasks);
     }

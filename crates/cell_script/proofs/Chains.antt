@@ -1,5 +1,5 @@
 -- What holds of the value that a chain of steps gives.
-use Rattle.std.proofs.Common.{◌≡◌, Bool, true, false, Option, Some, None, refl, cond}
+use Rattle.std.proofs.Common.{◌≡◌, Bool, true, false, Option, Some, None, refl}
 use Rattle.std.specs.Prelude.{IfSome}
 use Rattle.cell_script.specs.FirstForm.{◌>>=◌, given_that}
 

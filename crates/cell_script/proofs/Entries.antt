@@ -1,7 +1,7 @@
 -- The keys of a table and the items of an array.
-use Rattle.std.proofs.Common.{◌≡◌, ◌+◌, List, [], ◌∷◌, length, Some, None, Option, String, Global, refl, ap, ◌∙◌, sym, arith, map}
+use Rattle.std.proofs.Common.{◌≡◌, List, [], ◌∷◌, length, Some, None, String, Global, refl, arith}
 use Rattle.toml.specs.Data.{Data, as_array}
-use Rattle.toml.specs.View.{view, members_view, items_view}
+use Rattle.toml.specs.View.{members_view, items_view}
 use Rattle.toml.specs.declared.value.Value.{Value}
 use Rattle.cell_script.specs.FirstForm.{key_count, only_item, items_list}
 

@@ -2,4 +2,5 @@ mod Arms
 mod Cells
 mod Chains
 mod Entries
+mod Examples
 mod Tasks

@@ -13,3 +13,6 @@ mod task;
 pub use cell::make_cell;
 pub use fault::ScriptFault;
 pub use script::read_script;
+
+#[cfg(test)]
+mod tests;

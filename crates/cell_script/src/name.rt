@@ -35,9 +35,7 @@ fn is_name(bytes: &[u8]) -> bool
 {
     match bytes {
         [] => false,
-        [first, rest @ ..] => {
-            is_letter(*first) && are_name_bytes(rest) && bytes.len() <= 32
-        }
+        [first, rest @ ..] => { is_letter(*first) && are_name_bytes(rest) && bytes.len() <= 32 }
     }
 }
 
