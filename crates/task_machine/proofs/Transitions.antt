@@ -1,5 +1,5 @@
 -- What is left to ask before an answer is what is left after it.
-use Rattle.std.proofs.Common.{◌≡◌, ℕ, zero, suc, ◌+◌, ◌-◌, ◌<◌, ◌≤◌, true, false, IsTrue, refl, ap, sym, ◌∙◌, arith, List, [], ◌∷◌, ◌++◌, drop, length, get_or, drop-cons, add-one, Some}
+use Rattle.std.proofs.Common.{◌≡◌, ℕ, zero, suc, ◌+◌, ◌-◌, ◌<◌, false, IsTrue, refl, ap, ◌∙◌, arith, List, [], ◌∷◌, ◌++◌, drop, length, get_or, drop-cons, add-one, Some}
 use Rattle.std.proofs.Math.Nat.{sub-zero}
 use Rattle.std.proofs.Math.Seq.{drop-length}
 use Rattle.rapid_num.specs.Reach.{is_reachable, is_position}

@@ -6,6 +6,8 @@ mod departure;
 mod machine;
 mod reach;
 mod stage;
+#[cfg(test)]
+mod tests;
 
 pub use machine::Machine;
 pub use stage::Stage;
