@@ -1,0 +1,5 @@
+pub mod Scan
+pub mod GapLoops
+pub mod Columns
+pub mod CharacterLoop
+pub mod WordLoops

@@ -1,0 +1,18 @@
+//! The tokens of a RAPID module: slices of its text, and the first place where no token fits.
+#![tactic(auto)]
+
+mod bytes;
+mod fault;
+mod gaps;
+mod kind;
+mod place;
+mod scanner;
+mod state;
+mod strings;
+mod token;
+mod words;
+
+pub use fault::{LexFault, LexRule, TokensFault};
+pub use kind::Kind;
+pub use place::{Place, place_of};
+pub use token::Token;
