@@ -1,6 +1,6 @@
 -- The definitions on examples worked by hand.
 use Rattle.std.proofs.Common.{◌≡◌, refl, Some, None}
-use Rattle.std.specs.Prelude.{codes, pos, negsuc, neg_ℤ}
+use Rattle.std.specs.Prelude.{codes, pos, neg_ℤ}
 use Rattle.std.specs.Fmt.{digits}
 use Rattle.rapid_num.specs.Literal.{literal_value}
 use Rattle.rapid_num.specs.NumText.{shortest_text, fixed_text}

@@ -1,1 +1,6 @@
 mod Examples
+pub mod NumberSteps
+pub mod TenPowers
+pub mod Cuts
+pub mod DecimalDigits
+pub mod ReadBack

@@ -1,5 +1,5 @@
 -- Exact arithmetic on counts of thousandths.
-use Rattle.std.specs.Prelude.{ℕ, ◌+◌, ◌*◌, ◌/◌, ℤ, pos, negsuc, ◌-ℤ◌, neg_ℤ, nat_abs, Option, Some, None, if◌then◌else◌}
+use Rattle.std.specs.Prelude.{ℕ, ◌+◌, ◌*◌, ◌/◌, ℤ, pos, negsuc, ◌-ℤ◌, neg_ℤ, Option, Some, None, if◌then◌else◌}
 use Rattle.rapid_num.specs.Range.{is_num}
 
 -- the num of this count, where it is in range

@@ -1,0 +1,66 @@
+//! Numerical literals.
+ghost use Rattle.std.specs.Prelude.{◌≡◌, ◌≤◌, length};
+ghost use Rattle.std.specs.Result.{result_ok};
+ghost use Rattle.rapid_num.specs.Literal.{base_of, based_thousandths, literal_value, spelled_thousandths};
+ghost use Rattle.rapid_num.specs.Reading.{within};
+
+use crate::decimal::read_decimal;
+use crate::digits::read_digits;
+use crate::num::Num;
+use crate::scale::size_within;
+
+/// No literal, one of more than 30 bytes, or one that is out of range once it is rounded.
+#[derive(Clone, Copy, Debug, PartialEq, Eq)]
+pub struct BadLiteral;
+
+/// The greatest number of bytes of a literal.
+const LONGEST_LITERAL: usize = 30;
+
+/// The base that the letter behind a 0 stands for.
+fn base_of(letter: u8) -> Option<u128>
+    ensures { result ≡ base_of letter }
+{
+    match letter {
+        b'x' | b'X' => Some(16),
+        b'o' | b'O' => Some(8),
+        b'b' | b'B' => Some(2),
+        _ => None,
+    }
+}
+
+/// The thousandths of whole digits of a base.
+fn read_based(digits: &[u8], base: u128) -> Option<u64>
+    requires short { length digits.now ≤ 28 }
+    requires known { base ≤ 16 }
+    ensures { result ≡ within (based_thousandths digits.now base) }
+{
+    let number = read_digits(base, digits)?;
+    size_within(number * 1000)
+}
+
+/// The thousandths that a text spells: `None` exactly where it is no literal or is out of range.
+fn read_thousandths(text: &[u8]) -> Option<u64>
+    requires short { length text.now ≤ 30 }
+    ensures { result ≡ within (spelled_thousandths text.now) }
+{
+    if text.len() < 2 || text[0] != b'0' {
+        return read_decimal(text);
+    }
+    match base_of(text[1]) {
+        Some(base) => read_based(&text[2..], base),
+        None => read_decimal(text),
+    }
+}
+
+/// The num of a numerical literal (RAPID Kernel, lexical elements): digits, or digits with a point among them, with an
+/// optional exponent, or `0x`, `0o`, `0b` and digits of that base. Its value is rounded to a thousandth, halves away
+/// from zero.
+pub fn read_literal(text: &[u8]) -> Result<Num, BadLiteral>
+    ensures value { result_ok result ≡ literal_value text.now }
+{
+    if text.len() > LONGEST_LITERAL {
+        return Err(BadLiteral);
+    }
+    let thousandths = read_thousandths(text).ok_or(BadLiteral)?;
+    Num::new(thousandths as i64).ok_or(BadLiteral)
+}
