@@ -7,10 +7,11 @@ use Rattle.rapid_lexer.specs.declared.kind.Kind.TheVariants.{Name, Number}
 use Rattle.rapid_lexer.specs.declared.fault.LexRule.{LexRule}
 use Rattle.rapid_lexer.specs.declared.fault.LexRule.TheVariants.{BadByte, OpenString, BadEscape, LongString, LongName, BadLiteral, OpenHeader}
 use Rattle.rapid_lexer.specs.declared.fault.LexFault.{LexFault}
+use Rattle.rapid_lexer.specs.declared.token.Token.{Token}
 use Rattle.rapid_lexer.specs.Bytes.{is_blank, is_printable}
 use Rattle.rapid_lexer.specs.Strings.{is_character, AreCharacters, IsString}
 use Rattle.rapid_lexer.specs.Gaps.{IsGap, front_of}
-use Rattle.rapid_lexer.specs.Tokens.{Lexeme, IsToken, IsLongest, Follows, Begins}
+use Rattle.rapid_lexer.specs.Tokens.{Lexeme, view, IsToken, IsLongest, Follows, Begins}
 
 -- no token, of whatever length and value, begins the bytes
 abbrev pub NoToken : List ℕ → Type 0
@@ -75,6 +76,11 @@ IsMisfit LongString here bytes place = (IsLongString bytes ⊎ ((cs : List (List
 IsMisfit LongName here bytes place = IsTooLong Name (λ text. 32 < length text) bytes × (place ≡ here)
 IsMisfit BadLiteral here bytes place = IsTooLong Number (λ text. literal_value text ≡ None) bytes × (place ≡ here)
 IsMisfit OpenHeader here bytes place = ⊥
+
+-- what a call gave, a token without where its text lies
+abbrev pub seen : Result Token LexFault → Result Lexeme LexFault
+seen (Ok t) = Ok (view t)
+seen (Err f) = Err f
 
 -- What comes next from a place on: nothing but a gap, a token, or a place where no token fits.
 abbrev pub IsNext : ℕ → List ℕ → Option (Result Lexeme LexFault) → Type 0

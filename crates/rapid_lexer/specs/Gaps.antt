@@ -40,13 +40,15 @@ abbrev pub before_fence : List ℕ → Option ℕ
 before_fence [] = None
 before_fence (b ∷ bs) = if is_fence (b ∷ bs) then Some 0 else option_map suc (before_fence bs)
 
--- A header is a fence, any bytes, and the next fence. It may stand behind the mark and blanks. Ok: how many bytes the
--- mark, and blanks with a header, take. Err: where a header begins that has no end.
+-- how far a header goes that begins at a place, from what stands before its second fence
+abbrev pub header_end : ℕ → Option ℕ → Result ℕ ℕ
+header_end at None = Err at
+header_end at (Some n) = Ok (at + 3 + n + 3)
+
+-- A header is a fence, any bytes, and the next fence. It may stand behind the byte order mark and blanks. Ok: how many bytes
+-- the mark, and blanks with a header, take at the front. Err: where a header begins that has no end.
+abbrev pub front_behind : List ℕ → ℕ → ℕ → Result ℕ ℕ
+front_behind source mark at = if is_fence (drop at source) then header_end at (before_fence (drop (at + 3) source)) else Ok mark
+
 abbrev pub front_of : List ℕ → Result ℕ ℕ
-front_of source = front_behind (mark_len source) (mark_len source + prefix_len is_blank (drop (mark_len source) source))
-  where
-    header_end : ℕ → Option ℕ → Result ℕ ℕ
-    header_end at None = Err at
-    header_end at (Some n) = Ok (at + 3 + n + 3)
-    front_behind : ℕ → ℕ → Result ℕ ℕ
-    front_behind mark at = if is_fence (drop at source) then header_end at (before_fence (drop (at + 3) source)) else Ok mark
+front_of source = front_behind source (mark_len source) (mark_len source + prefix_len is_blank (drop (mark_len source) source))

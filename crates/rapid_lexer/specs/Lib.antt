@@ -7,3 +7,4 @@ pub mod Faults
 pub mod Places
 pub mod Scanning
 pub mod Reading
+pub mod Lexing

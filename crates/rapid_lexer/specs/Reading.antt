@@ -70,13 +70,13 @@ stopped quote at (b ∷ bs) =
     else if b == 92 then fault BadEscape at
     else fault BadByte at
 
+abbrev pub broken_behind : ℕ → List ℕ → Option ℕ → LexFault
+broken_behind quote bytes None = fault LongString quote
+broken_behind quote bytes (Some n) = stopped quote (quote + 1 + n) (drop n bytes)
+
 -- the fault of a string that has no end, from what stands behind its quote
 unfoldable pub broken : ℕ → List ℕ → LexFault
-broken quote bytes = why (characters_len 80 bytes)
-  where
-    why : Option ℕ → LexFault
-    why None = fault LongString quote
-    why (Some n) = stopped quote (quote + 1 + n) (drop n bytes)
+broken quote bytes = broken_behind quote bytes (characters_len 80 bytes)
 
 -- the fault where no token begins
 abbrev pub misfit : ℕ → List ℕ → LexFault
@@ -98,13 +98,13 @@ token_of Number at text = checked (is_some (literal_value text)) (lexeme Number 
 token_of Quoted at text = checked (is_some (characters_len 80 (drop 1 text))) (lexeme Quoted at text) (fault LongString at)
 token_of Mark at text = Ok (lexeme Mark at text)
 
+abbrev pub token_found : ℕ → List ℕ → Option (Kind × ℕ) → Result Lexeme LexFault
+token_found at bytes None = Err (misfit at bytes)
+token_found at bytes (Some x) = token_of x.0 at (take x.1 bytes)
+
 -- what begins the bytes, where no gap does
 unfoldable pub token_at : ℕ → List ℕ → Result Lexeme LexFault
-token_at at bytes = found (longest Start bytes)
-  where
-    found : Option (Kind × ℕ) → Result Lexeme LexFault
-    found None = Err (misfit at bytes)
-    found (Some x) = token_of x.0 at (take x.1 bytes)
+token_at at bytes = token_found at bytes (longest Start bytes)
 
 -- what comes next from a place on
 unfoldable pub next_of : ℕ → List ℕ → Option (Result Lexeme LexFault)

@@ -1,5 +1,5 @@
 -- Tokens, and how they tile a text.
-use Rattle.std.specs.Prelude.{◌≡◌, ℕ, ◌+◌, ◌≤◌, ◌<◌, Bool, true, false, ◌&&◌, ◌||◌, ◌==◌, List, [], ◌∷◌, ◌++◌, length, drop, codes, IsSome, Ok}
+use Rattle.std.specs.Prelude.{◌≡◌, ℕ, ◌+◌, ◌≤◌, ◌<◌, Bool, true, false, ◌&&◌, ◌||◌, ◌==◌, List, [], ◌∷◌, ◌++◌, length, drop, map, codes, IsSome, Ok}
 use Rattle.std.specs.List.{list_any}
 use Rattle.rapid_num.specs.Literal.{spelled_thousandths, literal_value}
 use Rattle.rapid_lexer.specs.declared.kind.Kind.{Kind}
@@ -17,6 +17,9 @@ pub record Lexeme : Type 0 where
 
 abbrev pub view : Token → Lexeme
 view t = record { kind = t.kind; text = t.text.now; at = t.at }
+
+abbrev pub views : List Token → List Lexeme
+views ts = map view ts
 
 -- { } [ ] ( ) , . ; : = < > + - * / \ ? and := <= <> >=
 abbrev pub is_mark : List ℕ → Bool

@@ -3,8 +3,10 @@
 
 mod bytes;
 mod fault;
+mod fronts;
 mod gaps;
 mod kind;
+mod lexer;
 mod place;
 mod scanner;
 mod state;
@@ -14,5 +16,6 @@ mod words;
 
 pub use fault::{LexFault, LexRule, TokensFault};
 pub use kind::Kind;
+pub use lexer::Lexer;
 pub use place::{Place, place_of};
 pub use token::Token;
