@@ -6,3 +6,5 @@ pub mod WordLoops
 pub mod TokenSteps
 pub mod Runs
 pub mod Numbers
+pub mod Characters
+pub mod Shapes
