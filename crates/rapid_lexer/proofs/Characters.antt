@@ -12,7 +12,7 @@ use Rattle.rapid_lexer.specs.Scanning.{step, accepted, after_character, after_es
 use Rattle.rapid_lexer.proofs.Scan.{dead_accepted}
 
 -- what is_character says of one, two or three bytes
-plain_parts : (b : ℕ) → is_character (b ∷ []) ≡ true → (is_printable b ≡ true) × (eqb b 34 ≡ false) × (eqb b 92 ≡ false)
+pub plain_parts : (b : ℕ) → is_character (b ∷ []) ≡ true → (is_printable b ≡ true) × (eqb b 34 ≡ false) × (eqb b 92 ≡ false)
 plain_parts b e =
     let outer = and_parts (is_printable b && not (eqb b 34)) (not (eqb b 92)) e in
     let inner = and_parts (is_printable b) (not (eqb b 34)) outer.0 in
@@ -21,7 +21,7 @@ plain_parts b e =
 hex_backslash : (b : ℕ) → is_hex b ≡ true → eqb b 92 ≡ false
 hex_backslash b h = ne_eqb b 92 (λ e. let x : false ≡ true = subst (λ (n : ℕ). is_hex n ≡ true) e h in cc)
 
-code_parts : (h l : ℕ) → is_code h l ≡ true → (is_hex h ≡ true) × (eqb h 92 ≡ false)
+pub code_parts : (h l : ℕ) → is_code h l ≡ true → (is_hex h ≡ true) × (eqb h 92 ≡ false)
 code_parts h l e =
     let x = (and_parts (is_hex h) (is_hex l) (and_parts (is_hex h && is_hex l) _ e).0).0 in
     (x, hex_backslash h x)
@@ -101,7 +101,7 @@ behind_escape (c ∷ cs) k one two e = at (eqb c 92) (is_hex c) refl e
     at false true is h = behind_code c cs k (λ d ds s. two c d ds (ap (λ (r : List ℕ). c ∷ r) s)) h
     at false false is h = absurd (let x : None ≡ Some k = sym (dead_accepted cs) ∙ h in cc)
 
-plain_character : (b : ℕ) → is_printable b ≡ true → eqb b 34 ≡ false → eqb b 92 ≡ false → is_character (b ∷ []) ≡ true
+pub plain_character : (b : ℕ) → is_printable b ≡ true → eqb b 34 ≡ false → eqb b 92 ≡ false → is_character (b ∷ []) ≡ true
 plain_character b p q r = rw (p, q, r) refl
 
 behind_character : (b : ℕ) (bs : List ℕ) (k : Kind) (t u v : Bool) → eqb b 34 ≡ t → eqb b 92 ≡ u → is_printable b ≡ v

@@ -8,3 +8,10 @@ pub mod Runs
 pub mod Numbers
 pub mod Characters
 pub mod Shapes
+pub mod Reserved
+pub mod Walks
+pub mod Longest
+pub mod Limits
+pub mod Misfits
+pub mod GapWalks
+pub mod Nexts
