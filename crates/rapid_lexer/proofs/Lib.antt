@@ -15,3 +15,5 @@ pub mod Limits
 pub mod Misfits
 pub mod GapWalks
 pub mod Nexts
+pub mod Tilings
+pub mod Readings

@@ -80,7 +80,9 @@ longest_is bytes text after k whole h most =
     let front : take m.0.1 (text ++ after) ≡ text = take_at text after m.0.1 n in
     let kinds : Some (scanned k) ≡ Some m.0.0 = sym a ∙ ap (accepted Start) (sym front) ∙ (found Start (text ++ after) m.0 m.1).0 in
     let kind : m.0.0 ≡ scanned k = cc in
-    ap (longest Start) whole ∙ m.1 ∙ ap (λ (p : Kind). Some (p, m.0.1)) kind ∙ ap (λ (p : ℕ). Some (scanned k, p)) (sym n)
+    let here : Some m.0 ≡ Some (scanned k, length text) = ap (λ (p : Kind). Some (p, m.0.1)) kind ∙ ap (λ (p : ℕ). Some (scanned k, p)) (sym n) in
+    let first : longest Start bytes ≡ longest Start (text ++ after) = ap (longest Start) whole in
+    first ∙ m.1 ∙ here
 
 pub none_longest : (bytes : List ℕ) → NoToken bytes → longest Start bytes ≡ None
 none_longest bytes none = at (longest Start bytes) refl

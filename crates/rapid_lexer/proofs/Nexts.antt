@@ -1,11 +1,14 @@
 -- What comes next is found, and nothing else is.
 use Rattle.std.proofs.Common.{◌≡◌, ◌≢◌, ℕ, suc, ◌+◌, ◌≤◌, ◌<◌, Bool, true, false, cond, ltb, List, [], ◌∷◌, ◌++◌, length, take, drop, Option, Some, None, Result, Ok, Err, refl, sym, ap, subst, ◌∙◌, arith, inl, inr}
+use Rattle.std.specs.Prelude.{IfSome, IfOk}
 use Rattle.std.proofs.lemmas.Bool.{ltb-true, ltb-false, lt-ltb, le-ltb}
 use Rattle.std.proofs.lemmas.List.{append-nil, take-append-drop, take_all, drop_all, drop_at, length-append, length-drop, length-take-le}
 use Rattle.rapid_lexer.specs.declared.fault.LexFault.{LexFault}
 use Rattle.rapid_lexer.specs.Gaps.{IsGap, is_gap_within}
-use Rattle.rapid_lexer.specs.Tokens.{Lexeme, Follows}
+use Rattle.rapid_lexer.specs.declared.token.Token.{Token}
+use Rattle.rapid_lexer.specs.Tokens.{Lexeme, view, Follows}
 use Rattle.rapid_lexer.specs.Faults.{IsNext}
+use Rattle.rapid_lexer.specs.Lexing.{Lexing, IsAnswerBehind, IsAnswer, seen_next}
 use Rattle.rapid_lexer.specs.Reading.{gap_len, token_at, next_of}
 use Rattle.rapid_lexer.proofs.Limits.{IsAt}
 use Rattle.rapid_lexer.proofs.Misfits.{token_at_right, token_at_is}
@@ -76,3 +79,29 @@ next_is at bytes (Some (Err f)) (gap, left, whole, g, h) =
     let x = misfit_no_gap f.rule (at + length gap) left f.at h in
     let found = token_at_is (at + length gap) left (Err f) h in
     ap (λ (r : Result Lexeme LexFault). Some r) found ∙ sym (behind_gap at bytes gap left whole g x.0 x.1)
+
+-- a token that comes next lies in the source
+follows_within : (at : ℕ) (source : List ℕ) (t : Lexeme) (after : List ℕ) → at ≤ length source → Follows at (drop at source) t after → t.at + length t.text ≤ length source
+follows_within at source t after le h =
+    omega (arith, h.place, ap length h.whole, length-drop at source, length-append h.gap (t.text ++ after), length-append t.text after)
+
+pub next_within : (at : ℕ) (source : List ℕ) (r : Option (Result Token LexFault)) → at ≤ length source → seen_next r ≡ next_of at (drop at source)
+    → IfSome r (λ x. IfOk x (λ t. t.at + length t.text.now ≤ length source))
+next_within at source None le e = tt
+next_within at source (Some (Err f)) le e = tt
+next_within at source (Some (Ok t)) le e =
+    let h : IsNext at (drop at source) (Some (Ok (view t))) = subst (λ (a : Option (Result Lexeme LexFault)). IsNext at (drop at source) a) (sym e) (next_right at (drop at source)) in
+    follows_within at source (view t) h.0 le h.1
+
+-- a lexer's answer
+pub answer_right : (l lexer : Lexing) (a : Option (Result Lexeme LexFault)) → l ≡ lexer → l.fault ≡ None → a ≡ next_of l.at (drop l.at l.source) → IsAnswer lexer a
+answer_right l lexer a same none e =
+    let h : IsNext l.at (drop l.at l.source) a = subst (λ (x : Option (Result Lexeme LexFault)). IsNext l.at (drop l.at l.source) x) (sym e) (next_right l.at (drop l.at l.source)) in
+    subst (λ (m : Lexing). IsAnswer m a) same (subst (λ (f : Option LexFault). IsAnswerBehind f l a) (sym none) h)
+
+pub answer_only : (l lexer : Lexing) (a : Option (Result Lexeme LexFault)) → l ≡ lexer → l.fault ≡ None → a ≡ next_of l.at (drop l.at l.source)
+    → (other : Option (Result Lexeme LexFault)) → IsAnswer lexer other → other ≡ a
+answer_only l lexer a same none e other h =
+    let there : IsAnswer l other = subst (λ (m : Lexing). IsAnswer m other) (sym same) h in
+    let next : IsNext l.at (drop l.at l.source) other = subst (λ (f : Option LexFault). IsAnswerBehind f l other) none there in
+    next_is l.at (drop l.at l.source) other next ∙ sym e

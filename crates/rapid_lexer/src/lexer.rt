@@ -1,6 +1,6 @@
 //! The tokens of a source, one after the other.
 
-ghost use Rattle.std.specs.Prelude.{◌≡◌, ◌<◌, ◌≤◌, ◌+◌, ◌^◌, Option, Result, if◌then◌else◌, is_some, length, drop};
+ghost use Rattle.std.specs.Prelude.{◌≡◌, ◌<◌, ◌≤◌, ◌+◌, ◌^◌, IfOk, IfSome, Option, Result, if◌then◌else◌, is_some, length, drop};
 ghost use Rattle.rapid_num.specs.Literal.{literal_value};
 ghost use Rattle.rapid_lexer.specs.Tokens.{Lexeme};
 ghost use Rattle.rapid_lexer.specs.Faults.{seen};
@@ -115,7 +115,8 @@ fn token_at(source: &[u8], at: usize) -> Result<Token<'_>, LexFault>
 /// What comes next from a place on.
 fn next_of(source: &[u8], at: usize) -> Option<Result<Token<'_>, LexFault>>
     requires { at ≤ length source.now }
-    ensures { seen_next result ≡ next_of at (drop at source.now) }
+    ensures same { seen_next result ≡ next_of at (drop at source.now) }
+    ensures within { IfSome result (λ r. IfOk r (λ t. t.at + length t.text.now ≤ length source.now)) }
 {
     let here = skip_gaps(source, at);
     if here == source.len() {
