@@ -8,8 +8,8 @@ use Rattle.rapid_lexer.specs.declared.fault.TokensFault.{TokensFault}
 use Rattle.rapid_lexer.specs.declared.fault.TokensFault.TheVariants.{Lex, Memory}
 use Rattle.rapid_lexer.specs.declared.token.Token.{Token}
 use Rattle.rapid_lexer.specs.Gaps.{front_of}
-use Rattle.rapid_lexer.specs.Tokens.{Lexeme, views, Follows, Passes, Begins, Tiles}
-use Rattle.rapid_lexer.specs.Faults.{IsNext, IsFirstFault}
+use Rattle.rapid_lexer.specs.Tokens.{Lexeme, view, views, Follows, Passes, Begins, Tiles}
+use Rattle.rapid_lexer.specs.Faults.{IsNext, IsFirstMisfit, seen}
 use Rattle.rapid_lexer.specs.Lexing.{Lexing, IsAtFront, IsAnswerBehind, IsAnswer, lexing_after, FindsTokens, FindsFault}
 use Rattle.rapid_lexer.proofs.GapWalks.{token_no_gap}
 use Rattle.rapid_lexer.proofs.Tilings.{after_is, one_tiling, no_fault, one_fault}
@@ -17,7 +17,7 @@ use Rattle.rapid_lexer.proofs.Tilings.{after_is, one_tiling, no_fault, one_fault
 -- these tokens were passed, or a fault was met
 abbrev IsReadBehind : Option LexFault → List ℕ → Lexing → List Lexeme → Type 0
 IsReadBehind None source l ts = Begins source ts l.at (drop l.at source)
-IsReadBehind (Some f) source l ts = IsFirstFault source f
+IsReadBehind (Some f) source l ts = IsFirstMisfit source f
 
 pub record IsRead (source : List ℕ) (l : Lexing) (ts : List Lexeme) : Type 0 where
   pub same : l.source ≡ source
@@ -65,6 +65,23 @@ read_more source l newer ts t r h e =
     let there : IsRead source (lexing_after l (Some (Ok t))) (ts ++ t ∷ []) = record { same = r.same; read = more } in
     subst (λ (n : Lexing). IsRead source n (ts ++ t ∷ [])) (sym e) there
 
+-- the same, where the call's answer is known to be a token
+pub read_token : (source : List ℕ) (l newer : Lexing) (ts : List Lexeme) (next : Result Token LexFault) (t : Token) → next ≡ Ok t → IsRead source l ts
+    → IsAnswer l (Some (seen next)) → newer ≡ lexing_after l (Some (seen next)) → IsRead source newer (ts ++ view t ∷ [])
+read_token source l newer ts next t is r h e =
+    let a : IsAnswer l (Some (Ok (view t))) = subst (λ (n : Result Token LexFault). IsAnswer l (Some (seen n))) is h in
+    read_more source l newer ts (view t) r a (e ∙ ap (λ (n : Result Token LexFault). lexing_after l (Some (seen n))) is)
+
+-- fewer bytes are left
+pub read_falls : (source : List ℕ) (l newer : Lexing) (ts : List Lexeme) (next : Result Token LexFault) (t : Token) → next ≡ Ok t → IsRead source l ts
+    → IsAnswer l (Some (seen next)) → newer ≡ lexing_after l (Some (seen next)) → length source - newer.at < length source - l.at
+read_falls source l newer ts next t is r h e =
+    let a : IsAnswer l (Some (Ok (view t))) = subst (λ (n : Result Token LexFault). IsAnswer l (Some (seen n))) is h in
+    let f = answer_follows l (view t) a in
+    let m = follows_more l.at (drop l.at l.source) (view t) f.1 f.2 in
+    let at : newer.at ≡ t.at + length t.text.now = ap (λ (x : Lexing). x.at) (e ∙ ap (λ (n : Result Token LexFault). lexing_after l (Some (seen n))) is) in
+    omega (arith, m.0, m.1, at, length-drop l.at l.source, ap length r.same)
+
 -- behind the last token the tokens tile the source
 pub read_all : (source : List ℕ) (l : Lexing) (ts : List Lexeme) → IsRead source l ts → IsAnswer l None → Tiles source ts
 read_all source l ts r h = at l.fault r.read h
@@ -73,23 +90,27 @@ read_all source l ts r h = at l.fault r.read h
     at None begins k = record { there = l.at; left = drop l.at source; begins = begins; is_gap = subst (λ (s : List ℕ). IsNext l.at (drop l.at s) None) r.same k }
     at (Some f) x k = absurd cc
 
-pub read_fault : (source : List ℕ) (l : Lexing) (ts : List Lexeme) (f : LexFault) → IsRead source l ts → IsAnswer l (Some (Err f)) → IsFirstFault source f
+pub read_fault : (source : List ℕ) (l : Lexing) (ts : List Lexeme) (f : LexFault) → IsRead source l ts → IsAnswer l (Some (Err f)) → IsFirstMisfit source f
 read_fault source l ts f r h = at l.fault r.read h
   where
-    at : (o : Option LexFault) → IsReadBehind o source l ts → IsAnswerBehind o l (Some (Err f)) → IsFirstFault source f
+    at : (o : Option LexFault) → IsReadBehind o source l ts → IsAnswerBehind o l (Some (Err f)) → IsFirstMisfit source f
     at None begins k = inr (ts, l.at, drop l.at source, begins, subst (λ (s : List ℕ). IsNext l.at (drop l.at s) (Some (Err f))) r.same k)
-    at (Some g) x k = let same : g ≡ f = cc in subst (IsFirstFault source) same x
+    at (Some g) x k = let same : g ≡ f = cc in subst (IsFirstMisfit source) same x
+
+pub read_error : (source : List ℕ) (l : Lexing) (ts : List Lexeme) (next : Result Token LexFault) (e f : LexFault) → next ≡ Err e → IsRead source l ts → IsAnswer l (Some (seen next)) → e ≡ f → IsFirstMisfit source f
+read_error source l ts next e f is r h same =
+    subst (IsFirstMisfit source) same (read_fault source l ts e r (subst (λ (n : Result Token LexFault). IsAnswer l (Some (seen n))) is h))
 
 -- ---- no other answer is right
 
-pub finds_tokens : {Z : Type 0} (items : Z → List Token) (source : List ℕ) (r : Result Z TokensFault) → IfOk r (λ v. Tiles source (views (items v))) → ((f : LexFault) → r ≡ Err (Lex f) → IsFirstFault source f)
+pub finds_tokens : {Z : Type 0} (items : Z → List Token) (source : List ℕ) (r : Result Z TokensFault) → IfOk r (λ v. Tiles source (views (items v))) → ((f : LexFault) → r ≡ Err (Lex f) → IsFirstMisfit source f)
     → (ts : List Lexeme) → Tiles source ts → FindsTokens items r ts
 finds_tokens items source (Ok v) tiles fault ts t = one_tiling source (views (items v)) ts tiles t
 finds_tokens items source (Err Memory) tiles fault ts t = refl
 finds_tokens items source (Err (Lex f)) tiles fault ts t = absurd (no_fault source ts f t (fault f refl))
 
-pub finds_fault : {Z : Type 0} (items : Z → List Token) (source : List ℕ) (r : Result Z TokensFault) → IfOk r (λ v. Tiles source (views (items v))) → ((f : LexFault) → r ≡ Err (Lex f) → IsFirstFault source f)
-    → (f : LexFault) → IsFirstFault source f → FindsFault r f
+pub finds_fault : {Z : Type 0} (items : Z → List Token) (source : List ℕ) (r : Result Z TokensFault) → IfOk r (λ v. Tiles source (views (items v))) → ((f : LexFault) → r ≡ Err (Lex f) → IsFirstMisfit source f)
+    → (f : LexFault) → IsFirstMisfit source f → FindsFault r f
 finds_fault items source (Ok v) tiles fault f h = no_fault source (views (items v)) f tiles h
 finds_fault items source (Err Memory) tiles fault f h = inl refl
 finds_fault items source (Err (Lex g)) tiles fault f h = inr (ap (λ (x : LexFault). Lex x) (one_fault source g f (fault g refl) h))

@@ -6,7 +6,7 @@ use Rattle.rapid_lexer.specs.declared.fault.LexRule.TheVariants.{OpenHeader}
 use Rattle.rapid_lexer.specs.declared.fault.LexFault.{LexFault}
 use Rattle.rapid_lexer.specs.Gaps.{IsGap, front_of}
 use Rattle.rapid_lexer.specs.Tokens.{Lexeme, Follows, Passes, Begins, Tiles}
-use Rattle.rapid_lexer.specs.Faults.{IsNext, IsFirstFault}
+use Rattle.rapid_lexer.specs.Faults.{IsNext, IsFirstMisfit}
 use Rattle.rapid_lexer.proofs.Nexts.{next_is}
 
 next_one : (at : ℕ) (bytes : List ℕ) (a b : Option (Result Lexeme LexFault)) → IsNext at bytes a → IsNext at bytes b → a ≡ b
@@ -78,7 +78,7 @@ fault_is source f tokens there left b n = record { front = b.front; is_front = b
 pub one_tiling : (source : List ℕ) (ts us : List Lexeme) → Tiles source ts → Tiles source us → ts ≡ us
 one_tiling source ts us t u = (is_same source ts us None None (tiles_is source ts t) (tiles_is source us u)).0
 
-pub no_fault : (source : List ℕ) (ts : List Lexeme) (f : LexFault) → Tiles source ts → IsFirstFault source f → ⊥
+pub no_fault : (source : List ℕ) (ts : List Lexeme) (f : LexFault) → Tiles source ts → IsFirstMisfit source f → ⊥
 no_fault source ts f t (inl h) = let e : ◌≡◌ {A = Result ℕ ℕ} (Ok t.begins.front) (Err f.at) = sym t.begins.is_front ∙ h.1 in cc
 no_fault source ts f t (inr (us, there, left, b, n)) =
     let e : ◌≡◌ {A = Option (Result Lexeme LexFault)} None (Some (Err f)) = (is_same source ts us None (Some (Err f)) (tiles_is source ts t) (fault_is source f us there left b n)).1 in
@@ -89,7 +89,7 @@ header_place f g r a =
     let first : f ≡ record { rule = g.rule; at = f.at } = ap (λ (x : LexRule). record { rule = x; at = f.at }) r in
     first ∙ ap (λ (x : ℕ). record { rule = g.rule; at = x }) a
 
-pub one_fault : (source : List ℕ) (f g : LexFault) → IsFirstFault source f → IsFirstFault source g → f ≡ g
+pub one_fault : (source : List ℕ) (f g : LexFault) → IsFirstMisfit source f → IsFirstMisfit source g → f ≡ g
 one_fault source f g (inl h) (inl k) =
     let e : ◌≡◌ {A = Result ℕ ℕ} (Err f.at) (Err g.at) = sym h.1 ∙ k.1 in
     let place : f.at ≡ g.at = cc in

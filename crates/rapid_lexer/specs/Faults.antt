@@ -89,6 +89,6 @@ IsNext at bytes (Some (Ok t)) = (after : List ℕ) × Follows at bytes t after
 IsNext at bytes (Some (Err f)) = (gap left : List ℕ) × (bytes ≡ gap ++ left) × IsGap gap left × IsMisfit f.rule (at + length gap) left f.at
 
 -- The first fault of a source: a header without an end, or a misfit behind tokens.
-abbrev pub IsFirstFault : List ℕ → LexFault → Type 0
-IsFirstFault source f = ((f.rule ≡ OpenHeader) × (front_of source ≡ Err f.at))
+abbrev pub IsFirstMisfit : List ℕ → LexFault → Type 0
+IsFirstMisfit source f = ((f.rule ≡ OpenHeader) × (front_of source ≡ Err f.at))
     ⊎ ((tokens : List Lexeme) × (there : ℕ) × (left : List ℕ) × Begins source tokens there left × IsNext there left (Some (Err f)))

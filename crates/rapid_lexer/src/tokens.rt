@@ -2,7 +2,7 @@
 
 ghost use Rattle.std.specs.Prelude.{◌≡◌, Err, IfOk, List};
 ghost use Rattle.rapid_lexer.specs.Tokens.{Lexeme, Tiles, views};
-ghost use Rattle.rapid_lexer.specs.Faults.{IsFirstFault};
+ghost use Rattle.rapid_lexer.specs.Faults.{IsFirstMisfit};
 ghost use Rattle.rapid_lexer.specs.Lexing.{FindsFault, FindsTokens};
 ghost use Rattle.rapid_lexer.specs.declared.fault.LexFault.{LexFault};
 ghost use Rattle.rapid_lexer.specs.declared.fault.TokensFault.TheVariants.{Lex};
@@ -14,7 +14,7 @@ use std::alloc::Global;
 
 fn all_tokens(alloc: Global, source: &[u8]) -> Result<Vec<Token<'_>>, TokensFault>
     ensures tiles { IfOk result (λ v. Tiles source.now (views v.items)) }
-    ensures fault { (f : LexFault) → result ≡ Err (Lex f) → IsFirstFault source.now f }
+    ensures fault { (f : LexFault) → result ≡ Err (Lex f) → IsFirstMisfit source.now f }
 {
     let mut lexer = Lexer::new(source);
     let mut tokens = Vec::new(alloc);
@@ -35,9 +35,9 @@ pub fn read_tokens(alloc: Global, source: &[u8]) -> Result<Vec<Token<'_>>, Token
     // No other tokens are.
     ensures only { (ts : List Lexeme) → Tiles source.now ts → FindsTokens (λ v. v.items) result ts }
     // The fault is that at the first place where no token fits.
-    ensures fault { (f : LexFault) → result ≡ Err (Lex f) → IsFirstFault source.now f }
+    ensures fault { (f : LexFault) → result ≡ Err (Lex f) → IsFirstMisfit source.now f }
     // It is found exactly where there is one.
-    ensures fault_only { (f : LexFault) → IsFirstFault source.now f → FindsFault result f }
+    ensures fault_only { (f : LexFault) → IsFirstMisfit source.now f → FindsFault result f }
 {
     all_tokens(alloc, source)
 }
