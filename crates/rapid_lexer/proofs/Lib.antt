@@ -1,3 +1,4 @@
+mod Examples
 pub mod Scan
 pub mod GapLoops
 pub mod Columns

@@ -23,3 +23,6 @@ pub use lexer::Lexer;
 pub use place::{Place, place_of};
 pub use token::Token;
 pub use tokens::read_tokens;
+
+#[cfg(test)]
+mod tests;
