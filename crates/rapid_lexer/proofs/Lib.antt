@@ -1,0 +1,20 @@
+mod Examples
+pub mod Scan
+pub mod GapLoops
+pub mod Columns
+pub mod CharacterLoop
+pub mod WordLoops
+pub mod TokenSteps
+pub mod Runs
+pub mod Numbers
+pub mod Characters
+pub mod Shapes
+pub mod Reserved
+pub mod Walks
+pub mod Longest
+pub mod Limits
+pub mod Misfits
+pub mod GapWalks
+pub mod Nexts
+pub mod Tilings
+pub mod Readings

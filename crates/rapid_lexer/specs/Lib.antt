@@ -1,0 +1,10 @@
+pub mod Bytes
+pub mod Words
+pub mod Strings
+pub mod Gaps
+pub mod Tokens
+pub mod Faults
+pub mod Places
+pub mod Scanning
+pub mod Reading
+pub mod Lexing

@@ -1,0 +1,113 @@
+-- Reading from left to right: what the functions of the crate find, as functions on lists.
+use Rattle.std.specs.Prelude.{ℕ, zero, suc, ◌+◌, Bool, true, false, not, ◌&&◌, ◌||◌, ◌==◌, nat_lt, if◌then◌else◌, List, [], ◌∷◌, length, take, drop, map, Option, Some, None, Result, Ok, Err, is_some}
+use Rattle.std.specs.List.{list_any}
+use Rattle.std.specs.Option.{option_map}
+use Rattle.std.specs.Cmp.Lexicographic.{pointwise}
+use Rattle.rapid_num.specs.Literal.{literal_value}
+use Rattle.rapid_lexer.specs.declared.kind.Kind.{Kind}
+use Rattle.rapid_lexer.specs.declared.kind.Kind.TheVariants.{Name, Word, Number, Quoted, Mark}
+use Rattle.rapid_lexer.specs.declared.state.State.TheVariants.{Start}
+use Rattle.rapid_lexer.specs.declared.fault.LexRule.{LexRule}
+use Rattle.rapid_lexer.specs.declared.fault.LexRule.TheVariants.{BadByte, OpenString, BadEscape, LongString, LongName, BadLiteral}
+use Rattle.rapid_lexer.specs.declared.fault.LexFault.{LexFault}
+use Rattle.rapid_lexer.specs.declared.token.Token.{Token}
+use Rattle.rapid_lexer.specs.Bytes.{is_blank, is_printable, upper}
+use Rattle.rapid_lexer.specs.Words.{reserved}
+use Rattle.rapid_lexer.specs.Strings.{is_code}
+use Rattle.rapid_lexer.specs.Tokens.{Lexeme, view}
+use Rattle.rapid_lexer.specs.Scanning.{longest}
+
+-- the text is this word, its letters in either case
+abbrev pub is_word : List ℕ → List ℕ → Bool
+is_word word text = pointwise (λ a b. a == upper b) word text
+
+abbrev pub is_reserved : List ℕ → Bool
+is_reserved text = list_any (λ word. is_word word text) reserved
+
+-- how many bytes of gaps come first, within a comment or outside
+unfoldable pub gap_len : Bool → List ℕ → ℕ
+gap_len comment [] = 0
+gap_len comment (b ∷ bs) =
+    if comment then suc (gap_len (not (b == 10)) bs)
+    else if b == 33 then suc (gap_len true bs)
+    else if is_blank b then suc (gap_len false bs)
+    else 0
+
+-- how many bytes the escape behind a backslash has, the backslash included; 0 where there is none
+abbrev pub escape_len : List ℕ → ℕ
+escape_len [] = 0
+escape_len (b ∷ []) = if b == 92 then 2 else 0
+escape_len (b ∷ c ∷ bs) = if b == 92 then 2 else if is_code b c then 3 else 0
+
+-- how many bytes a doubled quote has, from behind its first; 0 where the quote stands alone
+abbrev pub doubled_len : List ℕ → ℕ
+doubled_len [] = 0
+doubled_len (c ∷ cs) = if c == 34 then 2 else 0
+
+-- how many bytes the character has that comes first; 0 where none does
+abbrev pub character_len : List ℕ → ℕ
+character_len [] = 0
+character_len (b ∷ bs) =
+    if b == 34 then doubled_len bs
+    else if b == 92 then escape_len bs
+    else if is_printable b then 1 else 0
+
+-- how many bytes the characters have that come first, where they are at most so many
+unfoldable pub characters_len : ℕ → List ℕ → Option ℕ
+characters_len zero bytes = if character_len bytes == 0 then Some 0 else None
+characters_len (suc n) bytes =
+    if character_len bytes == 0 then Some 0
+    else option_map (λ k. character_len bytes + k) (characters_len n (drop (character_len bytes) bytes))
+
+abbrev pub fault : LexRule → ℕ → LexFault
+fault rule at = record { rule = rule; at = at }
+
+-- why a string stops at a place, where this is left
+abbrev pub stopped : ℕ → ℕ → List ℕ → LexFault
+stopped quote at [] = fault OpenString quote
+stopped quote at (b ∷ bs) =
+    if b == 10 || b == 13 then fault OpenString quote
+    else if b == 92 then fault BadEscape at
+    else fault BadByte at
+
+abbrev pub broken_behind : ℕ → List ℕ → Option ℕ → LexFault
+broken_behind quote bytes None = fault LongString quote
+broken_behind quote bytes (Some n) = stopped quote (quote + 1 + n) (drop n bytes)
+
+-- the fault of a string that has no end, from what stands behind its quote
+unfoldable pub broken : ℕ → List ℕ → LexFault
+broken quote bytes = broken_behind quote bytes (characters_len 80 bytes)
+
+-- the fault where no token begins
+abbrev pub misfit : ℕ → List ℕ → LexFault
+misfit at [] = fault BadByte at
+misfit at (b ∷ bs) = if b == 34 then broken at bs else fault BadByte at
+
+-- a token, or the fault where its text passes a limit
+abbrev pub checked : Bool → Lexeme → LexFault → Result Lexeme LexFault
+checked fits t f = if fits then Ok t else Err f
+
+abbrev pub lexeme : Kind → ℕ → List ℕ → Lexeme
+lexeme kind at text = record { kind = kind; text = text; at = at }
+
+-- the token that a text of a kind is at a place, a name being a word where it is reserved
+abbrev pub token_of : Kind → ℕ → List ℕ → Result Lexeme LexFault
+token_of Name at text = checked (nat_lt (length text) 33) (lexeme (if is_reserved text then Word else Name) at text) (fault LongName at)
+token_of Word at text = Ok (lexeme Word at text)
+token_of Number at text = checked (is_some (literal_value text)) (lexeme Number at text) (fault BadLiteral at)
+token_of Quoted at text = checked (is_some (characters_len 80 (drop 1 text))) (lexeme Quoted at text) (fault LongString at)
+token_of Mark at text = Ok (lexeme Mark at text)
+
+abbrev pub token_found : ℕ → List ℕ → Option (Kind × ℕ) → Result Lexeme LexFault
+token_found at bytes None = Err (misfit at bytes)
+token_found at bytes (Some x) = token_of x.0 at (take x.1 bytes)
+
+-- what begins the bytes, where no gap does
+unfoldable pub token_at : ℕ → List ℕ → Result Lexeme LexFault
+token_at at bytes = token_found at bytes (longest Start bytes)
+
+-- what comes next from a place on
+unfoldable pub next_of : ℕ → List ℕ → Option (Result Lexeme LexFault)
+next_of at bytes =
+    if nat_lt (gap_len false bytes) (length bytes) then Some (token_at (at + gap_len false bytes) (drop (gap_len false bytes) bytes))
+    else None

@@ -1,0 +1,77 @@
+-- Tokens, and how they tile a text.
+use Rattle.std.specs.Prelude.{◌≡◌, ℕ, ◌+◌, ◌≤◌, ◌<◌, Bool, true, false, ◌&&◌, ◌||◌, ◌==◌, List, [], ◌∷◌, ◌++◌, length, drop, map, codes, IsSome, Ok}
+use Rattle.std.specs.List.{list_any}
+use Rattle.rapid_num.specs.Literal.{spelled_thousandths, literal_value}
+use Rattle.rapid_lexer.specs.declared.kind.Kind.{Kind}
+use Rattle.rapid_lexer.specs.declared.kind.Kind.TheVariants.{Name, Word, Number, Quoted, Mark}
+use Rattle.rapid_lexer.specs.declared.token.Token.{Token}
+use Rattle.rapid_lexer.specs.Words.{is_name, IsReserved}
+use Rattle.rapid_lexer.specs.Strings.{IsString}
+use Rattle.rapid_lexer.specs.Gaps.{IsGap, front_of}
+
+-- a token without where its text lies in memory
+pub record Lexeme : Type 0 where
+  pub kind : Kind
+  pub text : List ℕ
+  pub at : ℕ
+
+abbrev pub view : Token → Lexeme
+view t = record { kind = t.kind; text = t.text.now; at = t.at }
+
+abbrev pub views : List Token → List Lexeme
+views ts = map view ts
+
+-- { } [ ] ( ) , . ; : = < > + - * / \ ? and := <= <> >=
+abbrev pub is_mark : List ℕ → Bool
+is_mark [] = false
+is_mark (b ∷ []) = list_any (λ c. c == b) (codes "{}[](),.;:=<>+-*/\\?")
+is_mark (b ∷ c ∷ []) = (b == 58 && c == 61) || (b == 60 && c == 61) || (b == 60 && c == 62) || (b == 62 && c == 61)
+is_mark (b ∷ c ∷ d ∷ bs) = false
+
+-- the shape of each kind of token, whatever its length and value
+abbrev pub IsToken : Kind → List ℕ → Type 0
+IsToken Name text = (is_name text ≡ true) × ¬ IsReserved text
+IsToken Word text = (is_name text ≡ true) × IsReserved text
+IsToken Number text = IsSome (spelled_thousandths text)
+IsToken Quoted text = (cs : List (List ℕ)) × IsString text cs
+IsToken Mark text = is_mark text ≡ true
+
+-- no longer token begins where this text does
+abbrev pub IsLongest : List ℕ → List ℕ → Type 0
+IsLongest text after = (kind : Kind) (other rest : List ℕ) → text ++ after ≡ other ++ rest → IsToken kind other → length other ≤ length text
+
+-- the limits: 32 bytes of a name, the bytes and the range of a literal, 80 characters of a string
+abbrev pub IsWithinLimits : Kind → List ℕ → Type 0
+IsWithinLimits Name text = length text ≤ 32
+IsWithinLimits Word text = Unit {0}
+IsWithinLimits Number text = IsSome (literal_value text)
+IsWithinLimits Quoted text = (cs : List (List ℕ)) × IsString text cs × (length cs ≤ 80)
+IsWithinLimits Mark text = Unit {0}
+
+-- of the bytes from a place on, a gap and a token come first, and then the bytes after
+pub record Follows (at : ℕ) (bytes : List ℕ) (token : Lexeme) (after : List ℕ) : Type 0 where
+  pub gap : List ℕ
+  pub whole : bytes ≡ gap ++ (token.text ++ after)
+  pub is_gap : IsGap gap (token.text ++ after)
+  pub place : token.at ≡ at + length gap
+  pub is_token : IsToken token.kind token.text
+  pub is_longest : IsLongest token.text after
+  pub within_limits : IsWithinLimits token.kind token.text
+
+-- of the bytes from a place on, gaps and these tokens come first; what is left stands from a place there on
+abbrev pub Passes : ℕ → List ℕ → List Lexeme → ℕ → List ℕ → Type 0
+Passes at bytes [] there left = (there ≡ at) × (left ≡ bytes)
+Passes at bytes (t ∷ ts) there left = (after : List ℕ) × Follows at bytes t after × Passes (t.at + length t.text) after ts there left
+
+-- behind the source's front, gaps and these tokens come first
+pub record Begins (source : List ℕ) (tokens : List Lexeme) (there : ℕ) (left : List ℕ) : Type 0 where
+  pub front : ℕ
+  pub is_front : front_of source ≡ Ok front
+  pub passes : Passes front (drop front source) tokens there left
+
+-- gaps and tokens in order, put together, are the source, and each token is the longest that begins at its place
+pub record Tiles (source : List ℕ) (tokens : List Lexeme) : Type 0 where
+  pub there : ℕ
+  pub left : List ℕ
+  pub begins : Begins source tokens there left
+  pub is_gap : IsGap left []

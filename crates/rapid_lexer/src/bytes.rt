@@ -1,0 +1,99 @@
+//! Tests of bytes.
+
+ghost use Rattle.std.specs.Prelude.{◌≡◌, ◌≤◌};
+ghost use Rattle.rapid_num.specs.Literal.{digit_value, is_exponent_letter};
+ghost use Rattle.rapid_lexer.specs.Bytes.{is_blank, is_digit, is_hex, is_letter, is_name_byte, is_printable, upper};
+ghost use Rattle.rapid_lexer.specs.Scanning.{is_single};
+ghost use Rattle.rapid_lexer.specs.Strings.{is_code};
+
+pub(crate) fn is_digit(byte: u8) -> bool
+    ensures { result ≡ is_digit byte }
+{
+    byte >= 48 && byte <= 57
+}
+
+pub(crate) fn is_letter(byte: u8) -> bool
+    ensures { result ≡ is_letter byte }
+{
+    (byte >= 65 && byte <= 90) || (byte >= 97 && byte <= 122)
+}
+
+pub(crate) fn is_name_byte(byte: u8) -> bool
+    ensures { result ≡ is_name_byte byte }
+{
+    is_letter(byte) || is_digit(byte) || byte == 95
+}
+
+pub(crate) fn upper(byte: u8) -> u8
+    ensures { result ≡ upper byte }
+{
+    if byte >= 97 && byte <= 122 { byte - 32 } else { byte }
+}
+
+pub(crate) fn is_blank(byte: u8) -> bool
+    ensures { result ≡ is_blank byte }
+{
+    byte == 9 || byte == 10 || byte == 12 || byte == 13 || byte == 32
+}
+
+pub(crate) fn is_printable(byte: u8) -> bool
+    ensures { result ≡ is_printable byte }
+{
+    byte >= 32 && byte <= 126
+}
+
+/// What a byte counts as a hexadecimal digit; 16 for a byte that is none.
+pub(crate) fn digit_value(byte: u8) -> u8
+    ensures same { result ≡ digit_value byte }
+    ensures small { result ≤ 16 }
+{
+    if byte >= 48 && byte <= 57 {
+        byte - 48
+    } else if byte >= 65 && byte <= 70 {
+        byte - 55
+    } else if byte >= 97 && byte <= 102 {
+        byte - 87
+    } else {
+        16
+    }
+}
+
+pub(crate) fn is_hex(byte: u8) -> bool
+    ensures { result ≡ is_hex byte }
+{
+    digit_value(byte) < 16
+}
+
+/// Whether two hexadecimal digits are the code of a printable character.
+pub(crate) fn is_code(high: u8, low: u8) -> bool
+    ensures { result ≡ is_code high low }
+{
+    is_hex(high) && is_hex(low) && is_printable(digit_value(high) * 16 + digit_value(low))
+}
+
+pub(crate) fn is_exponent_letter(byte: u8) -> bool
+    ensures { result ≡ is_exponent_letter byte }
+{
+    byte == 69 || byte == 101
+}
+
+/// Whether a byte is a mark, and begins no longer one.
+pub(crate) fn is_single(byte: u8) -> bool
+    ensures { result ≡ is_single byte }
+{
+    byte == b'{'
+        || byte == b'}'
+        || byte == b'['
+        || byte == b']'
+        || byte == b'('
+        || byte == b')'
+        || byte == b','
+        || byte == b';'
+        || byte == b'='
+        || byte == b'+'
+        || byte == b'-'
+        || byte == b'*'
+        || byte == b'/'
+        || byte == b'\\'
+        || byte == b'?'
+}

@@ -1,0 +1,55 @@
+//! Why a text is not made of tokens.
+
+ghost use Rattle.std.specs.Prelude.{◌≡◌};
+ghost use Rattle.rapid_lexer.specs.declared.fault.TokensFault.TheVariants.{Memory};
+
+use std::alloc::{AllocError, AllocFailed};
+
+/// What is wrong at the first place where no token fits (RAPID Kernel, lexical elements).
+#[derive(Clone, Copy, Debug, PartialEq, Eq)]
+pub enum LexRule {
+    /// No token or gap begins with the byte, or a string holds a byte below 20 or above 7E, hexadecimal.
+    BadByte,
+    /// The line or the text ends inside a string.
+    OpenString,
+    /// A backslash in a string begins no escape.
+    BadEscape,
+    /// A string has more than 80 characters.
+    LongString,
+    /// A name has more than 32 bytes.
+    LongName,
+    /// A literal has more than 30 bytes, or its value is out of range.
+    BadLiteral,
+    /// A header has no end.
+    OpenHeader,
+}
+
+/// A rule, and the byte of the source where it is broken, from 0.
+#[derive(Clone, Copy, Debug, PartialEq, Eq)]
+pub struct LexFault {
+    pub rule: LexRule,
+    pub at: usize,
+}
+
+/// Why there is no list of tokens: no token fits at some place, or memory was refused.
+#[derive(Clone, Copy, Debug, PartialEq, Eq)]
+pub enum TokensFault {
+    Lex(LexFault),
+    Memory,
+}
+
+impl From<AllocError> for TokensFault {
+    ghost from_gives = { λ _ e. e ≡ Memory };
+
+    fn from(_e: AllocError) -> TokensFault {
+        TokensFault::Memory
+    }
+}
+
+impl<T: Drop> From<AllocFailed<T>> for TokensFault {
+    ghost from_gives = { λ _ e. e ≡ Memory };
+
+    fn from(_e: AllocFailed<T>) -> TokensFault {
+        TokensFault::Memory
+    }
+}

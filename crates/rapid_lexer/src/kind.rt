@@ -1,0 +1,14 @@
+/// What a token is.
+#[derive(Clone, Copy, Debug, PartialEq, Eq)]
+pub enum Kind {
+    /// A letter, then letters, digits and `_`: no reserved word.
+    Name,
+    /// A reserved word, its letters in either case.
+    Word,
+    /// A numerical literal.
+    Number,
+    /// A string with its quotes.
+    Quoted,
+    /// One of the signs.
+    Mark,
+}

@@ -1,0 +1,28 @@
+//! The tokens of a RAPID module: slices of its text, and the first place where no token fits.
+#![tactic(auto)]
+
+mod bytes;
+mod fault;
+mod fronts;
+mod gaps;
+mod kind;
+mod laws;
+mod lexer;
+mod place;
+mod scanner;
+mod state;
+mod strings;
+mod token;
+mod tokens;
+mod words;
+
+pub use fault::{LexFault, LexRule, TokensFault};
+pub use kind::Kind;
+pub use laws::one_reading;
+pub use lexer::Lexer;
+pub use place::{Place, place_of};
+pub use token::Token;
+pub use tokens::read_tokens;
+
+#[cfg(test)]
+mod tests;
