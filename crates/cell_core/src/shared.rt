@@ -1,12 +1,19 @@
-ghost use Rattle.std.specs.Prelude.{◌≡◌, ◌≤◌, ◌<◌, ◌+◌, List, [], length, IfOk, IfErr, IsTrue, Some, slice_get};
+ghost use Rattle.std.specs.Prelude.{◌≡◌, ◌≤◌, ◌<◌, ◌+◌, List, [], ◌∷◌, ◌++◌, length, IfOk, IfErr, IsTrue, not, Some, slice_get, map};
+ghost use Rattle.std.specs.Vec.{vec_capacity};
 ghost use Rattle.rapid_model.specs.CellData.{CellData};
-ghost use Rattle.rapid_model.specs.Requests.{part_of, may_ask, has_ended};
+ghost use Rattle.rapid_model.specs.Requests.{part_of, may_ask, has_ended, fits_request};
+ghost use Rattle.rapid_meaning.specs.Answers.{answer_after, can_be_served, position_of};
 ghost use Rattle.rapid_meaning.specs.Histories.{all_ended, is_spent, fate_after, fates_after};
 ghost use Rattle.cell_core.specs.Serving.{served, history_with};
-ghost use Rattle.cell_core.specs.Soundness.{IsSound};
+ghost use Rattle.cell_core.specs.Soundness.{IsSound, IsServed};
+ghost use Rattle.cell_core.specs.Boards.{standing};
 
+use crate::append::append;
+use crate::boards::Boards;
+use crate::fits;
 use crate::served::Served;
-use rapid_model::{Cell, Event, Fate, Request};
+use rapid_model::{Answer, Cell, Event, Fate, Request};
+use rapid_num::Joints;
 use std::alloc::Global;
 use std::marker::Model;
 
@@ -14,19 +21,22 @@ use std::marker::Model;
 #[derive(Debug, Drop)]
 pub struct Core {
     cell: Cell,
+    steps: u32,
     events: Vec<Event>,
+    boards: Boards,
     fates: Vec<Fate>,
 }
 
 impl Model for Core {
+    ghost use Rattle.std.specs.Prelude.{◌≡◌, [], vec_capacity};
     ghost use Rattle.cell_core.specs.CoreData.{CoreData};
-    ghost use Rattle.cell_core.specs.Soundness.{IsSound};
+    ghost use Rattle.cell_core.specs.Keeping.{Keeps, HasRoom};
 
     ghost Value = { CoreData };
 
     ghost view = { λ c. record { cell = c.cell; history = c.events.items } };
 
-    ghost invariant = { λ c. IsSound c.cell c.events.items };
+    ghost invariant = { λ c. Keeps c.cell c.events.items c.boards.arms.items c.boards.ends.items c.steps c.boards.counted × HasRoom c.cell (vec_capacity c.events) (vec_capacity c.fates) × (c.fates.items ≡ []) };
 }
 
 impl Core {
@@ -36,7 +46,25 @@ impl Core {
         ensures ok { IfOk result (λ core. core ≡ record { cell = cell; history = [] }) }
         ensures err { IfErr result (λ back. back ≡ cell) }
     {
-        Err(cell)
+        let steps = cell.steps();
+        let rows = cell.tasks().as_slice();
+        let tasks = rows.len();
+        let Ok(boards) = Boards::new(alloc, rows) else {
+            return Err(cell);
+        };
+        let Ok(events) = Vec::with_capacity(alloc, steps as usize + tasks) else {
+            return Err(cell);
+        };
+        let Ok(fates) = Vec::with_capacity(alloc, tasks) else {
+            return Err(cell);
+        };
+        Ok(Core {
+            cell,
+            steps,
+            events,
+            boards,
+            fates,
+        })
     }
 
     /// Answers a request of an actor, a task by its number from 0 in script order.
@@ -46,14 +74,63 @@ impl Core {
         ensures served { result ≡ served self.old.cell self.old.history actor request }
         ensures history { self.new.history ≡ history_with self.old.history actor request result }
     {
-        Served::Spent
+        if self.is_used_up(&request) {
+            return Served::Spent;
+        }
+        let answer = self.answer(actor, &request);
+        self.record(Event {
+            actor,
+            request,
+            answer: answer.copy(),
+        });
+        Served::Answered(answer)
+    }
+
+    // Whether the request is counted and the steps are.
+    fn is_used_up(&self, request: &Request) -> bool
+        ensures { can_be_served self.now.cell self.now.history request.now ≡ not result }
+    {
+        match request {
+            Request::End { .. } => false,
+            Request::Look | Request::Position | Request::Setpoint { .. } => {
+                self.steps <= self.boards.counted
+            }
+        }
+    }
+
+    // The cell's answer, which fits the request.
+    fn answer(&self, actor: u32, request: &Request) -> Answer
+        requires { IsTrue (may_ask self.now.cell actor (part_of actor self.now.history) request.now) }
+        ensures answer { result ≡ answer_after self.now.cell self.now.history actor request.now }
+        ensures fits { IsTrue (fits_request request.now result) }
+    {
+        let boards = &self.boards;
+        match request {
+            Request::Look => Answer::Go { seen: 0 },
+            Request::Position => place(boards.arms[actor as usize]),
+            Request::Setpoint { .. } => Answer::Given,
+            Request::End { .. } => Answer::Ok,
+        }
+    }
+
+    // Takes an event that was served. There is room for it.
+    fn record(&mut self, event: Event)
+        requires { IsServed self.old.cell self.old.history event }
+        ensures cell { self.new.cell ≡ self.old.cell }
+        ensures history { self.new.history ≡ self.old.history ++ event ∷ [] }
+    {
+        self.boards.add(&event);
+        append(&mut self.events, event);
     }
 
     /// Whether the actor may ask this now.
     pub fn fits(&self, actor: u32, request: &Request) -> bool
         ensures { result ≡ may_ask self.now.cell actor (part_of actor self.now.history) request.now }
     {
-        false
+        match self.cell.tasks().as_slice().get(actor as usize) {
+            Some(row) => !self.ended(actor) && fits::allows(row, request),
+            None => false,
+        }
     }
 
     /// Whether the task has ended.
@@ -61,21 +138,21 @@ impl Core {
         requires { task < length self.now.cell.tasks }
         ensures { result ≡ has_ended (part_of task self.now.history) }
     {
-        false
+        self.boards.ends[task as usize].is_some()
     }
 
     /// Whether every task has ended.
     pub fn all_ended(&self) -> bool
         ensures { result ≡ all_ended (length self.now.cell.tasks) self.now.history }
     {
-        false
+        self.boards.all_ended()
     }
 
     /// Whether a task has not ended, and the steps are counted.
     pub fn spent(&self) -> bool
         ensures { result ≡ is_spent self.now.cell self.now.history }
     {
-        false
+        !self.all_ended() && self.steps <= self.boards.counted
     }
 
     /// How a task stands: the fate that it told, else cut where the steps are spent, else held.
@@ -83,7 +160,7 @@ impl Core {
         requires { task < length self.now.cell.tasks }
         ensures { result ≡ fate_after self.now.cell self.now.history task }
     {
-        Fate::Held
+        stands(self.boards.ends[task as usize], self.spent())
     }
 
     /// How many events there are.
@@ -92,7 +169,7 @@ impl Core {
         ensures few { result ≤ self.now.cell.steps + length self.now.cell.tasks }
         ensures sound { IsSound self.now.cell self.now.history }
     {
-        0
+        self.events.len() as u32
     }
 
     /// Event `k`, from 0.
@@ -115,6 +192,45 @@ impl Core {
         ensures history { result.0.items ≡ self.history }
         ensures fates { result.1.items ≡ fates_after self.cell self.history (length self.cell.tasks) }
     {
-        (self.events, self.fates)
+        let spent = self.spent();
+        let Core {
+            cell: _,
+            steps: _,
+            events,
+            boards,
+            mut fates,
+        } = self;
+        tell(boards.ends.as_slice(), spent, &mut fates);
+        (events, fates)
+    }
+}
+
+fn place(arm: Option<Joints>) -> Answer
+    ensures { result ≡ position_of arm }
+{
+    match arm {
+        Some(position) => Answer::At(position),
+        None => Answer::Ok,
+    }
+}
+
+fn stands(told: Option<Fate>, spent: bool) -> Fate
+    ensures { result ≡ standing spent told }
+{
+    match told {
+        Some(fate) => fate,
+        None if spent => Fate::Cut,
+        None => Fate::Held,
+    }
+}
+
+// Appends how each task stands, in the room that there is.
+fn tell(ends: &[Option<Fate>], spent: bool, fates: &mut Vec<Fate>)
+    requires none { fates.old.items ≡ [] }
+    requires room { length ends.now ≤ vec_capacity fates.old }
+    ensures { fates.new.items ≡ map (λ told. standing spent told) ends.now }
+{
+    for told in ends {
+        fates.push_reserved(stands(*told, spent));
     }
 }
