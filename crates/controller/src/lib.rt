@@ -5,7 +5,6 @@ mod action;
 mod file;
 mod load;
 mod print;
-
 mod refuse;
 mod refused;
 mod report;

@@ -10,5 +10,4 @@ use outside::Sink;
 pub(crate) fn tell_refusal<E: Sink>(err: &mut E, name: &str, refused: &Refused)
     ensures faults { E.faults err.old ≤ E.faults err.new }
     ensures told { GainedUnlessFaults (refusal_text name.now refused.now) (E.told err.old) (E.told err.new) (E.faults err.old) (E.faults err.new) }
-{
-}
+{}
