@@ -3,7 +3,7 @@ ghost use Rattle.outside.specs.Told.{found, after_reads};
 ghost use Rattle.controller.specs.Files.{text_of, ReadFaulted, GivesText};
 
 use crate::refused::Refused;
-use outside::Shelf;
+use outside::{Shelf, ShelfFault};
 use std::alloc::Global;
 
 /// The bytes of a file, or why it could not be read.
@@ -20,5 +20,11 @@ pub(crate) fn read_file<S: Shelf>(
     ensures causes { IfErr result (ReadFaulted file (S.faults shelf.old) (S.faults shelf.new)) }
     ensures gives { IfSome (S.told shelf.old) (λ told. GivesText (text_of file limit (found told name.now)) result) }
 {
-    Err(Refused::Memory)
+    let mut bytes = Vec::new(alloc);
+    match shelf.read(alloc, name, limit, &mut bytes) {
+        Ok(()) => Ok(bytes),
+        Err(ShelfFault::Failed) => Err(Refused::Read { file }),
+        Err(ShelfFault::TooLong) => Err(Refused::TooLong { file }),
+        Err(ShelfFault::Memory) => Err(Refused::Memory),
+    }
 }

@@ -5,7 +5,9 @@ ghost use Rattle.controller.specs.Loaded.{ScriptFaulted, ModuleFaulted, IsScript
 ghost use Rattle.controller.specs.Accepted.{script_limit, module_limit};
 
 use crate::file::read_file;
-use crate::refused::Refused;
+use crate::refused::{ModuleRule, Place, Refused};
+use cell_script::{ScriptFault, read_script};
+use module_parser::{ModuleFault, read_module};
 use outside::Shelf;
 use rapid_model::{Script, Tree};
 use std::alloc::Global;
@@ -27,7 +29,12 @@ pub(crate) fn load_script<S: Shelf>(
     ensures causes { IfErr result (ScriptFaulted (S.faults shelf.old) (S.faults shelf.new)) }
     ensures script { IfSome (S.told shelf.old) (λ told. IsScriptIn (text_of 0 script_limit (found told name.now)) result) }
 {
-    Err(Refused::Memory)
+    let text = read_file(alloc, shelf, 0, SCRIPT_LIMIT, name)?;
+    match read_script(alloc, text.as_slice()) {
+        Ok(script) => Ok(script),
+        Err(ScriptFault::Rule { key, rule }) => Err(Refused::Script { key, rule }),
+        Err(ScriptFault::Memory) => Err(Refused::Memory),
+    }
 }
 
 /// The tree of the module in the file of this number and name.
@@ -42,5 +49,14 @@ pub(crate) fn load_module<S: Shelf>(
     ensures causes { IfErr result (ModuleFaulted file (S.faults shelf.old) (S.faults shelf.new)) }
     ensures module { IfSome (S.told shelf.old) (λ told. IsModuleIn file (text_of file module_limit (found told name.now)) result) }
 {
-    Err(Refused::Memory)
+    let text = read_file(alloc, shelf, file, MODULE_LIMIT, name)?;
+    match read_module(alloc, text.as_slice()) {
+        Ok(tree) => Ok(tree),
+        Err(ModuleFault::NotBuilt) => Err(Refused::Module {
+            file,
+            place: Place { line: 1, column: 1 },
+            rule: ModuleRule::NotBuilt,
+        }),
+        Err(ModuleFault::Memory) => Err(Refused::Memory),
+    }
 }
