@@ -1,19 +1,9 @@
 //! The controller: from command words and files to a run, its report and what is printed of it.
 #![tactic(auto)]
 
-mod action;
-mod file;
-mod load;
-mod print;
-
-mod refuse;
 mod refused;
 mod report;
-mod run;
-mod status;
-mod words;
 mod write;
 
-pub use action::quiet;
 pub use refused::{ModuleRule, Place, Refused};
 pub use report::Report;

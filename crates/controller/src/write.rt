@@ -1,4 +1,4 @@
-ghost use Rattle.std.specs.Prelude.{◌≡◌, ◌≤◌, ◌++◌, OnOk, OnErr, Some};
+ghost use Rattle.std.specs.Prelude.{◌≤◌, OnOk, OnErr};
 ghost use Rattle.outside.specs.Count.{Rose};
 ghost use Rattle.controller.specs.Printed.{Gained, GainedPart};
 
@@ -11,5 +11,12 @@ pub(crate) fn write_all<O: Sink>(out: &mut O, piece: &[u8]) -> Result<(), Failed
     ensures part { OnErr result (GainedPart piece.now (O.told out.old) (O.told out.new)) }
     ensures cause { OnErr result (Rose (O.faults out.old) (O.faults out.new)) }
 {
-    Err(Failed)
+    let mut at = 0;
+    while at < piece.len() {
+        match out.write(&piece[at..]) {
+            Ok(taken) => at += taken,
+            Err(failed) => return Err(failed),
+        }
+    }
+    Ok(())
 }
