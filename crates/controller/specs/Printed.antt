@@ -1,7 +1,8 @@
 -- What a sink gained.
-use Rattle.std.specs.Prelude.{◌≡◌, ◌≢◌, ℕ, ◌⊎◌, List, [], ◌++◌, Option}
+use Rattle.std.specs.Prelude.{◌≡◌, ◌≢◌, ◌≤◌, ℕ, ◌⊎◌, List, [], ◌++◌, Option, Result, Ok, Err, ⊤}
 use Rattle.std.specs.Io.KnownBytes.{append_known}
 use Rattle.outside.specs.Count.{Rose}
+use Rattle.outside.specs.declared.failed.Failed.{Failed}
 
 -- where the sink tells its bytes, it gained just these; else it still tells none
 abbrev pub Gained : List ℕ → Option (List ℕ) → Option (List ℕ) → Type 0
@@ -23,3 +24,8 @@ pub record GainedPart (bytes : List ℕ) (old new : Option (List ℕ)) : Type 0 
 abbrev pub GainedUnlessFaults : List ℕ → Option (List ℕ) → Option (List ℕ) → ℕ → ℕ → Type 0
 GainedUnlessFaults bytes old new old_faults new_faults =
     Gained bytes old new ⊎ (GainedPart bytes old new × Rose old_faults new_faults)
+
+-- a call that writes these bytes: it gained all of them; or it failed with a fault counted, and lacks some
+abbrev pub Writes : List ℕ → Result ⊤ Failed → Option (List ℕ) → Option (List ℕ) → ℕ → ℕ → Type 0
+Writes bytes (Ok _) old new old_faults new_faults = Gained bytes old new × (old_faults ≤ new_faults)
+Writes bytes (Err _) old new old_faults new_faults = GainedPart bytes old new × Rose old_faults new_faults × (old_faults ≤ new_faults)

@@ -1,6 +1,7 @@
 //! The controller: from command words and files to a run, its report and what is printed of it.
 #![tactic(auto)]
 
+mod refuse;
 mod refused;
 mod report;
 mod write;

@@ -3,6 +3,7 @@ use Rattle.std.specs.Prelude.{Option}
 use Rattle.std.proofs.Math.Seq.{take-add}
 use Rattle.std.proofs.lemmas.List.{take-append-drop, take_all}
 use Rattle.controller.specs.Printed.{Gained, GainedPart, IsProperPrefix}
+use Rattle.outside.proofs.Counting.{Rose-since}
 use Rattle.controller.proofs.Gains.{gained_none, gained_more}
 use Rattle.controller.proofs.write.write_all.Goals as goal
 
@@ -25,13 +26,16 @@ loop-at-preserved g c = record {
   faults = let h = c.in-Ok.ensures.faults_never_fall in omega (arith, h);
 }
 
-pub returns-in-Err-clause-part : goal.returns-in-Err-clause-part
-returns-in-Err-clause-part g c = record {
-  front = take c.loop-at.at c.args.piece.now;
-  proper = record {
-    rest = drop c.loop-at.at c.args.piece.now;
-    lacks = rest_some c.args.piece.now c.loop-at.at c.loop-at-test.true;
-    whole = sym (take-append-drop c.loop-at.at c.args.piece.now);
-  };
-  gained = c.in-Err.ensures.told_after ∙ sym (gained_none _) ∙ c.loop-at.invariant.gained;
-}
+pub returns-in-Err : goal.returns-in-Err
+returns-in-Err g c = (
+  record {
+    front = take c.loop-at.at c.args.piece.now;
+    proper = record {
+      rest = drop c.loop-at.at c.args.piece.now;
+      lacks = rest_some c.args.piece.now c.loop-at.at c.loop-at-test.true;
+      whole = sym (take-append-drop c.loop-at.at c.args.piece.now);
+    };
+    gained = c.in-Err.ensures.told_after ∙ sym (gained_none _) ∙ c.loop-at.invariant.gained;
+  },
+  Rose-since _ _ _ c.loop-at.invariant.faults c.in-Err.ensures.faults_never_fall c.in-Err.ensures.failed_only_where_faults_rose,
+  (let h = c.in-Err.ensures.faults_never_fall in omega (arith, h)))
