@@ -1,0 +1,4 @@
+pub mod Amid
+pub mod Turning
+pub mod Crews
+pub mod Rounds

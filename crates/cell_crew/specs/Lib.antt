@@ -1,1 +1,3 @@
 pub mod Crew
+pub mod UnderWay
+pub mod Turned

@@ -1,6 +1,7 @@
 //! Runs the tasks of a cell by turns on one thread.
 #![tactic(auto)]
 
+mod asking;
 mod ran;
 mod round;
 

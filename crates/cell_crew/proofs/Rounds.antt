@@ -1,0 +1,177 @@
+-- Turns after turns, and rounds after rounds.
+use Rattle.std.proofs.Common.{◌≡◌, ℕ, zero, suc, ◌+◌, ◌<◌, ◌≤◌, List, [], ◌∷◌, ◌++◌, length, refl, ap, sym, ◌∙◌, subst, inl, inr, arith, length-append, add-zero, zero-add}
+use Rattle.std.proofs.Common.{Some, take}
+use Rattle.std.proofs.Math.Seq.{take-append_seam}
+use Rattle.std.proofs.lemmas.Bool.{ltb-false}
+use Rattle.std.specs.Prelude.{slice_get, slice_set, nat_lt, false}
+use Rattle.rapid_model.specs.CellData.{CellData}
+use Rattle.rapid_model.specs.Requests.{part_of}
+use Rattle.rapid_model.specs.declared.tree.Tree.{Tree}
+use Rattle.rapid_meaning.specs.Runs.{tree_asks}
+use Rattle.rapid_meaning.specs.Traces.{SuitsTask}
+use Rattle.task_machine.specs.MachineData.{MachineData}
+use Rattle.cell_crew.specs.Crew.{trees_of, Stand}
+use Rattle.cell_crew.specs.UnderWay.{UnderWay, AreUnderWay, AreSuited}
+use Rattle.cell_crew.proofs.Crews.{trees_set, tree_at, under_way_turn}
+use Rattle.rapid_model.specs.declared.event.Event.{Event}
+use Rattle.rapid_meaning.specs.Histories.{Asking}
+use Rattle.rapid_meaning.specs.Turns.{Steps, Rests, TakesTurn, TakeTurns, IsRound, AfterRounds, IsByTurns}
+
+pub no_turns : (asking : Asking) (cell : CellData) (history : List Event) → TakeTurns asking cell 0 0 history history
+unfolding TakeTurns
+no_turns asking cell history = refl
+
+-- the turn of the actor after those that took theirs
+more_from : (asking : Asking) (cell : CellData) (actor left : ℕ) (before between after : List Event) → TakeTurns asking cell actor left before between → TakesTurn asking cell (actor + left) between after
+    → TakeTurns asking cell actor (suc left) before after
+unfolding TakeTurns
+more_from asking cell actor zero before between after turns turn =
+    let here : actor + zero ≡ actor = omega arith in
+    (after, subst (λ (h : List Event). TakesTurn asking cell actor h after) turns (subst (λ (k : ℕ). TakesTurn asking cell k between after) here turn), refl)
+more_from asking cell actor (suc left) before between after turns turn =
+    let here : actor + suc left ≡ actor + 1 + left = omega arith in
+    (turns.0, turns.1, more_from asking cell (actor + 1) left turns.0 between after turns.2 (subst (λ (k : ℕ). TakesTurn asking cell k between after) here turn))
+
+pub turns_more : (asking : Asking) (cell : CellData) (k : ℕ) (before between after : List Event) → TakeTurns asking cell 0 k before between → TakesTurn asking cell k between after
+    → TakeTurns asking cell 0 (k + 1) before after
+turns_more asking cell k before between after turns turn =
+    let here : 0 + k ≡ k = omega arith in
+    let next : suc k ≡ k + 1 = omega arith in
+    subst (λ (n : ℕ). TakeTurns asking cell 0 n before after) next
+    (more_from asking cell 0 k before between after turns (subst (λ (j : ℕ). TakesTurn asking cell j between after) (sym here) turn))
+
+-- a turn adds events or changes nothing
+turn_same : (asking : Asking) (cell : CellData) (actor : ℕ) (before after : List Event) → TakesTurn asking cell actor before after → length after ≤ length before → after ≡ before
+turn_same asking cell actor before after (inl s) short =
+    let grown : length after ≡ length before + 1 = ap length s.added ∙ length-append before (s.event ∷ []) in absurd (omega (arith, grown))
+turn_same asking cell actor before after (inr r) short = r.same
+
+turn_grows : (asking : Asking) (cell : CellData) (actor : ℕ) (before after : List Event) → TakesTurn asking cell actor before after → length before ≤ length after
+turn_grows asking cell actor before after (inl s) = let grown : length after ≡ length before + 1 = ap length s.added ∙ length-append before (s.event ∷ []) in omega (arith, grown)
+turn_grows asking cell actor before after (inr r) = let kept : length after ≡ length before = ap length r.same in omega (arith, kept)
+
+turns_grow : (asking : Asking) (cell : CellData) (actor left : ℕ) (before after : List Event) → TakeTurns asking cell actor left before after → length before ≤ length after
+unfolding TakeTurns
+turns_grow asking cell actor zero before after same = let kept : length after ≡ length before = ap length same in omega (arith, kept)
+turns_grow asking cell actor (suc left) before after t =
+    omega (arith, turn_grows asking cell actor before t.0 t.1, turns_grow asking cell (actor + 1) left t.0 after t.2)
+
+turns_same : (asking : Asking) (cell : CellData) (actor left : ℕ) (before after : List Event) → TakeTurns asking cell actor left before after → length after ≤ length before → after ≡ before
+unfolding TakeTurns
+turns_same asking cell actor zero before after same short = same
+turns_same asking cell actor (suc left) before after t short =
+    let later : length t.0 ≤ length after = turns_grow asking cell (actor + 1) left t.0 after t.2 in
+    let first : length before ≤ length t.0 = turn_grows asking cell actor before t.0 t.1 in
+    turns_same asking cell (actor + 1) left t.0 after t.2 (omega arith) ∙ turn_same asking cell actor before t.0 t.1 (omega arith)
+
+-- a round that makes the history no longer leaves it as it is
+pub round_same : (asking : Asking) (cell : CellData) (before after : List Event) → IsRound asking cell before after → length after ≤ length before → after ≡ before
+round_same asking cell before after round short = turns_same asking cell 0 (length cell.tasks) before after round short
+
+-- rounds that led to a history
+pub record AreRounds (asking : Asking) (cell : CellData) (history : List Event) : Type 0 where
+  pub rounds : ℕ
+  pub made : AfterRounds asking cell rounds history
+
+pub no_rounds : (asking : Asking) (cell : CellData) (history : List Event) → history ≡ [] → AreRounds asking cell history
+unfolding AfterRounds
+no_rounds asking cell history none = record { rounds = 0; made = none }
+
+pub rounds_more : (asking : Asking) (cell : CellData) (before after : List Event) → AreRounds asking cell before → IsRound asking cell before after → AreRounds asking cell after
+unfolding AfterRounds
+rounds_more asking cell before after past round = record { rounds = suc past.rounds; made = (before, past.made, round) }
+
+-- after a round that added nothing the run by turns is over
+pub by_turns : (asking : Asking) (cell : CellData) (before after : List Event) → AreRounds asking cell before → IsRound asking cell before after → after ≡ before → IsByTurns asking cell after
+by_turns asking cell before after past round same = record {
+  rounds = past.rounds;
+  made = subst (λ (h : List Event). AfterRounds asking cell past.rounds h) (sym same) past.made;
+  over = subst (λ (h : List Event). IsRound asking cell h after) (sym same) round;
+}
+
+-- the tasks before this one have taken their turns
+pub record HaveTurned (start machines : List MachineData) (first cell : CellData) (before history : List Event) (k : ℕ) : Type 0 where
+  pub same_cell : cell ≡ first
+  pub trees : trees_of machines ≡ trees_of start
+  pub ways : AreUnderWay machines history
+  pub turns : TakeTurns (tree_asks (trees_of start)) first 0 k before history
+
+pub none_turned : (machines : List MachineData) (cell : CellData) (history : List Event) → AreUnderWay machines history → HaveTurned machines machines cell cell history history 0
+none_turned machines cell history ways = record { same_cell = refl; trees = refl; ways = ways; turns = no_turns (tree_asks (trees_of machines)) cell history }
+
+start_tree : (start machines : List MachineData) (k : ℕ) (m : MachineData) → trees_of machines ≡ trees_of start → slice_get machines k ≡ Some m → slice_get (trees_of start) k ≡ Some m.tree
+start_tree start machines k m trees at = ap (λ (ts : List Tree). slice_get ts k) (sym trees) ∙ tree_at machines k m at
+
+pub suited_at : (start machines : List MachineData) (first cell : CellData) (before history : List Event) (k : ℕ) (m : MachineData) → AreSuited start first → HaveTurned start machines first cell before history k
+    → slice_get machines k ≡ Some m → SuitsTask m.tree cell k
+suited_at start machines first cell before history k m suited turned at =
+    subst (λ (c : CellData). SuitsTask m.tree c k) (sym turned.same_cell) (suited.each k m.tree (start_tree start machines k m turned.trees at))
+
+pub more_turned : (start machines : List MachineData) (first cell later_cell : CellData) (before history after : List Event) (k : ℕ) (m later : MachineData) → HaveTurned start machines first cell before history k
+    → slice_get machines k ≡ Some m → later_cell ≡ cell → later.tree ≡ m.tree → UnderWay later (part_of k after)
+    → ((trees : List Tree) → slice_get trees k ≡ Some m.tree → TakesTurn (tree_asks trees) cell k history after)
+    → HaveTurned start (slice_set machines k later) first later_cell before after (k + 1)
+more_turned start machines first cell later_cell before history after k m later turned at same tree way turn =
+    let asking : Asking = tree_asks (trees_of start) in
+    let taken : TakesTurn asking first k history after =
+    subst (λ (c : CellData). TakesTurn asking c k history after) turned.same_cell (turn (trees_of start) (start_tree start machines k m turned.trees at)) in
+    record {
+      same_cell = same ∙ turned.same_cell;
+      trees = trees_set machines k m later at tree ∙ turned.trees;
+      ways = under_way_turn asking first machines k later history after turned.ways way taken;
+      turns = turns_more asking first k before history after turned.turns taken;
+    }
+
+-- where all turns left the history no longer than it was, it is the same
+pub all_turned_same : (start machines : List MachineData) (first cell : CellData) (before history : List Event) (k : ℕ) → HaveTurned start machines first cell before history k → length history ≤ length before → history ≡ before
+all_turned_same start machines first cell before history k turned short = turns_same (tree_asks (trees_of start)) first 0 k before history turned.turns short
+
+pub round_of_turns : (start machines : List MachineData) (first cell : CellData) (before history : List Event) (k : ℕ) → HaveTurned start machines first cell before history k → k ≡ length first.tasks
+    → IsRound (tree_asks (trees_of start)) first before history
+round_of_turns start machines first cell before history k turned all = subst (λ (n : ℕ). TakeTurns (tree_asks (trees_of start)) first 0 n before history) all turned.turns
+
+-- a crew after some rounds
+pub record AmidRounds (start machines : List MachineData) (first cell : CellData) (history : List Event) : Type 0 where
+  pub same_cell : cell ≡ first
+  pub trees : trees_of machines ≡ trees_of start
+  pub ways : AreUnderWay machines history
+  pub past : AreRounds (tree_asks (trees_of start)) first history
+
+pub before_rounds : (start machines : List MachineData) (cell : CellData) (history : List Event) → trees_of machines ≡ trees_of start → AreUnderWay machines [] → history ≡ [] → AmidRounds start machines cell cell history
+before_rounds start machines cell history trees ways none = record {
+  same_cell = refl;
+  trees = trees;
+  ways = subst (λ (h : List Event). AreUnderWay machines h) (sym none) ways;
+  past = no_rounds (tree_asks (trees_of start)) cell history none;
+}
+
+round_at : (start machines : List MachineData) (first cell : CellData) (history after : List Event) → AmidRounds start machines first cell history → IsRound (tree_asks (trees_of machines)) cell history after
+    → IsRound (tree_asks (trees_of start)) first history after
+round_at start machines first cell history after amid round =
+    subst (λ (c : CellData). IsRound (tree_asks (trees_of start)) c history after) amid.same_cell
+    (subst (λ (ts : List Tree). IsRound (tree_asks ts) cell history after) amid.trees round)
+
+pub one_more_round : (start machines later : List MachineData) (first cell later_cell : CellData) (history after : List Event) → AmidRounds start machines first cell history
+    → later_cell ≡ cell → trees_of later ≡ trees_of machines → AreUnderWay later after → IsRound (tree_asks (trees_of machines)) cell history after → AmidRounds start later first later_cell after
+one_more_round start machines later first cell later_cell history after amid same trees ways round = record {
+  same_cell = same ∙ amid.same_cell;
+  trees = trees ∙ amid.trees;
+  ways = ways;
+  past = rounds_more (tree_asks (trees_of start)) first history after amid.past (round_at start machines first cell history after amid round);
+}
+
+pub last_round : (start machines : List MachineData) (first cell : CellData) (history after : List Event) → AmidRounds start machines first cell history
+    → IsRound (tree_asks (trees_of machines)) cell history after → after ≡ history → IsByTurns (tree_asks (trees_of start)) first after
+last_round start machines first cell history after amid round same =
+    by_turns (tree_asks (trees_of start)) first history after amid.past (round_at start machines first cell history after amid round) same
+
+-- the machines of a crew stand for what their tasks got
+pub they_stand : (machines : List MachineData) (history : List Event) → AreUnderWay machines history → Stand machines history
+they_stand machines history ways = record { each = λ task m at. (ways.each task m at).stands }
+
+-- what a whole slice was written with
+pub written : {A : Type 0} (n : ℕ) (xs rest : List A) → length xs ≡ n → take n (xs ++ rest) ≡ xs
+written n xs rest same = subst (λ (k : ℕ). take k (xs ++ rest) ≡ xs) same (take-append_seam xs rest)
+
+pub no_longer : (n m a b : ℕ) → n ≡ a → m ≡ b → nat_lt n m ≡ false → b ≤ a
+no_longer n m a b p q no_more = omega (arith, ltb-false n m no_more)

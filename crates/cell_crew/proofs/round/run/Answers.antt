@@ -1,0 +1,11 @@
+use Rattle.std.proofs.Common.{arith}
+use Rattle.cell_crew.proofs.Rounds.{before_rounds, one_more_round, last_round, they_stand}
+use Rattle.cell_crew.proofs.round.run.Goals as goal
+
+pub rounds-init : goal.rounds-init
+rounds-init c = before_rounds c.args.machines.now c.ask_first.new.machines c.args.core.now.cell c.args.core.now.history c.ask_first.ensures.trees c.ask_first.ensures.under_way c.requires.no_events
+
+pub rounds-preserved : goal.rounds-preserved
+rounds-preserved c =
+    one_more_round c.args.machines.now c.rounds.machines c.round.new.machines c.args.core.now.cell c.rounds.core.cell c.round.new.core.cell c.rounds.core.history c.round.new.core.history
+    c.rounds.invariant c.round.ensures.cell c.round.ensures.trees c.round.ensures.under_way c.round.ensures.round
