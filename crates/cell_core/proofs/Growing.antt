@@ -1,12 +1,12 @@
 -- What a core keeps after one more event.
-use Rattle.std.proofs.Common.{◌≡◌, ℕ, zero, suc, ◌+◌, ◌<◌, ◌≤◌, ◌⊎◌, inl, inr, Bool, true, false, cond, List, [], ◌∷◌, ◌++◌, length, get_or, set, Option, Some, None, refl, sym, ◌∙◌, ap, subst, arith, length-append, length-set}
-use Rattle.std.specs.Prelude.{IsTrue, not, ◌||◌, nat_lt, is_some, count_by, option_map}
+use Rattle.std.proofs.Common.{◌≡◌, ℕ, ◌+◌, ◌<◌, ◌≤◌, ◌⊎◌, inl, inr, cond, List, [], ◌∷◌, ◌++◌, length, get_or, set, Option, None, refl, sym, ◌∙◌, ap, subst, arith, length-append, length-set}
+use Rattle.std.specs.Prelude.{IsTrue, is_some, count_by}
 use Rattle.std.proofs.lemmas.Bool.{cases_eq, ltb-true}
 use Rattle.std.proofs.lemmas.List.{get_or-set_same, get_or-set_other}
 use Rattle.std.proofs.lemmas.List.Sums.{sum_by-set, count_by-le-length}
 use Rattle.rapid_num.specs.declared.joints.Joints.{Joints}
 use Rattle.rapid_model.specs.CellData.{CellData}
-use Rattle.rapid_model.specs.Requests.{part_of, end_of, fate_told, or_else}
+use Rattle.rapid_model.specs.Requests.{part_of, end_of, fate_told}
 use Rattle.rapid_model.specs.declared.event.Event.{Event}
 use Rattle.rapid_model.specs.declared.fate.Fate.{Fate}
 use Rattle.rapid_model.specs.declared.request.Request.{Request}
@@ -15,7 +15,7 @@ use Rattle.rapid_meaning.specs.Answers.{is_counted, counted, can_be_served}
 use Rattle.rapid_meaning.specs.Motion.{arm_after}
 use Rattle.rapid_meaning.proofs.MoreEvents.{part_of-own, part_of-other, end_of-more, arm_after-own, arm_after-other, counted-more}
 use Rattle.cell_core.specs.Boards.{arm_with, end_with, count_with}
-use Rattle.cell_core.specs.Keeping.{Keeps, HasRoom}
+use Rattle.cell_core.specs.Keeping.{Keeps}
 use Rattle.cell_core.specs.Soundness.{IsSound, IsServed}
 use Rattle.cell_core.proofs.Asked.{asked_alive, asked_within}
 

@@ -1,3 +1,4 @@
+mod Examples
 pub mod Asked
 pub mod Starting
 pub mod Positions

@@ -1,6 +1,6 @@
 -- Each arm stands at a position, so a position is what the cell answers.
-use Rattle.std.proofs.Common.{◌≡◌, ℕ, zero, suc, ◌<◌, Bool, true, false, cond, List, [], ◌∷◌, ◌++◌, length, Option, Some, None, refl, sym, ◌∙◌, ap, subst, arith}
-use Rattle.std.specs.Prelude.{IsTrue, not, ◌&&◌, ◌==◌, is_some, slice_get, filter}
+use Rattle.std.proofs.Common.{◌≡◌, ℕ, zero, suc, Bool, true, false, cond, List, [], ◌∷◌, ◌++◌, Option, Some, None, refl, ◌∙◌, ap, subst}
+use Rattle.std.specs.Prelude.{IsTrue, ◌&&◌, ◌==◌, is_some, slice_get}
 use Rattle.std.specs.Option.{option_and_then}
 use Rattle.std.specs.List.{list_all}
 use Rattle.std.proofs.lemmas.Bool.{false≢true}
@@ -15,9 +15,9 @@ use Rattle.rapid_model.specs.declared.request.Request.{Request}
 use Rattle.rapid_model.specs.declared.request.Request.TheVariants.{Look, Position, Setpoint, End}
 use Rattle.rapid_model.specs.declared.task_row.TaskRow.{TaskRow}
 use Rattle.rapid_meaning.specs.Answers.{answer_after, position_of}
-use Rattle.rapid_meaning.specs.Motion.{moved, arm_along, arm_after}
-use Rattle.cell_core.specs.Soundness.{IsSound, IsServed}
-use Rattle.cell_core.proofs.Asked.{both_true, is_Some, asked_allowed}
+use Rattle.rapid_meaning.specs.Motion.{moved, arm_along}
+use Rattle.cell_core.specs.Soundness.{IsSound}
+use Rattle.cell_core.proofs.Asked.{both_true, asked_allowed}
 
 -- a setpoint's target is a position
 abbrev goes_well : Request → Bool

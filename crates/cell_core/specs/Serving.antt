@@ -1,7 +1,6 @@
 -- What serving a request answers, and what it makes of the history.
 use Rattle.std.specs.Prelude.{ℕ, List, [], ◌∷◌, ◌++◌, if◌then◌else◌}
 use Rattle.rapid_model.specs.CellData.{CellData}
-use Rattle.rapid_model.specs.declared.answer.Answer.{Answer}
 use Rattle.rapid_model.specs.declared.event.Event.{Event}
 use Rattle.rapid_model.specs.declared.request.Request.{Request}
 use Rattle.rapid_meaning.specs.Answers.{is_enabled, can_be_served, answer_after}

@@ -1,5 +1,5 @@
 -- What every history of a core keeps.
-use Rattle.std.specs.Prelude.{◌≡◌, ℕ, List, [], ◌∷◌, ◌++◌, IsTrue}
+use Rattle.std.specs.Prelude.{◌≡◌, List, ◌∷◌, ◌++◌, IsTrue}
 use Rattle.rapid_model.specs.CellData.{CellData}
 use Rattle.rapid_model.specs.Requests.{part_of, may_ask, fits_request}
 use Rattle.rapid_model.specs.declared.event.Event.{Event}

@@ -90,11 +90,10 @@ impl Core {
     fn is_used_up(&self, request: &Request) -> bool
         ensures { can_be_served self.now.cell self.now.history request.now ≡ not result }
     {
+        let counted = self.boards.counted;
         match request {
             Request::End { .. } => false,
-            Request::Look | Request::Position | Request::Setpoint { .. } => {
-                self.steps <= self.boards.counted
-            }
+            Request::Look | Request::Position | Request::Setpoint { .. } => self.steps <= counted,
         }
     }
 

@@ -69,6 +69,11 @@ fn answered(answer: Answer) -> Option<Served> {
     Some(Served::Answered(answer))
 }
 
+// A core can be given to a thread.
+fn sent<T: Send>(value: T) -> T {
+    value
+}
+
 // To one degree.
 fn setpoint() -> Request {
     Request::Setpoint { to: position(true) }
@@ -120,7 +125,7 @@ fn a_task_is_cut(rt: HostRuntime) {
     );
     assert_eq!(rt; core.len(), 2);
     assert_eq!(rt; core.event(1).answer, Answer::At(position(true)));
-    let (_events, fates) = core.into_report();
+    let (_events, fates) = sent(core).into_report();
     assert_eq!(rt; fates.len(), 1);
     assert_eq!(rt; fates[0], Fate::Cut);
 }

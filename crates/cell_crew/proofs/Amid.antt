@@ -30,6 +30,7 @@ no_trace tree = record {
     asked : (before after : List Event) (e : Event) → [] ≡ before ++ e ∷ after → asked_after tree (answers_in before) ≡ asks e.request
     asked [] after e p = cc
     asked (b ∷ before) after e p = cc
+
     fits : (before after : List Event) (e : Event) → [] ≡ before ++ e ∷ after → IsTrue (fits_request e.request e.answer)
     fits [] after e p = cc
     fits (b ∷ before) after e p = cc

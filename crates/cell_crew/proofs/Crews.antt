@@ -77,7 +77,7 @@ have_asked_more start machines k m later have at tree way = record {
   asked = λ j x lt found.
       elim (get_set machines k j later x found) [
         | inl w ↦ subst (λ (y : MachineData). UnderWay y []) (sym w.1) way
-        | inr w ↦ have.asked j x (elim (cases_lt j k) [ | inl less ↦ less | inr ge ↦ absurd (w.0 (omega arith)) ]) w.1
+        | inr w ↦ have.asked j x (elim (cases_lt j k) [ inl less ↦ less | inr ge ↦ absurd (w.0 (omega arith)) ]) w.1
       ];
   rest = λ j x le found.
       elim (get_set machines k j later x found) [

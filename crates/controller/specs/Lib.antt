@@ -1,4 +1,5 @@
 pub mod Words
 pub mod Refusals
 pub mod Files
+pub mod Runs
 pub mod Printed

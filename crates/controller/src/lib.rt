@@ -1,9 +1,11 @@
 //! The controller: from command words and files to a run, its report and what is printed of it.
 #![tactic(auto)]
 
+mod print;
 mod refuse;
 mod refused;
 mod report;
+mod status;
 mod write;
 
 pub use refused::{ModuleRule, Place, Refused};

@@ -19,17 +19,30 @@ pub enum ModuleRule {
 #[derive(Debug, Drop)]
 pub enum Refused {
     /// The command word at this place, from 0, is wrong or missing.
-    Words { place: usize },
+    Words {
+        place: usize,
+    },
     /// The script breaks a rule at a key; the empty key is the script as a whole.
-    Script { key: Text, rule: ScriptRule },
+    Script {
+        key: Text,
+        rule: ScriptRule,
+    },
     /// A module breaks a rule at a place.
-    Module { file: u32, place: Place, rule: ModuleRule },
+    Module {
+        file: u32,
+        place: Place,
+        rule: ModuleRule,
+    },
     /// A file could not be read.
-    Read { file: u32 },
+    Read {
+        file: u32,
+    },
     /// Not all could be printed.
     Write,
     /// Memory was refused.
     Memory,
     /// A file has more bytes than its limit.
-    TooLong { file: u32 },
+    TooLong {
+        file: u32,
+    },
 }

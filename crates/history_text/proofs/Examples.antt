@@ -1,5 +1,5 @@
 -- The lines on examples worked by hand.
-use Rattle.std.proofs.Common.{◌≡◌, refl, List, [], ◌∷◌, Some, None}
+use Rattle.std.proofs.Common.{◌≡◌, refl, List, [], ◌∷◌, None}
 use Rattle.std.specs.Prelude.{codes, pos}
 use Rattle.std.specs.Fmt.{digits}
 use Rattle.rapid_num.specs.declared.joints.Joints.{Joints}
@@ -11,7 +11,7 @@ use Rattle.rapid_model.specs.declared.request.Request.{Request}
 use Rattle.rapid_model.specs.declared.request.Request.TheVariants.{Look, Position, Setpoint}
 use Rattle.rapid_model.specs.declared.answer.Answer.{Answer}
 use Rattle.rapid_model.specs.declared.task_row.TaskRow.{TaskRow}
-use Rattle.history_text.specs.Lines.{line_of, fate_line, output_of}
+use Rattle.history_text.specs.Lines.{line_of, fate_line}
 
 -- axis 1 is at 0.833 degrees, and the others at 0
 turned : Joints

@@ -8,7 +8,6 @@ use Rattle.module_parser.specs.Speeds.{SpellsSpeed}
 use Rattle.module_parser.specs.Reading.{◌>>=◌, words_at, field_at, target_at, speed_of, ending_at, move_at}
 use Rattle.module_parser.proofs.Fields.{bind_some, some_is, words_takes, words_again, field_takes, field_again}
 use Rattle.module_parser.proofs.Speeds.{speed_takes, speed_again, speed_lacks}
-
 use Rattle.module_parser.proofs.Targets.{behind_target, target_takes, target_again}
 
 -- ---- the end of the line

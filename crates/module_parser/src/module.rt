@@ -8,7 +8,7 @@ use crate::list::list_at;
 use rapid_model::{Sequence, Tree};
 use std::alloc::Global;
 
-/// The tree that the whole text spells (RAPID Kernel, module declarations).
+/// The tree that the whole text spells (RAPID Kernel, module declarations). `NotBuilt` where it spells none.
 pub fn read_module(alloc: Global, source: &[u8]) -> Result<Tree, ModuleFault>
     ensures spelled { IfOk result (λ tree. SpellsModule tree source.now) }
     // No other tree is spelled, and what is spelled is read unless memory runs out.

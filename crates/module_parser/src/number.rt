@@ -10,8 +10,7 @@ use rapid_num::{Num, read_literal};
 fn negated(number: Num) -> Num
     ensures { result ≡ neg_ℤ number }
 {
-    let negated = Num::new(-number.thousandths());
-    negated.unwrap()
+    Num::new(-number.thousandths()).unwrap()
 }
 
 /// The number of an optional minus and a literal.

@@ -56,16 +56,32 @@ number_at at bytes text after false s whole h most =
 
 quoted_at : (at : ℕ) (bytes text after : List ℕ) (fits : Bool) → is_some (characters_len 80 (drop 1 text)) ≡ fits → bytes ≡ text ++ after → IsShape Quoted text → IsLongest text after
     → IsAt at bytes (checked fits (lexeme Quoted at text) (fault LongString at))
-quoted_at at bytes text after true s whole h most =
-    (after, whole, refl, h, most, elim (cases_lt 80 (length h.0)) [
-      | inl lt ↦ absurd (let x : true ≡ false = sym s ∙ inside_over text h.0 h.1 lt in cc)
-      | inr le ↦ (h.0, h.1, le)
-    ])
-quoted_at at bytes text after false s whole h most =
-    (inl (record { text = text; after = after; whole = whole; characters = h.0; is_string = h.1; is_longest = most; excess = elim (cases_lt 80 (length h.0)) [
+quoted_at at bytes text after true s whole h most = (
+  after,
+  whole,
+  refl,
+  h,
+  most,
+  elim (cases_lt 80 (length h.0)) [
+    | inl lt ↦ absurd (let x : true ≡ false = sym s ∙ inside_over text h.0 h.1 lt in cc)
+    | inr le ↦ (h.0, h.1, le)
+  ],
+)
+quoted_at at bytes text after false s whole h most = (
+  inl (record {
+    text = text;
+    after = after;
+    whole = whole;
+    characters = h.0;
+    is_string = h.1;
+    is_longest = most;
+    excess = elim (cases_lt 80 (length h.0)) [
       | inl lt ↦ lt
       | inr le ↦ absurd (let x : false ≡ true = sym s ∙ inside_walk text h.0 h.1 le in cc)
-    ] }), refl)
+    ];
+  }),
+  refl,
+)
 
 pub token_of_right : (k : Kind) (at : ℕ) (bytes text after : List ℕ) → bytes ≡ text ++ after → IsShape k text → IsLongest text after → IsAt at bytes (token_of k at text)
 token_of_right Name at bytes text after whole h most = name_at at bytes text after (ltb (length text) 33) (is_reserved text) refl refl whole h most

@@ -44,12 +44,22 @@ no_quote bytes cs b left h e =
 
 stop_from : (here : ℕ) (bytes : List ℕ) (cs : List (List ℕ)) (b : ℕ) (left : List ℕ) (ends escape : Bool) → (eqb b 10 || eqb b 13) ≡ ends → eqb b 92 ≡ escape → IsStop here bytes cs (b ∷ left)
     → let place = here + 1 + length (concat cs) in
-      IsAt here bytes (Err (cond ends (fault OpenString here) (cond escape (fault BadEscape place) (fault BadByte place))))
-stop_from here bytes cs b left true escape e f h =
-    (here + 1 + length (concat cs), (cs, b ∷ left, h.broken, h.few, (elim (or_cases (eqb b 10) (eqb b 13) e) [
+    IsAt here bytes (Err (cond ends (fault OpenString here) (cond escape (fault BadEscape place) (fault BadByte place))))
+stop_from here bytes cs b left true escape e f h = (
+  here + 1 + length (concat cs),
+  (
+    cs,
+    b ∷ left,
+    h.broken,
+    h.few,
+    (elim (or_cases (eqb b 10) (eqb b 13) e) [
       | inl x ↦ inl (eqb-true b 10 x)
       | inr x ↦ inr (eqb-true b 13 x)
-    ]), refl), refl)
+    ]),
+    refl,
+  ),
+  refl,
+)
 stop_from here bytes cs b left false true e f h = (cs, b ∷ left, h.broken, h.few, (eqb-true b 92 f, none_begins (b ∷ left) h.stops), refl)
 stop_from here bytes cs b left false false e f h =
     let x = or_parts (eqb b 10) (eqb b 13) e in

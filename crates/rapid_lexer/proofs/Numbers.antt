@@ -108,6 +108,7 @@ no_point-cons before b bs = rw (before_first-cons is_exponent_letter b bs, has_e
     inner : (m : List ℕ) (rest t : Bool) → all_digits before (cond t m (b ∷ digits_in m)) rest ≡ cond t (all_digits before m rest) (is_ten b && all_digits true (digits_in m) rest)
     inner m rest true = refl
     inner m rest false = all_digits-cons before b (digits_in m) rest
+
     at : (t : Bool) → all_digits before (digits_in (cond t [] (b ∷ before_first is_exponent_letter bs))) (cond t (is_some (exponent_of bs)) (has_exponent bs))
         ≡ cond t (before && is_some (exponent_of bs)) (cond (is_point b) (past_point before bs) (is_ten b && no_point true bs))
     at true = all_digits-nil before (is_some (exponent_of bs))

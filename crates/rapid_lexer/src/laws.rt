@@ -10,5 +10,4 @@ pub fn one_reading()
     ensures tokens { (source : List ℕ) (ts us : List Lexeme) → Tiles source ts → Tiles source us → ts ≡ us }
     ensures fault { (source : List ℕ) (f g : LexFault) → IsFirstMisfit source f → IsFirstMisfit source g → f ≡ g }
     ensures apart { (source : List ℕ) (ts : List Lexeme) (f : LexFault) → Tiles source ts → IsFirstMisfit source f → ⊥ }
-{
-}
+{}

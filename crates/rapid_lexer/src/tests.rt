@@ -60,7 +60,10 @@ fn numbers_fall_back(rt: HostRuntime) {
 #[test]
 fn bytes_that_fit_nowhere(rt: HostRuntime) {
     assert_eq!(rt; fault_of(rt.alloc(), b"a %"), at(LexRule::BadByte, 2));
-    assert_eq!(rt; fault_of(rt.alloc(), b"\xEF\xBB\xBFa\xEF"), at(LexRule::BadByte, 4));
+    assert_eq!(rt;
+        fault_of(rt.alloc(), b"\xEF\xBB\xBFa\xEF"),
+        at(LexRule::BadByte, 4)
+    );
     assert_eq!(rt; fault_of(rt.alloc(), b"\"a\x7F\n"), at(LexRule::BadByte, 2));
     assert_eq!(rt; fault_of(rt.alloc(), b"\"a\x09\""), at(LexRule::BadByte, 2));
 }
@@ -68,37 +71,94 @@ fn bytes_that_fit_nowhere(rt: HostRuntime) {
 #[test]
 fn strings_that_stop(rt: HostRuntime) {
     assert_eq!(rt; fault_of(rt.alloc(), b" \"ab"), at(LexRule::OpenString, 1));
-    assert_eq!(rt; fault_of(rt.alloc(), b" \"ab\r\""), at(LexRule::OpenString, 1));
-    assert_eq!(rt; fault_of(rt.alloc(), b"\"a\"\"\n"), at(LexRule::OpenString, 3));
-    assert_eq!(rt; fault_of(rt.alloc(), b"\"\\41\\7F\""), at(LexRule::BadEscape, 4));
+    assert_eq!(rt;
+        fault_of(rt.alloc(), b" \"ab\r\""),
+        at(LexRule::OpenString, 1)
+    );
+    assert_eq!(rt;
+        fault_of(rt.alloc(), b"\"a\"\"\n"),
+        at(LexRule::OpenString, 3)
+    );
+    assert_eq!(rt;
+        fault_of(rt.alloc(), b"\"\\41\\7F\""),
+        at(LexRule::BadEscape, 4)
+    );
     assert_eq!(rt; fault_of(rt.alloc(), b"\"\\x\n"), at(LexRule::BadEscape, 1));
-    assert_eq!(rt; fault_of(rt.alloc(), b"\"\x7F\\x\n"), at(LexRule::BadByte, 1));
+    assert_eq!(rt;
+        fault_of(rt.alloc(), b"\"\x7F\\x\n"),
+        at(LexRule::BadByte, 1)
+    );
     assert_eq!(rt; count_of(rt.alloc(), b"\"\\41\\\\\\7e\""), 1);
 }
 
 #[test]
 fn strings_of_eighty_and_one_more(rt: HostRuntime) {
-    assert_eq!(rt; count_of(rt.alloc(), b"\"aaaaaaaaaaaaaaaaaaaaaaaaaaaaaaaaaaaaaaaaaaaaaaaaaaaaaaaaaaaaaaaaaaaaaaaaaaaaaaaa\""), 1);
-    assert_eq!(rt; fault_of(rt.alloc(), b" \"aaaaaaaaaaaaaaaaaaaaaaaaaaaaaaaaaaaaaaaaaaaaaaaaaaaaaaaaaaaaaaaaaaaaaaaaaaaaaaaaa\""), at(LexRule::LongString, 1));
-    assert_eq!(rt; fault_of(rt.alloc(), b" \"aaaaaaaaaaaaaaaaaaaaaaaaaaaaaaaaaaaaaaaaaaaaaaaaaaaaaaaaaaaaaaaaaaaaaaaaaaaaaaaaa\n"), at(LexRule::LongString, 1));
-    assert_eq!(rt; fault_of(rt.alloc(), b" \"aaaaaaaaaaaaaaaaaaaaaaaaaaaaaaaaaaaaaaaaaaaaaaaaaaaaaaaaaaaaaaaaaaaaaaaaaaaaaaaa\n"), at(LexRule::OpenString, 1));
-    assert_eq!(rt; fault_of(rt.alloc(), b" \"aaaaaaaaaaaaaaaaaaaaaaaaaaaaaaaaaaaaaaaaaaaaaaaaaaaaaaaaaaaaaaaaaaaaaaaaaaaaaaaa\\x\""), at(LexRule::BadEscape, 82));
+    assert_eq!(rt;
+        count_of(
+            rt.alloc(),
+            b"\"aaaaaaaaaaaaaaaaaaaaaaaaaaaaaaaaaaaaaaaaaaaaaaaaaaaaaaaaaaaaaaaaaaaaaaaaaaaaaaaa\""
+        ),
+        1
+    );
+    assert_eq!(rt;
+        fault_of(
+            rt.alloc(),
+            b" \"aaaaaaaaaaaaaaaaaaaaaaaaaaaaaaaaaaaaaaaaaaaaaaaaaaaaaaaaaaaaaaaaaaaaaaaaaaaaaaaaa\""
+        ),
+        at(LexRule::LongString, 1)
+    );
+    assert_eq!(rt;
+        fault_of(
+            rt.alloc(),
+            b" \"aaaaaaaaaaaaaaaaaaaaaaaaaaaaaaaaaaaaaaaaaaaaaaaaaaaaaaaaaaaaaaaaaaaaaaaaaaaaaaaaa\n"
+        ),
+        at(LexRule::LongString, 1)
+    );
+    assert_eq!(rt;
+        fault_of(
+            rt.alloc(),
+            b" \"aaaaaaaaaaaaaaaaaaaaaaaaaaaaaaaaaaaaaaaaaaaaaaaaaaaaaaaaaaaaaaaaaaaaaaaaaaaaaaaa\n"
+        ),
+        at(LexRule::OpenString, 1)
+    );
+    assert_eq!(rt;
+        fault_of(
+            rt.alloc(),
+            b" \"aaaaaaaaaaaaaaaaaaaaaaaaaaaaaaaaaaaaaaaaaaaaaaaaaaaaaaaaaaaaaaaaaaaaaaaaaaaaaaaa\\x\""
+        ),
+        at(LexRule::BadEscape, 82)
+    );
 }
 
 #[test]
 fn long_names_and_literals(rt: HostRuntime) {
-    assert_eq!(rt; count_of(rt.alloc(), b"abcdefghijklmnopqrstuvwxyz_12345"), 1);
-    assert_eq!(rt; fault_of(rt.alloc(), b" abcdefghijklmnopqrstuvwxyz_123456"), at(LexRule::LongName, 1));
+    assert_eq!(rt;
+        count_of(rt.alloc(), b"abcdefghijklmnopqrstuvwxyz_12345"),
+        1
+    );
+    assert_eq!(rt;
+        fault_of(rt.alloc(), b" abcdefghijklmnopqrstuvwxyz_123456"),
+        at(LexRule::LongName, 1)
+    );
     assert_eq!(rt; fault_of(rt.alloc(), b"  1e10"), at(LexRule::BadLiteral, 2));
-    assert_eq!(rt; fault_of(rt.alloc(), b"1.000000000000000000000000000000"), at(LexRule::BadLiteral, 0));
+    assert_eq!(rt;
+        fault_of(rt.alloc(), b"1.000000000000000000000000000000"),
+        at(LexRule::BadLiteral, 0)
+    );
 }
 
 #[test]
 fn gaps_and_headers(rt: HostRuntime) {
     assert_eq!(rt; count_of(rt.alloc(), b"! \xFF\x00\na ! b"), 1);
     assert_eq!(rt; count_of(rt.alloc(), b"\xEF\xBB\xBF \n%%%\xFF%%\n%%%a"), 1);
-    assert_eq!(rt; fault_of(rt.alloc(), b"\n%%% 1"), at(LexRule::OpenHeader, 1));
-    assert_eq!(rt; fault_of(rt.alloc(), b"!a\n%%%%%%"), at(LexRule::BadByte, 3));
+    assert_eq!(rt;
+        fault_of(rt.alloc(), b"\n%%% 1"),
+        at(LexRule::OpenHeader, 1)
+    );
+    assert_eq!(rt;
+        fault_of(rt.alloc(), b"!a\n%%%%%%"),
+        at(LexRule::BadByte, 3)
+    );
 }
 
 #[test]
@@ -107,8 +167,24 @@ fn faults_stay(rt: HostRuntime) {
     let _name = lexer.next_token();
     let first = lexer.next_token();
     let second = lexer.next_token();
-    assert!(rt; matches!(&first, Some(Err(LexFault { rule: LexRule::BadByte, at: 1 }))));
-    assert!(rt; matches!(&second, Some(Err(LexFault { rule: LexRule::BadByte, at: 1 }))));
+    assert!(rt;
+        matches!(
+            &first,
+            Some(Err(LexFault {
+                rule: LexRule::BadByte,
+                at: 1
+            }))
+        )
+    );
+    assert!(rt;
+        matches!(
+            &second,
+            Some(Err(LexFault {
+                rule: LexRule::BadByte,
+                at: 1
+            }))
+        )
+    );
 }
 
 #[test]

@@ -1,5 +1,4 @@
-ghost use Rattle.std.specs.Prelude.{◌≡◌, ◌≤ℤ◌, IsTrue, pos};
-ghost use Rattle.joint_planner.specs.Setpoints.{setpoint_count};
+ghost use Rattle.std.specs.Prelude.{◌≡◌, IsTrue, pos};
 ghost use Rattle.rapid_meaning.specs.Statements.{cap_of};
 ghost use Rattle.rapid_num.specs.Reach.{is_reachable};
 ghost use Rattle.task_machine.specs.Stages.{target_of, count_of};

@@ -1,5 +1,4 @@
-use Rattle.std.proofs.Common.{◌≡◌, List, length, map, Option, None, sym, ◌∙◌, ap, arith}
-use Rattle.rapid_num.specs.declared.joints.Joints.{Joints}
+use Rattle.std.proofs.Common.{◌≡◌, List, length, map, Option, None, ◌∙◌, ap, arith}
 use Rattle.rapid_model.specs.declared.fate.Fate.{Fate}
 use Rattle.rapid_model.specs.declared.task_row.TaskRow.{TaskRow}
 use Rattle.cell_core.proofs.Starting.{Keeps-none}

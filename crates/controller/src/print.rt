@@ -1,0 +1,73 @@
+ghost use Rattle.std.specs.Prelude.{◌≡◌, ◌<◌, length, slice_get, Some};
+ghost use Rattle.std.specs.List.{flat_map};
+ghost use Rattle.rapid_model.specs.declared.event.Event.{Event};
+ghost use Rattle.rapid_model.specs.declared.task_row.TaskRow.{TaskRow};
+ghost use Rattle.rapid_meaning.specs.Histories.{fate_after, fates_after};
+ghost use Rattle.history_text.specs.Lines.{line_of, fate_line, fate_lines, output_of};
+ghost use Rattle.controller.specs.Printed.{Writes};
+
+use crate::write::write_all;
+use arrayvec::ArrayString;
+use cell_core::Core;
+use history_text::{write_event, write_fate};
+use outside::{Failed, Sink};
+
+/// Prints the lines of the history, and then how each task stands. Takes no memory.
+pub(crate) fn print_run<O: Sink>(out: &mut O, core: &Core) -> Result<(), Failed>
+    ensures { Writes (output_of core.now.cell core.now.history (fates_after core.now.cell core.now.history (length core.now.cell.tasks))) result (O.told out.old) (O.told out.new) (O.faults out.old) (O.faults out.new) }
+{
+    match print_events(out, core) {
+        Ok(()) => print_fates(out, core),
+        Err(failed) => Err(failed),
+    }
+}
+
+/// Prints the lines of the events in order.
+fn print_events<O: Sink>(out: &mut O, core: &Core) -> Result<(), Failed>
+    ensures { Writes (flat_map (line_of core.now.cell.tasks) core.now.history) result (O.told out.old) (O.told out.new) (O.faults out.old) (O.faults out.new) }
+{
+    for k in 0..core.len() {
+        match print_event(out, core, k) {
+            Ok(()) => {}
+            Err(failed) => return Err(failed),
+        }
+    }
+    Ok(())
+}
+
+/// Prints the line of event `k`, if it has one.
+fn print_event<O: Sink>(out: &mut O, core: &Core, k: u32) -> Result<(), Failed>
+    requires { k < length core.now.history }
+    ensures { (e : Event) → slice_get core.now.history k ≡ Some e → Writes (line_of core.now.cell.tasks e) result (O.told out.old) (O.told out.new) (O.faults out.old) (O.faults out.new) }
+{
+    let event = core.event(k);
+    let mut line = ArrayString::new();
+    write_event(core.cell().tasks().as_slice(), &event, &mut line);
+    write_all(out, line.as_str().as_bytes())
+}
+
+/// Prints how each task stands, in script order.
+fn print_fates<O: Sink>(out: &mut O, core: &Core) -> Result<(), Failed>
+    ensures { Writes (fate_lines core.now.cell.tasks (fates_after core.now.cell core.now.history (length core.now.cell.tasks))) result (O.told out.old) (O.told out.new) (O.faults out.old) (O.faults out.new) }
+{
+    let tasks = core.cell().tasks().len();
+    for task in 0..tasks {
+        match print_fate(out, core, task) {
+            Ok(()) => {}
+            Err(failed) => return Err(failed),
+        }
+    }
+    Ok(())
+}
+
+/// Prints how a task stands.
+fn print_fate<O: Sink>(out: &mut O, core: &Core, task: usize) -> Result<(), Failed>
+    requires { task < length core.now.cell.tasks }
+    ensures { (row : TaskRow) → slice_get core.now.cell.tasks task ≡ Some row → Writes (fate_line row.name (fate_after core.now.cell core.now.history task)) result (O.told out.old) (O.told out.new) (O.faults out.old) (O.faults out.new) }
+{
+    let rows = core.cell().tasks().as_slice();
+    let fate = core.fate(task as u32);
+    let mut line = ArrayString::new();
+    write_fate(&rows[task].name, &fate, &mut line);
+    write_all(out, line.as_str().as_bytes())
+}
