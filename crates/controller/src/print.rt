@@ -1,8 +1,7 @@
-ghost use Rattle.std.specs.Prelude.{◌≡◌, ◌<◌, length, slice_get, Some};
+ghost use Rattle.std.specs.Prelude.{◌≡◌, ◌<◌, ◌≤◌, length, slice_get, Some};
 ghost use Rattle.std.specs.List.{flat_map};
 ghost use Rattle.rapid_model.specs.declared.event.Event.{Event};
-ghost use Rattle.rapid_model.specs.declared.task_row.TaskRow.{TaskRow};
-ghost use Rattle.rapid_meaning.specs.Histories.{fate_after, fates_after};
+ghost use Rattle.rapid_meaning.specs.Histories.{fates_after};
 ghost use Rattle.history_text.specs.Lines.{line_of, fate_line, fate_lines, output_of};
 ghost use Rattle.controller.specs.Printed.{Writes};
 
@@ -11,6 +10,7 @@ use arrayvec::ArrayString;
 use cell_core::Core;
 use history_text::{write_event, write_fate};
 use outside::{Failed, Sink};
+use rapid_model::{Fate, NameText, TaskRow};
 
 /// Prints the lines of the history, and then how each task stands. Takes no memory.
 pub(crate) fn print_run<O: Sink>(out: &mut O, core: &Core) -> Result<(), Failed>
@@ -42,17 +42,28 @@ fn print_event<O: Sink>(out: &mut O, core: &Core, k: u32) -> Result<(), Failed>
 {
     let event = core.event(k);
     let mut line = ArrayString::new();
-    write_event(core.cell().tasks().as_slice(), &event, &mut line);
+    write_event(rows_of(core), &event, &mut line);
     write_all(out, line.as_str().as_bytes())
+}
+
+/// The tasks of a core's cell, of which there are few.
+pub(crate) fn rows_of(core: &Core) -> &[TaskRow]
+    ensures rows { result.now ≡ core.now.cell.tasks }
+    ensures few { length result.now ≤ 8 }
+{
+    let cell = core.cell();
+    let _steps = cell.steps();
+    cell.tasks().as_slice()
 }
 
 /// Prints how each task stands, in script order.
 fn print_fates<O: Sink>(out: &mut O, core: &Core) -> Result<(), Failed>
     ensures { Writes (fate_lines core.now.cell.tasks (fates_after core.now.cell core.now.history (length core.now.cell.tasks))) result (O.told out.old) (O.told out.new) (O.faults out.old) (O.faults out.new) }
 {
-    let tasks = core.cell().tasks().len();
-    for task in 0..tasks {
-        match print_fate(out, core, task) {
+    let rows = rows_of(core);
+    for (task, row) in rows.iter().enumerate() {
+        let fate = core.fate(task as u32);
+        match print_fate(out, &row.name, &fate) {
             Ok(()) => {}
             Err(failed) => return Err(failed),
         }
@@ -61,13 +72,10 @@ fn print_fates<O: Sink>(out: &mut O, core: &Core) -> Result<(), Failed>
 }
 
 /// Prints how a task stands.
-fn print_fate<O: Sink>(out: &mut O, core: &Core, task: usize) -> Result<(), Failed>
-    requires { task < length core.now.cell.tasks }
-    ensures { (row : TaskRow) → slice_get core.now.cell.tasks task ≡ Some row → Writes (fate_line row.name (fate_after core.now.cell core.now.history task)) result (O.told out.old) (O.told out.new) (O.faults out.old) (O.faults out.new) }
+fn print_fate<O: Sink>(out: &mut O, name: &NameText, fate: &Fate) -> Result<(), Failed>
+    ensures { Writes (fate_line name.now fate.now) result (O.told out.old) (O.told out.new) (O.faults out.old) (O.faults out.new) }
 {
-    let rows = core.cell().tasks().as_slice();
-    let fate = core.fate(task as u32);
     let mut line = ArrayString::new();
-    write_fate(&rows[task].name, &fate, &mut line);
+    write_fate(name, fate, &mut line);
     write_all(out, line.as_str().as_bytes())
 }

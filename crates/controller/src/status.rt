@@ -3,6 +3,7 @@ ghost use Rattle.std.specs.List.{list_any};
 ghost use Rattle.rapid_meaning.specs.Histories.{fates_after};
 ghost use Rattle.controller.specs.Runs.{is_fault, run_status};
 
+use crate::print::rows_of;
 use cell_core::Core;
 use rapid_model::Fate;
 
@@ -23,7 +24,7 @@ pub(crate) fn status_of_run(core: &Core) -> u8
 fn has_fault(core: &Core) -> bool
     ensures { result ≡ list_any is_fault (fates_after core.now.cell core.now.history (length core.now.cell.tasks)) }
 {
-    let tasks = core.cell().tasks().len();
+    let tasks = rows_of(core).len();
     let mut found = false;
     for task in 0..tasks {
         found = found || is_faulty(core.fate(task as u32));

@@ -3,6 +3,7 @@ use Rattle.std.proofs.Common.{◌≡◌, refl, List, [], ◌∷◌, None}
 use Rattle.std.specs.Prelude.{codes, pos}
 use Rattle.std.specs.Fmt.{digits}
 use Rattle.rapid_num.specs.declared.joints.Joints.{Joints}
+use Rattle.rapid_model.specs.CellData.{CellData}
 use Rattle.rapid_model.specs.declared.answer.Answer.TheVariants as answers
 use Rattle.rapid_model.specs.declared.event.Event.{Event}
 use Rattle.rapid_model.specs.declared.fate.Fate.TheVariants as fates
@@ -11,7 +12,7 @@ use Rattle.rapid_model.specs.declared.request.Request.{Request}
 use Rattle.rapid_model.specs.declared.request.Request.TheVariants.{Look, Position, Setpoint}
 use Rattle.rapid_model.specs.declared.answer.Answer.{Answer}
 use Rattle.rapid_model.specs.declared.task_row.TaskRow.{TaskRow}
-use Rattle.history_text.specs.Lines.{line_of, fate_line}
+use Rattle.history_text.specs.Lines.{line_of, fate_line, output_of}
 
 -- axis 1 is at 0.833 degrees, and the others at 0
 turned : Joints
@@ -46,3 +47,11 @@ held = refl
 
 fault : fate_line (codes "A") (fates.Fault JointRange) ≡ codes "E A Fault JointRange\n"
 fault = refl
+
+cell : CellData
+cell = record { steps = 10; tasks = tasks }
+
+-- the lines of the events, and then that of the task
+output : output_of cell (asked Look (answers.Go 3) ∷ asked (Setpoint turned) answers.Given ∷ []) (fates.Done ∷ []) ≡ codes "S A 0.833 0.000 0.000 0.000 0.000 0.000\nE A Done\n"
+unfolding digits turned tasks asked cell
+output = refl

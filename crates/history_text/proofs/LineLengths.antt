@@ -22,7 +22,7 @@ length-sign_text : (z : ℤ) → length (sign_text z) ≤ 1
 length-sign_text (pos n) = omega arith
 length-sign_text (negsuc n) = omega arith
 
-pub length-fixed_text : (z : ℤ) → IsNum z → length (fixed_text z) ≤ 15
+length-fixed_text : (z : ℤ) → IsNum z → length (fixed_text z) ≤ 15
 length-fixed_text z h =
     let sign = length-sign_text z in
     let size = h.size in
@@ -31,7 +31,7 @@ length-fixed_text z h =
     let rest = length-append (decimal (nat_abs z / 1000)) (46 ∷ three_digits (nat_abs z % 1000)) in
     omega arith
 
-pub length-number_words : (zs : List ℤ) → AllByRecursion IsNum zs → length (number_words zs) ≤ 16 * length zs
+length-number_words : (zs : List ℤ) → AllByRecursion IsNum zs → length (number_words zs) ≤ 16 * length zs
 length-number_words [] h = omega arith
 length-number_words (z ∷ zs) h =
     let one = length-fixed_text z h.0 in
@@ -43,13 +43,13 @@ length-number_words (z ∷ zs) h =
 pub record HasShortName (row : TaskRow) : Type 0 where
   pub short : length row.name ≤ 32
 
-pub length-task_name : (tasks : List TaskRow) (actor : ℕ) → AllByRecursion HasShortName tasks → length (task_name tasks actor) ≤ 32
+length-task_name : (tasks : List TaskRow) (actor : ℕ) → AllByRecursion HasShortName tasks → length (task_name tasks actor) ≤ 32
 length-task_name [] actor h = omega arith
 length-task_name (row ∷ rows) zero h = h.0.short
 length-task_name (row ∷ rows) (suc i) h = length-task_name rows i h.1
 
 -- S and the name take 34 bytes, the axes 96, and the end of the line 1
-pub length-setpoint_line : (name : List ℕ) (to : Joints) → length name ≤ 32 → AllByRecursion IsNum (take 6 to.axis) → length (setpoint_line name to) ≤ 200
+length-setpoint_line : (name : List ℕ) (to : Joints) → length name ≤ 32 → AllByRecursion IsNum (take 6 to.axis) → length (setpoint_line name to) ≤ 200
 length-setpoint_line name to short nums =
     let axes = length-number_words (take 6 to.axis) nums in
     let six = length-take 6 to.axis in

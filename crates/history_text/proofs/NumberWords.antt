@@ -5,7 +5,7 @@ use Rattle.std.specs.Prelude.{ℤ}
 use Rattle.rapid_num.specs.NumText.{fixed_text}
 use Rattle.history_text.specs.Lines.{number_words}
 
-pub number_words-append : (xs ys : List ℤ) → number_words (xs ++ ys) ≡ number_words xs ++ number_words ys
+number_words-append : (xs ys : List ℤ) → number_words (xs ++ ys) ≡ number_words xs ++ number_words ys
 number_words-append [] ys = refl
 number_words-append (x ∷ xs) ys = ap (λ ws. (32 ∷ fixed_text x) ++ ws) (number_words-append xs ys) ∙ sym (append_assoc (32 ∷ fixed_text x) (number_words xs) (number_words ys))
 
