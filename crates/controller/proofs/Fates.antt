@@ -19,12 +19,13 @@ get_or-fates_after cell history zero k d lt = absurd (omega arith)
 get_or-fates_after cell history (suc n) k d lt =
     let long = length-fates_after cell history n in
     elim (cases_lt k n) [
-      inl below ↦ get_or-append (fates_after cell history n) (fate_after cell history n ∷ []) d k (omega (arith, long)) ∙ get_or-fates_after cell history n k d below
-    | inr above ↦
-        let same : k ≡ length (fates_after cell history n) = omega (arith, long) in
-        let is : n ≡ k = omega arith in
-        ap (λ (i : ℕ). get_or (fates_after cell history n ++ fate_after cell history n ∷ []) i d) same
-        ∙ get_or-append_seam (fates_after cell history n) (fate_after cell history n) [] d ∙ ap (fate_after cell history) is ]
+      | inl below ↦ get_or-append (fates_after cell history n) (fate_after cell history n ∷ []) d k (omega (arith, long)) ∙ get_or-fates_after cell history n k d below
+      | inr above ↦
+          let same : k ≡ length (fates_after cell history n) = omega (arith, long) in
+          let is : n ≡ k = omega arith in
+          ap (λ (i : ℕ). get_or (fates_after cell history n ++ fate_after cell history n ∷ []) i d) same
+          ∙ get_or-append_seam (fates_after cell history n) (fate_after cell history n) [] d ∙ ap (fate_after cell history) is
+    ]
 
 -- the fates from task k on
 pub drop-fates_after : (cell : CellData) (history : List Event) (n k : ℕ) (d : Fate) → k < n

@@ -4,3 +4,6 @@ pub mod Gains
 pub mod RefusalLines
 pub mod Fates
 pub mod Printing
+pub mod OneArm
+pub mod Exits
+pub mod Reports

@@ -38,7 +38,7 @@ printing_end all a b f g p = (subst (λ (xs : List ℕ). Gained xs a b) (sym (p.
 pub printing_fails : (all piece rest : List ℕ) (e : Failed) (a b c : Option (List ℕ)) (f g h : ℕ) → Printing all (piece ++ rest) a b f g → Writes piece (Err e) b c g h → Writes all (Err e) a c f h
 printing_fails all piece rest e a b c f g h p w =
     subst (λ (xs : List ℕ). Writes xs (Err e) a c f h) (sym p.split)
-      (writes_then p.front (piece ++ rest) (Err e) a b c f g h p.gained p.faults (writes_part piece rest e b c g h w.0 w.1 w.2))
+    (writes_then p.front (piece ++ rest) (Err e) a b c f g h p.gained p.faults (writes_part piece rest e b c g h w.0 w.1 w.2))
 
 -- the elements from k on
 pub drop-element : {A : Type 0} (xs : List A) (k : ℕ) (d : A) → k < length xs → drop k xs ≡ get_or xs k d ∷ drop (k + 1) xs
@@ -55,25 +55,27 @@ pub event_printed : (line : Event → List ℕ) (history : List Event) (k : ℕ)
     → ((e : Event) → slice_get history k ≡ Some e → Writes (line e) (Ok tt) b c g h) → Printing all (flat_map line (drop k history)) a b f g
     → Printing all (flat_map line (drop (k + 1) history)) a c f h
 event_printed line history k all a b c f g h lt w p = elim (slice_get_cases history k).1 [
-      inl x ↦ printing_more all (line x.0) (flat_map line (drop (k + 1) history)) a b c f g h
-        (subst (λ (rest : List ℕ). Printing all rest a b f g) (lines_split line history k x.0 lt x.2) p) (w x.0 x.2)
-    | inr past ↦ absurd (let m = past.0 in omega (arith, m)) ]
+  | inl x ↦ printing_more all (line x.0) (flat_map line (drop (k + 1) history)) a b c f g h
+      (subst (λ (rest : List ℕ). Printing all rest a b f g) (lines_split line history k x.0 lt x.2) p) (w x.0 x.2)
+  | inr past ↦ absurd (let m = past.0 in omega (arith, m))
+]
 
 pub event_failed : (line : Event → List ℕ) (history : List Event) (k : ℕ) (all : List ℕ) (e : Failed) (a b c : Option (List ℕ)) (f g h : ℕ) → k < length history
     → ((x : Event) → slice_get history k ≡ Some x → Writes (line x) (Err e) b c g h) → Printing all (flat_map line (drop k history)) a b f g
     → Writes all (Err e) a c f h
 event_failed line history k all e a b c f g h lt w p = elim (slice_get_cases history k).1 [
-      inl x ↦ printing_fails all (line x.0) (flat_map line (drop (k + 1) history)) e a b c f g h
-        (subst (λ (rest : List ℕ). Printing all rest a b f g) (lines_split line history k x.0 lt x.2) p) (w x.0 x.2)
-    | inr past ↦ absurd (let m = past.0 in omega (arith, m)) ]
+  | inl x ↦ printing_fails all (line x.0) (flat_map line (drop (k + 1) history)) e a b c f g h
+      (subst (λ (rest : List ℕ). Printing all rest a b f g) (lines_split line history k x.0 lt x.2) p) (w x.0 x.2)
+  | inr past ↦ absurd (let m = past.0 in omega (arith, m))
+]
 
 -- the lines of the tasks from k on are that of task k and those behind it
 pub fates_split : (cell : CellData) (history : List Event) (k : ℕ) (row : TaskRow) → k < length cell.tasks → row ≡ get_or cell.tasks k row
     → fate_lines (drop k cell.tasks) (drop k (fates_after cell history (length cell.tasks)))
-      ≡ fate_line row.name (fate_after cell history k) ++ fate_lines (drop (k + 1) cell.tasks) (drop (k + 1) (fates_after cell history (length cell.tasks)))
+    ≡ fate_line row.name (fate_after cell history k) ++ fate_lines (drop (k + 1) cell.tasks) (drop (k + 1) (fates_after cell history (length cell.tasks)))
 fates_split cell history k row lt is =
     ap (λ (rows : List TaskRow). fate_lines rows (drop k (fates_after cell history (length cell.tasks))))
-      (drop-element cell.tasks k row lt ∙ ap (λ (r : TaskRow). r ∷ drop (k + 1) cell.tasks) (sym is))
+    (drop-element cell.tasks k row lt ∙ ap (λ (r : TaskRow). r ∷ drop (k + 1) cell.tasks) (sym is))
     ∙ ap (fate_lines (row ∷ drop (k + 1) cell.tasks)) (drop-fates_after cell history (length cell.tasks) k (fate_after cell history k) lt)
 
 fate_respelled : (name : List ℕ) (fate other : Fate) (result : Result ⊤ Failed) (b c : Option (List ℕ)) (g h : ℕ) → fate ≡ other → Writes (fate_line name fate) result b c g h → Writes (fate_line name other) result b c g h
@@ -85,8 +87,8 @@ pub fate_printed : (cell : CellData) (history : List Event) (k : ℕ) (row : Tas
     → Printing all (fate_lines (drop (k + 1) cell.tasks) (drop (k + 1) (fates_after cell history (length cell.tasks)))) a c f h
 fate_printed cell history k row fate all a b c f g h lt is same w p =
     printing_more all (fate_line row.name (fate_after cell history k)) (fate_lines (drop (k + 1) cell.tasks) (drop (k + 1) (fates_after cell history (length cell.tasks)))) a b c f g h
-      (subst (λ (rest : List ℕ). Printing all rest a b f g) (fates_split cell history k row lt is) p)
-      (fate_respelled row.name fate (fate_after cell history k) (Ok tt) b c g h same w)
+    (subst (λ (rest : List ℕ). Printing all rest a b f g) (fates_split cell history k row lt is) p)
+    (fate_respelled row.name fate (fate_after cell history k) (Ok tt) b c g h same w)
 
 pub fate_failed : (cell : CellData) (history : List Event) (k : ℕ) (row : TaskRow) (fate : Fate) (all : List ℕ) (e : Failed) (a b c : Option (List ℕ)) (f g h : ℕ) → k < length cell.tasks
     → row ≡ get_or cell.tasks k row → fate ≡ fate_after cell history k → Writes (fate_line row.name fate) (Err e) b c g h
@@ -94,5 +96,5 @@ pub fate_failed : (cell : CellData) (history : List Event) (k : ℕ) (row : Task
     → Writes all (Err e) a c f h
 fate_failed cell history k row fate all e a b c f g h lt is same w p =
     printing_fails all (fate_line row.name (fate_after cell history k)) (fate_lines (drop (k + 1) cell.tasks) (drop (k + 1) (fates_after cell history (length cell.tasks)))) e a b c f g h
-      (subst (λ (rest : List ℕ). Printing all rest a b f g) (fates_split cell history k row lt is) p)
-      (fate_respelled row.name fate (fate_after cell history k) (Err e) b c g h same w)
+    (subst (λ (rest : List ℕ). Printing all rest a b f g) (fates_split cell history k row lt is) p)
+    (fate_respelled row.name fate (fate_after cell history k) (Err e) b c g h same w)

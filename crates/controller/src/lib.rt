@@ -1,15 +1,21 @@
 //! The controller: from command words and files to a run, its report and what is printed of it.
 #![tactic(auto)]
 
+mod action;
 mod file;
 mod load;
 mod print;
-mod refuse;
+mod refusal_report;
 mod refused;
 mod report;
+mod run;
+mod run_report;
+mod script_module;
 mod status;
+mod telling;
 mod words;
 mod write;
 
+pub use action::quiet;
 pub use refused::{ModuleRule, Place, Refused};
 pub use report::Report;

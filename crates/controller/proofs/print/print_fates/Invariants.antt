@@ -8,4 +8,4 @@ abbrev pub invariant-loop-task : goal.invariant-loop-task
 invariant-loop-task g l =
     let fates = fates_after l.core.cell l.core.history (length l.core.cell.tasks) in
     Printing (fate_lines l.core.cell.tasks fates) (fate_lines (drop l.task l.core.cell.tasks) (drop l.task fates))
-      (g.O.Sink.told l.initial.out) (g.O.Sink.told l.out) (g.O.Sink.faults l.initial.out) (g.O.Sink.faults l.out)
+    (g.O.Sink.told l.initial.out) (g.O.Sink.told l.out) (g.O.Sink.faults l.initial.out) (g.O.Sink.faults l.out)

@@ -38,4 +38,5 @@ returns-in-Err g c = (
     gained = c.in-Err.ensures.told_after ∙ sym (gained_none _) ∙ c.loop-at.invariant.gained;
   },
   Rose-since _ _ _ c.loop-at.invariant.faults c.in-Err.ensures.faults_never_fall c.in-Err.ensures.failed_only_where_faults_rose,
-  (let h = c.in-Err.ensures.faults_never_fall in omega (arith, h)))
+  (let h = c.in-Err.ensures.faults_never_fall in omega (arith, h)),
+)

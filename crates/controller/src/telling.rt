@@ -28,12 +28,22 @@ fn write_refusal<E: Sink>(err: &mut E, name: &str, refused: &Refused) -> Result<
             write_three(err, b"rapid_cell: words ", text.as_bytes(), b"\n")
         }
         Refused::Script { key, rule } => {
-            write_three(err, b"rapid_cell: script ", shown(key.bytes()), script_rule(*rule))
+            write_three(
+                err,
+                b"rapid_cell: script ",
+                shown(key.bytes()),
+                script_rule(*rule),
+            )
         }
         Refused::Module { place, rule, .. } => {
             let mut tail = ArrayString::new();
             push_fault(place, *rule, &mut tail);
-            write_three(err, b"rapid_cell: module ", name.as_bytes(), tail.as_str().as_bytes())
+            write_three(
+                err,
+                b"rapid_cell: module ",
+                name.as_bytes(),
+                tail.as_str().as_bytes(),
+            )
         }
         Refused::Read { .. } => write_three(err, b"rapid_cell: read ", name.as_bytes(), b"\n"),
         Refused::Write => write_three(err, b"rapid_cell: write", b"", b"\n"),
@@ -89,12 +99,7 @@ fn push_number(number: u32, line: &mut ArrayString<128>)
 }
 
 /// Writes three pieces in order.
-fn write_three<E: Sink>(
-    err: &mut E,
-    head: &[u8],
-    middle: &[u8],
-    tail: &[u8],
-) -> Result<(), Failed>
+fn write_three<E: Sink>(err: &mut E, head: &[u8], middle: &[u8], tail: &[u8]) -> Result<(), Failed>
     ensures { Writes (head.now ++ (middle.now ++ tail.now)) result (E.told err.old) (E.told err.new) (E.faults err.old) (E.faults err.new) }
 {
     match write_all(err, head) {
