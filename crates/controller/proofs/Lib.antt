@@ -1,2 +1,9 @@
-pub mod Loads
 pub mod Options
+pub mod Loads
+pub mod Gains
+pub mod RefusalLines
+pub mod Fates
+pub mod Printing
+pub mod OneArm
+pub mod Exits
+pub mod Reports

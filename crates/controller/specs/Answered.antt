@@ -1,6 +1,7 @@
 -- What a report answers to a verdict.
 use Rattle.std.specs.Prelude.{◌≡◌, ℕ, ◌⊎◌, List, [], map, Option, Some, None, IfSome}
 use Rattle.std.specs.Borrow.{Bor}
+use Rattle.outside.specs.Count.{Rose}
 use Rattle.outside.specs.Told.{Told}
 use Rattle.rapid_model.specs.CellData.{CellData}
 use Rattle.rapid_model.specs.declared.tree.Tree.{Tree}
@@ -52,6 +53,11 @@ pub record IsCutShort (names : List (List ℕ)) (cell : CellData) (trees : List 
   pub printed : GainedPart (output_of cell report.history.items report.fates.items) out.old out.new
   pub told : TakesLine (refusal_line names Write) err
 
+-- what a run is answered by; a write fails only where the first sink counted a fault
+abbrev pub AnswersRun : CellData → List Tree → Report → Sunk → Sunk → Type 0
+AnswersRun cell trees report out err =
+    IsPrinted cell trees report out err ⊎ (IsCutShort [] cell trees report out err × Rose out.old_faults out.new_faults)
+
 -- what a verdict is answered by
 abbrev pub Answers : Verdict → Report → Sunk → Sunk → Type 0
 Answers (refuses names refused) report out err = IsRefused names refused report out err
@@ -60,6 +66,10 @@ Answers (runs names cell trees) report out err = IsPrinted cell trees report out
 -- want of memory: before the first event, with nothing printed
 abbrev pub IsOutOfMemory : Report → Sunk → Sunk → Type 0
 IsOutOfMemory report out err = IsRefused [] Memory report out err
+
+-- a run, want of memory aside
+abbrev pub RunsOrMemory : CellData → List Tree → Report → Sunk → Sunk → Type 0
+RunsOrMemory cell trees report out err = IsOutOfMemory report out err ⊎ AnswersRun cell trees report out err
 
 -- The report answers what the words and the files come to, where the shelf tells its files; else it answers as for some
 -- files. Want of memory aside.

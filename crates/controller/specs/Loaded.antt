@@ -30,3 +30,7 @@ IsScriptIn read (Err refused) =
 abbrev pub IsModuleIn : ℕ → Result (List ℕ) Refused → Result Tree Refused → Type 0
 IsModuleIn file read (Ok tree) = ModuleIn file read (Ok tree)
 IsModuleIn file read (Err refused) = (refused ≡ Memory) ⊎ ModuleIn file read (Err refused)
+
+-- some text spells the script
+abbrev pub IsSpelled : ScriptData → Type 0
+IsSpelled script = (text : List ℕ) × ScriptOf text (Ok script)

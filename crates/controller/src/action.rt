@@ -3,8 +3,13 @@ ghost use Rattle.outside.specs.Count.{Rose};
 ghost use Rattle.controller.specs.Words.{refused_place};
 ghost use Rattle.controller.specs.Answered.{AnswersWords, sunk, word_bytes};
 
+use crate::load::{load_module, load_script};
+use crate::refusal_report::refuse;
 use crate::refused::Refused;
 use crate::report::Report;
+use crate::run_report::run_tree;
+use crate::script_module::module_name;
+use crate::words::script_word;
 use outside::{Shelf, Sink};
 use std::alloc::Global;
 
@@ -25,10 +30,17 @@ pub fn quiet<S: Shelf, O: Sink, E: Sink>(
     ensures read { (file : ℕ) → result.refused ≡ Some (Refused.Read file) → Rose (S.faults shelf.old) (S.faults shelf.new) }
     ensures write { result.refused ≡ Some Refused.Write → Rose (O.faults out.old) (O.faults out.new) }
 {
-    Report {
-        status: 7,
-        history: Vec::new(alloc),
-        fates: Vec::new(alloc),
-        refused: Some(Refused::Memory),
+    match script_word(words) {
+        Err(place) => refuse(alloc, err, "", Refused::Words { place }),
+        Ok(name) => match load_script(alloc, shelf, name) {
+            Err(refused) => refuse(alloc, err, name, refused),
+            Ok(script) => {
+                let file = module_name(&script);
+                match load_module(alloc, shelf, 1, file) {
+                    Err(refused) => refuse(alloc, err, file, refused),
+                    Ok(tree) => run_tree(alloc, &script, tree, out, err),
+                }
+            }
+        },
     }
 }

@@ -5,11 +5,14 @@ mod action;
 mod file;
 mod load;
 mod print;
-mod refuse;
+mod refusal_report;
 mod refused;
 mod report;
 mod run;
+mod run_report;
+mod script_module;
 mod status;
+mod telling;
 mod words;
 mod write;
 

@@ -1,7 +1,7 @@
 ghost use Rattle.std.specs.Prelude.{◌≡◌, ◌≤◌, Ok, Err, IfOk, IfErr, IfSome, option_map, ◌⊎◌};
 ghost use Rattle.outside.specs.Told.{found, after_reads};
 ghost use Rattle.controller.specs.Files.{text_of};
-ghost use Rattle.controller.specs.Loaded.{ScriptFaulted, ModuleFaulted, IsScriptIn, IsModuleIn};
+ghost use Rattle.controller.specs.Loaded.{ScriptFaulted, ModuleFaulted, IsScriptIn, IsModuleIn, IsSpelled};
 ghost use Rattle.controller.specs.Accepted.{script_limit, module_limit};
 
 use crate::file::read_file;
@@ -27,6 +27,7 @@ pub(crate) fn load_script<S: Shelf>(
     ensures faults { S.faults shelf.old ≤ S.faults shelf.new }
     ensures told_after { S.told shelf.new ≡ option_map (after_reads 1) (S.told shelf.old) }
     ensures causes { IfErr result (ScriptFaulted (S.faults shelf.old) (S.faults shelf.new)) }
+    ensures spelled { IfOk result IsSpelled }
     ensures script { IfSome (S.told shelf.old) (λ told. IsScriptIn (text_of 0 script_limit (found told name.now)) result) }
 {
     let text = read_file(alloc, shelf, 0, SCRIPT_LIMIT, name)?;

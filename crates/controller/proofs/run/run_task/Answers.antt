@@ -1,0 +1,8 @@
+use Rattle.std.proofs.Common.{ap}
+use Rattle.cell_core.specs.CoreData.{CoreData}
+use Rattle.controller.proofs.OneArm.{crew_of_one}
+use Rattle.controller.proofs.run.run_task.Goals as goal
+
+pub run_round-requires-clause-crew : goal.run_round-requires-clause-crew
+run_round-requires-clause-crew c =
+    crew_of_one c.args.cell _ _ c.args.tree c.requires c.in-Ok.ensures (ap (λ (x : CoreData). x.cell) c.in-Ok-new.ensures.ok)

@@ -1,0 +1,16 @@
+use Rattle.std.proofs.Common.{refl}
+use Rattle.controller.proofs.Gains.{gained_none}
+use Rattle.controller.proofs.Reports.{run_printed, run_cut_short}
+use Rattle.controller.proofs.run_report.report_run.Goals as goal
+
+pub returns-in-Ok : goal.returns-in-Ok
+returns-in-Ok g c = λ trees one run.
+    run_printed c.args.core.cell trees c.args.core.history _ _ _ one run
+    (record { history_is = c.into_report-history.ensures.history; fates_is = c.into_report-history.ensures.fates }) refl c.status_of_run-status.ensures
+    c.in-Ok.ensures.0 (gained_none _)
+
+pub returns-in-Err : goal.returns-in-Err
+returns-in-Err g c = λ trees one run.
+    run_cut_short c.args.core.cell trees c.args.core.history _ _ _ one run
+    (record { history_is = c.into_report-history-in-Err.ensures.history; fates_is = c.into_report-history-in-Err.ensures.fates }) refl refl
+    c.in-Err.ensures.0 c.in-Err.ensures.1 c.tell_refusal.ensures.told

@@ -1,0 +1,68 @@
+ghost use Rattle.std.specs.Prelude.{◌≡◌, List, [], ◌∷◌, length};
+ghost use Rattle.rapid_model.specs.ScriptData.{cell_of};
+ghost use Rattle.rapid_model.specs.declared.tree.Tree.{Tree};
+ghost use Rattle.rapid_meaning.specs.Runs.{tree_asks};
+ghost use Rattle.rapid_meaning.specs.Turns.{IsByTurns};
+ghost use Rattle.controller.specs.Runs.{IsOneArm};
+ghost use Rattle.controller.specs.Answered.{sunk, RunsOrMemory, AnswersRun};
+
+use crate::print::print_run;
+use crate::refusal_report::refuse;
+use crate::refused::Refused;
+use crate::report::Report;
+use crate::run::run_task;
+use crate::status::status_of_run;
+use crate::telling::tell_refusal;
+use cell_core::Core;
+use cell_script::make_cell;
+use outside::Sink;
+use rapid_model::{Script, Tree};
+use std::alloc::Global;
+
+/// Runs the task of a script whose module has this tree, and reports it.
+pub(crate) fn run_tree<O: Sink, E: Sink>(
+    alloc: Global,
+    script: &Script,
+    tree: Tree,
+    out: &mut O,
+    err: &mut E,
+) -> Report
+    requires { IsOneArm (cell_of script.now) }
+    ensures { RunsOrMemory (cell_of script.now) (tree ∷ []) result (sunk (O.told out.old) (O.told out.new) (O.faults out.old) (O.faults out.new)) (sunk (E.told err.old) (E.told err.new) (E.faults err.old) (E.faults err.new)) }
+{
+    match make_cell(alloc, script) {
+        Ok(cell) => match run_task(alloc, cell, tree) {
+            Ok(core) => report_run(core, out, err),
+            Err(_) => refuse(alloc, err, "", Refused::Memory),
+        },
+        Err(_) => refuse(alloc, err, "", Refused::Memory),
+    }
+}
+
+/// Prints a run and reports it.
+fn report_run<O: Sink, E: Sink>(core: Core, out: &mut O, err: &mut E) -> Report
+    ensures { (trees : List Tree) → length trees ≡ length core.cell.tasks → IsByTurns (tree_asks trees) core.cell core.history → AnswersRun core.cell trees result (sunk (O.told out.old) (O.told out.new) (O.faults out.old) (O.faults out.new)) (sunk (E.told err.old) (E.told err.new) (E.faults err.old) (E.faults err.new)) }
+{
+    let status = status_of_run(&core);
+    match print_run(out, &core) {
+        Ok(()) => {
+            let (history, fates) = core.into_report();
+            Report {
+                status,
+                history,
+                fates,
+                refused: None,
+            }
+        }
+        Err(_) => {
+            tell_refusal(err, "", &Refused::Write);
+            let (history, fates) = core.into_report();
+            Report {
+                status: 6,
+                history,
+                fates,
+                refused: Some(Refused::Write),
+            }
+        }
+    }
+}
