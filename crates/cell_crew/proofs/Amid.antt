@@ -1,10 +1,9 @@
 -- A machine amid a run: what an event of its own task makes of it.
-use Rattle.std.proofs.Common.{◌≡◌, ℕ, Bool, true, false, cond, List, [], ◌∷◌, ◌++◌, Option, Some, None, refl, ap, sym, ◌∙◌, subst, inl, inr}
-use Rattle.std.specs.Prelude.{IsTrue, IsSome, IsSomeAnd, is_some, is_none, filter}
+use Rattle.std.proofs.Common.{◌≡◌, Bool, true, false, cond, List, [], ◌∷◌, ◌++◌, Option, Some, None, refl, ap, sym, ◌∙◌, subst, inl, inr}
+use Rattle.std.specs.Prelude.{IsTrue, IsSomeAnd, is_some, is_none}
 use Rattle.std.proofs.lemmas.List.{append-nil}
 use Rattle.std.proofs.lemmas.List.Elements.{filter-append}
-use Rattle.rapid_model.specs.CellData.{CellData}
-use Rattle.rapid_model.specs.Requests.{fate_told, or_else, end_of, has_ended, fits_request, may_ask}
+use Rattle.rapid_model.specs.Requests.{fate_told, or_else, end_of, has_ended, fits_request}
 use Rattle.rapid_model.specs.declared.answer.Answer.{Answer}
 use Rattle.rapid_model.specs.declared.event.Event.{Event}
 use Rattle.rapid_model.specs.declared.fate.Fate.{Fate}
@@ -12,7 +11,7 @@ use Rattle.rapid_model.specs.declared.request.Request.{Request}
 use Rattle.rapid_model.specs.declared.request.Request.TheVariants.{Look, Position, Setpoint, End}
 use Rattle.rapid_model.specs.declared.tree.Tree.{Tree}
 use Rattle.rapid_meaning.specs.Runs.{asks, ended, asked_after}
-use Rattle.rapid_meaning.specs.Traces.{answers_in, IsTrace, SuitsTask}
+use Rattle.rapid_meaning.specs.Traces.{answers_in, IsTrace}
 use Rattle.rapid_meaning.proofs.Lists.{last_or_before}
 use Rattle.rapid_meaning.proofs.Suits.{end_is_last}
 use Rattle.rapid_meaning.proofs.MoreEvents.{end_of-more}
@@ -92,9 +91,6 @@ has_begun m request last due stands = record {
 pub asked_of : (m : MachineData) (mine : List Event) → UnderWay m mine → has_ended mine ≡ false → HasAsked m mine
 asked_of m mine way going = subst (λ (b : Bool). IsDue b m mine) going way.next
 
-pub ended_of : (m : MachineData) (mine : List Event) → UnderWay m mine → has_ended mine ≡ true → asked_after m.tree (answers_in mine) ≡ ended
-ended_of m mine way over = subst (λ (b : Bool). IsDue b m mine) over way.next
-
 same_request : (m : MachineData) (mine : List Event) (request : Request) → HasAsked m mine → request_of m ≡ Some request → asked_after m.tree (answers_in mine) ≡ asks request
 same_request m mine request asked last =
     let same : asked.request ≡ request = (let both : Some asked.request ≡ Some request = sym asked.last ∙ last in cc) in asked.due ∙ ap asks same
@@ -171,15 +167,3 @@ handed_on m later asked request answer asked_last no_end fits tree next due_next
       stands = subst (λ (es : List Event). StandsFor later (answers_in es)) (sym (before_end_all (mine ++ e ∷ []) going_on)) stands_all;
       next = subst (λ (b : Bool). IsDue b later (mine ++ e ∷ [])) (sym going_on) has;
     }
-
--- the machine of a task that has not ended has asked something
-pub has_last : (m : MachineData) (mine : List Event) → UnderWay m mine → has_ended mine ≡ false → IsSome (request_of m)
-has_last m mine way going = let has = asked_of m mine way going in subst (λ (o : Option Request). IsSome o) (sym has.last) refl
-
--- which its task may ask
-pub may_of : (m : MachineData) (mine : List Event) (cell : CellData) (task : ℕ) (request : Request) → UnderWay m mine → has_ended mine ≡ false → SuitsTask m.tree cell task → request_of m ≡ Some request
-    → IsTrue (may_ask cell task mine request)
-may_of m mine cell task request way going suits last = suits.may mine request way.trace (due_of m mine request way going last)
-
-pub fits_some : (m : MachineData) (request : Request) (answer : Answer) → request_of m ≡ Some request → IsTrue (fits_request request answer) → IsSomeAnd (request_of m) (λ r. IsTrue (fits_request r answer))
-fits_some m request answer last fit = subst (λ (o : Option Request). IsSomeAnd o (λ r. IsTrue (fits_request r answer))) (sym last) fit

@@ -1,5 +1,5 @@
 -- Machines in a row.
-use Rattle.std.proofs.Common.{◌≡◌, ℕ, zero, suc, ◌+◌, ◌<◌, ◌≤◌, List, [], ◌∷◌, ◌++◌, map, length, Option, Some, None, refl, ap, sym, ◌∙◌, subst, inl, inr, ◌⊎◌, arith}
+use Rattle.std.proofs.Common.{◌≡◌, ℕ, zero, suc, ◌+◌, ◌<◌, ◌≤◌, List, [], ◌∷◌, length, Some, refl, ap, sym, ◌∙◌, subst, inl, inr, ◌⊎◌, arith}
 use Rattle.std.specs.Prelude.{slice_get, slice_set}
 use Rattle.std.specs.List.{AllByRecursion}
 use Rattle.std.proofs.lemmas.Bool.{cases_lt}
@@ -9,10 +9,10 @@ use Rattle.rapid_model.specs.declared.event.Event.{Event}
 use Rattle.rapid_model.specs.declared.tree.Tree.{Tree}
 use Rattle.rapid_meaning.specs.Histories.{Asking}
 use Rattle.rapid_meaning.specs.Turns.{TakesTurn}
+use Rattle.rapid_meaning.proofs.MoreEvents.{part_of-other}
 use Rattle.task_machine.specs.MachineData.{MachineData}
 use Rattle.cell_crew.specs.Crew.{trees_of, IsFresh}
 use Rattle.cell_crew.specs.UnderWay.{UnderWay, AreUnderWay}
-use Rattle.cell_crew.proofs.Turning.{turn_others}
 
 -- an element after a write is the one written, or it was there
 get_set : {A : Type 0} (xs : List A) (k j : ℕ) (v x : A) → slice_get (slice_set xs k v) j ≡ Some x → ((k ≡ j) × (x ≡ v)) ⊎ ((k ≡ j → ⊥) × (slice_get xs j ≡ Some x))
@@ -40,6 +40,12 @@ tree_at (x ∷ xs) (suc k) m at = tree_at xs k m at
 pub length-trees : (machines : List MachineData) → length (trees_of machines) ≡ length machines
 length-trees [] = refl
 length-trees (x ∷ xs) = ap suc (length-trees xs)
+
+-- a turn leaves the events of the other tasks as they are
+turn_others : (asking : Asking) (cell : CellData) (task other : ℕ) (before after : List Event) → TakesTurn asking cell task before after → (task ≡ other → ⊥) → part_of other after ≡ part_of other before
+turn_others asking cell task other before after (inl s) apart =
+    ap (λ (h : List Event). part_of other h) s.added ∙ part_of-other other before s.event (λ own. apart (sym s.by ∙ own))
+turn_others asking cell task other before after (inr r) apart = ap (λ (h : List Event). part_of other h) r.same
 
 -- the machines after the turn of one
 pub under_way_turn : (asking : Asking) (cell : CellData) (machines : List MachineData) (k : ℕ) (later : MachineData) (before after : List Event) → AreUnderWay machines before

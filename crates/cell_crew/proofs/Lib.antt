@@ -1,4 +1,5 @@
+mod Examples
 pub mod Amid
-pub mod Turning
 pub mod Crews
 pub mod Rounds
+pub mod Armed

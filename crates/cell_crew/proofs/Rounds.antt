@@ -1,7 +1,6 @@
 -- Turns after turns, and rounds after rounds.
-use Rattle.std.proofs.Common.{◌≡◌, ℕ, zero, suc, ◌+◌, ◌<◌, ◌≤◌, List, [], ◌∷◌, ◌++◌, length, refl, ap, sym, ◌∙◌, subst, inl, inr, arith, length-append, add-zero, zero-add}
-use Rattle.std.proofs.Common.{Some, take}
-use Rattle.std.proofs.Math.Seq.{take-append_seam}
+use Rattle.std.proofs.Common.{◌≡◌, ℕ, zero, suc, ◌+◌, ◌≤◌, List, [], ◌∷◌, length, refl, ap, sym, ◌∙◌, subst, inl, inr, arith, length-append}
+use Rattle.std.proofs.Common.{Some}
 use Rattle.std.proofs.lemmas.Bool.{ltb-false}
 use Rattle.std.specs.Prelude.{slice_get, slice_set, nat_lt, false}
 use Rattle.rapid_model.specs.CellData.{CellData}
@@ -10,12 +9,12 @@ use Rattle.rapid_model.specs.declared.tree.Tree.{Tree}
 use Rattle.rapid_meaning.specs.Runs.{tree_asks}
 use Rattle.rapid_meaning.specs.Traces.{SuitsTask}
 use Rattle.task_machine.specs.MachineData.{MachineData}
-use Rattle.cell_crew.specs.Crew.{trees_of, Stand}
+use Rattle.cell_crew.specs.Crew.{trees_of}
 use Rattle.cell_crew.specs.UnderWay.{UnderWay, AreUnderWay, AreSuited}
 use Rattle.cell_crew.proofs.Crews.{trees_set, tree_at, under_way_turn}
 use Rattle.rapid_model.specs.declared.event.Event.{Event}
 use Rattle.rapid_meaning.specs.Histories.{Asking}
-use Rattle.rapid_meaning.specs.Turns.{Steps, Rests, TakesTurn, TakeTurns, IsRound, AfterRounds, IsByTurns}
+use Rattle.rapid_meaning.specs.Turns.{TakesTurn, TakeTurns, IsRound, AfterRounds}
 
 pub no_turns : (asking : Asking) (cell : CellData) (history : List Event) → TakeTurns asking cell 0 0 history history
 unfolding TakeTurns
@@ -64,10 +63,6 @@ turns_same asking cell actor (suc left) before after t short =
     let first : length before ≤ length t.0 = turn_grows asking cell actor before t.0 t.1 in
     turns_same asking cell (actor + 1) left t.0 after t.2 (omega arith) ∙ turn_same asking cell actor before t.0 t.1 (omega arith)
 
--- a round that makes the history no longer leaves it as it is
-pub round_same : (asking : Asking) (cell : CellData) (before after : List Event) → IsRound asking cell before after → length after ≤ length before → after ≡ before
-round_same asking cell before after round short = turns_same asking cell 0 (length cell.tasks) before after round short
-
 -- rounds that led to a history
 pub record AreRounds (asking : Asking) (cell : CellData) (history : List Event) : Type 0 where
   pub rounds : ℕ
@@ -80,14 +75,6 @@ no_rounds asking cell history none = record { rounds = 0; made = none }
 pub rounds_more : (asking : Asking) (cell : CellData) (before after : List Event) → AreRounds asking cell before → IsRound asking cell before after → AreRounds asking cell after
 unfolding AfterRounds
 rounds_more asking cell before after past round = record { rounds = suc past.rounds; made = (before, past.made, round) }
-
--- after a round that added nothing the run by turns is over
-pub by_turns : (asking : Asking) (cell : CellData) (before after : List Event) → AreRounds asking cell before → IsRound asking cell before after → after ≡ before → IsByTurns asking cell after
-by_turns asking cell before after past round same = record {
-  rounds = past.rounds;
-  made = subst (λ (h : List Event). AfterRounds asking cell past.rounds h) (sym same) past.made;
-  over = subst (λ (h : List Event). IsRound asking cell h after) (sym same) round;
-}
 
 -- the tasks before this one have taken their turns
 pub record HaveTurned (start machines : List MachineData) (first cell : CellData) (before history : List Event) (k : ℕ) : Type 0 where
@@ -126,10 +113,6 @@ more_turned start machines first cell later_cell before history after k m later 
 pub all_turned_same : (start machines : List MachineData) (first cell : CellData) (before history : List Event) (k : ℕ) → HaveTurned start machines first cell before history k → length history ≤ length before → history ≡ before
 all_turned_same start machines first cell before history k turned short = turns_same (tree_asks (trees_of start)) first 0 k before history turned.turns short
 
-pub round_of_turns : (start machines : List MachineData) (first cell : CellData) (before history : List Event) (k : ℕ) → HaveTurned start machines first cell before history k → k ≡ length first.tasks
-    → IsRound (tree_asks (trees_of start)) first before history
-round_of_turns start machines first cell before history k turned all = subst (λ (n : ℕ). TakeTurns (tree_asks (trees_of start)) first 0 n before history) all turned.turns
-
 -- a crew after some rounds
 pub record AmidRounds (start machines : List MachineData) (first cell : CellData) (history : List Event) : Type 0 where
   pub same_cell : cell ≡ first
@@ -159,19 +142,6 @@ one_more_round start machines later first cell later_cell history after amid sam
   ways = ways;
   past = rounds_more (tree_asks (trees_of start)) first history after amid.past (round_at start machines first cell history after amid round);
 }
-
-pub last_round : (start machines : List MachineData) (first cell : CellData) (history after : List Event) → AmidRounds start machines first cell history
-    → IsRound (tree_asks (trees_of machines)) cell history after → after ≡ history → IsByTurns (tree_asks (trees_of start)) first after
-last_round start machines first cell history after amid round same =
-    by_turns (tree_asks (trees_of start)) first history after amid.past (round_at start machines first cell history after amid round) same
-
--- the machines of a crew stand for what their tasks got
-pub they_stand : (machines : List MachineData) (history : List Event) → AreUnderWay machines history → Stand machines history
-they_stand machines history ways = record { each = λ task m at. (ways.each task m at).stands }
-
--- what a whole slice was written with
-pub written : {A : Type 0} (n : ℕ) (xs rest : List A) → length xs ≡ n → take n (xs ++ rest) ≡ xs
-written n xs rest same = subst (λ (k : ℕ). take k (xs ++ rest) ≡ xs) same (take-append_seam xs rest)
 
 pub no_longer : (n m a b : ℕ) → n ≡ a → m ≡ b → nat_lt n m ≡ false → b ≤ a
 no_longer n m a b p q no_more = omega (arith, ltb-false n m no_more)

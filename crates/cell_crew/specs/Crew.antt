@@ -1,5 +1,5 @@
 -- The machines of a cell's tasks, one each in script order.
-use Rattle.std.specs.Prelude.{◌≡◌, ℕ, List, [], ◌∷◌, length, map, filter, Some, slice_get, is_none}
+use Rattle.std.specs.Prelude.{◌≡◌, ℕ, List, length, map, filter, Some, slice_get, is_none}
 use Rattle.std.specs.List.{AllByRecursion}
 use Rattle.rapid_model.specs.CellData.{CellData}
 use Rattle.rapid_model.specs.Requests.{part_of, fate_told}

@@ -4,6 +4,8 @@
 mod asking;
 mod ran;
 mod round;
+#[cfg(test)]
+mod tests;
 
 pub use ran::Ran;
 pub use round::run_round;

@@ -1,7 +1,6 @@
-use Rattle.std.proofs.Common.{◌≡◌, Some, arith}
-use Rattle.std.specs.Prelude.{slice_get, slice_index_or}
+use Rattle.std.proofs.Common.{arith}
 use Rattle.std.proofs.lemmas.Option.{slice_get-get_or}
-use Rattle.cell_crew.proofs.Rounds.{none_turned, suited_at, more_turned, all_turned_same, round_of_turns, no_longer}
+use Rattle.cell_crew.proofs.Rounds.{none_turned, suited_at, more_turned, all_turned_same, no_longer}
 use Rattle.cell_crew.proofs.round.round.Goals as goal
 
 pub loop-task-init : goal.loop-task-init

@@ -1,5 +1,4 @@
-use Rattle.std.proofs.Common.{arith}
-use Rattle.cell_crew.proofs.Rounds.{before_rounds, one_more_round, last_round, they_stand}
+use Rattle.cell_crew.proofs.Rounds.{before_rounds, one_more_round}
 use Rattle.cell_crew.proofs.round.run.Goals as goal
 
 pub rounds-init : goal.rounds-init
