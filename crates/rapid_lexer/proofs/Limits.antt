@@ -1,6 +1,6 @@
 -- The limits of a token, tested on its text.
-use Rattle.std.proofs.Common.{◌≡◌, ℕ, suc, ◌+◌, ◌≤◌, ◌<◌, Bool, true, false, cond, ltb, List, [], ◌∷◌, ◌++◌, length, take, drop, Option, Some, None, Result, Ok, Err, refl, sym, ap, subst, ◌∙◌, arith, inl, inr}
-use Rattle.std.specs.Prelude.{is_some, IsSome}
+use Rattle.std.proofs.Common.{◌≡◌, ℕ, ◌≤◌, ◌<◌, Bool, true, false, cond, ltb, List, [], ◌∷◌, ◌++◌, length, drop, Option, Some, None, Result, Ok, Err, refl, sym, ap, ◌∙◌, arith, inl, inr}
+use Rattle.std.specs.Prelude.{is_some}
 use Rattle.std.specs.List.{concat}
 use Rattle.std.proofs.lemmas.Bool.{ltb-true, ltb-false, lt-ltb, le-ltb, cases_lt}
 use Rattle.rapid_num.specs.Literal.{literal_value}
@@ -8,7 +8,7 @@ use Rattle.rapid_lexer.specs.declared.kind.Kind.{Kind}
 use Rattle.rapid_lexer.specs.declared.kind.Kind.TheVariants.{Name, Word, Number, Quoted, Mark}
 use Rattle.rapid_lexer.specs.declared.fault.LexRule.TheVariants.{LongString, LongName, BadLiteral}
 use Rattle.rapid_lexer.specs.declared.fault.LexFault.{LexFault}
-use Rattle.rapid_lexer.specs.Strings.{IsString, AreCharacters}
+use Rattle.rapid_lexer.specs.Strings.{IsString}
 use Rattle.rapid_lexer.specs.Words.{IsReserved}
 use Rattle.rapid_lexer.specs.Tokens.{Lexeme, IsToken, IsLongest, IsWithinLimits}
 use Rattle.rapid_lexer.specs.Faults.{IsMisfit}
@@ -56,16 +56,32 @@ number_at at bytes text after false s whole h most =
 
 quoted_at : (at : ℕ) (bytes text after : List ℕ) (fits : Bool) → is_some (characters_len 80 (drop 1 text)) ≡ fits → bytes ≡ text ++ after → IsShape Quoted text → IsLongest text after
     → IsAt at bytes (checked fits (lexeme Quoted at text) (fault LongString at))
-quoted_at at bytes text after true s whole h most =
-    (after, whole, refl, h, most, elim (cases_lt 80 (length h.0)) [
-      | inl lt ↦ absurd (let x : true ≡ false = sym s ∙ inside_over text h.0 h.1 lt in cc)
-      | inr le ↦ (h.0, h.1, le)
-    ])
-quoted_at at bytes text after false s whole h most =
-    (inl (record { text = text; after = after; whole = whole; characters = h.0; is_string = h.1; is_longest = most; excess = elim (cases_lt 80 (length h.0)) [
+quoted_at at bytes text after true s whole h most = (
+  after,
+  whole,
+  refl,
+  h,
+  most,
+  elim (cases_lt 80 (length h.0)) [
+    | inl lt ↦ absurd (let x : true ≡ false = sym s ∙ inside_over text h.0 h.1 lt in cc)
+    | inr le ↦ (h.0, h.1, le)
+  ],
+)
+quoted_at at bytes text after false s whole h most = (
+  inl (record {
+    text = text;
+    after = after;
+    whole = whole;
+    characters = h.0;
+    is_string = h.1;
+    is_longest = most;
+    excess = elim (cases_lt 80 (length h.0)) [
       | inl lt ↦ lt
       | inr le ↦ absurd (let x : false ≡ true = sym s ∙ inside_walk text h.0 h.1 le in cc)
-    ] }), refl)
+    ];
+  }),
+  refl,
+)
 
 pub token_of_right : (k : Kind) (at : ℕ) (bytes text after : List ℕ) → bytes ≡ text ++ after → IsShape k text → IsLongest text after → IsAt at bytes (token_of k at text)
 token_of_right Name at bytes text after whole h most = name_at at bytes text after (ltb (length text) 33) (is_reserved text) refl refl whole h most

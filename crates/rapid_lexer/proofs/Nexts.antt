@@ -1,5 +1,5 @@
 -- What comes next is found, and nothing else is.
-use Rattle.std.proofs.Common.{◌≡◌, ◌≢◌, ℕ, suc, ◌+◌, ◌≤◌, ◌<◌, Bool, true, false, cond, ltb, List, [], ◌∷◌, ◌++◌, length, take, drop, Option, Some, None, Result, Ok, Err, refl, sym, ap, subst, ◌∙◌, arith, inl, inr}
+use Rattle.std.proofs.Common.{◌≡◌, ℕ, ◌+◌, ◌≤◌, ◌<◌, Bool, true, false, cond, ltb, List, [], ◌∷◌, ◌++◌, length, take, drop, Option, Some, None, Result, Ok, Err, refl, sym, ap, subst, ◌∙◌, arith}
 use Rattle.std.specs.Prelude.{IfSome, IfOk}
 use Rattle.std.proofs.lemmas.Bool.{ltb-true, ltb-false, lt-ltb, le-ltb}
 use Rattle.std.proofs.lemmas.List.{append-nil, take-append-drop, take_all, drop_all, drop_at, length-append, length-drop, length-take-le}
@@ -19,20 +19,26 @@ use Rattle.rapid_lexer.proofs.GapWalks.{IsSkipped, skipped, begins_no_gap, gap_i
 right_behind : (at n : ℕ) (bytes left : List ℕ) (r : Result Lexeme LexFault) → n ≤ length bytes → drop n bytes ≡ left → is_gap_within false (take n bytes) (drop n bytes) ≡ true
     → IsAt (at + n) left r → IsNext at bytes (Some r)
 right_behind at n bytes left (Ok t) le e gap h =
-    let len : length (take n bytes) ≡ n = length-take-le n bytes le in
-    (h.0, record {
-      gap = take n bytes;
-      whole = sym (take-append-drop n bytes) ∙ ap (λ (r : List ℕ). take n bytes ++ r) (e ∙ h.1);
-      is_gap = subst (λ (r : List ℕ). IsGap (take n bytes) r) (e ∙ h.1) gap;
-      place = omega (arith, h.2, len);
-      is_token = h.3;
-      is_longest = h.4;
-      within_limits = h.5;
-    })
+    let len : length (take n bytes) ≡ n = length-take-le n bytes le in (
+      h.0,
+      record {
+        gap = take n bytes;
+        whole = sym (take-append-drop n bytes) ∙ ap (λ (r : List ℕ). take n bytes ++ r) (e ∙ h.1);
+        is_gap = subst (λ (r : List ℕ). IsGap (take n bytes) r) (e ∙ h.1) gap;
+        place = omega (arith, h.2, len);
+        is_token = h.3;
+        is_longest = h.4;
+        within_limits = h.5;
+      },
+    )
 right_behind at n bytes left (Err f) le e gap h =
-    let len : length (take n bytes) ≡ n = length-take-le n bytes le in
-    (take n bytes, left, sym (take-append-drop n bytes) ∙ ap (λ (r : List ℕ). take n bytes ++ r) e, subst (λ (r : List ℕ). IsGap (take n bytes) r) e gap,
-      subst (λ (m : ℕ). IsAt (at + m) left (Err f)) (sym len) h)
+    let len : length (take n bytes) ≡ n = length-take-le n bytes le in (
+      take n bytes,
+      left,
+      sym (take-append-drop n bytes) ∙ ap (λ (r : List ℕ). take n bytes ++ r) e,
+      subst (λ (r : List ℕ). IsGap (take n bytes) r) e gap,
+      subst (λ (m : ℕ). IsAt (at + m) left (Err f)) (sym len) h,
+    )
 
 right_at : (at n : ℕ) (bytes left : List ℕ) → n < length bytes → drop n bytes ≡ left → IsSkipped false bytes n → IsNext at bytes (Some (token_at (at + n) left))
 right_at at n bytes [] lt e s = absurd (let x : length (drop n bytes) ≡ 0 = ap length e in omega (arith, length-drop n bytes))

@@ -27,7 +27,11 @@ pub(crate) fn is_name_byte(byte: u8) -> bool
 pub(crate) fn upper(byte: u8) -> u8
     ensures { result ≡ upper byte }
 {
-    if byte >= 97 && byte <= 122 { byte - 32 } else { byte }
+    if byte >= 97 && byte <= 122 {
+        byte - 32
+    } else {
+        byte
+    }
 }
 
 pub(crate) fn is_blank(byte: u8) -> bool

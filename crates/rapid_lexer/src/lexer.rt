@@ -58,7 +58,11 @@ fn is_short(text: &[u8]) -> bool
 fn name_kind(text: &[u8]) -> Kind
     ensures { result ≡ (if is_reserved text.now then Word else Name) }
 {
-    if is_reserved(text) { Kind::Word } else { Kind::Name }
+    if is_reserved(text) {
+        Kind::Word
+    } else {
+        Kind::Name
+    }
 }
 
 /// The token that a text of some kind is, or the limit that it passes.
@@ -69,19 +73,32 @@ fn token_of(kind: Kind, at: usize, text: &[u8]) -> Result<Token<'_>, LexFault>
     match kind {
         Kind::Name => {
             if text.len() > 32 {
-                return Err(LexFault { rule: LexRule::LongName, at });
+                return Err(LexFault {
+                    rule: LexRule::LongName,
+                    at,
+                });
             }
-            Ok(Token { kind: name_kind(text), text, at })
+            Ok(Token {
+                kind: name_kind(text),
+                text,
+                at,
+            })
         }
         Kind::Number => {
             if !is_literal(text) {
-                return Err(LexFault { rule: LexRule::BadLiteral, at });
+                return Err(LexFault {
+                    rule: LexRule::BadLiteral,
+                    at,
+                });
             }
             Ok(Token { kind, text, at })
         }
         Kind::Quoted => {
             if !is_short(text) {
-                return Err(LexFault { rule: LexRule::LongString, at });
+                return Err(LexFault {
+                    rule: LexRule::LongString,
+                    at,
+                });
             }
             Ok(Token { kind, text, at })
         }
@@ -96,7 +113,10 @@ fn misfit(at: usize, bytes: &[u8]) -> LexFault
 {
     match bytes {
         [34, rest @ ..] => broken(at, rest),
-        _ => LexFault { rule: LexRule::BadByte, at },
+        _ => LexFault {
+            rule: LexRule::BadByte,
+            at,
+        },
     }
 }
 
@@ -136,11 +156,18 @@ impl<'a> Lexer<'a> {
         ensures front { IsAtFront result (front_of source.now) }
     {
         match front_of(source) {
-            Ok(at) => Lexer { source, at, fault: None },
+            Ok(at) => Lexer {
+                source,
+                at,
+                fault: None,
+            },
             Err(at) => Lexer {
                 source,
                 at: 0,
-                fault: Some(LexFault { rule: LexRule::OpenHeader, at }),
+                fault: Some(LexFault {
+                    rule: LexRule::OpenHeader,
+                    at,
+                }),
             },
         }
     }

@@ -2,8 +2,17 @@
 
 ghost use Rattle.std.specs.Prelude.{◌≡◌, ◌↔◌, IsTrue};
 ghost use Rattle.rapid_lexer.specs.Scanning.{
-    after_character, after_escape, after_exponent, after_fraction, after_start, after_whole, after_zero, kind_at, step, where_so};
-
+  after_character,
+  after_escape,
+  after_exponent,
+  after_fraction,
+  after_start,
+  after_whole,
+  after_zero,
+  kind_at,
+  step,
+  where_so,
+};
 ghost use Rattle.rapid_lexer.specs.declared.state.State.TheVariants.{Dead};
 
 use crate::bytes::{

@@ -23,9 +23,7 @@ fn escape_len(bytes: &[u8]) -> usize
 {
     match bytes {
         [92, ..] => 2,
-        [high, low, ..] => {
-            if is_code(*high, *low) { 3 } else { 0 }
-        }
+        [high, low, ..] => { if is_code(*high, *low) { 3 } else { 0 } }
         _ => 0,
     }
 }
@@ -39,9 +37,7 @@ fn character_len(bytes: &[u8]) -> usize
         [] => 0,
         [34, rest @ ..] => doubled_len(rest),
         [92, rest @ ..] => escape_len(rest),
-        [byte, ..] => {
-            if is_printable(*byte) { 1 } else { 0 }
-        }
+        [byte, ..] => { if is_printable(*byte) { 1 } else { 0 } }
     }
 }
 
@@ -70,9 +66,18 @@ fn stopped(quote: usize, at: usize, bytes: &[u8]) -> LexFault
     ensures { result ≡ stopped quote at bytes.now }
 {
     match bytes {
-        [] | [10, ..] | [13, ..] => LexFault { rule: LexRule::OpenString, at: quote },
-        [92, ..] => LexFault { rule: LexRule::BadEscape, at },
-        _ => LexFault { rule: LexRule::BadByte, at },
+        [] | [10, ..] | [13, ..] => LexFault {
+            rule: LexRule::OpenString,
+            at: quote,
+        },
+        [92, ..] => LexFault {
+            rule: LexRule::BadEscape,
+            at,
+        },
+        _ => LexFault {
+            rule: LexRule::BadByte,
+            at,
+        },
     }
 }
 
@@ -82,7 +87,10 @@ pub(crate) fn broken(quote: usize, bytes: &[u8]) -> LexFault
     ensures { result ≡ broken quote bytes.now }
 {
     match characters_len(bytes) {
-        None => LexFault { rule: LexRule::LongString, at: quote },
+        None => LexFault {
+            rule: LexRule::LongString,
+            at: quote,
+        },
         Some(len) => stopped(quote, quote + 1 + len, &bytes[len..]),
     }
 }

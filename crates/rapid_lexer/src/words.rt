@@ -8,20 +8,35 @@ ghost use Rattle.rapid_lexer.specs.Reading.{is_reserved, is_word};
 use crate::bytes::upper;
 
 static OF_TWO: [&[u8]; 4] = [b"DO", b"IF", b"OR", b"TO"];
+
 static OF_THREE: [&[u8]; 7] = [b"AND", b"DIV", b"FOR", b"MOD", b"NOT", b"VAR", b"XOR"];
+
 static OF_FOUR: [&[u8]; 16] = [
     b"CASE", b"ELSE", b"EXIT", b"FROM", b"FUNC", b"GOTO", b"PERS", b"PROC", b"STEP", b"TASK",
     b"TEST", b"THEN", b"TRAP", b"TRUE", b"UNDO", b"WITH",
 ];
+
 static OF_FIVE: [&[u8]; 10] = [
     b"ALIAS", b"CONST", b"ENDIF", b"ERROR", b"FALSE", b"INOUT", b"LOCAL", b"RAISE", b"RETRY",
     b"WHILE",
 ];
-static OF_SIX: [&[u8]; 6] = [b"ELSEIF", b"ENDFOR", b"MODULE", b"NOVIEW", b"RECORD", b"RETURN"];
+
+static OF_SIX: [&[u8]; 6] = [
+    b"ELSEIF", b"ENDFOR", b"MODULE", b"NOVIEW", b"RECORD", b"RETURN",
+];
+
 static OF_SEVEN: [&[u8]; 7] = [
     b"CONNECT", b"DEFAULT", b"ENDFUNC", b"ENDPROC", b"ENDTEST", b"ENDTRAP", b"TRYNEXT",
 ];
-static OF_EIGHT: [&[u8]; 5] = [b"BACKWARD", b"ENDWHILE", b"NOSTEPIN", b"READONLY", b"VIEWONLY"];
+
+static OF_EIGHT: [&[u8]; 5] = [
+    b"BACKWARD",
+    b"ENDWHILE",
+    b"NOSTEPIN",
+    b"READONLY",
+    b"VIEWONLY",
+];
+
 static OF_NINE: [&[u8]; 3] = [b"ENDMODULE", b"ENDRECORD", b"SYSMODULE"];
 
 /// The reserved words of so many letters.
