@@ -1,14 +1,13 @@
 -- The definitions on examples worked by hand.
-use Rattle.std.proofs.Common.{◌≡◌, true, false, List, [], ◌∷◌, ◌++◌, Option, Some, None, Result, Ok, Err, refl, lit<}
-use Rattle.std.specs.Prelude.{ℕ, codes, is_some}
+use Rattle.std.proofs.Common.{◌≡◌, true, false, [], ◌∷◌, ◌++◌, Some, Ok, Err, refl, lit<}
+use Rattle.std.specs.Prelude.{codes, is_some}
 use Rattle.rapid_num.specs.Literal.{spelled_thousandths}
 use Rattle.rapid_lexer.specs.declared.kind.Kind.TheVariants.{Number, Quoted}
-use Rattle.rapid_lexer.specs.declared.fault.LexRule.TheVariants.{BadByte, OpenString, LongString}
-use Rattle.rapid_lexer.specs.declared.fault.LexFault.{LexFault}
+use Rattle.rapid_lexer.specs.declared.fault.LexRule.TheVariants.{OpenString}
 use Rattle.rapid_lexer.specs.Words.{is_name, IsReserved}
 use Rattle.rapid_lexer.specs.Strings.{is_character, IsString}
 use Rattle.rapid_lexer.specs.Gaps.{is_gap_within, front_of}
-use Rattle.rapid_lexer.specs.Tokens.{Lexeme, is_mark}
+use Rattle.rapid_lexer.specs.Tokens.{is_mark}
 use Rattle.rapid_lexer.specs.Places.{line_of, column_of}
 use Rattle.rapid_lexer.specs.Scanning.{longest}
 use Rattle.rapid_lexer.specs.Reading.{gap_len, characters_len, broken, token_at, next_of}

@@ -1,6 +1,6 @@
 -- The limits of a token, tested on its text.
-use Rattle.std.proofs.Common.{◌≡◌, ℕ, suc, ◌+◌, ◌≤◌, ◌<◌, Bool, true, false, cond, ltb, List, [], ◌∷◌, ◌++◌, length, take, drop, Option, Some, None, Result, Ok, Err, refl, sym, ap, subst, ◌∙◌, arith, inl, inr}
-use Rattle.std.specs.Prelude.{is_some, IsSome}
+use Rattle.std.proofs.Common.{◌≡◌, ℕ, ◌≤◌, ◌<◌, Bool, true, false, cond, ltb, List, [], ◌∷◌, ◌++◌, length, drop, Option, Some, None, Result, Ok, Err, refl, sym, ap, ◌∙◌, arith, inl, inr}
+use Rattle.std.specs.Prelude.{is_some}
 use Rattle.std.specs.List.{concat}
 use Rattle.std.proofs.lemmas.Bool.{ltb-true, ltb-false, lt-ltb, le-ltb, cases_lt}
 use Rattle.rapid_num.specs.Literal.{literal_value}
@@ -8,7 +8,7 @@ use Rattle.rapid_lexer.specs.declared.kind.Kind.{Kind}
 use Rattle.rapid_lexer.specs.declared.kind.Kind.TheVariants.{Name, Word, Number, Quoted, Mark}
 use Rattle.rapid_lexer.specs.declared.fault.LexRule.TheVariants.{LongString, LongName, BadLiteral}
 use Rattle.rapid_lexer.specs.declared.fault.LexFault.{LexFault}
-use Rattle.rapid_lexer.specs.Strings.{IsString, AreCharacters}
+use Rattle.rapid_lexer.specs.Strings.{IsString}
 use Rattle.rapid_lexer.specs.Words.{IsReserved}
 use Rattle.rapid_lexer.specs.Tokens.{Lexeme, IsToken, IsLongest, IsWithinLimits}
 use Rattle.rapid_lexer.specs.Faults.{IsMisfit}

@@ -1,10 +1,9 @@
 -- The longest token by the scanner is the longest token, and there is none where it finds none.
-use Rattle.std.proofs.Common.{◌≡◌, ℕ, suc, ◌≤◌, ◌<◌, Bool, true, false, List, [], ◌∷◌, ◌++◌, length, take, drop, Option, Some, None, refl, sym, ap, subst, ◌∙◌, arith, inl, inr}
-use Rattle.std.proofs.lemmas.List.{take-append-drop, length-append, length-take-le, take_at, drop_at}
+use Rattle.std.proofs.Common.{◌≡◌, ℕ, ◌≤◌, Bool, true, false, List, ◌++◌, length, take, drop, Option, Some, None, refl, sym, ap, subst, ◌∙◌, arith}
+use Rattle.std.proofs.lemmas.List.{take-append-drop, length-take-le, take_at}
 use Rattle.rapid_lexer.specs.declared.kind.Kind.{Kind}
 use Rattle.rapid_lexer.specs.declared.kind.Kind.TheVariants.{Name, Word, Number, Quoted, Mark}
 use Rattle.rapid_lexer.specs.declared.state.State.TheVariants.{Start}
-use Rattle.rapid_lexer.specs.Words.{IsReserved}
 use Rattle.rapid_lexer.specs.Tokens.{IsToken, IsLongest}
 use Rattle.rapid_lexer.specs.Faults.{NoToken}
 use Rattle.rapid_lexer.specs.Scanning.{accepted, longest}
@@ -69,20 +68,23 @@ longest_none bytes e kind text after whole h =
     let same : Some m.0 ≡ None = sym m.1 ∙ ap (longest Start) (sym whole) ∙ e in
     cc
 
+-- the longest that is found is the longest token
+found_is : (text after : List ℕ) (k : Kind) (x : Kind × ℕ) → accepted Start text ≡ Some (scanned k) → IsLongest text after → longest Start (text ++ after) ≡ Some x → length text ≤ x.1
+    → longest Start (text ++ after) ≡ Some (scanned k, length text)
+found_is text after k x a most e le =
+    let f = longest_some (text ++ after) x e in
+    let j = shape_token x.0 (take x.1 (text ++ after)) f.shape in
+    let back : length (take x.1 (text ++ after)) ≤ length text = most j.0 (take x.1 (text ++ after)) (drop x.1 (text ++ after)) (sym (take-append-drop x.1 (text ++ after))) j.1 in
+    let n : length text ≡ x.1 = omega (arith, back, le, f.len) in
+    let kinds : Some (scanned k) ≡ Some x.0 = sym a ∙ ap (accepted Start) (sym (take_at text after x.1 n)) ∙ (found Start (text ++ after) x e).0 in
+    let kind : x.0 ≡ scanned k = cc in
+    e ∙ ap (λ (p : Kind). Some (p, x.1)) kind ∙ ap (λ (p : ℕ). Some (scanned k, p)) (sym n)
+
 pub longest_is : (bytes text after : List ℕ) (k : Kind) → bytes ≡ text ++ after → IsToken k text → IsLongest text after → longest Start bytes ≡ Some (scanned k, length text)
 longest_is bytes text after k whole h most =
     let a = shape_accepted (scanned k) text (token_shape k text h) in
     let m = at_most Start text after (scanned k) a in
-    let f = longest_some (text ++ after) m.0 m.1 in
-    let j = shape_token m.0.0 (take m.0.1 (text ++ after)) f.shape in
-    let le : length (take m.0.1 (text ++ after)) ≤ length text = most j.0 (take m.0.1 (text ++ after)) (drop m.0.1 (text ++ after)) (sym (take-append-drop m.0.1 (text ++ after))) j.1 in
-    let n : length text ≡ m.0.1 = omega (arith, le, m.2, f.len) in
-    let front : take m.0.1 (text ++ after) ≡ text = take_at text after m.0.1 n in
-    let kinds : Some (scanned k) ≡ Some m.0.0 = sym a ∙ ap (accepted Start) (sym front) ∙ (found Start (text ++ after) m.0 m.1).0 in
-    let kind : m.0.0 ≡ scanned k = cc in
-    let here : Some m.0 ≡ Some (scanned k, length text) = ap (λ (p : Kind). Some (p, m.0.1)) kind ∙ ap (λ (p : ℕ). Some (scanned k, p)) (sym n) in
-    let first : longest Start bytes ≡ longest Start (text ++ after) = ap (longest Start) whole in
-    first ∙ m.1 ∙ here
+    ap (longest Start) whole ∙ found_is text after k m.0 a most m.1 m.2
 
 pub none_longest : (bytes : List ℕ) → NoToken bytes → longest Start bytes ≡ None
 none_longest bytes none = at (longest Start bytes) refl

@@ -1,7 +1,7 @@
 -- The fault where no token begins, and the token where one does.
-use Rattle.std.proofs.Common.{◌≡◌, ◌≢◌, ℕ, zero, suc, ◌+◌, ◌≤◌, ◌<◌, Bool, true, false, ◌||◌, cond, eqb, ltb, List, [], ◌∷◌, ◌++◌, length, take, drop, Option, Some, None, Result, Ok, Err, refl, sym, ap, subst, ◌∙◌, append_assoc, arith, inl, inr}
+use Rattle.std.proofs.Common.{◌≡◌, ◌≢◌, ℕ, ◌+◌, ◌≤◌, Bool, true, false, ◌||◌, cond, eqb, List, [], ◌∷◌, ◌++◌, length, take, drop, Option, Some, None, Result, Ok, Err, refl, sym, ap, subst, ◌∙◌, append_assoc, arith, inl, inr}
 use Rattle.std.specs.List.{concat}
-use Rattle.std.proofs.lemmas.Bool.{eqb-true, eqb-false, ne_eqb, or_cases, or_parts, cases_eq}
+use Rattle.std.proofs.lemmas.Bool.{eqb-true, eqb-false, ne_eqb, or_cases, or_parts}
 use Rattle.std.proofs.lemmas.List.{take-append-drop, take_at, drop_at}
 use Rattle.rapid_lexer.specs.declared.kind.Kind.{Kind}
 use Rattle.rapid_lexer.specs.declared.kind.Kind.TheVariants.{Name, Number, Quoted}
@@ -10,13 +10,13 @@ use Rattle.rapid_lexer.specs.declared.fault.LexRule.TheVariants.{BadByte, OpenSt
 use Rattle.rapid_lexer.specs.declared.fault.LexFault.{LexFault}
 use Rattle.rapid_lexer.specs.declared.state.State.TheVariants.{Start}
 use Rattle.rapid_lexer.specs.Bytes.{is_blank, is_printable}
-use Rattle.rapid_lexer.specs.Strings.{is_character, AreCharacters, IsString}
+use Rattle.rapid_lexer.specs.Strings.{AreCharacters}
 use Rattle.rapid_lexer.specs.Tokens.{Lexeme, IsToken, IsLongest}
 use Rattle.rapid_lexer.specs.Faults.{NoToken, IsBroken, IsAtEnd, IsBadEscape, IsBadInString, IsBadAtFront, StopsString, IsMisfit}
 use Rattle.rapid_lexer.specs.Scanning.{longest}
-use Rattle.rapid_lexer.specs.Reading.{doubled_len, escape_len, character_len, characters_len, fault, lexeme, stopped, broken_behind, broken, misfit, token_found, token_at, token_of}
-use Rattle.rapid_lexer.proofs.Longest.{scanned, IsFoundLongest, longest_some, longest_none, longest_is, none_longest}
-use Rattle.rapid_lexer.proofs.Walks.{IsWalk, IsOver, walk_some, walk_none, walk_of, walk_over, none_begins, begins_none}
+use Rattle.rapid_lexer.specs.Reading.{character_len, characters_len, fault, lexeme, stopped, broken_behind, broken, misfit, token_found, token_at, token_of}
+use Rattle.rapid_lexer.proofs.Longest.{scanned, longest_some, longest_none, longest_is, none_longest}
+use Rattle.rapid_lexer.proofs.Walks.{walk_some, walk_none, walk_of, walk_over, none_begins, begins_none}
 use Rattle.rapid_lexer.proofs.Limits.{IsAt, token_of_right, token_of_is, long_name_is, bad_literal_is, long_string_is}
 
 -- ---- a string that stops

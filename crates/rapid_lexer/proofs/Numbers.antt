@@ -1,17 +1,16 @@
 -- The scanner accepts the numerical literals.
-use Rattle.std.proofs.Common.{◌≡◌, ℕ, suc, ◌+◌, ◌-◌, Bool, true, false, not, ◌&&◌, ◌||◌, cond, eqb, ltb, leb, List, [], ◌∷◌, ◌++◌, length, take, drop, Option, Some, None, refl, sym, ap, subst, ◌∙◌, arith, inl, inr}
-use Rattle.std.specs.Prelude.{is_some, pos, ℤ}
+use Rattle.std.proofs.Common.{◌≡◌, ℕ, suc, ◌+◌, Bool, true, false, not, ◌&&◌, ◌||◌, cond, eqb, ltb, leb, List, [], ◌∷◌, ◌++◌, length, take, drop, Option, Some, None, refl, sym, ap, subst, ◌∙◌, arith}
+use Rattle.std.specs.Prelude.{is_some, pos}
 use Rattle.std.specs.List.{list_all, list_any, prefix_len, before_first, after_first}
 use Rattle.std.specs.Option.{option_map, option_and_then}
-use Rattle.std.proofs.lemmas.Bool.{eqb-true, leb-true, or_cases, and_parts, ne_eqb, eqb-false}
+use Rattle.std.proofs.lemmas.Bool.{eqb-true, leb-true, and_parts, ne_eqb}
 use Rattle.std.proofs.lemmas.Bool.Decides.{nat_tests}
-use Rattle.rapid_num.specs.Literal.{digit_value, are_digits, is_point, is_exponent_letter, mantissa_of, exponent_of, decimal_thousandths, base_of, based_thousandths, spelled_thousandths}
-use Rattle.rapid_lexer.specs.declared.kind.Kind.{Kind}
+use Rattle.rapid_num.specs.Literal.{digit_value, are_digits, is_point, is_exponent_letter, mantissa_of, exponent_of, decimal_thousandths, base_of, spelled_thousandths}
 use Rattle.rapid_lexer.specs.declared.kind.Kind.TheVariants.{Number}
 use Rattle.rapid_lexer.specs.declared.state.State.{State}
-use Rattle.rapid_lexer.specs.declared.state.State.TheVariants.{Start, Zero, Whole, Dot, Fraction, Exponent, ExponentSign, Power, HexMark, Hex, OctalMark, Octal, BinaryMark, Binary, Dead}
+use Rattle.rapid_lexer.specs.declared.state.State.TheVariants.{Zero, Whole, Dot, Fraction, Exponent, ExponentSign, Power, HexMark, Hex, OctalMark, Octal, BinaryMark, Binary, Dead}
 use Rattle.rapid_lexer.specs.Bytes.{is_digit}
-use Rattle.rapid_lexer.specs.Scanning.{step, kind_at, accepted, after_whole, after_fraction, after_exponent}
+use Rattle.rapid_lexer.specs.Scanning.{accepted, after_whole}
 use Rattle.rapid_lexer.proofs.Scan.{dead_accepted}
 use Rattle.rapid_lexer.proofs.Runs.{kind_if, run, some_run, suc_not_zero}
 

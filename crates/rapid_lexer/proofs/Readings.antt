@@ -1,14 +1,15 @@
 -- What a loop over the tokens keeps.
-use Rattle.std.proofs.Common.{◌≡◌, ℕ, suc, ◌+◌, ◌-◌, ◌≤◌, ◌<◌, List, [], ◌∷◌, ◌++◌, length, take, drop, Option, Some, None, Result, Ok, Err, refl, sym, ap, subst, ◌∙◌, arith, inl, inr}
+use Rattle.std.proofs.Common.{◌≡◌, ℕ, ◌+◌, ◌-◌, ◌≤◌, ◌<◌, List, [], ◌∷◌, ◌++◌, length, take, drop, Option, Some, None, Result, Ok, Err, refl, sym, ap, subst, ◌∙◌, arith, inl, inr}
 use Rattle.std.specs.Prelude.{IfOk}
-use Rattle.std.proofs.lemmas.List.{drop-drop, length-drop, length-append}
-use Rattle.rapid_lexer.specs.declared.fault.LexRule.TheVariants.{OpenHeader}
+use Rattle.std.specs.List.{All, AllByRecursion}
+use Rattle.std.proofs.lemmas.List.{drop-drop, drop_at, take_at, length-drop, length-append}
+use Rattle.std.proofs.lemmas.List.Elements.{All-from_recursion}
 use Rattle.rapid_lexer.specs.declared.fault.LexFault.{LexFault}
 use Rattle.rapid_lexer.specs.declared.fault.TokensFault.{TokensFault}
 use Rattle.rapid_lexer.specs.declared.fault.TokensFault.TheVariants.{Lex, Memory}
 use Rattle.rapid_lexer.specs.declared.token.Token.{Token}
 use Rattle.rapid_lexer.specs.Gaps.{front_of}
-use Rattle.rapid_lexer.specs.Tokens.{Lexeme, view, views, Follows, Passes, Begins, Tiles}
+use Rattle.rapid_lexer.specs.Tokens.{Lexeme, view, views, Follows, Passes, Begins, Tiles, IsSliceOf}
 use Rattle.rapid_lexer.specs.Faults.{IsNext, IsFirstMisfit, seen}
 use Rattle.rapid_lexer.specs.Lexing.{Lexing, IsAtFront, IsAnswerBehind, IsAnswer, lexing_after, FindsTokens, FindsFault}
 use Rattle.rapid_lexer.proofs.GapWalks.{token_no_gap}
@@ -45,6 +46,22 @@ left_behind : (at : ℕ) (source : List ℕ) (t : Lexeme) (after : List ℕ) →
 left_behind at source t after h =
     let n : at + (t.at + length t.text - at) ≡ t.at + length t.text = (let lt = (follows_more at (drop at source) t after h).0 in omega arith) in
     after_is at (drop at source) t after h ∙ drop-drop (t.at + length t.text - at) at source ∙ ap (λ (m : ℕ). drop m source) n
+
+-- ---- texts are slices
+
+follows_slice : (at : ℕ) (source : List ℕ) (t : Lexeme) (after : List ℕ) → Follows at (drop at source) t after → IsSliceOf source t
+follows_slice at source t after h =
+    let behind : t.text ++ after ≡ drop t.at source =
+    sym (drop_at h.gap (t.text ++ after) (length h.gap) refl) ∙ ap (drop (length h.gap)) (sym h.whole) ∙ drop-drop (length h.gap) at source ∙ ap (λ (n : ℕ). drop n source) (sym h.place) in
+    sym (take_at t.text after (length t.text) refl) ∙ ap (take (length t.text)) behind
+
+passes_slices : (ts : List Lexeme) (at : ℕ) (source : List ℕ) (there : ℕ) (left : List ℕ) → Passes at (drop at source) ts there left → AllByRecursion (IsSliceOf source) ts
+passes_slices [] at source there left p = tt
+passes_slices (t ∷ ts) at source there left p =
+    (follows_slice at source t p.0 p.1, passes_slices ts (t.at + length t.text) source there left (subst (λ (r : List ℕ). Passes (t.at + length t.text) r ts there left) (left_behind at source t p.0 p.1) p.2))
+
+pub tiles_slices : (source : List ℕ) (ts : List Lexeme) → Tiles source ts → All (IsSliceOf source) ts
+tiles_slices source ts t = All-from_recursion (IsSliceOf source) ts (passes_slices ts t.begins.front source t.there t.left t.begins.passes)
 
 -- a token of an answer follows
 pub answer_follows : (l : Lexing) (t : Lexeme) → IsAnswer l (Some (Ok t)) → (l.fault ≡ None) × (after : List ℕ) × Follows l.at (drop l.at l.source) t after

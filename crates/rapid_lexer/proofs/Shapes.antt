@@ -1,23 +1,23 @@
 -- The scanner accepts the tokens and nothing else.
-use Rattle.std.proofs.Common.{◌≡◌, ℕ, suc, Bool, true, false, ◌&&◌, ◌||◌, cond, eqb, List, [], ◌∷◌, ◌++◌, length, Option, Some, None, refl, sym, ap, subst, ◌∙◌, inl, inr, arith}
-use Rattle.std.specs.Prelude.{codes, is_some, IsSome}
-use Rattle.std.specs.List.{list_any, list_all, concat, AllByRecursion}
+use Rattle.std.proofs.Common.{◌≡◌, ℕ, Bool, true, false, ◌&&◌, ◌||◌, cond, eqb, List, [], ◌∷◌, Some, None, refl, sym, ap, subst, ◌∙◌, inl, inr, arith}
+use Rattle.std.specs.Prelude.{codes, IsSome}
+use Rattle.std.specs.List.{list_any, list_all, AllByRecursion}
 use Rattle.std.proofs.lemmas.Bool.{eqb-true, and_parts, or_cases}
 use Rattle.std.proofs.lemmas.Bool.Decides.{nat_tests}
 use Rattle.rapid_num.specs.Literal.{spelled_thousandths, is_point}
 use Rattle.rapid_lexer.specs.declared.kind.Kind.{Kind}
 use Rattle.rapid_lexer.specs.declared.kind.Kind.TheVariants.{Name, Word, Number, Quoted, Mark}
 use Rattle.rapid_lexer.specs.declared.state.State.{State}
-use Rattle.rapid_lexer.specs.declared.state.State.TheVariants.{Start, InName, Zero, Whole, Dot, Inside, Closed, Colon, Less, Greater, Single, Dead}
+use Rattle.rapid_lexer.specs.declared.state.State.TheVariants.{Start, InName, Zero, Whole, Dot, Inside, Colon, Less, Greater, Single, Dead}
 use Rattle.rapid_lexer.specs.Bytes.{is_digit, is_letter, is_name_byte}
 use Rattle.rapid_lexer.specs.Words.{is_name}
-use Rattle.rapid_lexer.specs.Strings.{IsString, AreCharacters}
+use Rattle.rapid_lexer.specs.Strings.{IsString}
 use Rattle.rapid_lexer.specs.Tokens.{is_mark}
 use Rattle.rapid_lexer.specs.Scanning.{is_single, after_start, step, kind_at, accepted, where_so}
 use Rattle.rapid_lexer.proofs.Scan.{dead_accepted}
 use Rattle.rapid_lexer.proofs.Runs.{kind_if, run, kind_from}
 use Rattle.rapid_lexer.proofs.Numbers.{is_number, zero_all, digit_all, dot_all, no_number}
-use Rattle.rapid_lexer.proofs.Characters.{IsInside, inside_is, characters_step}
+use Rattle.rapid_lexer.proofs.Characters.{inside_is, characters_step}
 
 -- the shape of a text that the scanner accepts, a reserved word as a name
 abbrev pub IsShape : Kind → List ℕ → Type 0

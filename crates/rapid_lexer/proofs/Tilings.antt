@@ -1,10 +1,9 @@
 -- A text has at most one list of tokens, or one first fault.
-use Rattle.std.proofs.Common.{◌≡◌, ℕ, suc, ◌+◌, ◌-◌, ◌≤◌, ◌<◌, List, [], ◌∷◌, ◌++◌, length, take, drop, Option, Some, None, Result, Ok, Err, refl, sym, ap, subst, ◌∙◌, append_assoc, arith, inl, inr}
-use Rattle.std.proofs.lemmas.List.{drop_at, length-append, length-drop}
+use Rattle.std.proofs.Common.{◌≡◌, ℕ, ◌+◌, ◌-◌, List, [], ◌∷◌, ◌++◌, length, drop, Option, Some, None, Result, Ok, Err, refl, sym, ap, subst, ◌∙◌, append_assoc, arith, inl, inr}
+use Rattle.std.proofs.lemmas.List.{drop_at, length-append}
 use Rattle.rapid_lexer.specs.declared.fault.LexRule.{LexRule}
-use Rattle.rapid_lexer.specs.declared.fault.LexRule.TheVariants.{OpenHeader}
 use Rattle.rapid_lexer.specs.declared.fault.LexFault.{LexFault}
-use Rattle.rapid_lexer.specs.Gaps.{IsGap, front_of}
+use Rattle.rapid_lexer.specs.Gaps.{front_of}
 use Rattle.rapid_lexer.specs.Tokens.{Lexeme, Follows, Passes, Begins, Tiles}
 use Rattle.rapid_lexer.specs.Faults.{IsNext, IsFirstMisfit}
 use Rattle.rapid_lexer.proofs.Nexts.{next_is}

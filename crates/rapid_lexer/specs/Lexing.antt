@@ -1,12 +1,11 @@
 -- A lexer, as its callers see it.
-use Rattle.std.specs.Prelude.{◌≡◌, ℕ, ◌+◌, List, length, drop, map, Option, Some, None, Result, Ok, Err, MatchResult, ◌⊎◌}
+use Rattle.std.specs.Prelude.{◌≡◌, ℕ, ◌+◌, List, length, drop, Option, Some, None, Result, Ok, Err, ◌⊎◌}
 use Rattle.std.specs.Option.{option_map}
 use Rattle.rapid_lexer.specs.declared.fault.LexRule.TheVariants.{OpenHeader}
 use Rattle.rapid_lexer.specs.declared.fault.LexFault.{LexFault}
 use Rattle.rapid_lexer.specs.declared.fault.TokensFault.{TokensFault}
 use Rattle.rapid_lexer.specs.declared.fault.TokensFault.TheVariants.{Lex, Memory}
 use Rattle.rapid_lexer.specs.declared.token.Token.{Token}
-use Rattle.rapid_lexer.specs.Gaps.{front_of}
 use Rattle.rapid_lexer.specs.Tokens.{Lexeme, views}
 use Rattle.rapid_lexer.specs.Faults.{IsNext, seen}
 

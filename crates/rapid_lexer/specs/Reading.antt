@@ -1,5 +1,5 @@
 -- Reading from left to right: what the functions of the crate find, as functions on lists.
-use Rattle.std.specs.Prelude.{ℕ, zero, suc, ◌+◌, Bool, true, false, not, ◌&&◌, ◌||◌, ◌==◌, nat_lt, if◌then◌else◌, List, [], ◌∷◌, length, take, drop, map, Option, Some, None, Result, Ok, Err, is_some}
+use Rattle.std.specs.Prelude.{ℕ, zero, suc, ◌+◌, Bool, true, false, not, ◌||◌, ◌==◌, nat_lt, if◌then◌else◌, List, [], ◌∷◌, length, take, drop, Option, Some, None, Result, Ok, Err, is_some}
 use Rattle.std.specs.List.{list_any}
 use Rattle.std.specs.Option.{option_map}
 use Rattle.std.specs.Cmp.Lexicographic.{pointwise}
@@ -10,11 +10,10 @@ use Rattle.rapid_lexer.specs.declared.state.State.TheVariants.{Start}
 use Rattle.rapid_lexer.specs.declared.fault.LexRule.{LexRule}
 use Rattle.rapid_lexer.specs.declared.fault.LexRule.TheVariants.{BadByte, OpenString, BadEscape, LongString, LongName, BadLiteral}
 use Rattle.rapid_lexer.specs.declared.fault.LexFault.{LexFault}
-use Rattle.rapid_lexer.specs.declared.token.Token.{Token}
 use Rattle.rapid_lexer.specs.Bytes.{is_blank, is_printable, upper}
 use Rattle.rapid_lexer.specs.Words.{reserved}
 use Rattle.rapid_lexer.specs.Strings.{is_code}
-use Rattle.rapid_lexer.specs.Tokens.{Lexeme, view}
+use Rattle.rapid_lexer.specs.Tokens.{Lexeme}
 use Rattle.rapid_lexer.specs.Scanning.{longest}
 
 -- the text is this word, its letters in either case

@@ -1,5 +1,5 @@
 -- Tokens, and how they tile a text.
-use Rattle.std.specs.Prelude.{◌≡◌, ℕ, ◌+◌, ◌≤◌, ◌<◌, Bool, true, false, ◌&&◌, ◌||◌, ◌==◌, List, [], ◌∷◌, ◌++◌, length, drop, map, codes, IsSome, Ok}
+use Rattle.std.specs.Prelude.{◌≡◌, ℕ, ◌+◌, ◌≤◌, Bool, true, false, ◌&&◌, ◌||◌, ◌==◌, List, [], ◌∷◌, ◌++◌, length, take, drop, map, codes, IsSome, Ok}
 use Rattle.std.specs.List.{list_any}
 use Rattle.rapid_num.specs.Literal.{spelled_thousandths, literal_value}
 use Rattle.rapid_lexer.specs.declared.kind.Kind.{Kind}
@@ -75,3 +75,7 @@ pub record Tiles (source : List ℕ) (tokens : List Lexeme) : Type 0 where
   pub left : List ℕ
   pub begins : Begins source tokens there left
   pub is_gap : IsGap left []
+
+-- a token's text is the part of the source at its place
+abbrev pub IsSliceOf : List ℕ → Lexeme → Type 0
+IsSliceOf source t = t.text ≡ take (length t.text) (drop t.at source)

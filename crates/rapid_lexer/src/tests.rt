@@ -57,7 +57,10 @@ fn count_of(alloc: Global, source: &[u8]) -> Option<usize> {
 #[test]
 fn faults(rt: HostRuntime) {
     for (source, rule, at) in &REFUSED {
-        let fault = LexFault { rule: *rule, at: *at };
+        let fault = LexFault {
+            rule: *rule,
+            at: *at,
+        };
         assert_eq!(rt; fault_of(rt.alloc(), source), Some(fault));
     }
 }
@@ -95,9 +98,18 @@ fn string_fault(alloc: Global, letters: u32, end: u8) -> Result<Option<LexFault>
 
 #[test]
 fn strings_of_eighty_and_one_more(rt: HostRuntime) -> Result<(), Fail> {
-    let long = Some(LexFault { rule: LexRule::LongString, at: 0 });
-    let open = Some(LexFault { rule: LexRule::OpenString, at: 0 });
-    let bad = Some(LexFault { rule: LexRule::BadByte, at: 81 });
+    let long = Some(LexFault {
+        rule: LexRule::LongString,
+        at: 0,
+    });
+    let open = Some(LexFault {
+        rule: LexRule::OpenString,
+        at: 0,
+    });
+    let bad = Some(LexFault {
+        rule: LexRule::BadByte,
+        at: 81,
+    });
     assert_eq!(rt; string_fault(rt.alloc(), 80, b'"')?, None);
     assert_eq!(rt; string_fault(rt.alloc(), 81, b'"')?, long);
     assert_eq!(rt; string_fault(rt.alloc(), 81, b'\n')?, long);
@@ -112,7 +124,15 @@ fn a_fault_stays(rt: HostRuntime) {
     let _name = lexer.next_token();
     let _first = lexer.next_token();
     let again = lexer.next_token();
-    assert!(rt; matches!(&again, Some(Err(LexFault { rule: LexRule::BadByte, at: 1 }))));
+    assert!(rt;
+        matches!(
+            &again,
+            Some(Err(LexFault {
+                rule: LexRule::BadByte,
+                at: 1
+            }))
+        )
+    );
 }
 
 #[test]

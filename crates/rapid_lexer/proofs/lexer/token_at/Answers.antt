@@ -1,4 +1,3 @@
-use Rattle.std.proofs.Common.{◌≡◌, ap, ◌∙◌}
 use Rattle.rapid_lexer.proofs.TokenSteps.{token_none, token_some}
 use Rattle.rapid_lexer.proofs.lexer.token_at.Goals as goal
 

@@ -1,6 +1,5 @@
-use Rattle.std.proofs.Common.{◌≡◌, ◌∙◌, sym, subst, arith}
-use Rattle.rapid_lexer.specs.declared.state.State.{State}
-use Rattle.rapid_lexer.proofs.Scan.{IsScanned, IsScanned-more, newer_some, newer_none, scanned_all, scanned_dead, scanned_first, found_within, found_some_bytes}
+use Rattle.std.proofs.Common.{◌∙◌, sym, arith}
+use Rattle.rapid_lexer.proofs.Scan.{IsScanned-more, newer_some, newer_none, scanned_all, scanned_dead, scanned_first, found_within, found_some_bytes}
 use Rattle.rapid_lexer.proofs.scanner.longest_token.Goals as goal
 use Rattle.rapid_lexer.proofs.scanner.longest_token.Goals.{in-Some, in_default}
 

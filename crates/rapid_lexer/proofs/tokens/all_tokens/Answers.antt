@@ -1,6 +1,5 @@
 use Rattle.std.proofs.Common.{◌≡◌}
 use Rattle.std.proofs.lemmas.List.{map_push}
-use Rattle.rapid_lexer.specs.declared.fault.LexFault.{LexFault}
 use Rattle.rapid_lexer.specs.Tokens.{view, views}
 use Rattle.rapid_lexer.proofs.Readings.{read_first, read_token, read_falls, read_error}
 use Rattle.rapid_lexer.proofs.tokens.all_tokens.Goals as goal

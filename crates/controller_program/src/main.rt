@@ -1,0 +1,35 @@
+//! `rapid_cell`: runs cells of RAPID tasks.
+#![tactic(auto)]
+
+use controller::quiet;
+use outside::{FileShelf, StreamSink};
+use std::env;
+use std::io;
+use std::process::ExitCode;
+
+/// The status where the command words could not be had for want of memory.
+const OUT_OF_MEMORY: u8 = 7;
+
+fn main(rt: HostRuntime) -> ExitCode {
+    match run(&rt) {
+        Ok(status) => ExitCode::from(status),
+        Err(_) => ExitCode::from(OUT_OF_MEMORY),
+    }
+}
+
+/// Does what the command words say, over real files and streams, and gives the status.
+fn run(rt: &HostRuntime) -> io::Result<u8> {
+    let mut given = Vec::new(rt.alloc());
+    for word in env::args(rt)?.skip(1) {
+        given.push(word)?;
+    }
+    let mut words = Vec::new(rt.alloc());
+    for word in &given {
+        words.push(word.as_str())?;
+    }
+    let mut shelf = FileShelf::new(rt);
+    let mut out = StreamSink::new(rt.stdout());
+    let mut err = StreamSink::new(rt.stderr());
+    let report = quiet(rt.alloc(), words.as_slice(), &mut shelf, &mut out, &mut err);
+    Ok(report.status)
+}
