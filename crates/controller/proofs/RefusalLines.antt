@@ -2,7 +2,7 @@
 use Rattle.std.proofs.Common.{◌≡◌, ℕ, List, [], ◌∷◌, ◌++◌, ap, append_assoc, refl, ◌∙◌}
 use Rattle.std.specs.Prelude.{codes, decimal}
 use Rattle.rapid_model.specs.declared.script.ScriptRule.{ScriptRule}
-use Rattle.controller.specs.declared.refused.Place.{Place}
+use Rattle.rapid_lexer.specs.declared.place.Place.{Place}
 use Rattle.controller.specs.declared.refused.ModuleRule.{ModuleRule}
 use Rattle.controller.specs.declared.refused.Refused.{Refused}
 use Rattle.controller.specs.declared.refused.Refused.TheVariants.{Words, Script, Module, Read, Write, Memory, TooLong}

@@ -7,7 +7,7 @@ use Rattle.controller.specs.declared.refused.Refused.{Refused}
 use Rattle.controller.specs.declared.refused.Refused.TheVariants.{Words, Script, Module, Read, Write, Memory, TooLong}
 use Rattle.controller.specs.declared.refused.ModuleRule.{ModuleRule}
 use Rattle.controller.specs.declared.refused.ModuleRule.TheVariants as modules
-use Rattle.controller.specs.declared.refused.Place.{Place}
+use Rattle.rapid_lexer.specs.declared.place.Place.{Place}
 
 abbrev pub status_of : Refused → ℕ
 status_of (Words place) = 2

@@ -17,5 +17,8 @@ mod words;
 mod write;
 
 pub use action::quiet;
-pub use refused::{ModuleRule, Place, Refused};
+pub use refused::{ModuleRule, Refused};
 pub use report::Report;
+
+#[cfg(test)]
+mod tests;

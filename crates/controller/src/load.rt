@@ -5,10 +5,11 @@ ghost use Rattle.controller.specs.Loaded.{ScriptFaulted, ModuleFaulted, IsScript
 ghost use Rattle.controller.specs.Accepted.{script_limit, module_limit};
 
 use crate::file::read_file;
-use crate::refused::{ModuleRule, Place, Refused};
+use crate::refused::{ModuleRule, Refused};
 use cell_script::{ScriptFault, read_script};
 use module_parser::{ModuleFault, read_module};
 use outside::Shelf;
+use rapid_lexer::Place;
 use rapid_model::{Script, Tree};
 use std::alloc::Global;
 

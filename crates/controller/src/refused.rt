@@ -1,11 +1,5 @@
+use rapid_lexer::Place;
 use rapid_model::{ScriptRule, Text};
-
-/// A place in a module's text: line and column from 1, columns in bytes.
-#[derive(Clone, Copy, Debug, PartialEq, Eq)]
-pub struct Place {
-    pub line: u32,
-    pub column: u32,
-}
 
 /// The rules of a module.
 #[derive(Clone, Copy, Debug, PartialEq, Eq)]

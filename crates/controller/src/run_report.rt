@@ -56,11 +56,11 @@ fn report_run<O: Sink, E: Sink>(core: Core, out: &mut O, err: &mut E) -> Report
         }
         Err(_) => {
             tell_refusal(err, "", &Refused::Write);
-            let (history, fates) = core.into_report();
+            let (events, stands) = core.into_report();
             Report {
                 status: 6,
-                history,
-                fates,
+                history: events,
+                fates: stands,
                 refused: Some(Refused::Write),
             }
         }

@@ -2,11 +2,12 @@ ghost use Rattle.std.specs.Prelude.{◌++◌, ◌≡◌, ◌+◌, ◌≤◌, ◌
 ghost use Rattle.controller.specs.Refusals.{refusal_text, key_words, place_words, script_rule_name, module_rule_name};
 ghost use Rattle.controller.specs.Printed.{GainedUnlessFaults, Writes};
 
-use crate::refused::{ModuleRule, Place, Refused};
+use crate::refused::{ModuleRule, Refused};
 use crate::write::write_all;
 use arrayvec::ArrayString;
 use itoa::Buffer;
 use outside::{Failed, Sink};
+use rapid_lexer::Place;
 use rapid_model::ScriptRule;
 
 /// Tells a refusal on the second sink. A write that fails there changes nothing else. `name` is the name of the file that

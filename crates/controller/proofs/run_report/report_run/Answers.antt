@@ -12,5 +12,5 @@ returns-in-Ok g c = λ trees one run.
 pub returns-in-Err : goal.returns-in-Err
 returns-in-Err g c = λ trees one run.
     run_cut_short c.args.core.cell trees c.args.core.history _ _ _ one run
-    (record { history_is = c.into_report-history-in-Err.ensures.history; fates_is = c.into_report-history-in-Err.ensures.fates }) refl refl
+    (record { history_is = c.into_report-events.ensures.history; fates_is = c.into_report-events.ensures.fates }) refl refl
     c.in-Err.ensures.0 c.in-Err.ensures.1 c.tell_refusal.ensures.told

@@ -1,0 +1,200 @@
+use super::*;
+use outside::{MemoryShelf, MemorySink};
+use rapid_model::Fate;
+use std::alloc::{AllocError, Global};
+use std::process::Abort;
+use std::test::Fail;
+
+const SCRIPT: &[u8] =
+    b"version = 1\n[[task]]\nname = \"A\"\nmodules = [\"a.mod\"]\narm = [0,0,0,0,0,0]\n";
+
+const ONE_MOVE: &[u8] =
+    b"MODULE M\nPROC main()\nMoveAbsJ [[2.5,0,0,0,0,0],[9E9,9E9,9E9,9E9,9E9,9E9]]\\NoEOffs, v1000, fine, tool0;\nENDPROC\nENDMODULE\n";
+
+const SMALL_MOVES: &[u8] =
+    b"MODULE M\nPROC main()\nMoveAbsJ [[2,0.001,-0.001,0,0,0],[9E9,9E9,9E9,9E9,9E9,9E9]]\\NoEOffs, v1000, fine, tool0;\nENDPROC\nENDMODULE\n";
+
+const NO_WAY: &[u8] =
+    b"MODULE M\nPROC main()\nMoveAbsJ [[0,0,0,0,0,0],[9E9,9E9,9E9,9E9,9E9,9E9]]\\NoEOffs, v5, fine, tool0;\nENDPROC\nENDMODULE\n";
+
+const OUT_OF_REACH: &[u8] =
+    b"MODULE M\nPROC main()\nMoveAbsJ [[721,0,0,0,0,0],[9E9,9E9,9E9,9E9,9E9,9E9]]\\NoEOffs, v1000, fine, tool0;\nENDPROC\nENDMODULE\n";
+
+const ASSIGNS: &[u8] = b"MODULE M\nPROC main()\nx := 1;\nENDPROC\nENDMODULE\n";
+
+const ONE_MOVE_LINES: [&[u8]; 4] = [
+    b"S A 0.833 0.000 0.000 0.000 0.000 0.000\n",
+    b"S A 1.667 0.000 0.000 0.000 0.000 0.000\n",
+    b"S A 2.500 0.000 0.000 0.000 0.000 0.000\n",
+    b"E A Done\n",
+];
+
+/// What a call left: its report, and the bytes of both sinks.
+struct Left {
+    report: Report,
+    out: MemorySink,
+    err: MemorySink,
+}
+
+/// Does what the words say over a script and a module; the write of this number to the first sink fails.
+fn left(
+    alloc: Global,
+    words: &[&str],
+    script: &[u8],
+    module: &[u8],
+    failing_write: Option<u32>,
+) -> Result<Left, Fail> {
+    let mut files = Vec::new(alloc);
+    files.push((
+        String::from_str(alloc, "cell")?,
+        Vec::from_slice(alloc, script)?,
+    ))?;
+    files.push((
+        String::from_str(alloc, "a.mod")?,
+        Vec::from_slice(alloc, module)?,
+    ))?;
+    let mut failing = Vec::new(alloc);
+    if let Some(number) = failing_write {
+        failing.push(number)?;
+    }
+    let mut shelf = MemoryShelf::new(files, Vec::new(alloc));
+    let mut out = MemorySink::new(alloc, 1000, failing).ok().ok_or("room")?;
+    let mut err = MemorySink::new(alloc, 100, Vec::new(alloc))
+        .ok()
+        .ok_or("room")?;
+    let report = quiet(alloc, words, &mut shelf, &mut out, &mut err);
+    Ok(Left { report, out, err })
+}
+
+fn round(alloc: Global, module: &[u8]) -> Result<Left, Fail> {
+    left(alloc, &["round", "cell"], SCRIPT, module, None)
+}
+
+/// The call printed these lines and nothing on the second sink.
+fn printed(
+    rt: &impl Abort,
+    left: &Left,
+    status: u8,
+    lines: &[&[u8]],
+    alloc: Global,
+) -> Result<(), AllocError> {
+    let mut bytes = Vec::new(alloc);
+    for line in lines {
+        bytes.extend_from_slice(line)?;
+    }
+    assert_eq!(rt; left.out.bytes(), bytes.as_slice());
+    assert_eq!(rt; left.err.bytes(), b"".as_slice());
+    assert_eq!(rt; left.report.status, status);
+    assert!(rt; left.report.refused.is_none());
+    Ok(())
+}
+
+#[test]
+fn one_move(rt: HostRuntime) -> Result<(), Fail> {
+    let left = round(rt.alloc(), ONE_MOVE)?;
+    printed(&rt, &left, 0, &ONE_MOVE_LINES, rt.alloc())?;
+    assert_eq!(rt; left.report.history.len(), 6);
+    assert_eq!(rt; left.report.fates.as_slice(), [Fate::Done].as_slice());
+    Ok(())
+}
+
+#[test]
+fn other_moves(rt: HostRuntime) -> Result<(), Fail> {
+    let small: [&[u8]; 3] = [
+        b"S A 1.000 0.001 -0.001 0.000 0.000 0.000\n",
+        b"S A 2.000 0.001 -0.001 0.000 0.000 0.000\n",
+        b"E A Done\n",
+    ];
+    printed(&rt, &round(rt.alloc(), SMALL_MOVES)?, 0, &small, rt.alloc())?;
+    let none: [&[u8]; 2] = [b"S A 0.000 0.000 0.000 0.000 0.000 0.000\n", b"E A Done\n"];
+    printed(&rt, &round(rt.alloc(), NO_WAY)?, 0, &none, rt.alloc())?;
+    let fault: [&[u8]; 1] = [b"E A Fault JointRange\n"];
+    printed(
+        &rt,
+        &round(rt.alloc(), OUT_OF_REACH)?,
+        1,
+        &fault,
+        rt.alloc(),
+    )?;
+    Ok(())
+}
+
+/// Each write of the first sink fails in turn: the lines before it stand, and the report has the whole history.
+#[test]
+fn failing_writes(rt: HostRuntime) -> Result<(), Fail> {
+    for number in 0..4u32 {
+        let left = left(
+            rt.alloc(),
+            &["round", "cell"],
+            SCRIPT,
+            ONE_MOVE,
+            Some(number),
+        )?;
+        let mut bytes = Vec::new(rt.alloc());
+        for (k, line) in ONE_MOVE_LINES.iter().enumerate() {
+            if k < number as usize {
+                bytes.extend_from_slice(line)?;
+            }
+        }
+        assert_eq!(rt; left.out.bytes(), bytes.as_slice());
+        assert_eq!(rt; left.err.bytes(), b"rapid_cell: write\n".as_slice());
+        assert_eq!(rt; left.report.status, 6);
+        assert_eq!(rt; left.report.history.len(), 6);
+        assert_eq!(rt; left.report.fates.len(), 1);
+    }
+    Ok(())
+}
+
+/// The call was refused with this status and line, and left no history.
+fn refused(rt: &impl Abort, left: &Left, status: u8, line: &[u8]) {
+    assert_eq!(rt; left.out.bytes(), b"".as_slice());
+    assert_eq!(rt; left.err.bytes(), line);
+    assert_eq!(rt; left.report.status, status);
+    assert!(rt; left.report.history.is_empty());
+    assert!(rt; left.report.fates.is_empty());
+}
+
+#[test]
+fn refusals(rt: HostRuntime) -> Result<(), Fail> {
+    let alloc = rt.alloc();
+    let words: [(&[&str], &[u8]); 6] = [
+        (&["round"], b"rapid_cell: words 1\n"),
+        (&[], b"rapid_cell: words 0\n"),
+        (&["walk", "cell"], b"rapid_cell: words 0\n"),
+        (&["round", "cell", "more"], b"rapid_cell: words 2\n"),
+        (&["walk", "-v"], b"rapid_cell: words 1\n"),
+        (&["round", "none"], b"rapid_cell: read none\n"),
+    ];
+    for (given, line) in words.iter() {
+        let left = left(alloc, given, SCRIPT, ONE_MOVE, None)?;
+        let status = if *line == b"rapid_cell: read none\n" {
+            5
+        } else {
+            2
+        };
+        refused(&rt, &left, status, line);
+    }
+    refused(
+        &rt,
+        &round(alloc, ASSIGNS)?,
+        4,
+        b"rapid_cell: module a.mod 1:1 NotBuilt\n",
+    );
+    let scripts: [(&[u8], &[u8]); 2] = [
+        (b"version = ", b"rapid_cell: script - NotToml\n"),
+        (b"version = 2\n", b"rapid_cell: script - NotBuilt\n"),
+    ];
+    for (script, line) in scripts.iter() {
+        let left = left(alloc, &["round", "cell"], script, ONE_MOVE, None)?;
+        refused(&rt, &left, 3, line);
+    }
+    Ok(())
+}
+
+#[test]
+fn files_too_long(rt: HostRuntime) -> Result<(), Fail> {
+    let module = vec![in rt.alloc(); 32; 1_048_577]?;
+    let left = round(rt.alloc(), module.as_slice())?;
+    refused(&rt, &left, 10, b"rapid_cell: long a.mod\n");
+    Ok(())
+}
