@@ -30,20 +30,21 @@ const ONE_MOVE_LINES: [&[u8]; 4] = [
 ];
 
 /// What a call left: its report, and the bytes of both sinks.
-struct Left {
+#[derive(Drop)]
+struct Outcome {
     report: Report,
     out: MemorySink,
     err: MemorySink,
 }
 
 /// Does what the words say over a script and a module; the write of this number to the first sink fails.
-fn left(
+fn outcome_of(
     alloc: Global,
     words: &[&str],
     script: &[u8],
     module: &[u8],
     failing_write: Option<u32>,
-) -> Result<Left, Fail> {
+) -> Result<Outcome, Fail> {
     let mut files = Vec::new(alloc);
     files.push((
         String::from_str(alloc, "cell")?,
@@ -63,17 +64,17 @@ fn left(
         .ok()
         .ok_or("room")?;
     let report = quiet(alloc, words, &mut shelf, &mut out, &mut err);
-    Ok(Left { report, out, err })
+    Ok(Outcome { report, out, err })
 }
 
-fn round(alloc: Global, module: &[u8]) -> Result<Left, Fail> {
-    left(alloc, &["round", "cell"], SCRIPT, module, None)
+fn round(alloc: Global, module: &[u8]) -> Result<Outcome, Fail> {
+    outcome_of(alloc, &["round", "cell"], SCRIPT, module, None)
 }
 
 /// The call printed these lines and nothing on the second sink.
 fn printed(
     rt: &impl Abort,
-    left: &Left,
+    left: &Outcome,
     status: u8,
     lines: &[&[u8]],
     alloc: Global,
@@ -123,7 +124,7 @@ fn other_moves(rt: HostRuntime) -> Result<(), Fail> {
 #[test]
 fn failing_writes(rt: HostRuntime) -> Result<(), Fail> {
     for number in 0..4u32 {
-        let left = left(
+        let left = outcome_of(
             rt.alloc(),
             &["round", "cell"],
             SCRIPT,
@@ -146,7 +147,7 @@ fn failing_writes(rt: HostRuntime) -> Result<(), Fail> {
 }
 
 /// The call was refused with this status and line, and left no history.
-fn refused(rt: &impl Abort, left: &Left, status: u8, line: &[u8]) {
+fn refused(rt: &impl Abort, left: &Outcome, status: u8, line: &[u8]) {
     assert_eq!(rt; left.out.bytes(), b"".as_slice());
     assert_eq!(rt; left.err.bytes(), line);
     assert_eq!(rt; left.report.status, status);
@@ -157,22 +158,17 @@ fn refused(rt: &impl Abort, left: &Left, status: u8, line: &[u8]) {
 #[test]
 fn refusals(rt: HostRuntime) -> Result<(), Fail> {
     let alloc = rt.alloc();
-    let words: [(&[&str], &[u8]); 6] = [
-        (&["round"], b"rapid_cell: words 1\n"),
-        (&[], b"rapid_cell: words 0\n"),
-        (&["walk", "cell"], b"rapid_cell: words 0\n"),
-        (&["round", "cell", "more"], b"rapid_cell: words 2\n"),
-        (&["walk", "-v"], b"rapid_cell: words 1\n"),
-        (&["round", "none"], b"rapid_cell: read none\n"),
+    let words: [(u8, &[&str], &[u8]); 6] = [
+        (2, &["round"], b"rapid_cell: words 1\n"),
+        (2, &[], b"rapid_cell: words 0\n"),
+        (2, &["walk", "cell"], b"rapid_cell: words 0\n"),
+        (2, &["round", "cell", "more"], b"rapid_cell: words 2\n"),
+        (2, &["walk", "-v"], b"rapid_cell: words 1\n"),
+        (5, &["round", "none"], b"rapid_cell: read none\n"),
     ];
-    for (given, line) in words.iter() {
-        let left = left(alloc, given, SCRIPT, ONE_MOVE, None)?;
-        let status = if *line == b"rapid_cell: read none\n" {
-            5
-        } else {
-            2
-        };
-        refused(&rt, &left, status, line);
+    for (status, given, line) in words.iter() {
+        let left = outcome_of(alloc, given, SCRIPT, ONE_MOVE, None)?;
+        refused(&rt, &left, *status, line);
     }
     refused(
         &rt,
@@ -185,7 +181,7 @@ fn refusals(rt: HostRuntime) -> Result<(), Fail> {
         (b"version = 2\n", b"rapid_cell: script - NotBuilt\n"),
     ];
     for (script, line) in scripts.iter() {
-        let left = left(alloc, &["round", "cell"], script, ONE_MOVE, None)?;
+        let left = outcome_of(alloc, &["round", "cell"], script, ONE_MOVE, None)?;
         refused(&rt, &left, 3, line);
     }
     Ok(())

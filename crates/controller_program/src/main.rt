@@ -3,9 +3,8 @@
 
 use controller::quiet;
 use outside::{FileShelf, StreamSink};
-use std::env;
-use std::io;
 use std::process::ExitCode;
+use std::{env, io};
 
 /// The status where the command words could not be had for want of memory.
 const OUT_OF_MEMORY: u8 = 7;
