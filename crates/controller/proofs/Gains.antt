@@ -1,18 +1,17 @@
 -- What a sink gained by one piece after another.
-use Rattle.std.proofs.Common.{◌≡◌, ◌≢◌, ℕ, List, [], ◌∷◌, ◌++◌, refl, ap, sym, ◌∙◌, append_assoc, append-nil, ◌≤◌, arith}
+use Rattle.std.proofs.Common.{◌≢◌, ℕ, List, [], ◌∷◌, ◌++◌, refl, ap, sym, ◌∙◌, append_assoc, ◌≤◌, arith}
 use Rattle.std.specs.Prelude.{Option, Result, Ok, Err, ⊤}
-use Rattle.std.specs.Io.KnownBytes.{append_known}
 use Rattle.outside.specs.Count.{Rose}
 use Rattle.outside.specs.declared.failed.Failed.{Failed}
 use Rattle.outside.proofs.Counting.{Rose-since}
-use Rattle.outside.proofs.Writing.{append_known-nil, append_known-append}
-use Rattle.controller.specs.Printed.{Gained, IsProperPrefix, GainedPart, Writes}
+use Rattle.outside.proofs.Writing.{appended_none, appended_more}
+use Rattle.controller.specs.Printed.{Gained, GainedPart, Writes}
 
 pub gained_none : (told : Option (List ℕ)) → Gained [] told told
-gained_none told = sym (append_known-nil told)
+gained_none told = appended_none told
 
 pub gained_more : (first second : List ℕ) (a b c : Option (List ℕ)) → Gained first a b → Gained second b c → Gained (first ++ second) a c
-gained_more first second a b c f s = s ∙ ap (λ (t : Option (List ℕ)). append_known t second) f ∙ append_known-append a first second
+gained_more first second a b c f s = appended_more a b c first second f s
 
 some_left : (xs ys : List ℕ) → xs ≢ [] → xs ++ ys ≢ []
 some_left [] ys some e = some refl

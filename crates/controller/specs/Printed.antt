@@ -1,12 +1,11 @@
 -- What a sink gained.
-use Rattle.std.specs.Prelude.{◌≡◌, ◌≢◌, ◌≤◌, ℕ, ◌⊎◌, List, [], ◌++◌, Option, Result, Ok, Err, ⊤}
-use Rattle.std.specs.Io.KnownBytes.{append_known}
+use Rattle.std.specs.Prelude.{◌≡◌, ◌≢◌, ◌≤◌, ℕ, ◌⊎◌, List, [], ◌++◌, Option, Some, IfSome, Result, Ok, Err, ⊤}
 use Rattle.outside.specs.Count.{Rose}
 use Rattle.outside.specs.declared.failed.Failed.{Failed}
 
--- where the sink tells its bytes, it gained just these; else it still tells none
+-- where the sink told its bytes, it tells them still, and gained just these
 abbrev pub Gained : List ℕ → Option (List ℕ) → Option (List ℕ) → Type 0
-Gained bytes old new = new ≡ append_known old bytes
+Gained bytes old new = IfSome old (λ held. new ≡ Some (held ++ bytes))
 
 -- a beginning of the bytes that lacks some of them
 pub record IsProperPrefix (front bytes : List ℕ) : Type 0 where

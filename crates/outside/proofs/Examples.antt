@@ -4,7 +4,7 @@ use Rattle.std.specs.Prelude.{codes, Ok, Err}
 use Rattle.outside.specs.Count.{raised}
 use Rattle.outside.specs.Told.{Told, file_at, found, after_reads}
 use Rattle.outside.specs.Reads.{answer_for, gain_for}
-use Rattle.outside.specs.Writes.{taken}
+use Rattle.outside.specs.Writes.{taken, Appended}
 use Rattle.outside.specs.MemoryShelf.{names_differ}
 use Rattle.outside.specs.MemorySink.{MemorySinkState, refuses, after_write}
 use Rattle.outside.specs.declared.shelf_fault.ShelfFault.TheVariants.{Failed, TooLong}
@@ -61,6 +61,15 @@ refused_when_full = refl
 
 some_taken : taken {E = ℕ} (Ok 2) (7 ∷ 8 ∷ 9 ∷ []) ≡ 7 ∷ 8 ∷ []
 some_taken = refl
+
+told_some_more : Appended (Some (7 ∷ [])) (8 ∷ 9 ∷ []) (Some (7 ∷ 8 ∷ 9 ∷ []))
+told_some_more = refl
+
+tells_no_longer : Appended (Some (7 ∷ [])) [] None → ⊥
+tells_no_longer e = cc
+
+begins_to_tell : Appended None (8 ∷ []) (Some (9 ∷ []))
+begins_to_tell = tt
 
 names_that_differ : names_differ ((codes "a", []) ∷ (codes "ab", []) ∷ []) ≡ true
 names_that_differ = refl

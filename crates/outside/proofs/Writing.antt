@@ -1,14 +1,15 @@
 -- What a sink tells, over several writes.
-use Rattle.std.proofs.Common.{◌≡◌, List, [], ◌++◌, ℕ, refl, ap, append-nil, append_assoc}
+use Rattle.std.proofs.Common.{List, [], ◌++◌, ℕ, ap, sym, ◌∙◌, subst, append-nil, append_assoc}
 use Rattle.std.specs.Prelude.{Option, None, Some}
-use Rattle.std.specs.Io.KnownBytes.{append_known}
+use Rattle.outside.specs.Writes.{Appended}
 
 -- what is told before any write
-pub append_known-nil : (told : Option (List ℕ)) → append_known told [] ≡ told
-append_known-nil None = refl
-append_known-nil (Some held) = ap Some (append-nil held)
+pub appended_none : (told : Option (List ℕ)) → Appended told [] told
+appended_none None = tt
+appended_none (Some held) = ap Some (sym (append-nil held))
 
 -- what is told after one piece and then another
-pub append_known-append : (told : Option (List ℕ)) (first second : List ℕ) → append_known (append_known told first) second ≡ append_known told (first ++ second)
-append_known-append None first second = refl
-append_known-append (Some held) first second = ap Some (append_assoc held first second)
+pub appended_more : (a b c : Option (List ℕ)) (first second : List ℕ) → Appended a first b → Appended b second c → Appended a (first ++ second) c
+appended_more None b c first second f s = tt
+appended_more (Some held) b c first second f s =
+    subst (λ (told : Option (List ℕ)). Appended told second c) f s ∙ ap Some (append_assoc held first second)

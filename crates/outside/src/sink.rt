@@ -1,7 +1,6 @@
-ghost use Rattle.std.specs.Prelude.{◌≡◌, ℕ, ◌<◌, ◌≤◌, List, length, Option, IfOk, OnErr};
-ghost use Rattle.std.specs.Io.KnownBytes.{append_known};
+ghost use Rattle.std.specs.Prelude.{ℕ, ◌<◌, ◌≤◌, List, length, Option, IfOk, OnErr};
 ghost use Rattle.outside.specs.Count.{Rose};
-ghost use Rattle.outside.specs.Writes.{taken};
+ghost use Rattle.outside.specs.Writes.{taken, Appended};
 
 use super::Failed;
 
@@ -22,6 +21,6 @@ pub trait Sink {
         ensures takes_some { IfOk result (λ n. 0 < n) }
         ensures takes_at_most_all { IfOk result (λ n. n ≤ length piece.now) }
 
-        // Where the sink tells nothing it goes on telling nothing.
-        ensures told_after { told self.new ≡ append_known (told self.old) (taken result piece.now) };
+        // Where the sink told nothing, this leaves open what it tells now.
+        ensures told_after { Appended (told self.old) (taken result piece.now) (told self.new) };
 }

@@ -1,4 +1,4 @@
-ghost use Rattle.std.specs.Prelude.{◌≡◌, ℕ, ◌<◌, ◌≤◌, None, IfOk, OnErr, MatchResult, length};
+ghost use Rattle.std.specs.Prelude.{◌≡◌, ℕ, ◌<◌, ◌≤◌, IfOk, OnErr, MatchResult, length};
 ghost use Rattle.std.specs.Io.KnownBytes.{WriteAppends};
 ghost use Rattle.outside.specs.Count.{Rose, raised};
 
@@ -6,8 +6,7 @@ use super::{Failed, Sink};
 use std::io::Write;
 use std::marker::Model;
 
-/// A sink over a writer. As a sink it tells no bytes, since a writer that tells none may begin to. Contracts see it as
-/// its writer and its count of faults.
+/// A sink over a writer. It tells what the writer tells. Contracts see it as its writer and its count of faults.
 #[derive(Drop)]
 pub struct StreamSink<W: Write> {
     writer: W,
@@ -33,7 +32,7 @@ impl<W: Write> StreamSink<W> {
 }
 
 impl<W: Write> Sink for StreamSink<W> {
-    ghost told = { λ _. None };
+    ghost told = { λ sink. W.contents sink.writer };
 
     ghost faults = { λ sink. sink.faults };
 

@@ -1,10 +1,10 @@
-use Rattle.std.proofs.Common.{rules, ℕ, ◌≡◌, ◌≢◌, ◌≤◌, ◌<◌, ◌+◌, ◌-◌, List, [], take, drop, length, arith, sym, ap, refl, ◌∙◌, subst, length-drop}
+use Rattle.std.proofs.Common.{ℕ, ◌≡◌, ◌≢◌, ◌<◌, ◌+◌, ◌-◌, List, [], take, drop, length, arith, sym, ap, subst, length-drop, append-nil}
 use Rattle.std.specs.Prelude.{Option}
 use Rattle.std.proofs.Math.Seq.{take-add}
 use Rattle.std.proofs.lemmas.List.{take-append-drop, take_all}
-use Rattle.controller.specs.Printed.{Gained, GainedPart, IsProperPrefix}
+use Rattle.controller.specs.Printed.{Gained}
 use Rattle.outside.proofs.Counting.{Rose-since}
-use Rattle.controller.proofs.Gains.{gained_none, gained_more}
+use Rattle.controller.proofs.Gains.{gained_more}
 use Rattle.controller.proofs.write.write_all.Goals as goal
 
 -- where an index is within a list, something stands behind it
@@ -18,6 +18,10 @@ rest_is xs i = take_all (length xs - i) (drop i xs) (omega (arith, length-drop i
 one_more : (xs : List ℕ) (i n : ℕ) (a b c : Option (List ℕ)) → Gained (take i xs) a b → Gained (take n (take (length xs - i) (drop i xs))) b c → Gained (take (i + n) xs) a c
 one_more xs i n a b c f s =
     rw (take-add i n xs) (gained_more (take i xs) (take n (drop i xs)) a b c f (subst (λ (ys : List ℕ). Gained (take n ys) b c) (rest_is xs i) s))
+
+-- nothing more of the piece
+none_more : (xs : List ℕ) (i : ℕ) (a b c : Option (List ℕ)) → Gained (take i xs) a b → Gained [] b c → Gained (take i xs) a c
+none_more xs i a b c f s = subst (λ (ys : List ℕ). Gained ys a c) (append-nil (take i xs)) (gained_more (take i xs) [] a b c f s)
 
 pub loop-at-preserved : goal.loop-at-preserved
 loop-at-preserved g c = record {
@@ -35,7 +39,7 @@ returns-in-Err g c = (
       lacks = rest_some c.args.piece.now c.loop-at.at c.loop-at-test.true;
       whole = sym (take-append-drop c.loop-at.at c.args.piece.now);
     };
-    gained = c.in-Err.ensures.told_after ∙ sym (gained_none _) ∙ c.loop-at.invariant.gained;
+    gained = none_more c.args.piece.now c.loop-at.at _ _ _ c.loop-at.invariant.gained c.in-Err.ensures.told_after;
   },
   Rose-since _ _ _ c.loop-at.invariant.faults c.in-Err.ensures.faults_never_fall c.in-Err.ensures.failed_only_where_faults_rose,
   (let h = c.in-Err.ensures.faults_never_fall in omega (arith, h)),
