@@ -1,26 +1,21 @@
 -- Each way in which a call ends answers its words and files.
-use Rattle.std.proofs.Common.{◌≡◌, ℕ, ◌+◌, ◌≤◌, List, [], ◌∷◌, Option, Some, None, Result, Ok, Err, refl, ap, sym, ◌∙◌, subst, inl, inr, ◌⊎◌, arith}
+use Rattle.std.proofs.Common.{◌≡◌, ℕ, List, [], ◌∷◌, Option, Some, None, Result, Ok, Err, refl, ap, sym, ◌∙◌, subst, inl, inr}
 use Rattle.std.specs.Prelude.{IfSome, option_map}
-use Rattle.outside.specs.Count.{Rose}
 use Rattle.outside.specs.Told.{Told, found, after_reads}
 use Rattle.outside.proofs.Counting.{after_reads-zero}
 use Rattle.rapid_model.specs.CellData.{CellData}
 use Rattle.rapid_model.specs.ScriptData.{ScriptData, cell_of, module_names}
-use Rattle.rapid_model.specs.declared.script.ScriptRule.{ScriptRule}
 use Rattle.rapid_model.specs.declared.tree.Tree.{Tree}
-use Rattle.cell_script.specs.ScriptOf.{ScriptOf}
 use Rattle.controller.specs.declared.report.Report.{Report}
 use Rattle.controller.specs.declared.refused.Refused.{Refused}
-use Rattle.controller.specs.declared.refused.Refused.TheVariants.{Words, Script, Module, Read, Write, Memory, TooLong}
-use Rattle.controller.specs.declared.refused.ModuleRule.TheVariants.{NotBuilt}
+use Rattle.controller.specs.declared.refused.Refused.TheVariants.{Words, Memory}
 use Rattle.controller.specs.Words.{refused_place, script_name}
 use Rattle.controller.specs.Refusals.{status_of, refusal_text, refusal_line}
 use Rattle.controller.specs.Files.{text_of, ReadFaulted}
 use Rattle.controller.specs.Loaded.{ScriptFaulted, ModuleFaulted, IsScriptIn, IsModuleIn}
-use Rattle.controller.specs.Accepted.{Verdict, refuses, runs, Accepted, script_limit, module_limit, file_text, ModuleIn, ModulesOf, verdict_of, names_of, ScriptDecides, FileDecides, WordsDecide}
-use Rattle.controller.specs.Printed.{Gained, GainedUnlessFaults}
-use Rattle.controller.specs.Answered.{Sunk, sunk, TakesLine, IsRefused, IsPrinted, IsCutShort, Answers, AnswersRun, IsOutOfMemory, RunsOrMemory, AnswersWords}
-use Rattle.controller.proofs.Gains.{gained_none}
+use Rattle.controller.specs.Accepted.{Verdict, refuses, runs, Accepted, script_limit, module_limit, file_text, ModulesOf, verdict_of, FileDecides, WordsDecide}
+use Rattle.controller.specs.Printed.{Gained}
+use Rattle.controller.specs.Answered.{Sunk, TakesLine, IsRefused, IsCutShort, Answers, AnswersRun, IsOutOfMemory, RunsOrMemory, AnswersWords}
 
 -- what holds of all files holds of those that are told
 of_all : (told : Option Told) (P : Told → Type 0) → ((files : Told) → P files) → IfSome told P

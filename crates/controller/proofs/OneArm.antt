@@ -1,5 +1,5 @@
 -- The cell of a script that a text spells has one task, with an arm; and a machine for it is a crew.
-use Rattle.std.proofs.Common.{◌≡◌, ℕ, zero, suc, ◌<◌, List, [], ◌∷◌, codes, ◌==◌, Some, None, Option, refl, ap, sym, ◌∙◌, subst, arith, Ok, Bool, true, false, ◌&&◌, length}
+use Rattle.std.proofs.Common.{◌≡◌, ℕ, zero, suc, List, [], ◌∷◌, codes, ◌==◌, Some, None, Option, refl, sym, subst, arith, Ok, Bool, true, false, ◌&&◌, length}
 use Rattle.std.specs.Prelude.{IfSome, IsTrue, is_some, slice_get}
 use Rattle.std.specs.List.{list_all}
 use Rattle.rapid_num.specs.declared.joints.Joints.{Joints}

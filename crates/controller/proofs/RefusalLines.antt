@@ -1,11 +1,11 @@
 -- The line of a refusal in three pieces.
-use Rattle.std.proofs.Common.{◌≡◌, ℕ, List, [], ◌∷◌, ◌++◌, ap, append_assoc, refl, ◌∙◌}
+use Rattle.std.proofs.Common.{◌≡◌, ℕ, List, ◌∷◌, ◌++◌, ap, append_assoc, refl, ◌∙◌}
 use Rattle.std.specs.Prelude.{codes, decimal}
 use Rattle.rapid_model.specs.declared.script.ScriptRule.{ScriptRule}
 use Rattle.rapid_lexer.specs.declared.place.Place.{Place}
 use Rattle.controller.specs.declared.refused.ModuleRule.{ModuleRule}
 use Rattle.controller.specs.declared.refused.Refused.{Refused}
-use Rattle.controller.specs.declared.refused.Refused.TheVariants.{Words, Script, Module, Read, Write, Memory, TooLong}
+use Rattle.controller.specs.declared.refused.Refused.TheVariants.{Words, Script, Module, Read, TooLong}
 use Rattle.controller.specs.Refusals.{refusal_text, key_words, script_rule_name, place_words, module_rule_name}
 
 pub words_pieces : (name middle : List ℕ) (place : ℕ) (r : Refused) → r ≡ Words place → middle ≡ decimal place

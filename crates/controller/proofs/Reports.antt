@@ -1,13 +1,11 @@
 -- The report of a run.
-use Rattle.std.proofs.Common.{◌≡◌, ℕ, List, [], length, None, Some, Ok, Err, Option, refl, ap, sym, ◌∙◌, subst, inl, inr}
+use Rattle.std.proofs.Common.{◌≡◌, ℕ, List, [], length, None, Some, ap, sym, ◌∙◌, subst, inl, inr}
 use Rattle.outside.specs.Count.{Rose}
-use Rattle.outside.specs.declared.failed.Failed.{Failed}
 use Rattle.rapid_model.specs.CellData.{CellData}
 use Rattle.rapid_model.specs.declared.event.Event.{Event}
-use Rattle.rapid_model.specs.declared.fate.Fate.{Fate}
 use Rattle.rapid_model.specs.declared.tree.Tree.{Tree}
 use Rattle.rapid_meaning.specs.Runs.{tree_asks}
-use Rattle.rapid_meaning.specs.Histories.{IsLegal, IsWhole, fates_after}
+use Rattle.rapid_meaning.specs.Histories.{fates_after}
 use Rattle.rapid_meaning.specs.Turns.{IsByTurns}
 use Rattle.rapid_meaning.proofs.ByTurns.{by_turns_legal, by_turns_whole, trees_ask_within}
 use Rattle.history_text.specs.Lines.{output_of}
@@ -15,8 +13,8 @@ use Rattle.controller.specs.declared.report.Report.{Report}
 use Rattle.controller.specs.declared.refused.Refused.TheVariants.{Write}
 use Rattle.controller.specs.Refusals.{status_of, refusal_text}
 use Rattle.controller.specs.Runs.{IsRun, run_status}
-use Rattle.controller.specs.Printed.{Gained, GainedPart, Writes}
-use Rattle.controller.specs.Answered.{Sunk, TakesLine, IsPrinted, IsCutShort, AnswersRun}
+use Rattle.controller.specs.Printed.{Gained, GainedPart}
+use Rattle.controller.specs.Answered.{Sunk, TakesLine, AnswersRun}
 
 -- the report has this history of the cell, and the fates that follow from it
 pub record Tells (cell : CellData) (history : List Event) (report : Report) : Type 0 where

@@ -1,6 +1,5 @@
 -- What loading a script or a module comes to.
 use Rattle.std.specs.Prelude.{◌≡◌, ℕ, ◌⊎◌, List, [], Result, Ok, Err}
-use Rattle.outside.specs.Count.{Rose}
 use Rattle.rapid_model.specs.ScriptData.{ScriptData}
 use Rattle.rapid_model.specs.declared.script.ScriptRule.{ScriptRule}
 use Rattle.rapid_model.specs.declared.tree.Tree.{Tree}

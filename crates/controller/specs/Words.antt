@@ -1,5 +1,5 @@
 -- Which command words are taken: round and one more word that does not begin with a minus.
-use Rattle.std.specs.Prelude.{ℕ, ◌+◌, Bool, false, not, nat_lt, nat_le, List, [], ◌∷◌, length, position, Option, Some, None, codes, ◌==◌, if◌then◌else◌, bytes_eq}
+use Rattle.std.specs.Prelude.{ℕ, Bool, false, nat_lt, List, [], ◌∷◌, length, position, Option, Some, None, codes, ◌==◌, if◌then◌else◌, bytes_eq}
 use Rattle.rapid_model.specs.Requests.{or_else}
 
 abbrev pub begins_with_minus : List ℕ → Bool

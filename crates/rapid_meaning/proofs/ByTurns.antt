@@ -1,5 +1,5 @@
 -- A run by turns is legal and whole, and there is one at most.
-use Rattle.std.proofs.Common.{◌≡◌, ℕ, zero, suc, ◌+◌, ◌-◌, ◌≤◌, ◌<◌, List, [], ◌∷◌, ◌++◌, length, refl, ap, inl, inr, ◌⊎◌, sym, ◌∙◌, subst, arith, length-append, zero-add, Option, Some, None}
+use Rattle.std.proofs.Common.{◌≡◌, ℕ, zero, suc, ◌+◌, ◌-◌, ◌≤◌, ◌<◌, List, [], ◌∷◌, ◌++◌, length, refl, ap, inl, inr, sym, ◌∙◌, subst, arith, length-append, zero-add, Option, Some, None}
 use Rattle.std.specs.Prelude.{IsSomeAnd, slice_get}
 use Rattle.std.proofs.lemmas.Bool.{cases_lt}
 use Rattle.std.proofs.lemmas.Option.{slice_get_within}
@@ -12,7 +12,7 @@ use Rattle.rapid_meaning.specs.Runs.{asked_after, tree_asks}
 use Rattle.rapid_model.specs.CellData.{CellData}
 use Rattle.rapid_model.specs.declared.event.Event.{Event}
 use Rattle.rapid_meaning.specs.Histories.{Asking, Follows, IsLegal, IsWhole}
-use Rattle.rapid_meaning.specs.Turns.{Steps, Rests, TakesTurn, TakeTurns, IsRound, AfterRounds, IsByTurns}
+use Rattle.rapid_meaning.specs.Turns.{TakesTurn, TakeTurns, IsRound, AfterRounds, IsByTurns}
 use Rattle.rapid_meaning.proofs.Lists.{last_or_before}
 
 pub legal_none : (asks : Asking) (cell : CellData) → IsLegal asks cell []

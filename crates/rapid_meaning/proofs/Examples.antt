@@ -1,10 +1,9 @@
 -- The definitions on a worked example: one task whose arm goes from 0 to 2.5 degrees at a degree a setpoint.
-use Rattle.std.proofs.Common.{◌≡◌, ℕ, List, [], ◌∷◌, ◌++◌, refl, Some, None, replicate}
-use Rattle.std.specs.Prelude.{codes, ℤ, pos}
+use Rattle.std.proofs.Common.{◌≡◌, [], ◌∷◌, ◌++◌, refl, replicate}
+use Rattle.std.specs.Prelude.{ℤ, pos}
 use Rattle.rapid_num.specs.Reach.{absent_axes}
 use Rattle.rapid_num.specs.declared.joints.Joints.{Joints}
-use Rattle.joint_planner.specs.Setpoints.{setpoint, greatest_change, step_of}
-use Rattle.rapid_model.specs.declared.answer.Answer.{Answer}
+use Rattle.joint_planner.specs.Setpoints.{greatest_change, step_of}
 use Rattle.rapid_model.specs.declared.answer.Answer.TheVariants as answers
 use Rattle.rapid_model.specs.declared.fate.Fate.TheVariants as fates
 use Rattle.rapid_model.specs.declared.fate.Fault.TheVariants.{JointRange}
@@ -13,7 +12,7 @@ use Rattle.rapid_model.specs.declared.tree.Tree.{Tree}
 use Rattle.rapid_model.specs.declared.tree.Form.TheVariants.{Move}
 use Rattle.rapid_meaning.specs.Outcomes.{ask, and_then}
 use Rattle.rapid_meaning.specs.Statements.{setpoints, move_from, perform, attempt, perform_list, when_given, when_let}
-use Rattle.rapid_meaning.specs.Runs.{Next, asks, ended, unfit, asked_after}
+use Rattle.rapid_meaning.specs.Runs.{asks, ended, unfit, asked_after}
 
 -- axis 1 at this angle, the other five at 0
 abbrev joints_at : ℤ → Joints

@@ -1,5 +1,5 @@
 -- What more answers make of doing a part of a task: what is over stays, and what is due is what any task may ask.
-use Rattle.std.proofs.Common.{◌≡◌, ℕ, zero, suc, ◌+◌, ◌-◌, ◌≤◌, Bool, true, false, List, [], ◌∷◌, ◌++◌, refl, ap, sym, ◌∙◌, subst, arith}
+use Rattle.std.proofs.Common.{◌≡◌, ℕ, zero, suc, ◌-◌, ◌≤◌, Bool, true, false, List, [], ◌∷◌, ◌++◌, refl, ap, sym, subst, arith}
 use Rattle.std.specs.Prelude.{IsTrue, if◌then◌else◌}
 use Rattle.rapid_num.specs.Reach.{is_reachable, is_position}
 use Rattle.rapid_num.specs.declared.joints.Joints.{Joints}

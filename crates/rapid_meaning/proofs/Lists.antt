@@ -1,5 +1,5 @@
 -- Lists cut at an element.
-use Rattle.std.proofs.Common.{◌≡◌, List, [], ◌∷◌, ◌++◌, refl, ap, inl, inr, ◌⊎◌, sym, ◌∙◌}
+use Rattle.std.proofs.Common.{◌≡◌, List, [], ◌∷◌, ◌++◌, refl, ap, inl, inr, ◌⊎◌, sym}
 
 -- where a list with x at its end is cut at e: e is that x, or it stands before it
 pub last_or_before : {A : Type 0} (xs before after : List A) (x e : A) → xs ++ x ∷ [] ≡ before ++ e ∷ after

@@ -1,6 +1,6 @@
 -- What one more event changes of what a history comes to.
 use Rattle.std.proofs.Common.{◌≡◌, ℕ, ◌+◌, Bool, true, false, cond, List, [], ◌∷◌, ◌++◌, Option, Some, None, refl, ◌∙◌, ap, arith, zero-add}
-use Rattle.std.specs.Prelude.{not, ◌&&◌, ◌==◌, count_by, filter, option_map, slice_get}
+use Rattle.std.specs.Prelude.{not, ◌&&◌, ◌==◌, option_map, slice_get}
 use Rattle.std.specs.Option.{option_and_then}
 use Rattle.std.proofs.lemmas.Bool.{eq-eqb, ne_eqb}
 use Rattle.std.proofs.lemmas.List.{append-nil}

@@ -1,9 +1,9 @@
 -- Any tree suits any task with an arm.
-use Rattle.std.proofs.Common.{◌≡◌, ℕ, Bool, true, false, not, ◌&&◌, List, [], ◌∷◌, ◌++◌, map, refl, ap, sym, ◌∙◌, subst, arith, Option, Some, None}
+use Rattle.std.proofs.Common.{◌≡◌, ℕ, Bool, true, false, not, ◌&&◌, List, [], ◌∷◌, ◌++◌, refl, ap, sym, ◌∙◌, subst, Option, Some, None}
 use Rattle.std.specs.Prelude.{IsTrue, is_some, slice_get}
 use Rattle.rapid_num.specs.Reach.{is_position}
 use Rattle.rapid_model.specs.CellData.{CellData}
-use Rattle.rapid_model.specs.Requests.{fate_told, or_else, end_of, has_ended, may_tell, row_allows, may_ask}
+use Rattle.rapid_model.specs.Requests.{fate_told, or_else, end_of, has_ended, may_tell, row_allows}
 use Rattle.rapid_model.specs.declared.answer.Answer.{Answer}
 use Rattle.rapid_model.specs.declared.event.Event.{Event}
 use Rattle.rapid_model.specs.declared.fate.Fate.{Fate}
@@ -15,9 +15,9 @@ use Rattle.rapid_model.specs.declared.tree.Tree.{Tree}
 use Rattle.rapid_meaning.specs.Outcomes as outcomes
 use Rattle.rapid_meaning.specs.Outcomes.{Outcome}
 use Rattle.rapid_meaning.specs.Statements.{perform_list}
-use Rattle.rapid_meaning.specs.Runs.{Next, asks, ended, unfit, told, next_of, asked_after}
+use Rattle.rapid_meaning.specs.Runs.{asks, ended, told, next_of, asked_after}
 use Rattle.rapid_meaning.specs.Traces.{answers_in, IsTrace, SuitsTask}
-use Rattle.rapid_meaning.proofs.Grows.{IsAskable, Grown, Grows, perform_list_grows}
+use Rattle.rapid_meaning.proofs.Grows.{IsAskable, Grown, perform_list_grows}
 
 -- what a task asks, with an arm, any task may
 told_allowed : (fate : Fate) (rest : List Answer) (row : TaskRow) (request : Request) → IsTrue (may_tell fate) → told fate rest ≡ asks request → IsTrue (row_allows (Some row) request)

@@ -1,6 +1,6 @@
 -- Where an arm is after a history.
-use Rattle.std.specs.Prelude.{ℕ, Bool, true, false, List, [], ◌∷◌, Option, Some, None, slice_get}
-use Rattle.std.specs.Option.{option_and_then, unwrap_or}
+use Rattle.std.specs.Prelude.{ℕ, List, [], ◌∷◌, Option, Some, None, slice_get}
+use Rattle.std.specs.Option.{option_and_then}
 use Rattle.rapid_num.specs.declared.joints.Joints.{Joints}
 use Rattle.rapid_model.specs.CellData.{CellData}
 use Rattle.rapid_model.specs.Requests.{part_of}

@@ -1,5 +1,5 @@
 -- What the statements of a task ask (RAPID Overview, program execution; RAPID Instructions: MoveAbsJ).
-use Rattle.std.specs.Prelude.{ℕ, zero, suc, ◌+◌, ◌-◌, ◌/◌, max, Bool, ℤ, nat_abs, List, [], ◌∷◌, if◌then◌else◌}
+use Rattle.std.specs.Prelude.{ℕ, zero, suc, ◌-◌, ◌/◌, max, ℤ, nat_abs, List, [], ◌∷◌, if◌then◌else◌}
 use Rattle.rapid_num.specs.Reach.{is_reachable, is_position}
 use Rattle.rapid_num.specs.declared.joints.Joints.{Joints}
 use Rattle.joint_planner.specs.Setpoints.{setpoint_count, setpoint}
@@ -8,12 +8,11 @@ use Rattle.rapid_model.specs.declared.answer.Answer.TheVariants as answers
 use Rattle.rapid_model.specs.declared.fate.Fate.{Fate}
 use Rattle.rapid_model.specs.declared.fate.Fate.TheVariants as fates
 use Rattle.rapid_model.specs.declared.fate.Fault.TheVariants.{JointRange}
-use Rattle.rapid_model.specs.declared.request.Request.{Request}
-use Rattle.rapid_model.specs.declared.request.Request.TheVariants.{Look, Position, Setpoint, End}
+use Rattle.rapid_model.specs.declared.request.Request.TheVariants.{Look, Position, Setpoint}
 use Rattle.rapid_model.specs.declared.tree.Stmt.{Stmt}
 use Rattle.rapid_model.specs.declared.tree.Form.{Form}
 use Rattle.rapid_model.specs.declared.tree.Form.TheVariants.{Move}
-use Rattle.rapid_meaning.specs.Outcomes.{Outcome, goes_on, ends, unfit, Doing, ask, and_then}
+use Rattle.rapid_meaning.specs.Outcomes.{goes_on, ends, unfit, Doing, ask, and_then}
 
 -- nothing is left to do
 abbrev pub done : Doing

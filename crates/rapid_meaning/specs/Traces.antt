@@ -1,5 +1,5 @@
 -- What one task asks over a whole history, and what it may ask of its cell.
-use Rattle.std.specs.Prelude.{◌≡◌, ℕ, List, [], ◌∷◌, ◌++◌, map, IsTrue}
+use Rattle.std.specs.Prelude.{◌≡◌, ℕ, List, ◌∷◌, ◌++◌, map, IsTrue}
 use Rattle.rapid_model.specs.CellData.{CellData}
 use Rattle.rapid_model.specs.Requests.{fits_request, may_ask}
 use Rattle.rapid_model.specs.declared.answer.Answer.{Answer}

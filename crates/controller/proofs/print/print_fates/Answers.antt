@@ -1,4 +1,4 @@
-use Rattle.std.proofs.Common.{◌≡◌, ◌<◌, length, get_or, arith, ap, ◌∙◌, List}
+use Rattle.std.proofs.Common.{◌<◌, length, get_or, arith, ap, ◌∙◌, List}
 use Rattle.rapid_model.specs.declared.task_row.TaskRow.{TaskRow}
 use Rattle.controller.proofs.Printing.{fate_printed, fate_failed}
 use Rattle.controller.proofs.print.print_fates.Goals as goal

@@ -1,4 +1,4 @@
-use Rattle.std.proofs.Common.{◌≡◌, ◌∷◌, [], ◌++◌, List, ℕ, subst, sym, ap, ◌∙◌}
+use Rattle.std.proofs.Common.{◌≡◌, List, ℕ, subst, sym, ap, ◌∙◌}
 use Rattle.std.specs.Prelude.{Option, Result, ⊤}
 use Rattle.outside.specs.declared.failed.Failed.{Failed}
 use Rattle.controller.specs.Refusals.{key_words}

@@ -1,4 +1,3 @@
-use Rattle.std.proofs.Common.{◌++◌}
 use Rattle.controller.proofs.Gains.{writes_then, writes_part}
 use Rattle.controller.proofs.telling.write_two.Goals as goal
 
