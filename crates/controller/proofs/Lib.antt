@@ -7,3 +7,4 @@ pub mod Printing
 pub mod OneArm
 pub mod Exits
 pub mod Reports
+pub mod OneVerdict

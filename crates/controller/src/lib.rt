@@ -3,6 +3,7 @@
 
 mod action;
 mod file;
+mod laws;
 mod load;
 mod print;
 mod refusal_report;
@@ -17,6 +18,7 @@ mod words;
 mod write;
 
 pub use action::quiet;
+pub use laws::verdict_is_one;
 pub use refused::{ModuleRule, Refused};
 pub use report::Report;
 
