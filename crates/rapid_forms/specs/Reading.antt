@@ -1,0 +1,75 @@
+-- Reading forms from left to right, with a look at one token: each reader takes a form from the front, and leaves the
+-- tokens behind it.
+use Rattle.std.specs.Prelude.{◌≡◌, ℕ, zero, suc, Bool, true, false, List, [], ◌∷◌, length, drop, Option, None, Some, Result, Ok, Err, if◌then◌else◌}
+use Rattle.rapid_lexer.specs.Tokens.{Lexeme, views}
+use Rattle.rapid_forms.specs.declared.sign.Sign.{Sign}
+use Rattle.rapid_forms.specs.declared.fault.SyntaxFault.{SyntaxFault}
+use Rattle.rapid_forms.specs.declared.fault.SyntaxFault.TheVariants.{Memory}
+use Rattle.rapid_forms.specs.declared.tokens.Tokens.{Tokens}
+use Rattle.rapid_forms.specs.Signs.{has, sign_of, begins_with}
+use Rattle.rapid_forms.specs.Forms.{place}
+use Rattle.rapid_forms.specs.Parsed.{syntax_fault, depth_fault}
+
+-- where reading stopped: the tokens that are left there
+pub data Halt : Type 0 where
+  -- the first of them goes on with nothing
+  Fails : List Lexeme → Halt
+  -- the first of them opens a level too many
+  Deep : List Lexeme → Halt
+
+abbrev pub Read : Type 0 → Type 0
+Read A = Result (A × List Lexeme) Halt
+
+abbrev pub Reader : Type 0 → Type 0
+Reader A = List Lexeme → Read A
+
+unfoldable pub then_read : {A B : Type 0} → Read A → (A → Reader B) → Read B
+then_read (Ok x) next = next x.0 x.1
+then_read (Err h) next = Err h
+
+unfoldable pub one_read : List Sign → Reader Lexeme
+one_read signs [] = Err (Fails [])
+one_read signs (t ∷ ts) = if has signs (sign_of t) then Ok (t, ts) else Err (Fails (t ∷ ts))
+
+unfoldable pub seq_read : {A B : Type 0} → Reader A → Reader B → Reader (A × B)
+seq_read a b ts = then_read (a ts) λ x rest. then_read (b rest) λ y left. Ok ((x, y), left)
+
+-- the first where one of these signs stands in front, else the second
+unfoldable pub either_read : {A : Type 0} → List Sign → Reader A → Reader A → Reader A
+either_read signs a b ts = if begins_with signs ts then a ts else b ts
+
+unfoldable pub optional_read : {A : Type 0} → List Sign → Reader A → Reader (Option A)
+optional_read signs a ts = if begins_with signs ts then then_read (a ts) (λ x rest. Ok (Some x, rest)) else Ok (None, ts)
+
+-- one more as long as one of these signs stands in front; each takes a token, so there are at most so many
+unfoldable pub many_within : {A : Type 0} → ℕ → List Sign → Reader A → Reader (List A)
+many_within zero signs a ts = Ok ([], ts)
+many_within (suc n) signs a ts =
+    if begins_with signs ts then then_read (a ts) (λ x rest. then_read (many_within n signs a rest) λ xs left. Ok (x ∷ xs, left))
+    else Ok ([], ts)
+
+unfoldable pub many_read : {A : Type 0} → List Sign → Reader A → Reader (List A)
+many_read signs a ts = many_within (length ts) signs a ts
+
+unfoldable pub made_read : {A B : Type 0} → (ℕ → A → B) → Reader A → Reader B
+made_read f a ts = then_read (a ts) λ x rest. Ok (f (place ts) x, rest)
+
+-- no level is left: one of these signs would open one
+unfoldable pub nothing_read : {A : Type 0} → List Sign → Reader A
+nothing_read signs ts = if begins_with signs ts then Err (Deep ts) else Err (Fails ts)
+
+unfoldable pub within_read : {A : Type 0} → List Sign → (ℕ → Reader A) → ℕ → Reader A
+within_read signs r zero = nothing_read signs
+within_read signs r (suc n) = r n
+
+-- the fault where reading stopped
+abbrev pub fault_of : ℕ → Halt → SyntaxFault
+fault_of end (Fails ts) = syntax_fault end ts
+fault_of end (Deep ts) = depth_fault end ts
+
+-- What a function over tokens returned, a tree and the number of the next token, is what reading gives. Want of memory
+-- aside.
+abbrev pub Gives : {X A : Type 0} → Tokens → (X → A) → Result (X × ℕ) SyntaxFault → Read A → Type 0
+Gives tokens view (Ok x) read = read ≡ Ok (view x.0, drop x.1 (views tokens.list.now))
+Gives tokens view (Err Memory) read = Unit {0}
+Gives tokens view (Err fault) read = (halt : Halt) × (read ≡ Err halt) × (fault ≡ fault_of tokens.end halt)

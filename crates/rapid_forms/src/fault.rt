@@ -1,0 +1,45 @@
+//! Why tokens are not a form.
+
+ghost use Rattle.std.specs.Prelude.{◌≡◌};
+ghost use Rattle.rapid_forms.specs.declared.fault.SyntaxFault.TheVariants.{Memory};
+
+use rapid_lexer::LexFault;
+use std::alloc::{AllocError, AllocFailed};
+
+/// What is wrong at the first token with which the tokens so far are no beginning of the form.
+#[derive(Clone, Copy, Debug, PartialEq, Eq)]
+pub enum SyntaxRule {
+    /// The tokens so far go on with no such token, or the text ends too early.
+    Syntax,
+    /// The token is a word of RAPID that this profile leaves out: ALIAS, RECORD, UNDO or BACKWARD.
+    LeftOut,
+    /// The token opens a 65th level of nesting.
+    TooDeep,
+}
+
+/// Why there is no tree.
+#[derive(Clone, Copy, Debug, PartialEq, Eq)]
+pub enum SyntaxFault {
+    /// The rule, and the byte of the source where it is broken, from 0.
+    Rule { rule: SyntaxRule, at: usize },
+    /// The text is not made of tokens.
+    Lex(LexFault),
+    /// Memory was refused.
+    Memory,
+}
+
+impl From<AllocError> for SyntaxFault {
+    ghost from_gives = { λ _ e. e ≡ Memory };
+
+    fn from(_e: AllocError) -> SyntaxFault {
+        SyntaxFault::Memory
+    }
+}
+
+impl<T: Drop> From<AllocFailed<T>> for SyntaxFault {
+    ghost from_gives = { λ _ e. e ≡ Memory };
+
+    fn from(_e: AllocFailed<T>) -> SyntaxFault {
+        SyntaxFault::Memory
+    }
+}

@@ -1,0 +1,15 @@
+//! The forms that RAPID's grammar is made of, what a parser of such a form answers, and the steps of its code.
+#![tactic(auto)]
+
+mod fault;
+mod sign;
+mod signs;
+mod tokens;
+
+pub use fault::{SyntaxFault, SyntaxRule};
+pub use sign::Sign;
+pub use signs::sign_of;
+pub use tokens::Tokens;
+
+#[cfg(test)]
+mod tests;

@@ -1,0 +1,87 @@
+//! The steps of a parser over tokens.
+
+ghost use Rattle.std.specs.Prelude.{◌≡◌, drop};
+ghost use Rattle.rapid_lexer.specs.Tokens.{view, views};
+ghost use Rattle.rapid_forms.specs.Signs.{begins_with, has};
+ghost use Rattle.rapid_forms.specs.Parsed.{depth_fault, place_or, syntax_fault};
+ghost use Rattle.rapid_forms.specs.Reading.{Gives, one_read};
+
+use crate::fault::{SyntaxFault, SyntaxRule};
+use crate::sign::Sign;
+use crate::signs::sign_of;
+use rapid_lexer::Token;
+
+/// The tokens of a text, and the text's length in bytes.
+#[derive(Clone, Copy, Debug)]
+pub struct Tokens<'t, 'a> {
+    pub list: &'t [Token<'a>],
+    pub end: usize,
+}
+
+fn is_one_of(sign: Sign, signs: &[Sign]) -> bool
+    ensures { result ≡ has signs.now sign }
+{
+    for other in signs {
+        if *other as u8 == sign as u8 {
+            return true;
+        }
+    }
+    false
+}
+
+impl<'t, 'a> Tokens<'t, 'a> {
+    /// Whether token `at` is there and has one of these signs.
+    pub fn sees(&self, at: usize, signs: &[Sign]) -> bool
+        ensures { result ≡ begins_with signs.now (drop at (views self.now.list.now)) }
+    {
+        match self.list.get(at) {
+            Some(token) => is_one_of(sign_of(token), signs),
+            None => false,
+        }
+    }
+
+    /// Token `at`, if it has one of these signs, and the number of the next token.
+    pub fn take(&self, at: usize, signs: &[Sign]) -> Result<(Token<'a>, usize), SyntaxFault>
+        ensures { Gives self.now view result (one_read signs.now (drop at (views self.now.list.now))) }
+    {
+        match self.list.get(at) {
+            Some(token) if is_one_of(sign_of(token), signs) => Ok((*token, at + 1)),
+            _ => Err(self.fails(at)),
+        }
+    }
+
+    /// The byte at which token `at` stands, or the text's end.
+    fn place(&self, at: usize) -> usize
+        ensures { result ≡ place_or self.now.end (drop at (views self.now.list.now)) }
+    {
+        match self.list.get(at) {
+            Some(token) => token.at,
+            None => self.end,
+        }
+    }
+
+    /// The fault where the tokens before token `at` do not go on with it.
+    pub fn fails(&self, at: usize) -> SyntaxFault
+        ensures { result ≡ syntax_fault self.now.end (drop at (views self.now.list.now)) }
+    {
+        let rule = if self.sees(at, &[Sign::Alias, Sign::Record, Sign::Undo, Sign::Backward]) {
+            SyntaxRule::LeftOut
+        } else {
+            SyntaxRule::Syntax
+        };
+        SyntaxFault::Rule {
+            rule,
+            at: self.place(at),
+        }
+    }
+
+    /// The fault where token `at` opens a level too many.
+    pub fn deep(&self, at: usize) -> SyntaxFault
+        ensures { result ≡ depth_fault self.now.end (drop at (views self.now.list.now)) }
+    {
+        SyntaxFault::Rule {
+            rule: SyntaxRule::TooDeep,
+            at: self.place(at),
+        }
+    }
+}
