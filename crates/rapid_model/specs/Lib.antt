@@ -3,3 +3,4 @@ pub mod Names
 pub mod CellData
 pub mod ScriptData
 pub mod Requests
+pub mod Plain
