@@ -1,8 +1,8 @@
 -- Looking one token ahead: what may begin a form, what may go on with one, and that tokens stand for one thing.
-use Rattle.std.proofs.Common.{◌≡◌, ℕ, Bool, true, false, List, [], ◌∷◌, ◌++◌}
+use Rattle.std.proofs.Common.{◌≡◌, Bool, true, List, [], ◌∷◌, ◌++◌}
 use Rattle.rapid_lexer.specs.Tokens.{Lexeme}
 use Rattle.rapid_forms.specs.declared.sign.Sign.{Sign}
-use Rattle.rapid_forms.specs.Signs.{has, sign_of, code}
+use Rattle.rapid_forms.specs.Signs.{has, sign_of}
 use Rattle.rapid_forms.specs.Forms.{Form}
 
 -- A form that no token at all may be a whole of only where null says so, whose first token has a sign of first, and whose

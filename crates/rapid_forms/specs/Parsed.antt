@@ -1,7 +1,6 @@
 -- What a parser of a form answers. F n is the form within n levels of nesting.
-use Rattle.std.specs.Prelude.{◌≡◌, ℕ, suc, ◌+◌, ◌≤◌, ◌<◌, Bool, true, false, List, [], ◌∷◌, length, take, drop, Result, Ok, Err, if◌then◌else◌, ◌⊎◌}
+use Rattle.std.specs.Prelude.{◌≡◌, ℕ, suc, ◌+◌, ◌≤◌, ◌<◌, Bool, List, [], ◌∷◌, length, take, drop, Result, Ok, Err, if◌then◌else◌, ◌⊎◌}
 use Rattle.rapid_lexer.specs.Tokens.{Lexeme, views}
-use Rattle.rapid_forms.specs.declared.fault.SyntaxRule.{SyntaxRule}
 use Rattle.rapid_forms.specs.declared.fault.SyntaxRule.TheVariants.{Syntax, LeftOut, TooDeep}
 use Rattle.rapid_forms.specs.declared.fault.SyntaxFault.{SyntaxFault}
 use Rattle.rapid_forms.specs.declared.fault.SyntaxFault.TheVariants.{Rule, Lex, Memory}

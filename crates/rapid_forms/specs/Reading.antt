@@ -1,6 +1,6 @@
 -- Reading forms from left to right, with a look at one token: each reader takes a form from the front, and leaves the
 -- tokens behind it.
-use Rattle.std.specs.Prelude.{◌≡◌, ℕ, zero, suc, Bool, true, false, List, [], ◌∷◌, length, drop, Option, None, Some, Result, Ok, Err, if◌then◌else◌}
+use Rattle.std.specs.Prelude.{◌≡◌, ℕ, zero, suc, List, [], ◌∷◌, length, drop, Option, None, Some, Result, Ok, Err, if◌then◌else◌}
 use Rattle.rapid_lexer.specs.Tokens.{Lexeme, views}
 use Rattle.rapid_forms.specs.declared.sign.Sign.{Sign}
 use Rattle.rapid_forms.specs.declared.fault.SyntaxFault.{SyntaxFault}

@@ -107,6 +107,7 @@ fn sign_in(rows: &[(&[u8], Sign)], text: &[u8]) -> Sign
 }
 
 /// What a grammar sees of a token.
+#[tactic(auto, unfolding(crate::specs::Signs::sign_of))]
 pub fn sign_of(token: &Token<'_>) -> Sign
     ensures { result ≡ sign_of (view token.now) }
 {
