@@ -1,11 +1,4 @@
 -- Looking one token ahead: what may begin a form, what may go on with one, and that tokens stand for one thing.
-<<<<<<< HEAD
-use Rattle.std.proofs.Common.{◌≡◌, Bool, true, List, [], ◌∷◌, ◌++◌}
-use Rattle.rapid_lexer.specs.Tokens.{Lexeme}
-use Rattle.rapid_forms.specs.declared.sign.Sign.{Sign}
-use Rattle.rapid_forms.specs.Signs.{has, sign_of}
-use Rattle.rapid_forms.specs.Forms.{Form}
-=======
 use Rattle.std.proofs.Common.{◌≡◌, ℕ, zero, suc, Bool, true, false, ◌&&◌, ◌||◌, ◌⊎◌, inl, inr, List, [], ◌∷◌, ◌++◌, Option, None, Some, refl, sym, ◌∙◌, ap, subst}
 use Rattle.std.proofs.lemmas.Bool.{false_from_ne_true, both_ways, and_from, or_left, or_right, cases_Bool}
 use Rattle.std.proofs.lemmas.List.{append_assoc, append-nil}
@@ -15,7 +8,6 @@ use Rattle.rapid_forms.specs.Signs.{has, sign_of, code, begins_with}
 use Rattle.rapid_forms.specs.Forms.{Form, one, seq, either, optional, many, made, nothing, within, WholeEach, WholeOrNone, place}
 use Rattle.rapid_forms.proofs.Cuts.{Cut, Even, Shorter, Longer, cuts, both_empty, heads, behind, no_middle, no_front}
 use Rattle.rapid_forms.proofs.Sets.{apart, covered, when, has_apart, has_covered, has_left, has_right, has_when}
->>>>>>> 8bc4b3a47654b877679e35a27348ce404f8fa96f
 
 -- A form that no token at all may be a whole of only where null says so, whose first token has a sign of first, and whose
 -- whole ones go on, within something begun, with a sign of more alone.
