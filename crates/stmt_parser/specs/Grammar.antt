@@ -83,7 +83,7 @@ simple i =
     (either (made raise_tree (seq (mark signs.Raise) (seq (optional (expr_of i)) (mark signs.Semicolon))))
     (either (made retry_tree (seq (mark signs.Retry) (mark signs.Semicolon)))
     (either (made try_next_tree (seq (mark signs.TryNext) (mark signs.Semicolon)))
-    (made connect_tree (seq (mark signs.Connect) (seq (place i) (seq (mark signs.With) (seq name (mark signs.Semicolon))))))))))))))
+    (made connect_tree (seq (mark signs.Connect) (seq (place i) (seq (mark signs.With) (seq name (mark signs.Semicolon)))))))))))))
 
 -- expr THEN list
 unfoldable pub arm : Inside → Form (List PlainStmt) → Form (PlainExpr × List PlainStmt)
