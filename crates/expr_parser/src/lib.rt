@@ -1,9 +1,16 @@
 //! Expressions: which tokens spell one, and the tree that they spell.
 #![tactic(auto)]
 
-ghost use Rattle.expr_parser.specs.Grammar.{expr};
+mod args;
+mod chains;
+mod level;
+mod levels;
+mod operators;
+mod parse;
+mod parser;
+mod primary;
 
-/// Nothing yet.
-pub fn nothing_yet() -> u8 {
-    0
-}
+pub use parse::parse_expr;
+
+#[cfg(test)]
+mod tests;

@@ -139,6 +139,10 @@ abbrev pub steps_of : List (Operator × PlainExpr) → PlainSteps
 steps_of [] = NoSteps
 steps_of (s ∷ ss) = MoreSteps s.0 s.1 (steps_of ss)
 
+abbrev pub held_of : Option PlainExpr → PlainHeld
+held_of None = NotHeld
+held_of (Some e) = Held e
+
 abbrev pub stmts_of : List PlainStmt → PlainStmts
 stmts_of [] = NoStmts
 stmts_of (s ∷ ss) = MoreStmts s (stmts_of ss)
@@ -150,10 +154,6 @@ arms_of (a ∷ more) = MoreArms a.0 (stmts_of a.1) (arms_of more)
 abbrev pub cases_of : List (List PlainExpr × List PlainStmt) → PlainCases
 cases_of [] = NoCases
 cases_of (c ∷ cs) = MoreCases c.0 (stmts_of c.1) (cases_of cs)
-
-abbrev pub held_of : Option PlainExpr → PlainHeld
-held_of None = NotHeld
-held_of (Some e) = Held e
 
 abbrev pub else_of : Option (List PlainStmt) → PlainElse
 else_of None = NoElse
