@@ -1,9 +1,9 @@
 -- Forms that take the same tokens for the same things. Lines that begin alike are read with the common part taken out.
-use Rattle.std.proofs.Common.{◌≡◌, ℕ, Bool, false, ◌⊎◌, inl, inr, List, [], ◌∷◌, ◌++◌, Option, None, Some, refl, sym, ◌∙◌, ap, subst}
+use Rattle.std.proofs.Common.{◌≡◌, ℕ, zero, suc, Bool, false, ◌⊎◌, inl, inr, List, [], ◌∷◌, ◌++◌, Option, None, Some, refl, sym, ◌∙◌, ap, subst}
 use Rattle.std.proofs.lemmas.List.{append_assoc}
 use Rattle.rapid_lexer.specs.Tokens.{Lexeme}
 use Rattle.rapid_forms.specs.declared.sign.Sign.{Sign}
-use Rattle.rapid_forms.specs.Forms.{Form, seq, either, optional, many, made, within, place}
+use Rattle.rapid_forms.specs.Forms.{Form, seq, either, optional, many, made, nothing, within, place}
 use Rattle.rapid_forms.proofs.Cuts.{ahead, behind, no_front}
 use Rattle.rapid_forms.proofs.Laws.{LL}
 use Rattle.rapid_forms.proofs.Up.{Up, up_refl, up_trans, seq_up, either_up, optional_up, many_up, made_up}
@@ -35,6 +35,35 @@ many_same s = record { to = many_up s.to; back = many_up s.back }
 
 pub made_same : {A B : Type 0} {a a' : Form A} (f : ℕ → A → B) → Same a a' → Same (made f a) (made f a')
 made_same f s = record { to = made_up f s.to; back = made_up f s.back }
+
+pub within_same : {A : Type 0} (F G : ℕ → Form A) → ((m : ℕ) → Same (F m) (G m)) → (n : ℕ) → Same (within F n) (within G n)
+unfolding within
+within_same F G s zero = same_refl nothing
+within_same F G s (suc n) = s n
+
+swap : {A : Type 0} (a b : Form A) → Up (either a b) (either b a)
+unfolding either
+swap a b = record {
+  whole = λ x ts. elim [ inl w ↦ inr w | inr w ↦ inl w ];
+  begun = λ ts. elim [ inl w ↦ inr w | inr w ↦ inl w ];
+}
+
+pub either_swapped : {A : Type 0} (a b : Form A) → Same (either a b) (either b a)
+unfolding either
+either_swapped a b = record { to = swap a b; back = swap b a }
+
+pub either_bracketed : {A : Type 0} (a b c : Form A) → Same (either (either a b) c) (either a (either b c))
+unfolding either
+either_bracketed a b c = record {
+  to = record {
+    whole = λ x ts. elim [ inl (inl w) ↦ inl w | inl (inr w) ↦ inr (inl w) | inr w ↦ inr (inr w) ];
+    begun = λ ts. elim [ inl (inl w) ↦ inl w | inl (inr w) ↦ inr (inl w) | inr w ↦ inr (inr w) ];
+  };
+  back = record {
+    whole = λ x ts. elim [ inl w ↦ inl (inl w) | inr (inl w) ↦ inl (inr w) | inr (inr w) ↦ inr w ];
+    begun = λ ts. elim [ inl w ↦ inl (inl w) | inr (inl w) ↦ inl (inr w) | inr (inr w) ↦ inr w ];
+  };
+}
 
 pub same_ll : {A : Type 0} {null : Bool} {first more : List Sign} {f g : Form A} → Same f g → LL null first more f → LL null first more g
 same_ll s l = record {
@@ -103,10 +132,74 @@ bracketed a b c = record {
       | inr (x, u, v, p, (u', v', p', w, w'), q) ↦ inr (x.0, u', v' ++ v, p ∙ behind u u' v' v p', w, inr (x.1, v', v, refl, w', q)) ];
   };
   back = record {
-    whole = λ x ts w. ?;
+    whole = λ x ts (y, (u, v, p, w, (u', v', p', w', q)), e). subst (λ z. (seq (seq a b) c).Whole z ts) (sym e) (u ++ u', v', p ∙ ahead u v u' v' p', (u, u', refl, w, w'), q);
     begun = λ ts. elim [
       inl p ↦ inl (inl p)
       | inr (x, u, v, p, w, inl q) ↦ inl (inr (x, u, v, p, w, q))
       | inr (x, u, v, p, w, inr (y, u', v', p', w', q)) ↦ inr ((x, y), u ++ u', v', p ∙ ahead u v u' v' p', (u, u', refl, w, w'), q) ];
   };
 }
+
+-- a whole one that takes a token stands at the same place as what it is the front of
+place_front : {A : Type 0} {first more : List Sign} {a : Form A} → LL false first more a → (x : A) (ts u v : List Lexeme) → ts ≡ u ++ v → a.Whole x u → place ts ≡ place u
+place_front l x ts [] v p w = let h = l.empty x w in cc
+place_front l x ts (t ∷ u) v p w = ap place p
+
+-- premise: the first form takes a token, so that its place is that of the whole
+pub regrouped : {A B C : Type 0} {first more : List Sign} {a : Form A} (f : ℕ → A → B) (c : Form C) → LL false first more a → Same (seq (made f a) c) (made (λ at x. (f at x.0, x.1)) (seq a c))
+unfolding seq made
+regrouped {a = a} f c l = record {
+  to = record {
+    whole = λ x ts (u, v, p, (y, w, e), q). ((y, x.1), (u, v, p, w, q), ap (λ z. (z, x.1)) (e ∙ ap (λ n. f n y) (sym (place_front l y ts u v p w))));
+    begun = λ ts. elim [ inl p ↦ inl p | inr (x, u, v, p, (y, w, e), q) ↦ inr (y, u, v, p, w, q) ];
+  };
+  back = record {
+    whole = λ x ts (y, (u, v, p, w, q), e). (u, v, p, (y.0, w, ap (λ r. r.0) e ∙ ap (λ n. f n y.0) (place_front l y.0 ts u v p w)), subst (λ z. c.Whole z v) (sym (ap (λ r. r.1) e)) q);
+    begun = λ ts. elim [ inl p ↦ inl p | inr (y, u, v, p, w, q) ↦ inr (f (place u) y, u, v, p, (y, w, refl), q) ];
+  };
+}
+
+-- the first part of a front, taken out of it
+pub fronted : {A B C D E : Type 0} {first more : List Sign} (f : ℕ → A × B → C) (g : ℕ → C × D → E) (a : Form A) (b : Form B) (d : Form D) → LL false first more (seq a b)
+    → Same (made g (seq (made f (seq a b)) d)) (made (λ at x. g at (f at (x.0, x.1.0), x.1.1)) (seq a (seq b d)))
+fronted f g a b d l = same_trans (made_same g (regrouped f d l)) (same_trans (made_made _ g _) (same_trans (made_same _ (bracketed a b d)) (made_made _ _ _)))
+
+-- Of a line that begins with k and one that may begin with it: behind k comes either, and without it the second. Premise:
+-- no token at all begins the second.
+pub commas : {A B C D : Type 0} (f : ℕ → A × B → D) (g : ℕ → Option A × C → D) (k : Form A) (b : Form B) (c : Form C) → c.Begun []
+    → Same (either (made f (seq k b)) (made g (seq (optional k) c)))
+        (either (made (joined f (λ at x. g at (Some x.0, x.1))) (seq k (either (made left b) (made right c)))) (made (λ at y. g at (None, y)) c))
+unfolding seq either optional made
+commas {A} {B} {C} {D} f g k b c s = record {
+  to = record {
+    whole = whole;
+    begun = begun;
+  };
+  back = record {
+    whole = back;
+    begun = λ ts. elim [
+      inl (inl p) ↦ inl (inl p)
+      | inl (inr (x, u, v, p, w, inl q)) ↦ inl (inr (x, u, v, p, w, q))
+      | inl (inr (x, u, v, p, w, inr q)) ↦ inr (inr (Some x, u, v, p, w, q))
+      | inr q ↦ inr (inr (None, [], ts, refl, refl, q)) ];
+  };
+} where
+  two_lines : Form D
+  two_lines = either (made f (seq k b)) (made g (seq (optional k) c))
+  one_line : Form D
+  one_line = either (made (joined f (λ at x. g at (Some x.0, x.1))) (seq k (either (made left b) (made right c)))) (made (λ at y. g at (None, y)) c)
+  whole : (t : D) (ts : List Lexeme) → two_lines.Whole t ts → one_line.Whole t ts
+  whole t ts (inl ((x, y), (u, v, p, w, q), e)) = inl ((x, inl y), (u, v, p, w, inl (y, q, refl)), e)
+  whole t ts (inr ((Some x, y), (u, v, p, w, q), e)) = inl ((x, inr y), (u, v, p, w, inr (y, q, refl)), e)
+  whole t ts (inr ((None, y), (u, v, p, w, q), e)) = inr (y, subst (c.Whole y) (sym (no_front ts u v p w)) q, e)
+  begun : (ts : List Lexeme) → two_lines.Begun ts → one_line.Begun ts
+  begun ts (inl (inl p)) = inl (inl p)
+  begun ts (inl (inr (x, u, v, p, w, q))) = inl (inr (x, u, v, p, w, inl q))
+  begun ts (inr (inl (inl p))) = inr (subst c.Begun (sym p) s)
+  begun ts (inr (inl (inr p))) = inl (inl p)
+  begun ts (inr (inr (Some x, u, v, p, w, q))) = inl (inr (x, u, v, p, w, inr q))
+  begun ts (inr (inr (None, u, v, p, w, q))) = inr (subst c.Begun (sym (no_front ts u v p w)) q)
+  back : (t : D) (ts : List Lexeme) → one_line.Whole t ts → two_lines.Whole t ts
+  back t ts (inl ((x, z), (u, v, p, w, inl (y, q, r)), e)) = inl ((x, y), (u, v, p, w, q), e ∙ ap (λ z. joined f (λ at x. g at (Some x.0, x.1)) (place ts) (x, z)) r)
+  back t ts (inl ((x, z), (u, v, p, w, inr (y, q, r)), e)) = inr ((Some x, y), (u, v, p, w, q), e ∙ ap (λ z. joined f (λ at x. g at (Some x.0, x.1)) (place ts) (x, z)) r)
+  back t ts (inr (y, q, e)) = inr ((None, y), ([], ts, refl, refl, q), e)
