@@ -4,3 +4,4 @@ pub mod CellData
 pub mod ScriptData
 pub mod Requests
 pub mod Plain
+pub mod Views

@@ -1,6 +1,6 @@
 -- The raw trees of a module as contracts see them: what they hold, wherever it lies in memory. Each form has the byte
 -- of the module at which it begins.
-use Rattle.std.specs.Prelude.{ℕ, Bool, List, [], ◌∷◌, Option}
+use Rattle.std.specs.Prelude.{ℕ, Bool, List, [], ◌∷◌, Option, None, Some}
 use Rattle.rapid_model.specs.declared.raw_expr.Operator.{Operator}
 use Rattle.rapid_model.specs.declared.raw_module.Attribute.{Attribute}
 use Rattle.rapid_model.specs.declared.raw_datum.DatumKind.{DatumKind}
@@ -139,6 +139,10 @@ abbrev pub steps_of : List (Operator × PlainExpr) → PlainSteps
 steps_of [] = NoSteps
 steps_of (s ∷ ss) = MoreSteps s.0 s.1 (steps_of ss)
 
+abbrev pub held_of : Option PlainExpr → PlainHeld
+held_of None = NotHeld
+held_of (Some e) = Held e
+
 abbrev pub stmts_of : List PlainStmt → PlainStmts
 stmts_of [] = NoStmts
 stmts_of (s ∷ ss) = MoreStmts s (stmts_of ss)
@@ -150,3 +154,7 @@ arms_of (a ∷ more) = MoreArms a.0 (stmts_of a.1) (arms_of more)
 abbrev pub cases_of : List (List PlainExpr × List PlainStmt) → PlainCases
 cases_of [] = NoCases
 cases_of (c ∷ cs) = MoreCases c.0 (stmts_of c.1) (cases_of cs)
+
+abbrev pub else_of : Option (List PlainStmt) → PlainElse
+else_of None = NoElse
+else_of (Some list) = Else (stmts_of list)

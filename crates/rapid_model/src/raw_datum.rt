@@ -11,7 +11,7 @@ pub enum DatumKind {
 
 /// A declaration of a datum: the name of its type, its name, the length of an array, and the initial value (RAPID
 /// Kernel, data declarations). `at` is the byte of the word that declares it, from 0.
-#[derive(Debug, Drop)]
+#[derive(Drop)]
 pub struct RawDatum<'a> {
     pub kind: DatumKind,
     pub sort: RawName<'a>,

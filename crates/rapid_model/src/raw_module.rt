@@ -15,7 +15,7 @@ pub enum Attribute {
 }
 
 /// An item of a module: a datum, LOCAL or TASK or neither, or a routine. `at` is the byte of its first word, from 0.
-#[derive(Debug, Drop)]
+#[derive(Drop)]
 pub enum RawItem<'a> {
     Datum {
         local: bool,
@@ -27,7 +27,7 @@ pub enum RawItem<'a> {
 }
 
 /// The tree that a module's text spells, with its names as slices of the text.
-#[derive(Debug, Drop)]
+#[derive(Drop)]
 pub struct RawModule<'a> {
     pub name: RawName<'a>,
     pub attributes: Vec<Attribute>,

@@ -21,7 +21,7 @@ pub enum Mode {
 }
 
 /// A parameter: its mode, the name of its type, its name, and the byte at which it begins, from 0.
-#[derive(Debug, Drop)]
+#[derive(Drop)]
 pub struct RawParam<'a> {
     pub mode: Mode,
     pub sort: RawName<'a>,
@@ -31,7 +31,7 @@ pub struct RawParam<'a> {
 
 /// A routine (RAPID Kernel, routine declarations): a function has the name of its result's type, and `handler` is the
 /// ERROR part. `at` is the byte of its first word, from 0.
-#[derive(Debug, Drop)]
+#[derive(Drop)]
 pub struct RawRoutine<'a> {
     pub local: bool,
     pub kind: RoutineKind,

@@ -4,7 +4,7 @@ use crate::raw_expr::{RawArg, RawExpr, RawPlace};
 use crate::raw_name::RawName;
 
 /// A statement, and the byte at which it begins, from 0 (RAPID Kernel, statements).
-#[derive(Debug, Drop)]
+#[derive(Drop)]
 #[cycle(raw_stmt)]
 pub struct RawStmt<'a> {
     pub at: usize,
@@ -12,7 +12,7 @@ pub struct RawStmt<'a> {
 }
 
 /// What a statement is.
-#[derive(Debug, Drop)]
+#[derive(Drop)]
 #[cycle(raw_stmt)]
 pub enum RawForm<'a> {
     Assign {
