@@ -69,12 +69,12 @@ held_else (Some list) = ap Plain.Else (hidden_stmts list)
 
 pub choice_view : (at : ℕ) (arms : Vec (RawExpr × Vec RawStmt Global) Global) (other : Option (Vec RawStmt Global)) → view_stmt_form at (If arms other) ≡ Plain.If at (arms_of (map view_arm arms.items)) (else_of (option_map view_list other))
 choice_view at arms other =
-    let e : view_arms (hidden-the_row-RawForm-If-0-3-1 arms) ≡ arms_of (map view_arm arms.items) = row_arms (hidden-the_row-RawForm-If-0-3-1 arms) ∙ ap (λ as'. arms_of (map view_arm as')) (items_hidden-the_row-RawForm-If-0-3-1 arms) in
+    let e : view_arms (hidden-the_row-RawForm-If-0-3-1 arms) ≡ arms_of (map view_arm arms.items) = row_arms (hidden-the_row-RawForm-If-0-3-1 arms) ∙ ap (λ es. arms_of (map view_arm es)) (items_hidden-the_row-RawForm-If-0-3-1 arms) in
     ap (λ es. Plain.If at es (view_else (back-RawForm-If-1 other))) e ∙ ap (Plain.If at (arms_of (map view_arm arms.items))) (held_else other)
 
 pub test_view : (at : ℕ) (value : RawExpr) (cases : Vec (Vec RawExpr Global × Vec RawStmt Global) Global) (other : Option (Vec RawStmt Global)) → view_stmt_form at (Test value cases other) ≡ Plain.Test at (view_expr value) (cases_of (map view_case cases.items)) (else_of (option_map view_list other))
 test_view at value cases other =
-    let e : view_cases (hidden-the_row-RawForm-Test-1-3-2 cases) ≡ cases_of (map view_case cases.items) = row_cases (hidden-the_row-RawForm-Test-1-3-2 cases) ∙ ap (λ cs. cases_of (map view_case cs)) (items_hidden-the_row-RawForm-Test-1-3-2 cases) in
+    let e : view_cases (hidden-the_row-RawForm-Test-1-3-2 cases) ≡ cases_of (map view_case cases.items) = row_cases (hidden-the_row-RawForm-Test-1-3-2 cases) ∙ ap (λ es. cases_of (map view_case es)) (items_hidden-the_row-RawForm-Test-1-3-2 cases) in
     ap (λ es. Plain.Test at (view_expr value) es (view_else (back-RawForm-If-1 other))) e ∙ ap (Plain.Test at (view_expr value) (cases_of (map view_case cases.items))) (held_else other)
 
 pub for_view : (at : ℕ) (name : RawName) (first last : RawExpr) (step : Option RawExpr) (list : Vec RawStmt Global) → view_stmt_form at (For name first last step list) ≡ Plain.For at (view_name name) (view_expr first) (view_expr last) (option_map view_expr step) (stmts_of (view_list list))

@@ -10,8 +10,14 @@ use Rattle.rapid_model.specs.declared.raw_expr.RawArg.{RawArg, Needed', Option',
 use Rattle.rapid_model.specs.declared.raw_expr.RawPlace.{RawPlace, RawPlace', Held-RawPlace-index, RawPlace-index-None', RawPlace-index-Some'}
 use Rattle.rapid_model.specs.declared.raw_stmt.RawStmt.{RawStmt}
 use Rattle.rapid_model.specs.declared.raw_stmt.RawForm.{RawForm, Assign, Call, Label, Goto, Return, Exit, Raise, Retry, TryNext, Connect, If', IfOne', For', While', Test', Row_of-RawStmt, end_of-RawStmt, more_of-RawStmt, Row_of-RawForm-If-0-3, end_of-RawForm-If-0-3, more_of-RawForm-If-0-3, Row_of-RawForm-Test-1-3, end_of-RawForm-Test-1-3, more_of-RawForm-Test-1-3, Held-RawForm-If-1, None', Some'}
+use Rattle.rapid_model.specs.declared.raw_datum.RawDatum.{RawDatum}
+use Rattle.rapid_model.specs.declared.raw_routine.RawParam.{RawParam}
+use Rattle.rapid_model.specs.declared.raw_routine.RawRoutine.{RawRoutine}
+use Rattle.rapid_model.specs.declared.raw_module.RawItem.{RawItem}
+use Rattle.rapid_model.specs.declared.raw_module.RawItem.TheVariants.{Datum, Routine}
+use Rattle.rapid_model.specs.declared.raw_module.RawModule.{RawModule}
 use Rattle.rapid_model.specs.Plain
-use Rattle.rapid_model.specs.Plain.{PlainName, PlainExpr, PlainExprs, PlainSteps, PlainHeld, PlainPlace, PlainArg, PlainArgs, PlainStmt, PlainStmts, PlainArms, PlainCases, PlainElse, args_of}
+use Rattle.rapid_model.specs.Plain.{PlainName, PlainExpr, PlainExprs, PlainSteps, PlainHeld, PlainPlace, PlainArg, PlainArgs, PlainStmt, PlainStmts, PlainArms, PlainCases, PlainElse, PlainDatum, PlainParam, PlainRoutine, PlainItem, PlainModule, args_of}
 
 abbrev pub view_name : RawName → PlainName
 view_name n = record { text = n.text.now; at = n.at }
@@ -112,3 +118,41 @@ view_arm a = (view_expr a.0, view_list a.1)
 -- CASE with its values and its list
 abbrev pub view_case : Vec RawExpr Global × Vec RawStmt Global → List PlainExpr × List PlainStmt
 view_case c = (map view_expr c.0.items, view_list c.1)
+
+abbrev pub view_datum : RawDatum → PlainDatum
+view_datum d = record {
+  kind = d.kind;
+  sort = view_name d.sort;
+  name = view_name d.name;
+  len = option_map view_expr d.len;
+  first = option_map view_expr d.first;
+  at = d.at;
+}
+
+abbrev pub view_param : RawParam → PlainParam
+view_param p = record { mode = p.mode; sort = view_name p.sort; name = view_name p.name; at = p.at }
+
+abbrev pub view_routine : RawRoutine → PlainRoutine
+view_routine r = record {
+  local = r.local;
+  kind = r.kind;
+  result = option_map view_name r.result;
+  name = view_name r.name;
+  params = map view_param r.params.items;
+  locals = map view_datum r.locals.items;
+  list = view_list r.list;
+  handler = option_map view_list r.handler;
+  at = r.at;
+}
+
+abbrev pub view_item : RawItem → PlainItem
+view_item (Datum local task datum at) = Plain.Datum local task (view_datum datum) at
+view_item (Routine routine) = Plain.Routine (view_routine routine)
+
+abbrev pub view_module : RawModule → PlainModule
+view_module m = record {
+  name = view_name m.name;
+  attributes = m.attributes.items;
+  items = map view_item m.items.items;
+  at = m.at;
+}
