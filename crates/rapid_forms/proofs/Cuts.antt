@@ -1,0 +1,26 @@
+-- Two splits of one list.
+use Rattle.std.proofs.Common.{◌≡◌, refl, sym, ◌⊎◌, inl, inr, List, [], ◌∷◌, ◌++◌}
+
+-- the same split, or one of the fronts goes on after the other by x ∷ m
+pub data Cut {A : Type 0} (u v u' v' : List A) : Type 0 where
+  Even : u ≡ u' → v ≡ v' → Cut u v u' v'
+  Shorter : (x : A) (m : List A) → u' ≡ u ++ x ∷ m → v ≡ x ∷ m ++ v' → Cut u v u' v'
+  Longer : (x : A) (m : List A) → u ≡ u' ++ x ∷ m → v' ≡ x ∷ m ++ v → Cut u v u' v'
+
+pub cuts : {A : Type 0} (u v u' v' : List A) → u ++ v ≡ u' ++ v' → Cut u v u' v'
+cuts [] v [] v' e = Even refl e
+cuts [] v (x ∷ u') v' e = Shorter x u' refl e
+cuts (x ∷ u) v [] v' e = Longer x u refl (sym e)
+cuts (x ∷ u) v (x' ∷ u') v' e =
+    let h : x ≡ x' = cc in
+    elim (cuts u v u' v' (cc)) [ Even p q ↦ Even (cc) q | Shorter y m p q ↦ Shorter y m (cc) q | Longer y m p q ↦ Longer y m (cc) q ]
+
+-- a split of the empty list
+pub both_empty : {A : Type 0} (u v : List A) → [] ≡ u ++ v → (u ≡ []) × (v ≡ [])
+both_empty [] v e = (refl, sym e)
+both_empty (x ∷ u) v e = cc
+
+-- a split of a list that has a head: it is the front's, or the front is empty
+pub heads : {A : Type 0} (x : A) (xs u v : List A) → x ∷ xs ≡ u ++ v → ((m : List A) × (u ≡ x ∷ m) × (xs ≡ m ++ v)) ⊎ ((u ≡ []) × (v ≡ x ∷ xs))
+heads x xs [] v e = inr (refl, sym e)
+heads x xs (y ∷ u) v e = inl (u, cc, cc)
