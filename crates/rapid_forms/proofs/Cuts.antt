@@ -1,5 +1,6 @@
 -- Two splits of one list.
-use Rattle.std.proofs.Common.{◌≡◌, refl, sym, ◌⊎◌, inl, inr, List, [], ◌∷◌, ◌++◌}
+use Rattle.std.proofs.Common.{◌≡◌, refl, sym, ◌∙◌, ap, ◌⊎◌, inl, inr, List, [], ◌∷◌, ◌++◌}
+use Rattle.std.proofs.lemmas.List.{append_assoc}
 
 -- the same split, or one of the fronts goes on after the other by x ∷ m
 pub data Cut {A : Type 0} (u v u' v' : List A) : Type 0 where
@@ -24,3 +25,15 @@ both_empty (x ∷ u) v e = cc
 pub heads : {A : Type 0} (x : A) (xs u v : List A) → x ∷ xs ≡ u ++ v → ((m : List A) × (u ≡ x ∷ m) × (xs ≡ m ++ v)) ⊎ ((u ≡ []) × (v ≡ x ∷ xs))
 heads x xs [] v e = inr (refl, sym e)
 heads x xs (y ∷ u) v e = inl (u, cc, cc)
+
+-- what stands behind the whole of a split stands behind its second part
+pub behind : {A : Type 0} (ts u v w : List A) → ts ≡ u ++ v → ts ++ w ≡ u ++ (v ++ w)
+behind ts u v w e = ap (λ l. l ++ w) e ∙ append_assoc u v w
+
+pub no_middle : {A : Type 0} (u : List A) (x : A) (v : List A) → u ++ x ∷ v ≡ [] → ⊥
+no_middle [] x v e = cc
+no_middle (y ∷ u) x v e = cc
+
+-- a split with an empty front
+pub no_front : {A : Type 0} (ts u v : List A) → ts ≡ u ++ v → u ≡ [] → ts ≡ v
+no_front ts u v p q = p ∙ ap (λ l. l ++ v) q
