@@ -37,3 +37,7 @@ no_middle (y ∷ u) x v e = cc
 -- a split with an empty front
 pub no_front : {A : Type 0} (ts u v : List A) → ts ≡ u ++ v → u ≡ [] → ts ≡ v
 no_front ts u v p q = p ∙ ap (λ l. l ++ v) q
+
+-- a split of the second part goes over the whole
+pub ahead : {A : Type 0} (u v u' v' : List A) → v ≡ u' ++ v' → u ++ v ≡ (u ++ u') ++ v'
+ahead u v u' v' e = ap (λ l. u ++ l) e ∙ sym (append_assoc u u' v')

@@ -1,0 +1,75 @@
+-- First signs, each of which does begin a form at some level.
+use Rattle.std.proofs.Common.{◌≡◌, ℕ, suc, true, ◌⊎◌, inl, inr, List, [], ◌∷◌, ◌++◌, Option, None, refl}
+use Rattle.rapid_lexer.specs.Tokens.{Lexeme}
+use Rattle.rapid_forms.specs.declared.sign.Sign.{Sign}
+use Rattle.rapid_forms.specs.Signs.{has, sign_of}
+use Rattle.rapid_forms.specs.Forms.{Form, one, seq, either, optional, many, made, within}
+use Rattle.rapid_forms.proofs.Sets.{covered, has_cases, has_covered}
+
+-- F n is the form within n levels
+pub record Opens {A : Type 0} (first : List Sign) (F : ℕ → Form A) : Type 0 where
+  pub opens : (t : Lexeme) → has first (sign_of t) ≡ true → (m : ℕ) × (F m).Begun (t ∷ [])
+
+-- no token at all is a whole one, at each level
+pub record Empties {A : Type 0} (F : ℕ → Form A) : Type 0 where
+  pub empty : (m : ℕ) → (x : A) × (F m).Whole x []
+
+pub fewer_opens : {A : Type 0} {first fewer : List Sign} {F : ℕ → Form A} → Opens first F → covered fewer first ≡ true → Opens fewer F
+fewer_opens o e = record { opens = λ t h. o.opens t (has_covered _ _ (sign_of t) e h) }
+
+pub one_opens : (signs : List Sign) → Opens signs (λ n. one signs)
+unfolding one
+one_opens signs = record { opens = λ t h. (0, inr (t, refl, h)) }
+
+pub seq_opens : {A B : Type 0} {first : List Sign} {F : ℕ → Form A} (G : ℕ → Form B) → Opens first F → Opens first (λ n. seq (F n) (G n))
+unfolding seq
+seq_opens G o = record { opens = λ t h. let (m, b) = o.opens t h in (m, inl b) }
+
+-- a sequence whose first part may be empty
+pub both_open : {A B : Type 0} {fa fb : List Sign} {F : ℕ → Form A} {G : ℕ → Form B} → Opens fa F → Empties F → Opens fb G → Opens (fa ++ fb) (λ n. seq (F n) (G n))
+unfolding seq
+both_open {fa = fa} {fb = fb} o none o' = record {
+  opens = λ t h. elim (has_cases fa fb (sign_of t) h) [
+    inl h' ↦ let (m, b) = o.opens t h' in (m, inl b)
+    | inr h' ↦ let (m, b) = o'.opens t h' in let (x, w) = none.empty m in (m, inr (x, [], t ∷ [], refl, w, b)) ];
+}
+
+pub either_opens : {A : Type 0} {fa fb : List Sign} {F G : ℕ → Form A} → Opens fa F → Opens fb G → Opens (fa ++ fb) (λ n. either (F n) (G n))
+unfolding either
+either_opens {fa = fa} {fb = fb} o o' = record {
+  opens = λ t h. elim (has_cases fa fb (sign_of t) h) [
+    inl h' ↦ let (m, b) = o.opens t h' in (m, inl b)
+    | inr h' ↦ let (m, b) = o'.opens t h' in (m, inr b) ];
+}
+
+pub optional_opens : {A : Type 0} {first : List Sign} {F : ℕ → Form A} → Opens first F → Opens first (λ n. optional (F n))
+unfolding optional
+optional_opens o = record { opens = λ t h. let (m, b) = o.opens t h in (m, inr b) }
+
+pub many_opens : {A : Type 0} {first : List Sign} {F : ℕ → Form A} → Opens first F → Opens first (λ n. many (F n))
+unfolding many
+many_opens o = record { opens = λ t h. let (m, b) = o.opens t h in (m, ([], [], t ∷ [], refl, refl, inr b)) }
+
+pub made_opens : {A B : Type 0} {first : List Sign} {F : ℕ → Form A} (f : ℕ → A → B) → Opens first F → Opens first (λ n. made f (F n))
+unfolding made
+made_opens f o = record { opens = λ t h. o.opens t h }
+
+pub within_opens : {A : Type 0} {first : List Sign} {F : ℕ → Form A} → Opens first F → Opens first (within F)
+unfolding within
+within_opens o = record { opens = λ t h. let (m, b) = o.opens t h in (suc m, b) }
+
+pub seq_empties : {A B : Type 0} {F : ℕ → Form A} {G : ℕ → Form B} → Empties F → Empties G → Empties (λ n. seq (F n) (G n))
+unfolding seq
+seq_empties e e' = record { empty = λ m. let (x, w) = e.empty m in let (y, w') = e'.empty m in ((x, y), ([], [], refl, w, w')) }
+
+pub optional_empties : {A : Type 0} (F : ℕ → Form A) → Empties (λ n. optional (F n))
+unfolding optional
+optional_empties F = record { empty = λ m. (None, refl) }
+
+pub many_empties : {A : Type 0} (F : ℕ → Form A) → Empties (λ n. many (F n))
+unfolding many
+many_empties F = record { empty = λ m. ([], refl) }
+
+pub made_empties : {A B : Type 0} {F : ℕ → Form A} (f : ℕ → A → B) → Empties F → Empties (λ n. made f (F n))
+unfolding made
+made_empties f e = record { empty = λ m. let (x, w) = e.empty m in (f 0 x, (x, w, refl)) }

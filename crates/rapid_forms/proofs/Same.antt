@@ -1,0 +1,205 @@
+-- Forms that take the same tokens for the same things. Lines that begin alike are read with the common part taken out.
+use Rattle.std.proofs.Common.{◌≡◌, ℕ, zero, suc, Bool, false, ◌⊎◌, inl, inr, List, [], ◌∷◌, ◌++◌, Option, None, Some, refl, sym, ◌∙◌, ap, subst}
+use Rattle.std.proofs.lemmas.List.{append_assoc}
+use Rattle.rapid_lexer.specs.Tokens.{Lexeme}
+use Rattle.rapid_forms.specs.declared.sign.Sign.{Sign}
+use Rattle.rapid_forms.specs.Forms.{Form, seq, either, optional, many, made, nothing, within, place}
+use Rattle.rapid_forms.proofs.Cuts.{ahead, behind, no_front}
+use Rattle.rapid_forms.proofs.Laws.{LL}
+use Rattle.rapid_forms.proofs.Up.{Up, up_refl, up_trans, seq_up, either_up, optional_up, many_up, made_up}
+
+pub record Same {A : Type 0} (f g : Form A) : Type 0 where
+  pub to : Up f g
+  pub back : Up g f
+
+pub same_refl : {A : Type 0} (f : Form A) → Same f f
+same_refl f = record { to = up_refl f; back = up_refl f }
+
+pub same_sym : {A : Type 0} {f g : Form A} → Same f g → Same g f
+same_sym s = record { to = s.back; back = s.to }
+
+pub same_trans : {A : Type 0} {f g h : Form A} → Same f g → Same g h → Same f h
+same_trans s r = record { to = up_trans s.to r.to; back = up_trans r.back s.back }
+
+pub seq_same : {A B : Type 0} {a a' : Form A} {b b' : Form B} → Same a a' → Same b b' → Same (seq a b) (seq a' b')
+seq_same s r = record { to = seq_up s.to r.to; back = seq_up s.back r.back }
+
+pub either_same : {A : Type 0} {a a' b b' : Form A} → Same a a' → Same b b' → Same (either a b) (either a' b')
+either_same s r = record { to = either_up s.to r.to; back = either_up s.back r.back }
+
+pub optional_same : {A : Type 0} {a a' : Form A} → Same a a' → Same (optional a) (optional a')
+optional_same s = record { to = optional_up s.to; back = optional_up s.back }
+
+pub many_same : {A : Type 0} {a a' : Form A} → Same a a' → Same (many a) (many a')
+many_same s = record { to = many_up s.to; back = many_up s.back }
+
+pub made_same : {A B : Type 0} {a a' : Form A} (f : ℕ → A → B) → Same a a' → Same (made f a) (made f a')
+made_same f s = record { to = made_up f s.to; back = made_up f s.back }
+
+pub within_same : {A : Type 0} (F G : ℕ → Form A) → ((m : ℕ) → Same (F m) (G m)) → (n : ℕ) → Same (within F n) (within G n)
+unfolding within
+within_same F G s zero = same_refl nothing
+within_same F G s (suc n) = s n
+
+swap : {A : Type 0} (a b : Form A) → Up (either a b) (either b a)
+unfolding either
+swap a b = record {
+  whole = λ x ts. elim [ inl w ↦ inr w | inr w ↦ inl w ];
+  begun = λ ts. elim [ inl w ↦ inr w | inr w ↦ inl w ];
+}
+
+pub either_swapped : {A : Type 0} (a b : Form A) → Same (either a b) (either b a)
+unfolding either
+either_swapped a b = record { to = swap a b; back = swap b a }
+
+pub either_bracketed : {A : Type 0} (a b c : Form A) → Same (either (either a b) c) (either a (either b c))
+unfolding either
+either_bracketed a b c = record {
+  to = record {
+    whole = λ x ts. elim [ inl (inl w) ↦ inl w | inl (inr w) ↦ inr (inl w) | inr w ↦ inr (inr w) ];
+    begun = λ ts. elim [ inl (inl w) ↦ inl w | inl (inr w) ↦ inr (inl w) | inr w ↦ inr (inr w) ];
+  };
+  back = record {
+    whole = λ x ts. elim [ inl w ↦ inl (inl w) | inr (inl w) ↦ inl (inr w) | inr (inr w) ↦ inr w ];
+    begun = λ ts. elim [ inl w ↦ inl (inl w) | inr (inl w) ↦ inl (inr w) | inr (inr w) ↦ inr w ];
+  };
+}
+
+pub same_ll : {A : Type 0} {null : Bool} {first more : List Sign} {f g : Form A} → Same f g → LL null first more f → LL null first more g
+same_ll s l = record {
+  start = s.to.begun [] l.start;
+  front = λ ts us b. s.to.begun ts (l.front ts us (s.back.begun (ts ++ us) b));
+  begun = λ x ts w. s.to.begun ts (l.begun x ts (s.back.whole x ts w));
+  head = λ t ts b. l.head t ts (s.back.begun (t ∷ ts) b);
+  empty = λ x w. l.empty x (s.back.whole x [] w);
+  goes = λ x ts t us w b. l.goes x ts t us (s.back.whole x ts w) (s.back.begun (ts ++ t ∷ us) b);
+  only = λ x y ts w w'. l.only x y ts (s.back.whole x ts w) (s.back.whole y ts w');
+}
+
+abbrev pub left : {A B : Type 0} → ℕ → A → A ⊎ B
+left at x = inl x
+
+abbrev pub right : {A B : Type 0} → ℕ → B → A ⊎ B
+right at y = inr y
+
+-- what is made of a common part and of one of two that follow it
+abbrev pub joined : {A B C D : Type 0} → (ℕ → A × B → D) → (ℕ → A × C → D) → ℕ → A × (B ⊎ C) → D
+joined f g at (x, inl y) = f at (x, y)
+joined f g at (x, inr z) = g at (x, z)
+
+pub shared : {A B C D : Type 0} (f : ℕ → A × B → D) (g : ℕ → A × C → D) (a : Form A) (b : Form B) (c : Form C)
+    → Same (either (made f (seq a b)) (made g (seq a c))) (made (joined f g) (seq a (either (made left b) (made right c))))
+unfolding seq either made
+shared {A} {B} {C} {D} f g a b c = record {
+  to = record {
+    whole = λ t ts. elim [
+      inl w ↦ ((w.0.0, inl w.0.1), (w.1.0, w.1.1, w.1.2, w.1.3, inl (w.0.1, w.1.4, refl)), w.2)
+      | inr w ↦ ((w.0.0, inr w.0.1), (w.1.0, w.1.1, w.1.2, w.1.3, inr (w.0.1, w.1.4, refl)), w.2) ];
+    begun = λ ts. elim [
+      inl (inl p) ↦ inl p
+      | inl (inr (x, u, v, p, w, q)) ↦ inr (x, u, v, p, w, inl q)
+      | inr (inl p) ↦ inl p
+      | inr (inr (x, u, v, p, w, q)) ↦ inr (x, u, v, p, w, inr q) ];
+  };
+  back = record {
+    whole = λ t ts w. whole t ts w.0 w.1 w.2;
+    begun = λ ts. elim [
+      inl p ↦ inl (inl p)
+      | inr (x, u, v, p, w, inl q) ↦ inl (inr (x, u, v, p, w, q))
+      | inr (x, u, v, p, w, inr q) ↦ inr (inr (x, u, v, p, w, q)) ];
+  };
+} where
+  whole : (t : D) (ts : List Lexeme) (x : A × (B ⊎ C)) → (seq a (either (made left b) (made right c))).Whole x ts → t ≡ joined f g (place ts) x → (either (made f (seq a b)) (made g (seq a c))).Whole t ts
+  whole t ts (x, s) (u, v, p, w, inl (y, q, e)) r = inl ((x, y), (u, v, p, w, q), r ∙ ap (λ z. joined f g (place ts) (x, z)) e)
+  whole t ts (x, s) (u, v, p, w, inr (y, q, e)) r = inr ((x, y), (u, v, p, w, q), r ∙ ap (λ z. joined f g (place ts) (x, z)) e)
+
+pub made_made : {A B C : Type 0} (f : ℕ → A → B) (g : ℕ → B → C) (a : Form A) → Same (made g (made f a)) (made (λ at x. g at (f at x)) a)
+unfolding made
+made_made f g a = record {
+  to = record { whole = λ t ts w. (w.1.0, w.1.1, w.2 ∙ ap (g (place ts)) w.1.2); begun = λ ts b. b };
+  back = record { whole = λ t ts w. (f (place ts) w.0, (w.0, w.1, refl), w.2); begun = λ ts b. b };
+}
+
+-- a sequence bracketed to the left, and to the right
+pub bracketed : {A B C : Type 0} (a : Form A) (b : Form B) (c : Form C) → Same (seq (seq a b) c) (made (λ at x. ((x.0, x.1.0), x.1.1)) (seq a (seq b c)))
+unfolding seq made
+bracketed a b c = record {
+  to = record {
+    whole = λ x ts w. ((x.0.0, (x.0.1, x.1)), (w.3.0, w.3.1 ++ w.1, w.2 ∙ behind w.0 w.3.0 w.3.1 w.1 w.3.2, w.3.3, (w.3.1, w.1, refl, w.3.4, w.4)), refl);
+    begun = λ ts. elim [
+      inl (inl p) ↦ inl p
+      | inl (inr (x, u, v, p, w, q)) ↦ inr (x, u, v, p, w, inl q)
+      | inr (x, u, v, p, (u', v', p', w, w'), q) ↦ inr (x.0, u', v' ++ v, p ∙ behind u u' v' v p', w, inr (x.1, v', v, refl, w', q)) ];
+  };
+  back = record {
+    whole = λ x ts (y, (u, v, p, w, (u', v', p', w', q)), e). subst (λ z. (seq (seq a b) c).Whole z ts) (sym e) (u ++ u', v', p ∙ ahead u v u' v' p', (u, u', refl, w, w'), q);
+    begun = λ ts. elim [
+      inl p ↦ inl (inl p)
+      | inr (x, u, v, p, w, inl q) ↦ inl (inr (x, u, v, p, w, q))
+      | inr (x, u, v, p, w, inr (y, u', v', p', w', q)) ↦ inr ((x, y), u ++ u', v', p ∙ ahead u v u' v' p', (u, u', refl, w, w'), q) ];
+  };
+}
+
+-- a whole one that takes a token stands at the same place as what it is the front of
+place_front : {A : Type 0} {first more : List Sign} {a : Form A} → LL false first more a → (x : A) (ts u v : List Lexeme) → ts ≡ u ++ v → a.Whole x u → place ts ≡ place u
+place_front l x ts [] v p w = let h = l.empty x w in cc
+place_front l x ts (t ∷ u) v p w = ap place p
+
+-- premise: the first form takes a token, so that its place is that of the whole
+pub regrouped : {A B C : Type 0} {first more : List Sign} {a : Form A} (f : ℕ → A → B) (c : Form C) → LL false first more a → Same (seq (made f a) c) (made (λ at x. (f at x.0, x.1)) (seq a c))
+unfolding seq made
+regrouped {a = a} f c l = record {
+  to = record {
+    whole = λ x ts (u, v, p, (y, w, e), q). ((y, x.1), (u, v, p, w, q), ap (λ z. (z, x.1)) (e ∙ ap (λ n. f n y) (sym (place_front l y ts u v p w))));
+    begun = λ ts. elim [ inl p ↦ inl p | inr (x, u, v, p, (y, w, e), q) ↦ inr (y, u, v, p, w, q) ];
+  };
+  back = record {
+    whole = λ x ts (y, (u, v, p, w, q), e). (u, v, p, (y.0, w, ap (λ r. r.0) e ∙ ap (λ n. f n y.0) (place_front l y.0 ts u v p w)), subst (λ z. c.Whole z v) (sym (ap (λ r. r.1) e)) q);
+    begun = λ ts. elim [ inl p ↦ inl p | inr (y, u, v, p, w, q) ↦ inr (f (place u) y, u, v, p, (y, w, refl), q) ];
+  };
+}
+
+-- the first part of a front, taken out of it
+pub fronted : {A B C D E : Type 0} {first more : List Sign} (f : ℕ → A × B → C) (g : ℕ → C × D → E) (a : Form A) (b : Form B) (d : Form D) → LL false first more (seq a b)
+    → Same (made g (seq (made f (seq a b)) d)) (made (λ at x. g at (f at (x.0, x.1.0), x.1.1)) (seq a (seq b d)))
+fronted f g a b d l = same_trans (made_same g (regrouped f d l)) (same_trans (made_made _ g _) (same_trans (made_same _ (bracketed a b d)) (made_made _ _ _)))
+
+-- Of a line that begins with k and one that may begin with it: behind k comes either, and without it the second. Premise:
+-- no token at all begins the second.
+pub commas : {A B C D : Type 0} (f : ℕ → A × B → D) (g : ℕ → Option A × C → D) (k : Form A) (b : Form B) (c : Form C) → c.Begun []
+    → Same (either (made f (seq k b)) (made g (seq (optional k) c)))
+        (either (made (joined f (λ at x. g at (Some x.0, x.1))) (seq k (either (made left b) (made right c)))) (made (λ at y. g at (None, y)) c))
+unfolding seq either optional made
+commas {A} {B} {C} {D} f g k b c s = record {
+  to = record {
+    whole = whole;
+    begun = begun;
+  };
+  back = record {
+    whole = back;
+    begun = λ ts. elim [
+      inl (inl p) ↦ inl (inl p)
+      | inl (inr (x, u, v, p, w, inl q)) ↦ inl (inr (x, u, v, p, w, q))
+      | inl (inr (x, u, v, p, w, inr q)) ↦ inr (inr (Some x, u, v, p, w, q))
+      | inr q ↦ inr (inr (None, [], ts, refl, refl, q)) ];
+  };
+} where
+  two_lines : Form D
+  two_lines = either (made f (seq k b)) (made g (seq (optional k) c))
+  one_line : Form D
+  one_line = either (made (joined f (λ at x. g at (Some x.0, x.1))) (seq k (either (made left b) (made right c)))) (made (λ at y. g at (None, y)) c)
+  whole : (t : D) (ts : List Lexeme) → two_lines.Whole t ts → one_line.Whole t ts
+  whole t ts (inl ((x, y), (u, v, p, w, q), e)) = inl ((x, inl y), (u, v, p, w, inl (y, q, refl)), e)
+  whole t ts (inr ((Some x, y), (u, v, p, w, q), e)) = inl ((x, inr y), (u, v, p, w, inr (y, q, refl)), e)
+  whole t ts (inr ((None, y), (u, v, p, w, q), e)) = inr (y, subst (c.Whole y) (sym (no_front ts u v p w)) q, e)
+  begun : (ts : List Lexeme) → two_lines.Begun ts → one_line.Begun ts
+  begun ts (inl (inl p)) = inl (inl p)
+  begun ts (inl (inr (x, u, v, p, w, q))) = inl (inr (x, u, v, p, w, inl q))
+  begun ts (inr (inl (inl p))) = inr (subst c.Begun (sym p) s)
+  begun ts (inr (inl (inr p))) = inl (inl p)
+  begun ts (inr (inr (Some x, u, v, p, w, q))) = inl (inr (x, u, v, p, w, inr q))
+  begun ts (inr (inr (None, u, v, p, w, q))) = inr (subst c.Begun (sym (no_front ts u v p w)) q)
+  back : (t : D) (ts : List Lexeme) → one_line.Whole t ts → two_lines.Whole t ts
+  back t ts (inl ((x, z), (u, v, p, w, inl (y, q, r)), e)) = inl ((x, y), (u, v, p, w, q), e ∙ ap (λ z. joined f (λ at x. g at (Some x.0, x.1)) (place ts) (x, z)) r)
+  back t ts (inl ((x, z), (u, v, p, w, inr (y, q, r)), e)) = inr ((Some x, y), (u, v, p, w, q), e ∙ ap (λ z. joined f (λ at x. g at (Some x.0, x.1)) (place ts) (x, z)) r)
+  back t ts (inr (y, q, e)) = inr ((None, y), ([], ts, refl, refl, q), e)
