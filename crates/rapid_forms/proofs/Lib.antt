@@ -6,3 +6,4 @@ pub mod Opens
 pub mod Same
 pub mod Codes
 pub mod Steps
+pub mod Right
