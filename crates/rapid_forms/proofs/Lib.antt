@@ -7,3 +7,5 @@ pub mod Same
 pub mod Codes
 pub mod Steps
 pub mod Right
+pub mod Loops
+pub mod Spelled
