@@ -1,12 +1,16 @@
 -- What a reader's answer means, in the public words; and that the answers of those words exclude one another.
-use Rattle.std.proofs.Common.{◌≡◌, ℕ, zero, suc, ◌+◌, ◌-◌, ◌≤◌, ◌<◌, Bool, true, false, List, [], ◌∷◌, ◌++◌, length, take, drop, Result, Ok, Err, refl, sym, ap, subst, ◌∙◌, inl, inr, ◌⊎◌, arith}
+use Rattle.std.proofs.Common.{◌≡◌, ℕ, zero, suc, ◌+◌, ◌-◌, ◌≤◌, ◌<◌, Bool, true, false, List, [], ◌∷◌, ◌++◌, length, take, drop, IfOk, Result, Ok, Err, refl, sym, ap, subst, ◌∙◌, inl, inr, ◌⊎◌, arith}
 use Rattle.std.proofs.lemmas.Bool.{cases_order, cases_lt}
-use Rattle.std.proofs.lemmas.List.{append_assoc, take-append-drop, take-take, take_at, drop_at, length-append, length-drop, length_push}
+use Rattle.std.proofs.lemmas.List.{append_assoc, take-append-drop, take-take, take_at, drop_at, length-append, length-drop, length-map, drop-drop}
 use Rattle.rapid_lexer.specs.Tokens.{Lexeme, views}
+use Rattle.rapid_lexer.specs.Tokens.{view as lexeme}
+use Rattle.rapid_forms.specs.declared.fault.SyntaxFault.{SyntaxFault}
+use Rattle.rapid_forms.specs.declared.fault.SyntaxFault.TheVariants.{Rule, Lex, Memory}
 use Rattle.rapid_forms.specs.declared.sign.Sign.{Sign}
+use Rattle.rapid_forms.specs.declared.tokens.Tokens.{Tokens}
 use Rattle.rapid_forms.specs.Forms.{Form}
-use Rattle.rapid_forms.specs.Parsed.{Begins, IsLongest, IsParsed, IsFaulty, IsTooDeep, Parses}
-use Rattle.rapid_forms.specs.Reading.{Halt, Fails, Deep, Read, Reader, Gives}
+use Rattle.rapid_forms.specs.Parsed.{Begins, IsLongest, IsParsed, IsFaulty, IsTooDeep, Parses, syntax_fault, depth_fault}
+use Rattle.rapid_forms.specs.Reading.{Halt, Fails, Deep, Read, Reader, Gives, fault_of}
 use Rattle.rapid_forms.proofs.Laws.{LL}
 use Rattle.rapid_forms.proofs.Up.{Up}
 use Rattle.rapid_forms.proofs.Right.{Right, Reads, Ends, IsRead, IsStopped, IsAbove}
@@ -113,3 +117,65 @@ module _ {A : Type 0} {null : Bool} {first more : List Sign} {F : ℕ → Form A
     },
     drop_front ts h.front rest h.split
   )
+
+-- premises: one token of looking ahead suffices at each level, and what is within n levels is within more
+pub reads_answer : {A : Type 0} {null : Bool} {first more : List Sign} {F : ℕ → Form A} {n : ℕ} {a : Reader A} → Reads F n a → ((m : ℕ) → LL null first more (F m)) → ((k m : ℕ) → k ≤ m → Up (F k) (F m)) → (ts : List Lexeme) → Answers F n ts (a ts)
+reads_answer {n = n} {a = a} ra lf up ts = answers lf up n ts (a ts) (ra.right ts)
+
+-- one of the three answers holds
+pub one_holds : {A : Type 0} {F : ℕ → Form A} {n : ℕ} {ts : List Lexeme} (read : Read A) → Answers F n ts read → ((x : A) × (k : ℕ) × IsParsed F n ts x k) ⊎ (((k : ℕ) × IsFaulty F n ts k) ⊎ ((k : ℕ) × IsTooDeep F n ts k))
+one_holds (Ok x) (k, h, e) = inl (x.0, k, h)
+one_holds (Err (Fails rest)) (k, h, e) = inr (inl (k, h))
+one_holds (Err (Deep rest)) (k, h, e) = inr (inr (k, h))
+
+next_is : (list : List Lexeme) (at next k : ℕ) → at ≤ length list → next ≤ length list → k ≤ length (drop at list) → drop next list ≡ drop k (drop at list) → next ≡ at + k
+next_is list at next k le le' le'' e = omega (arith, ap length e, length-drop next list, length-drop k (drop at list), length-drop at list)
+
+module _ {A : Type 0} (F : ℕ → Form A) (n : ℕ) where
+  -- and only one
+  answer_once : {null : Bool} {first more : List Sign} → LL null first more (F n) → (ts : List Lexeme) (r s : Read A) → Answers F n ts r → Answers F n ts s → r ≡ s
+  answer_once l ts (Ok (x, rest)) (Ok (y, left)) (j, h, e) (k, h', e') = let (same, at) = parsed_once h h' in cc
+  answer_once l ts (Ok x) (Err (Fails rest)) (j, h, e) (k, h', e') = absurd (parsed_faulty h h')
+  answer_once l ts (Ok x) (Err (Deep rest)) (j, h, e) (k, h', e') = absurd (parsed_deep l h h')
+  answer_once l ts (Err (Fails rest)) (Ok y) (j, h, e) (k, h', e') = absurd (parsed_faulty h' h)
+  answer_once l ts (Err (Fails rest)) (Err (Fails left)) (j, h, e) (k, h', e') = let at = faulty_once h h' in cc
+  answer_once l ts (Err (Fails rest)) (Err (Deep left)) (j, h, e) (k, h', e') = absurd (faulty_deep l h h')
+  answer_once l ts (Err (Deep rest)) (Ok y) (j, h, e) (k, h', e') = absurd (parsed_deep l h' h)
+  answer_once l ts (Err (Deep rest)) (Err (Fails left)) (j, h, e) (k, h', e') = absurd (faulty_deep l h' h)
+  answer_once l ts (Err (Deep rest)) (Err (Deep left)) (j, h, e) (k, h', e') = let at = deep_once l h h' in cc
+
+  module _ {X : Type 0} (tokens : Tokens) (at : ℕ) (view : X → A) where
+    answer_parses : (result : Result (X × ℕ) SyntaxFault) (read : Read A) → Answers F n (drop at (views tokens.list.now)) read → IfOk result (λ x. (at ≤ length tokens.list.now) × (x.1 ≤ length tokens.list.now)) → Gives tokens view result read → Parses F n tokens at view result
+    answer_parses (Ok x) read a within g =
+        let (k, h, e) = subst (Answers F n (drop at (views tokens.list.now))) g a in
+        let len = length-map tokens.list.now lexeme in
+        (k, h, next_is (views tokens.list.now) at x.1 k (omega (arith, within.0)) (omega (arith, within.1)) h.longest.there e)
+    answer_parses (Err (Rule rule place)) read a within (Fails rest, e, same) =
+        let (k, h, left) = subst (Answers F n (drop at (views tokens.list.now))) e a in
+        inl (k, h, same ∙ ap (syntax_fault tokens.end) (left ∙ drop-drop k at (views tokens.list.now)))
+    answer_parses (Err (Rule rule place)) read a within (Deep rest, e, same) =
+        let (k, h, left) = subst (Answers F n (drop at (views tokens.list.now))) e a in
+        inr (k, h, same ∙ ap (depth_fault tokens.end) (left ∙ drop-drop k at (views tokens.list.now)))
+    answer_parses (Err (Lex f)) read a within (Fails rest, e, same) = cc
+    answer_parses (Err (Lex f)) read a within (Deep rest, e, same) = cc
+    answer_parses (Err Memory) read a within g = tt
+
+    parses_answer : {null : Bool} {first more : List Sign} → LL null first more (F n) → (result : Result (X × ℕ) SyntaxFault) (read : Read A) → Answers F n (drop at (views tokens.list.now)) read → Parses F n tokens at view result → Gives tokens view result read
+    parses_answer l (Ok x) read a (k, h, e) = answer_once l _ read (Ok (view x.0, drop x.1 (views tokens.list.now))) a (k, h, ap (λ i. drop i (views tokens.list.now)) e ∙ sym (drop-drop k at (views tokens.list.now)))
+    parses_answer l (Err (Rule rule place)) read a (inl (k, h, e)) =
+        (Fails (drop (at + k) (views tokens.list.now)), answer_once l _ read (Err (Fails _)) a (k, h, sym (drop-drop k at (views tokens.list.now))), e)
+    parses_answer l (Err (Rule rule place)) read a (inr (k, h, e)) =
+        (Deep (drop (at + k) (views tokens.list.now)), answer_once l _ read (Err (Deep _)) a (k, h, sym (drop-drop k at (views tokens.list.now))), e)
+    parses_answer l (Err (Lex f)) read a p = absurd p
+    parses_answer l (Err Memory) read a p = tt
+
+-- What a function gives is what its caller is told. Premises: the tokens are read from one that is there or from their
+-- end, and so is what is left.
+pub gives_parses : {X A : Type 0} {null : Bool} {first more : List Sign} {F : ℕ → Form A} {n : ℕ} {a : Reader A} → Reads F n a → ((m : ℕ) → LL null first more (F m)) → ((k m : ℕ) → k ≤ m → Up (F k) (F m)) → (tokens : Tokens) (at : ℕ) (view : X → A) (result : Result (X × ℕ) SyntaxFault) → IfOk result (λ x. (at ≤ length tokens.list.now) × (x.1 ≤ length tokens.list.now)) → Gives tokens view result (a (drop at (views tokens.list.now))) → Parses F n tokens at view result
+gives_parses {F = F} {n = n} {a = a} ra lf up tokens at view result within g =
+    answer_parses F n tokens at view result (a (drop at (views tokens.list.now))) (reads_answer ra lf up (drop at (views tokens.list.now))) within g
+
+-- And what a caller is told is what the function gives.
+pub parses_gives : {X A : Type 0} {null : Bool} {first more : List Sign} {F : ℕ → Form A} {n : ℕ} {a : Reader A} → Reads F n a → ((m : ℕ) → LL null first more (F m)) → ((k m : ℕ) → k ≤ m → Up (F k) (F m)) → (tokens : Tokens) (at : ℕ) (view : X → A) (result : Result (X × ℕ) SyntaxFault) → Parses F n tokens at view result → Gives tokens view result (a (drop at (views tokens.list.now)))
+parses_gives {F = F} {n = n} {a = a} ra lf up tokens at view result p =
+    parses_answer F n tokens at view (lf n) result (a (drop at (views tokens.list.now))) (reads_answer ra lf up (drop at (views tokens.list.now))) p
