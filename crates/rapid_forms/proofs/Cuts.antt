@@ -22,7 +22,8 @@ both_empty [] v e = (refl, sym e)
 both_empty (x ∷ u) v e = cc
 
 -- a split of a list that has a head: it is the front's, or the front is empty
-pub heads : {A : Type 0} (x : A) (xs u v : List A) → x ∷ xs ≡ u ++ v → ((m : List A) × (u ≡ x ∷ m) × (xs ≡ m ++ v)) ⊎ ((u ≡ []) × (v ≡ x ∷ xs))
+pub heads : {A : Type 0} (x : A) (xs u v : List A) → x ∷ xs ≡ u ++ v
+    → ((m : List A) × (u ≡ x ∷ m) × (xs ≡ m ++ v)) ⊎ ((u ≡ []) × (v ≡ x ∷ xs))
 heads x xs [] v e = inr (refl, sym e)
 heads x xs (y ∷ u) v e = inl (u, cc, cc)
 

@@ -1,6 +1,6 @@
-pub mod Laws
 pub mod Cuts
 pub mod Sets
+pub mod Laws
 pub mod Up
 pub mod Opens
 pub mod Same

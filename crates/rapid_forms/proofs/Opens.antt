@@ -1,5 +1,5 @@
 -- First signs, each of which does begin a form at some level.
-use Rattle.std.proofs.Common.{◌≡◌, ℕ, suc, true, ◌⊎◌, inl, inr, List, [], ◌∷◌, ◌++◌, Option, None, refl}
+use Rattle.std.proofs.Common.{◌≡◌, ℕ, suc, true, inl, inr, List, [], ◌∷◌, ◌++◌, None, refl}
 use Rattle.rapid_lexer.specs.Tokens.{Lexeme}
 use Rattle.rapid_forms.specs.declared.sign.Sign.{Sign}
 use Rattle.rapid_forms.specs.Signs.{has, sign_of}
@@ -26,20 +26,24 @@ unfolding seq
 seq_opens G o = record { opens = λ t h. let (m, b) = o.opens t h in (m, inl b) }
 
 -- a sequence whose first part may be empty
-pub both_open : {A B : Type 0} {fa fb : List Sign} {F : ℕ → Form A} {G : ℕ → Form B} → Opens fa F → Empties F → Opens fb G → Opens (fa ++ fb) (λ n. seq (F n) (G n))
+pub both_open : {A B : Type 0} {fa fb : List Sign} {F : ℕ → Form A} {G : ℕ → Form B} → Opens fa F → Empties F → Opens fb G
+    → Opens (fa ++ fb) (λ n. seq (F n) (G n))
 unfolding seq
 both_open {fa = fa} {fb = fb} o none o' = record {
   opens = λ t h. elim (has_cases fa fb (sign_of t) h) [
-    inl h' ↦ let (m, b) = o.opens t h' in (m, inl b)
-    | inr h' ↦ let (m, b) = o'.opens t h' in let (x, w) = none.empty m in (m, inr (x, [], t ∷ [], refl, w, b)) ];
+    | inl h' ↦ let (m, b) = o.opens t h' in (m, inl b)
+    | inr h' ↦ let (m, b) = o'.opens t h' in let (x, w) = none.empty m in (m, inr (x, [], t ∷ [], refl, w, b))
+  ];
 }
 
-pub either_opens : {A : Type 0} {fa fb : List Sign} {F G : ℕ → Form A} → Opens fa F → Opens fb G → Opens (fa ++ fb) (λ n. either (F n) (G n))
+pub either_opens : {A : Type 0} {fa fb : List Sign} {F G : ℕ → Form A} → Opens fa F → Opens fb G
+    → Opens (fa ++ fb) (λ n. either (F n) (G n))
 unfolding either
 either_opens {fa = fa} {fb = fb} o o' = record {
   opens = λ t h. elim (has_cases fa fb (sign_of t) h) [
-    inl h' ↦ let (m, b) = o.opens t h' in (m, inl b)
-    | inr h' ↦ let (m, b) = o'.opens t h' in (m, inr b) ];
+    | inl h' ↦ let (m, b) = o.opens t h' in (m, inl b)
+    | inr h' ↦ let (m, b) = o'.opens t h' in (m, inr b)
+  ];
 }
 
 pub optional_opens : {A : Type 0} {first : List Sign} {F : ℕ → Form A} → Opens first F → Opens first (λ n. optional (F n))

@@ -1,6 +1,5 @@
 -- Forms that take the same tokens for the same things. Lines that begin alike are read with the common part taken out.
 use Rattle.std.proofs.Common.{◌≡◌, ℕ, zero, suc, Bool, false, ◌⊎◌, inl, inr, List, [], ◌∷◌, ◌++◌, Option, None, Some, refl, sym, ◌∙◌, ap, subst}
-use Rattle.std.proofs.lemmas.List.{append_assoc}
 use Rattle.rapid_lexer.specs.Tokens.{Lexeme}
 use Rattle.rapid_forms.specs.declared.sign.Sign.{Sign}
 use Rattle.rapid_forms.specs.Forms.{Form, seq, either, optional, many, made, nothing, within, place}
@@ -93,23 +92,27 @@ unfolding seq either made
 shared {A} {B} {C} {D} f g a b c = record {
   to = record {
     whole = λ t ts. elim [
-      inl w ↦ ((w.0.0, inl w.0.1), (w.1.0, w.1.1, w.1.2, w.1.3, inl (w.0.1, w.1.4, refl)), w.2)
-      | inr w ↦ ((w.0.0, inr w.0.1), (w.1.0, w.1.1, w.1.2, w.1.3, inr (w.0.1, w.1.4, refl)), w.2) ];
+      | inl w ↦ ((w.0.0, inl w.0.1), (w.1.0, w.1.1, w.1.2, w.1.3, inl (w.0.1, w.1.4, refl)), w.2)
+      | inr w ↦ ((w.0.0, inr w.0.1), (w.1.0, w.1.1, w.1.2, w.1.3, inr (w.0.1, w.1.4, refl)), w.2)
+    ];
     begun = λ ts. elim [
-      inl (inl p) ↦ inl p
+      | inl (inl p) ↦ inl p
       | inl (inr (x, u, v, p, w, q)) ↦ inr (x, u, v, p, w, inl q)
       | inr (inl p) ↦ inl p
-      | inr (inr (x, u, v, p, w, q)) ↦ inr (x, u, v, p, w, inr q) ];
+      | inr (inr (x, u, v, p, w, q)) ↦ inr (x, u, v, p, w, inr q)
+    ];
   };
   back = record {
     whole = λ t ts w. whole t ts w.0 w.1 w.2;
     begun = λ ts. elim [
-      inl p ↦ inl (inl p)
+      | inl p ↦ inl (inl p)
       | inr (x, u, v, p, w, inl q) ↦ inl (inr (x, u, v, p, w, q))
-      | inr (x, u, v, p, w, inr q) ↦ inr (inr (x, u, v, p, w, q)) ];
+      | inr (x, u, v, p, w, inr q) ↦ inr (inr (x, u, v, p, w, q))
+    ];
   };
 } where
-  whole : (t : D) (ts : List Lexeme) (x : A × (B ⊎ C)) → (seq a (either (made left b) (made right c))).Whole x ts → t ≡ joined f g (place ts) x → (either (made f (seq a b)) (made g (seq a c))).Whole t ts
+  whole : (t : D) (ts : List Lexeme) (x : A × (B ⊎ C)) → (seq a (either (made left b) (made right c))).Whole x ts
+      → t ≡ joined f g (place ts) x → (either (made f (seq a b)) (made g (seq a c))).Whole t ts
   whole t ts (x, s) (u, v, p, w, inl (y, q, e)) r = inl ((x, y), (u, v, p, w, q), r ∙ ap (λ z. joined f g (place ts) (x, z)) e)
   whole t ts (x, s) (u, v, p, w, inr (y, q, e)) r = inr ((x, y), (u, v, p, w, q), r ∙ ap (λ z. joined f g (place ts) (x, z)) e)
 
@@ -121,54 +124,70 @@ made_made f g a = record {
 }
 
 -- a sequence bracketed to the left, and to the right
-pub bracketed : {A B C : Type 0} (a : Form A) (b : Form B) (c : Form C) → Same (seq (seq a b) c) (made (λ at x. ((x.0, x.1.0), x.1.1)) (seq a (seq b c)))
+pub bracketed : {A B C : Type 0} (a : Form A) (b : Form B) (c : Form C)
+    → Same (seq (seq a b) c) (made (λ at x. ((x.0, x.1.0), x.1.1)) (seq a (seq b c)))
 unfolding seq made
 bracketed a b c = record {
   to = record {
-    whole = λ x ts w. ((x.0.0, (x.0.1, x.1)), (w.3.0, w.3.1 ++ w.1, w.2 ∙ behind w.0 w.3.0 w.3.1 w.1 w.3.2, w.3.3, (w.3.1, w.1, refl, w.3.4, w.4)), refl);
+    whole = λ x ts (u, v, p, (u', v', p', w, w'), q).
+        ((x.0.0, (x.0.1, x.1)), (u', v' ++ v, p ∙ behind u u' v' v p', w, (v', v, refl, w', q)), refl);
     begun = λ ts. elim [
-      inl (inl p) ↦ inl p
+      | inl (inl p) ↦ inl p
       | inl (inr (x, u, v, p, w, q)) ↦ inr (x, u, v, p, w, inl q)
-      | inr (x, u, v, p, (u', v', p', w, w'), q) ↦ inr (x.0, u', v' ++ v, p ∙ behind u u' v' v p', w, inr (x.1, v', v, refl, w', q)) ];
+      | inr (x, u, v, p, (u', v', p', w, w'), q) ↦ inr (x.0, u', v' ++ v, p ∙ behind u u' v' v p', w, inr (x.1, v', v, refl, w', q))
+    ];
   };
   back = record {
-    whole = λ x ts (y, (u, v, p, w, (u', v', p', w', q)), e). subst (λ z. (seq (seq a b) c).Whole z ts) (sym e) (u ++ u', v', p ∙ ahead u v u' v' p', (u, u', refl, w, w'), q);
+    whole = λ x ts (y, (u, v, p, w, (u', v', p', w', q)), e).
+        subst (λ z. (seq (seq a b) c).Whole z ts) (sym e) (u ++ u', v', p ∙ ahead u v u' v' p', (u, u', refl, w, w'), q);
     begun = λ ts. elim [
-      inl p ↦ inl (inl p)
+      | inl p ↦ inl (inl p)
       | inr (x, u, v, p, w, inl q) ↦ inl (inr (x, u, v, p, w, q))
-      | inr (x, u, v, p, w, inr (y, u', v', p', w', q)) ↦ inr ((x, y), u ++ u', v', p ∙ ahead u v u' v' p', (u, u', refl, w, w'), q) ];
+      | inr (x, u, v, p, w, inr (y, u', v', p', w', q)) ↦ inr ((x, y), u ++ u', v', p ∙ ahead u v u' v' p', (u, u', refl, w, w'), q)
+    ];
   };
 }
 
 -- a whole one that takes a token stands at the same place as what it is the front of
-place_front : {A : Type 0} {first more : List Sign} {a : Form A} → LL false first more a → (x : A) (ts u v : List Lexeme) → ts ≡ u ++ v → a.Whole x u → place ts ≡ place u
+place_front : {A : Type 0} {first more : List Sign} {a : Form A} → LL false first more a → (x : A) (ts u v : List Lexeme)
+    → ts ≡ u ++ v → a.Whole x u → place ts ≡ place u
 place_front l x ts [] v p w = let h = l.empty x w in cc
 place_front l x ts (t ∷ u) v p w = ap place p
 
 -- premise: the first form takes a token, so that its place is that of the whole
-pub regrouped : {A B C : Type 0} {first more : List Sign} {a : Form A} (f : ℕ → A → B) (c : Form C) → LL false first more a → Same (seq (made f a) c) (made (λ at x. (f at x.0, x.1)) (seq a c))
+pub regrouped : {A B C : Type 0} {first more : List Sign} {a : Form A} (f : ℕ → A → B) (c : Form C) → LL false first more a
+    → Same (seq (made f a) c) (made (λ at x. (f at x.0, x.1)) (seq a c))
 unfolding seq made
 regrouped {a = a} f c l = record {
   to = record {
-    whole = λ x ts (u, v, p, (y, w, e), q). ((y, x.1), (u, v, p, w, q), ap (λ z. (z, x.1)) (e ∙ ap (λ n. f n y) (sym (place_front l y ts u v p w))));
+    whole = λ x ts (u, v, p, (y, w, e), q).
+        ((y, x.1), (u, v, p, w, q), ap (λ z. (z, x.1)) (e ∙ ap (λ n. f n y) (sym (place_front l y ts u v p w))));
     begun = λ ts. elim [ inl p ↦ inl p | inr (x, u, v, p, (y, w, e), q) ↦ inr (y, u, v, p, w, q) ];
   };
   back = record {
-    whole = λ x ts (y, (u, v, p, w, q), e). (u, v, p, (y.0, w, ap (λ r. r.0) e ∙ ap (λ n. f n y.0) (place_front l y.0 ts u v p w)), subst (λ z. c.Whole z v) (sym (ap (λ r. r.1) e)) q);
+    whole = λ x ts (y, (u, v, p, w, q), e). (
+      u,
+      v,
+      p,
+      (y.0, w, ap (λ r. r.0) e ∙ ap (λ n. f n y.0) (place_front l y.0 ts u v p w)),
+      subst (λ z. c.Whole z v) (sym (ap (λ r. r.1) e)) q,
+    );
     begun = λ ts. elim [ inl p ↦ inl p | inr (y, u, v, p, w, q) ↦ inr (f (place u) y, u, v, p, (y, w, refl), q) ];
   };
 }
 
 -- the first part of a front, taken out of it
-pub fronted : {A B C D E : Type 0} {first more : List Sign} (f : ℕ → A × B → C) (g : ℕ → C × D → E) (a : Form A) (b : Form B) (d : Form D) → LL false first more (seq a b)
+pub fronted : {A B C D E : Type 0} {first more : List Sign} (f : ℕ → A × B → C) (g : ℕ → C × D → E) (a : Form A) (b : Form B) (d : Form D)
+    → LL false first more (seq a b)
     → Same (made g (seq (made f (seq a b)) d)) (made (λ at x. g at (f at (x.0, x.1.0), x.1.1)) (seq a (seq b d)))
-fronted f g a b d l = same_trans (made_same g (regrouped f d l)) (same_trans (made_made _ g _) (same_trans (made_same _ (bracketed a b d)) (made_made _ _ _)))
+fronted f g a b d l =
+    same_trans (made_same g (regrouped f d l)) (same_trans (made_made _ g _) (same_trans (made_same _ (bracketed a b d)) (made_made _ _ _)))
 
 -- Of a line that begins with k and one that may begin with it: behind k comes either, and without it the second. Premise:
 -- no token at all begins the second.
 pub commas : {A B C D : Type 0} (f : ℕ → A × B → D) (g : ℕ → Option A × C → D) (k : Form A) (b : Form B) (c : Form C) → c.Begun []
     → Same (either (made f (seq k b)) (made g (seq (optional k) c)))
-        (either (made (joined f (λ at x. g at (Some x.0, x.1))) (seq k (either (made left b) (made right c)))) (made (λ at y. g at (None, y)) c))
+    (either (made (joined f (λ at x. g at (Some x.0, x.1))) (seq k (either (made left b) (made right c)))) (made (λ at y. g at (None, y)) c))
 unfolding seq either optional made
 commas {A} {B} {C} {D} f g k b c s = record {
   to = record {
@@ -178,20 +197,24 @@ commas {A} {B} {C} {D} f g k b c s = record {
   back = record {
     whole = back;
     begun = λ ts. elim [
-      inl (inl p) ↦ inl (inl p)
+      | inl (inl p) ↦ inl (inl p)
       | inl (inr (x, u, v, p, w, inl q)) ↦ inl (inr (x, u, v, p, w, q))
       | inl (inr (x, u, v, p, w, inr q)) ↦ inr (inr (Some x, u, v, p, w, q))
-      | inr q ↦ inr (inr (None, [], ts, refl, refl, q)) ];
+      | inr q ↦ inr (inr (None, [], ts, refl, refl, q))
+    ];
   };
 } where
   two_lines : Form D
   two_lines = either (made f (seq k b)) (made g (seq (optional k) c))
+
   one_line : Form D
   one_line = either (made (joined f (λ at x. g at (Some x.0, x.1))) (seq k (either (made left b) (made right c)))) (made (λ at y. g at (None, y)) c)
+
   whole : (t : D) (ts : List Lexeme) → two_lines.Whole t ts → one_line.Whole t ts
   whole t ts (inl ((x, y), (u, v, p, w, q), e)) = inl ((x, inl y), (u, v, p, w, inl (y, q, refl)), e)
   whole t ts (inr ((Some x, y), (u, v, p, w, q), e)) = inl ((x, inr y), (u, v, p, w, inr (y, q, refl)), e)
   whole t ts (inr ((None, y), (u, v, p, w, q), e)) = inr (y, subst (c.Whole y) (sym (no_front ts u v p w)) q, e)
+
   begun : (ts : List Lexeme) → two_lines.Begun ts → one_line.Begun ts
   begun ts (inl (inl p)) = inl (inl p)
   begun ts (inl (inr (x, u, v, p, w, q))) = inl (inr (x, u, v, p, w, inl q))
@@ -199,7 +222,11 @@ commas {A} {B} {C} {D} f g k b c s = record {
   begun ts (inr (inl (inr p))) = inl (inl p)
   begun ts (inr (inr (Some x, u, v, p, w, q))) = inl (inr (x, u, v, p, w, inr q))
   begun ts (inr (inr (None, u, v, p, w, q))) = inr (subst c.Begun (sym (no_front ts u v p w)) q)
+
+  chosen : (ts : List Lexeme) (x : A) {y z : B ⊎ C} → y ≡ z → joined f (λ at x. g at (Some x.0, x.1)) (place ts) (x, y) ≡ joined f (λ at x. g at (Some x.0, x.1)) (place ts) (x, z)
+  chosen ts x r = ap (λ z. joined f (λ at x. g at (Some x.0, x.1)) (place ts) (x, z)) r
+
   back : (t : D) (ts : List Lexeme) → one_line.Whole t ts → two_lines.Whole t ts
-  back t ts (inl ((x, z), (u, v, p, w, inl (y, q, r)), e)) = inl ((x, y), (u, v, p, w, q), e ∙ ap (λ z. joined f (λ at x. g at (Some x.0, x.1)) (place ts) (x, z)) r)
-  back t ts (inl ((x, z), (u, v, p, w, inr (y, q, r)), e)) = inr ((Some x, y), (u, v, p, w, q), e ∙ ap (λ z. joined f (λ at x. g at (Some x.0, x.1)) (place ts) (x, z)) r)
+  back t ts (inl ((x, z), (u, v, p, w, inl (y, q, r)), e)) = inl ((x, y), (u, v, p, w, q), e ∙ chosen ts x r)
+  back t ts (inl ((x, z), (u, v, p, w, inr (y, q, r)), e)) = inr ((Some x, y), (u, v, p, w, q), e ∙ chosen ts x r)
   back t ts (inr (y, q, e)) = inr ((None, y), ([], ts, refl, refl, q), e)

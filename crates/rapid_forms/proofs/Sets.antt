@@ -34,16 +34,18 @@ none_twice [] ds k e h h' = cc
 none_twice (c ∷ cs) ds k e h h' =
     let both = and_parts (not (listed ds c)) (none_listed cs ds) e in
     elim (or_cases (c == k) (listed cs k) h) [
-      inl p ↦ both_ways (listed ds c) (not-true _ both.0) (ap (listed ds) (eqb-true c k p) ∙ h')
-      | inr p ↦ none_twice cs ds k both.1 p h' ]
+      | inl p ↦ both_ways (listed ds c) (not-true _ both.0) (ap (listed ds) (eqb-true c k p) ∙ h')
+      | inr p ↦ none_twice cs ds k both.1 p h'
+    ]
 
 all_there : (cs ds : List ℕ) (k : ℕ) → all_listed cs ds ≡ true → listed cs k ≡ true → listed ds k ≡ true
 all_there [] ds k e h = cc
 all_there (c ∷ cs) ds k e h =
     let both = and_parts (listed ds c) (all_listed cs ds) e in
     elim (or_cases (c == k) (listed cs k) h) [
-      inl p ↦ sym (ap (listed ds) (eqb-true c k p)) ∙ both.0
-      | inr p ↦ all_there cs ds k both.1 p ]
+      | inl p ↦ sym (ap (listed ds) (eqb-true c k p)) ∙ both.0
+      | inr p ↦ all_there cs ds k both.1 p
+    ]
 
 has_listed : (xs : List Sign) (s : Sign) → has xs s ≡ listed (map code xs) (code s)
 unfolding has
@@ -55,10 +57,6 @@ has_apart xs ys s e h h' = none_twice _ _ (code s) e (sym (has_listed xs s) ∙ 
 
 pub has_covered : (xs ys : List Sign) (s : Sign) → covered xs ys ≡ true → has xs s ≡ true → has ys s ≡ true
 has_covered xs ys s e h = has_listed ys s ∙ all_there _ _ (code s) e (sym (has_listed xs s) ∙ h)
-
-pub has_none : (s : Sign) → has [] s ≡ false
-unfolding has
-has_none s = refl
 
 has_append : (xs ys : List Sign) (s : Sign) → has (xs ++ ys) s ≡ (has xs s || has ys s)
 unfolding has

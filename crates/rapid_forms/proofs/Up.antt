@@ -1,5 +1,5 @@
 -- Forms of which one takes all that the other takes, as a form within more levels does.
-use Rattle.std.proofs.Common.{◌≡◌, ℕ, zero, suc, ◌≤◌, ◌⊎◌, inl, inr, List, [], ◌∷◌, ◌++◌, Option, None, Some, refl, arith}
+use Rattle.std.proofs.Common.{◌≡◌, ℕ, zero, suc, ◌≤◌, inl, inr, List, [], ◌∷◌, None, Some, arith}
 use Rattle.std.proofs.Math.Nat.{eq-or-lt_of_le}
 use Rattle.rapid_lexer.specs.Tokens.{Lexeme}
 use Rattle.rapid_forms.specs.Forms.{Form, seq, either, optional, many, made, nothing, within, WholeEach}
@@ -59,7 +59,8 @@ unfolding nothing
 nothing_up f s = record { whole = λ x ts w. absurd w; begun = λ ts e. rw e s }
 
 -- premise: no token at all begins the form, at each level
-pub within_up : {A : Type 0} (F : ℕ → Form A) → ((m : ℕ) → (F m).Begun []) → ((m : ℕ) → Up (F m) (F (suc m))) → (n : ℕ) → Up (within F n) (within F (suc n))
+pub within_up : {A : Type 0} (F : ℕ → Form A) → ((m : ℕ) → (F m).Begun []) → ((m : ℕ) → Up (F m) (F (suc m))) → (n : ℕ)
+    → Up (within F n) (within F (suc n))
 unfolding within
 within_up F s p zero = nothing_up (F zero) (s zero)
 within_up F s p (suc n) = p n
