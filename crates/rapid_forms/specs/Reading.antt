@@ -62,6 +62,10 @@ unfoldable pub within_read : {A : Type 0} → List Sign → (ℕ → Reader A) �
 within_read signs r zero = nothing_read signs
 within_read signs r (suc n) = r n
 
+-- the tokens from number `at` on
+abbrev pub rest_from : Tokens → ℕ → List Lexeme
+rest_from tokens at = drop at (views tokens.list.now)
+
 -- the fault where reading stopped
 abbrev pub fault_of : ℕ → Halt → SyntaxFault
 fault_of end (Fails ts) = syntax_fault end ts
@@ -70,6 +74,6 @@ fault_of end (Deep ts) = depth_fault end ts
 -- What a function over tokens returned, a tree and the number of the next token, is what reading gives. Want of memory
 -- aside.
 abbrev pub Gives : {X A : Type 0} → Tokens → (X → A) → Result (X × ℕ) SyntaxFault → Read A → Type 0
-Gives tokens view (Ok x) read = read ≡ Ok (view x.0, drop x.1 (views tokens.list.now))
+Gives tokens view (Ok x) read = read ≡ Ok (view x.0, rest_from tokens x.1)
 Gives tokens view (Err Memory) read = Unit {0}
 Gives tokens view (Err fault) read = (halt : Halt) × (read ≡ Err halt) × (fault ≡ fault_of tokens.end halt)

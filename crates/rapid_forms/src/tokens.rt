@@ -1,10 +1,11 @@
 //! The steps of a parser over tokens.
 
-ghost use Rattle.std.specs.Prelude.{◌≡◌, drop};
-ghost use Rattle.rapid_lexer.specs.Tokens.{view, views};
+ghost use Rattle.std.specs.Prelude.{◌≡◌, if◌then◌else◌};
+ghost use Rattle.rapid_lexer.specs.Tokens.{view};
 ghost use Rattle.rapid_forms.specs.Signs.{begins_with, has};
+ghost use Rattle.rapid_forms.specs.Forms.{place};
 ghost use Rattle.rapid_forms.specs.Parsed.{depth_fault, place_or, syntax_fault};
-ghost use Rattle.rapid_forms.specs.Reading.{Gives, one_read};
+ghost use Rattle.rapid_forms.specs.Reading.{Gives, one_read, rest_from};
 
 use crate::fault::{SyntaxFault, SyntaxRule};
 use crate::sign::Sign;
@@ -32,7 +33,7 @@ fn is_one_of(sign: Sign, signs: &[Sign]) -> bool
 impl<'t, 'a> Tokens<'t, 'a> {
     /// Whether token `at` is there and has one of these signs.
     pub fn sees(&self, at: usize, signs: &[Sign]) -> bool
-        ensures { result ≡ begins_with signs.now (drop at (views self.now.list.now)) }
+        ensures { result ≡ begins_with signs.now (rest_from self.now at) }
     {
         match self.list.get(at) {
             Some(token) => is_one_of(sign_of(token), signs),
@@ -42,7 +43,7 @@ impl<'t, 'a> Tokens<'t, 'a> {
 
     /// Token `at`, if it has one of these signs, and the number of the next token.
     pub fn take(&self, at: usize, signs: &[Sign]) -> Result<(Token<'a>, usize), SyntaxFault>
-        ensures { Gives self.now view result (one_read signs.now (drop at (views self.now.list.now))) }
+        ensures { Gives self.now view result (one_read signs.now (rest_from self.now at)) }
     {
         match self.list.get(at) {
             Some(token) if is_one_of(sign_of(token), signs) => Ok((*token, at + 1)),
@@ -50,9 +51,19 @@ impl<'t, 'a> Tokens<'t, 'a> {
         }
     }
 
+    /// The byte at which token `at` stands; 0 where there is none.
+    pub fn place(&self, at: usize) -> usize
+        ensures { result ≡ place (rest_from self.now at) }
+    {
+        match self.list.get(at) {
+            Some(token) => token.at,
+            None => 0,
+        }
+    }
+
     /// The byte at which token `at` stands, or the text's end.
-    fn place(&self, at: usize) -> usize
-        ensures { result ≡ place_or self.now.end (drop at (views self.now.list.now)) }
+    fn place_or_end(&self, at: usize) -> usize
+        ensures { result ≡ place_or self.now.end (rest_from self.now at) }
     {
         match self.list.get(at) {
             Some(token) => token.at,
@@ -62,7 +73,7 @@ impl<'t, 'a> Tokens<'t, 'a> {
 
     /// The fault where the tokens before token `at` do not go on with it.
     pub fn fails(&self, at: usize) -> SyntaxFault
-        ensures { result ≡ syntax_fault self.now.end (drop at (views self.now.list.now)) }
+        ensures { result ≡ syntax_fault self.now.end (rest_from self.now at) }
     {
         let rule = if self.sees(at, &[Sign::Alias, Sign::Record, Sign::Undo, Sign::Backward]) {
             SyntaxRule::LeftOut
@@ -71,17 +82,21 @@ impl<'t, 'a> Tokens<'t, 'a> {
         };
         SyntaxFault::Rule {
             rule,
-            at: self.place(at),
+            at: self.place_or_end(at),
         }
     }
 
-    /// The fault where token `at` opens a level too many.
-    pub fn deep(&self, at: usize) -> SyntaxFault
-        ensures { result ≡ depth_fault self.now.end (drop at (views self.now.list.now)) }
+    /// The fault where no level is left for a form that begins with one of these signs: token `at` opens a level too many
+    /// where it has one of them, and else it goes on with nothing.
+    pub fn no_level(&self, at: usize, signs: &[Sign]) -> SyntaxFault
+        ensures { result ≡ (if begins_with signs.now (rest_from self.now at) then depth_fault self.now.end (rest_from self.now at) else syntax_fault self.now.end (rest_from self.now at)) }
     {
+        if !self.sees(at, signs) {
+            return self.fails(at);
+        }
         SyntaxFault::Rule {
             rule: SyntaxRule::TooDeep,
-            at: self.place(at),
+            at: self.place_or_end(at),
         }
     }
 }

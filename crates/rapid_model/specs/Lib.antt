@@ -3,3 +3,5 @@ pub mod Names
 pub mod CellData
 pub mod ScriptData
 pub mod Requests
+pub mod Plain
+pub mod Views

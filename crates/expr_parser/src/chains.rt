@@ -1,0 +1,203 @@
+//! Chains of operators.
+
+ghost use Rattle.rapid_model.specs.Views.{view_expr, view_step};
+ghost use Rattle.rapid_forms.specs.Reading.{Gives, many_read, rest_from};
+ghost use Rattle.expr_parser.specs.Grammar.{comparisons};
+ghost use Rattle.expr_parser.specs.Reads.{expr_of_read, first_read, inside_read, level_read, negated_read, operand_read, operators_of, relation_read, signed_read, step_read, sum_read};
+
+use crate::level::Level;
+use crate::operators::{is_minus, operator_of};
+use crate::parser::Parser;
+use crate::primary::primary;
+use rapid_forms::{Sign, SyntaxFault};
+use rapid_model::{Operator, RawExpr};
+
+static COMPARISONS: [Sign; 6] = [
+    Sign::Equal,
+    Sign::NotEqual,
+    Sign::Less,
+    Sign::Greater,
+    Sign::LessEqual,
+    Sign::GreaterEqual,
+];
+
+/// The expression that begins at token `at`, within `left` levels, and the number of the token behind it.
+#[cycle(expr)]
+pub(crate) fn expr<'a>(
+    p: &Parser<'_, 'a>,
+    at: usize,
+    left: u32,
+) -> Result<(RawExpr<'a>, usize), SyntaxFault>
+    ensures { Gives p.now.tokens view_expr result (expr_of_read (inside_read left) (rest_from p.now.tokens at)) }
+{
+    chain(p, at, left, Level::Or)
+}
+
+/// A chain of a level.
+#[cycle(expr)]
+fn chain<'a>(
+    p: &Parser<'_, 'a>,
+    at: usize,
+    left: u32,
+    level: Level,
+) -> Result<(RawExpr<'a>, usize), SyntaxFault>
+    ensures { Gives p.now.tokens view_expr result (level_read (inside_read left) level (rest_from p.now.tokens at)) }
+{
+    let (first, next) = first(p, at, left, level)?;
+    let (rest, end) = steps(p, next, left, level)?;
+    let chain = chained(p, at, first, rest)?;
+    Ok((chain, end))
+}
+
+/// One node of an operand and what stands behind it.
+fn chained<'a>(
+    p: &Parser<'_, 'a>,
+    at: usize,
+    first: RawExpr<'a>,
+    rest: Vec<(Operator, RawExpr<'a>)>,
+) -> Result<RawExpr<'a>, SyntaxFault> {
+    if rest.is_empty() {
+        return Ok(first);
+    }
+    let chain = RawExpr::chain(p.alloc, p.tokens.place(at), first, rest)?;
+    Ok(chain)
+}
+
+/// The first operand of a chain of a level.
+#[cycle(expr)]
+fn first<'a>(
+    p: &Parser<'_, 'a>,
+    at: usize,
+    left: u32,
+    level: Level,
+) -> Result<(RawExpr<'a>, usize), SyntaxFault>
+    ensures { Gives p.now.tokens view_expr result (first_read (inside_read left) level (rest_from p.now.tokens at)) }
+{
+    match level {
+        Level::Or => negated(p, at, left),
+        Level::And => relation(p, at, left),
+        Level::Sum => signed(p, at, left),
+        Level::Term => primary(p, at, left),
+    }
+}
+
+/// Each further operand of a chain of a level.
+#[cycle(expr)]
+fn operand<'a>(
+    p: &Parser<'_, 'a>,
+    at: usize,
+    left: u32,
+    level: Level,
+) -> Result<(RawExpr<'a>, usize), SyntaxFault>
+    ensures { Gives p.now.tokens view_expr result (operand_read (inside_read left) level (rest_from p.now.tokens at)) }
+{
+    match level {
+        Level::Or => chain(p, at, left, Level::And),
+        Level::And => relation(p, at, left),
+        Level::Sum => chain(p, at, left, Level::Term),
+        Level::Term => primary(p, at, left),
+    }
+}
+
+/// Operators of a level and the operands behind them.
+#[cycle(expr)]
+fn steps<'a>(
+    p: &Parser<'_, 'a>,
+    at: usize,
+    left: u32,
+    level: Level,
+) -> Result<(Vec<(Operator, RawExpr<'a>)>, usize), SyntaxFault> {
+    let mut list = Vec::new(p.alloc);
+    let mut next = at;
+    while p.tokens.sees(next, level.operators()) {
+        let (step, after) = step(p, next, left, level)?;
+        list.push(step)?;
+        next = after;
+    }
+    Ok((list, next))
+}
+
+/// An operator of a level and the operand behind it.
+#[cycle(expr)]
+fn step<'a>(
+    p: &Parser<'_, 'a>,
+    at: usize,
+    left: u32,
+    level: Level,
+) -> Result<((Operator, RawExpr<'a>), usize), SyntaxFault>
+    ensures { Gives p.now.tokens view_step result (step_read (operators_of level) (operand_read (inside_read left) level) (rest_from p.now.tokens at)) }
+{
+    let (operator, next) = p.tokens.take(at, level.operators())?;
+    let (value, end) = operand(p, next, left, level)?;
+    Ok(((operator_of(&operator), value), end))
+}
+
+/// NOT, if it is there, and what it covers.
+#[cycle(expr)]
+fn negated<'a>(
+    p: &Parser<'_, 'a>,
+    at: usize,
+    left: u32,
+) -> Result<(RawExpr<'a>, usize), SyntaxFault>
+    ensures { Gives p.now.tokens view_expr result (negated_read (inside_read left) (rest_from p.now.tokens at)) }
+{
+    if !p.tokens.sees(at, &[Sign::Not]) {
+        return chain(p, at, left, Level::And);
+    }
+    let (word, next) = p.tokens.take(at, &[Sign::Not])?;
+    let (value, end) = chain(p, next, left, Level::And)?;
+    let not = RawExpr::not(p.alloc, word.at, value)?;
+    Ok((not, end))
+}
+
+/// A leading sign, if it is there, and the term that it covers.
+#[cycle(expr)]
+fn signed<'a>(
+    p: &Parser<'_, 'a>,
+    at: usize,
+    left: u32,
+) -> Result<(RawExpr<'a>, usize), SyntaxFault>
+    ensures { Gives p.now.tokens view_expr result (signed_read (inside_read left) (rest_from p.now.tokens at)) }
+{
+    if !p.tokens.sees(at, &[Sign::Plus, Sign::Minus]) {
+        return chain(p, at, left, Level::Term);
+    }
+    let (sign, next) = p.tokens.take(at, &[Sign::Plus, Sign::Minus])?;
+    let (operand, end) = chain(p, next, left, Level::Term)?;
+    let signed = RawExpr::signed(p.alloc, sign.at, is_minus(&sign), operand)?;
+    Ok((signed, end))
+}
+
+/// A sum, or two that are compared.
+#[cycle(expr)]
+fn relation<'a>(
+    p: &Parser<'_, 'a>,
+    at: usize,
+    left: u32,
+) -> Result<(RawExpr<'a>, usize), SyntaxFault>
+    ensures { Gives p.now.tokens view_expr result (relation_read (inside_read left) (rest_from p.now.tokens at)) }
+{
+    let (first, next) = chain(p, at, left, Level::Sum)?;
+    if !p.tokens.sees(next, &COMPARISONS) {
+        return Ok((first, next));
+    }
+    let (step, end) = comparison(p, next, left)?;
+    let mut rest = Vec::new(p.alloc);
+    rest.push(step)?;
+    let chain = RawExpr::chain(p.alloc, p.tokens.place(at), first, rest)?;
+    Ok((chain, end))
+}
+
+/// A comparison and the sum behind it.
+#[cycle(expr)]
+fn comparison<'a>(
+    p: &Parser<'_, 'a>,
+    at: usize,
+    left: u32,
+) -> Result<((Operator, RawExpr<'a>), usize), SyntaxFault>
+    ensures { Gives p.now.tokens view_step result (step_read comparisons (sum_read (inside_read left)) (rest_from p.now.tokens at)) }
+{
+    let (operator, next) = p.tokens.take(at, &COMPARISONS)?;
+    let (value, end) = chain(p, next, left, Level::Sum)?;
+    Ok(((operator_of(&operator), value), end))
+}

@@ -1,0 +1,96 @@
+//! Forms between two marks, each of which opens a level.
+
+ghost use Rattle.std.specs.Prelude.{map};
+ghost use Rattle.rapid_model.specs.Views.{view_expr};
+ghost use Rattle.rapid_forms.specs.Reading.{Gives, rest_from};
+ghost use Rattle.expr_parser.specs.Reads.{inside_read};
+
+use crate::chains::expr;
+use crate::parser::Parser;
+use rapid_forms::{Sign, SyntaxFault};
+use rapid_model::RawExpr;
+
+/// An expression in parentheses.
+#[cycle(expr)]
+pub(crate) fn group<'a>(
+    p: &Parser<'_, 'a>,
+    at: usize,
+    left: u32,
+) -> Result<(RawExpr<'a>, usize), SyntaxFault>
+    ensures { Gives p.now.tokens view_expr result ((inside_read left).group (rest_from p.now.tokens at)) }
+{
+    if left == 0 {
+        return Err(p.tokens.no_level(at, &[Sign::OpenParenthesis]));
+    }
+    let (open, first) = p.tokens.take(at, &[Sign::OpenParenthesis])?;
+    let (value, next) = expr(p, first, left - 1)?;
+    let (_close, end) = p.tokens.take(next, &[Sign::CloseParenthesis])?;
+    let group = RawExpr::group(p.alloc, open.at, value)?;
+    Ok((group, end))
+}
+
+/// Values in brackets.
+#[cycle(expr)]
+pub(crate) fn aggregate<'a>(
+    p: &Parser<'_, 'a>,
+    at: usize,
+    left: u32,
+) -> Result<(RawExpr<'a>, usize), SyntaxFault>
+    ensures { Gives p.now.tokens view_expr result ((inside_read left).aggregate (rest_from p.now.tokens at)) }
+{
+    if left == 0 {
+        return Err(p.tokens.no_level(at, &[Sign::OpenBracket]));
+    }
+    let (open, first) = p.tokens.take(at, &[Sign::OpenBracket])?;
+    let (values, next) = exprs(p, first, left - 1)?;
+    let (_close, end) = p.tokens.take(next, &[Sign::CloseBracket])?;
+    Ok((RawExpr::aggregate(open.at, values), end))
+}
+
+/// An index in braces.
+#[cycle(expr)]
+pub(crate) fn index<'a>(
+    p: &Parser<'_, 'a>,
+    at: usize,
+    left: u32,
+) -> Result<(RawExpr<'a>, usize), SyntaxFault>
+    ensures { Gives p.now.tokens view_expr result ((inside_read left).index (rest_from p.now.tokens at)) }
+{
+    if left == 0 {
+        return Err(p.tokens.no_level(at, &[Sign::OpenBrace]));
+    }
+    let (_open, first) = p.tokens.take(at, &[Sign::OpenBrace])?;
+    let (value, next) = expr(p, first, left - 1)?;
+    let (_close, end) = p.tokens.take(next, &[Sign::CloseBrace])?;
+    Ok((value, end))
+}
+
+/// Expressions with commas between them, one at least.
+#[cycle(expr)]
+pub(crate) fn exprs<'a>(
+    p: &Parser<'_, 'a>,
+    at: usize,
+    left: u32,
+) -> Result<(Vec<RawExpr<'a>>, usize), SyntaxFault> {
+    let (first, after) = expr(p, at, left)?;
+    let mut list = Vec::new(p.alloc);
+    list.push(first)?;
+    let mut next = after;
+    while p.tokens.sees(next, &[Sign::Comma]) {
+        let (value, after) = more_expr(p, next, left)?;
+        list.push(value)?;
+        next = after;
+    }
+    Ok((list, next))
+}
+
+/// A comma and the expression behind it.
+#[cycle(expr)]
+fn more_expr<'a>(
+    p: &Parser<'_, 'a>,
+    at: usize,
+    left: u32,
+) -> Result<(RawExpr<'a>, usize), SyntaxFault> {
+    let (_comma, next) = p.tokens.take(at, &[Sign::Comma])?;
+    expr(p, next, left)
+}

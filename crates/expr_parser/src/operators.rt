@@ -1,0 +1,44 @@
+//! What operators and literal words stand for.
+
+ghost use Rattle.std.specs.Prelude.{◌≡◌};
+ghost use Rattle.rapid_lexer.specs.Tokens.{view};
+ghost use Rattle.expr_parser.specs.Operators.{is_minus, is_true, operator_of};
+
+use rapid_forms::{Sign, sign_of};
+use rapid_lexer::Token;
+use rapid_model::Operator;
+
+/// The operator that a token is, where it is one.
+pub(crate) fn operator_of(token: &Token<'_>) -> Operator
+    ensures { result ≡ operator_of (view token.now) }
+{
+    match sign_of(token) {
+        Sign::Xor => Operator::Xor,
+        Sign::And => Operator::And,
+        Sign::Equal => Operator::Equal,
+        Sign::NotEqual => Operator::NotEqual,
+        Sign::Less => Operator::Less,
+        Sign::Greater => Operator::Greater,
+        Sign::LessEqual => Operator::LessEqual,
+        Sign::GreaterEqual => Operator::GreaterEqual,
+        Sign::Plus => Operator::Add,
+        Sign::Minus => Operator::Sub,
+        Sign::Star => Operator::Mul,
+        Sign::Slash => Operator::Div,
+        Sign::Div => Operator::IntDiv,
+        Sign::Mod => Operator::Mod,
+        _ => Operator::Or,
+    }
+}
+
+pub(crate) fn is_minus(token: &Token<'_>) -> bool
+    ensures { result ≡ is_minus (view token.now) }
+{
+    matches!(sign_of(token), Sign::Minus)
+}
+
+pub(crate) fn is_true(token: &Token<'_>) -> bool
+    ensures { result ≡ is_true (view token.now) }
+{
+    matches!(sign_of(token), Sign::True)
+}

@@ -1,0 +1,152 @@
+//! Operands without operators: literals, groups, aggregates, calls and places.
+
+ghost use Rattle.std.specs.Option.{option_map};
+ghost use Rattle.rapid_model.specs.Views.{view_expr, view_name, view_place};
+ghost use Rattle.rapid_forms.specs.Reading.{Gives, rest_from};
+ghost use Rattle.expr_parser.specs.Reads.{inside_read, name_read, named_read, part_read, place_read, primary_read};
+
+use crate::args::call;
+use crate::levels::{aggregate, group, index};
+use crate::operators::is_true;
+use crate::parser::Parser;
+use rapid_forms::{Sign, SyntaxFault};
+use rapid_model::{RawExpr, RawName, RawPlace};
+
+/// A name.
+pub(crate) fn name<'a>(
+    p: &Parser<'_, 'a>,
+    at: usize,
+) -> Result<(RawName<'a>, usize), SyntaxFault>
+    ensures { Gives p.now.tokens view_name result (name_read (rest_from p.now.tokens at)) }
+{
+    let (token, next) = p.tokens.take(at, &[Sign::Name])?;
+    let name = RawName {
+        text: token.text,
+        at: token.at,
+    };
+    Ok((name, next))
+}
+
+/// An operand without operators.
+#[cycle(expr)]
+pub(crate) fn primary<'a>(
+    p: &Parser<'_, 'a>,
+    at: usize,
+    left: u32,
+) -> Result<(RawExpr<'a>, usize), SyntaxFault>
+    ensures { Gives p.now.tokens view_expr result (primary_read (inside_read left) (rest_from p.now.tokens at)) }
+{
+    if p.tokens.sees(at, &[Sign::Number]) {
+        return number(p, at);
+    }
+    if p.tokens.sees(at, &[Sign::Quoted]) {
+        return quoted(p, at);
+    }
+    if p.tokens.sees(at, &[Sign::True, Sign::False]) {
+        return truth(p, at);
+    }
+    if p.tokens.sees(at, &[Sign::OpenParenthesis]) {
+        return group(p, at, left);
+    }
+    if p.tokens.sees(at, &[Sign::OpenBracket]) {
+        return aggregate(p, at, left);
+    }
+    named(p, at, left)
+}
+
+fn number<'a>(p: &Parser<'_, 'a>, at: usize) -> Result<(RawExpr<'a>, usize), SyntaxFault> {
+    let (token, next) = p.tokens.take(at, &[Sign::Number])?;
+    Ok((RawExpr::number(token.at, token.text), next))
+}
+
+fn quoted<'a>(p: &Parser<'_, 'a>, at: usize) -> Result<(RawExpr<'a>, usize), SyntaxFault> {
+    let (token, next) = p.tokens.take(at, &[Sign::Quoted])?;
+    Ok((RawExpr::text(token.at, token.text), next))
+}
+
+fn truth<'a>(p: &Parser<'_, 'a>, at: usize) -> Result<(RawExpr<'a>, usize), SyntaxFault> {
+    let (token, next) = p.tokens.take(at, &[Sign::True, Sign::False])?;
+    Ok((RawExpr::truth(token.at, is_true(&token)), next))
+}
+
+/// A name, and what stands behind it: arguments in parentheses, or what makes it a place.
+#[cycle(expr)]
+fn named<'a>(
+    p: &Parser<'_, 'a>,
+    at: usize,
+    left: u32,
+) -> Result<(RawExpr<'a>, usize), SyntaxFault>
+    ensures { Gives p.now.tokens view_expr result (named_read (inside_read left) (rest_from p.now.tokens at)) }
+{
+    let (name, next) = name(p, at)?;
+    if p.tokens.sees(next, &[Sign::OpenParenthesis]) {
+        let (args, end) = call(p, next, left)?;
+        return Ok((RawExpr::invoke(name.at, name, args), end));
+    }
+    let (place, end) = place_behind(p, name, next, left)?;
+    Ok((RawExpr::place(name.at, place), end))
+}
+
+/// A place.
+#[cycle(expr)]
+pub(crate) fn place<'a>(
+    p: &Parser<'_, 'a>,
+    at: usize,
+    left: u32,
+) -> Result<(RawPlace<'a>, usize), SyntaxFault>
+    ensures { Gives p.now.tokens view_place result (place_read (inside_read left) (rest_from p.now.tokens at)) }
+{
+    let (name, next) = name(p, at)?;
+    place_behind(p, name, next, left)
+}
+
+/// The place of a name, with its index and its components.
+#[cycle(expr)]
+fn place_behind<'a>(
+    p: &Parser<'_, 'a>,
+    name: RawName<'a>,
+    at: usize,
+    left: u32,
+) -> Result<(RawPlace<'a>, usize), SyntaxFault> {
+    let (index, next) = index_if_any(p, at, left)?;
+    let (parts, end) = parts(p, next)?;
+    let place = RawPlace::new(p.alloc, name, index, parts)?;
+    Ok((place, end))
+}
+
+/// An index, if one is there.
+#[cycle(expr)]
+fn index_if_any<'a>(
+    p: &Parser<'_, 'a>,
+    at: usize,
+    left: u32,
+) -> Result<(Option<RawExpr<'a>>, usize), SyntaxFault> {
+    if !p.tokens.sees(at, &[Sign::OpenBrace]) {
+        return Ok((None, at));
+    }
+    let (value, next) = index(p, at, left)?;
+    Ok((Some(value), next))
+}
+
+/// Components, one after the other.
+fn parts<'a>(
+    p: &Parser<'_, 'a>,
+    at: usize,
+) -> Result<(Vec<RawName<'a>>, usize), SyntaxFault> {
+    let mut list = Vec::new(p.alloc);
+    let mut next = at;
+    while p.tokens.sees(next, &[Sign::Dot]) {
+        let (part, after) = part(p, next)?;
+        list.push(part)?;
+        next = after;
+    }
+    Ok((list, next))
+}
+
+/// A component behind a dot.
+fn part<'a>(p: &Parser<'_, 'a>, at: usize) -> Result<(RawName<'a>, usize), SyntaxFault>
+    ensures { Gives p.now.tokens view_name result (part_read (rest_from p.now.tokens at)) }
+{
+    let (_dot, next) = p.tokens.take(at, &[Sign::Dot])?;
+    name(p, next)
+}

@@ -1,0 +1,230 @@
+//! Expressions as a module spells them.
+
+ghost use Rattle.std.specs.Prelude.{◌≡◌, IfOk, map, option_map};
+ghost use Rattle.rapid_model.specs.Plain;
+ghost use Rattle.rapid_model.specs.Plain.{args_of, exprs_of, held_of, steps_of};
+ghost use Rattle.rapid_model.specs.Views.{view_arg, view_expr, view_name, view_place, view_step};
+
+use crate::raw_name::RawName;
+use std::alloc::{AllocError, Global};
+
+/// An expression, and the byte at which it begins, from 0 (RAPID Kernel, expressions).
+#[derive(Drop)]
+#[cycle(raw_expr)]
+pub struct RawExpr<'a> {
+    pub at: usize,
+    pub form: RawExprForm<'a>,
+}
+
+impl<'a> RawExpr<'a> {
+    pub fn number(at: usize, text: &'a [u8]) -> RawExpr<'a>
+        ensures { view_expr result ≡ Plain.Number at text.now }
+    {
+        RawExpr {
+            at,
+            form: RawExprForm::Number(text),
+        }
+    }
+
+    pub fn text(at: usize, text: &'a [u8]) -> RawExpr<'a>
+        ensures { view_expr result ≡ Plain.Quoted at text.now }
+    {
+        RawExpr {
+            at,
+            form: RawExprForm::Text(text),
+        }
+    }
+
+    pub fn truth(at: usize, value: bool) -> RawExpr<'a>
+        ensures { view_expr result ≡ Plain.Truth at value }
+    {
+        RawExpr {
+            at,
+            form: RawExprForm::Bool(value),
+        }
+    }
+
+    /// An expression in parentheses.
+    pub fn group(alloc: Global, at: usize, value: RawExpr<'a>) -> Result<RawExpr<'a>, AllocError>
+        ensures { IfOk result (λ e. view_expr e ≡ Plain.Group at (view_expr value.entry)) }
+    {
+        let form = RawExprForm::Group(Box::new(alloc, value)?);
+        Ok(RawExpr { at, form })
+    }
+
+    /// Values in brackets.
+    pub fn aggregate(at: usize, values: Vec<RawExpr<'a>>) -> RawExpr<'a>
+        ensures { view_expr result ≡ Plain.Aggregate at (exprs_of (map view_expr values.entry.items)) }
+    {
+        RawExpr {
+            at,
+            form: RawExprForm::Aggregate(values),
+        }
+    }
+
+    /// A call of a function.
+    pub fn invoke(at: usize, name: RawName<'a>, args: Vec<RawArg<'a>>) -> RawExpr<'a>
+        ensures { view_expr result ≡ Plain.Invoke at (view_name name.entry) (args_of (map view_arg args.entry.items)) }
+    {
+        RawExpr {
+            at,
+            form: RawExprForm::Call { name, args },
+        }
+    }
+
+    pub fn place(at: usize, place: RawPlace<'a>) -> RawExpr<'a>
+        ensures { view_expr result ≡ Plain.Place at (view_place place.entry) }
+    {
+        RawExpr {
+            at,
+            form: RawExprForm::Place(place),
+        }
+    }
+
+    pub fn not(alloc: Global, at: usize, value: RawExpr<'a>) -> Result<RawExpr<'a>, AllocError>
+        ensures { IfOk result (λ e. view_expr e ≡ Plain.Not at (view_expr value.entry)) }
+    {
+        let form = RawExprForm::Not(Box::new(alloc, value)?);
+        Ok(RawExpr { at, form })
+    }
+
+    /// A leading sign, minus or plus.
+    pub fn signed(
+        alloc: Global,
+        at: usize,
+        minus: bool,
+        operand: RawExpr<'a>,
+    ) -> Result<RawExpr<'a>, AllocError>
+        ensures { IfOk result (λ e. view_expr e ≡ Plain.Signed at minus (view_expr operand.entry)) }
+    {
+        let operand = Box::new(alloc, operand)?;
+        Ok(RawExpr {
+            at,
+            form: RawExprForm::Signed { minus, operand },
+        })
+    }
+
+    /// Operators of one level and their operands, from left to right.
+    pub fn chain(
+        alloc: Global,
+        at: usize,
+        first: RawExpr<'a>,
+        rest: Vec<(Operator, RawExpr<'a>)>,
+    ) -> Result<RawExpr<'a>, AllocError>
+        ensures { IfOk result (λ e. view_expr e ≡ Plain.Chain at (view_expr first.entry) (steps_of (map view_step rest.entry.items))) }
+    {
+        let first = Box::new(alloc, first)?;
+        Ok(RawExpr {
+            at,
+            form: RawExprForm::Chain { first, rest },
+        })
+    }
+}
+
+/// What an expression is. Operators of one level, from left to right, are one chain, whose `rest` is never empty.
+#[derive(Drop)]
+#[cycle(raw_expr)]
+pub enum RawExprForm<'a> {
+    /// A numerical literal, as it is spelled.
+    Number(&'a [u8]),
+    /// A string with its quotes, as it is spelled.
+    Text(&'a [u8]),
+    Bool(bool),
+    /// An expression in parentheses.
+    Group(Box<RawExpr<'a>>),
+    /// Values in brackets.
+    Aggregate(Vec<RawExpr<'a>>),
+    /// A call of a function.
+    Call {
+        name: RawName<'a>,
+        args: Vec<RawArg<'a>>,
+    },
+    Place(RawPlace<'a>),
+    Not(Box<RawExpr<'a>>),
+    /// A leading sign, which covers the first term alone.
+    Signed {
+        minus: bool,
+        operand: Box<RawExpr<'a>>,
+    },
+    Chain {
+        first: Box<RawExpr<'a>>,
+        rest: Vec<(Operator, RawExpr<'a>)>,
+    },
+}
+
+/// An argument of a call: a value, or an option with its own value.
+#[derive(Drop)]
+#[cycle(raw_expr)]
+pub enum RawArg<'a> {
+    Needed(RawExpr<'a>),
+    /// `at` is the byte of the backslash.
+    Option {
+        name: RawName<'a>,
+        value: Option<RawExpr<'a>>,
+        at: usize,
+    },
+}
+
+impl<'a> RawArg<'a> {
+    pub fn needed(value: RawExpr<'a>) -> RawArg<'a>
+        ensures { view_arg result ≡ Plain.Needed (view_expr value.entry) }
+    {
+        RawArg::Needed(value)
+    }
+
+    /// An option, whose backslash is at `at`.
+    pub fn option(at: usize, name: RawName<'a>, value: Option<RawExpr<'a>>) -> RawArg<'a>
+        ensures { view_arg result ≡ Plain.Optional (view_name name.entry) (held_of (option_map view_expr value.entry)) at }
+    {
+        RawArg::Option { name, value, at }
+    }
+}
+
+/// A datum, an element of an array, or a component of one of these.
+#[derive(Drop)]
+#[cycle(raw_expr)]
+pub struct RawPlace<'a> {
+    pub name: RawName<'a>,
+    pub index: Option<Box<RawExpr<'a>>>,
+    pub parts: Vec<RawName<'a>>,
+}
+
+impl<'a> RawPlace<'a> {
+    /// The datum of a name, or of the element that `index` chooses, or the component that `parts` lead to from there.
+    pub fn new(
+        alloc: Global,
+        name: RawName<'a>,
+        index: Option<RawExpr<'a>>,
+        parts: Vec<RawName<'a>>,
+    ) -> Result<RawPlace<'a>, AllocError>
+        ensures { IfOk result (λ p. view_place p ≡ Plain.PlaceOf (view_name name.entry) (held_of (option_map view_expr index.entry)) (map view_name parts.entry.items)) }
+    {
+        let index = match index {
+            Some(value) => Some(Box::new(alloc, value)?),
+            None => None,
+        };
+        Ok(RawPlace { name, index, parts })
+    }
+}
+
+/// An operator between two values.
+#[derive(Clone, Copy, Debug, PartialEq, Eq)]
+pub enum Operator {
+    Or,
+    Xor,
+    And,
+    Equal,
+    NotEqual,
+    Less,
+    Greater,
+    LessEqual,
+    GreaterEqual,
+    Add,
+    Sub,
+    Mul,
+    Div,
+    /// The whole quotient, DIV.
+    IntDiv,
+    /// The remainder, MOD.
+    Mod,
+}

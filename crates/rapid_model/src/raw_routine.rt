@@ -1,0 +1,45 @@
+//! Routines as a module spells them.
+
+use crate::raw_datum::RawDatum;
+use crate::raw_name::RawName;
+use crate::raw_stmt::RawStmt;
+
+#[derive(Clone, Copy, Debug, PartialEq, Eq)]
+pub enum RoutineKind {
+    Proc,
+    Func,
+    Trap,
+}
+
+/// How an argument is handed over: its value, or a reference of one of three kinds.
+#[derive(Clone, Copy, Debug, PartialEq, Eq)]
+pub enum Mode {
+    Value,
+    Inout,
+    Var,
+    Pers,
+}
+
+/// A parameter: its mode, the name of its type, its name, and the byte at which it begins, from 0.
+#[derive(Drop)]
+pub struct RawParam<'a> {
+    pub mode: Mode,
+    pub sort: RawName<'a>,
+    pub name: RawName<'a>,
+    pub at: usize,
+}
+
+/// A routine (RAPID Kernel, routine declarations): a function has the name of its result's type, and `handler` is the
+/// ERROR part. `at` is the byte of its first word, from 0.
+#[derive(Drop)]
+pub struct RawRoutine<'a> {
+    pub local: bool,
+    pub kind: RoutineKind,
+    pub result: Option<RawName<'a>>,
+    pub name: RawName<'a>,
+    pub params: Vec<RawParam<'a>>,
+    pub locals: Vec<RawDatum<'a>>,
+    pub list: Vec<RawStmt<'a>>,
+    pub handler: Option<Vec<RawStmt<'a>>>,
+    pub at: usize,
+}
