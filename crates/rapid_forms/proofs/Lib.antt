@@ -1,6 +1,11 @@
+pub mod Codes
+pub mod Steps
 pub mod Cuts
 pub mod Sets
 pub mod Laws
 pub mod Up
 pub mod Opens
 pub mod Same
+pub mod Right
+pub mod Loops
+pub mod Spelled

@@ -1,0 +1,80 @@
+-- A loop that reads one form after another, with what it has read so far.
+use Rattle.std.proofs.Common.{◌≡◌, ℕ, zero, suc, ◌+◌, ◌-◌, ◌≤◌, ◌<◌, Bool, true, false, if◌then◌else◌, List, [], ◌∷◌, ◌++◌, length, drop, Ok, Err, refl, sym, ap, subst, arith}
+use Rattle.std.proofs.lemmas.List.{append_assoc, append-nil, length-drop}
+use Rattle.rapid_lexer.specs.Tokens.{Lexeme}
+use Rattle.rapid_forms.specs.declared.sign.Sign.{Sign}
+use Rattle.rapid_forms.specs.Signs.{begins_with}
+use Rattle.rapid_forms.specs.Forms.{Form}
+use Rattle.rapid_forms.specs.Reading.{Halt, Read, Reader, then_read, many_within, many_read}
+use Rattle.rapid_forms.proofs.Laws.{LL}
+use Rattle.rapid_forms.proofs.Right.{Right, Reads, less_left}
+
+-- each form that the reader takes has a token
+pub record Takes {A : Type 0} (a : Reader A) : Type 0 where
+  pub less : (ts : List Lexeme) (x : A) (rest : List Lexeme) → a ts ≡ Ok (x, rest) → length rest < length ts
+
+pub reads_take : {A : Type 0} {first more : List Sign} {F : ℕ → Form A} {n : ℕ} {a : Reader A} → Reads F n a → LL false first more (F n) → Takes a
+reads_take {F = F} {n} ra l = record { less = λ ts x rest e. less_left x l (subst (Right F n ts) e (ra.right ts)) }
+
+-- what was read so far, and behind it what is read yet
+unfoldable pub with_front : {A : Type 0} → List A → Read (List A) → Read (List A)
+with_front xs read = then_read read λ ys rest. Ok (xs ++ ys, rest)
+
+pub front_none : {A : Type 0} (read : Read (List A)) → with_front [] read ≡ read
+unfolding with_front then_read
+front_none (Ok x) = refl
+front_none (Err h) = refl
+
+then_same : {A B : Type 0} (read : Read A) (f g : A → Reader B) → ((x : A) (rest : List Lexeme) → read ≡ Ok (x, rest) → f x rest ≡ g x rest) → then_read read f ≡ then_read read g
+unfolding then_read
+then_same (Ok x) f g h = h x.0 x.1 refl
+then_same (Err e) f g h = refl
+
+-- more fuel than tokens changes nothing
+fuel : {A : Type 0} {a : Reader A} → Takes a → (signs : List Sign) (j k : ℕ) (ts : List Lexeme) → length ts ≤ j → length ts ≤ k → many_within j signs a ts ≡ many_within k signs a ts
+unfolding many_within begins_with
+fuel t signs zero zero ts le le' = refl
+fuel t signs zero (suc k) [] le le' = refl
+fuel t signs zero (suc k) (c ∷ ts) le le' = absurd (omega arith)
+fuel t signs (suc j) zero [] le le' = refl
+fuel t signs (suc j) zero (c ∷ ts) le le' = absurd (omega arith)
+fuel {a = a} t signs (suc j) (suc k) ts le le' =
+    ap (λ read. if begins_with signs ts then read else Ok ([], ts)) (then_same (a ts) _ _ λ x rest e.
+        let less = t.less ts x rest e in
+        ap (λ read. then_read read λ xs left. Ok (x ∷ xs, left)) (fuel t signs j k rest (omega arith) (omega arith)))
+
+many_opened : {A : Type 0} {a : Reader A} → Takes a → (signs : List Sign) (ts : List Lexeme) → begins_with signs ts ≡ true → many_read signs a ts ≡ then_read (a ts) (λ x rest. then_read (many_read signs a rest) λ xs left. Ok (x ∷ xs, left))
+unfolding many_read many_within begins_with
+many_opened t signs [] h = cc
+many_opened {a = a} t signs (c ∷ ts) h = rw h (then_same (a (c ∷ ts)) _ _ λ x rest e.
+    let less = t.less (c ∷ ts) x rest e in
+    ap (λ read. then_read read λ xs left. Ok (x ∷ xs, left)) (fuel t signs (length ts) (length rest) rest (omega arith) (omega arith)))
+
+many_closed : {A : Type 0} (a : Reader A) (signs : List Sign) (ts : List Lexeme) → begins_with signs ts ≡ false → many_read signs a ts ≡ Ok ([], ts)
+unfolding many_read many_within begins_with
+many_closed a signs [] h = refl
+many_closed a signs (c ∷ ts) h = rw h
+
+front_more : {A : Type 0} (xs : List A) (x : A) (read : Read (List A)) → with_front xs (then_read read λ ys left. Ok (x ∷ ys, left)) ≡ with_front (xs ++ x ∷ []) read
+unfolding with_front then_read
+front_more xs x (Ok ys) = ap (λ l. Ok (l, ys.1)) (sym (append_assoc xs (x ∷ []) ys.0))
+front_more xs x (Err h) = refl
+
+-- The loop goes on: one more is read.
+pub loop_more : {A : Type 0} {a : Reader A} → Takes a → (signs : List Sign) (xs : List A) (ts : List Lexeme) (x : A) (rest : List Lexeme) → begins_with signs ts ≡ true → a ts ≡ Ok (x, rest) → with_front xs (many_read signs a ts) ≡ with_front (xs ++ x ∷ []) (many_read signs a rest)
+unfolding then_read
+loop_more {a = a} t signs xs ts x rest h e = rw (many_opened t signs ts h, e) (front_more xs x (many_read signs a rest))
+
+-- The loop breaks off where one is not read.
+pub loop_stops : {A : Type 0} {a : Reader A} → Takes a → (signs : List Sign) (xs : List A) (ts : List Lexeme) (halt : Halt) → begins_with signs ts ≡ true → a ts ≡ Err halt → with_front xs (many_read signs a ts) ≡ Err halt
+unfolding then_read with_front
+loop_stops t signs xs ts halt h e = rw (many_opened t signs ts h, e)
+
+-- The loop ends: no more is there.
+pub loop_done : {A : Type 0} (a : Reader A) (signs : List Sign) (xs : List A) (ts : List Lexeme) → begins_with signs ts ≡ false → with_front xs (many_read signs a ts) ≡ Ok (xs, ts)
+unfolding then_read with_front
+loop_done a signs xs ts h = rw (many_closed a signs ts h) (ap (λ l. Ok (l, ts)) (append-nil xs))
+
+-- fewer tokens are left behind one more
+pub loop_smaller : {A : Type 0} {a : Reader A} → Takes a → (ts : List Lexeme) (next after : ℕ) (x : A) → a (drop next ts) ≡ Ok (x, drop after ts) → length ts - after < length ts - next
+loop_smaller t ts next after x e = let less = t.less (drop next ts) x (drop after ts) e in omega (arith, length-drop next ts, length-drop after ts)
