@@ -106,8 +106,12 @@ name = made name_tree (mark signs.Name)
 unfoldable pub part : Form PlainName
 part = made behind (seq (mark signs.Dot) name)
 
+-- an index, or none, and components
+unfoldable pub parts_of : Inside → Form (Option PlainExpr × List PlainName)
+parts_of i = seq (optional i.index) (many part)
+
 unfoldable pub place : Inside → Form PlainPlace
-place i = made place_tree (seq name (seq (optional i.index) (many part)))
+place i = made place_tree (seq name (parts_of i))
 
 unfoldable pub primary : Inside → Form PlainExpr
 primary i =
@@ -185,3 +189,11 @@ inside (suc n) = record {
 -- an expression within so many levels
 unfoldable pub expr : ℕ → Form PlainExpr
 expr n = expr_of (inside n)
+
+-- what stands behind a name in a place, within so many levels
+unfoldable pub parts : ℕ → Form (Option PlainExpr × List PlainName)
+parts n = parts_of (inside n)
+
+-- arguments, or none, within so many levels
+unfoldable pub args : ℕ → Form (List PlainArg)
+args n = made none_or (optional (inside n).args)

@@ -1,8 +1,10 @@
 //! Arguments.
 
+ghost use Rattle.std.specs.Prelude.{map, option_map, ◌∷◌, []};
 ghost use Rattle.rapid_model.specs.Views.{view_arg, view_expr};
-ghost use Rattle.rapid_forms.specs.Reading.{Gives, rest_from};
-ghost use Rattle.expr_parser.specs.Reads.{arg_signs, inside_read};
+ghost use Rattle.rapid_forms.specs.Reading.{Gives, made_read, optional_read, rest_from};
+ghost use Rattle.expr_parser.specs.Grammar.{none_or};
+ghost use Rattle.expr_parser.specs.Reads.{arg_read, arg_signs, args_read, expr_of_read, inside_read, later_read, option_read, value_read};
 
 use crate::chains::expr;
 use crate::primary::name;
@@ -29,7 +31,9 @@ pub(crate) fn call<'a>(
     p: &Parser<'_, 'a>,
     at: usize,
     left: u32,
-) -> Result<(Vec<RawArg<'a>>, usize), SyntaxFault> {
+) -> Result<(Vec<RawArg<'a>>, usize), SyntaxFault>
+    ensures { Gives p.now.tokens (λ v. map view_arg v.items) result ((inside_read left).call (rest_from p.now.tokens at)) }
+{
     if left == 0 {
         return Err(p.tokens.no_level(at, &[Sign::OpenParenthesis]));
     }
@@ -45,7 +49,9 @@ pub(crate) fn args_if_any<'a>(
     p: &Parser<'_, 'a>,
     at: usize,
     left: u32,
-) -> Result<(Vec<RawArg<'a>>, usize), SyntaxFault> {
+) -> Result<(Vec<RawArg<'a>>, usize), SyntaxFault>
+    ensures { Gives p.now.tokens (λ v. map view_arg v.items) result (made_read none_or (optional_read arg_signs (inside_read left).args) (rest_from p.now.tokens at)) }
+{
     if p.tokens.sees(at, &ARG_SIGNS) {
         args(p, at, left)
     } else {
@@ -59,7 +65,9 @@ fn args<'a>(
     p: &Parser<'_, 'a>,
     at: usize,
     left: u32,
-) -> Result<(Vec<RawArg<'a>>, usize), SyntaxFault> {
+) -> Result<(Vec<RawArg<'a>>, usize), SyntaxFault>
+    ensures { Gives p.now.tokens (λ v. map view_arg v.items) result ((inside_read left).args (rest_from p.now.tokens at)) }
+{
     if left == 0 {
         return Err(p.tokens.no_level(at, &ARG_SIGNS));
     }
@@ -71,7 +79,9 @@ fn some_args<'a>(
     p: &Parser<'_, 'a>,
     at: usize,
     left: u32,
-) -> Result<(Vec<RawArg<'a>>, usize), SyntaxFault> {
+) -> Result<(Vec<RawArg<'a>>, usize), SyntaxFault>
+    ensures { Gives p.now.tokens (λ v. map view_arg v.items) result (args_read (expr_of_read (inside_read left)) (rest_from p.now.tokens at)) }
+{
     let (first, after) = arg(p, at, left)?;
     let mut list = Vec::new(p.alloc);
     list.push(first)?;
@@ -90,7 +100,9 @@ fn later_arg<'a>(
     p: &Parser<'_, 'a>,
     at: usize,
     left: u32,
-) -> Result<(RawArg<'a>, usize), SyntaxFault> {
+) -> Result<(RawArg<'a>, usize), SyntaxFault>
+    ensures { Gives p.now.tokens view_arg result (later_read (expr_of_read (inside_read left)) (rest_from p.now.tokens at)) }
+{
     if !p.tokens.sees(at, &[Sign::Comma]) {
         return option(p, at, left);
     }
@@ -104,7 +116,9 @@ fn arg<'a>(
     p: &Parser<'_, 'a>,
     at: usize,
     left: u32,
-) -> Result<(RawArg<'a>, usize), SyntaxFault> {
+) -> Result<(RawArg<'a>, usize), SyntaxFault>
+    ensures { Gives p.now.tokens view_arg result (arg_read (expr_of_read (inside_read left)) (rest_from p.now.tokens at)) }
+{
     if p.tokens.sees(at, &[Sign::Backslash]) {
         return option(p, at, left);
     }
@@ -118,7 +132,9 @@ fn option<'a>(
     p: &Parser<'_, 'a>,
     at: usize,
     left: u32,
-) -> Result<(RawArg<'a>, usize), SyntaxFault> {
+) -> Result<(RawArg<'a>, usize), SyntaxFault>
+    ensures { Gives p.now.tokens view_arg result (option_read (expr_of_read (inside_read left)) (rest_from p.now.tokens at)) }
+{
     let (backslash, first) = p.tokens.take(at, &[Sign::Backslash])?;
     let (name, next) = name(p, first)?;
     let (value, end) = value_if_any(p, next, left)?;
@@ -131,7 +147,9 @@ fn value_if_any<'a>(
     p: &Parser<'_, 'a>,
     at: usize,
     left: u32,
-) -> Result<(Option<RawExpr<'a>>, usize), SyntaxFault> {
+) -> Result<(Option<RawExpr<'a>>, usize), SyntaxFault>
+    ensures { Gives p.now.tokens (option_map view_expr) result (optional_read (Sign.Assign ∷ []) (value_read (expr_of_read (inside_read left))) (rest_from p.now.tokens at)) }
+{
     if !p.tokens.sees(at, &[Sign::Assign]) {
         return Ok((None, at));
     }
@@ -144,7 +162,9 @@ fn value<'a>(
     p: &Parser<'_, 'a>,
     at: usize,
     left: u32,
-) -> Result<(RawExpr<'a>, usize), SyntaxFault> {
+) -> Result<(RawExpr<'a>, usize), SyntaxFault>
+    ensures { Gives p.now.tokens view_expr result (value_read (expr_of_read (inside_read left)) (rest_from p.now.tokens at)) }
+{
     let (_assign, next) = p.tokens.take(at, &[Sign::Assign])?;
     expr(p, next, left)
 }

@@ -1,8 +1,10 @@
 //! Chains of operators.
 
+ghost use Rattle.std.specs.Prelude.{map};
+ghost use Rattle.rapid_forms.specs.Forms.{place};
 ghost use Rattle.rapid_model.specs.Views.{view_expr, view_step};
-ghost use Rattle.rapid_forms.specs.Reading.{Gives, many_read, rest_from};
-ghost use Rattle.expr_parser.specs.Grammar.{comparisons};
+ghost use Rattle.rapid_forms.specs.Reading.{Gives, Makes, many_read, rest_from};
+ghost use Rattle.expr_parser.specs.Grammar.{chain_tree, comparisons};
 ghost use Rattle.expr_parser.specs.Reads.{expr_of_read, first_read, inside_read, level_read, negated_read, operand_read, operators_of, relation_read, signed_read, step_read, sum_read};
 
 use crate::level::Level;
@@ -54,7 +56,9 @@ fn chained<'a>(
     at: usize,
     first: RawExpr<'a>,
     rest: Vec<(Operator, RawExpr<'a>)>,
-) -> Result<RawExpr<'a>, SyntaxFault> {
+) -> Result<RawExpr<'a>, SyntaxFault>
+    ensures { Makes view_expr result (chain_tree (place (rest_from p.now.tokens at)) (view_expr first.entry, map view_step rest.entry.items)) }
+{
     if rest.is_empty() {
         return Ok(first);
     }
@@ -105,7 +109,9 @@ fn steps<'a>(
     at: usize,
     left: u32,
     level: Level,
-) -> Result<(Vec<(Operator, RawExpr<'a>)>, usize), SyntaxFault> {
+) -> Result<(Vec<(Operator, RawExpr<'a>)>, usize), SyntaxFault>
+    ensures { Gives p.now.tokens (λ v. map view_step v.items) result (many_read (operators_of level) (step_read (operators_of level) (operand_read (inside_read left) level)) (rest_from p.now.tokens at)) }
+{
     let mut list = Vec::new(p.alloc);
     let mut next = at;
     while p.tokens.sees(next, level.operators()) {

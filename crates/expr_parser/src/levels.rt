@@ -1,9 +1,10 @@
 //! Forms between two marks, each of which opens a level.
 
-ghost use Rattle.std.specs.Prelude.{map};
+ghost use Rattle.std.specs.Prelude.{map, ◌∷◌, []};
 ghost use Rattle.rapid_model.specs.Views.{view_expr};
-ghost use Rattle.rapid_forms.specs.Reading.{Gives, rest_from};
-ghost use Rattle.expr_parser.specs.Reads.{inside_read};
+ghost use Rattle.rapid_forms.specs.Reading.{Gives, made_read, rest_from, seq_read};
+ghost use Rattle.expr_parser.specs.Grammar.{behind};
+ghost use Rattle.expr_parser.specs.Reads.{expr_of_read, exprs_read, inside_read, mark_read};
 
 use crate::chains::expr;
 use rapid_forms::{Parser, Sign, SyntaxFault};
@@ -70,7 +71,9 @@ pub(crate) fn exprs<'a>(
     p: &Parser<'_, 'a>,
     at: usize,
     left: u32,
-) -> Result<(Vec<RawExpr<'a>>, usize), SyntaxFault> {
+) -> Result<(Vec<RawExpr<'a>>, usize), SyntaxFault>
+    ensures { Gives p.now.tokens (λ v. map view_expr v.items) result (exprs_read (expr_of_read (inside_read left)) (rest_from p.now.tokens at)) }
+{
     let (first, after) = expr(p, at, left)?;
     let mut list = Vec::new(p.alloc);
     list.push(first)?;
@@ -89,7 +92,9 @@ fn more_expr<'a>(
     p: &Parser<'_, 'a>,
     at: usize,
     left: u32,
-) -> Result<(RawExpr<'a>, usize), SyntaxFault> {
+) -> Result<(RawExpr<'a>, usize), SyntaxFault>
+    ensures { Gives p.now.tokens view_expr result (made_read behind (seq_read (mark_read Sign.Comma) (expr_of_read (inside_read left))) (rest_from p.now.tokens at)) }
+{
     let (_comma, next) = p.tokens.take(at, &[Sign::Comma])?;
     expr(p, next, left)
 }

@@ -1,5 +1,12 @@
 //! The public calls. `depth` levels of nesting are open before token `at`, and `end` is the length of the text in bytes.
 
+ghost use Rattle.std.specs.Prelude.{◌≤◌, ◌-◌, length, map};
+ghost use Rattle.rapid_lexer.specs.Tokens.{views};
+ghost use Rattle.rapid_model.specs.Views.{view_arg, view_expr};
+ghost use Rattle.rapid_forms.specs.Parsed.{Parses};
+ghost use Rattle.expr_parser.specs.Grammar.{args, expr, exprs, inside, parts};
+ghost use Rattle.expr_parser.specs.Parts.{view_parts};
+
 use crate::args::args_if_any;
 use crate::chains::expr;
 use crate::levels::{exprs, index};
@@ -16,7 +23,11 @@ pub fn parse_expr<'a>(
     at: usize,
     depth: u32,
     end: usize,
-) -> Result<(RawExpr<'a>, usize), SyntaxFault> {
+) -> Result<(RawExpr<'a>, usize), SyntaxFault>
+    requires there { at ≤ length tokens.now }
+    requires open { depth ≤ 64 }
+    ensures answer { Parses expr (64 - depth) (views tokens.now) end at view_expr result }
+{
     let p = Parser {
         alloc,
         tokens: Tokens { list: tokens, end },
@@ -32,7 +43,11 @@ pub fn parse_exprs<'a>(
     at: usize,
     depth: u32,
     end: usize,
-) -> Result<(Vec<RawExpr<'a>>, usize), SyntaxFault> {
+) -> Result<(Vec<RawExpr<'a>>, usize), SyntaxFault>
+    requires there { at ≤ length tokens.now }
+    requires open { depth ≤ 64 }
+    ensures answer { Parses (λ n. exprs (expr n)) (64 - depth) (views tokens.now) end at (λ v. map view_expr v.items) result }
+{
     let p = Parser {
         alloc,
         tokens: Tokens { list: tokens, end },
@@ -48,7 +63,11 @@ pub fn parse_index<'a>(
     at: usize,
     depth: u32,
     end: usize,
-) -> Result<(RawExpr<'a>, usize), SyntaxFault> {
+) -> Result<(RawExpr<'a>, usize), SyntaxFault>
+    requires there { at ≤ length tokens.now }
+    requires open { depth ≤ 64 }
+    ensures answer { Parses (λ n. (inside n).index) (64 - depth) (views tokens.now) end at view_expr result }
+{
     let p = Parser {
         alloc,
         tokens: Tokens { list: tokens, end },
@@ -64,7 +83,11 @@ pub fn parse_parts<'a>(
     at: usize,
     depth: u32,
     end: usize,
-) -> Result<((Option<RawExpr<'a>>, Vec<RawName<'a>>), usize), SyntaxFault> {
+) -> Result<((Option<RawExpr<'a>>, Vec<RawName<'a>>), usize), SyntaxFault>
+    requires there { at ≤ length tokens.now }
+    requires open { depth ≤ 64 }
+    ensures answer { Parses parts (64 - depth) (views tokens.now) end at view_parts result }
+{
     let p = Parser {
         alloc,
         tokens: Tokens { list: tokens, end },
@@ -80,7 +103,11 @@ pub fn parse_args<'a>(
     at: usize,
     depth: u32,
     end: usize,
-) -> Result<(Vec<RawArg<'a>>, usize), SyntaxFault> {
+) -> Result<(Vec<RawArg<'a>>, usize), SyntaxFault>
+    requires there { at ≤ length tokens.now }
+    requires open { depth ≤ 64 }
+    ensures answer { Parses args (64 - depth) (views tokens.now) end at (λ v. map view_arg v.items) result }
+{
     let p = Parser {
         alloc,
         tokens: Tokens { list: tokens, end },

@@ -1,9 +1,11 @@
 //! Operands without operators: literals, groups, aggregates, calls and places.
 
-ghost use Rattle.std.specs.Option.{option_map};
+ghost use Rattle.std.specs.Prelude.{map, option_map, ◌∷◌, []};
 ghost use Rattle.rapid_model.specs.Views.{view_expr, view_name};
-ghost use Rattle.rapid_forms.specs.Reading.{Gives, rest_from};
-ghost use Rattle.expr_parser.specs.Reads.{view_parts, inside_read, name_read, named_read, part_read, parts_read, primary_read};
+ghost use Rattle.rapid_forms.specs.Reading.{Gives, made_read, many_read, one_read, optional_read, rest_from};
+ghost use Rattle.expr_parser.specs.Grammar.{number_tree, quoted_tree, truth_tree};
+ghost use Rattle.expr_parser.specs.Parts.{view_parts};
+ghost use Rattle.expr_parser.specs.Reads.{inside_read, mark_read, name_read, named_read, part_read, parts_read, primary_read};
 
 use crate::args::call;
 use crate::levels::{aggregate, group, index};
@@ -53,17 +55,23 @@ pub(crate) fn primary<'a>(
     named(p, at, left)
 }
 
-fn number<'a>(p: &Parser<'_, 'a>, at: usize) -> Result<(RawExpr<'a>, usize), SyntaxFault> {
+fn number<'a>(p: &Parser<'_, 'a>, at: usize) -> Result<(RawExpr<'a>, usize), SyntaxFault>
+    ensures { Gives p.now.tokens view_expr result (made_read number_tree (mark_read Sign.Number) (rest_from p.now.tokens at)) }
+{
     let (token, next) = p.tokens.take(at, &[Sign::Number])?;
     Ok((RawExpr::number(token.at, token.text), next))
 }
 
-fn quoted<'a>(p: &Parser<'_, 'a>, at: usize) -> Result<(RawExpr<'a>, usize), SyntaxFault> {
+fn quoted<'a>(p: &Parser<'_, 'a>, at: usize) -> Result<(RawExpr<'a>, usize), SyntaxFault>
+    ensures { Gives p.now.tokens view_expr result (made_read quoted_tree (mark_read Sign.Quoted) (rest_from p.now.tokens at)) }
+{
     let (token, next) = p.tokens.take(at, &[Sign::Quoted])?;
     Ok((RawExpr::text(token.at, token.text), next))
 }
 
-fn truth<'a>(p: &Parser<'_, 'a>, at: usize) -> Result<(RawExpr<'a>, usize), SyntaxFault> {
+fn truth<'a>(p: &Parser<'_, 'a>, at: usize) -> Result<(RawExpr<'a>, usize), SyntaxFault>
+    ensures { Gives p.now.tokens view_expr result (made_read truth_tree (one_read (Sign.True ∷ Sign.False ∷ [])) (rest_from p.now.tokens at)) }
+{
     let (token, next) = p.tokens.take(at, &[Sign::True, Sign::False])?;
     Ok((RawExpr::truth(token.at, is_true(&token)), next))
 }
@@ -107,7 +115,9 @@ fn index_if_any<'a>(
     p: &Parser<'_, 'a>,
     at: usize,
     left: u32,
-) -> Result<(Option<RawExpr<'a>>, usize), SyntaxFault> {
+) -> Result<(Option<RawExpr<'a>>, usize), SyntaxFault>
+    ensures { Gives p.now.tokens (option_map view_expr) result (optional_read (Sign.OpenBrace ∷ []) (inside_read left).index (rest_from p.now.tokens at)) }
+{
     if !p.tokens.sees(at, &[Sign::OpenBrace]) {
         return Ok((None, at));
     }
@@ -119,7 +129,9 @@ fn index_if_any<'a>(
 fn parts<'a>(
     p: &Parser<'_, 'a>,
     at: usize,
-) -> Result<(Vec<RawName<'a>>, usize), SyntaxFault> {
+) -> Result<(Vec<RawName<'a>>, usize), SyntaxFault>
+    ensures { Gives p.now.tokens (λ v. map view_name v.items) result (many_read (Sign.Dot ∷ []) part_read (rest_from p.now.tokens at)) }
+{
     let mut list = Vec::new(p.alloc);
     let mut next = at;
     while p.tokens.sees(next, &[Sign::Dot]) {

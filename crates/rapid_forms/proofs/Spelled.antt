@@ -145,7 +145,7 @@ module _ {A : Type 0} (F : ℕ → Form A) (n : ℕ) where
   answer_once l ts (Err (Deep rest)) (Err (Deep left)) (j, h, e) (k, h', e') = let at = deep_once l h h' in cc
 
   module _ {X : Type 0} (tokens : Tokens) (at : ℕ) (view : X → A) where
-    answer_parses : (result : Result (X × ℕ) SyntaxFault) (read : Read A) → Answers F n (drop at (views tokens.list.now)) read → IfOk result (λ x. (at ≤ length tokens.list.now) × (x.1 ≤ length tokens.list.now)) → Gives tokens view result read → Parses F n tokens at view result
+    answer_parses : (result : Result (X × ℕ) SyntaxFault) (read : Read A) → Answers F n (drop at (views tokens.list.now)) read → IfOk result (λ x. (at ≤ length tokens.list.now) × (x.1 ≤ length tokens.list.now)) → Gives tokens view result read → Parses F n (views tokens.list.now) tokens.end at view result
     answer_parses (Ok x) read a within g =
         let (k, h, e) = subst (Answers F n (drop at (views tokens.list.now))) g a in
         let len = length-map tokens.list.now lexeme in
@@ -160,7 +160,7 @@ module _ {A : Type 0} (F : ℕ → Form A) (n : ℕ) where
     answer_parses (Err (Lex f)) read a within (Deep rest, e, same) = cc
     answer_parses (Err Memory) read a within g = tt
 
-    parses_answer : {null : Bool} {first more : List Sign} → LL null first more (F n) → (result : Result (X × ℕ) SyntaxFault) (read : Read A) → Answers F n (drop at (views tokens.list.now)) read → Parses F n tokens at view result → Gives tokens view result read
+    parses_answer : {null : Bool} {first more : List Sign} → LL null first more (F n) → (result : Result (X × ℕ) SyntaxFault) (read : Read A) → Answers F n (drop at (views tokens.list.now)) read → Parses F n (views tokens.list.now) tokens.end at view result → Gives tokens view result read
     parses_answer l (Ok x) read a (k, h, e) = answer_once l _ read (Ok (view x.0, drop x.1 (views tokens.list.now))) a (k, h, ap (λ i. drop i (views tokens.list.now)) e ∙ sym (drop-drop k at (views tokens.list.now)))
     parses_answer l (Err (Rule rule place)) read a (inl (k, h, e)) =
         (Fails (drop (at + k) (views tokens.list.now)), answer_once l _ read (Err (Fails _)) a (k, h, sym (drop-drop k at (views tokens.list.now))), e)
@@ -171,11 +171,11 @@ module _ {A : Type 0} (F : ℕ → Form A) (n : ℕ) where
 
 -- What a function gives is what its caller is told. Premises: the tokens are read from one that is there or from their
 -- end, and so is what is left.
-pub gives_parses : {X A : Type 0} {null : Bool} {first more : List Sign} {F : ℕ → Form A} {n : ℕ} {a : Reader A} → Reads F n a → ((m : ℕ) → LL null first more (F m)) → ((k m : ℕ) → k ≤ m → Up (F k) (F m)) → (tokens : Tokens) (at : ℕ) (view : X → A) (result : Result (X × ℕ) SyntaxFault) → IfOk result (λ x. (at ≤ length tokens.list.now) × (x.1 ≤ length tokens.list.now)) → Gives tokens view result (a (drop at (views tokens.list.now))) → Parses F n tokens at view result
+pub gives_parses : {X A : Type 0} {null : Bool} {first more : List Sign} {F : ℕ → Form A} {n : ℕ} {a : Reader A} → Reads F n a → ((m : ℕ) → LL null first more (F m)) → ((k m : ℕ) → k ≤ m → Up (F k) (F m)) → (tokens : Tokens) (at : ℕ) (view : X → A) (result : Result (X × ℕ) SyntaxFault) → IfOk result (λ x. (at ≤ length tokens.list.now) × (x.1 ≤ length tokens.list.now)) → Gives tokens view result (a (drop at (views tokens.list.now))) → Parses F n (views tokens.list.now) tokens.end at view result
 gives_parses {F = F} {n = n} {a = a} ra lf up tokens at view result within g =
     answer_parses F n tokens at view result (a (drop at (views tokens.list.now))) (reads_answer ra lf up (drop at (views tokens.list.now))) within g
 
 -- And what a caller is told is what the function gives.
-pub parses_gives : {X A : Type 0} {null : Bool} {first more : List Sign} {F : ℕ → Form A} {n : ℕ} {a : Reader A} → Reads F n a → ((m : ℕ) → LL null first more (F m)) → ((k m : ℕ) → k ≤ m → Up (F k) (F m)) → (tokens : Tokens) (at : ℕ) (view : X → A) (result : Result (X × ℕ) SyntaxFault) → Parses F n tokens at view result → Gives tokens view result (a (drop at (views tokens.list.now)))
+pub parses_gives : {X A : Type 0} {null : Bool} {first more : List Sign} {F : ℕ → Form A} {n : ℕ} {a : Reader A} → Reads F n a → ((m : ℕ) → LL null first more (F m)) → ((k m : ℕ) → k ≤ m → Up (F k) (F m)) → (tokens : Tokens) (at : ℕ) (view : X → A) (result : Result (X × ℕ) SyntaxFault) → Parses F n (views tokens.list.now) tokens.end at view result → Gives tokens view result (a (drop at (views tokens.list.now)))
 parses_gives {F = F} {n = n} {a = a} ra lf up tokens at view result p =
     parses_answer F n tokens at view (lf n) result (a (drop at (views tokens.list.now))) (reads_answer ra lf up (drop at (views tokens.list.now))) p

@@ -1,11 +1,10 @@
 -- What a parser of a form answers. F n is the form within n levels of nesting.
 use Rattle.std.specs.Prelude.{◌≡◌, ℕ, suc, ◌+◌, ◌≤◌, ◌<◌, Bool, List, [], ◌∷◌, length, take, drop, Result, Ok, Err, if◌then◌else◌, ◌⊎◌}
-use Rattle.rapid_lexer.specs.Tokens.{Lexeme, views}
+use Rattle.rapid_lexer.specs.Tokens.{Lexeme}
 use Rattle.rapid_forms.specs.declared.fault.SyntaxRule.TheVariants.{Syntax, LeftOut, TooDeep}
 use Rattle.rapid_forms.specs.declared.fault.SyntaxFault.{SyntaxFault}
 use Rattle.rapid_forms.specs.declared.fault.SyntaxFault.TheVariants.{Rule, Lex, Memory}
 use Rattle.rapid_forms.specs.declared.sign.Sign.TheVariants as signs
-use Rattle.rapid_forms.specs.declared.tokens.Tokens.{Tokens}
 use Rattle.rapid_forms.specs.Signs.{begins_with}
 use Rattle.rapid_forms.specs.Forms.{Form}
 
@@ -59,12 +58,12 @@ syntax_fault end ts = Rule (if is_left_out ts then LeftOut else Syntax) (place_o
 abbrev pub depth_fault : ℕ → List Lexeme → SyntaxFault
 depth_fault end ts = Rule TooDeep (place_or end ts)
 
--- What a parser answered for the tokens from token `at` on: a tree, as view sees it, and the number of the token behind
--- it; or a fault.
-abbrev pub Parses : {X A : Type 0} → (ℕ → Form A) → ℕ → Tokens → ℕ → (X → A) → Result (X × ℕ) SyntaxFault → Type 0
-Parses F n tokens at view (Ok x) = (k : ℕ) × IsParsed F n (drop at (views tokens.list.now)) (view x.0) k × (x.1 ≡ at + k)
-Parses F n tokens at view (Err (Rule rule place)) =
-    ((k : ℕ) × IsFaulty F n (drop at (views tokens.list.now)) k × (Rule rule place ≡ syntax_fault tokens.end (drop (at + k) (views tokens.list.now))))
-    ⊎ ((k : ℕ) × IsTooDeep F n (drop at (views tokens.list.now)) k × (Rule rule place ≡ depth_fault tokens.end (drop (at + k) (views tokens.list.now))))
-Parses F n tokens at view (Err (Lex f)) = ⊥
-Parses F n tokens at view (Err Memory) = Unit {0}
+-- What a parser answered for the tokens of a text of so many bytes, from token `at` on: a tree, as view sees it, and the
+-- number of the token behind it; or a fault. Want of memory aside.
+abbrev pub Parses : {X A : Type 0} → (ℕ → Form A) → ℕ → List Lexeme → ℕ → ℕ → (X → A) → Result (X × ℕ) SyntaxFault → Type 0
+Parses F n ts end at view (Ok x) = (k : ℕ) × IsParsed F n (drop at ts) (view x.0) k × (x.1 ≡ at + k)
+Parses F n ts end at view (Err (Rule rule place)) =
+    ((k : ℕ) × IsFaulty F n (drop at ts) k × (Rule rule place ≡ syntax_fault end (drop (at + k) ts)))
+    ⊎ ((k : ℕ) × IsTooDeep F n (drop at ts) k × (Rule rule place ≡ depth_fault end (drop (at + k) ts)))
+Parses F n ts end at view (Err (Lex f)) = ⊥
+Parses F n ts end at view (Err Memory) = Unit {0}
