@@ -448,6 +448,9 @@ module _ {A : Type 0} (F G : ℕ → Form A) (same : (m : ℕ) → G (suc m) ≡
 pub level_reads : {A : Type 0} {F G : ℕ → Form A} {n : ℕ} {a : Reader A} → Reads F n a → ((m : ℕ) → G (suc m) ≡ F m) → Reads G (suc n) a
 level_reads {F = F} {G = G} {n = n} {a = a} ra same = record { right = λ ts. level_right F G same n ts (a ts) (ra.right ts) }
 
+pub level_opens : {A : Type 0} {signs : List Sign} {F G : ℕ → Form A} → Opens signs F → ((m : ℕ) → G (suc m) ≡ F m) → Opens signs G
+level_opens o same = record { opens = λ t h. let (m, b) = o.opens t h in (suc m, rw (same m) b) }
+
 -- premises: the form takes a token, and each first sign opens it
 pub within_reads : {A : Type 0} {first more : List Sign} {F : ℕ → Form A} → ((m : ℕ) → LL false first more (F m)) → Opens first F → (r : ℕ → Reader A) (n : ℕ) → ((k : ℕ) → k < n → Reads F k (r k)) → Reads (within F) n (within_read first r n)
 unfolding within within_read
