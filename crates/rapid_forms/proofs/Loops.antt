@@ -1,5 +1,5 @@
 -- A loop that reads one form after another, with what it has read so far.
-use Rattle.std.proofs.Common.{◌≡◌, ℕ, zero, suc, ◌+◌, ◌-◌, ◌≤◌, ◌<◌, Bool, true, false, if◌then◌else◌, List, [], ◌∷◌, ◌++◌, length, drop, Ok, Err, refl, sym, ap, ◌∙◌, subst, arith}
+use Rattle.std.proofs.Common.{◌≡◌, ℕ, zero, suc, ◌-◌, ◌≤◌, ◌<◌, true, false, if◌then◌else◌, List, [], ◌∷◌, ◌++◌, length, Ok, Err, refl, sym, ap, ◌∙◌, subst, arith}
 use Rattle.std.proofs.lemmas.List.{append_assoc, append-nil, length-drop, length-map}
 use Rattle.rapid_lexer.specs.Tokens.{Lexeme, view, views}
 use Rattle.rapid_forms.specs.declared.fault.SyntaxFault.{SyntaxFault}
@@ -43,8 +43,8 @@ fuel t signs (suc j) zero [] le le' = refl
 fuel t signs (suc j) zero (c ∷ ts) le le' = absurd (omega arith)
 fuel {a = a} t signs (suc j) (suc k) ts le le' =
     ap (λ read. if begins_with signs ts then read else Ok ([], ts)) (then_same (a ts) _ _ λ x rest e.
-        let less = t.less ts x rest e in
-        ap (λ read. then_read read λ xs left. Ok (x ∷ xs, left)) (fuel t signs j k rest (omega arith) (omega arith)))
+    let less = t.less ts x rest e in
+    ap (λ read. then_read read λ xs left. Ok (x ∷ xs, left)) (fuel t signs j k rest (omega arith) (omega arith)))
 
 many_opened : {A : Type 0} {a : Reader A} → Takes a → (signs : List Sign) (ts : List Lexeme) → begins_with signs ts ≡ true → many_read signs a ts ≡ then_read (a ts) (λ x rest. then_read (many_read signs a rest) λ xs left. Ok (x ∷ xs, left))
 unfolding many_read many_within begins_with

@@ -1,13 +1,13 @@
 -- What a reader's answer says of the form that it reads. F n is the form within n levels; an answer speaks of every level
 -- from n up, since a form that stands within others is looked at with more levels too.
-use Rattle.std.proofs.Common.{◌≡◌, ℕ, zero, suc, ◌+◌, ◌≤◌, ◌<◌, arith, Bool, true, false, List, [], ◌∷◌, ◌++◌, length, Option, None, Some, Ok, Err, refl, sym, ap, subst, ◌∙◌, inl, inr, ◌⊎◌}
+use Rattle.std.proofs.Common.{◌≡◌, ℕ, zero, suc, ◌+◌, ◌≤◌, ◌<◌, arith, Bool, true, false, List, [], ◌∷◌, ◌++◌, length, Option, None, Some, Ok, Err, refl, sym, ap, subst, ◌∙◌, inl, inr}
 use Rattle.std.proofs.lemmas.Bool.{cond_both, both_ways}
-use Rattle.std.proofs.lemmas.List.{append_assoc, append-nil, length-append, nil_from_length}
+use Rattle.std.proofs.lemmas.List.{append_assoc, append-nil, length-append}
 use Rattle.rapid_lexer.specs.Tokens.{Lexeme}
 use Rattle.rapid_forms.specs.declared.sign.Sign.{Sign}
 use Rattle.rapid_forms.specs.Signs.{has, sign_of, begins_with}
 use Rattle.rapid_forms.specs.Forms.{Form, one, seq, either, optional, many, made, nothing, within, place}
-use Rattle.rapid_forms.specs.Reading.{Halt, Fails, Deep, Read, Reader, then_read, one_read, seq_read, either_read, optional_read, many_within, many_read, made_read, nothing_read, within_read}
+use Rattle.rapid_forms.specs.Reading.{Fails, Deep, Read, Reader, then_read, one_read, seq_read, either_read, optional_read, many_within, many_read, made_read, nothing_read, within_read}
 use Rattle.rapid_forms.proofs.Laws.{LL, many_ll, within_ll}
 use Rattle.rapid_forms.proofs.Cuts.{Even, Shorter, Longer, cuts, behind, no_middle, no_front}
 use Rattle.rapid_forms.proofs.Sets.{apart, has_apart}
@@ -70,7 +70,7 @@ module _ {A B : Type 0} {na nb : Bool} {fa ma fb mb : List Sign} {f : Form A} {g
   one_split : (front rest w tail : List Lexeme) → f.Begun front → Ends f front rest → rest ≡ w ++ tail → (x : A) (u v : List Lexeme) → front ++ w ≡ u ++ v → f.Whole x u → g.Begun v → (front ≡ u) × (w ≡ v)
   one_split front rest w tail b ends at x u v same h b' =
       elim (cuts front w u v same) [
-        Even p q ↦ (p, q)
+        | Even p q ↦ (p, q)
         | Shorter c m p q ↦ absurd (stuck lf front rest (c ∷ m) (v ++ tail) ends (λ z. cc) (at ∙ behind w (c ∷ m) v tail q) (subst f.Begun p (lf.begun x u h)))
         | Longer c m p q ↦ absurd (clash x u c m (m ++ w) h (subst f.Begun p b) (subst g.Begun q b'))
       ]
@@ -293,7 +293,7 @@ either_reads {A} {nb} {fa} {ma} {fb} {mb} {F} {G} {n} {a} {b} ra rb lf lg e o up
   right = λ ts. cond_both (begins_with fa ts) (a ts) (b ts) (Right (λ m. either (F m) (G m)) n ts)
       (λ h. side_right G ts (λ m w tail s some b. apart_begins fa fb ts e h (begins (lg m) ts w tail s some b)) (λ m y w. starts (o ((lg m).empty y w)) up n ts h) (λ m. (lg m).begun) (a ts) (ra.right ts))
       (λ h. same_right (λ m. either_swapped (G m) (F m)) n ts (b ts)
-          (side_right F ts (λ m w tail s some b. both_ways _ h (begins (lf m) ts w tail s some b)) (λ m y w. let no = (lf m).empty y w in cc) (λ m. (lf m).begun) (b ts) (rb.right ts)));
+      (side_right F ts (λ m w tail s some b. both_ways _ h (begins (lf m) ts w tail s some b)) (λ m y w. let no = (lf m).empty y w in cc) (λ m. (lf m).begun) (b ts) (rb.right ts)));
 }
 
 optional_right : {A : Type 0} {F : ℕ → Form A} (n : ℕ) (ts : List Lexeme) → Starts F n ts → (read : Read A) → Right F n ts read → Right (λ m. optional (F m)) n ts (then_read read λ x rest. Ok (Some x, rest))
@@ -468,6 +468,7 @@ rolled {A} f = record { whole = λ xs ts w. whole w.0 xs ts w.1 w.2; begun = beg
   whole : (o : Option (A × List A)) (xs : List A) (ts : List Lexeme) → (optional (seq f (many f))).Whole o ts → xs ≡ join_list o → (many f).Whole xs ts
   whole None xs ts w e = rw e w
   whole (Some x) xs ts w e = rw e w
+
   begun : (ts : List Lexeme) → (optional (seq f (many f))).Begun ts → (many f).Begun ts
   begun ts (inl e) = ([], [], ts, refl, refl, inl e)
   begun ts (inr (inl b)) = ([], [], ts, refl, refl, inr b)
@@ -479,6 +480,7 @@ unrolled {A} f = record { whole = whole; begun = begun } where
   whole : (xs : List A) (ts : List Lexeme) → (many f).Whole xs ts → (made (λ at. join_list) (optional (seq f (many f)))).Whole xs ts
   whole [] ts w = (None, w, refl)
   whole (x ∷ xs) ts w = (Some (x, xs), w, refl)
+
   begun : (ts : List Lexeme) → (many f).Begun ts → (optional (seq f (many f))).Begun ts
   begun ts ([], u, v, e, w, inl p) = inl (no_front ts u v e w ∙ p)
   begun ts ([], u, v, e, w, inr b) = inr (inl (subst f.Begun (sym (no_front ts u v e w)) b))

@@ -1,7 +1,7 @@
 -- What a reader's answer means, in the public words; and that the answers of those words exclude one another.
-use Rattle.std.proofs.Common.{◌≡◌, ℕ, zero, suc, ◌+◌, ◌-◌, ◌≤◌, ◌<◌, Bool, true, false, List, [], ◌∷◌, ◌++◌, length, take, drop, min, IfOk, Result, Ok, Err, refl, sym, ap, subst, ◌∙◌, inl, inr, ◌⊎◌, arith}
+use Rattle.std.proofs.Common.{◌≡◌, ℕ, suc, ◌+◌, ◌≤◌, ◌<◌, Bool, false, List, [], ◌∷◌, ◌++◌, length, take, drop, min, IfOk, Result, Ok, Err, refl, sym, ap, subst, ◌∙◌, inl, inr, ◌⊎◌, arith}
 use Rattle.std.proofs.lemmas.Bool.{cases_order, cases_lt}
-use Rattle.std.proofs.lemmas.List.{append_assoc, take-append-drop, take-take, take_at, drop_at, length-append, length-drop, length-map, drop-drop, drop_min}
+use Rattle.std.proofs.lemmas.List.{take-append-drop, take-take, take_at, drop_at, length-append, length-drop, length-map, drop-drop, drop_min}
 use Rattle.rapid_lexer.specs.Tokens.{Lexeme, views}
 use Rattle.rapid_lexer.specs.Tokens.{view as lexeme}
 use Rattle.rapid_forms.specs.declared.fault.SyntaxFault.{SyntaxFault}
@@ -10,11 +10,11 @@ use Rattle.rapid_forms.specs.declared.sign.Sign.{Sign}
 use Rattle.rapid_forms.specs.declared.tokens.Tokens.{Tokens}
 use Rattle.rapid_forms.specs.Forms.{Form}
 use Rattle.rapid_forms.specs.Parsed.{Begins, IsLongest, IsParsed, IsFaulty, IsTooDeep, Parses, syntax_fault, depth_fault}
-use Rattle.rapid_forms.specs.Reading.{Halt, Fails, Deep, Read, Reader, Gives, rest_from}
+use Rattle.rapid_forms.specs.Reading.{Fails, Deep, Read, Reader, Gives, rest_from}
 use Rattle.rapid_forms.proofs.Laws.{LL}
 use Rattle.rapid_forms.proofs.Up.{Up}
 use Rattle.rapid_forms.proofs.Loops.{reads_take, taken_there}
-use Rattle.rapid_forms.proofs.Right.{Right, Reads, Ends, IsRead, IsStopped, IsAbove}
+use Rattle.rapid_forms.proofs.Right.{Right, Reads, Ends}
 
 -- fewer tokens begin a form as well
 fewer : {A : Type 0} {null : Bool} {first more : List Sign} {f : Form A} → LL null first more f → (ts : List Lexeme) (i j : ℕ) → i ≤ j → f.Begun (take j ts) → f.Begun (take i ts)
@@ -95,9 +95,9 @@ module _ {A : Type 0} {null : Bool} {first more : List Sign} {F : ℕ → Form A
       longest = longest h.front x.1 h.split ((lf n).begun x.0 h.front h.whole) h.ends;
       whole = rw (take_front ts h.front x.1 h.split) h.whole;
       only = λ y (m, w).
-        (lf (n + m)).only y x.0 h.front ((up m (n + m) (omega arith)).whole y h.front (subst ((F m).Whole y) (take_front ts h.front x.1 h.split) w)) ((up n (n + m) (omega arith)).whole x.0 h.front h.whole);
+          (lf (n + m)).only y x.0 h.front ((up m (n + m) (omega arith)).whole y h.front (subst ((F m).Whole y) (take_front ts h.front x.1 h.split) w)) ((up n (n + m) (omega arith)).whole x.0 h.front h.whole);
     },
-    drop_front ts h.front x.1 h.split
+    drop_front ts h.front x.1 h.split,
   )
   answers (Err (Fails rest)) h = (
     length h.front,
@@ -106,7 +106,7 @@ module _ {A : Type 0} {null : Bool} {first more : List Sign} {F : ℕ → Form A
       begun = rw (take_front ts h.front rest h.split) h.begun;
       none = λ y (m, w). h.none (n + m) (omega arith) y ((up m (n + m) (omega arith)).whole y h.front (subst ((F m).Whole y) (take_front ts h.front rest h.split) w));
     },
-    drop_front ts h.front rest h.split
+    drop_front ts h.front rest h.split,
   )
   answers (Err (Deep rest)) h = (
     length h.front,
@@ -116,7 +116,7 @@ module _ {A : Type 0} {null : Bool} {first more : List Sign} {F : ℕ → Form A
       begins = (h.level, rw (take_one_more ts h.front rest h.token h.behind h.split h.next) h.deeper);
       deep = λ b. h.ends h.token h.behind h.next (subst (F n).Begun (take_one_more ts h.front rest h.token h.behind h.split h.next) b);
     },
-    drop_front ts h.front rest h.split
+    drop_front ts h.front rest h.split,
   )
 
 -- premises: one token of looking ahead suffices at each level, and what is within n levels is within more
