@@ -116,27 +116,27 @@ module _ {A B : Type 0} {na nb : Bool} {fa ma fb mb : List Sign} {F : ℕ → Fo
     begun_up : (m : ℕ) → n ≤ m → (F m).Begun h.front
     begun_up m le = (up n m le).begun h.front ((lf n).begun x h.front h.whole)
 
-    put : (mid left : List Lexeme) → rest ≡ mid ++ left → ts ≡ (h.front ++ mid) ++ left
-    put mid left split = h.split ∙ ap (λ l. h.front ++ l) split ∙ sym (append_assoc h.front mid left)
+    joined : (mid left : List Lexeme) → rest ≡ mid ++ left → ts ≡ (h.front ++ mid) ++ left
+    joined mid left split = h.split ∙ ap (λ l. h.front ++ l) split ∙ sym (append_assoc h.front mid left)
 
     second_right : (b : Read B) → Right G n rest b → Right (λ m. seq (F m) (G m)) n ts (then_read b λ y left. Ok ((x, y), left))
     unfolding seq then_read
     second_right (Ok y) h' = record {
       front = h.front ++ h'.front;
-      split = put h'.front y.1 h'.split;
+      split = joined h'.front y.1 h'.split;
       whole = (h.front, h'.front, refl, h.whole, h'.whole);
       ends = λ m le. seq_ends (lf m) (lg m) e h.front rest h'.front y.1 (begun_up m le) (h.ends m le) h'.split (h'.ends m le);
     }
     second_right (Err (Fails left)) h' = record {
       front = h.front ++ h'.front;
-      split = put h'.front left h'.split;
+      split = joined h'.front left h'.split;
       begun = inr (x, h.front, h'.front, refl, h.whole, h'.begun);
       ends = λ m le. seq_ends (lf m) (lg m) e h.front rest h'.front left (begun_up m le) (h.ends m le) h'.split (h'.ends m le);
       none = λ m le. seq_none (lf m) (lg m) e h.front rest h'.front left (begun_up m le) (h.ends m le) h'.split (h'.none m le);
     }
     second_right (Err (Deep left)) h' = record {
       front = h.front ++ h'.front;
-      split = put h'.front left h'.split;
+      split = joined h'.front left h'.split;
       token = h'.token;
       behind = h'.behind;
       next = h'.next;
@@ -457,7 +457,7 @@ unfolding within within_read
 within_reads {F = F} lf o r zero reads = nothing_reads refl (within_ll F lf) (within_opens o)
 within_reads lf o r (suc n) reads = level_reads (reads n (omega arith)) (λ m. refl)
 
--- a list is nothing, or one and a list
+-- A list is nothing, or one and a list: many is made of optional and seq, and what holds of those holds of it.
 join_list : {A : Type 0} → Option (A × List A) → List A
 join_list None = []
 join_list (Some x) = x.0 ∷ x.1
@@ -493,10 +493,11 @@ less_left {F = F} {n} {ts} {rest} x l h = go h.front h.split h.whole where
   go [] e w = let no = l.empty x w in cc
   go (c ∷ front) e w = omega (arith, ap length e, length-append front rest)
 
-joined : {A : Type 0} (read : Read A) (b : Reader (List A)) → then_read (then_read (then_read read λ x rest. then_read (b rest) λ xs left. Ok ((x, xs), left)) λ o rest. Ok (Some o, rest)) (λ o rest. Ok (join_list o, rest)) ≡ then_read read (λ x rest. then_read (b rest) λ xs left. Ok (x ∷ xs, left))
+-- and so is its reader
+as_one : {A : Type 0} (read : Read A) (b : Reader (List A)) → then_read (then_read (then_read read λ x rest. then_read (b rest) λ xs left. Ok ((x, xs), left)) λ o rest. Ok (Some o, rest)) (λ o rest. Ok (join_list o, rest)) ≡ then_read read (λ x rest. then_read (b rest) λ xs left. Ok (x ∷ xs, left))
 unfolding then_read join_list
-joined (Err h) b = refl
-joined (Ok x) b = behind_one x.0 (b x.1)
+as_one (Err h) b = refl
+as_one (Ok x) b = behind_one x.0 (b x.1)
   where
     behind_one : {A : Type 0} (x : A) (r : Read (List A)) → then_read (then_read (then_read r λ xs left. Ok ((x, xs), left)) λ o rest. Ok (Some o, rest)) (λ o rest. Ok (join_list o, rest)) ≡ then_read r (λ xs left. Ok (x ∷ xs, left))
     behind_one x (Err h) = refl
@@ -511,7 +512,7 @@ module _ {A : Type 0} {first more : List Sign} {F : ℕ → Form A} {n : ℕ} {a
   one_more k ts later h =
       let one = seq_right lf (λ m. many_ll (lf m) e) e up n ts (a ts) (many_within k first a) (ra.right ts) (λ x rest is. later rest (less_left x (lf n) (subst (Right F n ts) is (ra.right ts)))) in
       let some = optional_right n ts (starts (seq_opens (λ m. many (F m)) o) (λ k m le. seq_up (up k m le) (many_up (up k m le))) n ts h) _ one in
-      subst (Right (λ m. many (F m)) n ts) (joined (a ts) (many_within k first a))
+      subst (Right (λ m. many (F m)) n ts) (as_one (a ts) (many_within k first a))
       (same_right (λ m. record { to = rolled (F m); back = unrolled (F m) }) n ts _ (made_right _ (λ at. join_list) n ts (λ x front rest split w. refl) _ some))
 
   many_right : (k : ℕ) (ts : List Lexeme) → length ts ≤ k → Right (λ m. many (F m)) n ts (many_within k first a ts)

@@ -176,16 +176,16 @@ pub gives_parses : {X A : Type 0} {null : Bool} {first more : List Sign} {F : �
 gives_parses {F = F} {n = n} {a = a} ra lf up tokens at view result within g =
     answer_parses F n tokens at view result (a (rest_from tokens at)) (reads_answer ra lf up (rest_from tokens at)) within g
 
--- what is given with a fault has no view
-pub fails_parses : {A : Type 0} {null : Bool} {first more : List Sign} {F : ℕ → Form A} {n : ℕ} {a : Reader A} → Reads F n a → ((m : ℕ) → LL null first more (F m)) → ((k m : ℕ) → k ≤ m → Up (F k) (F m)) → (tokens : Tokens) (at : ℕ) (fault : SyntaxFault) → Gives tokens (λ (x : A). x) (Err fault) (a (rest_from tokens at)) → Parses F n tokens at (λ (x : A). x) (Err fault)
-fails_parses ra lf up tokens at fault g = gives_parses ra lf up tokens at (λ x. x) (Err fault) tt g
-
 -- the same where the form takes a token, so that one is there
 pub some_parses : {X A : Type 0} {first more : List Sign} {F : ℕ → Form A} {n : ℕ} {a : Reader A} → Reads F n a → ((m : ℕ) → LL false first more (F m)) → ((k m : ℕ) → k ≤ m → Up (F k) (F m)) → (tokens : Tokens) (at : ℕ) (view : X → A) (result : Result (X × ℕ) SyntaxFault) → IfOk result (λ x. x.1 ≤ length tokens.list.now) → Gives tokens view result (a (rest_from tokens at)) → Parses F n tokens at view result
 some_parses {n = n} ra lf up tokens at view (Ok x) within g =
     let there = taken_there (reads_take ra (lf n)) tokens at (view x.0) (rest_from tokens x.1) g in
     gives_parses ra lf up tokens at view (Ok x) (omega (arith, there), within) g
 some_parses ra lf up tokens at view (Err f) within g = gives_parses ra lf up tokens at view (Err f) tt g
+
+-- what is given with a fault has no view
+pub fails_parses : {A : Type 0} {null : Bool} {first more : List Sign} {F : ℕ → Form A} {n : ℕ} {a : Reader A} → Reads F n a → ((m : ℕ) → LL null first more (F m)) → ((k m : ℕ) → k ≤ m → Up (F k) (F m)) → (tokens : Tokens) (at : ℕ) (fault : SyntaxFault) → Gives tokens (λ (x : A). x) (Err fault) (a (rest_from tokens at)) → Parses F n tokens at (λ (x : A). x) (Err fault)
+fails_parses ra lf up tokens at fault g = gives_parses ra lf up tokens at (λ x. x) (Err fault) tt g
 
 -- a number past the tokens is as good as their end
 pub least_gives : {X A : Type 0} (tokens : Tokens) (view : X → A) (x : X) (next : ℕ) (read : Read A) → Gives tokens view (Ok (x, next)) read → Gives tokens view (Ok (x, min next (length tokens.list.now))) read
