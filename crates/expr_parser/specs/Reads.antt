@@ -1,7 +1,11 @@
 -- Reading expressions from left to right: the readers of the forms of the grammar, by which its functions are proved.
-use Rattle.std.specs.Prelude.{ℕ, zero, suc, Bool, List, [], ◌∷◌, ◌++◌, Option, ◌⊎◌, inl, inr}
+use Rattle.std.specs.Prelude.{ℕ, zero, suc, List, [], ◌∷◌, Option, map, option_map, Vec, ◌⊎◌, inl, inr}
+use Rattle.std.specs.declared.alloc.Global.{Global}
 use Rattle.rapid_lexer.specs.Tokens.{Lexeme}
 use Rattle.rapid_model.specs.declared.raw_expr.Operator.{Operator}
+use Rattle.rapid_model.specs.declared.raw_expr.RawExpr.{RawExpr}
+use Rattle.rapid_model.specs.declared.raw_name.RawName.{RawName}
+use Rattle.rapid_model.specs.Views.{view_expr, view_name}
 use Rattle.rapid_model.specs.Plain.{PlainName, PlainExpr, PlainPlace, PlainArg, Place}
 use Rattle.rapid_forms.specs.declared.sign.Sign.{Sign}
 use Rattle.rapid_forms.specs.declared.sign.Sign.TheVariants as signs
@@ -9,6 +13,10 @@ use Rattle.rapid_forms.specs.Reading.{Reader, one_read, seq_read, either_read, o
 use Rattle.expr_parser.specs.declared.level.Level.{Level}
 use Rattle.expr_parser.specs.declared.level.Level.TheVariants as levels
 use Rattle.expr_parser.specs.Grammar.{name_tree, number_tree, quoted_tree, truth_tree, inner, behind, group_tree, aggregate_tree, invoke_tree, place_tree, needed_tree, option_tree, none_or, first_and_more, step_tree, chain_tree, relation_tree, signed_tree, negated_tree, comparisons}
+
+-- an index and components, as they are seen
+abbrev pub view_parts : Option RawExpr × Vec RawName Global → Option PlainExpr × List PlainName
+view_parts x = (option_map view_expr x.0, map view_name x.1.items)
 
 -- the signs with which expressions and arguments begin
 abbrev pub expr_signs : List Sign

@@ -5,9 +5,8 @@ ghost use Rattle.rapid_forms.specs.Reading.{Gives, rest_from};
 ghost use Rattle.expr_parser.specs.Reads.{arg_signs, inside_read};
 
 use crate::chains::expr;
-use crate::parser::Parser;
 use crate::primary::name;
-use rapid_forms::{Sign, SyntaxFault};
+use rapid_forms::{Parser, Sign, SyntaxFault};
 use rapid_model::{RawArg, RawExpr};
 
 static ARG_SIGNS: [Sign; 11] = [

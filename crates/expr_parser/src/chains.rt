@@ -7,9 +7,8 @@ ghost use Rattle.expr_parser.specs.Reads.{expr_of_read, first_read, inside_read,
 
 use crate::level::Level;
 use crate::operators::{is_minus, operator_of};
-use crate::parser::Parser;
 use crate::primary::primary;
-use rapid_forms::{Sign, SyntaxFault};
+use rapid_forms::{Parser, Sign, SyntaxFault};
 use rapid_model::{Operator, RawExpr};
 
 static COMPARISONS: [Sign; 6] = [

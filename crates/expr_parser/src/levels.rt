@@ -6,8 +6,7 @@ ghost use Rattle.rapid_forms.specs.Reading.{Gives, rest_from};
 ghost use Rattle.expr_parser.specs.Reads.{inside_read};
 
 use crate::chains::expr;
-use crate::parser::Parser;
-use rapid_forms::{Sign, SyntaxFault};
+use rapid_forms::{Parser, Sign, SyntaxFault};
 use rapid_model::RawExpr;
 
 /// An expression in parentheses.

@@ -7,10 +7,9 @@ mod level;
 mod levels;
 mod operators;
 mod parse;
-mod parser;
 mod primary;
 
-pub use parse::parse_expr;
+pub use parse::{parse_args, parse_expr, parse_exprs, parse_index, parse_parts};
 
 #[cfg(test)]
 mod tests;

@@ -1,10 +1,12 @@
-//! The public calls.
+//! The public calls. `depth` levels of nesting are open before token `at`, and `end` is the length of the text in bytes.
 
+use crate::args::args_if_any;
 use crate::chains::expr;
-use crate::parser::Parser;
-use rapid_forms::{SyntaxFault, Tokens};
+use crate::levels::{exprs, index};
+use crate::primary::place_parts;
+use rapid_forms::{Parser, SyntaxFault, Tokens};
 use rapid_lexer::Token;
-use rapid_model::RawExpr;
+use rapid_model::{RawArg, RawExpr, RawName};
 use std::alloc::Global;
 
 /// The expression that begins at token `at`, and the number of the token behind it.
@@ -15,7 +17,74 @@ pub fn parse_expr<'a>(
     depth: u32,
     end: usize,
 ) -> Result<(RawExpr<'a>, usize), SyntaxFault> {
-    let tokens = Tokens { list: tokens, end };
-    let p = Parser { alloc, tokens };
-    expr(&p, at, 64 - depth)
+    let p = Parser {
+        alloc,
+        tokens: Tokens { list: tokens, end },
+    };
+    let (tree, next) = expr(&p, at, 64 - depth)?;
+    Ok((tree, next.min(tokens.len())))
+}
+
+/// Expressions with commas between them, one at least.
+pub fn parse_exprs<'a>(
+    alloc: Global,
+    tokens: &[Token<'a>],
+    at: usize,
+    depth: u32,
+    end: usize,
+) -> Result<(Vec<RawExpr<'a>>, usize), SyntaxFault> {
+    let p = Parser {
+        alloc,
+        tokens: Tokens { list: tokens, end },
+    };
+    let (trees, next) = exprs(&p, at, 64 - depth)?;
+    Ok((trees, next.min(tokens.len())))
+}
+
+/// An index in braces.
+pub fn parse_index<'a>(
+    alloc: Global,
+    tokens: &[Token<'a>],
+    at: usize,
+    depth: u32,
+    end: usize,
+) -> Result<(RawExpr<'a>, usize), SyntaxFault> {
+    let p = Parser {
+        alloc,
+        tokens: Tokens { list: tokens, end },
+    };
+    let (tree, next) = index(&p, at, 64 - depth)?;
+    Ok((tree, next.min(tokens.len())))
+}
+
+/// What stands behind a name in a place: an index, or none, and components.
+pub fn parse_parts<'a>(
+    alloc: Global,
+    tokens: &[Token<'a>],
+    at: usize,
+    depth: u32,
+    end: usize,
+) -> Result<((Option<RawExpr<'a>>, Vec<RawName<'a>>), usize), SyntaxFault> {
+    let p = Parser {
+        alloc,
+        tokens: Tokens { list: tokens, end },
+    };
+    let (parts, next) = place_parts(&p, at, 64 - depth)?;
+    Ok((parts, next.min(tokens.len())))
+}
+
+/// Arguments, where any are there.
+pub fn parse_args<'a>(
+    alloc: Global,
+    tokens: &[Token<'a>],
+    at: usize,
+    depth: u32,
+    end: usize,
+) -> Result<(Vec<RawArg<'a>>, usize), SyntaxFault> {
+    let p = Parser {
+        alloc,
+        tokens: Tokens { list: tokens, end },
+    };
+    let (args, next) = args_if_any(&p, at, 64 - depth)?;
+    Ok((args, next.min(tokens.len())))
 }

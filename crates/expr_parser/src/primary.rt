@@ -1,15 +1,14 @@
 //! Operands without operators: literals, groups, aggregates, calls and places.
 
 ghost use Rattle.std.specs.Option.{option_map};
-ghost use Rattle.rapid_model.specs.Views.{view_expr, view_name, view_place};
+ghost use Rattle.rapid_model.specs.Views.{view_expr, view_name};
 ghost use Rattle.rapid_forms.specs.Reading.{Gives, rest_from};
-ghost use Rattle.expr_parser.specs.Reads.{inside_read, name_read, named_read, part_read, place_read, primary_read};
+ghost use Rattle.expr_parser.specs.Reads.{view_parts, inside_read, name_read, named_read, part_read, parts_read, primary_read};
 
 use crate::args::call;
 use crate::levels::{aggregate, group, index};
 use crate::operators::is_true;
-use crate::parser::Parser;
-use rapid_forms::{Sign, SyntaxFault};
+use rapid_forms::{Parser, Sign, SyntaxFault};
 use rapid_model::{RawExpr, RawName, RawPlace};
 
 /// A name.
@@ -83,35 +82,23 @@ fn named<'a>(
         let (args, end) = call(p, next, left)?;
         return Ok((RawExpr::invoke(name.at, name, args), end));
     }
-    let (place, end) = place_behind(p, name, next, left)?;
+    let ((index, parts), end) = place_parts(p, next, left)?;
+    let place = RawPlace::new(p.alloc, name, index, parts)?;
     Ok((RawExpr::place(name.at, place), end))
 }
 
-/// A place.
+/// What stands behind a name in a place: an index, or none, and components.
 #[cycle(expr)]
-pub(crate) fn place<'a>(
+pub(crate) fn place_parts<'a>(
     p: &Parser<'_, 'a>,
     at: usize,
     left: u32,
-) -> Result<(RawPlace<'a>, usize), SyntaxFault>
-    ensures { Gives p.now.tokens view_place result (place_read (inside_read left) (rest_from p.now.tokens at)) }
+) -> Result<((Option<RawExpr<'a>>, Vec<RawName<'a>>), usize), SyntaxFault>
+    ensures { Gives p.now.tokens view_parts result (parts_read (inside_read left) (rest_from p.now.tokens at)) }
 {
-    let (name, next) = name(p, at)?;
-    place_behind(p, name, next, left)
-}
-
-/// The place of a name, with its index and its components.
-#[cycle(expr)]
-fn place_behind<'a>(
-    p: &Parser<'_, 'a>,
-    name: RawName<'a>,
-    at: usize,
-    left: u32,
-) -> Result<(RawPlace<'a>, usize), SyntaxFault> {
     let (index, next) = index_if_any(p, at, left)?;
     let (parts, end) = parts(p, next)?;
-    let place = RawPlace::new(p.alloc, name, index, parts)?;
-    Ok((place, end))
+    Ok(((index, parts), end))
 }
 
 /// An index, if one is there.

@@ -2,11 +2,13 @@
 #![tactic(auto)]
 
 mod fault;
+mod parser;
 mod sign;
 mod signs;
 mod tokens;
 
 pub use fault::{SyntaxFault, SyntaxRule};
+pub use parser::Parser;
 pub use sign::Sign;
 pub use signs::sign_of;
 pub use tokens::Tokens;

@@ -17,6 +17,7 @@ pub struct RawExpr<'a> {
 }
 
 impl<'a> RawExpr<'a> {
+    /// A numerical literal, as it is spelled.
     pub fn number(at: usize, text: &'a [u8]) -> RawExpr<'a>
         ensures { view_expr result ≡ Plain.Number at text.now }
     {
@@ -26,6 +27,7 @@ impl<'a> RawExpr<'a> {
         }
     }
 
+    /// A string with its quotes, as it is spelled.
     pub fn text(at: usize, text: &'a [u8]) -> RawExpr<'a>
         ensures { view_expr result ≡ Plain.Quoted at text.now }
     {
@@ -35,6 +37,7 @@ impl<'a> RawExpr<'a> {
         }
     }
 
+    /// TRUE or FALSE.
     pub fn truth(at: usize, value: bool) -> RawExpr<'a>
         ensures { view_expr result ≡ Plain.Truth at value }
     {
@@ -44,7 +47,7 @@ impl<'a> RawExpr<'a> {
         }
     }
 
-    /// An expression in parentheses.
+    /// An expression in parentheses. Its error says that memory was refused.
     pub fn group(alloc: Global, at: usize, value: RawExpr<'a>) -> Result<RawExpr<'a>, AllocError>
         ensures { IfOk result (λ e. view_expr e ≡ Plain.Group at (view_expr value.entry)) }
     {
@@ -72,6 +75,7 @@ impl<'a> RawExpr<'a> {
         }
     }
 
+    /// The value of a datum, an element or a component.
     pub fn place(at: usize, place: RawPlace<'a>) -> RawExpr<'a>
         ensures { view_expr result ≡ Plain.Place at (view_place place.entry) }
     {
@@ -81,6 +85,7 @@ impl<'a> RawExpr<'a> {
         }
     }
 
+    /// NOT and its operand. Its error says that memory was refused.
     pub fn not(alloc: Global, at: usize, value: RawExpr<'a>) -> Result<RawExpr<'a>, AllocError>
         ensures { IfOk result (λ e. view_expr e ≡ Plain.Not at (view_expr value.entry)) }
     {
@@ -88,7 +93,7 @@ impl<'a> RawExpr<'a> {
         Ok(RawExpr { at, form })
     }
 
-    /// A leading sign, minus or plus.
+    /// A leading sign, minus or plus, and its operand. Its error says that memory was refused.
     pub fn signed(
         alloc: Global,
         at: usize,
@@ -104,7 +109,7 @@ impl<'a> RawExpr<'a> {
         })
     }
 
-    /// Operators of one level and their operands, from left to right.
+    /// Operators of one level and their operands, from left to right. Its error says that memory was refused.
     pub fn chain(
         alloc: Global,
         at: usize,
@@ -166,6 +171,7 @@ pub enum RawArg<'a> {
 }
 
 impl<'a> RawArg<'a> {
+    /// A value for a parameter that is not an option.
     pub fn needed(value: RawExpr<'a>) -> RawArg<'a>
         ensures { view_arg result ≡ Plain.Needed (view_expr value.entry) }
     {
@@ -191,6 +197,7 @@ pub struct RawPlace<'a> {
 
 impl<'a> RawPlace<'a> {
     /// The datum of a name, or of the element that `index` chooses, or the component that `parts` lead to from there.
+    /// Its error says that memory was refused.
     pub fn new(
         alloc: Global,
         name: RawName<'a>,

@@ -18,6 +18,7 @@ pub struct RawStmt<'a> {
 }
 
 impl<'a> RawStmt<'a> {
+    /// An assignment of a value to a place.
     pub fn assign(at: usize, place: RawPlace<'a>, value: RawExpr<'a>) -> RawStmt<'a>
         ensures { view_stmt result ≡ Plain.Assign at (view_place place.entry) (view_expr value.entry) }
     {
@@ -37,6 +38,7 @@ impl<'a> RawStmt<'a> {
         }
     }
 
+    /// A label, for GOTO to lead to.
     pub fn label(at: usize, name: RawName<'a>) -> RawStmt<'a>
         ensures { view_stmt result ≡ Plain.Label at (view_name name.entry) }
     {
@@ -46,6 +48,7 @@ impl<'a> RawStmt<'a> {
         }
     }
 
+    /// GOTO, to the label of a name.
     pub fn goto(at: usize, name: RawName<'a>) -> RawStmt<'a>
         ensures { view_stmt result ≡ Plain.Goto at (view_name name.entry) }
     {
@@ -65,6 +68,7 @@ impl<'a> RawStmt<'a> {
         }
     }
 
+    /// EXIT, the end of the task.
     pub fn exit(at: usize) -> RawStmt<'a>
         ensures { view_stmt result ≡ Plain.Exit at }
     {
@@ -84,6 +88,7 @@ impl<'a> RawStmt<'a> {
         }
     }
 
+    /// RETRY, in an ERROR part.
     pub fn retry(at: usize) -> RawStmt<'a>
         ensures { view_stmt result ≡ Plain.Retry at }
     {
@@ -93,6 +98,7 @@ impl<'a> RawStmt<'a> {
         }
     }
 
+    /// TRYNEXT, in an ERROR part.
     pub fn try_next(at: usize) -> RawStmt<'a>
         ensures { view_stmt result ≡ Plain.TryNext at }
     {
@@ -102,6 +108,7 @@ impl<'a> RawStmt<'a> {
         }
     }
 
+    /// CONNECT, of an interrupt at a place with a trap routine.
     pub fn connect(at: usize, place: RawPlace<'a>, trap: RawName<'a>) -> RawStmt<'a>
         ensures { view_stmt result ≡ Plain.Connect at (view_place place.entry) (view_name trap.entry) }
     {
@@ -125,7 +132,7 @@ impl<'a> RawStmt<'a> {
         }
     }
 
-    /// IF with one simple statement.
+    /// IF with one simple statement. Its error says that memory was refused.
     pub fn choice_of_one(
         alloc: Global,
         at: usize,
@@ -164,6 +171,7 @@ impl<'a> RawStmt<'a> {
         }
     }
 
+    /// WHILE with its list.
     pub fn while_loop(at: usize, test: RawExpr<'a>, list: Vec<RawStmt<'a>>) -> RawStmt<'a>
         ensures { view_stmt result ≡ Plain.While at (view_expr test.entry) (stmts_of (view_list list.entry)) }
     {

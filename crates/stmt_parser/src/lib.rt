@@ -1,9 +1,14 @@
 //! Statements: which tokens spell a list of them, and the tree that they spell.
 #![tactic(auto)]
 
-ghost use Rattle.stmt_parser.specs.Grammar.{list};
+mod blocks;
+mod exprs;
+mod list;
+mod named;
+mod parse;
+mod simple;
 
-/// Nothing yet.
-pub fn nothing_yet() -> u8 {
-    0
-}
+pub use parse::parse_list;
+
+#[cfg(test)]
+mod tests;

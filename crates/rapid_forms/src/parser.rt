@@ -1,0 +1,9 @@
+use crate::tokens::Tokens;
+use std::alloc::Global;
+
+/// What all functions of a parser share: memory, and the tokens.
+#[derive(Clone, Copy)]
+pub struct Parser<'t, 'a> {
+    pub alloc: Global,
+    pub tokens: Tokens<'t, 'a>,
+}

@@ -1,0 +1,80 @@
+//! Lists of statements.
+
+use crate::blocks::{choice, choice_or_one, for_loop, while_loop};
+use crate::named::named;
+use crate::simple::worded;
+use rapid_forms::{Parser, Sign, SyntaxFault};
+use rapid_model::RawStmt;
+
+static STMT_SIGNS: [Sign; 12] = [
+    Sign::Name,
+    Sign::If,
+    Sign::For,
+    Sign::While,
+    Sign::Test,
+    Sign::Goto,
+    Sign::Return,
+    Sign::Exit,
+    Sign::Raise,
+    Sign::Retry,
+    Sign::TryNext,
+    Sign::Connect,
+];
+
+/// A list of statements, which opens a level where it has any.
+#[cycle(stmt)]
+pub(crate) fn list<'a>(
+    p: &Parser<'_, 'a>,
+    at: usize,
+    left: u32,
+) -> Result<(Vec<RawStmt<'a>>, usize), SyntaxFault> {
+    if !p.tokens.sees(at, &STMT_SIGNS) {
+        return Ok((Vec::new(p.alloc), at));
+    }
+    if left == 0 {
+        return Err(p.tokens.no_level(at, &STMT_SIGNS));
+    }
+    items(p, at, left - 1)
+}
+
+/// The statements of a list whose level is open.
+#[cycle(stmt)]
+pub(crate) fn items<'a>(
+    p: &Parser<'_, 'a>,
+    at: usize,
+    left: u32,
+) -> Result<(Vec<RawStmt<'a>>, usize), SyntaxFault> {
+    let mut list = Vec::new(p.alloc);
+    let mut next = at;
+    while p.tokens.sees(next, &STMT_SIGNS) {
+        let (stmt, after) = stmt(p, next, left)?;
+        list.push(stmt)?;
+        next = after;
+    }
+    Ok((list, next))
+}
+
+/// A statement.
+#[cycle(stmt)]
+fn stmt<'a>(
+    p: &Parser<'_, 'a>,
+    at: usize,
+    left: u32,
+) -> Result<(RawStmt<'a>, usize), SyntaxFault> {
+    if p.tokens.sees(at, &[Sign::Name]) {
+        return named(p, at, left);
+    }
+    if p.tokens.sees(at, &[Sign::If]) {
+        return choice_or_one(p, at, left);
+    }
+    if p.tokens.sees(at, &[Sign::For]) {
+        return for_loop(p, at, left);
+    }
+    if p.tokens.sees(at, &[Sign::While]) {
+        return while_loop(p, at, left);
+    }
+    if p.tokens.sees(at, &[Sign::Test]) {
+        return choice(p, at, left);
+    }
+    worded(p, at, left)
+}

@@ -1,0 +1,24 @@
+//! The public call.
+
+use crate::list::items;
+use rapid_forms::{Parser, SyntaxFault, Tokens};
+use rapid_lexer::Token;
+use rapid_model::RawStmt;
+use std::alloc::Global;
+
+/// The statements from token `at` on, as many as there are, and the number of the token behind them. `depth` levels of
+/// nesting are open before token `at`, the list's own among them, and `end` is the length of the text in bytes.
+pub fn parse_list<'a>(
+    alloc: Global,
+    tokens: &[Token<'a>],
+    at: usize,
+    depth: u32,
+    end: usize,
+) -> Result<(Vec<RawStmt<'a>>, usize), SyntaxFault> {
+    let p = Parser {
+        alloc,
+        tokens: Tokens { list: tokens, end },
+    };
+    let (list, next) = items(&p, at, 64 - depth)?;
+    Ok((list, next.min(tokens.len())))
+}

@@ -1,0 +1,142 @@
+//! Statements without lists.
+
+use crate::exprs::{expr, name, parts};
+use crate::named::named_simple;
+use rapid_forms::{Parser, Sign, SyntaxFault};
+use rapid_model::{RawExpr, RawPlace, RawStmt};
+
+/// A statement that has no list and is no label.
+pub(crate) fn simple<'a>(
+    p: &Parser<'_, 'a>,
+    at: usize,
+    left: u32,
+) -> Result<(RawStmt<'a>, usize), SyntaxFault> {
+    if p.tokens.sees(at, &[Sign::Name]) {
+        return named_simple(p, at, left);
+    }
+    worded(p, at, left)
+}
+
+/// A statement without lists that begins with a reserved word.
+pub(crate) fn worded<'a>(
+    p: &Parser<'_, 'a>,
+    at: usize,
+    left: u32,
+) -> Result<(RawStmt<'a>, usize), SyntaxFault> {
+    if p.tokens.sees(at, &[Sign::Goto]) {
+        return goto(p, at);
+    }
+    if p.tokens.sees(at, &[Sign::Return]) {
+        return returns(p, at, left);
+    }
+    if p.tokens.sees(at, &[Sign::Exit]) {
+        return exit(p, at);
+    }
+    if p.tokens.sees(at, &[Sign::Raise]) {
+        return raise(p, at, left);
+    }
+    if p.tokens.sees(at, &[Sign::Retry]) {
+        return retry(p, at);
+    }
+    if p.tokens.sees(at, &[Sign::TryNext]) {
+        return try_next(p, at);
+    }
+    connect(p, at, left)
+}
+
+fn goto<'a>(p: &Parser<'_, 'a>, at: usize) -> Result<(RawStmt<'a>, usize), SyntaxFault> {
+    let (word, next) = p.tokens.take(at, &[Sign::Goto])?;
+    let (name, last) = name(p, next)?;
+    let (_semicolon, end) = p.tokens.take(last, &[Sign::Semicolon])?;
+    Ok((RawStmt::goto(word.at, name), end))
+}
+
+fn returns<'a>(
+    p: &Parser<'_, 'a>,
+    at: usize,
+    left: u32,
+) -> Result<(RawStmt<'a>, usize), SyntaxFault> {
+    let (word, next) = p.tokens.take(at, &[Sign::Return])?;
+    let (value, last) = value_if_any(p, next, left)?;
+    let (_semicolon, end) = p.tokens.take(last, &[Sign::Semicolon])?;
+    Ok((RawStmt::returns(word.at, value), end))
+}
+
+fn exit<'a>(p: &Parser<'_, 'a>, at: usize) -> Result<(RawStmt<'a>, usize), SyntaxFault> {
+    let (word, last) = p.tokens.take(at, &[Sign::Exit])?;
+    let (_semicolon, end) = p.tokens.take(last, &[Sign::Semicolon])?;
+    Ok((RawStmt::exit(word.at), end))
+}
+
+fn raise<'a>(
+    p: &Parser<'_, 'a>,
+    at: usize,
+    left: u32,
+) -> Result<(RawStmt<'a>, usize), SyntaxFault> {
+    let (word, next) = p.tokens.take(at, &[Sign::Raise])?;
+    let (value, last) = value_if_any(p, next, left)?;
+    let (_semicolon, end) = p.tokens.take(last, &[Sign::Semicolon])?;
+    Ok((RawStmt::raise(word.at, value), end))
+}
+
+fn retry<'a>(p: &Parser<'_, 'a>, at: usize) -> Result<(RawStmt<'a>, usize), SyntaxFault> {
+    let (word, last) = p.tokens.take(at, &[Sign::Retry])?;
+    let (_semicolon, end) = p.tokens.take(last, &[Sign::Semicolon])?;
+    Ok((RawStmt::retry(word.at), end))
+}
+
+fn try_next<'a>(p: &Parser<'_, 'a>, at: usize) -> Result<(RawStmt<'a>, usize), SyntaxFault> {
+    let (word, last) = p.tokens.take(at, &[Sign::TryNext])?;
+    let (_semicolon, end) = p.tokens.take(last, &[Sign::Semicolon])?;
+    Ok((RawStmt::try_next(word.at), end))
+}
+
+fn connect<'a>(
+    p: &Parser<'_, 'a>,
+    at: usize,
+    left: u32,
+) -> Result<(RawStmt<'a>, usize), SyntaxFault> {
+    let (word, first) = p.tokens.take(at, &[Sign::Connect])?;
+    let (place, next) = place(p, first, left)?;
+    let (_with, after) = p.tokens.take(next, &[Sign::With])?;
+    let (trap, last) = name(p, after)?;
+    let (_semicolon, end) = p.tokens.take(last, &[Sign::Semicolon])?;
+    Ok((RawStmt::connect(word.at, place, trap), end))
+}
+
+fn place<'a>(
+    p: &Parser<'_, 'a>,
+    at: usize,
+    left: u32,
+) -> Result<(RawPlace<'a>, usize), SyntaxFault> {
+    let (name, next) = name(p, at)?;
+    let ((index, parts), end) = parts(p, next, left)?;
+    let place = RawPlace::new(p.alloc, name, index, parts)?;
+    Ok((place, end))
+}
+
+/// A value, if one is there.
+fn value_if_any<'a>(
+    p: &Parser<'_, 'a>,
+    at: usize,
+    left: u32,
+) -> Result<(Option<RawExpr<'a>>, usize), SyntaxFault> {
+    if !p.tokens.sees(at, &EXPR_SIGNS) {
+        return Ok((None, at));
+    }
+    let (value, next) = expr(p, at, left)?;
+    Ok((Some(value), next))
+}
+
+static EXPR_SIGNS: [Sign; 10] = [
+    Sign::Not,
+    Sign::Plus,
+    Sign::Minus,
+    Sign::Number,
+    Sign::Quoted,
+    Sign::True,
+    Sign::False,
+    Sign::OpenParenthesis,
+    Sign::OpenBracket,
+    Sign::Name,
+];
