@@ -1,11 +1,14 @@
 -- A loop that reads one form after another, with what it has read so far.
-use Rattle.std.proofs.Common.{◌≡◌, ℕ, zero, suc, ◌+◌, ◌-◌, ◌≤◌, ◌<◌, Bool, true, false, if◌then◌else◌, List, [], ◌∷◌, ◌++◌, length, drop, Ok, Err, refl, sym, ap, subst, arith}
-use Rattle.std.proofs.lemmas.List.{append_assoc, append-nil, length-drop}
-use Rattle.rapid_lexer.specs.Tokens.{Lexeme}
+use Rattle.std.proofs.Common.{◌≡◌, ℕ, zero, suc, ◌-◌, ◌≤◌, ◌<◌, true, false, if◌then◌else◌, List, [], ◌∷◌, ◌++◌, length, Ok, Err, refl, sym, ap, ◌∙◌, subst, arith}
+use Rattle.std.proofs.lemmas.List.{append_assoc, append-nil, length-drop, length-map}
+use Rattle.rapid_lexer.specs.Tokens.{Lexeme, view, views}
+use Rattle.rapid_forms.specs.declared.fault.SyntaxFault.{SyntaxFault}
+use Rattle.rapid_forms.specs.declared.fault.SyntaxFault.TheVariants.{Rule, Lex, Memory}
 use Rattle.rapid_forms.specs.declared.sign.Sign.{Sign}
+use Rattle.rapid_forms.specs.declared.tokens.Tokens.{Tokens}
 use Rattle.rapid_forms.specs.Signs.{begins_with}
 use Rattle.rapid_forms.specs.Forms.{Form}
-use Rattle.rapid_forms.specs.Reading.{Halt, Read, Reader, then_read, many_within, many_read}
+use Rattle.rapid_forms.specs.Reading.{Halt, Read, Reader, then_read, many_within, many_read, Gives, rest_from}
 use Rattle.rapid_forms.proofs.Laws.{LL}
 use Rattle.rapid_forms.proofs.Right.{Right, Reads, less_left}
 
@@ -40,8 +43,8 @@ fuel t signs (suc j) zero [] le le' = refl
 fuel t signs (suc j) zero (c ∷ ts) le le' = absurd (omega arith)
 fuel {a = a} t signs (suc j) (suc k) ts le le' =
     ap (λ read. if begins_with signs ts then read else Ok ([], ts)) (then_same (a ts) _ _ λ x rest e.
-        let less = t.less ts x rest e in
-        ap (λ read. then_read read λ xs left. Ok (x ∷ xs, left)) (fuel t signs j k rest (omega arith) (omega arith)))
+    let less = t.less ts x rest e in
+    ap (λ read. then_read read λ xs left. Ok (x ∷ xs, left)) (fuel t signs j k rest (omega arith) (omega arith)))
 
 many_opened : {A : Type 0} {a : Reader A} → Takes a → (signs : List Sign) (ts : List Lexeme) → begins_with signs ts ≡ true → many_read signs a ts ≡ then_read (a ts) (λ x rest. then_read (many_read signs a rest) λ xs left. Ok (x ∷ xs, left))
 unfolding many_read many_within begins_with
@@ -75,6 +78,20 @@ pub loop_done : {A : Type 0} (a : Reader A) (signs : List Sign) (xs : List A) (t
 unfolding then_read with_front
 loop_done a signs xs ts h = rw (many_closed a signs ts h) (ap (λ l. Ok (l, ts)) (append-nil xs))
 
+-- What a function gives that returns from the loop with the fault of one more. What is given with a fault has no view.
+pub loop_fails : {A : Type 0} {a : Reader A} → Takes a → (signs : List Sign) (xs : List A) (tokens : Tokens) (fault : SyntaxFault) (next : ℕ) (read : Read (List A)) → begins_with signs (rest_from tokens next) ≡ true → with_front xs (many_read signs a (rest_from tokens next)) ≡ read → Gives tokens (λ (x : A). x) (Err fault) (a (rest_from tokens next)) → Gives tokens (λ (x : List A). x) (Err fault) read
+loop_fails t signs xs tokens (Rule rule place) next read h same (halt, e, is) = (halt, sym same ∙ loop_stops t signs xs (rest_from tokens next) halt h e, is)
+loop_fails t signs xs tokens (Lex f) next read h same (halt, e, is) = (halt, sym same ∙ loop_stops t signs xs (rest_from tokens next) halt h e, is)
+loop_fails t signs xs tokens Memory next read h same g = tt
+
 -- fewer tokens are left behind one more
-pub loop_smaller : {A : Type 0} {a : Reader A} → Takes a → (ts : List Lexeme) (next after : ℕ) (x : A) → a (drop next ts) ≡ Ok (x, drop after ts) → length ts - after < length ts - next
-loop_smaller t ts next after x e = let less = t.less (drop next ts) x (drop after ts) e in omega (arith, length-drop next ts, length-drop after ts)
+pub loop_smaller : {A : Type 0} {a : Reader A} → Takes a → (tokens : Tokens) (next after : ℕ) (x : A) → a (rest_from tokens next) ≡ Ok (x, rest_from tokens after) → length tokens.list.now - after < length tokens.list.now - next
+loop_smaller t tokens next after x e =
+    let less = t.less (rest_from tokens next) x (rest_from tokens after) e in
+    omega (arith, less, length-drop next (views tokens.list.now), length-drop after (views tokens.list.now), length-map tokens.list.now view)
+
+-- where a form that takes a token is read, one is there
+pub taken_there : {A : Type 0} {a : Reader A} → Takes a → (tokens : Tokens) (at : ℕ) (x : A) (rest : List Lexeme) → a (rest_from tokens at) ≡ Ok (x, rest) → at < length tokens.list.now
+taken_there t tokens at x rest e =
+    let less = t.less (rest_from tokens at) x rest e in
+    omega (arith, less, length-drop at (views tokens.list.now), length-map tokens.list.now view)

@@ -1,13 +1,13 @@
 -- What a reader's answer says of the form that it reads. F n is the form within n levels; an answer speaks of every level
 -- from n up, since a form that stands within others is looked at with more levels too.
-use Rattle.std.proofs.Common.{◌≡◌, ℕ, zero, suc, ◌+◌, ◌≤◌, ◌<◌, arith, Bool, true, false, List, [], ◌∷◌, ◌++◌, length, Option, None, Some, Ok, Err, refl, sym, ap, subst, ◌∙◌, inl, inr, ◌⊎◌}
+use Rattle.std.proofs.Common.{◌≡◌, ℕ, zero, suc, ◌+◌, ◌≤◌, ◌<◌, arith, Bool, true, false, List, [], ◌∷◌, ◌++◌, length, Option, None, Some, Ok, Err, refl, sym, ap, subst, ◌∙◌, inl, inr}
 use Rattle.std.proofs.lemmas.Bool.{cond_both, both_ways}
-use Rattle.std.proofs.lemmas.List.{append_assoc, append-nil, length-append, nil_from_length}
+use Rattle.std.proofs.lemmas.List.{append_assoc, append-nil, length-append}
 use Rattle.rapid_lexer.specs.Tokens.{Lexeme}
 use Rattle.rapid_forms.specs.declared.sign.Sign.{Sign}
 use Rattle.rapid_forms.specs.Signs.{has, sign_of, begins_with}
 use Rattle.rapid_forms.specs.Forms.{Form, one, seq, either, optional, many, made, nothing, within, place}
-use Rattle.rapid_forms.specs.Reading.{Halt, Fails, Deep, Read, Reader, then_read, one_read, seq_read, either_read, optional_read, many_within, many_read, made_read, nothing_read, within_read}
+use Rattle.rapid_forms.specs.Reading.{Fails, Deep, Read, Reader, then_read, one_read, seq_read, either_read, optional_read, many_within, many_read, made_read, nothing_read, within_read}
 use Rattle.rapid_forms.proofs.Laws.{LL, many_ll, within_ll}
 use Rattle.rapid_forms.proofs.Cuts.{Even, Shorter, Longer, cuts, behind, no_middle, no_front}
 use Rattle.rapid_forms.proofs.Sets.{apart, has_apart}
@@ -70,7 +70,7 @@ module _ {A B : Type 0} {na nb : Bool} {fa ma fb mb : List Sign} {f : Form A} {g
   one_split : (front rest w tail : List Lexeme) → f.Begun front → Ends f front rest → rest ≡ w ++ tail → (x : A) (u v : List Lexeme) → front ++ w ≡ u ++ v → f.Whole x u → g.Begun v → (front ≡ u) × (w ≡ v)
   one_split front rest w tail b ends at x u v same h b' =
       elim (cuts front w u v same) [
-        Even p q ↦ (p, q)
+        | Even p q ↦ (p, q)
         | Shorter c m p q ↦ absurd (stuck lf front rest (c ∷ m) (v ++ tail) ends (λ z. cc) (at ∙ behind w (c ∷ m) v tail q) (subst f.Begun p (lf.begun x u h)))
         | Longer c m p q ↦ absurd (clash x u c m (m ++ w) h (subst f.Begun p b) (subst g.Begun q b'))
       ]
@@ -116,27 +116,27 @@ module _ {A B : Type 0} {na nb : Bool} {fa ma fb mb : List Sign} {F : ℕ → Fo
     begun_up : (m : ℕ) → n ≤ m → (F m).Begun h.front
     begun_up m le = (up n m le).begun h.front ((lf n).begun x h.front h.whole)
 
-    put : (mid left : List Lexeme) → rest ≡ mid ++ left → ts ≡ (h.front ++ mid) ++ left
-    put mid left split = h.split ∙ ap (λ l. h.front ++ l) split ∙ sym (append_assoc h.front mid left)
+    joined : (mid left : List Lexeme) → rest ≡ mid ++ left → ts ≡ (h.front ++ mid) ++ left
+    joined mid left split = h.split ∙ ap (λ l. h.front ++ l) split ∙ sym (append_assoc h.front mid left)
 
     second_right : (b : Read B) → Right G n rest b → Right (λ m. seq (F m) (G m)) n ts (then_read b λ y left. Ok ((x, y), left))
     unfolding seq then_read
     second_right (Ok y) h' = record {
       front = h.front ++ h'.front;
-      split = put h'.front y.1 h'.split;
+      split = joined h'.front y.1 h'.split;
       whole = (h.front, h'.front, refl, h.whole, h'.whole);
       ends = λ m le. seq_ends (lf m) (lg m) e h.front rest h'.front y.1 (begun_up m le) (h.ends m le) h'.split (h'.ends m le);
     }
     second_right (Err (Fails left)) h' = record {
       front = h.front ++ h'.front;
-      split = put h'.front left h'.split;
+      split = joined h'.front left h'.split;
       begun = inr (x, h.front, h'.front, refl, h.whole, h'.begun);
       ends = λ m le. seq_ends (lf m) (lg m) e h.front rest h'.front left (begun_up m le) (h.ends m le) h'.split (h'.ends m le);
       none = λ m le. seq_none (lf m) (lg m) e h.front rest h'.front left (begun_up m le) (h.ends m le) h'.split (h'.none m le);
     }
     second_right (Err (Deep left)) h' = record {
       front = h.front ++ h'.front;
-      split = put h'.front left h'.split;
+      split = joined h'.front left h'.split;
       token = h'.token;
       behind = h'.behind;
       next = h'.next;
@@ -293,7 +293,7 @@ either_reads {A} {nb} {fa} {ma} {fb} {mb} {F} {G} {n} {a} {b} ra rb lf lg e o up
   right = λ ts. cond_both (begins_with fa ts) (a ts) (b ts) (Right (λ m. either (F m) (G m)) n ts)
       (λ h. side_right G ts (λ m w tail s some b. apart_begins fa fb ts e h (begins (lg m) ts w tail s some b)) (λ m y w. starts (o ((lg m).empty y w)) up n ts h) (λ m. (lg m).begun) (a ts) (ra.right ts))
       (λ h. same_right (λ m. either_swapped (G m) (F m)) n ts (b ts)
-          (side_right F ts (λ m w tail s some b. both_ways _ h (begins (lf m) ts w tail s some b)) (λ m y w. let no = (lf m).empty y w in cc) (λ m. (lf m).begun) (b ts) (rb.right ts)));
+      (side_right F ts (λ m w tail s some b. both_ways _ h (begins (lf m) ts w tail s some b)) (λ m y w. let no = (lf m).empty y w in cc) (λ m. (lf m).begun) (b ts) (rb.right ts)));
 }
 
 optional_right : {A : Type 0} {F : ℕ → Form A} (n : ℕ) (ts : List Lexeme) → Starts F n ts → (read : Read A) → Right F n ts read → Right (λ m. optional (F m)) n ts (then_read read λ x rest. Ok (Some x, rest))
@@ -448,13 +448,16 @@ module _ {A : Type 0} (F G : ℕ → Form A) (same : (m : ℕ) → G (suc m) ≡
 pub level_reads : {A : Type 0} {F G : ℕ → Form A} {n : ℕ} {a : Reader A} → Reads F n a → ((m : ℕ) → G (suc m) ≡ F m) → Reads G (suc n) a
 level_reads {F = F} {G = G} {n = n} {a = a} ra same = record { right = λ ts. level_right F G same n ts (a ts) (ra.right ts) }
 
+pub level_opens : {A : Type 0} {signs : List Sign} {F G : ℕ → Form A} → Opens signs F → ((m : ℕ) → G (suc m) ≡ F m) → Opens signs G
+level_opens o same = record { opens = λ t h. let (m, b) = o.opens t h in (suc m, rw (same m) b) }
+
 -- premises: the form takes a token, and each first sign opens it
 pub within_reads : {A : Type 0} {first more : List Sign} {F : ℕ → Form A} → ((m : ℕ) → LL false first more (F m)) → Opens first F → (r : ℕ → Reader A) (n : ℕ) → ((k : ℕ) → k < n → Reads F k (r k)) → Reads (within F) n (within_read first r n)
 unfolding within within_read
 within_reads {F = F} lf o r zero reads = nothing_reads refl (within_ll F lf) (within_opens o)
 within_reads lf o r (suc n) reads = level_reads (reads n (omega arith)) (λ m. refl)
 
--- a list is nothing, or one and a list
+-- A list is nothing, or one and a list: many is made of optional and seq, and what holds of those holds of it.
 join_list : {A : Type 0} → Option (A × List A) → List A
 join_list None = []
 join_list (Some x) = x.0 ∷ x.1
@@ -465,6 +468,7 @@ rolled {A} f = record { whole = λ xs ts w. whole w.0 xs ts w.1 w.2; begun = beg
   whole : (o : Option (A × List A)) (xs : List A) (ts : List Lexeme) → (optional (seq f (many f))).Whole o ts → xs ≡ join_list o → (many f).Whole xs ts
   whole None xs ts w e = rw e w
   whole (Some x) xs ts w e = rw e w
+
   begun : (ts : List Lexeme) → (optional (seq f (many f))).Begun ts → (many f).Begun ts
   begun ts (inl e) = ([], [], ts, refl, refl, inl e)
   begun ts (inr (inl b)) = ([], [], ts, refl, refl, inr b)
@@ -476,6 +480,7 @@ unrolled {A} f = record { whole = whole; begun = begun } where
   whole : (xs : List A) (ts : List Lexeme) → (many f).Whole xs ts → (made (λ at. join_list) (optional (seq f (many f)))).Whole xs ts
   whole [] ts w = (None, w, refl)
   whole (x ∷ xs) ts w = (Some (x, xs), w, refl)
+
   begun : (ts : List Lexeme) → (many f).Begun ts → (optional (seq f (many f))).Begun ts
   begun ts ([], u, v, e, w, inl p) = inl (no_front ts u v e w ∙ p)
   begun ts ([], u, v, e, w, inr b) = inr (inl (subst f.Begun (sym (no_front ts u v e w)) b))
@@ -488,10 +493,11 @@ less_left {F = F} {n} {ts} {rest} x l h = go h.front h.split h.whole where
   go [] e w = let no = l.empty x w in cc
   go (c ∷ front) e w = omega (arith, ap length e, length-append front rest)
 
-joined : {A : Type 0} (read : Read A) (b : Reader (List A)) → then_read (then_read (then_read read λ x rest. then_read (b rest) λ xs left. Ok ((x, xs), left)) λ o rest. Ok (Some o, rest)) (λ o rest. Ok (join_list o, rest)) ≡ then_read read (λ x rest. then_read (b rest) λ xs left. Ok (x ∷ xs, left))
+-- and so is its reader
+as_one : {A : Type 0} (read : Read A) (b : Reader (List A)) → then_read (then_read (then_read read λ x rest. then_read (b rest) λ xs left. Ok ((x, xs), left)) λ o rest. Ok (Some o, rest)) (λ o rest. Ok (join_list o, rest)) ≡ then_read read (λ x rest. then_read (b rest) λ xs left. Ok (x ∷ xs, left))
 unfolding then_read join_list
-joined (Err h) b = refl
-joined (Ok x) b = behind_one x.0 (b x.1)
+as_one (Err h) b = refl
+as_one (Ok x) b = behind_one x.0 (b x.1)
   where
     behind_one : {A : Type 0} (x : A) (r : Read (List A)) → then_read (then_read (then_read r λ xs left. Ok ((x, xs), left)) λ o rest. Ok (Some o, rest)) (λ o rest. Ok (join_list o, rest)) ≡ then_read r (λ xs left. Ok (x ∷ xs, left))
     behind_one x (Err h) = refl
@@ -506,7 +512,7 @@ module _ {A : Type 0} {first more : List Sign} {F : ℕ → Form A} {n : ℕ} {a
   one_more k ts later h =
       let one = seq_right lf (λ m. many_ll (lf m) e) e up n ts (a ts) (many_within k first a) (ra.right ts) (λ x rest is. later rest (less_left x (lf n) (subst (Right F n ts) is (ra.right ts)))) in
       let some = optional_right n ts (starts (seq_opens (λ m. many (F m)) o) (λ k m le. seq_up (up k m le) (many_up (up k m le))) n ts h) _ one in
-      subst (Right (λ m. many (F m)) n ts) (joined (a ts) (many_within k first a))
+      subst (Right (λ m. many (F m)) n ts) (as_one (a ts) (many_within k first a))
       (same_right (λ m. record { to = rolled (F m); back = unrolled (F m) }) n ts _ (made_right _ (λ at. join_list) n ts (λ x front rest split w. refl) _ some))
 
   many_right : (k : ℕ) (ts : List Lexeme) → length ts ≤ k → Right (λ m. many (F m)) n ts (many_within k first a ts)

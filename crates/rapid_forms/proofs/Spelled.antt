@@ -1,7 +1,7 @@
 -- What a reader's answer means, in the public words; and that the answers of those words exclude one another.
-use Rattle.std.proofs.Common.{◌≡◌, ℕ, zero, suc, ◌+◌, ◌-◌, ◌≤◌, ◌<◌, Bool, true, false, List, [], ◌∷◌, ◌++◌, length, take, drop, IfOk, Result, Ok, Err, refl, sym, ap, subst, ◌∙◌, inl, inr, ◌⊎◌, arith}
+use Rattle.std.proofs.Common.{◌≡◌, ℕ, suc, ◌+◌, ◌≤◌, ◌<◌, Bool, false, List, [], ◌∷◌, ◌++◌, length, take, drop, min, IfOk, Result, Ok, Err, refl, sym, ap, subst, ◌∙◌, inl, inr, ◌⊎◌, arith}
 use Rattle.std.proofs.lemmas.Bool.{cases_order, cases_lt}
-use Rattle.std.proofs.lemmas.List.{append_assoc, take-append-drop, take-take, take_at, drop_at, length-append, length-drop, length-map, drop-drop}
+use Rattle.std.proofs.lemmas.List.{take-append-drop, take-take, take_at, drop_at, length-append, length-drop, length-map, drop-drop, drop_min}
 use Rattle.rapid_lexer.specs.Tokens.{Lexeme, views}
 use Rattle.rapid_lexer.specs.Tokens.{view as lexeme}
 use Rattle.rapid_forms.specs.declared.fault.SyntaxFault.{SyntaxFault}
@@ -10,10 +10,11 @@ use Rattle.rapid_forms.specs.declared.sign.Sign.{Sign}
 use Rattle.rapid_forms.specs.declared.tokens.Tokens.{Tokens}
 use Rattle.rapid_forms.specs.Forms.{Form}
 use Rattle.rapid_forms.specs.Parsed.{Begins, IsLongest, IsParsed, IsFaulty, IsTooDeep, Parses, syntax_fault, depth_fault}
-use Rattle.rapid_forms.specs.Reading.{Halt, Fails, Deep, Read, Reader, Gives, fault_of}
+use Rattle.rapid_forms.specs.Reading.{Fails, Deep, Read, Reader, Gives, rest_from}
 use Rattle.rapid_forms.proofs.Laws.{LL}
 use Rattle.rapid_forms.proofs.Up.{Up}
-use Rattle.rapid_forms.proofs.Right.{Right, Reads, Ends, IsRead, IsStopped, IsAbove}
+use Rattle.rapid_forms.proofs.Loops.{reads_take, taken_there}
+use Rattle.rapid_forms.proofs.Right.{Right, Reads, Ends}
 
 -- fewer tokens begin a form as well
 fewer : {A : Type 0} {null : Bool} {first more : List Sign} {f : Form A} → LL null first more f → (ts : List Lexeme) (i j : ℕ) → i ≤ j → f.Begun (take j ts) → f.Begun (take i ts)
@@ -94,9 +95,9 @@ module _ {A : Type 0} {null : Bool} {first more : List Sign} {F : ℕ → Form A
       longest = longest h.front x.1 h.split ((lf n).begun x.0 h.front h.whole) h.ends;
       whole = rw (take_front ts h.front x.1 h.split) h.whole;
       only = λ y (m, w).
-        (lf (n + m)).only y x.0 h.front ((up m (n + m) (omega arith)).whole y h.front (subst ((F m).Whole y) (take_front ts h.front x.1 h.split) w)) ((up n (n + m) (omega arith)).whole x.0 h.front h.whole);
+          (lf (n + m)).only y x.0 h.front ((up m (n + m) (omega arith)).whole y h.front (subst ((F m).Whole y) (take_front ts h.front x.1 h.split) w)) ((up n (n + m) (omega arith)).whole x.0 h.front h.whole);
     },
-    drop_front ts h.front x.1 h.split
+    drop_front ts h.front x.1 h.split,
   )
   answers (Err (Fails rest)) h = (
     length h.front,
@@ -105,7 +106,7 @@ module _ {A : Type 0} {null : Bool} {first more : List Sign} {F : ℕ → Form A
       begun = rw (take_front ts h.front rest h.split) h.begun;
       none = λ y (m, w). h.none (n + m) (omega arith) y ((up m (n + m) (omega arith)).whole y h.front (subst ((F m).Whole y) (take_front ts h.front rest h.split) w));
     },
-    drop_front ts h.front rest h.split
+    drop_front ts h.front rest h.split,
   )
   answers (Err (Deep rest)) h = (
     length h.front,
@@ -115,7 +116,7 @@ module _ {A : Type 0} {null : Bool} {first more : List Sign} {F : ℕ → Form A
       begins = (h.level, rw (take_one_more ts h.front rest h.token h.behind h.split h.next) h.deeper);
       deep = λ b. h.ends h.token h.behind h.next (subst (F n).Begun (take_one_more ts h.front rest h.token h.behind h.split h.next) b);
     },
-    drop_front ts h.front rest h.split
+    drop_front ts h.front rest h.split,
   )
 
 -- premises: one token of looking ahead suffices at each level, and what is within n levels is within more
@@ -145,22 +146,22 @@ module _ {A : Type 0} (F : ℕ → Form A) (n : ℕ) where
   answer_once l ts (Err (Deep rest)) (Err (Deep left)) (j, h, e) (k, h', e') = let at = deep_once l h h' in cc
 
   module _ {X : Type 0} (tokens : Tokens) (at : ℕ) (view : X → A) where
-    answer_parses : (result : Result (X × ℕ) SyntaxFault) (read : Read A) → Answers F n (drop at (views tokens.list.now)) read → IfOk result (λ x. (at ≤ length tokens.list.now) × (x.1 ≤ length tokens.list.now)) → Gives tokens view result read → Parses F n (views tokens.list.now) tokens.end at view result
+    answer_parses : (result : Result (X × ℕ) SyntaxFault) (read : Read A) → Answers F n (rest_from tokens at) read → IfOk result (λ x. (at ≤ length tokens.list.now) × (x.1 ≤ length tokens.list.now)) → Gives tokens view result read → Parses F n tokens at view result
     answer_parses (Ok x) read a within g =
-        let (k, h, e) = subst (Answers F n (drop at (views tokens.list.now))) g a in
+        let (k, h, e) = subst (Answers F n (rest_from tokens at)) g a in
         let len = length-map tokens.list.now lexeme in
         (k, h, next_is (views tokens.list.now) at x.1 k (omega (arith, within.0)) (omega (arith, within.1)) h.longest.there e)
     answer_parses (Err (Rule rule place)) read a within (Fails rest, e, same) =
-        let (k, h, left) = subst (Answers F n (drop at (views tokens.list.now))) e a in
+        let (k, h, left) = subst (Answers F n (rest_from tokens at)) e a in
         inl (k, h, same ∙ ap (syntax_fault tokens.end) (left ∙ drop-drop k at (views tokens.list.now)))
     answer_parses (Err (Rule rule place)) read a within (Deep rest, e, same) =
-        let (k, h, left) = subst (Answers F n (drop at (views tokens.list.now))) e a in
+        let (k, h, left) = subst (Answers F n (rest_from tokens at)) e a in
         inr (k, h, same ∙ ap (depth_fault tokens.end) (left ∙ drop-drop k at (views tokens.list.now)))
     answer_parses (Err (Lex f)) read a within (Fails rest, e, same) = cc
     answer_parses (Err (Lex f)) read a within (Deep rest, e, same) = cc
     answer_parses (Err Memory) read a within g = tt
 
-    parses_answer : {null : Bool} {first more : List Sign} → LL null first more (F n) → (result : Result (X × ℕ) SyntaxFault) (read : Read A) → Answers F n (drop at (views tokens.list.now)) read → Parses F n (views tokens.list.now) tokens.end at view result → Gives tokens view result read
+    parses_answer : {null : Bool} {first more : List Sign} → LL null first more (F n) → (result : Result (X × ℕ) SyntaxFault) (read : Read A) → Answers F n (rest_from tokens at) read → Parses F n tokens at view result → Gives tokens view result read
     parses_answer l (Ok x) read a (k, h, e) = answer_once l _ read (Ok (view x.0, drop x.1 (views tokens.list.now))) a (k, h, ap (λ i. drop i (views tokens.list.now)) e ∙ sym (drop-drop k at (views tokens.list.now)))
     parses_answer l (Err (Rule rule place)) read a (inl (k, h, e)) =
         (Fails (drop (at + k) (views tokens.list.now)), answer_once l _ read (Err (Fails _)) a (k, h, sym (drop-drop k at (views tokens.list.now))), e)
@@ -171,11 +172,27 @@ module _ {A : Type 0} (F : ℕ → Form A) (n : ℕ) where
 
 -- What a function gives is what its caller is told. Premises: the tokens are read from one that is there or from their
 -- end, and so is what is left.
-pub gives_parses : {X A : Type 0} {null : Bool} {first more : List Sign} {F : ℕ → Form A} {n : ℕ} {a : Reader A} → Reads F n a → ((m : ℕ) → LL null first more (F m)) → ((k m : ℕ) → k ≤ m → Up (F k) (F m)) → (tokens : Tokens) (at : ℕ) (view : X → A) (result : Result (X × ℕ) SyntaxFault) → IfOk result (λ x. (at ≤ length tokens.list.now) × (x.1 ≤ length tokens.list.now)) → Gives tokens view result (a (drop at (views tokens.list.now))) → Parses F n (views tokens.list.now) tokens.end at view result
+pub gives_parses : {X A : Type 0} {null : Bool} {first more : List Sign} {F : ℕ → Form A} {n : ℕ} {a : Reader A} → Reads F n a → ((m : ℕ) → LL null first more (F m)) → ((k m : ℕ) → k ≤ m → Up (F k) (F m)) → (tokens : Tokens) (at : ℕ) (view : X → A) (result : Result (X × ℕ) SyntaxFault) → IfOk result (λ x. (at ≤ length tokens.list.now) × (x.1 ≤ length tokens.list.now)) → Gives tokens view result (a (rest_from tokens at)) → Parses F n tokens at view result
 gives_parses {F = F} {n = n} {a = a} ra lf up tokens at view result within g =
-    answer_parses F n tokens at view result (a (drop at (views tokens.list.now))) (reads_answer ra lf up (drop at (views tokens.list.now))) within g
+    answer_parses F n tokens at view result (a (rest_from tokens at)) (reads_answer ra lf up (rest_from tokens at)) within g
+
+-- the same where the form takes a token, so that one is there
+pub some_parses : {X A : Type 0} {first more : List Sign} {F : ℕ → Form A} {n : ℕ} {a : Reader A} → Reads F n a → ((m : ℕ) → LL false first more (F m)) → ((k m : ℕ) → k ≤ m → Up (F k) (F m)) → (tokens : Tokens) (at : ℕ) (view : X → A) (result : Result (X × ℕ) SyntaxFault) → IfOk result (λ x. x.1 ≤ length tokens.list.now) → Gives tokens view result (a (rest_from tokens at)) → Parses F n tokens at view result
+some_parses {n = n} ra lf up tokens at view (Ok x) within g =
+    let there = taken_there (reads_take ra (lf n)) tokens at (view x.0) (rest_from tokens x.1) g in
+    gives_parses ra lf up tokens at view (Ok x) (omega (arith, there), within) g
+some_parses ra lf up tokens at view (Err f) within g = gives_parses ra lf up tokens at view (Err f) tt g
+
+-- what is given with a fault has no view
+pub fails_parses : {A : Type 0} {null : Bool} {first more : List Sign} {F : ℕ → Form A} {n : ℕ} {a : Reader A} → Reads F n a → ((m : ℕ) → LL null first more (F m)) → ((k m : ℕ) → k ≤ m → Up (F k) (F m)) → (tokens : Tokens) (at : ℕ) (fault : SyntaxFault) → Gives tokens (λ (x : A). x) (Err fault) (a (rest_from tokens at)) → Parses F n tokens at (λ (x : A). x) (Err fault)
+fails_parses ra lf up tokens at fault g = gives_parses ra lf up tokens at (λ x. x) (Err fault) tt g
+
+-- a number past the tokens is as good as their end
+pub least_gives : {X A : Type 0} (tokens : Tokens) (view : X → A) (x : X) (next : ℕ) (read : Read A) → Gives tokens view (Ok (x, next)) read → Gives tokens view (Ok (x, min next (length tokens.list.now))) read
+least_gives tokens view x next read g =
+    g ∙ ap (λ l. Ok (view x, l)) (sym (drop_min next (views tokens.list.now)) ∙ ap (λ k. drop (min next k) (views tokens.list.now)) (length-map tokens.list.now lexeme))
 
 -- And what a caller is told is what the function gives.
-pub parses_gives : {X A : Type 0} {null : Bool} {first more : List Sign} {F : ℕ → Form A} {n : ℕ} {a : Reader A} → Reads F n a → ((m : ℕ) → LL null first more (F m)) → ((k m : ℕ) → k ≤ m → Up (F k) (F m)) → (tokens : Tokens) (at : ℕ) (view : X → A) (result : Result (X × ℕ) SyntaxFault) → Parses F n (views tokens.list.now) tokens.end at view result → Gives tokens view result (a (drop at (views tokens.list.now)))
+pub parses_gives : {X A : Type 0} {null : Bool} {first more : List Sign} {F : ℕ → Form A} {n : ℕ} {a : Reader A} → Reads F n a → ((m : ℕ) → LL null first more (F m)) → ((k m : ℕ) → k ≤ m → Up (F k) (F m)) → (tokens : Tokens) (at : ℕ) (view : X → A) (result : Result (X × ℕ) SyntaxFault) → Parses F n tokens at view result → Gives tokens view result (a (rest_from tokens at))
 parses_gives {F = F} {n = n} {a = a} ra lf up tokens at view result p =
-    parses_answer F n tokens at view (lf n) result (a (drop at (views tokens.list.now))) (reads_answer ra lf up (drop at (views tokens.list.now))) p
+    parses_answer F n tokens at view (lf n) result (a (rest_from tokens at)) (reads_answer ra lf up (rest_from tokens at)) p

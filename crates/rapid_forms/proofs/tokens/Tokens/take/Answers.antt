@@ -16,10 +16,10 @@ pub returns-in_default : goal.returns-in_default
 unfolding begins_with
 returns-in_default c =
     let unseen : begins_with c.args.signs.now (drop c.args.at (views c.args.self.now.list.now)) ≡ false =
-        elim c.in_default.branch [
-          | in_default-via-in-Some+else-is_one_of w ↦
-                rw (rest_here c.args.self.now.list.now c.args.at w.in-Some.token w.in-Some.ensures.lookup) (let seen : has c.args.signs.now (sign_of (view w.in-Some.token.now)) ≡ false = cc in seen)
-          | in_default-via-in_default w ↦ rw (rest_none c.args.self.now.list.now c.args.at w.in_default.ensures.lookup)
-        ]
+    elim c.in_default.branch [
+      | in_default-via-in-Some+else-is_one_of w ↦
+          rw (rest_here c.args.self.now.list.now c.args.at w.in-Some.token w.in-Some.ensures.lookup) (let seen : has c.args.signs.now (sign_of (view w.in-Some.token.now)) ≡ false = cc in seen)
+      | in_default-via-in_default w ↦ rw (rest_none c.args.self.now.list.now c.args.at w.in_default.ensures.lookup)
+    ]
     in
     gives_halt c.args.self.now view _ _ (Fails _) c.fails.ensures (one_fails _ _ unseen)
