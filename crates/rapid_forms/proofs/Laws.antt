@@ -252,16 +252,18 @@ optional_ll {A} {fa} {ma} {a} la = record {
   only None (Some y) ts w w' = absurd (some y ts w' w)
   only (Some x) None ts w w' = absurd (some x ts w w')
 
-begun_one : {A : Type 0} (a : Form A) (ts : List Lexeme) → a.Begun ts → (many a).Begun ts
+-- what begins one form begins a list of it
+pub begun_one : {A : Type 0} (a : Form A) (ts : List Lexeme) → a.Begun ts → (many a).Begun ts
 unfolding many
 begun_one a ts b = ([], [], ts, refl, refl, inr b)
 
-begun_more : {A : Type 0} (a : Form A) (x : A) (ts u v : List Lexeme) → ts ≡ u ++ v → a.Whole x u → (many a).Begun v → (many a).Begun ts
+-- and what begins a list of it does so behind a whole one
+pub begun_more : {A : Type 0} (a : Form A) (x : A) (ts u v : List Lexeme) → ts ≡ u ++ v → a.Whole x u → (many a).Begun v → (many a).Begun ts
 unfolding many
 begun_more a x ts u v p w (xs, u', v', q, ws, b) = (x ∷ xs, u ++ u', v', p ∙ ap (λ l. u ++ l) q ∙ sym (append_assoc u u' v'), (u, u', refl, w, ws), b)
 
 -- what begins a list of a form: nothing, what begins one, or one and what begins a list
-begun_many : {A : Type 0} (a : Form A) (ts : List Lexeme) → (many a).Begun ts
+pub begun_many : {A : Type 0} (a : Form A) (ts : List Lexeme) → (many a).Begun ts
     → (ts ≡ []) ⊎ a.Begun ts ⊎ ((x : A) × (u v : List Lexeme) × (ts ≡ u ++ v) × a.Whole x u × (many a).Begun v)
 unfolding many
 begun_many a ts ([], u, v, p, w, inl q) = inl (no_front ts u v p w ∙ q)

@@ -64,6 +64,18 @@ either_bracketed a b c = record {
   };
 }
 
+exchange : {A : Type 0} (a b c d : Form A) → Up (either (either a b) (either c d)) (either (either a c) (either b d))
+unfolding either
+exchange a b c d = record {
+  whole = λ x ts. elim [ inl (inl w) ↦ inl (inl w) | inl (inr w) ↦ inr (inl w) | inr (inl w) ↦ inl (inr w) | inr (inr w) ↦ inr (inr w) ];
+  begun = λ ts. elim [ inl (inl w) ↦ inl (inl w) | inl (inr w) ↦ inr (inl w) | inr (inl w) ↦ inl (inr w) | inr (inr w) ↦ inr (inr w) ];
+}
+
+-- two pairs of lines, each pair's first ones and each pair's second ones together
+pub crossed : {A : Type 0} (a b c d : Form A) → Same (either (either a b) (either c d)) (either (either a c) (either b d))
+unfolding either
+crossed a b c d = record { to = exchange a b c d; back = exchange a c b d }
+
 pub same_ll : {A : Type 0} {null : Bool} {first more : List Sign} {f g : Form A} → Same f g → LL null first more f → LL null first more g
 same_ll s l = record {
   start = s.to.begun [] l.start;
@@ -115,6 +127,52 @@ shared {A} {B} {C} {D} f g a b c = record {
       → t ≡ joined f g (place ts) x → (either (made f (seq a b)) (made g (seq a c))).Whole t ts
   whole t ts (x, s) (u, v, p, w, inl (y, q, e)) r = inl ((x, y), (u, v, p, w, q), r ∙ ap (λ z. joined f g (place ts) (x, z)) e)
   whole t ts (x, s) (u, v, p, w, inr (y, q, e)) r = inr ((x, y), (u, v, p, w, q), r ∙ ap (λ z. joined f g (place ts) (x, z)) e)
+
+-- of two lines that begin alike and go on with things of one kind
+pub alike : {A B C : Type 0} (f : ℕ → A × B → C) (a : Form A) (b b' : Form B)
+    → Same (either (made f (seq a b)) (made f (seq a b'))) (made f (seq a (either b b')))
+unfolding seq either made
+alike f a b b' = record {
+  to = record {
+    whole = λ t ts. elim [
+      | inl (x, (u, v, p, w, q), e) ↦ (x, (u, v, p, w, inl q), e)
+      | inr (x, (u, v, p, w, q), e) ↦ (x, (u, v, p, w, inr q), e)
+    ];
+    begun = λ ts. elim [
+      | inl (inl p) ↦ inl p
+      | inl (inr (x, u, v, p, w, q)) ↦ inr (x, u, v, p, w, inl q)
+      | inr (inl p) ↦ inl p
+      | inr (inr (x, u, v, p, w, q)) ↦ inr (x, u, v, p, w, inr q)
+    ];
+  };
+  back = record {
+    whole = λ t ts (x, (u, v, p, w, q), e). elim q [ inl r ↦ inl (x, (u, v, p, w, r), e) | inr r ↦ inr (x, (u, v, p, w, r), e) ];
+    begun = λ ts. elim [
+      | inl p ↦ inl (inl p)
+      | inr (x, u, v, p, w, inl q) ↦ inl (inr (x, u, v, p, w, q))
+      | inr (x, u, v, p, w, inr q) ↦ inr (inr (x, u, v, p, w, q))
+    ];
+  };
+}
+
+pub made_itself : {A : Type 0} (a : Form A) → Same (made (λ at x. x) a) a
+unfolding made
+made_itself a = record {
+  to = record { whole = λ t ts w. subst (λ x. a.Whole x ts) (sym w.2) w.1; begun = λ ts b. b };
+  back = record { whole = λ t ts w. (t, w, refl); begun = λ ts b. b };
+}
+
+-- what is made of a second part alone, whatever its place
+pub made_behind : {A B C : Type 0} (f : B → C) (a : Form A) (b : Form B)
+    → Same (seq a (made (λ at x. f x) b)) (made (λ at x. (x.0, f x.1)) (seq a b))
+unfolding seq made
+made_behind f a b = record {
+  to = record { whole = λ x ts (u, v, p, w, (y, q, e)). ((x.0, y), (u, v, p, w, q), ap (λ z. (x.0, z)) e); begun = λ ts b. b };
+  back = record {
+    whole = λ x ts (y, (u, v, p, w, q), e). (u, v, p, subst (λ z. a.Whole z u) (sym (ap (λ r. r.0) e)) w, (y.1, q, ap (λ r. r.1) e));
+    begun = λ ts b. b;
+  };
+}
 
 pub made_made : {A B C : Type 0} (f : ℕ → A → B) (g : ℕ → B → C) (a : Form A) → Same (made g (made f a)) (made (λ at x. g at (f at x)) a)
 unfolding made
