@@ -1,0 +1,4 @@
+pub mod Speeds
+pub mod Moves
+pub mod Built
+pub mod Answers
