@@ -8,7 +8,7 @@ use Rattle.rapid_forms.specs.declared.sign.Sign.TheVariants as signs
 use Rattle.rapid_forms.specs.Forms.{Form, one, seq, either, optional, many, made}
 use Rattle.rapid_forms.proofs.Laws.{LL, one_ll, seq_ll, either_ll, optional_ll, many_ll, made_ll, nothing_ll, larger_ll}
 use Rattle.rapid_forms.proofs.Up.{Up, up_refl, seq_up, either_up, optional_up, many_up, made_up, nothing_up, up_levels}
-use Rattle.rapid_forms.proofs.Opens.{Opens, fewer_opens, one_opens, seq_opens, both_open, either_opens, optional_opens, made_opens, optional_empties}
+use Rattle.rapid_forms.proofs.Opens.{Opens, fewer_opens, one_opens, seq_opens, both_open, either_opens, optional_opens, made_opens, deeper_opens, optional_empties}
 use Rattle.rapid_forms.proofs.Same.{Same, same_refl, same_sym, same_trans, seq_same, either_same, many_same, made_same, either_swapped, made_made, same_ll, shared, alike, made_itself, commas}
 use Rattle.expr_parser.specs.Grammar.{mark, number_tree, quoted_tree, truth_tree, behind, first_and_more, invoke_tree, place_tree, Inside, name, part, place, primary, chain, term, sum, relation, land, expr_of, group_of, exprs, aggregate_of, index_of, needed, option, args_list, call_of, inside, expr}
 use Rattle.expr_parser.specs.Reads.{left, right, named_tree, expr_signs, arg_signs}
@@ -365,10 +365,6 @@ unfolding expr
 expr_up n = expr_of_up (inside_up n)
 
 -- first signs that do begin a form
-
--- a form that stands within one level less
-deeper_opens : {A : Type 0} {first : List Sign} (F : ℕ → Form A) → Opens first (λ n. F (suc n)) → Opens first F
-deeper_opens F o = record { opens = λ t h. let (m, b) = o.opens t h in (suc m, b) }
 
 pub group_opens : Opens (signs.OpenParenthesis ∷ []) (λ n. (inside n).group)
 unfolding inside group_of
