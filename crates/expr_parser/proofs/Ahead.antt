@@ -1,8 +1,8 @@
 -- One token of looking ahead is enough for expressions, and a text spells one tree; what is within some levels is within
 -- more; and each first sign of a form that opens a level does begin it. Lines that begin alike stand here with the common
 -- part taken out too, as they are read.
-use Rattle.std.proofs.Common.{ℕ, zero, suc, ◌≤◌, true, false, List, [], ◌∷◌, Option, refl}
-use Rattle.rapid_model.specs.Plain.{PlainName, PlainExpr, PlainArg, Place}
+use Rattle.std.proofs.Common.{ℕ, zero, suc, ◌≤◌, true, false, List, [], ◌∷◌, ◌++◌, refl}
+use Rattle.rapid_model.specs.Plain.{PlainExpr, PlainArg, Place}
 use Rattle.rapid_forms.specs.declared.sign.Sign.{Sign}
 use Rattle.rapid_forms.specs.declared.sign.Sign.TheVariants as signs
 use Rattle.rapid_forms.specs.Forms.{Form, one, seq, either, optional, many, made}
@@ -10,7 +10,7 @@ use Rattle.rapid_forms.proofs.Laws.{LL, one_ll, seq_ll, either_ll, optional_ll, 
 use Rattle.rapid_forms.proofs.Up.{Up, up_refl, seq_up, either_up, optional_up, many_up, made_up, nothing_up, up_levels}
 use Rattle.rapid_forms.proofs.Opens.{Opens, fewer_opens, one_opens, seq_opens, both_open, either_opens, optional_opens, made_opens, deeper_opens, optional_empties}
 use Rattle.rapid_forms.proofs.Same.{Same, same_refl, same_sym, same_trans, seq_same, either_same, many_same, made_same, either_swapped, made_made, same_ll, shared, alike, made_itself, commas}
-use Rattle.expr_parser.specs.Grammar.{mark, number_tree, quoted_tree, truth_tree, behind, first_and_more, invoke_tree, place_tree, Inside, name, part, place, primary, chain, term, sum, relation, land, expr_of, group_of, exprs, aggregate_of, index_of, needed, option, args_list, call_of, inside, expr}
+use Rattle.expr_parser.specs.Grammar.{mark, number_tree, quoted_tree, truth_tree, behind, first_and_more, invoke_tree, place_tree, Inside, name, part, parts_of, place, primary, chain, term, sum, relation, land, expr_of, group_of, exprs, aggregate_of, index_of, needed, option, args_list, call_of, inside, expr, parts, args}
 use Rattle.expr_parser.specs.Reads.{left, right, named_tree, expr_signs, arg_signs}
 
 -- the signs with which forms begin
@@ -57,13 +57,9 @@ args_more = signs.Comma ∷ signs.Backslash ∷ option_more
 
 -- the lines that begin alike, as they are read
 
--- an index and components, or none
-unfoldable pub parts : Inside → Form (Option PlainExpr × List PlainName)
-parts i = seq (optional i.index) (many part)
-
 -- behind a name: arguments in parentheses, or what makes it a place
 unfoldable pub named : Inside → Form PlainExpr
-named i = made named_tree (seq name (either (made left i.call) (made right (parts i))))
+named i = made named_tree (seq name (either (made left i.call) (made right (parts_of i))))
 
 -- the other lines, which begin apart, and what begins with a name
 unfoldable pub primary_joined : Inside → Form PlainExpr
@@ -100,24 +96,24 @@ pub part_ll : LL false (signs.Dot ∷ []) [] part
 unfolding part
 part_ll = larger_ll (made_ll _ (seq_ll (one_ll _) name_ll refl)) refl refl
 
-pub parts_ll : {i : Inside} → InsideLL i → LL true place_more place_more (parts i)
-unfolding parts
-parts_ll l = larger_ll (seq_ll (optional_ll l.index) (many_ll part_ll refl) refl) refl refl
+pub parts_of_ll : {i : Inside} → InsideLL i → LL true place_more place_more (parts_of i)
+unfolding parts_of
+parts_of_ll l = larger_ll (seq_ll (optional_ll l.index) (many_ll part_ll refl) refl) refl refl
 
 pub place_ll : {i : Inside} → InsideLL i → LL false (signs.Name ∷ []) place_more (place i)
-unfolding place parts
-place_ll l = larger_ll (made_ll _ (seq_ll name_ll (parts_ll l) refl)) refl refl
+unfolding place
+place_ll l = larger_ll (made_ll _ (seq_ll name_ll (parts_of_ll l) refl)) refl refl
 
 pub named_ll : {i : Inside} → InsideLL i → LL false (signs.Name ∷ []) primary_more (named i)
 unfolding named
 named_ll l =
-    larger_ll (made_ll _ (seq_ll name_ll (either_ll (made_ll _ l.call) (made_ll _ (parts_ll l)) refl refl) refl)) refl refl
+    larger_ll (made_ll _ (seq_ll name_ll (either_ll (made_ll _ l.call) (made_ll _ (parts_of_ll l)) refl refl) refl)) refl refl
 
 named_same : (i : Inside) → Same (either (made invoke_tree (seq name i.call)) (made Place (place i))) (named i)
-unfolding place parts named
+unfolding place named
 named_same i =
-    same_trans (either_same (same_refl _) (made_made place_tree Place (seq name (parts i))))
-    (shared invoke_tree (λ at x. Place at (place_tree at x)) name i.call (parts i))
+    same_trans (either_same (same_refl _) (made_made place_tree Place (seq name (parts_of i))))
+    (shared invoke_tree (λ at x. Place at (place_tree at x)) name i.call (parts_of i))
 
 pub primary_same : (i : Inside) → Same (primary i) (primary_joined i)
 unfolding primary primary_joined
@@ -236,6 +232,14 @@ pub expr_ll : (n : ℕ) → LL false expr_signs expr_more (expr n)
 unfolding expr
 expr_ll n = expr_of_ll (inside_ll n)
 
+pub parts_ll : (n : ℕ) → LL true place_more place_more (parts n)
+unfolding parts
+parts_ll n = parts_of_ll (inside_ll n)
+
+pub args_ll : (n : ℕ) → LL true arg_signs (args_more ++ arg_signs) (args n)
+unfolding args
+args_ll n = made_ll _ (optional_ll (inside_ll n).args)
+
 -- from one level to those above
 
 -- the forms that open a level
@@ -246,13 +250,13 @@ pub record InsideUp (i j : Inside) : Type 0 where
   pub call : Up i.call j.call
   pub args : Up i.args j.args
 
-pub parts_up : {i j : Inside} → InsideUp i j → Up (parts i) (parts j)
-unfolding parts
-parts_up p = seq_up (optional_up p.index) (up_refl _)
+pub parts_of_up : {i j : Inside} → InsideUp i j → Up (parts_of i) (parts_of j)
+unfolding parts_of
+parts_of_up p = seq_up (optional_up p.index) (up_refl _)
 
 pub place_up : {i j : Inside} → InsideUp i j → Up (place i) (place j)
-unfolding place parts
-place_up p = made_up _ (seq_up (up_refl _) (parts_up p))
+unfolding place
+place_up p = made_up _ (seq_up (up_refl _) (parts_of_up p))
 
 pub primary_up : {i j : Inside} → InsideUp i j → Up (primary i) (primary j)
 unfolding primary
@@ -363,6 +367,14 @@ inside_above n m le = record {
 pub expr_up : (n : ℕ) → Up (expr n) (expr (suc n))
 unfolding expr
 expr_up n = expr_of_up (inside_up n)
+
+pub parts_up : (n : ℕ) → Up (parts n) (parts (suc n))
+unfolding parts
+parts_up n = parts_of_up (inside_up n)
+
+pub args_up : (n : ℕ) → Up (args n) (args (suc n))
+unfolding args
+args_up n = made_up _ (optional_up (inside_up n).args)
 
 -- first signs that do begin a form
 

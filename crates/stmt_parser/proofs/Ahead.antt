@@ -11,9 +11,9 @@ use Rattle.rapid_forms.proofs.Laws.{LL, one_ll, seq_ll, either_ll, optional_ll, 
 use Rattle.rapid_forms.proofs.Up.{Up, up_refl, seq_up, either_up, optional_up, many_up, made_up, nothing_up}
 use Rattle.rapid_forms.proofs.Opens.{Opens, fewer_opens, one_opens, seq_opens, either_opens, optional_opens, many_opens, made_opens, deeper_opens}
 use Rattle.rapid_forms.proofs.Same.{Same, same_refl, same_sym, same_trans, seq_same, either_same, made_same, either_swapped, either_bracketed, crossed, same_ll, left, right, shared, both_shared, made_made, made_itself, made_behind, fronted}
-use Rattle.expr_parser.specs.Grammar.{Inside, inside, mark, name, place, expr_of, place_tree, behind, none_or, first_and_more}
+use Rattle.expr_parser.specs.Grammar.{Inside, inside, mark, name, parts_of, place, expr_of, place_tree, behind, none_or, first_and_more}
 use Rattle.expr_parser.specs.Reads.{expr_signs, arg_signs}
-use Rattle.expr_parser.proofs.Ahead.{InsideLL, inside_ll, name_ll, parts, parts_ll, place_ll, expr_of_ll, exprs_ll, InsideUp, inside_up, place_up, expr_of_up, exprs_up, name_opens}
+use Rattle.expr_parser.proofs.Ahead.{InsideLL, inside_ll, name_ll, parts_of_ll, place_ll, expr_of_ll, exprs_ll, InsideUp, inside_up, parts_of_up, place_up, expr_of_up, exprs_up, name_opens}
 use Rattle.stmt_parser.specs.Grammar.{assign_tree, call_tree, goto_tree, return_tree, exit_tree, raise_tree, retry_tree, try_next_tree, connect_tree, label_tree, arm_tree, if_tree, if_one_tree, simple, arm, branches, loop_for, loop_while, case, choice, stmt_of, list_of, stmts, list, stmt, items}
 
 -- the signs with which statements begin
@@ -46,7 +46,7 @@ Called = List PlainArg × Lexeme
 
 -- behind a name: an index and components, or none, and what is assigned
 unfoldable pub assigned : Inside → Form Assigned
-assigned i = seq (parts i) (seq (mark signs.Assign) (seq (expr_of i) (mark signs.Semicolon)))
+assigned i = seq (parts_of i) (seq (mark signs.Assign) (seq (expr_of i) (mark signs.Semicolon)))
 
 unfoldable pub called : Inside → Form Called
 called i = seq (made none_or (optional i.args)) (mark signs.Semicolon)
@@ -114,8 +114,8 @@ stmt_joined i list =
 
 assigned_same : {i : Inside} → InsideLL i
     → Same (made assign_tree (seq (place i) (seq (mark signs.Assign) (seq (expr_of i) (mark signs.Semicolon))))) (made assigned_tree (seq name (assigned i)))
-unfolding place parts assigned
-assigned_same {i} l = fronted place_tree assign_tree name (parts i) _ (seq_ll name_ll (parts_ll l) refl)
+unfolding place assigned
+assigned_same {i} l = fronted place_tree assign_tree name (parts_of i) _ (seq_ll name_ll (parts_of_ll l) refl)
 
 pub simple_same : {i : Inside} → InsideLL i → Same (simple i) (simple_joined i)
 unfolding simple simple_joined worded named_simple behind_name called
@@ -186,7 +186,7 @@ list_same n = some_or_none (stmt_of (inside n) (list_of (stmts n)))
 
 pub assigned_ll : {i : Inside} → InsideLL i → LL false assigned_signs [] (assigned i)
 unfolding assigned
-assigned_ll l = larger_ll (seq_ll (parts_ll l) (seq_ll (one_ll _) (seq_ll (expr_of_ll l) (one_ll _) refl) refl) refl) refl refl
+assigned_ll l = larger_ll (seq_ll (parts_of_ll l) (seq_ll (one_ll _) (seq_ll (expr_of_ll l) (one_ll _) refl) refl) refl) refl refl
 
 pub called_ll : {i : Inside} → InsideLL i → LL false called_signs [] (called i)
 unfolding called
@@ -205,17 +205,17 @@ unfolding named
 named_ll l =
     larger_ll (made_ll _ (seq_ll name_ll (either_ll (made_ll _ (one_ll _)) (made_ll _ (behind_name_ll l)) refl refl) refl)) refl refl
 
-bare_ll : (sign : Sign) (tree : ℕ → Lexeme × Lexeme → PlainStmt) → LL false (sign ∷ []) [] (made tree (seq (mark sign) (mark signs.Semicolon)))
+pub bare_ll : (sign : Sign) (tree : ℕ → Lexeme × Lexeme → PlainStmt) → LL false (sign ∷ []) [] (made tree (seq (mark sign) (mark signs.Semicolon)))
 bare_ll sign tree = made_ll _ (seq_ll (one_ll _) (one_ll _) refl)
 
-valued_ll : {i : Inside} → InsideLL i → (sign : Sign) (tree : ℕ → Lexeme × (Option PlainExpr × Lexeme) → PlainStmt)
+pub valued_ll : {i : Inside} → InsideLL i → (sign : Sign) (tree : ℕ → Lexeme × (Option PlainExpr × Lexeme) → PlainStmt)
     → LL false (sign ∷ []) [] (made tree (seq (mark sign) (seq (optional (expr_of i)) (mark signs.Semicolon))))
 valued_ll l sign tree = made_ll _ (seq_ll (one_ll _) (seq_ll (optional_ll (expr_of_ll l)) (one_ll _) refl) refl)
 
-goto_ll : LL false (signs.Goto ∷ []) [] (made goto_tree (seq (mark signs.Goto) (seq name (mark signs.Semicolon))))
+pub goto_ll : LL false (signs.Goto ∷ []) [] (made goto_tree (seq (mark signs.Goto) (seq name (mark signs.Semicolon))))
 goto_ll = larger_ll (made_ll _ (seq_ll (one_ll _) (seq_ll name_ll (one_ll _) refl) refl)) refl refl
 
-connect_ll : {i : Inside} → InsideLL i
+pub connect_ll : {i : Inside} → InsideLL i
     → LL false (signs.Connect ∷ []) [] (made connect_tree (seq (mark signs.Connect) (seq (place i) (seq (mark signs.With) (seq name (mark signs.Semicolon))))))
 connect_ll l = larger_ll (made_ll _ (seq_ll (one_ll _) (seq_ll (place_ll l) (seq_ll (one_ll _) (seq_ll name_ll (one_ll _) refl) refl) refl) refl)) refl refl
 
@@ -329,6 +329,22 @@ items_ll n = larger_ll (many_ll (stmt_ll n) refl) refl refl
 
 -- from one level to those above
 
+pub assigned_up : {i j : Inside} → InsideUp i j → Up (assigned i) (assigned j)
+unfolding assigned
+assigned_up p = seq_up (parts_of_up p) (seq_up (up_refl _) (seq_up (expr_of_up p) (up_refl _)))
+
+pub behind_name_up : {i j : Inside} → InsideUp i j → Up (behind_name i) (behind_name j)
+unfolding behind_name called
+behind_name_up p = either_up (made_up _ (assigned_up p)) (made_up _ (seq_up (made_up _ (optional_up p.args)) (up_refl _)))
+
+pub named_simple_up : {i j : Inside} → InsideUp i j → Up (named_simple i) (named_simple j)
+unfolding named_simple
+named_simple_up p = made_up _ (seq_up (up_refl _) (behind_name_up p))
+
+pub named_up : {i j : Inside} → InsideUp i j → Up (named i) (named j)
+unfolding named
+named_up p = made_up _ (seq_up (up_refl _) (either_up (up_refl _) (made_up _ (behind_name_up p))))
+
 pub simple_up : {i j : Inside} → InsideUp i j → Up (simple i) (simple j)
 unfolding simple
 simple_up p =
@@ -352,6 +368,16 @@ branches_up p q =
     (seq_up (up_refl _)
     (seq_up (arm_up p q)
     (seq_up (many_up (made_up _ (seq_up (up_refl _) (arm_up p q)))) (seq_up (optional_up (made_up _ (seq_up (up_refl _) q))) (up_refl _)))))
+
+pub branched_up : {i j : Inside} {list list' : Form (List PlainStmt)} → InsideUp i j → Up list list' → Up (branched i list) (branched j list')
+unfolding branched
+branched_up p q =
+    seq_up (seq_up (up_refl _) q)
+    (seq_up (many_up (made_up _ (seq_up (up_refl _) (arm_up p q)))) (seq_up (optional_up (made_up _ (seq_up (up_refl _) q))) (up_refl _)))
+
+pub tested_up : {i j : Inside} {list list' : Form (List PlainStmt)} → InsideUp i j → Up list list' → Up (tested i list) (tested j list')
+unfolding tested
+tested_up p q = made_up _ (seq_up (up_refl _) (seq_up (expr_of_up p) (either_up (made_up _ (branched_up p q)) (made_up _ (simple_up p)))))
 
 pub loop_for_up : {i j : Inside} {list list' : Form (List PlainStmt)} → InsideUp i j → Up list list' → Up (loop_for i list) (loop_for j list')
 unfolding loop_for
