@@ -10,7 +10,7 @@ use Rattle.rapid_forms.proofs.Laws.{LL, one_ll, seq_ll, either_ll, optional_ll, 
 use Rattle.rapid_forms.proofs.Up.{Up, up_refl, seq_up, either_up, optional_up, many_up, made_up, nothing_up, up_levels}
 use Rattle.rapid_forms.proofs.Opens.{Opens, fewer_opens, one_opens, seq_opens, both_open, either_opens, optional_opens, made_opens, deeper_opens, optional_empties}
 use Rattle.rapid_forms.proofs.Same.{Same, same_refl, same_sym, same_trans, seq_same, either_same, many_same, made_same, either_swapped, made_made, same_ll, shared, alike, made_itself, commas}
-use Rattle.expr_parser.specs.Grammar.{mark, number_tree, quoted_tree, truth_tree, behind, first_and_more, invoke_tree, place_tree, Inside, name, part, parts_of, place, primary, chain, term, sum, relation, land, expr_of, group_of, exprs, aggregate_of, index_of, needed, option, args_list, call_of, inside, expr, parts, args}
+use Rattle.expr_parser.specs.Grammar.{mark, number_tree, quoted_tree, truth_tree, behind, first_and_more, invoke_tree, place_tree, Inside, name, part, parts_of, place, primary, chain, term, sum, relation, land, expr_of, group_of, exprs, aggregate_of, index_of, needed, option, args_list, call_of, inside, expr, args}
 use Rattle.expr_parser.specs.Reads.{left, right, named_tree, expr_signs, arg_signs}
 
 -- the signs with which forms begin
@@ -96,18 +96,18 @@ pub part_ll : LL false (signs.Dot ∷ []) [] part
 unfolding part
 part_ll = larger_ll (made_ll _ (seq_ll (one_ll _) name_ll refl)) refl refl
 
-pub parts_of_ll : {i : Inside} → InsideLL i → LL true place_more place_more (parts_of i)
+pub parts_ll : {i : Inside} → InsideLL i → LL true place_more place_more (parts_of i)
 unfolding parts_of
-parts_of_ll l = larger_ll (seq_ll (optional_ll l.index) (many_ll part_ll refl) refl) refl refl
+parts_ll l = larger_ll (seq_ll (optional_ll l.index) (many_ll part_ll refl) refl) refl refl
 
 pub place_ll : {i : Inside} → InsideLL i → LL false (signs.Name ∷ []) place_more (place i)
 unfolding place
-place_ll l = larger_ll (made_ll _ (seq_ll name_ll (parts_of_ll l) refl)) refl refl
+place_ll l = larger_ll (made_ll _ (seq_ll name_ll (parts_ll l) refl)) refl refl
 
 pub named_ll : {i : Inside} → InsideLL i → LL false (signs.Name ∷ []) primary_more (named i)
 unfolding named
 named_ll l =
-    larger_ll (made_ll _ (seq_ll name_ll (either_ll (made_ll _ l.call) (made_ll _ (parts_of_ll l)) refl refl) refl)) refl refl
+    larger_ll (made_ll _ (seq_ll name_ll (either_ll (made_ll _ l.call) (made_ll _ (parts_ll l)) refl refl) refl)) refl refl
 
 named_same : (i : Inside) → Same (either (made invoke_tree (seq name i.call)) (made Place (place i))) (named i)
 unfolding place named
@@ -232,10 +232,6 @@ pub expr_ll : (n : ℕ) → LL false expr_signs expr_more (expr n)
 unfolding expr
 expr_ll n = expr_of_ll (inside_ll n)
 
-pub parts_ll : (n : ℕ) → LL true place_more place_more (parts n)
-unfolding parts
-parts_ll n = parts_of_ll (inside_ll n)
-
 pub args_ll : (n : ℕ) → LL true arg_signs (args_more ++ arg_signs) (args n)
 unfolding args
 args_ll n = made_ll _ (optional_ll (inside_ll n).args)
@@ -250,13 +246,13 @@ pub record InsideUp (i j : Inside) : Type 0 where
   pub call : Up i.call j.call
   pub args : Up i.args j.args
 
-pub parts_of_up : {i j : Inside} → InsideUp i j → Up (parts_of i) (parts_of j)
+pub parts_up : {i j : Inside} → InsideUp i j → Up (parts_of i) (parts_of j)
 unfolding parts_of
-parts_of_up p = seq_up (optional_up p.index) (up_refl _)
+parts_up p = seq_up (optional_up p.index) (up_refl _)
 
 pub place_up : {i j : Inside} → InsideUp i j → Up (place i) (place j)
 unfolding place
-place_up p = made_up _ (seq_up (up_refl _) (parts_of_up p))
+place_up p = made_up _ (seq_up (up_refl _) (parts_up p))
 
 pub primary_up : {i j : Inside} → InsideUp i j → Up (primary i) (primary j)
 unfolding primary
@@ -367,10 +363,6 @@ inside_above n m le = record {
 pub expr_up : (n : ℕ) → Up (expr n) (expr (suc n))
 unfolding expr
 expr_up n = expr_of_up (inside_up n)
-
-pub parts_up : (n : ℕ) → Up (parts n) (parts (suc n))
-unfolding parts
-parts_up n = parts_of_up (inside_up n)
 
 pub args_up : (n : ℕ) → Up (args n) (args (suc n))
 unfolding args

@@ -13,7 +13,7 @@ use Rattle.rapid_forms.proofs.Opens.{Opens, fewer_opens, one_opens, seq_opens, e
 use Rattle.rapid_forms.proofs.Same.{Same, same_refl, same_sym, same_trans, seq_same, either_same, made_same, either_swapped, either_bracketed, crossed, same_ll, left, right, shared, both_shared, made_made, made_itself, made_behind, fronted}
 use Rattle.expr_parser.specs.Grammar.{Inside, inside, mark, name, parts_of, place, expr_of, place_tree, behind, none_or, first_and_more}
 use Rattle.expr_parser.specs.Reads.{expr_signs, arg_signs}
-use Rattle.expr_parser.proofs.Ahead.{InsideLL, inside_ll, name_ll, parts_of_ll, place_ll, expr_of_ll, exprs_ll, InsideUp, inside_up, parts_of_up, place_up, expr_of_up, exprs_up, name_opens}
+use Rattle.expr_parser.proofs.Ahead.{InsideLL, inside_ll, name_ll, parts_ll, place_ll, expr_of_ll, exprs_ll, InsideUp, inside_up, parts_up, place_up, expr_of_up, exprs_up, name_opens}
 use Rattle.stmt_parser.specs.Grammar.{assign_tree, call_tree, goto_tree, return_tree, exit_tree, raise_tree, retry_tree, try_next_tree, connect_tree, label_tree, arm_tree, if_tree, if_one_tree, simple, arm, branches, loop_for, loop_while, case, choice, stmt_of, list_of, stmts, list, stmt, items}
 
 -- the signs with which statements begin
@@ -115,7 +115,7 @@ stmt_joined i list =
 assigned_same : {i : Inside} → InsideLL i
     → Same (made assign_tree (seq (place i) (seq (mark signs.Assign) (seq (expr_of i) (mark signs.Semicolon))))) (made assigned_tree (seq name (assigned i)))
 unfolding place assigned
-assigned_same {i} l = fronted place_tree assign_tree name (parts_of i) _ (seq_ll name_ll (parts_of_ll l) refl)
+assigned_same {i} l = fronted place_tree assign_tree name (parts_of i) _ (seq_ll name_ll (parts_ll l) refl)
 
 pub simple_same : {i : Inside} → InsideLL i → Same (simple i) (simple_joined i)
 unfolding simple simple_joined worded named_simple behind_name called
@@ -186,7 +186,7 @@ list_same n = some_or_none (stmt_of (inside n) (list_of (stmts n)))
 
 pub assigned_ll : {i : Inside} → InsideLL i → LL false assigned_signs [] (assigned i)
 unfolding assigned
-assigned_ll l = larger_ll (seq_ll (parts_of_ll l) (seq_ll (one_ll _) (seq_ll (expr_of_ll l) (one_ll _) refl) refl) refl) refl refl
+assigned_ll l = larger_ll (seq_ll (parts_ll l) (seq_ll (one_ll _) (seq_ll (expr_of_ll l) (one_ll _) refl) refl) refl) refl refl
 
 pub called_ll : {i : Inside} → InsideLL i → LL false called_signs [] (called i)
 unfolding called
@@ -331,7 +331,7 @@ items_ll n = larger_ll (many_ll (stmt_ll n) refl) refl refl
 
 pub assigned_up : {i j : Inside} → InsideUp i j → Up (assigned i) (assigned j)
 unfolding assigned
-assigned_up p = seq_up (parts_of_up p) (seq_up (up_refl _) (seq_up (expr_of_up p) (up_refl _)))
+assigned_up p = seq_up (parts_up p) (seq_up (up_refl _) (seq_up (expr_of_up p) (up_refl _)))
 
 pub behind_name_up : {i j : Inside} → InsideUp i j → Up (behind_name i) (behind_name j)
 unfolding behind_name called
