@@ -1,11 +1,18 @@
--- What stands behind a name in a place, as contracts see it.
+-- Lists of trees, and what stands behind a name in a place, as contracts see them.
 use Rattle.std.specs.Prelude.{List, Option, map, option_map, Vec}
 use Rattle.std.specs.declared.alloc.Global.{Global}
 use Rattle.rapid_model.specs.declared.raw_expr.RawExpr.{RawExpr}
+use Rattle.rapid_model.specs.declared.raw_expr.RawArg.{RawArg}
 use Rattle.rapid_model.specs.declared.raw_name.RawName.{RawName}
-use Rattle.rapid_model.specs.Views.{view_expr, view_name}
-use Rattle.rapid_model.specs.Plain.{PlainName, PlainExpr}
+use Rattle.rapid_model.specs.Views.{view_arg, view_expr, view_name}
+use Rattle.rapid_model.specs.Plain.{PlainName, PlainExpr, PlainArg}
 
 -- an index and components, as they are seen
 abbrev pub view_parts : Option RawExpr × Vec RawName Global → Option PlainExpr × List PlainName
 view_parts x = (option_map view_expr x.0, map view_name x.1.items)
+
+abbrev pub view_exprs : Vec RawExpr Global → List PlainExpr
+view_exprs v = map view_expr v.items
+
+abbrev pub view_args : Vec RawArg Global → List PlainArg
+view_args v = map view_arg v.items

@@ -1,9 +1,18 @@
 //! Statements with lists.
 
+ghost use Rattle.std.specs.Prelude.{◌≤◌, ◌∷◌, map, option_map, Ok};
+ghost use Rattle.rapid_lexer.specs.Tokens.{view};
+ghost use Rattle.rapid_model.specs.Views.{view_arm, view_case, view_expr, view_list, view_stmt};
+ghost use Rattle.rapid_forms.specs.Reading.{Gives, rest_from, then_read};
+ghost use Rattle.expr_parser.specs.Reads.{expr_of_read, inside_read};
+ghost use Rattle.stmt_parser.specs.Grammar.{arm_tree, if_tree};
+ghost use Rattle.stmt_parser.specs.Reads.{arm_read, arms_read, behind_read, branched_read, case_read, cases_read, default_read, for_read, if_read, list_read, test_read, tested_read, while_read};
+
 use crate::exprs::{expr, expr_behind, exprs, name};
 use crate::list::list;
 use crate::simple::simple;
 use rapid_forms::{Parser, Sign, SyntaxFault};
+use rapid_lexer::Token;
 use rapid_model::{RawExpr, RawStmt};
 
 /// IF with lists, or with one statement.
@@ -12,11 +21,14 @@ pub(crate) fn choice_or_one<'a>(
     p: &Parser<'_, 'a>,
     at: usize,
     left: u32,
-) -> Result<(RawStmt<'a>, usize), SyntaxFault> {
+) -> Result<(RawStmt<'a>, usize), SyntaxFault>
+    requires { left ≤ 64 }
+    ensures { Gives p.now.tokens view_stmt result (tested_read (inside_read left) (list_read left) (rest_from p.now.tokens at)) }
+{
     let (word, first) = p.tokens.take(at, &[Sign::If])?;
     let (test, next) = expr(p, first, left)?;
     if p.tokens.sees(next, &[Sign::Then]) {
-        return branches(p, word.at, test, next, left);
+        return branches(p, word, test, next, left);
     }
     let (then, end) = simple(p, next, left)?;
     let stmt = RawStmt::choice_of_one(p.alloc, word.at, test, then)?;
@@ -27,16 +39,19 @@ pub(crate) fn choice_or_one<'a>(
 #[cycle(stmt)]
 fn branches<'a>(
     p: &Parser<'_, 'a>,
-    place: usize,
+    word: Token<'a>,
     test: RawExpr<'a>,
     at: usize,
     left: u32,
-) -> Result<(RawStmt<'a>, usize), SyntaxFault> {
+) -> Result<(RawStmt<'a>, usize), SyntaxFault>
+    requires { left ≤ 64 }
+    ensures { Gives p.now.tokens view_stmt result (then_read (branched_read (inside_read left) (list_read left) (rest_from p.now.tokens at)) λ x rest. Ok (if_tree word.at (view word, (arm_tree word.at (view_expr test.entry, x.0), x.1)), rest)) }
+{
     let (first, after) = list_behind(p, at, left, Sign::Then)?;
     let (arms, next) = arms(p, (test, first), after, left)?;
     let (other, last) = list_if_any(p, next, left, Sign::Else)?;
     let (_end, end) = p.tokens.take(last, &[Sign::EndIf])?;
-    Ok((RawStmt::choice(place, arms, other), end))
+    Ok((RawStmt::choice(word.at, arms, other), end))
 }
 
 /// The first arm of an IF, and each ELSEIF behind it.
@@ -46,7 +61,10 @@ fn arms<'a>(
     first: (RawExpr<'a>, Vec<RawStmt<'a>>),
     at: usize,
     left: u32,
-) -> Result<(Vec<(RawExpr<'a>, Vec<RawStmt<'a>>)>, usize), SyntaxFault> {
+) -> Result<(Vec<(RawExpr<'a>, Vec<RawStmt<'a>>)>, usize), SyntaxFault>
+    requires { left ≤ 64 }
+    ensures { Gives p.now.tokens (λ v. map view_arm v.items) result (then_read (arms_read (inside_read left) (list_read left) (rest_from p.now.tokens at)) λ xs rest. Ok (view_arm first.entry ∷ xs, rest)) }
+{
     let mut list = Vec::new(p.alloc);
     list.push(first)?;
     let mut next = at;
@@ -64,7 +82,10 @@ fn arm<'a>(
     p: &Parser<'_, 'a>,
     at: usize,
     left: u32,
-) -> Result<((RawExpr<'a>, Vec<RawStmt<'a>>), usize), SyntaxFault> {
+) -> Result<((RawExpr<'a>, Vec<RawStmt<'a>>), usize), SyntaxFault>
+    requires { left ≤ 64 }
+    ensures { Gives p.now.tokens view_arm result (behind_read Sign.ElseIf (arm_read (inside_read left) (list_read left)) (rest_from p.now.tokens at)) }
+{
     let (test, next) = expr_behind(p, at, left, Sign::ElseIf)?;
     let (list, end) = list_behind(p, next, left, Sign::Then)?;
     Ok(((test, list), end))
@@ -77,7 +98,10 @@ fn list_behind<'a>(
     at: usize,
     left: u32,
     sign: Sign,
-) -> Result<(Vec<RawStmt<'a>>, usize), SyntaxFault> {
+) -> Result<(Vec<RawStmt<'a>>, usize), SyntaxFault>
+    requires { left ≤ 64 }
+    ensures { Gives p.now.tokens view_list result (behind_read sign (list_read left) (rest_from p.now.tokens at)) }
+{
     let (_word, next) = p.tokens.take(at, &[sign])?;
     list(p, next, left)
 }
@@ -89,7 +113,10 @@ fn list_if_any<'a>(
     at: usize,
     left: u32,
     sign: Sign,
-) -> Result<(Option<Vec<RawStmt<'a>>>, usize), SyntaxFault> {
+) -> Result<(Option<Vec<RawStmt<'a>>>, usize), SyntaxFault>
+    requires { left ≤ 64 }
+    ensures { Gives p.now.tokens (option_map view_list) result (if_read sign (list_read left) (rest_from p.now.tokens at)) }
+{
     if !p.tokens.sees(at, &[sign]) {
         return Ok((None, at));
     }
@@ -103,7 +130,10 @@ pub(crate) fn for_loop<'a>(
     p: &Parser<'_, 'a>,
     at: usize,
     left: u32,
-) -> Result<(RawStmt<'a>, usize), SyntaxFault> {
+) -> Result<(RawStmt<'a>, usize), SyntaxFault>
+    requires { left ≤ 64 }
+    ensures { Gives p.now.tokens view_stmt result (for_read (inside_read left) (list_read left) (rest_from p.now.tokens at)) }
+{
     let (word, next) = p.tokens.take(at, &[Sign::For])?;
     let (name, from) = name(p, next)?;
     let (first, to) = expr_behind(p, from, left, Sign::From)?;
@@ -119,7 +149,10 @@ fn step_if_any<'a>(
     p: &Parser<'_, 'a>,
     at: usize,
     left: u32,
-) -> Result<(Option<RawExpr<'a>>, usize), SyntaxFault> {
+) -> Result<(Option<RawExpr<'a>>, usize), SyntaxFault>
+    requires { left ≤ 64 }
+    ensures { Gives p.now.tokens (option_map view_expr) result (if_read Sign.Step (expr_of_read (inside_read left)) (rest_from p.now.tokens at)) }
+{
     if !p.tokens.sees(at, &[Sign::Step]) {
         return Ok((None, at));
     }
@@ -133,7 +166,10 @@ pub(crate) fn while_loop<'a>(
     p: &Parser<'_, 'a>,
     at: usize,
     left: u32,
-) -> Result<(RawStmt<'a>, usize), SyntaxFault> {
+) -> Result<(RawStmt<'a>, usize), SyntaxFault>
+    requires { left ≤ 64 }
+    ensures { Gives p.now.tokens view_stmt result (while_read (inside_read left) (list_read left) (rest_from p.now.tokens at)) }
+{
     let (word, next) = p.tokens.take(at, &[Sign::While])?;
     let (test, body) = expr(p, next, left)?;
     let (list, close) = list_behind(p, body, left, Sign::Do)?;
@@ -147,7 +183,10 @@ pub(crate) fn choice<'a>(
     p: &Parser<'_, 'a>,
     at: usize,
     left: u32,
-) -> Result<(RawStmt<'a>, usize), SyntaxFault> {
+) -> Result<(RawStmt<'a>, usize), SyntaxFault>
+    requires { left ≤ 64 }
+    ensures { Gives p.now.tokens view_stmt result (test_read (inside_read left) (list_read left) (rest_from p.now.tokens at)) }
+{
     let (word, first) = p.tokens.take(at, &[Sign::Test])?;
     let (value, next) = expr(p, first, left)?;
     let (cases, after) = cases(p, next, left)?;
@@ -162,7 +201,10 @@ fn cases<'a>(
     p: &Parser<'_, 'a>,
     at: usize,
     left: u32,
-) -> Result<(Vec<(Vec<RawExpr<'a>>, Vec<RawStmt<'a>>)>, usize), SyntaxFault> {
+) -> Result<(Vec<(Vec<RawExpr<'a>>, Vec<RawStmt<'a>>)>, usize), SyntaxFault>
+    requires { left ≤ 64 }
+    ensures { Gives p.now.tokens (λ v. map view_case v.items) result (cases_read (inside_read left) (list_read left) (rest_from p.now.tokens at)) }
+{
     let mut list = Vec::new(p.alloc);
     let mut next = at;
     while p.tokens.sees(next, &[Sign::Case]) {
@@ -179,7 +221,10 @@ fn case<'a>(
     p: &Parser<'_, 'a>,
     at: usize,
     left: u32,
-) -> Result<((Vec<RawExpr<'a>>, Vec<RawStmt<'a>>), usize), SyntaxFault> {
+) -> Result<((Vec<RawExpr<'a>>, Vec<RawStmt<'a>>), usize), SyntaxFault>
+    requires { left ≤ 64 }
+    ensures { Gives p.now.tokens view_case result (behind_read Sign.Case (case_read (inside_read left) (list_read left)) (rest_from p.now.tokens at)) }
+{
     let (_word, first) = p.tokens.take(at, &[Sign::Case])?;
     let (values, next) = exprs(p, first, left)?;
     let (list, end) = list_behind(p, next, left, Sign::Colon)?;
@@ -192,7 +237,10 @@ fn default_if_any<'a>(
     p: &Parser<'_, 'a>,
     at: usize,
     left: u32,
-) -> Result<(Option<Vec<RawStmt<'a>>>, usize), SyntaxFault> {
+) -> Result<(Option<Vec<RawStmt<'a>>>, usize), SyntaxFault>
+    requires { left ≤ 64 }
+    ensures { Gives p.now.tokens (option_map view_list) result (default_read (list_read left) (rest_from p.now.tokens at)) }
+{
     if !p.tokens.sees(at, &[Sign::Default]) {
         return Ok((None, at));
     }

@@ -1,5 +1,10 @@
 //! Lists of statements.
 
+ghost use Rattle.std.specs.Prelude.{◌≤◌};
+ghost use Rattle.rapid_model.specs.Views.{view_list, view_stmt};
+ghost use Rattle.rapid_forms.specs.Reading.{Gives, rest_from};
+ghost use Rattle.stmt_parser.specs.Reads.{items_read, list_read, stmt_read};
+
 use crate::blocks::{choice, choice_or_one, for_loop, while_loop};
 use crate::named::named;
 use crate::simple::worded;
@@ -27,7 +32,10 @@ pub(crate) fn list<'a>(
     p: &Parser<'_, 'a>,
     at: usize,
     left: u32,
-) -> Result<(Vec<RawStmt<'a>>, usize), SyntaxFault> {
+) -> Result<(Vec<RawStmt<'a>>, usize), SyntaxFault>
+    requires { left ≤ 64 }
+    ensures { Gives p.now.tokens view_list result (list_read left (rest_from p.now.tokens at)) }
+{
     if !p.tokens.sees(at, &STMT_SIGNS) {
         return Ok((Vec::new(p.alloc), at));
     }
@@ -43,7 +51,10 @@ pub(crate) fn items<'a>(
     p: &Parser<'_, 'a>,
     at: usize,
     left: u32,
-) -> Result<(Vec<RawStmt<'a>>, usize), SyntaxFault> {
+) -> Result<(Vec<RawStmt<'a>>, usize), SyntaxFault>
+    requires { left ≤ 64 }
+    ensures { Gives p.now.tokens view_list result (items_read left (rest_from p.now.tokens at)) }
+{
     let mut list = Vec::new(p.alloc);
     let mut next = at;
     while p.tokens.sees(next, &STMT_SIGNS) {
@@ -60,7 +71,10 @@ fn stmt<'a>(
     p: &Parser<'_, 'a>,
     at: usize,
     left: u32,
-) -> Result<(RawStmt<'a>, usize), SyntaxFault> {
+) -> Result<(RawStmt<'a>, usize), SyntaxFault>
+    requires { left ≤ 64 }
+    ensures { Gives p.now.tokens view_stmt result (stmt_read left (rest_from p.now.tokens at)) }
+{
     if p.tokens.sees(at, &[Sign::Name]) {
         return named(p, at, left);
     }

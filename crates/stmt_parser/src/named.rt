@@ -1,5 +1,12 @@
 //! Statements that begin with a name.
 
+ghost use Rattle.std.specs.Prelude.{◌≤◌, Ok};
+ghost use Rattle.rapid_model.specs.Views.{view_name, view_stmt};
+ghost use Rattle.rapid_forms.specs.Reading.{Gives, rest_from, then_read};
+ghost use Rattle.expr_parser.specs.Reads.{inside_read, mark_read};
+ghost use Rattle.stmt_parser.specs.Grammar.{call_tree, label_tree};
+ghost use Rattle.stmt_parser.specs.Reads.{assigned_read, assigned_tree, behind_name_read, called_read, named_read, named_simple_read, named_simple_tree};
+
 use crate::exprs::{args, expr, name, parts};
 use rapid_forms::{Parser, Sign, SyntaxFault};
 use rapid_model::{RawName, RawPlace, RawStmt};
@@ -9,7 +16,10 @@ pub(crate) fn named<'a>(
     p: &Parser<'_, 'a>,
     at: usize,
     left: u32,
-) -> Result<(RawStmt<'a>, usize), SyntaxFault> {
+) -> Result<(RawStmt<'a>, usize), SyntaxFault>
+    requires { left ≤ 64 }
+    ensures { Gives p.now.tokens view_stmt result (named_read (inside_read left) (rest_from p.now.tokens at)) }
+{
     let (name, next) = name(p, at)?;
     if p.tokens.sees(next, &[Sign::Colon]) {
         return label(p, name, next);
@@ -22,7 +32,10 @@ pub(crate) fn named_simple<'a>(
     p: &Parser<'_, 'a>,
     at: usize,
     left: u32,
-) -> Result<(RawStmt<'a>, usize), SyntaxFault> {
+) -> Result<(RawStmt<'a>, usize), SyntaxFault>
+    requires { left ≤ 64 }
+    ensures { Gives p.now.tokens view_stmt result (named_simple_read (inside_read left) (rest_from p.now.tokens at)) }
+{
     let (name, next) = name(p, at)?;
     behind_name(p, name, next, left)
 }
@@ -31,7 +44,9 @@ fn label<'a>(
     p: &Parser<'_, 'a>,
     name: RawName<'a>,
     at: usize,
-) -> Result<(RawStmt<'a>, usize), SyntaxFault> {
+) -> Result<(RawStmt<'a>, usize), SyntaxFault>
+    ensures { Gives p.now.tokens view_stmt result (then_read (mark_read Sign.Colon (rest_from p.now.tokens at)) λ x rest. Ok (label_tree name.at (view_name name, x), rest)) }
+{
     let (_colon, end) = p.tokens.take(at, &[Sign::Colon])?;
     Ok((RawStmt::label(name.at, name), end))
 }
@@ -42,7 +57,10 @@ fn behind_name<'a>(
     name: RawName<'a>,
     at: usize,
     left: u32,
-) -> Result<(RawStmt<'a>, usize), SyntaxFault> {
+) -> Result<(RawStmt<'a>, usize), SyntaxFault>
+    requires { left ≤ 64 }
+    ensures { Gives p.now.tokens view_stmt result (then_read (behind_name_read (inside_read left) (rest_from p.now.tokens at)) λ x rest. Ok (named_simple_tree name.at (view_name name, x), rest)) }
+{
     if p.tokens.sees(at, &[Sign::Assign, Sign::OpenBrace, Sign::Dot]) {
         assignment(p, name, at, left)
     } else {
@@ -55,7 +73,10 @@ fn assignment<'a>(
     name: RawName<'a>,
     at: usize,
     left: u32,
-) -> Result<(RawStmt<'a>, usize), SyntaxFault> {
+) -> Result<(RawStmt<'a>, usize), SyntaxFault>
+    requires { left ≤ 64 }
+    ensures { Gives p.now.tokens view_stmt result (then_read (assigned_read (inside_read left) (rest_from p.now.tokens at)) λ x rest. Ok (assigned_tree name.at (view_name name, x), rest)) }
+{
     let ((index, parts), after) = parts(p, at, left)?;
     let place = RawPlace::new(p.alloc, name, index, parts)?;
     let (_assign, next) = p.tokens.take(after, &[Sign::Assign])?;
@@ -69,7 +90,10 @@ fn call<'a>(
     name: RawName<'a>,
     at: usize,
     left: u32,
-) -> Result<(RawStmt<'a>, usize), SyntaxFault> {
+) -> Result<(RawStmt<'a>, usize), SyntaxFault>
+    requires { left ≤ 64 }
+    ensures { Gives p.now.tokens view_stmt result (then_read (called_read (inside_read left) (rest_from p.now.tokens at)) λ x rest. Ok (call_tree name.at (view_name name, x), rest)) }
+{
     let (args, last) = args(p, at, left)?;
     let (_semicolon, end) = p.tokens.take(last, &[Sign::Semicolon])?;
     Ok((RawStmt::call(name.at, name, args), end))

@@ -1,5 +1,11 @@
 //! The public call.
 
+ghost use Rattle.std.specs.Prelude.{◌≤◌, ◌-◌, length};
+ghost use Rattle.rapid_lexer.specs.Tokens.{views};
+ghost use Rattle.rapid_model.specs.Views.{view_list};
+ghost use Rattle.rapid_forms.specs.Parsed.{Parses};
+ghost use Rattle.stmt_parser.specs.Grammar.{items};
+
 use crate::list::items;
 use rapid_forms::{Parser, SyntaxFault, Tokens};
 use rapid_lexer::Token;
@@ -14,7 +20,11 @@ pub fn parse_list<'a>(
     at: usize,
     depth: u32,
     end: usize,
-) -> Result<(Vec<RawStmt<'a>>, usize), SyntaxFault> {
+) -> Result<(Vec<RawStmt<'a>>, usize), SyntaxFault>
+    requires there { at ≤ length tokens.now }
+    requires open { depth ≤ 64 }
+    ensures answer { Parses items (64 - depth) (views tokens.now) end at view_list result }
+{
     let p = Parser {
         alloc,
         tokens: Tokens { list: tokens, end },

@@ -1,5 +1,11 @@
 //! Statements without lists.
 
+ghost use Rattle.std.specs.Prelude.{◌≤◌, option_map};
+ghost use Rattle.rapid_model.specs.Views.{view_expr, view_place, view_stmt};
+ghost use Rattle.rapid_forms.specs.Reading.{Gives, rest_from};
+ghost use Rattle.expr_parser.specs.Reads.{inside_read, place_read};
+ghost use Rattle.stmt_parser.specs.Reads.{connect_read, exit_read, goto_read, raise_read, retry_read, return_read, simple_read, try_next_read, value_read, worded_read};
+
 use crate::exprs::{expr, name, parts};
 use crate::named::named_simple;
 use rapid_forms::{Parser, Sign, SyntaxFault};
@@ -10,7 +16,10 @@ pub(crate) fn simple<'a>(
     p: &Parser<'_, 'a>,
     at: usize,
     left: u32,
-) -> Result<(RawStmt<'a>, usize), SyntaxFault> {
+) -> Result<(RawStmt<'a>, usize), SyntaxFault>
+    requires { left ≤ 64 }
+    ensures { Gives p.now.tokens view_stmt result (simple_read (inside_read left) (rest_from p.now.tokens at)) }
+{
     if p.tokens.sees(at, &[Sign::Name]) {
         return named_simple(p, at, left);
     }
@@ -22,7 +31,10 @@ pub(crate) fn worded<'a>(
     p: &Parser<'_, 'a>,
     at: usize,
     left: u32,
-) -> Result<(RawStmt<'a>, usize), SyntaxFault> {
+) -> Result<(RawStmt<'a>, usize), SyntaxFault>
+    requires { left ≤ 64 }
+    ensures { Gives p.now.tokens view_stmt result (worded_read (inside_read left) (rest_from p.now.tokens at)) }
+{
     if p.tokens.sees(at, &[Sign::Goto]) {
         return goto(p, at);
     }
@@ -44,7 +56,9 @@ pub(crate) fn worded<'a>(
     connect(p, at, left)
 }
 
-fn goto<'a>(p: &Parser<'_, 'a>, at: usize) -> Result<(RawStmt<'a>, usize), SyntaxFault> {
+fn goto<'a>(p: &Parser<'_, 'a>, at: usize) -> Result<(RawStmt<'a>, usize), SyntaxFault>
+    ensures { Gives p.now.tokens view_stmt result (goto_read (rest_from p.now.tokens at)) }
+{
     let (word, next) = p.tokens.take(at, &[Sign::Goto])?;
     let (name, last) = name(p, next)?;
     let (_semicolon, end) = p.tokens.take(last, &[Sign::Semicolon])?;
@@ -55,14 +69,19 @@ fn returns<'a>(
     p: &Parser<'_, 'a>,
     at: usize,
     left: u32,
-) -> Result<(RawStmt<'a>, usize), SyntaxFault> {
+) -> Result<(RawStmt<'a>, usize), SyntaxFault>
+    requires { left ≤ 64 }
+    ensures { Gives p.now.tokens view_stmt result (return_read (inside_read left) (rest_from p.now.tokens at)) }
+{
     let (word, next) = p.tokens.take(at, &[Sign::Return])?;
     let (value, last) = value_if_any(p, next, left)?;
     let (_semicolon, end) = p.tokens.take(last, &[Sign::Semicolon])?;
     Ok((RawStmt::returns(word.at, value), end))
 }
 
-fn exit<'a>(p: &Parser<'_, 'a>, at: usize) -> Result<(RawStmt<'a>, usize), SyntaxFault> {
+fn exit<'a>(p: &Parser<'_, 'a>, at: usize) -> Result<(RawStmt<'a>, usize), SyntaxFault>
+    ensures { Gives p.now.tokens view_stmt result (exit_read (rest_from p.now.tokens at)) }
+{
     let (word, last) = p.tokens.take(at, &[Sign::Exit])?;
     let (_semicolon, end) = p.tokens.take(last, &[Sign::Semicolon])?;
     Ok((RawStmt::exit(word.at), end))
@@ -72,20 +91,27 @@ fn raise<'a>(
     p: &Parser<'_, 'a>,
     at: usize,
     left: u32,
-) -> Result<(RawStmt<'a>, usize), SyntaxFault> {
+) -> Result<(RawStmt<'a>, usize), SyntaxFault>
+    requires { left ≤ 64 }
+    ensures { Gives p.now.tokens view_stmt result (raise_read (inside_read left) (rest_from p.now.tokens at)) }
+{
     let (word, next) = p.tokens.take(at, &[Sign::Raise])?;
     let (value, last) = value_if_any(p, next, left)?;
     let (_semicolon, end) = p.tokens.take(last, &[Sign::Semicolon])?;
     Ok((RawStmt::raise(word.at, value), end))
 }
 
-fn retry<'a>(p: &Parser<'_, 'a>, at: usize) -> Result<(RawStmt<'a>, usize), SyntaxFault> {
+fn retry<'a>(p: &Parser<'_, 'a>, at: usize) -> Result<(RawStmt<'a>, usize), SyntaxFault>
+    ensures { Gives p.now.tokens view_stmt result (retry_read (rest_from p.now.tokens at)) }
+{
     let (word, last) = p.tokens.take(at, &[Sign::Retry])?;
     let (_semicolon, end) = p.tokens.take(last, &[Sign::Semicolon])?;
     Ok((RawStmt::retry(word.at), end))
 }
 
-fn try_next<'a>(p: &Parser<'_, 'a>, at: usize) -> Result<(RawStmt<'a>, usize), SyntaxFault> {
+fn try_next<'a>(p: &Parser<'_, 'a>, at: usize) -> Result<(RawStmt<'a>, usize), SyntaxFault>
+    ensures { Gives p.now.tokens view_stmt result (try_next_read (rest_from p.now.tokens at)) }
+{
     let (word, last) = p.tokens.take(at, &[Sign::TryNext])?;
     let (_semicolon, end) = p.tokens.take(last, &[Sign::Semicolon])?;
     Ok((RawStmt::try_next(word.at), end))
@@ -95,7 +121,10 @@ fn connect<'a>(
     p: &Parser<'_, 'a>,
     at: usize,
     left: u32,
-) -> Result<(RawStmt<'a>, usize), SyntaxFault> {
+) -> Result<(RawStmt<'a>, usize), SyntaxFault>
+    requires { left ≤ 64 }
+    ensures { Gives p.now.tokens view_stmt result (connect_read (inside_read left) (rest_from p.now.tokens at)) }
+{
     let (word, first) = p.tokens.take(at, &[Sign::Connect])?;
     let (place, next) = place(p, first, left)?;
     let (_with, after) = p.tokens.take(next, &[Sign::With])?;
@@ -108,7 +137,10 @@ fn place<'a>(
     p: &Parser<'_, 'a>,
     at: usize,
     left: u32,
-) -> Result<(RawPlace<'a>, usize), SyntaxFault> {
+) -> Result<(RawPlace<'a>, usize), SyntaxFault>
+    requires { left ≤ 64 }
+    ensures { Gives p.now.tokens view_place result (place_read (inside_read left) (rest_from p.now.tokens at)) }
+{
     let (name, next) = name(p, at)?;
     let ((index, parts), end) = parts(p, next, left)?;
     let place = RawPlace::new(p.alloc, name, index, parts)?;
@@ -120,7 +152,10 @@ fn value_if_any<'a>(
     p: &Parser<'_, 'a>,
     at: usize,
     left: u32,
-) -> Result<(Option<RawExpr<'a>>, usize), SyntaxFault> {
+) -> Result<(Option<RawExpr<'a>>, usize), SyntaxFault>
+    requires { left ≤ 64 }
+    ensures { Gives p.now.tokens (option_map view_expr) result (value_read (inside_read left) (rest_from p.now.tokens at)) }
+{
     if !p.tokens.sees(at, &EXPR_SIGNS) {
         return Ok((None, at));
     }
