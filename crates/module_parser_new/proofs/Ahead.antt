@@ -14,7 +14,8 @@ use Rattle.rapid_forms.proofs.Opens.{Opens, fewer_opens, one_opens, seq_opens, b
 use Rattle.rapid_forms.proofs.Same.{Same, same_refl, same_sym, same_trans, either_same, either_swapped, either_bracketed, same_ll, left, right, shared}
 use Rattle.expr_parser.specs.Grammar.{mark, name}
 use Rattle.expr_parser.proofs.Ahead.{name_ll, inside_ll, expr_of_ll, inside_up, expr_of_up, name_opens}
-use Rattle.stmt_parser.proofs.Ahead.{stmt_signs, list_ll, list_up}
+use Rattle.stmt_parser.specs.Reads.{stmt_signs}
+use Rattle.stmt_parser.proofs.Ahead.{list_ll, list_up}
 use Rattle.module_parser_new.specs.Grammar.{Body, datum_item, task_item, proc_tree, func_tree, trap_tree, rest, datum, param, params, body, local, routine, item, attribute, attributes, «module»}
 
 -- the signs with which forms begin

@@ -3,7 +3,7 @@
 -- with IF, stand here with the common part taken out too, as they are read.
 use Rattle.std.proofs.Common.{ℕ, zero, suc, true, false, List, [], ◌∷◌, ◌++◌, Option, None, Some, refl, sym, ◌∙◌, subst, ◌⊎◌, inl, inr}
 use Rattle.rapid_lexer.specs.Tokens.{Lexeme}
-use Rattle.rapid_model.specs.Plain.{PlainName, PlainExpr, PlainArg, PlainStmt}
+use Rattle.rapid_model.specs.Plain.{PlainExpr, PlainStmt}
 use Rattle.rapid_forms.specs.declared.sign.Sign.{Sign}
 use Rattle.rapid_forms.specs.declared.sign.Sign.TheVariants as signs
 use Rattle.rapid_forms.specs.Forms.{Form, seq, either, optional, many, made, WholeEach}
@@ -15,34 +15,17 @@ use Rattle.expr_parser.specs.Grammar.{Inside, inside, mark, name, parts_of, plac
 use Rattle.expr_parser.specs.Reads.{expr_signs, arg_signs}
 use Rattle.expr_parser.proofs.Ahead.{InsideLL, inside_ll, name_ll, parts_ll, place_ll, expr_of_ll, exprs_ll, InsideUp, inside_up, parts_up, place_up, expr_of_up, exprs_up, name_opens}
 use Rattle.stmt_parser.specs.Grammar.{assign_tree, call_tree, goto_tree, return_tree, exit_tree, raise_tree, retry_tree, try_next_tree, connect_tree, label_tree, arm_tree, if_tree, if_one_tree, simple, arm, branches, loop_for, loop_while, case, choice, stmt_of, list_of, stmts, list, stmt, items}
+use Rattle.stmt_parser.specs.Reads.{worded_signs, stmt_signs, assigned_signs, Assigned, Called, assigned_tree, named_simple_tree, named_tree, Branched, branched_tree, tested_tree}
 
--- the signs with which statements begin
-
-abbrev pub worded_signs : List Sign
-worded_signs =
-    signs.Goto ∷ signs.Return ∷ signs.Exit ∷ signs.Raise ∷ signs.Retry ∷ signs.TryNext ∷ signs.Connect ∷ []
-
+-- the signs with which simple statements begin
 abbrev pub simple_signs : List Sign
 simple_signs = signs.Name ∷ worded_signs
 
-abbrev pub stmt_signs : List Sign
-stmt_signs = signs.Name ∷ signs.If ∷ signs.For ∷ signs.While ∷ signs.Test ∷ worded_signs
-
--- the signs that go on behind a name
-
-abbrev pub assigned_signs : List Sign
-assigned_signs = signs.Assign ∷ signs.OpenBrace ∷ signs.Dot ∷ []
-
+-- the signs that go on behind a name to arguments
 abbrev pub called_signs : List Sign
 called_signs = signs.Semicolon ∷ arg_signs
 
 -- the lines that begin alike, as they are read
-
-abbrev pub Assigned : Type 0
-Assigned = (Option PlainExpr × List PlainName) × (Lexeme × (PlainExpr × Lexeme))
-
-abbrev pub Called : Type 0
-Called = List PlainArg × Lexeme
 
 -- behind a name: an index and components, or none, and what is assigned
 unfoldable pub assigned : Inside → Form Assigned
@@ -54,19 +37,8 @@ called i = seq (made none_or (optional i.args)) (mark signs.Semicolon)
 unfoldable pub behind_name : Inside → Form (Assigned ⊎ Called)
 behind_name i = either (made left (assigned i)) (made right (called i))
 
-abbrev pub assigned_tree : ℕ → PlainName × Assigned → PlainStmt
-assigned_tree at x = assign_tree at (place_tree at (x.0, x.1.0), x.1.1)
-
-abbrev pub named_simple_tree : ℕ → PlainName × (Assigned ⊎ Called) → PlainStmt
-named_simple_tree at (n, inl x) = assigned_tree at (n, x)
-named_simple_tree at (n, inr x) = call_tree at (n, x)
-
 unfoldable pub named_simple : Inside → Form PlainStmt
 named_simple i = made named_simple_tree (seq name (behind_name i))
-
-abbrev pub named_tree : ℕ → PlainName × (Lexeme ⊎ (Assigned ⊎ Called)) → PlainStmt
-named_tree at (n, inl x) = label_tree at (n, x)
-named_tree at (n, inr x) = named_simple_tree at (n, x)
 
 unfoldable pub named : Inside → Form PlainStmt
 named i = made named_tree (seq name (either (made left (mark signs.Colon)) (made right (behind_name i))))
@@ -85,22 +57,12 @@ worded i =
 unfoldable pub simple_joined : Inside → Form PlainStmt
 simple_joined i = either (named_simple i) (worded i)
 
-abbrev pub Branched : Type 0
-Branched = (Lexeme × List PlainStmt) × (List (PlainExpr × List PlainStmt) × (Option (List PlainStmt) × Lexeme))
-
 -- behind the test of an IF with lists
 unfoldable pub branched : Inside → Form (List PlainStmt) → Form Branched
 branched i list =
     seq (seq (mark signs.Then) list)
     (seq (many (made behind (seq (mark signs.ElseIf) (arm i list))))
     (seq (optional (made behind (seq (mark signs.Else) list))) (mark signs.EndIf)))
-
-abbrev pub branched_tree : ℕ → Lexeme × (PlainExpr × Branched) → PlainStmt
-branched_tree at x = if_tree at (x.0, (arm_tree at (x.1.0, x.1.1.0), x.1.1.1))
-
-abbrev pub tested_tree : ℕ → Lexeme × (PlainExpr × (Branched ⊎ PlainStmt)) → PlainStmt
-tested_tree at (w, (e, inl x)) = branched_tree at (w, (e, x))
-tested_tree at (w, (e, inr x)) = if_one_tree at (w, (e, x))
 
 -- IF, a test, and lists or one statement
 unfoldable pub tested : Inside → Form (List PlainStmt) → Form PlainStmt
