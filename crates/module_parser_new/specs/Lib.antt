@@ -1,2 +1,5 @@
 pub mod Words
 pub mod Grammar
+pub mod Bodies
+pub mod Reads
+pub mod Modules

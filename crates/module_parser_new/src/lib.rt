@@ -1,9 +1,16 @@
 //! Modules: which texts spell one, and the tree that they spell.
 #![tactic(auto)]
 
-ghost use Rattle.module_parser_new.specs.Grammar.{item};
+mod body;
+mod data;
+mod items;
+mod module;
+mod names;
+mod params;
+mod parse;
+mod words;
 
-/// Nothing yet.
-pub fn nothing_yet() -> u8 {
-    0
-}
+pub use parse::parse_module;
+
+#[cfg(test)]
+mod tests;

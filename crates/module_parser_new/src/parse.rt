@@ -1,0 +1,35 @@
+//! The public call.
+
+ghost use Rattle.std.specs.Prelude.{◌≡◌, ◌⊎◌, ℕ, Ok, Err, Result};
+ghost use Rattle.rapid_model.specs.Plain.{PlainModule};
+ghost use Rattle.rapid_model.specs.Views.{view_module};
+ghost use Rattle.module_parser_new.specs.Modules.{ModuleText};
+
+use crate::module::module;
+use rapid_forms::{Parser, SyntaxFault, Tokens};
+use rapid_lexer::{TokensFault, read_tokens};
+use rapid_model::RawModule;
+use std::alloc::Global;
+
+/// The tree that the whole text spells (RAPID Kernel, module declarations). A lexical fault, wherever it stands, comes
+/// before a fault of the tokens.
+pub fn parse_module(alloc: Global, source: &[u8]) -> Result<RawModule<'_>, SyntaxFault> {
+    match read_tokens(alloc, source) {
+        Ok(tokens) => {
+            let p = Parser {
+                alloc,
+                tokens: Tokens {
+                    list: tokens.as_slice(),
+                    end: source.len(),
+                },
+            };
+            let (tree, next) = module(&p, 0)?;
+            if next < tokens.len() {
+                return Err(p.tokens.fails(next));
+            }
+            Ok(tree)
+        }
+        Err(TokensFault::Lex(fault)) => Err(SyntaxFault::Lex(fault)),
+        Err(TokensFault::Memory) => Err(SyntaxFault::Memory),
+    }
+}
