@@ -1,10 +1,9 @@
 -- One token of looking ahead is enough for modules, and a text spells one; what is within some levels is within more; and
 -- each first sign of an item and of a parameter does begin one. The items that may begin with LOCAL stand here with it
 -- taken out too, as they are read.
-use Rattle.std.proofs.Common.{ℕ, suc, true, false, List, [], ◌∷◌, ◌++◌, Option, refl, subst, ◌⊎◌, inl, inr}
+use Rattle.std.proofs.Common.{ℕ, suc, true, false, List, [], ◌∷◌, ◌++◌, refl, subst, ◌⊎◌, inr}
 use Rattle.std.proofs.lemmas.List.{append-nil}
-use Rattle.rapid_lexer.specs.Tokens.{Lexeme}
-use Rattle.rapid_model.specs.Plain.{PlainName, PlainDatum, PlainParam, PlainItem}
+use Rattle.rapid_model.specs.Plain.{PlainItem}
 use Rattle.rapid_forms.specs.declared.sign.Sign.{Sign}
 use Rattle.rapid_forms.specs.declared.sign.Sign.TheVariants as signs
 use Rattle.rapid_forms.specs.Forms.{Form, seq, either, made}
@@ -16,41 +15,18 @@ use Rattle.expr_parser.specs.Grammar.{mark, name}
 use Rattle.expr_parser.proofs.Ahead.{name_ll, inside_ll, expr_of_ll, inside_up, expr_of_up, name_opens}
 use Rattle.stmt_parser.specs.Reads.{stmt_signs}
 use Rattle.stmt_parser.proofs.Ahead.{list_ll, list_up}
-use Rattle.module_parser_new.specs.Grammar.{Body, datum_item, task_item, proc_tree, func_tree, trap_tree, rest, datum, param, params, body, local, routine, item, attribute, attributes, «module»}
+use Rattle.module_parser_new.specs.Grammar.{datum_item, task_item, proc_tree, func_tree, trap_tree, rest, datum, param, params, body, local, routine, item, attribute, attributes, «module»}
+use Rattle.module_parser_new.specs.Reads.{datum_signs, item_signs, attribute_signs, param_signs, Proc, Func, Trap, Item, local_tree}
 
--- the signs with which forms begin
-
-abbrev pub data_signs : List Sign
-data_signs = signs.Const ∷ signs.Var ∷ signs.Pers ∷ []
-
-abbrev pub local_signs : List Sign
-local_signs = signs.Const ∷ signs.Var ∷ []
-
-abbrev pub param_signs : List Sign
-param_signs = signs.Inout ∷ signs.Var ∷ signs.Pers ∷ signs.Name ∷ []
+-- the signs with which bodies and routines begin
 
 abbrev pub body_signs : List Sign
-body_signs = signs.Error ∷ local_signs ++ stmt_signs
+body_signs = signs.Const ∷ signs.Var ∷ signs.Error ∷ stmt_signs
 
 abbrev pub routine_signs : List Sign
 routine_signs = signs.Proc ∷ signs.Func ∷ signs.Trap ∷ []
 
-abbrev pub item_signs : List Sign
-item_signs = signs.Task ∷ signs.Local ∷ data_signs ++ routine_signs
-
-abbrev pub attribute_signs : List Sign
-attribute_signs = signs.SysModule ∷ signs.NoView ∷ signs.NoStepIn ∷ signs.ViewOnly ∷ signs.ReadOnly ∷ []
-
 -- the lines that begin alike, as they are read
-
-abbrev pub Proc : Type 0
-Proc = Lexeme × (PlainName × (List PlainParam × (Body × Lexeme)))
-
-abbrev pub Func : Type 0
-Func = Lexeme × (PlainName × (PlainName × (List PlainParam × (Body × Lexeme))))
-
-abbrev pub Trap : Type 0
-Trap = Lexeme × (PlainName × (Body × Lexeme))
 
 unfoldable pub proc : ℕ → Form Proc
 proc n = seq (mark signs.Proc) (seq name (seq params (seq (body n) (mark signs.EndProc))))
@@ -61,44 +37,37 @@ func n = seq (mark signs.Func) (seq name (seq name (seq params (seq (body n) (ma
 unfoldable pub trap : ℕ → Form Trap
 trap n = seq (mark signs.Trap) (seq name (seq (body n) (mark signs.EndTrap)))
 
--- a routine behind LOCAL, or behind nothing
-unfoldable pub behind_local : ℕ → Form (Proc ⊎ (Func ⊎ Trap))
-behind_local n = either (made left (proc n)) (made right (either (made left (func n)) (made right (trap n))))
-
-abbrev pub routine_tree : ℕ → Option Lexeme × (Proc ⊎ (Func ⊎ Trap)) → PlainItem
-routine_tree at (l, inl x) = proc_tree at (l, x)
-routine_tree at (l, inr (inl x)) = func_tree at (l, x)
-routine_tree at (l, inr (inr x)) = trap_tree at (l, x)
+-- a routine with no LOCAL before it
+unfoldable pub bare_routine : ℕ → Form (Proc ⊎ (Func ⊎ Trap))
+bare_routine n = either (made left (proc n)) (made right (either (made left (func n)) (made right (trap n))))
 
 unfoldable pub routine_joined : ℕ → Form PlainItem
-routine_joined n = made routine_tree (seq local (behind_local n))
+routine_joined n = made (λ at x. local_tree at (x.0, inr x.1)) (seq local (bare_routine n))
 
-abbrev pub local_tree : ℕ → Option Lexeme × (PlainDatum ⊎ (Proc ⊎ (Func ⊎ Trap))) → PlainItem
-local_tree at (l, inl x) = datum_item at (l, x)
-local_tree at (l, inr x) = routine_tree at (l, x)
+-- what stands behind LOCAL, if it is there
+unfoldable pub behind_local : ℕ → Form Item
+behind_local n = either (made left (datum datum_signs n)) (made right (bare_routine n))
 
--- TASK and a datum; or a datum or a routine behind LOCAL, or behind nothing
 unfoldable pub item_joined : ℕ → Form PlainItem
 item_joined n =
-    either (made task_item (seq (mark signs.Task) (datum (signs.Pers ∷ []) n)))
-    (made local_tree (seq local (either (made left (datum data_signs n)) (made right (behind_local n)))))
+    either (made task_item (seq (mark signs.Task) (datum (signs.Pers ∷ []) n))) (made local_tree (seq local (behind_local n)))
 
 -- they are the lines of the grammar
 
 pub routine_same : (n : ℕ) → Same (routine n) (routine_joined n)
-unfolding routine routine_joined behind_local proc func trap
+unfolding routine routine_joined bare_routine proc func trap
 routine_same n =
     same_trans (either_same (same_refl (made proc_tree (seq local (proc n)))) (shared func_tree trap_tree local (func n) (trap n)))
-    (shared proc_tree (λ at x. routine_tree at (x.0, inr x.1)) local (proc n) (either (made left (func n)) (made right (trap n))))
+    (shared proc_tree (λ at x. local_tree at (x.0, inr (inr x.1))) local (proc n) (either (made left (func n)) (made right (trap n))))
 
 pub item_same : (n : ℕ) → Same (item n) (item_joined n)
-unfolding item item_joined routine_joined
+unfolding item item_joined routine_joined behind_local
 item_same n =
     same_trans (either_same (same_refl _) (either_same (same_refl _) (routine_same n)))
     (same_trans (same_sym (either_bracketed _ _ _))
     (same_trans (either_same (either_swapped _ _) (same_refl _))
     (same_trans (either_bracketed _ _ _)
-    (either_same (same_refl _) (shared datum_item routine_tree local (datum data_signs n) (behind_local n))))))
+    (either_same (same_refl _) (shared datum_item (λ at x. local_tree at (x.0, inr x.1)) local (datum datum_signs n) (bare_routine n))))))
 
 -- looking ahead
 
@@ -152,23 +121,24 @@ pub trap_ll : (n : ℕ) → LL false (signs.Trap ∷ []) [] (trap n)
 unfolding trap
 trap_ll n = larger_ll (seq_ll (one_ll _) (seq_ll name_ll (seq_ll (body_ll n) (one_ll _) refl) refl) refl) refl refl
 
-pub behind_local_ll : (n : ℕ) → LL false routine_signs [] (behind_local n)
-unfolding behind_local
-behind_local_ll n =
+pub bare_routine_ll : (n : ℕ) → LL false routine_signs [] (bare_routine n)
+unfolding bare_routine
+bare_routine_ll n =
     larger_ll (either_ll (made_ll _ (proc_ll n)) (made_ll _ (either_ll (made_ll _ (func_ll n)) (made_ll _ (trap_ll n)) refl refl)) refl refl) refl refl
 
 pub routine_ll : (n : ℕ) → LL false (signs.Local ∷ routine_signs) [] (routine n)
 unfolding routine_joined
-routine_ll n = same_ll (same_sym (routine_same n)) (larger_ll (made_ll _ (seq_ll local_ll (behind_local_ll n) refl)) refl refl)
+routine_ll n = same_ll (same_sym (routine_same n)) (larger_ll (made_ll _ (seq_ll local_ll (bare_routine_ll n) refl)) refl refl)
+
+pub behind_local_ll : (n : ℕ) → LL false (datum_signs ++ routine_signs) [] (behind_local n)
+unfolding behind_local
+behind_local_ll n = either_ll (made_ll _ (datum_ll _ n)) (made_ll _ (bare_routine_ll n)) refl refl
 
 pub item_ll : (n : ℕ) → LL false item_signs [] (item n)
 unfolding item_joined
 item_ll n =
     same_ll (same_sym (item_same n))
-    (larger_ll
-    (either_ll (made_ll _ (seq_ll (one_ll _) (datum_ll _ n) refl))
-    (made_ll _ (seq_ll local_ll (either_ll (made_ll _ (datum_ll _ n)) (made_ll _ (behind_local_ll n)) refl refl) refl)) refl refl)
-    refl refl)
+    (larger_ll (either_ll (made_ll _ (seq_ll (one_ll _) (datum_ll _ n) refl)) (made_ll _ (seq_ll local_ll (behind_local_ll n) refl)) refl refl) refl refl)
 
 pub attribute_ll : LL false attribute_signs [] attribute
 unfolding attribute
@@ -244,7 +214,7 @@ datum_opens words = made_opens _ (seq_opens _ (one_opens words))
 
 pub param_opens : Opens param_signs (λ n. param)
 unfolding param
-param_opens = made_opens _ (both_open (optional_opens (one_opens _)) (optional_empties _) (seq_opens _ name_opens))
+param_opens = made_opens _ (fewer_opens (both_open (optional_opens (one_opens _)) (optional_empties _) (seq_opens _ name_opens)) refl)
 
 local_opens : {A : Type 0} {first : List Sign} {F : ℕ → Form A} → Opens first F → Opens (signs.Local ∷ first) (λ n. seq local (F n))
 unfolding local
