@@ -1,16 +1,16 @@
 -- One token of looking ahead is enough for expressions, and a text spells one tree; what is within some levels is within
 -- more; and each first sign of a form that opens a level does begin it. Lines that begin alike stand here with the common
 -- part taken out too, as they are read.
-use Rattle.std.proofs.Common.{ℕ, zero, suc, ◌≤◌, true, false, List, [], ◌∷◌, Option, refl}
-use Rattle.rapid_model.specs.Plain.{PlainName, PlainExpr, PlainArg, Place}
+use Rattle.std.proofs.Common.{ℕ, zero, suc, ◌≤◌, true, false, List, [], ◌∷◌, ◌++◌, refl}
+use Rattle.rapid_model.specs.Plain.{PlainExpr, PlainArg, Place}
 use Rattle.rapid_forms.specs.declared.sign.Sign.{Sign}
 use Rattle.rapid_forms.specs.declared.sign.Sign.TheVariants as signs
 use Rattle.rapid_forms.specs.Forms.{Form, one, seq, either, optional, many, made}
 use Rattle.rapid_forms.proofs.Laws.{LL, one_ll, seq_ll, either_ll, optional_ll, many_ll, made_ll, nothing_ll, larger_ll}
 use Rattle.rapid_forms.proofs.Up.{Up, up_refl, seq_up, either_up, optional_up, many_up, made_up, nothing_up, up_levels}
-use Rattle.rapid_forms.proofs.Opens.{Opens, fewer_opens, one_opens, seq_opens, both_open, either_opens, optional_opens, made_opens, optional_empties}
+use Rattle.rapid_forms.proofs.Opens.{Opens, fewer_opens, one_opens, seq_opens, both_open, either_opens, optional_opens, made_opens, deeper_opens, optional_empties}
 use Rattle.rapid_forms.proofs.Same.{Same, same_refl, same_sym, same_trans, seq_same, either_same, many_same, made_same, either_swapped, made_made, same_ll, shared, alike, made_itself, commas}
-use Rattle.expr_parser.specs.Grammar.{parts_of, mark, number_tree, quoted_tree, truth_tree, behind, first_and_more, invoke_tree, place_tree, Inside, name, part, place, primary, chain, term, sum, relation, land, expr_of, group_of, exprs, aggregate_of, index_of, needed, option, args_list, call_of, inside, expr}
+use Rattle.expr_parser.specs.Grammar.{mark, number_tree, quoted_tree, truth_tree, behind, first_and_more, invoke_tree, place_tree, Inside, name, part, parts_of, place, primary, chain, term, sum, relation, land, expr_of, group_of, exprs, aggregate_of, index_of, needed, option, args_list, call_of, inside, expr, args}
 use Rattle.expr_parser.specs.Reads.{left, right, named_tree, expr_signs, arg_signs}
 
 -- the signs with which forms begin
@@ -101,7 +101,7 @@ unfolding parts_of
 parts_ll l = larger_ll (seq_ll (optional_ll l.index) (many_ll part_ll refl) refl) refl refl
 
 pub place_ll : {i : Inside} → InsideLL i → LL false (signs.Name ∷ []) place_more (place i)
-unfolding place parts_of
+unfolding place
 place_ll l = larger_ll (made_ll _ (seq_ll name_ll (parts_ll l) refl)) refl refl
 
 pub named_ll : {i : Inside} → InsideLL i → LL false (signs.Name ∷ []) primary_more (named i)
@@ -110,7 +110,7 @@ named_ll l =
     larger_ll (made_ll _ (seq_ll name_ll (either_ll (made_ll _ l.call) (made_ll _ (parts_ll l)) refl refl) refl)) refl refl
 
 named_same : (i : Inside) → Same (either (made invoke_tree (seq name i.call)) (made Place (place i))) (named i)
-unfolding place parts_of named
+unfolding place named
 named_same i =
     same_trans (either_same (same_refl _) (made_made place_tree Place (seq name (parts_of i))))
     (shared invoke_tree (λ at x. Place at (place_tree at x)) name i.call (parts_of i))
@@ -232,6 +232,10 @@ pub expr_ll : (n : ℕ) → LL false expr_signs expr_more (expr n)
 unfolding expr
 expr_ll n = expr_of_ll (inside_ll n)
 
+pub args_ll : (n : ℕ) → LL true arg_signs (args_more ++ arg_signs) (args n)
+unfolding args
+args_ll n = made_ll _ (optional_ll (inside_ll n).args)
+
 -- from one level to those above
 
 -- the forms that open a level
@@ -247,7 +251,7 @@ unfolding parts_of
 parts_up p = seq_up (optional_up p.index) (up_refl _)
 
 pub place_up : {i j : Inside} → InsideUp i j → Up (place i) (place j)
-unfolding place parts_of
+unfolding place
 place_up p = made_up _ (seq_up (up_refl _) (parts_up p))
 
 pub primary_up : {i j : Inside} → InsideUp i j → Up (primary i) (primary j)
@@ -360,11 +364,11 @@ pub expr_up : (n : ℕ) → Up (expr n) (expr (suc n))
 unfolding expr
 expr_up n = expr_of_up (inside_up n)
 
--- first signs that do begin a form
+pub args_up : (n : ℕ) → Up (args n) (args (suc n))
+unfolding args
+args_up n = made_up _ (optional_up (inside_up n).args)
 
--- a form that stands within one level less
-deeper_opens : {A : Type 0} {first : List Sign} (F : ℕ → Form A) → Opens first (λ n. F (suc n)) → Opens first F
-deeper_opens F o = record { opens = λ t h. let (m, b) = o.opens t h in (suc m, b) }
+-- first signs that do begin a form
 
 pub group_opens : Opens (signs.OpenParenthesis ∷ []) (λ n. (inside n).group)
 unfolding inside group_of

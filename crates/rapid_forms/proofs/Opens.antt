@@ -62,6 +62,10 @@ pub within_opens : {A : Type 0} {first : List Sign} {F : ℕ → Form A} → Ope
 unfolding within
 within_opens o = record { opens = λ t h. let (m, b) = o.opens t h in (suc m, b) }
 
+-- a form that is, within a level more, what the signs open
+pub deeper_opens : {A : Type 0} {first : List Sign} (F : ℕ → Form A) → Opens first (λ n. F (suc n)) → Opens first F
+deeper_opens F o = record { opens = λ t h. let (m, b) = o.opens t h in (suc m, b) }
+
 pub seq_empties : {A B : Type 0} {F : ℕ → Form A} {G : ℕ → Form B} → Empties F → Empties G → Empties (λ n. seq (F n) (G n))
 unfolding seq
 seq_empties e e' = record { empty = λ m. let (x, w) = e.empty m in let (y, w') = e'.empty m in ((x, y), ([], [], refl, w, w')) }

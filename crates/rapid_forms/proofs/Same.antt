@@ -206,6 +206,18 @@ bracketed a b c = record {
   };
 }
 
+-- a first and a second part, taken out of two lines
+pub both_shared : {A B C D E : Type 0} (f : ℕ → A × (B × C) → E) (g : ℕ → A × (B × D) → E) (a : Form A) (b : Form B) (c : Form C) (d : Form D)
+    → Same (either (made f (seq a (seq b c))) (made g (seq a (seq b d))))
+    (made (λ at x. joined {A = A × B} (λ at y. f at (y.0.0, (y.0.1, y.1))) (λ at y. g at (y.0.0, (y.0.1, y.1))) at ((x.0, x.1.0), x.1.1)) (seq a (seq b (either (made left c) (made right d)))))
+both_shared {A} {B} {E = E} f g a b c d =
+    same_trans (either_same (front f c) (front g d))
+    (same_trans (shared {A = A × B} (λ at y. f at (y.0.0, (y.0.1, y.1))) (λ at y. g at (y.0.0, (y.0.1, y.1))) (seq a b) c d)
+    (same_trans (made_same _ (bracketed a b _)) (made_made _ _ _)))
+  where
+    front : {F : Type 0} (h : ℕ → A × (B × F) → E) (e : Form F) → Same (made h (seq a (seq b e))) (made {A = (A × B) × F} (λ at y. h at (y.0.0, (y.0.1, y.1))) (seq (seq a b) e))
+    front h e = same_sym (same_trans (made_same _ (bracketed a b e)) (made_made _ _ _))
+
 -- a whole one that takes a token stands at the same place as what it is the front of
 place_front : {A : Type 0} {first more : List Sign} {a : Form A} → LL false first more a → (x : A) (ts u v : List Lexeme)
     → ts ≡ u ++ v → a.Whole x u → place ts ≡ place u
