@@ -65,16 +65,16 @@ some_taken = refl
 part_taken : call_of {E = ℕ} (Ok 2) 3 ≡ record { handed = 3; taken = 2 } ∷ []
 part_taken = refl
 
-none_taken : call_of (Err 0) 3 ≡ []
+none_taken : call_of {E = ℕ} (Err 0) 3 ≡ []
 none_taken = refl
 
-told_some_more : Appended (Some (7 ∷ [])) (8 ∷ 9 ∷ []) (Some (7 ∷ 8 ∷ 9 ∷ []))
+told_some_more : Appended {A = ℕ} (Some (7 ∷ [])) (8 ∷ 9 ∷ []) (Some (7 ∷ 8 ∷ 9 ∷ []))
 told_some_more = refl
 
-tells_no_longer : Appended (Some (7 ∷ [])) [] None → ⊥
+tells_no_longer : Appended {A = ℕ} (Some (7 ∷ [])) [] None → ⊥
 tells_no_longer e = cc
 
-begins_to_tell : Appended None (8 ∷ []) (Some (9 ∷ []))
+begins_to_tell : Appended {A = ℕ} None (8 ∷ []) (Some (9 ∷ []))
 begins_to_tell = tt
 
 names_that_differ : names_differ ((codes "a", []) ∷ (codes "ab", []) ∷ []) ≡ true
