@@ -14,8 +14,8 @@ use Rattle.controller.specs.Refusals.{status_of, refusal_text, refusal_line}
 use Rattle.controller.specs.Files.{text_of, ReadFaulted}
 use Rattle.controller.specs.Loaded.{ScriptFaulted, ModuleFaulted, IsScriptIn, IsModuleIn}
 use Rattle.controller.specs.Accepted.{Verdict, refuses, runs, Accepted, script_limit, module_limit, file_text, ModulesOf, verdict_of, FileDecides, WordsDecide}
-use Rattle.controller.specs.Printed.{Gained}
-use Rattle.controller.specs.Answered.{Sunk, TakesLine, IsRefused, IsCutShort, Answers, AnswersRun, IsOutOfMemory, RunsOrMemory, AnswersWords}
+use Rattle.controller.specs.Printed.{Sunk, Gained}
+use Rattle.controller.specs.Answered.{TakesLine, IsRefused, IsCutShort, Answers, AnswersRun, IsOutOfMemory, RunsOrMemory, AnswersWords}
 
 -- what holds of all files holds of those that are told
 of_all : (told : Option Told) (P : Told → Type 0) → ((files : Told) → P files) → IfSome told P
@@ -28,7 +28,8 @@ pub record IsTold (name : List ℕ) (refused : Refused) (report : Report) (out e
   pub status : report.status ≡ status_of refused
   pub history : report.history.items ≡ []
   pub fates : report.fates.items ≡ []
-  pub printed : Gained [] out.old out.new
+  pub printed : Gained [] out.old.bytes out.new.bytes
+  pub calls : Gained [] out.old.calls out.new.calls
   pub told : TakesLine (refusal_text name refused) err
 
 pub with_names : (names : List (List ℕ)) (name : List ℕ) (refused : Refused) (report : Report) (out err : Sunk) → IsTold name refused report out err
@@ -39,6 +40,7 @@ with_names names name refused report out err t line = record {
   history = t.history;
   fates = t.fates;
   printed = t.printed;
+  calls = t.calls;
   told = subst (λ (text : List ℕ). TakesLine text err) (sym line) t.told;
 }
 
@@ -157,7 +159,7 @@ module_refused words (Some files) later name file script refused report out err 
 
 -- a run that was cut short, with other names
 cut_with_names : (names : List (List ℕ)) (cell : CellData) (trees : List Tree) (report : Report) (out err : Sunk) → IsCutShort [] cell trees report out err → IsCutShort names cell trees report out err
-cut_with_names names cell trees report out err c = record { run = c.run; refused_is = c.refused_is; status = c.status; printed = c.printed; told = c.told }
+cut_with_names names cell trees report out err c = record { run = c.run; refused_is = c.refused_is; status = c.status; printed = c.printed; calls = c.calls; told = c.told }
 
 run_answers : (names : List (List ℕ)) (cell : CellData) (trees : List Tree) (report : Report) (out err : Sunk) → AnswersRun cell trees report out err → Answers (runs names cell trees) report out err
 run_answers names cell trees report out err (inl p) = inl p

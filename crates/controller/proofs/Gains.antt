@@ -1,16 +1,23 @@
--- What a sink gained by one piece after another.
-use Rattle.std.proofs.Common.{◌≢◌, ℕ, List, [], ◌∷◌, ◌++◌, refl, ap, sym, ◌∙◌, append_assoc, ◌≤◌, arith}
+-- What a sink gained by some lines after others.
+use Rattle.std.proofs.Common.{◌≡◌, ◌≢◌, ℕ, List, [], ◌∷◌, ◌++◌, refl, ap, sym, ◌∙◌, subst, append_assoc, append-nil, arith}
+use Rattle.std.proofs.lemmas.List.Folds.{concat-append}
+use Rattle.std.specs.List.{concat}
 use Rattle.std.specs.Prelude.{Option, Result, Ok, Err, ⊤}
-use Rattle.outside.specs.Count.{Rose}
 use Rattle.outside.specs.declared.failed.Failed.{Failed}
 use Rattle.outside.proofs.Counting.{Rose-since}
 use Rattle.outside.proofs.Writing.{appended_none, appended_more}
-use Rattle.controller.specs.Printed.{Gained, GainedPart, Writes}
+use Rattle.controller.specs.Printed.{Seen, Sunk, Gained, GainedPart}
+use Rattle.controller.specs.Written.{WritesAll, WritesPart, Writes, WritesPieces}
+use Rattle.controller.proofs.Sending.{sends_then, some_first, some_then}
 
-pub gained_none : (told : Option (List ℕ)) → Gained [] told told
+-- from one time to another
+abbrev pub between : Seen → Seen → Sunk
+between old new = record { old = old; new = new }
+
+pub gained_none : {A : Type 0} (told : Option (List A)) → Gained [] told told
 gained_none told = appended_none told
 
-pub gained_more : (first second : List ℕ) (a b c : Option (List ℕ)) → Gained first a b → Gained second b c → Gained (first ++ second) a c
+pub gained_more : {A : Type 0} (first second : List A) (a b c : Option (List A)) → Gained first a b → Gained second b c → Gained (first ++ second) a c
 gained_more first second a b c f s = appended_more a b c first second f s
 
 some_left : (xs ys : List ℕ) → xs ≢ [] → xs ++ ys ≢ []
@@ -18,7 +25,7 @@ some_left [] ys some e = some refl
 some_left (x ∷ xs) ys some e = cc
 
 -- a beginning of the first of two pieces
-pub part_first : (first second : List ℕ) (a b : Option (List ℕ)) → GainedPart first a b → GainedPart (first ++ second) a b
+part_first : (first second : List ℕ) (a b : Option (List ℕ)) → GainedPart first a b → GainedPart (first ++ second) a b
 part_first first second a b p = record {
   front = p.front;
   proper = record {
@@ -30,7 +37,7 @@ part_first first second a b p = record {
 }
 
 -- the first of two pieces, and a beginning of the second
-pub part_second : (first second : List ℕ) (a b c : Option (List ℕ)) → Gained first a b → GainedPart second b c → GainedPart (first ++ second) a c
+part_second : (first second : List ℕ) (a b c : Option (List ℕ)) → Gained first a b → GainedPart second b c → GainedPart (first ++ second) a c
 part_second first second a b c f p = record {
   front = first ++ p.front;
   proper = record {
@@ -41,13 +48,58 @@ part_second first second a b c f p = record {
   gained = gained_more first p.front a b c f p.gained;
 }
 
--- one piece was written, and then another
-pub writes_then : (first second : List ℕ) (result : Result ⊤ Failed) (a b c : Option (List ℕ)) (f g h : ℕ) → Gained first a b → f ≤ g → Writes second result b c g h
-    → Writes (first ++ second) result a c f h
-writes_then first second (Ok _) a b c f g h one le w = (gained_more first second a b c one w.0, (let m = w.1 in omega (arith, m)))
-writes_then first second (Err _) a b c f g h one le w =
-    (part_second first second a b c one w.0, Rose-since f g h le w.2 w.1, (let m = w.2 in omega (arith, m)))
+-- some lines were written, and then more of them
+pub wrote_more : (first second : List (List ℕ)) (a b c : Seen) → WritesAll first (between a b) → WritesAll second (between b c) → WritesAll (first ++ second) (between a c)
+wrote_more first second a b c f s = record {
+  bytes =
+      subst (λ (bytes : List ℕ). Gained bytes a.bytes c.bytes) (sym (concat-append first second))
+      (gained_more (concat first) (concat second) a.bytes b.bytes c.bytes f.bytes s.bytes);
+  calls = record {
+    calls = f.calls.calls ++ s.calls.calls;
+    holds = sends_then first second f.calls.calls s.calls.calls f.calls.holds s.calls.holds;
+    gained = gained_more f.calls.calls s.calls.calls a.calls b.calls c.calls f.calls.gained s.calls.gained;
+  };
+  faults = let m = f.faults in let n = s.faults in omega (arith, m, n);
+}
 
--- the first of two pieces was not written whole
-pub writes_part : (first second : List ℕ) (e : Failed) (a b : Option (List ℕ)) (f g : ℕ) → GainedPart first a b → Rose f g → f ≤ g → Writes (first ++ second) (Err e) a b f g
-writes_part first second e a b f g part rose le = (part_first first second a b part, rose, le)
+-- some lines were written, and then a part of the others
+pub wrote_part : (first second : List (List ℕ)) (a b c : Seen) → WritesAll first (between a b) → WritesPart second (between b c) → WritesPart (first ++ second) (between a c)
+wrote_part first second a b c f s = record {
+  bytes =
+      subst (λ (bytes : List ℕ). GainedPart bytes a.bytes c.bytes) (sym (concat-append first second))
+      (part_second (concat first) (concat second) a.bytes b.bytes c.bytes f.bytes s.bytes);
+  calls = record {
+    calls = f.calls.calls ++ s.calls.calls;
+    holds = some_then first second f.calls.calls s.calls.calls f.calls.holds s.calls.holds;
+    gained = gained_more f.calls.calls s.calls.calls a.calls b.calls c.calls f.calls.gained s.calls.gained;
+  };
+  rose = Rose-since a.faults b.faults c.faults f.faults s.faults s.rose;
+  faults = let m = f.faults in let n = s.faults in omega (arith, m, n);
+}
+
+-- a part of the first lines was written
+pub wrote_first : (first second : List (List ℕ)) (sink : Sunk) → WritesPart first sink → WritesPart (first ++ second) sink
+wrote_first first second sink p = record {
+  bytes =
+      subst (λ (bytes : List ℕ). GainedPart bytes sink.old.bytes sink.new.bytes) (sym (concat-append first second))
+      (part_first (concat first) (concat second) sink.old.bytes sink.new.bytes p.bytes);
+  calls = record {
+    calls = p.calls.calls;
+    holds = some_first first second p.calls.calls p.calls.holds;
+    gained = p.calls.gained;
+  };
+  rose = p.rose;
+  faults = p.faults;
+}
+
+-- some lines were written, and then others or a part of them
+pub writes_then : (first second : List (List ℕ)) (result : Result ⊤ Failed) (a b c : Seen) → WritesAll first (between a b) → Writes second result (between b c)
+    → Writes (first ++ second) result (between a c)
+writes_then first second (Ok _) a b c f w = wrote_more first second a b c f w
+writes_then first second (Err _) a b c f w = wrote_part first second a b c f w
+
+-- a line in three pieces
+pub in_pieces : (head middle tail text : List ℕ) (result : Result ⊤ Failed) (sink : Sunk) → text ≡ head ++ (middle ++ tail) → Writes (head ∷ middle ∷ tail ∷ []) result sink
+    → WritesPieces text result sink
+in_pieces head middle tail text result sink is w =
+    (head ∷ middle ∷ tail ∷ [], is ∙ ap (λ (xs : List ℕ). head ++ (middle ++ xs)) (sym (append-nil tail)), w)

@@ -1,5 +1,7 @@
+mod Examples
 pub mod Options
 pub mod Loads
+pub mod Sending
 pub mod Gains
 pub mod RefusalLines
 pub mod Fates

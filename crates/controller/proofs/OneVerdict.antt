@@ -1,15 +1,13 @@
 -- Words and told files come to at most one verdict.
-use Rattle.std.proofs.Common.{◌≡◌, ◌≢◌, ℕ, ◌+◌, List, [], ◌∷◌, Option, Some, None, Result, Ok, Err, refl, ap, sym, ◌∙◌, subst, inl, inr, ◌⊎◌}
+use Rattle.std.proofs.Common.{◌≡◌, ℕ, ◌+◌, List, [], ◌∷◌, Option, Some, None, Result, Ok, Err, refl, ap, sym, ◌∙◌, subst, inl, inr}
 use Rattle.outside.specs.Told.{Told}
 use Rattle.toml.specs.Data.{Members}
-use Rattle.toml.specs.Parse.{parse_document}
 use Rattle.rapid_model.specs.ScriptData.{ScriptData, module_names}
 use Rattle.rapid_model.specs.declared.script.ScriptRule.{ScriptRule}
 use Rattle.rapid_model.specs.declared.script.ScriptRule.TheVariants as rules
 use Rattle.rapid_model.specs.declared.tree.Tree.{Tree}
 use Rattle.cell_script.specs.FirstForm.{script_of_table}
 use Rattle.cell_script.specs.ScriptOf.{IsTable, ScriptOf}
-use Rattle.module_parser.specs.Grammar.{SpellsModule}
 use Rattle.module_parser.proofs.Modules.{one_tree}
 use Rattle.controller.specs.declared.refused.Refused.{Refused}
 use Rattle.controller.specs.Words.{refused_place, script_name}

@@ -1,6 +1,5 @@
 -- The report of a run.
 use Rattle.std.proofs.Common.{◌≡◌, ℕ, List, [], length, None, Some, ap, sym, ◌∙◌, subst, inl, inr}
-use Rattle.outside.specs.Count.{Rose}
 use Rattle.rapid_model.specs.CellData.{CellData}
 use Rattle.rapid_model.specs.declared.event.Event.{Event}
 use Rattle.rapid_model.specs.declared.tree.Tree.{Tree}
@@ -8,13 +7,14 @@ use Rattle.rapid_meaning.specs.Runs.{tree_asks}
 use Rattle.rapid_meaning.specs.Histories.{fates_after}
 use Rattle.rapid_meaning.specs.Turns.{IsByTurns}
 use Rattle.rapid_meaning.proofs.ByTurns.{by_turns_legal, by_turns_whole, trees_ask_within}
-use Rattle.history_text.specs.Lines.{output_of}
+use Rattle.history_text.specs.Lines.{lines_of}
 use Rattle.controller.specs.declared.report.Report.{Report}
 use Rattle.controller.specs.declared.refused.Refused.TheVariants.{Write}
 use Rattle.controller.specs.Refusals.{status_of, refusal_text}
 use Rattle.controller.specs.Runs.{IsRun, run_status}
-use Rattle.controller.specs.Printed.{Gained, GainedPart}
-use Rattle.controller.specs.Answered.{Sunk, TakesLine, AnswersRun}
+use Rattle.controller.specs.Printed.{Sunk, Gained}
+use Rattle.controller.specs.Written.{WritesAll, WritesPart}
+use Rattle.controller.specs.Answered.{TakesLine, AnswersRun}
 
 -- the report has this history of the cell, and the fates that follow from it
 pub record Tells (cell : CellData) (history : List Event) (report : Report) : Type 0 where
@@ -32,34 +32,39 @@ run_is cell trees history report one run tells =
     }
 
 -- what is printed, in the words of the report
-output_is : (cell : CellData) (history : List Event) (report : Report) → Tells cell history report
-    → output_of cell history (fates_after cell history (length cell.tasks)) ≡ output_of cell report.history.items report.fates.items
-output_is cell history report tells =
-    ap (λ (h : List Event). output_of cell h (fates_after cell history (length cell.tasks))) (sym tells.history_is)
-    ∙ ap (output_of cell report.history.items) (sym tells.fates_is)
+lines_are : (cell : CellData) (history : List Event) (report : Report) → Tells cell history report
+    → lines_of cell history (fates_after cell history (length cell.tasks)) ≡ lines_of cell report.history.items report.fates.items
+lines_are cell history report tells =
+    ap (λ (h : List Event). lines_of cell h (fates_after cell history (length cell.tasks))) (sym tells.history_is)
+    ∙ ap (lines_of cell report.history.items) (sym tells.fates_is)
 
 pub run_printed : (cell : CellData) (trees : List Tree) (history : List Event) (report : Report) (out err : Sunk) → length trees ≡ length cell.tasks → IsByTurns (tree_asks trees) cell history
     → Tells cell history report → report.refused ≡ None → report.status ≡ run_status cell history
-    → Gained (output_of cell history (fates_after cell history (length cell.tasks))) out.old out.new → Gained [] err.old err.new → AnswersRun cell trees report out err
-run_printed cell trees history report out err one run tells none status printed told = inl (record {
-  run = run_is cell trees history report one run tells;
-  refused_is = none;
-  status = status ∙ ap (run_status cell) (sym tells.history_is);
-  printed = subst (λ (text : List ℕ). Gained text out.old out.new) (output_is cell history report tells) printed;
-  told = told;
-})
+    → WritesAll (lines_of cell history (fates_after cell history (length cell.tasks))) out → Gained [] err.old.bytes err.new.bytes → AnswersRun cell trees report out err
+run_printed cell trees history report out err one run tells none status printed told =
+    let here = subst (λ (lines : List (List ℕ)). WritesAll lines out) (lines_are cell history report tells) printed in
+    inl (record {
+      run = run_is cell trees history report one run tells;
+      refused_is = none;
+      status = status ∙ ap (run_status cell) (sym tells.history_is);
+      printed = here.bytes;
+      calls = here.calls;
+      told = told;
+    })
 
 pub run_cut_short : (cell : CellData) (trees : List Tree) (history : List Event) (report : Report) (out err : Sunk) → length trees ≡ length cell.tasks → IsByTurns (tree_asks trees) cell history
     → Tells cell history report → report.refused ≡ Some Write → report.status ≡ status_of Write
-    → GainedPart (output_of cell history (fates_after cell history (length cell.tasks))) out.old out.new → Rose out.old_faults out.new_faults → TakesLine (refusal_text [] Write) err
-    → AnswersRun cell trees report out err
-run_cut_short cell trees history report out err one run tells write status printed rose told = inr (
-  record {
-    run = run_is cell trees history report one run tells;
-    refused_is = write;
-    status = status;
-    printed = subst (λ (text : List ℕ). GainedPart text out.old out.new) (output_is cell history report tells) printed;
-    told = told;
-  },
-  rose,
-)
+    → WritesPart (lines_of cell history (fates_after cell history (length cell.tasks))) out → TakesLine (refusal_text [] Write) err → AnswersRun cell trees report out err
+run_cut_short cell trees history report out err one run tells write status printed told =
+    let here = subst (λ (lines : List (List ℕ)). WritesPart lines out) (lines_are cell history report tells) printed in
+    inr (
+      record {
+        run = run_is cell trees history report one run tells;
+        refused_is = write;
+        status = status;
+        printed = here.bytes;
+        calls = here.calls;
+        told = told;
+      },
+      here.rose,
+    )

@@ -3,30 +3,30 @@ use Rattle.std.specs.Prelude.{◌≡◌, ℕ, ◌⊎◌, List, [], map, Option, 
 use Rattle.std.specs.Borrow.{Bor}
 use Rattle.outside.specs.Count.{Rose}
 use Rattle.outside.specs.Told.{Told}
+use Rattle.outside.specs.declared.call.Call.{Call}
 use Rattle.rapid_model.specs.CellData.{CellData}
 use Rattle.rapid_model.specs.declared.tree.Tree.{Tree}
-use Rattle.history_text.specs.Lines.{output_of}
+use Rattle.history_text.specs.Lines.{lines_of, output_of}
 use Rattle.controller.specs.declared.report.Report.{Report}
 use Rattle.controller.specs.declared.refused.Refused.{Refused}
 use Rattle.controller.specs.declared.refused.Refused.TheVariants.{Write, Memory}
 use Rattle.controller.specs.Accepted.{Verdict, refuses, runs, Accepted}
 use Rattle.controller.specs.Refusals.{status_of, refusal_line}
 use Rattle.controller.specs.Runs.{IsRun, run_status}
-use Rattle.controller.specs.Printed.{Gained, GainedPart, GainedUnlessFaults}
+use Rattle.controller.specs.Sends.{SendsLines, SendsSome}
+use Rattle.controller.specs.Printed.{Sunk, Gained, GainedPart, GainedCalls, GainedUnlessFaults}
 
--- the sink's bytes, where it tells them, and its faults, before and after
-pub record Sunk : Type 0 where
-  pub old : Option (List ℕ)
-  pub new : Option (List ℕ)
-  pub old_faults : ℕ
-  pub new_faults : ℕ
-
+-- the sink gained these bytes
 abbrev pub Takes : List ℕ → Sunk → Type 0
-Takes bytes sink = Gained bytes sink.old sink.new
+Takes bytes sink = Gained bytes sink.old.bytes sink.new.bytes
+
+-- by calls of which this holds
+abbrev pub TakesBy : (List Call → Type 0) → Sunk → Type 0
+TakesBy P sink = GainedCalls P sink.old.calls sink.new.calls
 
 -- the line on the second sink
 abbrev pub TakesLine : List ℕ → Sunk → Type 0
-TakesLine line sink = GainedUnlessFaults line sink.old sink.new sink.old_faults sink.new_faults
+TakesLine line sink = GainedUnlessFaults line sink.old.bytes sink.new.bytes sink.old.faults sink.new.faults
 
 -- refused before the first event: no history, nothing on the first sink, and the refusal's line on the second
 pub record IsRefused (names : List (List ℕ)) (refused : Refused) (report : Report) (out err : Sunk) : Type 0 where
@@ -35,14 +35,16 @@ pub record IsRefused (names : List (List ℕ)) (refused : Refused) (report : Rep
   pub history : report.history.items ≡ []
   pub fates : report.fates.items ≡ []
   pub printed : Takes [] out
+  pub calls : Gained [] out.old.calls out.new.calls
   pub told : TakesLine (refusal_line names refused) err
 
--- run and printed whole
+-- run and printed whole: each line by one call of the first sink, and more only where a call took part of it
 pub record IsPrinted (cell : CellData) (trees : List Tree) (report : Report) (out err : Sunk) : Type 0 where
   pub run : IsRun cell trees report
   pub refused_is : report.refused ≡ None
   pub status : report.status ≡ run_status cell report.history.items
   pub printed : Takes (output_of cell report.history.items report.fates.items) out
+  pub calls : TakesBy (SendsLines (lines_of cell report.history.items report.fates.items)) out
   pub told : Takes [] err
 
 -- run, and printed in part, since a write failed
@@ -50,13 +52,14 @@ pub record IsCutShort (names : List (List ℕ)) (cell : CellData) (trees : List 
   pub run : IsRun cell trees report
   pub refused_is : report.refused ≡ Some Write
   pub status : report.status ≡ status_of Write
-  pub printed : GainedPart (output_of cell report.history.items report.fates.items) out.old out.new
+  pub printed : GainedPart (output_of cell report.history.items report.fates.items) out.old.bytes out.new.bytes
+  pub calls : TakesBy (SendsSome (lines_of cell report.history.items report.fates.items)) out
   pub told : TakesLine (refusal_line names Write) err
 
 -- what a run is answered by; a write fails only where the first sink counted a fault
 abbrev pub AnswersRun : CellData → List Tree → Report → Sunk → Sunk → Type 0
 AnswersRun cell trees report out err =
-    IsPrinted cell trees report out err ⊎ (IsCutShort [] cell trees report out err × Rose out.old_faults out.new_faults)
+    IsPrinted cell trees report out err ⊎ (IsCutShort [] cell trees report out err × Rose out.old.faults out.new.faults)
 
 -- what a verdict is answered by
 abbrev pub Answers : Verdict → Report → Sunk → Sunk → Type 0
@@ -77,10 +80,6 @@ abbrev pub AnswersWords : List (List ℕ) → Option Told → Report → Sunk �
 AnswersWords words told report out err =
     IsOutOfMemory report out err
     ⊎ ((verdict : Verdict) × Answers verdict report out err × IfSome told (λ files. Accepted words files verdict))
-
--- a sink before and after: its bytes and its faults
-abbrev pub sunk : Option (List ℕ) → Option (List ℕ) → ℕ → ℕ → Sunk
-sunk old new old_faults new_faults = record { old = old; new = new; old_faults = old_faults; new_faults = new_faults }
 
 -- the words as bytes
 abbrev pub word_bytes : List (Bor (List ℕ)) → List (List ℕ)

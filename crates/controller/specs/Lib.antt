@@ -4,5 +4,7 @@ pub mod Files
 pub mod Accepted
 pub mod Loaded
 pub mod Runs
+pub mod Sends
 pub mod Printed
 pub mod Answered
+pub mod Written

@@ -1,7 +1,8 @@
 ghost use Rattle.std.specs.Prelude.{◌≡◌, ℕ, ◌↔◌, Some};
 ghost use Rattle.outside.specs.Count.{Rose};
 ghost use Rattle.controller.specs.Words.{refused_place};
-ghost use Rattle.controller.specs.Answered.{AnswersWords, sunk, word_bytes};
+ghost use Rattle.controller.specs.Printed.{sunk};
+ghost use Rattle.controller.specs.Answered.{AnswersWords, word_bytes};
 
 use crate::load::{load_module, load_script};
 use crate::refusal_report::refuse;
@@ -23,7 +24,7 @@ pub fn quiet<S: Shelf, O: Sink, E: Sink>(
     err: &mut E,
 ) -> Report
     // The report answers what the words and the files come to.
-    ensures answers { AnswersWords (word_bytes words.now) (S.told shelf.old) result (sunk (O.told out.old) (O.told out.new) (O.faults out.old) (O.faults out.new)) (sunk (E.told err.old) (E.told err.new) (E.faults err.old) (E.faults err.new)) }
+    ensures answers { AnswersWords (word_bytes words.now) (S.told shelf.old) result (sunk O.told O.calls O.faults out.old out.new) (sunk E.told E.calls E.faults err.old err.new) }
     // Words are refused just where they are wrong, whatever the shelf tells.
     ensures words { (place : ℕ) → (result.refused ≡ Some (Refused.Words place)) ↔ (refused_place (word_bytes words.now) ≡ Some place) }
     // A read fails only where the shelf counted a fault, and a write only where the first sink did.

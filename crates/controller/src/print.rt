@@ -1,9 +1,9 @@
-ghost use Rattle.std.specs.Prelude.{◌≡◌, ◌<◌, ◌≤◌, length, slice_get, Some};
-ghost use Rattle.std.specs.List.{flat_map};
+ghost use Rattle.std.specs.Prelude.{◌≡◌, ◌<◌, ◌≤◌, [], ◌∷◌, map, length, slice_get, Some};
 ghost use Rattle.rapid_model.specs.declared.event.Event.{Event};
 ghost use Rattle.rapid_meaning.specs.Histories.{fates_after};
-ghost use Rattle.history_text.specs.Lines.{line_of, fate_line, fate_lines, output_of};
-ghost use Rattle.controller.specs.Printed.{Writes};
+ghost use Rattle.history_text.specs.Lines.{line_of, fate_line, fate_lines, lines_of};
+ghost use Rattle.controller.specs.Printed.{sunk};
+ghost use Rattle.controller.specs.Written.{Writes};
 
 use crate::write::write_all;
 use arrayvec::ArrayString;
@@ -14,7 +14,7 @@ use rapid_model::{Fate, NameText, TaskRow};
 
 /// Prints the lines of the history, and then how each task stands. Takes no memory.
 pub(crate) fn print_run<O: Sink>(out: &mut O, core: &Core) -> Result<(), Failed>
-    ensures { Writes (output_of core.now.cell core.now.history (fates_after core.now.cell core.now.history (length core.now.cell.tasks))) result (O.told out.old) (O.told out.new) (O.faults out.old) (O.faults out.new) }
+    ensures { Writes (lines_of core.now.cell core.now.history (fates_after core.now.cell core.now.history (length core.now.cell.tasks))) result (sunk O.told O.calls O.faults out.old out.new) }
 {
     match print_events(out, core) {
         Ok(()) => print_fates(out, core),
@@ -24,7 +24,7 @@ pub(crate) fn print_run<O: Sink>(out: &mut O, core: &Core) -> Result<(), Failed>
 
 /// Prints the lines of the events in order.
 fn print_events<O: Sink>(out: &mut O, core: &Core) -> Result<(), Failed>
-    ensures { Writes (flat_map (line_of core.now.cell.tasks) core.now.history) result (O.told out.old) (O.told out.new) (O.faults out.old) (O.faults out.new) }
+    ensures { Writes (map (line_of core.now.cell.tasks) core.now.history) result (sunk O.told O.calls O.faults out.old out.new) }
 {
     for k in 0..core.len() {
         match print_event(out, core, k) {
@@ -38,7 +38,7 @@ fn print_events<O: Sink>(out: &mut O, core: &Core) -> Result<(), Failed>
 /// Prints the line of event `k`, if it has one.
 fn print_event<O: Sink>(out: &mut O, core: &Core, k: u32) -> Result<(), Failed>
     requires { k < length core.now.history }
-    ensures { (e : Event) → slice_get core.now.history k ≡ Some e → Writes (line_of core.now.cell.tasks e) result (O.told out.old) (O.told out.new) (O.faults out.old) (O.faults out.new) }
+    ensures { (e : Event) → slice_get core.now.history k ≡ Some e → Writes (line_of core.now.cell.tasks e ∷ []) result (sunk O.told O.calls O.faults out.old out.new) }
 {
     let event = core.event(k);
     let mut line = ArrayString::new();
@@ -58,7 +58,7 @@ pub(crate) fn rows_of(core: &Core) -> &[TaskRow]
 
 /// Prints how each task stands, in script order.
 fn print_fates<O: Sink>(out: &mut O, core: &Core) -> Result<(), Failed>
-    ensures { Writes (fate_lines core.now.cell.tasks (fates_after core.now.cell core.now.history (length core.now.cell.tasks))) result (O.told out.old) (O.told out.new) (O.faults out.old) (O.faults out.new) }
+    ensures { Writes (fate_lines core.now.cell.tasks (fates_after core.now.cell core.now.history (length core.now.cell.tasks))) result (sunk O.told O.calls O.faults out.old out.new) }
 {
     let rows = rows_of(core);
     for (task, row) in rows.iter().enumerate() {
@@ -73,7 +73,7 @@ fn print_fates<O: Sink>(out: &mut O, core: &Core) -> Result<(), Failed>
 
 /// Prints how a task stands.
 fn print_fate<O: Sink>(out: &mut O, name: &NameText, fate: &Fate) -> Result<(), Failed>
-    ensures { Writes (fate_line name.now fate.now) result (O.told out.old) (O.told out.new) (O.faults out.old) (O.faults out.new) }
+    ensures { Writes (fate_line name.now fate.now ∷ []) result (sunk O.told O.calls O.faults out.old out.new) }
 {
     let mut line = ArrayString::new();
     write_fate(name, fate, &mut line);

@@ -4,7 +4,8 @@ ghost use Rattle.rapid_model.specs.declared.tree.Tree.{Tree};
 ghost use Rattle.rapid_meaning.specs.Runs.{tree_asks};
 ghost use Rattle.rapid_meaning.specs.Turns.{IsByTurns};
 ghost use Rattle.controller.specs.Runs.{IsOneArm};
-ghost use Rattle.controller.specs.Answered.{sunk, RunsOrMemory, AnswersRun};
+ghost use Rattle.controller.specs.Printed.{sunk};
+ghost use Rattle.controller.specs.Answered.{RunsOrMemory, AnswersRun};
 
 use crate::print::print_run;
 use crate::refusal_report::refuse;
@@ -28,7 +29,7 @@ pub(crate) fn run_tree<O: Sink, E: Sink>(
     err: &mut E,
 ) -> Report
     requires { IsOneArm (cell_of script.now) }
-    ensures { RunsOrMemory (cell_of script.now) (tree ∷ []) result (sunk (O.told out.old) (O.told out.new) (O.faults out.old) (O.faults out.new)) (sunk (E.told err.old) (E.told err.new) (E.faults err.old) (E.faults err.new)) }
+    ensures { RunsOrMemory (cell_of script.now) (tree ∷ []) result (sunk O.told O.calls O.faults out.old out.new) (sunk E.told E.calls E.faults err.old err.new) }
 {
     match make_cell(alloc, script) {
         Ok(cell) => match run_task(alloc, cell, tree) {
@@ -41,7 +42,7 @@ pub(crate) fn run_tree<O: Sink, E: Sink>(
 
 /// Prints a run and reports it.
 fn report_run<O: Sink, E: Sink>(core: Core, out: &mut O, err: &mut E) -> Report
-    ensures { (trees : List Tree) → length trees ≡ length core.cell.tasks → IsByTurns (tree_asks trees) core.cell core.history → AnswersRun core.cell trees result (sunk (O.told out.old) (O.told out.new) (O.faults out.old) (O.faults out.new)) (sunk (E.told err.old) (E.told err.new) (E.faults err.old) (E.faults err.new)) }
+    ensures { (trees : List Tree) → length trees ≡ length core.cell.tasks → IsByTurns (tree_asks trees) core.cell core.history → AnswersRun core.cell trees result (sunk O.told O.calls O.faults out.old out.new) (sunk E.told E.calls E.faults err.old err.new) }
 {
     let status = status_of_run(&core);
     match print_run(out, &core) {

@@ -1,6 +1,7 @@
 ghost use Rattle.std.specs.Prelude.{◌++◌, ◌≡◌, ◌+◌, ◌≤◌, ◌∷◌, [], codes, decimal, length};
 ghost use Rattle.controller.specs.Refusals.{refusal_text, key_words, place_words, script_rule_name, module_rule_name};
-ghost use Rattle.controller.specs.Printed.{GainedUnlessFaults, Writes};
+ghost use Rattle.controller.specs.Printed.{sunk, GainedUnlessFaults};
+ghost use Rattle.controller.specs.Written.{Writes, WritesPieces};
 
 use crate::refused::{ModuleRule, Refused};
 use crate::write::write_all;
@@ -20,7 +21,7 @@ pub(crate) fn tell_refusal<E: Sink>(err: &mut E, name: &str, refused: &Refused)
 }
 
 fn write_refusal<E: Sink>(err: &mut E, name: &str, refused: &Refused) -> Result<(), Failed>
-    ensures { Writes (refusal_text name.now refused.now) result (E.told err.old) (E.told err.new) (E.faults err.old) (E.faults err.new) }
+    ensures { WritesPieces (refusal_text name.now refused.now) result (sunk E.told E.calls E.faults err.old err.new) }
 {
     match refused {
         Refused::Words { place } => {
@@ -101,7 +102,7 @@ fn push_number(number: u32, line: &mut ArrayString<128>)
 
 /// Writes three pieces in order.
 fn write_three<E: Sink>(err: &mut E, head: &[u8], middle: &[u8], tail: &[u8]) -> Result<(), Failed>
-    ensures { Writes (head.now ++ (middle.now ++ tail.now)) result (E.told err.old) (E.told err.new) (E.faults err.old) (E.faults err.new) }
+    ensures { Writes (head.now ∷ middle.now ∷ tail.now ∷ []) result (sunk E.told E.calls E.faults err.old err.new) }
 {
     match write_all(err, head) {
         Ok(()) => write_two(err, middle, tail),
@@ -110,7 +111,7 @@ fn write_three<E: Sink>(err: &mut E, head: &[u8], middle: &[u8], tail: &[u8]) ->
 }
 
 fn write_two<E: Sink>(err: &mut E, first: &[u8], second: &[u8]) -> Result<(), Failed>
-    ensures { Writes (first.now ++ second.now) result (E.told err.old) (E.told err.new) (E.faults err.old) (E.faults err.new) }
+    ensures { Writes (first.now ∷ second.now ∷ []) result (sunk E.told E.calls E.faults err.old err.new) }
 {
     match write_all(err, first) {
         Ok(()) => write_all(err, second),

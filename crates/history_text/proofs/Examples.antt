@@ -12,7 +12,7 @@ use Rattle.rapid_model.specs.declared.request.Request.{Request}
 use Rattle.rapid_model.specs.declared.request.Request.TheVariants.{Look, Position, Setpoint}
 use Rattle.rapid_model.specs.declared.answer.Answer.{Answer}
 use Rattle.rapid_model.specs.declared.task_row.TaskRow.{TaskRow}
-use Rattle.history_text.specs.Lines.{line_of, fate_line, output_of}
+use Rattle.history_text.specs.Lines.{line_of, fate_line, lines_of, output_of}
 
 -- axis 1 is at 0.833 degrees, and the others at 0
 turned : Joints
@@ -52,6 +52,10 @@ cell : CellData
 cell = record { steps = 10; tasks = tasks }
 
 -- the lines of the events, and then that of the task
+lines : lines_of cell (asked Look (answers.Go 3) ∷ asked (Setpoint turned) answers.Given ∷ []) (fates.Done ∷ []) ≡ [] ∷ codes "S A 0.833 0.000 0.000 0.000 0.000 0.000\n" ∷ codes "E A Done\n" ∷ []
+unfolding digits turned tasks asked cell
+lines = refl
+
 output : output_of cell (asked Look (answers.Go 3) ∷ asked (Setpoint turned) answers.Given ∷ []) (fates.Done ∷ []) ≡ codes "S A 0.833 0.000 0.000 0.000 0.000 0.000\nE A Done\n"
 unfolding digits turned tasks asked cell
 output = refl

@@ -1,6 +1,6 @@
 -- The lines that are printed of a history. Each ends with 0A.
-use Rattle.std.specs.Prelude.{ℕ, ℤ, List, [], ◌∷◌, ◌++◌, Option, Some, None, codes, take, slice_get}
-use Rattle.std.specs.List.{flat_map}
+use Rattle.std.specs.Prelude.{ℕ, ℤ, List, [], ◌∷◌, ◌++◌, map, Option, Some, None, codes, take, slice_get}
+use Rattle.std.specs.List.{concat}
 use Rattle.rapid_num.specs.NumText.{fixed_text}
 use Rattle.rapid_num.specs.declared.joints.Joints.{Joints}
 use Rattle.rapid_model.specs.CellData.{CellData}
@@ -53,11 +53,16 @@ fate_words fates.Cut = codes "Cut"
 abbrev pub fate_line : List ℕ → Fate → List ℕ
 fate_line name fate = codes "E " ++ (name ++ (32 ∷ fate_words fate ++ codes "\n"))
 
-abbrev pub fate_lines : List TaskRow → List Fate → List ℕ
+abbrev pub fate_lines : List TaskRow → List Fate → List (List ℕ)
 fate_lines [] fates = []
 fate_lines (row ∷ rows) [] = []
-fate_lines (row ∷ rows) (fate ∷ fates) = fate_line row.name fate ++ fate_lines rows fates
+fate_lines (row ∷ rows) (fate ∷ fates) = fate_line row.name fate ∷ fate_lines rows fates
 
--- what a run prints: the lines of its events in order, and then those of the tasks in script order
+-- what a run prints: the lines of its events in order, an empty one where an event has none, and then those of the tasks
+-- in script order
+abbrev pub lines_of : CellData → List Event → List Fate → List (List ℕ)
+lines_of cell history fates = map (line_of cell.tasks) history ++ fate_lines cell.tasks fates
+
+-- the same as bytes
 abbrev pub output_of : CellData → List Event → List Fate → List ℕ
-output_of cell history fates = flat_map (line_of cell.tasks) history ++ fate_lines cell.tasks fates
+output_of cell history fates = concat (lines_of cell history fates)

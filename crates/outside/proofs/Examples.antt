@@ -4,7 +4,7 @@ use Rattle.std.specs.Prelude.{codes, Ok, Err}
 use Rattle.outside.specs.Count.{raised}
 use Rattle.outside.specs.Told.{Told, file_at, found, after_reads}
 use Rattle.outside.specs.Reads.{answer_for, gain_for}
-use Rattle.outside.specs.Writes.{taken, Appended}
+use Rattle.outside.specs.Writes.{taken, call_of, Appended}
 use Rattle.outside.specs.MemoryShelf.{names_differ}
 use Rattle.outside.specs.MemorySink.{MemorySinkState, refuses, after_write}
 use Rattle.outside.specs.declared.shelf_fault.ShelfFault.TheVariants.{Failed, TooLong}
@@ -48,12 +48,12 @@ none_found = refl
 
 -- room for three bytes, one held; the second write fails
 abbrev one_held : MemorySinkState
-one_held = record { bytes = 7 ∷ []; room = 3; writes = 0; failing = 1 ∷ []; faults = 0 }
+one_held = record { bytes = 7 ∷ []; calls = record { handed = 1; taken = 1 } ∷ []; room = 3; writes = 0; failing = 1 ∷ []; faults = 0 }
 
-fills_up : after_write one_held (8 ∷ 9 ∷ 10 ∷ []) ≡ record { bytes = 7 ∷ 8 ∷ 9 ∷ []; room = 3; writes = 1; failing = 1 ∷ []; faults = 0 }
+fills_up : after_write one_held (8 ∷ 9 ∷ 10 ∷ []) ≡ record { bytes = 7 ∷ 8 ∷ 9 ∷ []; calls = record { handed = 1; taken = 1 } ∷ record { handed = 3; taken = 2 } ∷ []; room = 3; writes = 1; failing = 1 ∷ []; faults = 0 }
 fills_up = refl
 
-refused_when_listed : after_write (after_write one_held (8 ∷ [])) (9 ∷ []) ≡ record { bytes = 7 ∷ 8 ∷ []; room = 3; writes = 2; failing = 1 ∷ []; faults = 1 }
+refused_when_listed : after_write (after_write one_held (8 ∷ [])) (9 ∷ []) ≡ record { bytes = 7 ∷ 8 ∷ []; calls = record { handed = 1; taken = 1 } ∷ record { handed = 1; taken = 1 } ∷ []; room = 3; writes = 2; failing = 1 ∷ []; faults = 1 }
 refused_when_listed = refl
 
 refused_when_full : refuses (after_write one_held (8 ∷ 9 ∷ [])) ≡ true
@@ -62,13 +62,19 @@ refused_when_full = refl
 some_taken : taken {E = ℕ} (Ok 2) (7 ∷ 8 ∷ 9 ∷ []) ≡ 7 ∷ 8 ∷ []
 some_taken = refl
 
-told_some_more : Appended (Some (7 ∷ [])) (8 ∷ 9 ∷ []) (Some (7 ∷ 8 ∷ 9 ∷ []))
+part_taken : call_of {E = ℕ} (Ok 2) 3 ≡ record { handed = 3; taken = 2 } ∷ []
+part_taken = refl
+
+none_taken : call_of {E = ℕ} (Err 0) 3 ≡ []
+none_taken = refl
+
+told_some_more : Appended {A = ℕ} (Some (7 ∷ [])) (8 ∷ 9 ∷ []) (Some (7 ∷ 8 ∷ 9 ∷ []))
 told_some_more = refl
 
-tells_no_longer : Appended (Some (7 ∷ [])) [] None → ⊥
+tells_no_longer : Appended {A = ℕ} (Some (7 ∷ [])) [] None → ⊥
 tells_no_longer e = cc
 
-begins_to_tell : Appended None (8 ∷ []) (Some (9 ∷ []))
+begins_to_tell : Appended {A = ℕ} None (8 ∷ []) (Some (9 ∷ []))
 begins_to_tell = tt
 
 names_that_differ : names_differ ((codes "a", []) ∷ (codes "ab", []) ∷ []) ≡ true

@@ -1,11 +1,17 @@
 -- What one write to a sink takes, and what the sink then tells.
-use Rattle.std.specs.Prelude.{◌≡◌, ℕ, List, [], ◌++◌, take, Option, Some, Result, Ok, Err, IfSome}
+use Rattle.std.specs.Prelude.{◌≡◌, ℕ, List, [], ◌∷◌, ◌++◌, take, Option, Some, Result, Ok, Err, IfSome}
+use Rattle.outside.specs.declared.call.Call.{Call}
 
 -- the bytes of the piece that were taken
 abbrev pub taken : {E : Type 0} → Result ℕ E → List ℕ → List ℕ
 taken (Ok n) piece = take n piece
 taken (Err _) piece = []
 
--- where bytes were told, they are told still, with these behind them
-abbrev pub Appended : Option (List ℕ) → List ℕ → Option (List ℕ) → Type 0
-Appended old bytes new = IfSome old (λ held. new ≡ Some (held ++ bytes))
+-- the call that a write was, which was handed so many bytes; none where it took nothing
+abbrev pub call_of : {E : Type 0} → Result ℕ E → ℕ → List Call
+call_of (Ok n) handed = record { handed = handed; taken = n } ∷ []
+call_of (Err _) handed = []
+
+-- where some were told, they are told still, with these behind them
+abbrev pub Appended : {A : Type 0} → Option (List A) → List A → Option (List A) → Type 0
+Appended old more new = IfSome old (λ held. new ≡ Some (held ++ more))

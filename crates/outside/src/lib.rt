@@ -1,6 +1,7 @@
 //! What the product reads and writes: shelves of named files and sinks of bytes, with their faults counted.
 #![tactic(auto)]
 
+mod call;
 mod failed;
 mod file_shelf;
 mod listed;
@@ -12,6 +13,7 @@ mod shelf_fault;
 mod sink;
 mod stream_sink;
 
+pub use call::Call;
 pub use failed::Failed;
 pub use file_shelf::FileShelf;
 pub use memory::Memory;

@@ -1,18 +1,20 @@
-ghost use Rattle.std.specs.Prelude.{◌≡◌, ℕ, ◌-◌, ◌<◌, ◌≤◌, ◌↔◌, List, ◌++◌, [], length, Some, min, Ok, Err, IfOk, OnOk, OnErr, IsErr, IsTrue, option_map};
+ghost use Rattle.std.specs.Prelude.{◌≡◌, ℕ, ◌<◌, ◌≤◌, ◌↔◌, List, ◌++◌, [], length, Some, Ok, Err, IfOk, OnOk, OnErr, IsErr, IsTrue, option_map};
 ghost use Rattle.outside.specs.Count.{Rose};
-ghost use Rattle.outside.specs.Writes.{taken};
-ghost use Rattle.outside.specs.MemorySink.{MemorySinkState, refuses, after_write};
+ghost use Rattle.outside.specs.Writes.{taken, call_of};
+ghost use Rattle.outside.specs.MemorySink.{MemorySinkState, refuses, fitting, after_write};
 
 use super::listed::is_listed;
-use super::{Failed, Memory, Sink};
+use super::{Call, Failed, Memory, Sink};
 use std::alloc::Global;
 use std::marker::Model;
 
 /// Bytes in memory, with room for so many, and with the writes that fail chosen beforehand. Contracts see it as these
-/// bytes, the room, the number of writes so far, the numbers of the writes that fail, and the count of faults.
+/// bytes, the calls that took them, the room, the number of writes so far, the numbers of the writes that fail, and the
+/// count of faults.
 #[derive(Drop)]
 pub struct MemorySink {
     bytes: Vec<u8>,
+    calls: Vec<Call>,
     room: usize,
     writes: u64,
     failing: Vec<u32>,
@@ -25,23 +27,27 @@ impl Model for MemorySink {
 
     ghost Value = { MemorySinkState };
 
-    ghost view = { λ sink. record { bytes = sink.bytes.items; room = sink.room; writes = sink.writes; failing = sink.failing.items; faults = sink.faults } };
+    ghost view = { λ sink. record { bytes = sink.bytes.items; calls = sink.calls.items; room = sink.room; writes = sink.writes; failing = sink.failing.items; faults = sink.faults } };
 
-    ghost invariant = { λ sink. (vec_len sink.bytes ≤ sink.room) × (sink.room ≤ vec_capacity sink.bytes) };
+    // Each call took at least one byte, so that there is room for as many calls as bytes.
+    ghost invariant = { λ sink. (vec_len sink.bytes ≤ sink.room) × (sink.room ≤ vec_capacity sink.bytes) × (vec_len sink.calls ≤ vec_len sink.bytes) × (sink.room ≤ vec_capacity sink.calls) };
 }
 
 impl MemorySink {
     /// An empty sink with room for so many bytes. The writes whose numbers, from 0, stand in `failing` fail.
     pub fn new(alloc: Global, room: usize, failing: Vec<u32>) -> Result<MemorySink, Memory>
         ensures empty { IfOk result (λ sink. sink.bytes ≡ []) }
+        ensures no_calls_yet { IfOk result (λ sink. sink.calls ≡ []) }
         ensures room { IfOk result (λ sink. sink.room ≡ room) }
         ensures no_writes_yet { IfOk result (λ sink. sink.writes ≡ 0) }
         ensures failing { IfOk result (λ sink. sink.failing ≡ failing.items) }
         ensures no_faults_yet { IfOk result (λ sink. sink.faults ≡ 0) }
     {
         let bytes = Vec::with_capacity(alloc, room).map_err(|_| Memory)?;
+        let calls = Vec::with_capacity(alloc, room).map_err(|_| Memory)?;
         Ok(MemorySink {
             bytes,
+            calls,
             room,
             writes: 0,
             failing,
@@ -55,10 +61,19 @@ impl MemorySink {
     {
         self.bytes.as_slice()
     }
+
+    /// The calls of `write` that took something, the oldest first.
+    pub fn calls(&self) -> &[Call]
+        ensures { result.now ≡ self.now.calls }
+    {
+        self.calls.as_slice()
+    }
 }
 
 impl Sink for MemorySink {
     ghost told = { λ sink. Some sink.bytes };
+
+    ghost calls = { λ sink. Some sink.calls };
 
     ghost faults = { λ sink. sink.faults };
 
@@ -71,9 +86,10 @@ impl Sink for MemorySink {
         ensures takes_some { IfOk result (λ n. 0 < n) }
         ensures takes_at_most_all { IfOk result (λ n. n ≤ length piece.now) }
         ensures told_after { self.new.bytes ≡ self.old.bytes ++ taken result piece.now }
+        ensures called { self.new.calls ≡ self.old.calls ++ call_of result (length piece.now) }
 
         ensures fails_exactly_where_it_refuses { IsErr result ↔ IsTrue (refuses self.old) }
-        ensures takes_what_fits { IfOk result (λ n. n ≡ min (length piece.now) (self.old.room - length self.old.bytes)) }
+        ensures takes_what_fits { IfOk result (λ n. n ≡ fitting self.old piece.now) }
         ensures after { self.new ≡ after_write self.old piece.now }
     {
         let fails = is_listed(&self.failing, self.writes) || self.bytes.len() == self.room;
@@ -83,9 +99,16 @@ impl Sink for MemorySink {
             return Err(Failed);
         }
         let count = piece.len().min(self.room - self.bytes.len());
-        match self.bytes.extend_from_slice(&piece[..count]) {
-            Ok(()) => Ok(count),
-            Err(_) => unreachable!(),
+        let call = Call {
+            handed: piece.len(),
+            taken: count,
+        };
+        match (
+            self.bytes.extend_from_slice(&piece[..count]),
+            self.calls.push(call),
+        ) {
+            (Ok(()), Ok(())) => Ok(count),
+            _ => unreachable!(),
         }
     }
 }

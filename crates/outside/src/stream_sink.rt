@@ -1,4 +1,4 @@
-ghost use Rattle.std.specs.Prelude.{◌≡◌, ℕ, ◌<◌, ◌≤◌, IfOk, OnErr, MatchResult, length};
+ghost use Rattle.std.specs.Prelude.{◌≡◌, ℕ, ◌<◌, ◌≤◌, None, IfOk, OnErr, MatchResult, length};
 ghost use Rattle.std.specs.Io.KnownBytes.{WriteAppends};
 ghost use Rattle.outside.specs.Count.{Rose, raised};
 
@@ -6,7 +6,7 @@ use super::{Failed, Sink};
 use std::io::Write;
 use std::marker::Model;
 
-/// A sink over a writer. It tells what the writer tells. Contracts see it as its writer and its count of faults.
+/// A sink over a writer. It tells the bytes that the writer tells, and no calls. Contracts see it as its writer and its count of faults.
 #[derive(Drop)]
 pub struct StreamSink<W: Write> {
     writer: W,
@@ -33,6 +33,8 @@ impl<W: Write> StreamSink<W> {
 
 impl<W: Write> Sink for StreamSink<W> {
     ghost told = { λ sink. W.contents sink.writer };
+
+    ghost calls = { λ _. None };
 
     ghost faults = { λ sink. sink.faults };
 

@@ -64,6 +64,15 @@ fn memory_sink(rt: HostRuntime) -> Result<(), Fail> {
     assert_eq!(rt; sink.write(&[9, 10]), Ok(1));
     assert_eq!(rt; sink.write(&[10]), Err(Failed));
     assert_eq!(rt; sink.bytes(), [7, 8, 9].as_slice());
+    let whole = Call {
+        handed: 2,
+        taken: 2,
+    };
+    let part = Call {
+        handed: 2,
+        taken: 1,
+    };
+    assert_eq!(rt; sink.calls(), [whole, part].as_slice());
     Ok(())
 }
 

@@ -14,6 +14,7 @@ returns-in-Err-clause-answers g c =
       history = c.refuse.ensures.history;
       fates = c.refuse.ensures.fates;
       printed = gained_none _;
+      calls = gained_none _;
       told = c.refuse.ensures.told;
     })
 
@@ -25,6 +26,7 @@ returns-in-Err-load_script-clause-answers g c =
       history = c.refuse-in-Err-load_script.ensures.history;
       fates = c.refuse-in-Err-load_script.ensures.fates;
       printed = gained_none _;
+      calls = gained_none _;
       told = c.refuse-in-Err-load_script.ensures.told;
     }) c.in-Err-load_script.ensures.script
 
@@ -37,6 +39,7 @@ returns-in-Err-load_module-clause-answers g c =
       history = c.refuse-in-Err-load_module.ensures.history;
       fates = c.refuse-in-Err-load_module.ensures.fates;
       printed = gained_none _;
+      calls = gained_none _;
       told = c.refuse-in-Err-load_module.ensures.told;
     }) c.in-Err-load_module.ensures.module
 

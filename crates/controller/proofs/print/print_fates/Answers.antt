@@ -7,7 +7,7 @@ pub loop-task-preserved : goal.loop-task-preserved
 loop-task-preserved g c =
     let few = ap length c.rows_of-rows.ensures.rows in
     let lt : c.loop-task.task < length c.args.core.now.cell.tasks = omega (arith, few) in
-    fate_printed c.args.core.now.cell c.args.core.now.history c.loop-task.task c.index-rows-task.result c.fate-fate.result _ _ _ _ _ _ _ lt
+    fate_printed c.args.core.now.cell c.args.core.now.history c.loop-task.task c.index-rows-task.result c.fate-fate.result _ _ _ _ lt
     (c.index-rows-task.is ∙ ap (λ (rows : List TaskRow). get_or rows c.loop-task.task c.index-rows-task.result) c.rows_of-rows.ensures.rows)
     c.fate-fate.ensures c.in-Ok.ensures c.loop-task.invariant
 
@@ -15,6 +15,6 @@ pub returns-in-Err : goal.returns-in-Err
 returns-in-Err g c =
     let few = ap length c.rows_of-rows.ensures.rows in
     let lt : c.loop-task.task < length c.args.core.now.cell.tasks = omega (arith, few) in
-    fate_failed c.args.core.now.cell c.args.core.now.history c.loop-task.task c.index-rows-task.result c.fate-fate.result _ _ _ _ _ _ _ _ lt
+    fate_failed c.args.core.now.cell c.args.core.now.history c.loop-task.task c.index-rows-task.result c.fate-fate.result _ _ _ _ lt
     (c.index-rows-task.is ∙ ap (λ (rows : List TaskRow). get_or rows c.loop-task.task c.index-rows-task.result) c.rows_of-rows.ensures.rows)
     c.fate-fate.ensures c.in-Err.ensures c.loop-task.invariant

@@ -1,6 +1,7 @@
 use Rattle.std.proofs.Common.{drop, length}
 use Rattle.rapid_meaning.specs.Histories.{fates_after}
 use Rattle.history_text.specs.Lines.{fate_lines}
+use Rattle.controller.specs.Printed.{sunk}
 use Rattle.controller.proofs.Printing.{Printing}
 use Rattle.controller.proofs.print.print_fates.Given as goal
 
@@ -8,4 +9,4 @@ abbrev pub invariant-loop-task : goal.invariant-loop-task
 invariant-loop-task g l =
     let fates = fates_after l.core.cell l.core.history (length l.core.cell.tasks) in
     Printing (fate_lines l.core.cell.tasks fates) (fate_lines (drop l.task l.core.cell.tasks) (drop l.task fates))
-    (g.O.Sink.told l.initial.out) (g.O.Sink.told l.out) (g.O.Sink.faults l.initial.out) (g.O.Sink.faults l.out)
+    (sunk g.O.Sink.told g.O.Sink.calls g.O.Sink.faults l.initial.out l.out)

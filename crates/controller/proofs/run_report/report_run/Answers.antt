@@ -7,10 +7,10 @@ pub returns-in-Ok : goal.returns-in-Ok
 returns-in-Ok g c = λ trees one run.
     run_printed c.args.core.cell trees c.args.core.history _ _ _ one run
     (record { history_is = c.into_report-history.ensures.history; fates_is = c.into_report-history.ensures.fates }) refl c.status_of_run-status.ensures
-    c.in-Ok.ensures.0 (gained_none _)
+    c.in-Ok.ensures (gained_none _)
 
 pub returns-in-Err : goal.returns-in-Err
 returns-in-Err g c = λ trees one run.
     run_cut_short c.args.core.cell trees c.args.core.history _ _ _ one run
     (record { history_is = c.into_report-events.ensures.history; fates_is = c.into_report-events.ensures.fates }) refl refl
-    c.in-Err.ensures.0 c.in-Err.ensures.1 c.tell_refusal.ensures.told
+    c.in-Err.ensures c.tell_refusal.ensures.told
