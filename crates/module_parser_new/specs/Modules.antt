@@ -2,7 +2,9 @@
 use Rattle.std.specs.Prelude.{◌≡◌, ℕ, List, length, take, drop, Result, Ok, Err, ◌⊎◌}
 use Rattle.rapid_lexer.specs.Tokens.{Lexeme, Tiles}
 use Rattle.rapid_lexer.specs.Faults.{IsFirstMisfit}
+use Rattle.rapid_model.specs.declared.raw_module.RawModule.{RawModule}
 use Rattle.rapid_model.specs.Plain.{PlainModule}
+use Rattle.rapid_model.specs.Views.{view_module}
 use Rattle.rapid_forms.specs.declared.fault.SyntaxFault.{SyntaxFault}
 use Rattle.rapid_forms.specs.declared.fault.SyntaxFault.TheVariants.{Rule, Lex, Memory}
 use Rattle.rapid_forms.specs.Forms.{Form}
@@ -37,3 +39,8 @@ ModuleText source (Ok tree) = SpellsWithin most_levels tree source
 ModuleText source (Err (Lex f)) = IsFirstMisfit source f
 ModuleText source (Err (Rule rule at)) = (ts : List Lexeme) × Tiles source ts × Stops (length source) ts (Rule rule at)
 ModuleText source (Err Memory) = ⊥
+
+-- what a parser returned, its tree as contracts see it
+abbrev pub shown : Result RawModule SyntaxFault → Result PlainModule SyntaxFault
+shown (Ok m) = Ok (view_module m)
+shown (Err fault) = Err fault

@@ -1,9 +1,8 @@
 //! The public call.
 
-ghost use Rattle.std.specs.Prelude.{◌≡◌, ◌⊎◌, ℕ, Ok, Err, Result};
+ghost use Rattle.std.specs.Prelude.{◌≡◌, ◌⊎◌, Err, Result};
 ghost use Rattle.rapid_model.specs.Plain.{PlainModule};
-ghost use Rattle.rapid_model.specs.Views.{view_module};
-ghost use Rattle.module_parser_new.specs.Modules.{ModuleText};
+ghost use Rattle.module_parser_new.specs.Modules.{ModuleText, shown};
 
 use crate::module::module;
 use rapid_forms::{Parser, SyntaxFault, Tokens};
@@ -13,7 +12,11 @@ use std::alloc::Global;
 
 /// The tree that the whole text spells (RAPID Kernel, module declarations). A lexical fault, wherever it stands, comes
 /// before a fault of the tokens.
-pub fn parse_module(alloc: Global, source: &[u8]) -> Result<RawModule<'_>, SyntaxFault> {
+pub fn parse_module(alloc: Global, source: &[u8]) -> Result<RawModule<'_>, SyntaxFault>
+    ensures answer { (result ≡ Err SyntaxFault.Memory) ⊎ ModuleText source.now (shown result) }
+    // The text comes to nothing else.
+    ensures only { (other : Result PlainModule SyntaxFault) → ModuleText source.now other → (result ≡ Err SyntaxFault.Memory) ⊎ (shown result ≡ other) }
+{
     match read_tokens(alloc, source) {
         Ok(tokens) => {
             let p = Parser {
