@@ -1,1 +1,4 @@
 pub mod Ahead
+pub mod Taking
+pub mod Rounds
+pub mod Arms
