@@ -2,3 +2,4 @@ pub mod Ahead
 pub mod Taking
 pub mod Rounds
 pub mod Arms
+pub mod Operands
