@@ -16,7 +16,7 @@ levels::exprs-loop-list-init t c = rw (c.in_ok-push.ensures.items, c.new-list.en
 
 pub levels::exprs-returns-in_err-value : goal.levels::exprs-returns-in_err-value
 levels::exprs-returns-in_err-value t c =
-    let p = err_from_is_err_and c.from_residual.result c.from_residual.ensures.1 in
+    let p = err_from_is_err_and c.from_residual-in_err-value.result c.from_residual-in_err-value.ensures.1 in
     rw (p.1, p.2) (loop_fails (more_expr_takes c.args.left) _ (map view_expr c.loop-list.list.items) c.args.p.now.tokens _ c.loop-list.next _ (sym c.sees.ensures ∙ c.loop-list-test.true) c.loop-list.invariant c.in_err-value.ensures)
 
 pub levels::exprs-loop-list-smaller : goal.levels::exprs-loop-list-smaller
@@ -37,7 +37,7 @@ args::some_args-loop-list-init t c = rw (c.in_ok-push.ensures.items, c.new-list.
 
 pub args::some_args-returns-in_err-more : goal.args::some_args-returns-in_err-more
 args::some_args-returns-in_err-more t c =
-    let p = err_from_is_err_and c.from_residual.result c.from_residual.ensures.1 in
+    let p = err_from_is_err_and c.from_residual-in_err-more.result c.from_residual-in_err-more.ensures.1 in
     rw (p.1, p.2) (loop_fails (later_takes c.args.left) _ (map view_arg c.loop-list.list.items) c.args.p.now.tokens _ c.loop-list.next _ (sym c.sees.ensures ∙ c.loop-list-test.true) c.loop-list.invariant c.in_err-more.ensures)
 
 pub args::some_args-loop-list-smaller : goal.args::some_args-loop-list-smaller
