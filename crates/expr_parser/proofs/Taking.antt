@@ -1,14 +1,14 @@
 -- Readers leave no more tokens than they get, and fewer where a token comes first.
-use Rattle.std.proofs.Common.{◌≡◌, ℕ, zero, suc, ◌+◌, ◌≤◌, Bool, true, false, if◌then◌else◌, ◌⊎◌, inl, inr, List, [], ◌∷◌, length, Ok, Err, refl, sym, ap, ◌∙◌, lit≤, arith}
+use Rattle.std.proofs.Common.{◌≡◌, ℕ, zero, suc, ◌+◌, ◌≤◌, Bool, true, false, if◌then◌else◌, ◌⊎◌, inl, inr, List, [], ◌∷◌, length, Ok, Err, refl, ap, lit≤, arith}
 use Rattle.rapid_lexer.specs.Tokens.{Lexeme}
 use Rattle.rapid_model.specs.Plain.{PlainExpr}
 use Rattle.rapid_forms.specs.declared.sign.Sign.{Sign}
 use Rattle.rapid_forms.specs.declared.sign.Sign.TheVariants as signs
 use Rattle.rapid_forms.specs.Signs.{has, sign_of, begins_with}
 use Rattle.rapid_forms.specs.Forms.{place}
-use Rattle.rapid_forms.specs.Reading.{Halt, Fails, Read, Reader, then_read, one_read, seq_read, either_read, optional_read, many_within, many_read, made_read, nothing_read}
+use Rattle.rapid_forms.specs.Reading.{Fails, Read, Reader, then_read, one_read, seq_read, either_read, optional_read, many_within, many_read, made_read, nothing_read}
 use Rattle.rapid_forms.proofs.Loops.{Takes}
-use Rattle.expr_parser.specs.Grammar.{number_tree, quoted_tree, truth_tree, behind, place_tree, chain_tree, signed_tree, relation_tree, negated_tree, step_tree, group_tree, aggregate_tree, inner, first_and_more, needed_tree, option_tree, none_or, name_tree}
+use Rattle.expr_parser.specs.Grammar.{number_tree, quoted_tree, truth_tree, behind, chain_tree, signed_tree, relation_tree, negated_tree, step_tree, group_tree, aggregate_tree, inner, first_and_more, needed_tree, option_tree, none_or, name_tree}
 use Rattle.expr_parser.specs.Reads.{InsideRead, mark_read, operators_of, left, right, named_tree, name_read, part_read, parts_read, named_read, primary_read, step_read, chain_read, term_read, signed_read, sum_read, relation_read, land_read, negated_read, expr_of_read, operand_read, group_read, exprs_read, aggregate_read, index_read, needed_read, value_read, option_read, arg_read, later_read, args_read, call_read, inside_read}
 use Rattle.expr_parser.specs.declared.level.Level.{Level}
 use Rattle.expr_parser.specs.declared.level.Level.TheVariants as levels

@@ -118,11 +118,7 @@ fn later_arg<'a>(
 /// A value or an option.
 #[cycle(expr)]
 #[tactic(auto, unfolding(crate::specs::Reads::arg_read, crate::specs::Reads::needed_read, rapid_forms::specs::Reading::either_read, rapid_forms::specs::Reading::made_read, rapid_forms::specs::Reading::then_read))]
-fn arg<'a>(
-    p: &Parser<'_, 'a>,
-    at: usize,
-    left: u32,
-) -> Result<(RawArg<'a>, usize), SyntaxFault>
+fn arg<'a>(p: &Parser<'_, 'a>, at: usize, left: u32) -> Result<(RawArg<'a>, usize), SyntaxFault>
     ensures { Gives p.now.tokens view_arg result (arg_read (expr_of_read (inside_read left)) (rest_from p.now.tokens at)) }
 {
     if p.tokens.sees(at, &[Sign::Backslash]) {
@@ -135,11 +131,7 @@ fn arg<'a>(
 /// An option.
 #[cycle(expr)]
 #[tactic(auto, unfolding(crate::specs::Reads::option_read, rapid_forms::specs::Reading::made_read, rapid_forms::specs::Reading::seq_read, rapid_forms::specs::Reading::then_read))]
-fn option<'a>(
-    p: &Parser<'_, 'a>,
-    at: usize,
-    left: u32,
-) -> Result<(RawArg<'a>, usize), SyntaxFault>
+fn option<'a>(p: &Parser<'_, 'a>, at: usize, left: u32) -> Result<(RawArg<'a>, usize), SyntaxFault>
     ensures { Gives p.now.tokens view_arg result (option_read (expr_of_read (inside_read left)) (rest_from p.now.tokens at)) }
 {
     let (_backslash, first) = p.tokens.take(at, &[Sign::Backslash])?;
@@ -167,11 +159,7 @@ fn value_if_any<'a>(
 
 #[cycle(expr)]
 #[tactic(auto, unfolding(crate::specs::Reads::value_read, rapid_forms::specs::Reading::made_read, rapid_forms::specs::Reading::seq_read, rapid_forms::specs::Reading::then_read))]
-fn value<'a>(
-    p: &Parser<'_, 'a>,
-    at: usize,
-    left: u32,
-) -> Result<(RawExpr<'a>, usize), SyntaxFault>
+fn value<'a>(p: &Parser<'_, 'a>, at: usize, left: u32) -> Result<(RawExpr<'a>, usize), SyntaxFault>
     ensures { Gives p.now.tokens view_expr result (value_read (expr_of_read (inside_read left)) (rest_from p.now.tokens at)) }
 {
     let (_assign, next) = p.tokens.take(at, &[Sign::Assign])?;

@@ -161,11 +161,7 @@ fn negated<'a>(
 /// A leading sign, if it is there, and the term that it covers.
 #[cycle(expr)]
 #[tactic(auto, unfolding(crate::specs::Reads::signed_read, rapid_forms::specs::Reading::made_read, rapid_forms::specs::Reading::seq_read, rapid_forms::specs::Reading::optional_read, rapid_forms::specs::Reading::then_read))]
-fn signed<'a>(
-    p: &Parser<'_, 'a>,
-    at: usize,
-    left: u32,
-) -> Result<(RawExpr<'a>, usize), SyntaxFault>
+fn signed<'a>(p: &Parser<'_, 'a>, at: usize, left: u32) -> Result<(RawExpr<'a>, usize), SyntaxFault>
     ensures { Gives p.now.tokens view_expr result (signed_read (inside_read left) (rest_from p.now.tokens at)) }
 {
     if !p.tokens.sees(at, &[Sign::Plus, Sign::Minus]) {

@@ -16,6 +16,7 @@ pub(crate) fn operator_of(token: &Token<'_>) -> Operator
     operator_with(sign_of(token))
 }
 
+/// The operator that a token with this sign is, where it is one.
 #[tactic(auto, unfolding(rapid_forms::specs::Signs::has))]
 fn operator_with(sign: Sign) -> Operator
     ensures { result ≡ operator_in operator_rows sign }

@@ -15,10 +15,7 @@ use rapid_model::{RawExpr, RawName, RawPlace};
 
 /// A name.
 #[tactic(auto, unfolding(crate::specs::Reads::name_read, rapid_forms::specs::Reading::made_read, rapid_forms::specs::Reading::then_read))]
-pub(crate) fn name<'a>(
-    p: &Parser<'_, 'a>,
-    at: usize,
-) -> Result<(RawName<'a>, usize), SyntaxFault>
+pub(crate) fn name<'a>(p: &Parser<'_, 'a>, at: usize) -> Result<(RawName<'a>, usize), SyntaxFault>
     ensures { Gives p.now.tokens view_name result (name_read (rest_from p.now.tokens at)) }
 {
     let (token, next) = p.tokens.take(at, &[Sign::Name])?;
@@ -84,11 +81,7 @@ fn truth<'a>(p: &Parser<'_, 'a>, at: usize) -> Result<(RawExpr<'a>, usize), Synt
 /// A name, and what stands behind it: arguments in parentheses, or what makes it a place.
 #[cycle(expr)]
 #[tactic(auto, unfolding(crate::specs::Reads::named_read, rapid_forms::specs::Reading::made_read, rapid_forms::specs::Reading::seq_read, rapid_forms::specs::Reading::either_read, rapid_forms::specs::Reading::then_read))]
-fn named<'a>(
-    p: &Parser<'_, 'a>,
-    at: usize,
-    left: u32,
-) -> Result<(RawExpr<'a>, usize), SyntaxFault>
+fn named<'a>(p: &Parser<'_, 'a>, at: usize, left: u32) -> Result<(RawExpr<'a>, usize), SyntaxFault>
     ensures { Gives p.now.tokens view_expr result (named_read (inside_read left) (rest_from p.now.tokens at)) }
 {
     let (name, next) = name(p, at)?;
@@ -134,10 +127,7 @@ fn index_if_any<'a>(
 }
 
 /// Components, one after the other.
-fn parts<'a>(
-    p: &Parser<'_, 'a>,
-    at: usize,
-) -> Result<(Vec<RawName<'a>>, usize), SyntaxFault>
+fn parts<'a>(p: &Parser<'_, 'a>, at: usize) -> Result<(Vec<RawName<'a>>, usize), SyntaxFault>
     ensures { Gives p.now.tokens (λ v. map view_name v.items) result (many_read (Sign.Dot ∷ []) part_read (rest_from p.now.tokens at)) }
 {
     let mut list = Vec::new(p.alloc);

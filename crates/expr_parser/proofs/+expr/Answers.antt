@@ -1,14 +1,12 @@
-use Rattle.std.proofs.Common.{◌≡◌, true, false, ap, sym, ◌∙◌, map}
+use Rattle.std.proofs.Common.{sym, ◌∙◌, map}
 use Rattle.std.proofs.lemmas.Result.{err_from_is_err_and}
 use Rattle.rapid_model.specs.Views.{view_arg, view_expr, view_step}
-use Rattle.rapid_forms.specs.Signs.{begins_with}
 use Rattle.rapid_forms.specs.Reading.{rest_from}
 use Rattle.rapid_forms.proofs.Loops.{front_none, loop_done, loop_fails, loop_smaller}
 use Rattle.expr_parser.specs.Reads.{args_read, exprs_read}
 use Rattle.expr_parser.proofs.Rounds.{loop_first, loop_pushes}
 use Rattle.expr_parser.proofs.Taking.{later_takes, more_expr_takes, step_takes}
 use Rattle.expr_parser.proofs.+expr.Goals as goal
-
 
 pub levels::exprs-loop-list-init : goal.levels::exprs-loop-list-init
 unfolding exprs_read
@@ -30,7 +28,6 @@ levels::exprs-loop-list-preserved t c =
 pub levels::exprs-returns : goal.levels::exprs-returns
 levels::exprs-returns t c = sym c.loop-list.invariant ∙ loop_done _ _ (map view_expr c.loop-list.list.items) (rest_from c.args.p.now.tokens c.loop-list.next) (sym c.sees.ensures ∙ c.loop-list-test.false)
 
-
 pub args::some_args-loop-list-init : goal.args::some_args-loop-list-init
 unfolding args_read
 args::some_args-loop-list-init t c = rw (c.in_ok-push.ensures.items, c.new-list.ensures.items) (loop_first _ _ _ _ _ c.in_ok-first.ensures)
@@ -50,7 +47,6 @@ args::some_args-loop-list-preserved t c =
 
 pub args::some_args-returns : goal.args::some_args-returns
 args::some_args-returns t c = sym c.loop-list.invariant ∙ loop_done _ _ (map view_arg c.loop-list.list.items) (rest_from c.args.p.now.tokens c.loop-list.next) (sym c.sees.ensures ∙ c.loop-list-test.false)
-
 
 pub chains::steps-loop-level-init : goal.chains::steps-loop-level-init
 chains::steps-loop-level-init t c = rw c.new-list.ensures.items (front_none _)

@@ -1,4 +1,3 @@
-use Rattle.std.proofs.Common.{rules}
 use Rattle.rapid_forms.specs.Reading.{made_read, then_read}
 use Rattle.expr_parser.specs.Reads.{name_read}
 use Rattle.expr_parser.proofs.Taking.{one_placed}
