@@ -1,3 +1,5 @@
 pub mod Ahead
-pub mod Answered
-pub mod Told
+pub mod Taking
+pub mod Rounds
+pub mod Arms
+pub mod Operands

@@ -27,6 +27,7 @@ static ARG_SIGNS: [Sign; 11] = [
 
 /// Arguments in parentheses, or an empty pair of them.
 #[cycle(expr)]
+#[tactic(auto, unfolding(crate::specs::Reads::inside_read, crate::specs::Reads::call_read, rapid_forms::specs::Reading::seq_read, rapid_forms::specs::Reading::made_read, rapid_forms::specs::Reading::then_read, rapid_forms::specs::Reading::nothing_read))]
 pub(crate) fn call<'a>(
     p: &Parser<'_, 'a>,
     at: usize,
@@ -45,6 +46,7 @@ pub(crate) fn call<'a>(
 
 /// Arguments, where any are there.
 #[cycle(expr)]
+#[tactic(auto, unfolding(rapid_forms::specs::Reading::made_read, rapid_forms::specs::Reading::optional_read, rapid_forms::specs::Reading::then_read))]
 pub(crate) fn args_if_any<'a>(
     p: &Parser<'_, 'a>,
     at: usize,
@@ -61,6 +63,7 @@ pub(crate) fn args_if_any<'a>(
 
 /// Arguments, one at least.
 #[cycle(expr)]
+#[tactic(auto, unfolding(crate::specs::Reads::inside_read, rapid_forms::specs::Reading::nothing_read))]
 fn args<'a>(
     p: &Parser<'_, 'a>,
     at: usize,
@@ -75,6 +78,7 @@ fn args<'a>(
 }
 
 #[cycle(expr)]
+#[tactic(auto, unfolding(crate::specs::Reads::args_read, rapid_forms::specs::Reading::made_read, rapid_forms::specs::Reading::seq_read, rapid_forms::specs::Reading::then_read))]
 fn some_args<'a>(
     p: &Parser<'_, 'a>,
     at: usize,
@@ -96,6 +100,7 @@ fn some_args<'a>(
 
 /// An argument behind others: behind a comma any, and else an option.
 #[cycle(expr)]
+#[tactic(auto, unfolding(crate::specs::Reads::later_read, rapid_forms::specs::Reading::either_read, rapid_forms::specs::Reading::made_read, rapid_forms::specs::Reading::seq_read, rapid_forms::specs::Reading::then_read))]
 fn later_arg<'a>(
     p: &Parser<'_, 'a>,
     at: usize,
@@ -112,11 +117,8 @@ fn later_arg<'a>(
 
 /// A value or an option.
 #[cycle(expr)]
-fn arg<'a>(
-    p: &Parser<'_, 'a>,
-    at: usize,
-    left: u32,
-) -> Result<(RawArg<'a>, usize), SyntaxFault>
+#[tactic(auto, unfolding(crate::specs::Reads::arg_read, crate::specs::Reads::needed_read, rapid_forms::specs::Reading::either_read, rapid_forms::specs::Reading::made_read, rapid_forms::specs::Reading::then_read))]
+fn arg<'a>(p: &Parser<'_, 'a>, at: usize, left: u32) -> Result<(RawArg<'a>, usize), SyntaxFault>
     ensures { Gives p.now.tokens view_arg result (arg_read (expr_of_read (inside_read left)) (rest_from p.now.tokens at)) }
 {
     if p.tokens.sees(at, &[Sign::Backslash]) {
@@ -128,21 +130,19 @@ fn arg<'a>(
 
 /// An option.
 #[cycle(expr)]
-fn option<'a>(
-    p: &Parser<'_, 'a>,
-    at: usize,
-    left: u32,
-) -> Result<(RawArg<'a>, usize), SyntaxFault>
+#[tactic(auto, unfolding(crate::specs::Reads::option_read, rapid_forms::specs::Reading::made_read, rapid_forms::specs::Reading::seq_read, rapid_forms::specs::Reading::then_read))]
+fn option<'a>(p: &Parser<'_, 'a>, at: usize, left: u32) -> Result<(RawArg<'a>, usize), SyntaxFault>
     ensures { Gives p.now.tokens view_arg result (option_read (expr_of_read (inside_read left)) (rest_from p.now.tokens at)) }
 {
-    let (backslash, first) = p.tokens.take(at, &[Sign::Backslash])?;
+    let (_backslash, first) = p.tokens.take(at, &[Sign::Backslash])?;
     let (name, next) = name(p, first)?;
     let (value, end) = value_if_any(p, next, left)?;
-    Ok((RawArg::option(backslash.at, name, value), end))
+    Ok((RawArg::option(p.tokens.place(at), name, value), end))
 }
 
 /// The value of an option, if it has one.
 #[cycle(expr)]
+#[tactic(auto, unfolding(rapid_forms::specs::Reading::optional_read, rapid_forms::specs::Reading::then_read))]
 fn value_if_any<'a>(
     p: &Parser<'_, 'a>,
     at: usize,
@@ -158,11 +158,8 @@ fn value_if_any<'a>(
 }
 
 #[cycle(expr)]
-fn value<'a>(
-    p: &Parser<'_, 'a>,
-    at: usize,
-    left: u32,
-) -> Result<(RawExpr<'a>, usize), SyntaxFault>
+#[tactic(auto, unfolding(crate::specs::Reads::value_read, rapid_forms::specs::Reading::made_read, rapid_forms::specs::Reading::seq_read, rapid_forms::specs::Reading::then_read))]
+fn value<'a>(p: &Parser<'_, 'a>, at: usize, left: u32) -> Result<(RawExpr<'a>, usize), SyntaxFault>
     ensures { Gives p.now.tokens view_expr result (value_read (expr_of_read (inside_read left)) (rest_from p.now.tokens at)) }
 {
     let (_assign, next) = p.tokens.take(at, &[Sign::Assign])?;

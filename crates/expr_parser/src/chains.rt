@@ -36,6 +36,7 @@ pub(crate) fn expr<'a>(
 
 /// A chain of a level.
 #[cycle(expr)]
+#[tactic(auto, using(crate::proofs::Operands::level_chain), unfolding(crate::specs::Reads::chain_read, rapid_forms::specs::Reading::made_read, rapid_forms::specs::Reading::seq_read, rapid_forms::specs::Reading::then_read))]
 fn chain<'a>(
     p: &Parser<'_, 'a>,
     at: usize,
@@ -124,6 +125,7 @@ fn steps<'a>(
 
 /// An operator of a level and the operand behind it.
 #[cycle(expr)]
+#[tactic(auto, unfolding(crate::specs::Reads::step_read, rapid_forms::specs::Reading::made_read, rapid_forms::specs::Reading::seq_read, rapid_forms::specs::Reading::then_read))]
 fn step<'a>(
     p: &Parser<'_, 'a>,
     at: usize,
@@ -139,6 +141,7 @@ fn step<'a>(
 
 /// NOT, if it is there, and what it covers.
 #[cycle(expr)]
+#[tactic(auto, unfolding(crate::specs::Reads::negated_read, rapid_forms::specs::Reading::made_read, rapid_forms::specs::Reading::seq_read, rapid_forms::specs::Reading::optional_read, rapid_forms::specs::Reading::then_read))]
 fn negated<'a>(
     p: &Parser<'_, 'a>,
     at: usize,
@@ -149,19 +152,16 @@ fn negated<'a>(
     if !p.tokens.sees(at, &[Sign::Not]) {
         return chain(p, at, left, Level::And);
     }
-    let (word, next) = p.tokens.take(at, &[Sign::Not])?;
+    let (_word, next) = p.tokens.take(at, &[Sign::Not])?;
     let (value, end) = chain(p, next, left, Level::And)?;
-    let not = RawExpr::not(p.alloc, word.at, value)?;
+    let not = RawExpr::not(p.alloc, p.tokens.place(at), value)?;
     Ok((not, end))
 }
 
 /// A leading sign, if it is there, and the term that it covers.
 #[cycle(expr)]
-fn signed<'a>(
-    p: &Parser<'_, 'a>,
-    at: usize,
-    left: u32,
-) -> Result<(RawExpr<'a>, usize), SyntaxFault>
+#[tactic(auto, unfolding(crate::specs::Reads::signed_read, rapid_forms::specs::Reading::made_read, rapid_forms::specs::Reading::seq_read, rapid_forms::specs::Reading::optional_read, rapid_forms::specs::Reading::then_read))]
+fn signed<'a>(p: &Parser<'_, 'a>, at: usize, left: u32) -> Result<(RawExpr<'a>, usize), SyntaxFault>
     ensures { Gives p.now.tokens view_expr result (signed_read (inside_read left) (rest_from p.now.tokens at)) }
 {
     if !p.tokens.sees(at, &[Sign::Plus, Sign::Minus]) {
@@ -169,12 +169,13 @@ fn signed<'a>(
     }
     let (sign, next) = p.tokens.take(at, &[Sign::Plus, Sign::Minus])?;
     let (operand, end) = chain(p, next, left, Level::Term)?;
-    let signed = RawExpr::signed(p.alloc, sign.at, is_minus(&sign), operand)?;
+    let signed = RawExpr::signed(p.alloc, p.tokens.place(at), is_minus(&sign), operand)?;
     Ok((signed, end))
 }
 
 /// A sum, or two that are compared.
 #[cycle(expr)]
+#[tactic(auto, unfolding(crate::specs::Reads::relation_read, rapid_forms::specs::Reading::made_read, rapid_forms::specs::Reading::seq_read, rapid_forms::specs::Reading::optional_read, rapid_forms::specs::Reading::then_read))]
 fn relation<'a>(
     p: &Parser<'_, 'a>,
     at: usize,
@@ -195,6 +196,7 @@ fn relation<'a>(
 
 /// A comparison and the sum behind it.
 #[cycle(expr)]
+#[tactic(auto, unfolding(crate::specs::Reads::step_read, rapid_forms::specs::Reading::made_read, rapid_forms::specs::Reading::seq_read, rapid_forms::specs::Reading::then_read))]
 fn comparison<'a>(
     p: &Parser<'_, 'a>,
     at: usize,

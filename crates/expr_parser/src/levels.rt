@@ -12,6 +12,7 @@ use rapid_model::RawExpr;
 
 /// An expression in parentheses.
 #[cycle(expr)]
+#[tactic(auto, unfolding(crate::specs::Reads::inside_read, crate::specs::Reads::group_read, rapid_forms::specs::Reading::made_read, rapid_forms::specs::Reading::seq_read, rapid_forms::specs::Reading::then_read, rapid_forms::specs::Reading::nothing_read))]
 pub(crate) fn group<'a>(
     p: &Parser<'_, 'a>,
     at: usize,
@@ -22,15 +23,16 @@ pub(crate) fn group<'a>(
     if left == 0 {
         return Err(p.tokens.no_level(at, &[Sign::OpenParenthesis]));
     }
-    let (open, first) = p.tokens.take(at, &[Sign::OpenParenthesis])?;
+    let (_open, first) = p.tokens.take(at, &[Sign::OpenParenthesis])?;
     let (value, next) = expr(p, first, left - 1)?;
     let (_close, end) = p.tokens.take(next, &[Sign::CloseParenthesis])?;
-    let group = RawExpr::group(p.alloc, open.at, value)?;
+    let group = RawExpr::group(p.alloc, p.tokens.place(at), value)?;
     Ok((group, end))
 }
 
 /// Values in brackets.
 #[cycle(expr)]
+#[tactic(auto, unfolding(crate::specs::Reads::inside_read, crate::specs::Reads::aggregate_read, rapid_forms::specs::Reading::made_read, rapid_forms::specs::Reading::seq_read, rapid_forms::specs::Reading::then_read, rapid_forms::specs::Reading::nothing_read))]
 pub(crate) fn aggregate<'a>(
     p: &Parser<'_, 'a>,
     at: usize,
@@ -41,14 +43,15 @@ pub(crate) fn aggregate<'a>(
     if left == 0 {
         return Err(p.tokens.no_level(at, &[Sign::OpenBracket]));
     }
-    let (open, first) = p.tokens.take(at, &[Sign::OpenBracket])?;
+    let (_open, first) = p.tokens.take(at, &[Sign::OpenBracket])?;
     let (values, next) = exprs(p, first, left - 1)?;
     let (_close, end) = p.tokens.take(next, &[Sign::CloseBracket])?;
-    Ok((RawExpr::aggregate(open.at, values), end))
+    Ok((RawExpr::aggregate(p.tokens.place(at), values), end))
 }
 
 /// An index in braces.
 #[cycle(expr)]
+#[tactic(auto, unfolding(crate::specs::Reads::inside_read, crate::specs::Reads::index_read, rapid_forms::specs::Reading::made_read, rapid_forms::specs::Reading::seq_read, rapid_forms::specs::Reading::then_read, rapid_forms::specs::Reading::nothing_read))]
 pub(crate) fn index<'a>(
     p: &Parser<'_, 'a>,
     at: usize,
@@ -67,6 +70,7 @@ pub(crate) fn index<'a>(
 
 /// Expressions with commas between them, one at least.
 #[cycle(expr)]
+#[tactic(auto, unfolding(crate::specs::Reads::exprs_read, rapid_forms::specs::Reading::made_read, rapid_forms::specs::Reading::seq_read, rapid_forms::specs::Reading::then_read))]
 pub(crate) fn exprs<'a>(
     p: &Parser<'_, 'a>,
     at: usize,
@@ -88,6 +92,7 @@ pub(crate) fn exprs<'a>(
 
 /// A comma and the expression behind it.
 #[cycle(expr)]
+#[tactic(auto, unfolding(rapid_forms::specs::Reading::made_read, rapid_forms::specs::Reading::seq_read, rapid_forms::specs::Reading::then_read))]
 fn more_expr<'a>(
     p: &Parser<'_, 'a>,
     at: usize,
