@@ -4,3 +4,4 @@ pub mod Told
 pub mod Taking
 pub mod Rounds
 pub mod Arms
+pub mod Operands

@@ -142,10 +142,10 @@ fn option<'a>(
 ) -> Result<(RawArg<'a>, usize), SyntaxFault>
     ensures { Gives p.now.tokens view_arg result (option_read (expr_of_read (inside_read left)) (rest_from p.now.tokens at)) }
 {
-    let (backslash, first) = p.tokens.take(at, &[Sign::Backslash])?;
+    let (_backslash, first) = p.tokens.take(at, &[Sign::Backslash])?;
     let (name, next) = name(p, first)?;
     let (value, end) = value_if_any(p, next, left)?;
-    Ok((RawArg::option(backslash.at, name, value), end))
+    Ok((RawArg::option(p.tokens.place(at), name, value), end))
 }
 
 /// The value of an option, if it has one.

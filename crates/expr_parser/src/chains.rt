@@ -36,7 +36,7 @@ pub(crate) fn expr<'a>(
 
 /// A chain of a level.
 #[cycle(expr)]
-#[tactic(auto, unfolding(crate::specs::Reads::chain_read, rapid_forms::specs::Reading::made_read, rapid_forms::specs::Reading::seq_read, rapid_forms::specs::Reading::then_read))]
+#[tactic(auto, using(crate::proofs::Operands::level_chain), unfolding(crate::specs::Reads::chain_read, rapid_forms::specs::Reading::made_read, rapid_forms::specs::Reading::seq_read, rapid_forms::specs::Reading::then_read))]
 fn chain<'a>(
     p: &Parser<'_, 'a>,
     at: usize,
@@ -152,9 +152,9 @@ fn negated<'a>(
     if !p.tokens.sees(at, &[Sign::Not]) {
         return chain(p, at, left, Level::And);
     }
-    let (word, next) = p.tokens.take(at, &[Sign::Not])?;
+    let (_word, next) = p.tokens.take(at, &[Sign::Not])?;
     let (value, end) = chain(p, next, left, Level::And)?;
-    let not = RawExpr::not(p.alloc, word.at, value)?;
+    let not = RawExpr::not(p.alloc, p.tokens.place(at), value)?;
     Ok((not, end))
 }
 
@@ -173,7 +173,7 @@ fn signed<'a>(
     }
     let (sign, next) = p.tokens.take(at, &[Sign::Plus, Sign::Minus])?;
     let (operand, end) = chain(p, next, left, Level::Term)?;
-    let signed = RawExpr::signed(p.alloc, sign.at, is_minus(&sign), operand)?;
+    let signed = RawExpr::signed(p.alloc, p.tokens.place(at), is_minus(&sign), operand)?;
     Ok((signed, end))
 }
 

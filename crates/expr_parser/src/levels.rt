@@ -23,10 +23,10 @@ pub(crate) fn group<'a>(
     if left == 0 {
         return Err(p.tokens.no_level(at, &[Sign::OpenParenthesis]));
     }
-    let (open, first) = p.tokens.take(at, &[Sign::OpenParenthesis])?;
+    let (_open, first) = p.tokens.take(at, &[Sign::OpenParenthesis])?;
     let (value, next) = expr(p, first, left - 1)?;
     let (_close, end) = p.tokens.take(next, &[Sign::CloseParenthesis])?;
-    let group = RawExpr::group(p.alloc, open.at, value)?;
+    let group = RawExpr::group(p.alloc, p.tokens.place(at), value)?;
     Ok((group, end))
 }
 
@@ -43,10 +43,10 @@ pub(crate) fn aggregate<'a>(
     if left == 0 {
         return Err(p.tokens.no_level(at, &[Sign::OpenBracket]));
     }
-    let (open, first) = p.tokens.take(at, &[Sign::OpenBracket])?;
+    let (_open, first) = p.tokens.take(at, &[Sign::OpenBracket])?;
     let (values, next) = exprs(p, first, left - 1)?;
     let (_close, end) = p.tokens.take(next, &[Sign::CloseBracket])?;
-    Ok((RawExpr::aggregate(open.at, values), end))
+    Ok((RawExpr::aggregate(p.tokens.place(at), values), end))
 }
 
 /// An index in braces.

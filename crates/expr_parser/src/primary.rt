@@ -94,11 +94,11 @@ fn named<'a>(
     let (name, next) = name(p, at)?;
     if p.tokens.sees(next, &[Sign::OpenParenthesis]) {
         let (args, end) = call(p, next, left)?;
-        return Ok((RawExpr::invoke(name.at, name, args), end));
+        return Ok((RawExpr::invoke(p.tokens.place(at), name, args), end));
     }
     let ((index, parts), end) = place_parts(p, next, left)?;
     let place = RawPlace::new(p.alloc, name, index, parts)?;
-    Ok((RawExpr::place(name.at, place), end))
+    Ok((RawExpr::place(p.tokens.place(at), place), end))
 }
 
 /// What stands behind a name in a place: an index, or none, and components.

@@ -18,107 +18,107 @@ height levels.Sum = 10
 height levels.And = 16
 height levels.Or = 22
 
-abbrev pub decreases-group : goal.decreases-group
-decreases-group l = 50 * l.left
+abbrev pub decreases-levels::group : goal.decreases-levels::group
+decreases-levels::group l = 50 * l.left
 
-abbrev pub decreases-aggregate : goal.decreases-aggregate
-decreases-aggregate l = 50 * l.left
+abbrev pub decreases-levels::aggregate : goal.decreases-levels::aggregate
+decreases-levels::aggregate l = 50 * l.left
 
-abbrev pub decreases-index : goal.decreases-index
-decreases-index l = 50 * l.left
+abbrev pub decreases-levels::index : goal.decreases-levels::index
+decreases-levels::index l = 50 * l.left
 
-abbrev pub decreases-call : goal.decreases-call
-decreases-call l = 50 * l.left
+abbrev pub decreases-args::call : goal.decreases-args::call
+decreases-args::call l = 50 * l.left
 
-abbrev pub decreases-args : goal.decreases-args
-decreases-args l = 50 * l.left
+abbrev pub decreases-args::args : goal.decreases-args::args
+decreases-args::args l = 50 * l.left
 
-abbrev pub decreases-args_if_any : goal.decreases-args_if_any
-decreases-args_if_any l = 50 * l.left + 1
+abbrev pub decreases-args::args_if_any : goal.decreases-args::args_if_any
+decreases-args::args_if_any l = 50 * l.left + 1
 
-abbrev pub decreases-index_if_any : goal.decreases-index_if_any
-decreases-index_if_any l = 50 * l.left + 1
+abbrev pub decreases-primary::index_if_any : goal.decreases-primary::index_if_any
+decreases-primary::index_if_any l = 50 * l.left + 1
 
-abbrev pub decreases-place_parts : goal.decreases-place_parts
-decreases-place_parts l = 50 * l.left + 2
+abbrev pub decreases-primary::place_parts : goal.decreases-primary::place_parts
+decreases-primary::place_parts l = 50 * l.left + 2
 
-abbrev pub decreases-named : goal.decreases-named
-decreases-named l = 50 * l.left + 3
+abbrev pub decreases-primary::named : goal.decreases-primary::named
+decreases-primary::named l = 50 * l.left + 3
 
-abbrev pub decreases-primary : goal.decreases-primary
-decreases-primary l = 50 * l.left + 4
+abbrev pub decreases-primary::primary : goal.decreases-primary::primary
+decreases-primary::primary l = 50 * l.left + 4
 
-abbrev pub decreases-signed : goal.decreases-signed
-decreases-signed l = 50 * l.left + 9
+abbrev pub decreases-chains::signed : goal.decreases-chains::signed
+decreases-chains::signed l = 50 * l.left + 9
 
-abbrev pub decreases-comparison : goal.decreases-comparison
-decreases-comparison l = 50 * l.left + 15
+abbrev pub decreases-chains::comparison : goal.decreases-chains::comparison
+decreases-chains::comparison l = 50 * l.left + 15
 
-abbrev pub decreases-relation : goal.decreases-relation
-decreases-relation l = 50 * l.left + 16
+abbrev pub decreases-chains::relation : goal.decreases-chains::relation
+decreases-chains::relation l = 50 * l.left + 16
 
-abbrev pub decreases-negated : goal.decreases-negated
-decreases-negated l = 50 * l.left + 21
+abbrev pub decreases-chains::negated : goal.decreases-chains::negated
+decreases-chains::negated l = 50 * l.left + 21
 
-abbrev pub decreases-expr : goal.decreases-expr
-decreases-expr l = 50 * l.left + 27
+abbrev pub decreases-chains::expr : goal.decreases-chains::expr
+decreases-chains::expr l = 50 * l.left + 27
 
-abbrev pub decreases-more_expr : goal.decreases-more_expr
-decreases-more_expr l = 50 * l.left + 28
+abbrev pub decreases-levels::more_expr : goal.decreases-levels::more_expr
+decreases-levels::more_expr l = 50 * l.left + 28
 
-abbrev pub decreases-exprs : goal.decreases-exprs
-decreases-exprs l = 50 * l.left + 29
+abbrev pub decreases-levels::exprs : goal.decreases-levels::exprs
+decreases-levels::exprs l = 50 * l.left + 29
 
-abbrev pub decreases-value : goal.decreases-value
-decreases-value l = 50 * l.left + 28
+abbrev pub decreases-args::value : goal.decreases-args::value
+decreases-args::value l = 50 * l.left + 28
 
-abbrev pub decreases-value_if_any : goal.decreases-value_if_any
-decreases-value_if_any l = 50 * l.left + 29
+abbrev pub decreases-args::value_if_any : goal.decreases-args::value_if_any
+decreases-args::value_if_any l = 50 * l.left + 29
 
-abbrev pub decreases-option : goal.decreases-option
-decreases-option l = 50 * l.left + 30
+abbrev pub decreases-args::option : goal.decreases-args::option
+decreases-args::option l = 50 * l.left + 30
 
-abbrev pub decreases-arg : goal.decreases-arg
-decreases-arg l = 50 * l.left + 31
+abbrev pub decreases-args::arg : goal.decreases-args::arg
+decreases-args::arg l = 50 * l.left + 31
 
-abbrev pub decreases-later_arg : goal.decreases-later_arg
-decreases-later_arg l = 50 * l.left + 32
+abbrev pub decreases-args::later_arg : goal.decreases-args::later_arg
+decreases-args::later_arg l = 50 * l.left + 32
 
-abbrev pub decreases-some_args : goal.decreases-some_args
-decreases-some_args l = 50 * l.left + 33
+abbrev pub decreases-args::some_args : goal.decreases-args::some_args
+decreases-args::some_args l = 50 * l.left + 33
 
-abbrev pub decreases-first : goal.decreases-first
-decreases-first l = 50 * l.left + (height l.level + 1)
+abbrev pub decreases-chains::first : goal.decreases-chains::first
+decreases-chains::first l = 50 * l.left + (height l.level + 1)
 
-abbrev pub decreases-operand : goal.decreases-operand
-decreases-operand l = 50 * l.left + (height l.level + 1)
+abbrev pub decreases-chains::operand : goal.decreases-chains::operand
+decreases-chains::operand l = 50 * l.left + (height l.level + 1)
 
-abbrev pub decreases-step : goal.decreases-step
-decreases-step l = 50 * l.left + (height l.level + 2)
+abbrev pub decreases-chains::step : goal.decreases-chains::step
+decreases-chains::step l = 50 * l.left + (height l.level + 2)
 
-abbrev pub decreases-steps : goal.decreases-steps
-decreases-steps l = 50 * l.left + (height l.level + 3)
+abbrev pub decreases-chains::steps : goal.decreases-chains::steps
+decreases-chains::steps l = 50 * l.left + (height l.level + 3)
 
-abbrev pub decreases-chain : goal.decreases-chain
-decreases-chain l = 50 * l.left + (height l.level + 4)
+abbrev pub decreases-chains::chain : goal.decreases-chains::chain
+decreases-chains::chain l = 50 * l.left + (height l.level + 4)
 
-abbrev pub invariant-steps-loop-list : goal.invariant-steps-loop-list
-invariant-steps-loop-list l =
+abbrev pub invariant-chains::steps-loop-level : goal.invariant-chains::steps-loop-level
+invariant-chains::steps-loop-level l =
     with_front (map view_step l.list.items) (many_read (operators_of l.level) (step_read (operators_of l.level) (operand_read (inside_read l.left) l.level)) (rest_from l.p.tokens l.next)) ≡ many_read (operators_of l.level) (step_read (operators_of l.level) (operand_read (inside_read l.left) l.level)) (rest_from l.p.tokens l.at)
 
-abbrev pub decreases-steps-loop-list : goal.decreases-steps-loop-list
-decreases-steps-loop-list l = length l.p.tokens.list.now - l.next
+abbrev pub decreases-chains::steps-loop-level : goal.decreases-chains::steps-loop-level
+decreases-chains::steps-loop-level l = length l.p.tokens.list.now - l.next
 
-abbrev pub invariant-exprs-loop-list : goal.invariant-exprs-loop-list
-invariant-exprs-loop-list l =
+abbrev pub invariant-levels::exprs-loop-list : goal.invariant-levels::exprs-loop-list
+invariant-levels::exprs-loop-list l =
     with_front (map view_expr l.list.items) (many_read (signs.Comma ∷ []) (made_read behind (seq_read (mark_read signs.Comma) (expr_of_read (inside_read l.left)))) (rest_from l.p.tokens l.next)) ≡ exprs_read (expr_of_read (inside_read l.left)) (rest_from l.p.tokens l.at)
 
-abbrev pub decreases-exprs-loop-list : goal.decreases-exprs-loop-list
-decreases-exprs-loop-list l = length l.p.tokens.list.now - l.next
+abbrev pub decreases-levels::exprs-loop-list : goal.decreases-levels::exprs-loop-list
+decreases-levels::exprs-loop-list l = length l.p.tokens.list.now - l.next
 
-abbrev pub invariant-some_args-loop-list : goal.invariant-some_args-loop-list
-invariant-some_args-loop-list l =
+abbrev pub invariant-args::some_args-loop-list : goal.invariant-args::some_args-loop-list
+invariant-args::some_args-loop-list l =
     with_front (map view_arg l.list.items) (many_read (signs.Comma ∷ signs.Backslash ∷ []) (later_read (expr_of_read (inside_read l.left))) (rest_from l.p.tokens l.next)) ≡ args_read (expr_of_read (inside_read l.left)) (rest_from l.p.tokens l.at)
 
-abbrev pub decreases-some_args-loop-list : goal.decreases-some_args-loop-list
-decreases-some_args-loop-list l = length l.p.tokens.list.now - l.next
+abbrev pub decreases-args::some_args-loop-list : goal.decreases-args::some_args-loop-list
+decreases-args::some_args-loop-list l = length l.p.tokens.list.now - l.next
