@@ -29,7 +29,7 @@ both_reads {na = na} {nb} {fa} {ma} {fb} {mb} {F} {G} f ra rb lf lg e some up =
     made_reads f (seq_reads ra rb lf lg e up) (λ m. subst (λ null. LL null (fa ++ when na fb) (mb ++ when nb ma) (seq (F m) (G m))) some (seq_ll (lf m) (lg m) e))
 
 -- one token, and a form behind it
-token_reads : {B C : Type 0} {null : Bool} {first more : List Sign} {G : ℕ → Form B} {n : ℕ} {b : Reader B} (set : List Sign) (f : ℕ → Lexeme × B → C) → Reads G n b → ((m : ℕ) → LL null first more (G m)) → Reads (λ m. made f (seq (one set) (G m))) n (made_read f (seq_read (one_read set) b))
+pub token_reads : {B C : Type 0} {null : Bool} {first more : List Sign} {G : ℕ → Form B} {n : ℕ} {b : Reader B} (set : List Sign) (f : ℕ → Lexeme × B → C) → Reads G n b → ((m : ℕ) → LL null first more (G m)) → Reads (λ m. made f (seq (one set) (G m))) n (made_read f (seq_read (one_read set) b))
 token_reads set f r l = both_reads f (one_reads set) r (λ m. one_ll set) l refl refl (λ k m le. up_refl _)
 
 -- a form between two tokens
@@ -56,7 +56,7 @@ leading_reads set f r l e =
 
 -- names and components
 
-name_reads : {n : ℕ} → Reads (λ m. name) n name_read
+pub name_reads : {n : ℕ} → Reads (λ m. name) n name_read
 unfolding name name_read
 name_reads = made_reads _ (one_reads _) (λ m. one_ll _)
 
@@ -88,7 +88,7 @@ module _ {n : ℕ} {i : InsideRead} (r : InsideReads n i) where
       (either_reads (remade_reads left r.call (λ p q x. refl)) (remade_reads right parts_of_reads (λ p q x. refl)) (λ m. made_ll _ (inside_ll m).call) (λ m. made_ll _ (parts_ll (inside_ll m))) refl (λ e. made_opens _ call_opens) (λ k m le. made_up _ (inside_above k m le).call))
       (λ m. name_ll) (λ m. either_ll (made_ll _ (inside_ll m).call) (made_ll _ (parts_ll (inside_ll m))) refl refl) refl refl (λ k m le. up_refl _)
 
-  primary_reads : Reads (λ m. primary (inside m)) n (primary_read i)
+  pub primary_reads : Reads (λ m. primary (inside m)) n (primary_read i)
   unfolding primary_read primary_joined
   primary_reads =
       same_reads
@@ -103,7 +103,7 @@ module _ {n : ℕ} {i : InsideRead} (r : InsideReads n i) where
       (λ m. made_ll _ (one_ll _)) (λ m. either_ll (made_ll _ (one_ll _)) (either_ll (made_ll _ (one_ll _)) (either_ll (inside_ll m).group (either_ll (inside_ll m).aggregate (named_ll (inside_ll m)) refl refl) refl refl) refl refl) refl refl) refl (λ e. cc) (λ k m le. up_refl _))
       (λ m. same_sym (primary_same (inside m)))
 
-  term_reads : Reads (λ m. term (inside m)) n (term_read i)
+  pub term_reads : Reads (λ m. term (inside m)) n (term_read i)
   unfolding term term_read
   term_reads =
       chain_reads _ primary_reads primary_reads (λ m. primary_ll (inside_ll m)) (λ m. primary_ll (inside_ll m))
@@ -121,14 +121,14 @@ module _ {n : ℕ} {i : InsideRead} (r : InsideReads n i) where
       (λ m. made_ll _ (seq_ll (one_ll _) (term_ll (inside_ll m)) refl)) refl refl
       (λ k m le. made_up _ (seq_up (up_refl _) (term_up (inside_above k m le)))) (λ k m le. term_up (inside_above k m le))
 
-  relation_reads : Reads (λ m. relation (inside m)) n (relation_read i)
+  pub relation_reads : Reads (λ m. relation (inside m)) n (relation_read i)
   unfolding relation relation_read
   relation_reads =
       both_reads relation_tree sum_reads
       (optional_reads (step_reads comparisons sum_reads (λ m. sum_ll (inside_ll m))) (λ m. made_ll _ (seq_ll (one_ll _) (sum_ll (inside_ll m)) refl)) (made_opens _ (seq_opens _ (one_opens _))) (λ k m le. made_up _ (seq_up (up_refl _) (sum_up (inside_above k m le)))))
       (λ m. sum_ll (inside_ll m)) (λ m. optional_ll (made_ll _ (seq_ll (one_ll _) (sum_ll (inside_ll m)) refl))) refl refl (λ k m le. sum_up (inside_above k m le))
 
-  land_reads : Reads (λ m. land (inside m)) n (land_read i)
+  pub land_reads : Reads (λ m. land (inside m)) n (land_read i)
   unfolding land land_read
   land_reads =
       chain_reads _ relation_reads relation_reads (λ m. relation_ll (inside_ll m)) (λ m. relation_ll (inside_ll m))
@@ -139,7 +139,7 @@ module _ {n : ℕ} {i : InsideRead} (r : InsideReads n i) where
   unfolding negated_read
   negated_reads = leading_reads _ negated_tree land_reads (λ m. land_ll (inside_ll m)) refl
 
-  expr_of_reads : Reads expr n (expr_of_read i)
+  pub expr_of_reads : Reads expr n (expr_of_read i)
   unfolding expr expr_of expr_of_read
   expr_of_reads =
       chain_reads _ negated_reads land_reads (λ m. made_ll _ (seq_ll (optional_ll (one_ll _)) (land_ll (inside_ll m)) refl)) (λ m. land_ll (inside_ll m))
@@ -184,7 +184,7 @@ module _ {n : ℕ} {a : Reader PlainExpr} (r : Reads expr n a) where
   unfolding arg arg_read
   arg_reads = either_reads option_reads needed_reads (λ m. option_ll (expr_ll m)) (λ m. needed_ll (expr_ll m)) refl (λ e. cc) (λ k m le. option_up (expr_above k m le))
 
-  later_reads : Reads (λ m. later (expr m)) n (later_read a)
+  pub later_reads : Reads (λ m. later (expr m)) n (later_read a)
   unfolding later later_read
   later_reads =
       either_reads (token_reads _ behind arg_reads (λ m. arg_ll (expr_ll m))) option_reads
@@ -240,9 +240,6 @@ expr_reads n = expr_of_reads (inside_reads n)
 
 pub exprs_reads : (n : ℕ) → Reads (λ m. exprs (expr m)) n (exprs_read (expr_read n))
 exprs_reads n = exprs_of_reads (expr_reads n)
-
-pub index_reads : (n : ℕ) → Reads (λ m. (inside m).index) n (inside_read n).index
-index_reads n = (inside_reads n).index
 
 pub parts_reads : (n : ℕ) → Reads parts n (parts_read (inside_read n))
 unfolding parts
