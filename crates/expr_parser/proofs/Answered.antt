@@ -241,9 +241,6 @@ expr_reads n = expr_of_reads (inside_reads n)
 pub exprs_reads : (n : ℕ) → Reads (λ m. exprs (expr m)) n (exprs_read (expr_read n))
 exprs_reads n = exprs_of_reads (expr_reads n)
 
-pub index_reads : (n : ℕ) → Reads (λ m. (inside m).index) n (inside_read n).index
-index_reads n = (inside_reads n).index
-
 pub parts_reads : (n : ℕ) → Reads parts n (parts_read (inside_read n))
 unfolding parts
 parts_reads n = parts_of_reads (inside_reads n)

@@ -1,3 +1,6 @@
 pub mod Ahead
 pub mod Answered
 pub mod Told
+pub mod Taking
+pub mod Rounds
+pub mod Arms

@@ -27,6 +27,7 @@ static ARG_SIGNS: [Sign; 11] = [
 
 /// Arguments in parentheses, or an empty pair of them.
 #[cycle(expr)]
+#[tactic(auto, unfolding(crate::specs::Reads::inside_read, crate::specs::Reads::call_read, rapid_forms::specs::Reading::seq_read, rapid_forms::specs::Reading::made_read, rapid_forms::specs::Reading::then_read, rapid_forms::specs::Reading::nothing_read))]
 pub(crate) fn call<'a>(
     p: &Parser<'_, 'a>,
     at: usize,
@@ -45,6 +46,7 @@ pub(crate) fn call<'a>(
 
 /// Arguments, where any are there.
 #[cycle(expr)]
+#[tactic(auto, unfolding(rapid_forms::specs::Reading::made_read, rapid_forms::specs::Reading::optional_read, rapid_forms::specs::Reading::then_read))]
 pub(crate) fn args_if_any<'a>(
     p: &Parser<'_, 'a>,
     at: usize,
@@ -61,6 +63,7 @@ pub(crate) fn args_if_any<'a>(
 
 /// Arguments, one at least.
 #[cycle(expr)]
+#[tactic(auto, unfolding(crate::specs::Reads::inside_read, rapid_forms::specs::Reading::nothing_read))]
 fn args<'a>(
     p: &Parser<'_, 'a>,
     at: usize,
@@ -75,6 +78,7 @@ fn args<'a>(
 }
 
 #[cycle(expr)]
+#[tactic(auto, unfolding(crate::specs::Reads::args_read, rapid_forms::specs::Reading::made_read, rapid_forms::specs::Reading::seq_read, rapid_forms::specs::Reading::then_read))]
 fn some_args<'a>(
     p: &Parser<'_, 'a>,
     at: usize,
@@ -96,6 +100,7 @@ fn some_args<'a>(
 
 /// An argument behind others: behind a comma any, and else an option.
 #[cycle(expr)]
+#[tactic(auto, unfolding(crate::specs::Reads::later_read, rapid_forms::specs::Reading::either_read, rapid_forms::specs::Reading::made_read, rapid_forms::specs::Reading::seq_read, rapid_forms::specs::Reading::then_read))]
 fn later_arg<'a>(
     p: &Parser<'_, 'a>,
     at: usize,
@@ -112,6 +117,7 @@ fn later_arg<'a>(
 
 /// A value or an option.
 #[cycle(expr)]
+#[tactic(auto, unfolding(crate::specs::Reads::arg_read, crate::specs::Reads::needed_read, rapid_forms::specs::Reading::either_read, rapid_forms::specs::Reading::made_read, rapid_forms::specs::Reading::then_read))]
 fn arg<'a>(
     p: &Parser<'_, 'a>,
     at: usize,
@@ -128,6 +134,7 @@ fn arg<'a>(
 
 /// An option.
 #[cycle(expr)]
+#[tactic(auto, unfolding(crate::specs::Reads::option_read, rapid_forms::specs::Reading::made_read, rapid_forms::specs::Reading::seq_read, rapid_forms::specs::Reading::then_read))]
 fn option<'a>(
     p: &Parser<'_, 'a>,
     at: usize,
@@ -143,6 +150,7 @@ fn option<'a>(
 
 /// The value of an option, if it has one.
 #[cycle(expr)]
+#[tactic(auto, unfolding(rapid_forms::specs::Reading::optional_read, rapid_forms::specs::Reading::then_read))]
 fn value_if_any<'a>(
     p: &Parser<'_, 'a>,
     at: usize,
@@ -158,6 +166,7 @@ fn value_if_any<'a>(
 }
 
 #[cycle(expr)]
+#[tactic(auto, unfolding(crate::specs::Reads::value_read, rapid_forms::specs::Reading::made_read, rapid_forms::specs::Reading::seq_read, rapid_forms::specs::Reading::then_read))]
 fn value<'a>(
     p: &Parser<'_, 'a>,
     at: usize,

@@ -36,6 +36,7 @@ pub(crate) fn expr<'a>(
 
 /// A chain of a level.
 #[cycle(expr)]
+#[tactic(auto, unfolding(crate::specs::Reads::chain_read, rapid_forms::specs::Reading::made_read, rapid_forms::specs::Reading::seq_read, rapid_forms::specs::Reading::then_read))]
 fn chain<'a>(
     p: &Parser<'_, 'a>,
     at: usize,
@@ -124,6 +125,7 @@ fn steps<'a>(
 
 /// An operator of a level and the operand behind it.
 #[cycle(expr)]
+#[tactic(auto, unfolding(crate::specs::Reads::step_read, rapid_forms::specs::Reading::made_read, rapid_forms::specs::Reading::seq_read, rapid_forms::specs::Reading::then_read))]
 fn step<'a>(
     p: &Parser<'_, 'a>,
     at: usize,
@@ -139,6 +141,7 @@ fn step<'a>(
 
 /// NOT, if it is there, and what it covers.
 #[cycle(expr)]
+#[tactic(auto, unfolding(crate::specs::Reads::negated_read, rapid_forms::specs::Reading::made_read, rapid_forms::specs::Reading::seq_read, rapid_forms::specs::Reading::optional_read, rapid_forms::specs::Reading::then_read))]
 fn negated<'a>(
     p: &Parser<'_, 'a>,
     at: usize,
@@ -157,6 +160,7 @@ fn negated<'a>(
 
 /// A leading sign, if it is there, and the term that it covers.
 #[cycle(expr)]
+#[tactic(auto, unfolding(crate::specs::Reads::signed_read, rapid_forms::specs::Reading::made_read, rapid_forms::specs::Reading::seq_read, rapid_forms::specs::Reading::optional_read, rapid_forms::specs::Reading::then_read))]
 fn signed<'a>(
     p: &Parser<'_, 'a>,
     at: usize,
@@ -175,6 +179,7 @@ fn signed<'a>(
 
 /// A sum, or two that are compared.
 #[cycle(expr)]
+#[tactic(auto, unfolding(crate::specs::Reads::relation_read, rapid_forms::specs::Reading::made_read, rapid_forms::specs::Reading::seq_read, rapid_forms::specs::Reading::optional_read, rapid_forms::specs::Reading::then_read))]
 fn relation<'a>(
     p: &Parser<'_, 'a>,
     at: usize,
@@ -195,6 +200,7 @@ fn relation<'a>(
 
 /// A comparison and the sum behind it.
 #[cycle(expr)]
+#[tactic(auto, unfolding(crate::specs::Reads::step_read, rapid_forms::specs::Reading::made_read, rapid_forms::specs::Reading::seq_read, rapid_forms::specs::Reading::then_read))]
 fn comparison<'a>(
     p: &Parser<'_, 'a>,
     at: usize,

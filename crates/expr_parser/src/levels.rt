@@ -12,6 +12,7 @@ use rapid_model::RawExpr;
 
 /// An expression in parentheses.
 #[cycle(expr)]
+#[tactic(auto, unfolding(crate::specs::Reads::inside_read, crate::specs::Reads::group_read, rapid_forms::specs::Reading::made_read, rapid_forms::specs::Reading::seq_read, rapid_forms::specs::Reading::then_read, rapid_forms::specs::Reading::nothing_read))]
 pub(crate) fn group<'a>(
     p: &Parser<'_, 'a>,
     at: usize,
@@ -31,6 +32,7 @@ pub(crate) fn group<'a>(
 
 /// Values in brackets.
 #[cycle(expr)]
+#[tactic(auto, unfolding(crate::specs::Reads::inside_read, crate::specs::Reads::aggregate_read, rapid_forms::specs::Reading::made_read, rapid_forms::specs::Reading::seq_read, rapid_forms::specs::Reading::then_read, rapid_forms::specs::Reading::nothing_read))]
 pub(crate) fn aggregate<'a>(
     p: &Parser<'_, 'a>,
     at: usize,
@@ -49,6 +51,7 @@ pub(crate) fn aggregate<'a>(
 
 /// An index in braces.
 #[cycle(expr)]
+#[tactic(auto, unfolding(crate::specs::Reads::inside_read, crate::specs::Reads::index_read, rapid_forms::specs::Reading::made_read, rapid_forms::specs::Reading::seq_read, rapid_forms::specs::Reading::then_read, rapid_forms::specs::Reading::nothing_read))]
 pub(crate) fn index<'a>(
     p: &Parser<'_, 'a>,
     at: usize,
@@ -67,6 +70,7 @@ pub(crate) fn index<'a>(
 
 /// Expressions with commas between them, one at least.
 #[cycle(expr)]
+#[tactic(auto, unfolding(crate::specs::Reads::exprs_read, rapid_forms::specs::Reading::made_read, rapid_forms::specs::Reading::seq_read, rapid_forms::specs::Reading::then_read))]
 pub(crate) fn exprs<'a>(
     p: &Parser<'_, 'a>,
     at: usize,
@@ -88,6 +92,7 @@ pub(crate) fn exprs<'a>(
 
 /// A comma and the expression behind it.
 #[cycle(expr)]
+#[tactic(auto, unfolding(rapid_forms::specs::Reading::made_read, rapid_forms::specs::Reading::seq_read, rapid_forms::specs::Reading::then_read))]
 fn more_expr<'a>(
     p: &Parser<'_, 'a>,
     at: usize,

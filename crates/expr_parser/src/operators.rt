@@ -2,17 +2,25 @@
 
 ghost use Rattle.std.specs.Prelude.{◌≡◌};
 ghost use Rattle.rapid_lexer.specs.Tokens.{view};
-ghost use Rattle.expr_parser.specs.Operators.{is_minus, is_true, operator_of};
+ghost use Rattle.expr_parser.specs.Operators.{is_minus, is_true, operator_in, operator_of, operator_rows};
 
 use rapid_forms::{Sign, sign_of};
 use rapid_lexer::Token;
 use rapid_model::Operator;
 
 /// The operator that a token is, where it is one.
+#[tactic(auto, unfolding(crate::specs::Operators::operator_of))]
 pub(crate) fn operator_of(token: &Token<'_>) -> Operator
     ensures { result ≡ operator_of (view token.now) }
 {
-    match sign_of(token) {
+    operator_with(sign_of(token))
+}
+
+#[tactic(auto, unfolding(rapid_forms::specs::Signs::has))]
+fn operator_with(sign: Sign) -> Operator
+    ensures { result ≡ operator_in operator_rows sign }
+{
+    match sign {
         Sign::Xor => Operator::Xor,
         Sign::And => Operator::And,
         Sign::Equal => Operator::Equal,

@@ -14,6 +14,7 @@ use rapid_forms::{Parser, Sign, SyntaxFault};
 use rapid_model::{RawExpr, RawName, RawPlace};
 
 /// A name.
+#[tactic(auto, unfolding(crate::specs::Reads::name_read, rapid_forms::specs::Reading::made_read, rapid_forms::specs::Reading::then_read))]
 pub(crate) fn name<'a>(
     p: &Parser<'_, 'a>,
     at: usize,
@@ -30,6 +31,7 @@ pub(crate) fn name<'a>(
 
 /// An operand without operators.
 #[cycle(expr)]
+#[tactic(auto, unfolding(crate::specs::Reads::primary_read, rapid_forms::specs::Reading::either_read))]
 pub(crate) fn primary<'a>(
     p: &Parser<'_, 'a>,
     at: usize,
@@ -55,6 +57,7 @@ pub(crate) fn primary<'a>(
     named(p, at, left)
 }
 
+#[tactic(auto, unfolding(rapid_forms::specs::Reading::made_read, rapid_forms::specs::Reading::then_read))]
 fn number<'a>(p: &Parser<'_, 'a>, at: usize) -> Result<(RawExpr<'a>, usize), SyntaxFault>
     ensures { Gives p.now.tokens view_expr result (made_read number_tree (mark_read Sign.Number) (rest_from p.now.tokens at)) }
 {
@@ -62,6 +65,7 @@ fn number<'a>(p: &Parser<'_, 'a>, at: usize) -> Result<(RawExpr<'a>, usize), Syn
     Ok((RawExpr::number(token.at, token.text), next))
 }
 
+#[tactic(auto, unfolding(rapid_forms::specs::Reading::made_read, rapid_forms::specs::Reading::then_read))]
 fn quoted<'a>(p: &Parser<'_, 'a>, at: usize) -> Result<(RawExpr<'a>, usize), SyntaxFault>
     ensures { Gives p.now.tokens view_expr result (made_read quoted_tree (mark_read Sign.Quoted) (rest_from p.now.tokens at)) }
 {
@@ -69,6 +73,7 @@ fn quoted<'a>(p: &Parser<'_, 'a>, at: usize) -> Result<(RawExpr<'a>, usize), Syn
     Ok((RawExpr::text(token.at, token.text), next))
 }
 
+#[tactic(auto, unfolding(rapid_forms::specs::Reading::made_read, rapid_forms::specs::Reading::then_read))]
 fn truth<'a>(p: &Parser<'_, 'a>, at: usize) -> Result<(RawExpr<'a>, usize), SyntaxFault>
     ensures { Gives p.now.tokens view_expr result (made_read truth_tree (one_read (Sign.True ∷ Sign.False ∷ [])) (rest_from p.now.tokens at)) }
 {
@@ -78,6 +83,7 @@ fn truth<'a>(p: &Parser<'_, 'a>, at: usize) -> Result<(RawExpr<'a>, usize), Synt
 
 /// A name, and what stands behind it: arguments in parentheses, or what makes it a place.
 #[cycle(expr)]
+#[tactic(auto, unfolding(crate::specs::Reads::named_read, rapid_forms::specs::Reading::made_read, rapid_forms::specs::Reading::seq_read, rapid_forms::specs::Reading::either_read, rapid_forms::specs::Reading::then_read))]
 fn named<'a>(
     p: &Parser<'_, 'a>,
     at: usize,
@@ -97,6 +103,7 @@ fn named<'a>(
 
 /// What stands behind a name in a place: an index, or none, and components.
 #[cycle(expr)]
+#[tactic(auto, unfolding(crate::specs::Reads::parts_read, rapid_forms::specs::Reading::seq_read, rapid_forms::specs::Reading::then_read))]
 pub(crate) fn place_parts<'a>(
     p: &Parser<'_, 'a>,
     at: usize,
@@ -111,6 +118,7 @@ pub(crate) fn place_parts<'a>(
 
 /// An index, if one is there.
 #[cycle(expr)]
+#[tactic(auto, unfolding(rapid_forms::specs::Reading::optional_read, rapid_forms::specs::Reading::then_read))]
 fn index_if_any<'a>(
     p: &Parser<'_, 'a>,
     at: usize,
@@ -143,6 +151,7 @@ fn parts<'a>(
 }
 
 /// A component behind a dot.
+#[tactic(auto, unfolding(crate::specs::Reads::part_read, rapid_forms::specs::Reading::made_read, rapid_forms::specs::Reading::seq_read, rapid_forms::specs::Reading::then_read))]
 fn part<'a>(p: &Parser<'_, 'a>, at: usize) -> Result<(RawName<'a>, usize), SyntaxFault>
     ensures { Gives p.now.tokens view_name result (part_read (rest_from p.now.tokens at)) }
 {

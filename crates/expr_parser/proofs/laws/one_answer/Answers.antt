@@ -2,7 +2,7 @@ use Rattle.rapid_forms.proofs.Spelled.{reads_answer, one_holds, parsed_once, par
 use Rattle.expr_parser.specs.Reads.{expr_read}
 use Rattle.expr_parser.proofs.Ahead.{expr_ll}
 use Rattle.expr_parser.proofs.Answered.{expr_reads, expr_above}
-use Rattle.expr_parser.proofs.Told.{spelled_once}
+use Rattle.expr_parser.proofs.Told.{expr_known, spelled_once}
 use Rattle.expr_parser.proofs.laws.one_answer.Goals as goal
 
 pub returns : goal.returns
@@ -12,5 +12,5 @@ returns c = record {
   fault = λ n ts j k. faulty_once;
   depth = λ n ts j k. deep_once (expr_ll n);
   apart = λ n ts x i j k. (parsed_faulty, parsed_deep (expr_ll n), faulty_deep (expr_ll n));
-  spelling = spelled_once expr_ll expr_above;
+  spelling = spelled_once (expr_known 0);
 }
