@@ -1,1 +1,4 @@
 pub mod Ahead
+pub mod Fits
+pub mod Answered
+pub mod Told
