@@ -1,4 +1,4 @@
 pub mod Ahead
-pub mod Fits
+pub mod Serves
 pub mod Answered
 pub mod Told
