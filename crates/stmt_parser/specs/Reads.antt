@@ -3,11 +3,11 @@
 use Rattle.std.specs.Prelude.{ℕ, zero, suc, List, [], ◌∷◌, Option}
 use mathlib.Core.Logic.{◌⊎◌, inl, inr}
 use Rattle.rapid_lexer.specs.Tokens.{Lexeme}
-use Rattle.rapid_model.specs.Plain.{PlainName, PlainExpr, PlainPlace, PlainArg, PlainStmt}
+use Rattle.rapid_model.specs.Plain.{PlainName, PlainExpr, PlainArg, PlainStmt}
 use Rattle.rapid_forms.specs.declared.sign.Sign.{Sign}
 use Rattle.rapid_forms.specs.declared.sign.Sign.TheVariants as signs
 use Rattle.rapid_forms.specs.Reading.{Reader, seq_read, either_read, optional_read, many_read, made_read, nothing_read}
-use Rattle.expr_parser.specs.Grammar.{behind, none_or, first_and_more, place_tree}
+use Rattle.expr_parser.specs.Grammar.{behind, none_or, place_tree}
 use Rattle.expr_parser.specs.Reads.{InsideRead, inside_read, expr_signs, arg_signs, mark_read, name_read, parts_read, place_read, exprs_read, expr_of_read, left, right}
 use Rattle.stmt_parser.specs.Grammar.{assign_tree, call_tree, goto_tree, return_tree, exit_tree, raise_tree, retry_tree, try_next_tree, connect_tree, label_tree, arm_tree, if_tree, if_one_tree, for_tree, while_tree, case_tree, test_tree}
 
@@ -171,24 +171,14 @@ stmt_of_read i list =
     (either_read (signs.While ∷ []) (while_read i list)
     (either_read (signs.Test ∷ []) (test_read i list) (worded_read i)))))
 
-unfoldable pub items_of_read : Reader PlainStmt → Reader (List PlainStmt)
-items_of_read stmt = many_read stmt_signs stmt
-
--- a list of statements, the first of which opens its level
-unfoldable pub list_of_read : Reader (List PlainStmt) → Reader (List PlainStmt)
-list_of_read some = made_read none_or (optional_read stmt_signs some)
-
--- one statement or more, within so many levels
-unfoldable pub stmts_read : ℕ → Reader (List PlainStmt)
-stmts_read zero = nothing_read stmt_signs
-stmts_read (suc n) = items_of_read (stmt_of_read (inside_read n) (list_of_read (stmts_read n)))
-
+-- a list of statements within so many levels, the first of which its statements open
 unfoldable pub list_read : ℕ → Reader (List PlainStmt)
-list_read n = list_of_read (stmts_read n)
+list_read zero = made_read none_or (optional_read stmt_signs (nothing_read stmt_signs))
+list_read (suc n) = many_read stmt_signs (stmt_of_read (inside_read n) (list_read n))
 
 unfoldable pub stmt_read : ℕ → Reader PlainStmt
 stmt_read n = stmt_of_read (inside_read n) (list_read n)
 
 -- the statements of a list whose level is open
 unfoldable pub items_read : ℕ → Reader (List PlainStmt)
-items_read n = items_of_read (stmt_read n)
+items_read n = many_read stmt_signs (stmt_read n)
