@@ -1,7 +1,7 @@
 -- What building a module answers.
 use Rattle.std.specs.Prelude.{Result, Ok, Err}
 use Rattle.rapid_model.specs.declared.tree.Tree.{Tree}
-use Rattle.rapid_model.specs.Plain.{PlainModule}
+use Rattle.raw_trees.specs.Plain.{PlainModule}
 use Rattle.built_forms.specs.declared.fault.BuildFault.{BuildFault}
 use Rattle.built_forms.specs.declared.fault.BuildFault.TheVariants.{NotBuilt, Memory}
 use Rattle.built_forms.specs.Built.{BuildsTo}

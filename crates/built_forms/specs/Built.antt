@@ -2,11 +2,11 @@
 -- parameters, data and ERROR part, whose statements are built.
 use Rattle.std.specs.Prelude.{◌≡◌, ℕ, Bool, true, false, not, ◌&&◌, is_none, if◌then◌else◌, List, [], ◌∷◌, codes, Option, None, Some, Result, Ok, Err, ◌==◌, length}
 use Rattle.std.specs.Str.{str_eq_ignore_ascii_case}
-use Rattle.rapid_model.specs.declared.raw_routine.RoutineKind.{RoutineKind}
-use Rattle.rapid_model.specs.declared.raw_routine.RoutineKind.TheVariants.{Proc, Func, Trap}
+use Rattle.raw_trees.specs.declared.raw_routine.RoutineKind.{RoutineKind}
+use Rattle.raw_trees.specs.declared.raw_routine.RoutineKind.TheVariants.{Proc, Func, Trap}
 use Rattle.rapid_model.specs.declared.tree.Stmt.{Stmt}
 use Rattle.rapid_model.specs.declared.tree.Tree.{Tree}
-use Rattle.rapid_model.specs.Plain.{PlainStmt, PlainRoutine, PlainItem, PlainModule, Assign, Call, Label, Goto, Return, Exit, Raise, Retry, TryNext, Connect, If, IfOne, For, While, Test, Datum, Routine}
+use Rattle.raw_trees.specs.Plain.{PlainStmt, PlainRoutine, PlainItem, PlainModule, Assign, Call, Label, Goto, Return, Exit, Raise, Retry, TryNext, Connect, If, IfOne, For, While, Test, Datum, Routine}
 use Rattle.built_forms.specs.Moves.{form_of}
 
 -- the byte at which a statement begins

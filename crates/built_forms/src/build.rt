@@ -1,13 +1,14 @@
 //! The tree of a module.
 
 ghost use Rattle.std.specs.Prelude.{◌≡◌, Ok, Err};
-ghost use Rattle.rapid_model.specs.Views.{view_module, view_routine};
+ghost use Rattle.raw_trees.specs.Views.{view_module, view_routine};
 ghost use Rattle.built_forms.specs.Built.{BuildsTo, is_main};
 ghost use Rattle.built_forms.specs.Answers.{Builds};
 
 use crate::fault::BuildFault;
 use crate::moves::form_of;
-use rapid_model::{RawItem, RawModule, RawRoutine, RawStmt, RoutineKind, Sequence, Stmt, Tree};
+use rapid_model::{Sequence, Stmt, Tree};
+use raw_trees::{RawItem, RawModule, RawRoutine, RawStmt, RoutineKind};
 use std::alloc::Global;
 
 /// The tree of a module that is built. `NotBuilt` where an item or a statement is not; `Memory` comes only where memory

@@ -1,11 +1,11 @@
 //! Targets that are written out.
 
 ghost use Rattle.std.specs.Prelude.{◌≡◌, ℤ, neg_ℤ, if◌then◌else◌, map, option_map};
-ghost use Rattle.rapid_model.specs.Plain.{exprs_of};
-ghost use Rattle.rapid_model.specs.Views.{view_expr};
+ghost use Rattle.raw_trees.specs.Plain.{exprs_of};
+ghost use Rattle.raw_trees.specs.Views.{view_expr};
 ghost use Rattle.built_forms.specs.Moves.{number_of, six_of, target_of};
 
-use rapid_model::{RawExpr, RawExprForm};
+use raw_trees::{RawExpr, RawExprForm};
 use rapid_num::{Joints, Num, read_literal};
 
 /// The same size with the other sign.

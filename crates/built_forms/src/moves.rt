@@ -1,14 +1,15 @@
 //! Statements that are built.
 
 ghost use Rattle.std.specs.Prelude.{◌≡◌, map, option_map, slice_get};
-ghost use Rattle.rapid_model.specs.Plain.{args_of};
-ghost use Rattle.rapid_model.specs.Views.{view_arg, view_expr, view_stmt};
+ghost use Rattle.raw_trees.specs.Plain.{args_of};
+ghost use Rattle.raw_trees.specs.Views.{view_arg, view_expr, view_stmt};
 ghost use Rattle.built_forms.specs.Moves.{are_built, form_of, move_of_values, options_of, values_of};
 
 use crate::joints::target_of;
 use crate::speeds::speed_named;
 use crate::words::{is_spelled, word_of};
-use rapid_model::{Form, RawArg, RawExpr, RawForm, RawStmt};
+use rapid_model::Form;
+use raw_trees::{RawArg, RawExpr, RawForm, RawStmt};
 
 /// Value `number` among some arguments, from 0.
 fn value<'e, 'a>(args: &'e [RawArg<'a>], number: usize) -> Option<&'e RawExpr<'a>>

@@ -1,10 +1,10 @@
 //! Expressions that are one name.
 
 ghost use Rattle.std.specs.Prelude.{◌≡◌, option_map};
-ghost use Rattle.rapid_model.specs.Views.{view_expr};
+ghost use Rattle.raw_trees.specs.Views.{view_expr};
 ghost use Rattle.built_forms.specs.Moves.{is_spelled, word_of};
 
-use rapid_model::{RawExpr, RawExprForm};
+use raw_trees::{RawExpr, RawExprForm};
 
 /// The name that an expression is, where it is one.
 pub(crate) fn word_of<'a>(e: &RawExpr<'a>) -> Option<&'a [u8]>

@@ -2,7 +2,7 @@
 -- more; and each first sign of a form that opens a level does begin it. Lines that begin alike stand here with the common
 -- part taken out too, as they are read.
 use Rattle.std.proofs.Common.{ℕ, zero, suc, ◌≤◌, true, false, List, [], ◌∷◌, ◌++◌, refl}
-use Rattle.rapid_model.specs.Plain.{PlainExpr, PlainArg, Place}
+use Rattle.raw_trees.specs.Plain.{PlainExpr, PlainArg, Place}
 use Rattle.rapid_forms.specs.declared.sign.Sign.{Sign}
 use Rattle.rapid_forms.specs.declared.sign.Sign.TheVariants as signs
 use Rattle.rapid_forms.specs.Forms.{Form, one, seq, either, optional, many, made}

@@ -2,7 +2,7 @@
 -- level stands within one less.
 use Rattle.std.proofs.Common.{◌≡◌, ℕ, zero, suc, ◌≤◌, Bool, true, false, ◌&&◌, List, ◌++◌, Option, None, Some, refl, subst}
 use Rattle.rapid_lexer.specs.Tokens.{Lexeme}
-use Rattle.rapid_model.specs.Plain.{PlainExpr, PlainArg}
+use Rattle.raw_trees.specs.Plain.{PlainExpr, PlainArg}
 use Rattle.rapid_forms.specs.declared.sign.Sign.{Sign}
 use Rattle.rapid_forms.specs.declared.sign.Sign.TheVariants as signs
 use Rattle.rapid_forms.specs.Forms.{Form, one, seq, optional, made}

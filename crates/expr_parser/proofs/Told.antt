@@ -1,7 +1,7 @@
 -- What the functions of expressions give, and what their callers are told: each follows from the other.
 use Rattle.std.proofs.Common.{◌≡◌, ℕ, ◌+◌, ◌≤◌, Bool, List, length, min, Option, Result, Ok, Err, arith}
 use Rattle.rapid_lexer.specs.Tokens.{Lexeme, views}
-use Rattle.rapid_model.specs.Plain.{PlainName, PlainExpr, PlainArg}
+use Rattle.raw_trees.specs.Plain.{PlainName, PlainExpr, PlainArg}
 use Rattle.rapid_forms.specs.declared.sign.Sign.{Sign}
 use Rattle.rapid_forms.specs.declared.fault.SyntaxFault.{SyntaxFault}
 use Rattle.rapid_forms.specs.declared.tokens.Tokens.{Tokens}

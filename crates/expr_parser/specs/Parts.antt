@@ -1,11 +1,11 @@
 -- Lists of trees, and what stands behind a name in a place, as contracts see them.
 use Rattle.std.specs.Prelude.{List, Option, map, option_map, Vec}
 use Rattle.std.specs.declared.alloc.Global.{Global}
-use Rattle.rapid_model.specs.declared.raw_expr.RawExpr.{RawExpr}
-use Rattle.rapid_model.specs.declared.raw_expr.RawArg.{RawArg}
-use Rattle.rapid_model.specs.declared.raw_name.RawName.{RawName}
-use Rattle.rapid_model.specs.Views.{view_arg, view_expr, view_name}
-use Rattle.rapid_model.specs.Plain.{PlainName, PlainExpr, PlainArg}
+use Rattle.raw_trees.specs.declared.raw_expr.RawExpr.{RawExpr}
+use Rattle.raw_trees.specs.declared.raw_expr.RawArg.{RawArg}
+use Rattle.raw_trees.specs.declared.raw_name.RawName.{RawName}
+use Rattle.raw_trees.specs.Views.{view_arg, view_expr, view_name}
+use Rattle.raw_trees.specs.Plain.{PlainName, PlainExpr, PlainArg}
 
 -- an index and components, as they are seen
 abbrev pub view_parts : Option RawExpr × Vec RawName Global → Option PlainExpr × List PlainName

@@ -1,7 +1,7 @@
 //! Arguments.
 
 ghost use Rattle.std.specs.Prelude.{map, option_map, ◌∷◌, []};
-ghost use Rattle.rapid_model.specs.Views.{view_arg, view_expr};
+ghost use Rattle.raw_trees.specs.Views.{view_arg, view_expr};
 ghost use Rattle.rapid_forms.specs.Reading.{Gives, made_read, optional_read, rest_from};
 ghost use Rattle.expr_parser.specs.Grammar.{none_or};
 ghost use Rattle.expr_parser.specs.Reads.{arg_read, arg_signs, args_read, expr_of_read, inside_read, later_read, option_read, value_read};
@@ -9,7 +9,7 @@ ghost use Rattle.expr_parser.specs.Reads.{arg_read, arg_signs, args_read, expr_o
 use crate::chains::expr;
 use crate::primary::name;
 use rapid_forms::{Parser, Sign, SyntaxFault};
-use rapid_model::{RawArg, RawExpr};
+use raw_trees::{RawArg, RawExpr};
 
 static ARG_SIGNS: [Sign; 11] = [
     Sign::Backslash,

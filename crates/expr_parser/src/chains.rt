@@ -2,7 +2,7 @@
 
 ghost use Rattle.std.specs.Prelude.{map};
 ghost use Rattle.rapid_forms.specs.Forms.{place};
-ghost use Rattle.rapid_model.specs.Views.{view_expr, view_step};
+ghost use Rattle.raw_trees.specs.Views.{view_expr, view_step};
 ghost use Rattle.rapid_forms.specs.Reading.{Gives, Makes, many_read, rest_from};
 ghost use Rattle.expr_parser.specs.Grammar.{chain_tree, comparisons};
 ghost use Rattle.expr_parser.specs.Reads.{expr_of_read, first_read, inside_read, level_read, negated_read, operand_read, operators_of, relation_read, signed_read, step_read, sum_read};
@@ -11,7 +11,7 @@ use crate::level::Level;
 use crate::operators::{is_minus, operator_of};
 use crate::primary::primary;
 use rapid_forms::{Parser, Sign, SyntaxFault};
-use rapid_model::{Operator, RawExpr};
+use raw_trees::{Operator, RawExpr};
 
 static COMPARISONS: [Sign; 6] = [
     Sign::Equal,

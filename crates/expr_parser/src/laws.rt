@@ -2,7 +2,7 @@
 
 ghost use Rattle.std.specs.Prelude.{◌≡◌, ℕ, List, ◌⊎◌};
 ghost use Rattle.rapid_lexer.specs.Tokens.{Lexeme};
-ghost use Rattle.rapid_model.specs.Plain.{PlainExpr};
+ghost use Rattle.raw_trees.specs.Plain.{PlainExpr};
 ghost use Rattle.rapid_forms.specs.Parsed.{IsFaulty, IsParsed, IsTooDeep, Spells};
 ghost use Rattle.expr_parser.specs.Grammar.{expr};
 

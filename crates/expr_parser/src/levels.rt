@@ -1,14 +1,14 @@
 //! Forms between two marks, each of which opens a level.
 
 ghost use Rattle.std.specs.Prelude.{map, ◌∷◌, []};
-ghost use Rattle.rapid_model.specs.Views.{view_expr};
+ghost use Rattle.raw_trees.specs.Views.{view_expr};
 ghost use Rattle.rapid_forms.specs.Reading.{Gives, made_read, rest_from, seq_read};
 ghost use Rattle.expr_parser.specs.Grammar.{behind};
 ghost use Rattle.expr_parser.specs.Reads.{expr_of_read, exprs_read, inside_read, mark_read};
 
 use crate::chains::expr;
 use rapid_forms::{Parser, Sign, SyntaxFault};
-use rapid_model::RawExpr;
+use raw_trees::RawExpr;
 
 /// An expression in parentheses.
 #[cycle(expr)]

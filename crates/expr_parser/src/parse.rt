@@ -2,7 +2,7 @@
 
 ghost use Rattle.std.specs.Prelude.{◌≤◌, ◌-◌, length, map};
 ghost use Rattle.rapid_lexer.specs.Tokens.{views};
-ghost use Rattle.rapid_model.specs.Views.{view_arg, view_expr};
+ghost use Rattle.raw_trees.specs.Views.{view_arg, view_expr};
 ghost use Rattle.rapid_forms.specs.Parsed.{Parses};
 ghost use Rattle.expr_parser.specs.Grammar.{args, expr, exprs, inside, parts};
 ghost use Rattle.expr_parser.specs.Parts.{view_parts};
@@ -13,7 +13,7 @@ use crate::levels::{exprs, index};
 use crate::primary::place_parts;
 use rapid_forms::{Parser, SyntaxFault, Tokens};
 use rapid_lexer::Token;
-use rapid_model::{RawArg, RawExpr, RawName};
+use raw_trees::{RawArg, RawExpr, RawName};
 use std::alloc::Global;
 
 /// The expression that begins at token `at`, and the number of the token behind it.

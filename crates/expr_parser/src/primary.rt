@@ -1,7 +1,7 @@
 //! Operands without operators: literals, groups, aggregates, calls and places.
 
 ghost use Rattle.std.specs.Prelude.{map, option_map, ◌∷◌, []};
-ghost use Rattle.rapid_model.specs.Views.{view_expr, view_name};
+ghost use Rattle.raw_trees.specs.Views.{view_expr, view_name};
 ghost use Rattle.rapid_forms.specs.Reading.{Gives, made_read, many_read, one_read, optional_read, rest_from};
 ghost use Rattle.expr_parser.specs.Grammar.{number_tree, quoted_tree, truth_tree};
 ghost use Rattle.expr_parser.specs.Parts.{view_parts};
@@ -11,7 +11,7 @@ use crate::args::call;
 use crate::levels::{aggregate, group, index};
 use crate::operators::is_true;
 use rapid_forms::{Parser, Sign, SyntaxFault};
-use rapid_model::{RawExpr, RawName, RawPlace};
+use raw_trees::{RawExpr, RawName, RawPlace};
 
 /// A name.
 #[tactic(auto, unfolding(crate::specs::Reads::name_read, rapid_forms::specs::Reading::made_read, rapid_forms::specs::Reading::then_read))]

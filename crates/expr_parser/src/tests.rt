@@ -1,7 +1,7 @@
 use crate::parse_expr;
 use rapid_forms::{SyntaxFault, SyntaxRule};
 use rapid_lexer::read_tokens;
-use rapid_model::{Operator, RawArg, RawExprForm};
+use raw_trees::{Operator, RawArg, RawExprForm};
 use std::rt::HostRuntime;
 
 #[test]

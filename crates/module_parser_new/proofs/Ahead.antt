@@ -3,7 +3,7 @@
 -- taken out too, as they are read.
 use Rattle.std.proofs.Common.{ℕ, suc, true, false, List, [], ◌∷◌, ◌++◌, refl, subst, ◌⊎◌, inr}
 use Rattle.std.proofs.lemmas.List.{append-nil}
-use Rattle.rapid_model.specs.Plain.{PlainItem}
+use Rattle.raw_trees.specs.Plain.{PlainItem}
 use Rattle.rapid_forms.specs.declared.sign.Sign.{Sign}
 use Rattle.rapid_forms.specs.declared.sign.Sign.TheVariants as signs
 use Rattle.rapid_forms.specs.Forms.{Form, seq, either, made}

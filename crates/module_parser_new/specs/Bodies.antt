@@ -1,6 +1,6 @@
 -- The body of a routine, as its parser's contracts see it.
 use Rattle.std.specs.Prelude.{map, option_map}
-use Rattle.rapid_model.specs.Views.{view_datum, view_list}
+use Rattle.raw_trees.specs.Views.{view_datum, view_list}
 use Rattle.module_parser_new.specs.declared.body.Body.{Body}
 use Rattle.module_parser_new.specs.Grammar.{Body as PlainBody}
 

@@ -14,12 +14,12 @@
 --   body     = { (CONST | VAR) rest } list [ ERROR list ]
 use Rattle.std.specs.Prelude.{ℕ, Bool, true, false, is_some, List, [], ◌∷◌, Option, None, Some}
 use Rattle.rapid_lexer.specs.Tokens.{Lexeme}
-use Rattle.rapid_model.specs.declared.raw_module.Attribute.{Attribute}
-use Rattle.rapid_model.specs.declared.raw_datum.DatumKind.{DatumKind}
-use Rattle.rapid_model.specs.declared.raw_routine.RoutineKind.TheVariants as kinds
-use Rattle.rapid_model.specs.declared.raw_routine.Mode.{Mode}
-use Rattle.rapid_model.specs.declared.raw_routine.Mode.TheVariants as modes
-use Rattle.rapid_model.specs.Plain.{PlainName, PlainExpr, PlainStmt, PlainDatum, PlainParam, PlainRoutine, PlainItem, PlainModule, Datum, Routine}
+use Rattle.raw_trees.specs.declared.raw_module.Attribute.{Attribute}
+use Rattle.raw_trees.specs.declared.raw_datum.DatumKind.{DatumKind}
+use Rattle.raw_trees.specs.declared.raw_routine.RoutineKind.TheVariants as kinds
+use Rattle.raw_trees.specs.declared.raw_routine.Mode.{Mode}
+use Rattle.raw_trees.specs.declared.raw_routine.Mode.TheVariants as modes
+use Rattle.raw_trees.specs.Plain.{PlainName, PlainExpr, PlainStmt, PlainDatum, PlainParam, PlainRoutine, PlainItem, PlainModule, Datum, Routine}
 use Rattle.rapid_forms.specs.declared.sign.Sign.{Sign}
 use Rattle.rapid_forms.specs.declared.sign.Sign.TheVariants as signs
 use Rattle.rapid_forms.specs.Forms.{Form, one, seq, either, optional, many, made}

@@ -2,9 +2,9 @@
 use Rattle.std.specs.Prelude.{◌≡◌, ℕ, List, length, take, drop, Result, Ok, Err, ◌⊎◌}
 use Rattle.rapid_lexer.specs.Tokens.{Lexeme, Tiles}
 use Rattle.rapid_lexer.specs.Faults.{IsFirstMisfit}
-use Rattle.rapid_model.specs.declared.raw_module.RawModule.{RawModule}
-use Rattle.rapid_model.specs.Plain.{PlainModule}
-use Rattle.rapid_model.specs.Views.{view_module}
+use Rattle.raw_trees.specs.declared.raw_module.RawModule.{RawModule}
+use Rattle.raw_trees.specs.Plain.{PlainModule}
+use Rattle.raw_trees.specs.Views.{view_module}
 use Rattle.rapid_forms.specs.declared.fault.SyntaxFault.{SyntaxFault}
 use Rattle.rapid_forms.specs.declared.fault.SyntaxFault.TheVariants.{Rule, Lex, Memory}
 use Rattle.rapid_forms.specs.Forms.{Form}

@@ -7,7 +7,7 @@ ghost use Rattle.module_parser_new.specs.Reads.{body_read};
 use crate::data::locals;
 use crate::names::{handler_if_any, list};
 use rapid_forms::{Parser, SyntaxFault};
-use rapid_model::{RawDatum, RawStmt};
+use raw_trees::{RawDatum, RawStmt};
 
 /// The data of a routine, its statements, and its ERROR part.
 #[derive(Drop)]

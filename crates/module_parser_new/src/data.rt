@@ -1,14 +1,14 @@
 //! Declarations of data.
 
 ghost use Rattle.std.specs.Prelude.{map, ◌∷◌, []};
-ghost use Rattle.rapid_model.specs.Views.{view_datum};
+ghost use Rattle.raw_trees.specs.Views.{view_datum};
 ghost use Rattle.rapid_forms.specs.Reading.{Gives, rest_from};
 ghost use Rattle.module_parser_new.specs.Reads.{datum_read, locals_read};
 
 use crate::names::{length_if_any, name, value_if_any};
 use crate::words::kind_of;
 use rapid_forms::{Parser, Sign, SyntaxFault};
-use rapid_model::RawDatum;
+use raw_trees::RawDatum;
 
 /// A datum that one of these words declares.
 pub(crate) fn datum<'a>(

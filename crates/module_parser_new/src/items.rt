@@ -3,7 +3,7 @@
 ghost use Rattle.std.specs.Prelude.{Ok, Some, None};
 ghost use Rattle.rapid_lexer.specs.Tokens.{view};
 ghost use Rattle.std.specs.Option.{option_map};
-ghost use Rattle.rapid_model.specs.Views.{view_item};
+ghost use Rattle.raw_trees.specs.Views.{view_item};
 ghost use Rattle.rapid_forms.specs.Forms.{place};
 ghost use Rattle.rapid_forms.specs.Reading.{Gives, rest_from, then_read};
 ghost use Rattle.module_parser_new.specs.Grammar.{datum_item, func_tree, proc_tree, trap_tree};
@@ -15,7 +15,7 @@ use crate::names::name;
 use crate::params::params;
 use rapid_forms::{Parser, Sign, SyntaxFault};
 use rapid_lexer::Token;
-use rapid_model::{RawItem, RawRoutine, RoutineKind};
+use raw_trees::{RawItem, RawRoutine, RoutineKind};
 
 static DATUM_SIGNS: [Sign; 3] = [Sign::Const, Sign::Var, Sign::Pers];
 

@@ -1,7 +1,7 @@
 //! A whole module.
 
 ghost use Rattle.std.specs.Prelude.{map, ◌∷◌, []};
-ghost use Rattle.rapid_model.specs.Views.{view_item, view_module};
+ghost use Rattle.raw_trees.specs.Views.{view_item, view_module};
 ghost use Rattle.rapid_forms.specs.Reading.{Gives, made_read, many_read, optional_read, rest_from};
 ghost use Rattle.expr_parser.specs.Grammar.{none_or};
 ghost use Rattle.module_parser_new.specs.Reads.{attribute_read, attributes_read, item_read, item_signs, module_read, more_attribute_read};
@@ -10,7 +10,7 @@ use crate::items::item;
 use crate::names::name;
 use crate::words::attribute_of;
 use rapid_forms::{Parser, Sign, SyntaxFault};
-use rapid_model::{Attribute, RawItem, RawModule};
+use raw_trees::{Attribute, RawItem, RawModule};
 
 static ITEM_SIGNS: [Sign; 8] = [
     Sign::Task,

@@ -1,14 +1,14 @@
 //! Names, and the parts that the layers below read.
 
 ghost use Rattle.std.specs.Prelude.{option_map, ◌∷◌, []};
-ghost use Rattle.rapid_model.specs.Views.{view_expr, view_list, view_name};
+ghost use Rattle.raw_trees.specs.Views.{view_expr, view_list, view_name};
 ghost use Rattle.rapid_forms.specs.Reading.{Gives, optional_read, rest_from};
 ghost use Rattle.expr_parser.specs.Reads.{expr_of_read, inside_read, name_read, value_read};
 ghost use Rattle.stmt_parser.specs.Reads.{if_read, list_read};
 
 use expr_parser::{parse_expr, parse_index};
 use rapid_forms::{Parser, Sign, SyntaxFault};
-use rapid_model::{RawExpr, RawName, RawStmt};
+use raw_trees::{RawExpr, RawName, RawStmt};
 use stmt_parser::parse_list;
 
 pub(crate) fn name<'a>(

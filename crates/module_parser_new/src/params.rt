@@ -3,7 +3,7 @@
 ghost use Rattle.std.specs.Prelude.{map};
 ghost use Rattle.rapid_lexer.specs.Tokens.{view};
 ghost use Rattle.std.specs.Option.{option_map};
-ghost use Rattle.rapid_model.specs.Views.{view_param};
+ghost use Rattle.raw_trees.specs.Views.{view_param};
 ghost use Rattle.rapid_forms.specs.Forms.{place};
 ghost use Rattle.rapid_forms.specs.Reading.{Gives, made_read, one_read, optional_read, rest_from};
 ghost use Rattle.expr_parser.specs.Grammar.{none_or};
@@ -13,7 +13,7 @@ use crate::names::name;
 use crate::words::mode_of;
 use rapid_forms::{Parser, Sign, SyntaxFault};
 use rapid_lexer::Token;
-use rapid_model::{Mode, RawParam};
+use raw_trees::{Mode, RawParam};
 
 static MODE_SIGNS: [Sign; 3] = [Sign::Inout, Sign::Var, Sign::Pers];
 

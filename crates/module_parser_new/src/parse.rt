@@ -1,13 +1,13 @@
 //! The public call.
 
 ghost use Rattle.std.specs.Prelude.{◌≡◌, ◌⊎◌, Err, Result};
-ghost use Rattle.rapid_model.specs.Plain.{PlainModule};
+ghost use Rattle.raw_trees.specs.Plain.{PlainModule};
 ghost use Rattle.module_parser_new.specs.Modules.{ModuleText, shown};
 
 use crate::module::module;
 use rapid_forms::{Parser, SyntaxFault, Tokens};
 use rapid_lexer::{TokensFault, read_tokens};
-use rapid_model::RawModule;
+use raw_trees::RawModule;
 use std::alloc::Global;
 
 /// The tree that the whole text spells (RAPID Kernel, module declarations). A lexical fault, wherever it stands, comes

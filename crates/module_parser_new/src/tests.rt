@@ -1,5 +1,5 @@
 use crate::parse_module;
-use rapid_model::RawItem;
+use raw_trees::RawItem;
 use std::rt::HostRuntime;
 
 static SOURCE: &[u8] = b"MODULE m(SYSMODULE, NOVIEW) VAR num x{3} := 1; LOCAL CONST bool c := TRUE; TASK PERS string s; PERS num p; PROC q(num a, INOUT num b, VAR num c, PERS num d) VAR num y; x := 1; ERROR RETRY; ENDPROC LOCAL FUNC num f() RETURN 1; ENDFUNC TRAP t ENDTRAP ENDMODULE";

@@ -6,7 +6,7 @@ ghost use Rattle.module_parser_new.specs.Words.{attribute_of, kind_of, mode_of};
 
 use rapid_forms::{Sign, sign_of};
 use rapid_lexer::Token;
-use rapid_model::{Attribute, DatumKind, Mode};
+use raw_trees::{Attribute, DatumKind, Mode};
 
 pub(crate) fn kind_of(token: &Token<'_>) -> DatumKind
     ensures { result ≡ kind_of (view token.now) }

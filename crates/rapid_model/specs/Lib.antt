@@ -3,5 +3,3 @@ pub mod Names
 pub mod CellData
 pub mod ScriptData
 pub mod Requests
-pub mod Plain
-pub mod Views

@@ -1,7 +1,7 @@
 -- The readers of statements answer for their forms, within any number of levels.
 use Rattle.std.proofs.Common.{ℕ, zero, suc, ◌≤◌, Bool, true, false, List, [], ◌∷◌, ◌++◌, Option, refl}
 use Rattle.rapid_lexer.specs.Tokens.{Lexeme}
-use Rattle.rapid_model.specs.Plain.{PlainExpr, PlainStmt}
+use Rattle.raw_trees.specs.Plain.{PlainExpr, PlainStmt}
 use Rattle.rapid_forms.specs.declared.sign.Sign.{Sign}
 use Rattle.rapid_forms.specs.declared.sign.Sign.TheVariants as signs
 use Rattle.rapid_forms.specs.Forms.{Form, seq, optional, made}

@@ -3,7 +3,7 @@ use Rattle.std.proofs.Common.{◌≡◌, ℕ, suc, List, length, drop, min, Resu
 use Rattle.std.proofs.lemmas.List.{length-map, drop_min}
 use Rattle.rapid_lexer.specs.Tokens.{views}
 use Rattle.rapid_lexer.specs.Tokens.{view as lexeme}
-use Rattle.rapid_model.specs.Plain.{PlainStmt}
+use Rattle.raw_trees.specs.Plain.{PlainStmt}
 use Rattle.rapid_forms.specs.declared.fault.SyntaxFault.{SyntaxFault}
 use Rattle.rapid_forms.specs.declared.tokens.Tokens.{Tokens}
 use Rattle.rapid_forms.specs.Parsed.{Parses}

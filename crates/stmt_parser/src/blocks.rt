@@ -2,7 +2,7 @@
 
 ghost use Rattle.std.specs.Prelude.{◌≤◌, ◌∷◌, map, option_map, Ok};
 ghost use Rattle.rapid_lexer.specs.Tokens.{view};
-ghost use Rattle.rapid_model.specs.Views.{view_arm, view_case, view_expr, view_list, view_stmt};
+ghost use Rattle.raw_trees.specs.Views.{view_arm, view_case, view_expr, view_list, view_stmt};
 ghost use Rattle.rapid_forms.specs.Reading.{Gives, rest_from, then_read};
 ghost use Rattle.expr_parser.specs.Reads.{expr_of_read, inside_read};
 ghost use Rattle.stmt_parser.specs.Grammar.{arm_tree, if_tree};
@@ -13,7 +13,7 @@ use crate::list::list;
 use crate::simple::simple;
 use rapid_forms::{Parser, Sign, SyntaxFault};
 use rapid_lexer::Token;
-use rapid_model::{RawExpr, RawStmt};
+use raw_trees::{RawExpr, RawStmt};
 
 /// IF with lists, or with one statement.
 #[cycle(stmt)]

@@ -1,7 +1,7 @@
 //! Expressions and their parts, within so many levels.
 
 ghost use Rattle.std.specs.Prelude.{◌≤◌, map, ◌∷◌, []};
-ghost use Rattle.rapid_model.specs.Views.{view_expr, view_name};
+ghost use Rattle.raw_trees.specs.Views.{view_expr, view_name};
 ghost use Rattle.rapid_forms.specs.Reading.{Gives, made_read, optional_read, rest_from};
 ghost use Rattle.expr_parser.specs.Grammar.{none_or};
 ghost use Rattle.expr_parser.specs.Parts.{view_args, view_exprs, view_parts};
@@ -10,7 +10,7 @@ ghost use Rattle.stmt_parser.specs.Reads.{behind_read};
 
 use expr_parser::{parse_args, parse_expr, parse_exprs, parse_parts};
 use rapid_forms::{Parser, Sign, SyntaxFault};
-use rapid_model::{RawArg, RawExpr, RawName};
+use raw_trees::{RawArg, RawExpr, RawName};
 
 pub(crate) fn expr<'a>(
     p: &Parser<'_, 'a>,

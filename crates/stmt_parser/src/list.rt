@@ -1,7 +1,7 @@
 //! Lists of statements.
 
 ghost use Rattle.std.specs.Prelude.{◌≤◌};
-ghost use Rattle.rapid_model.specs.Views.{view_list, view_stmt};
+ghost use Rattle.raw_trees.specs.Views.{view_list, view_stmt};
 ghost use Rattle.rapid_forms.specs.Reading.{Gives, rest_from};
 ghost use Rattle.stmt_parser.specs.Reads.{items_read, list_read, stmt_read};
 
@@ -9,7 +9,7 @@ use crate::blocks::{choice, choice_or_one, for_loop, while_loop};
 use crate::named::named;
 use crate::simple::worded;
 use rapid_forms::{Parser, Sign, SyntaxFault};
-use rapid_model::RawStmt;
+use raw_trees::RawStmt;
 
 static STMT_SIGNS: [Sign; 12] = [
     Sign::Name,

@@ -1,7 +1,7 @@
 //! Statements that begin with a name.
 
 ghost use Rattle.std.specs.Prelude.{◌≤◌, Ok};
-ghost use Rattle.rapid_model.specs.Views.{view_name, view_stmt};
+ghost use Rattle.raw_trees.specs.Views.{view_name, view_stmt};
 ghost use Rattle.rapid_forms.specs.Reading.{Gives, rest_from, then_read};
 ghost use Rattle.expr_parser.specs.Reads.{inside_read, mark_read};
 ghost use Rattle.stmt_parser.specs.Grammar.{call_tree, label_tree};
@@ -9,7 +9,7 @@ ghost use Rattle.stmt_parser.specs.Reads.{assigned_read, assigned_tree, behind_n
 
 use crate::exprs::{args, expr, name, parts};
 use rapid_forms::{Parser, Sign, SyntaxFault};
-use rapid_model::{RawName, RawPlace, RawStmt};
+use raw_trees::{RawName, RawPlace, RawStmt};
 
 /// A label, an assignment or a call.
 pub(crate) fn named<'a>(

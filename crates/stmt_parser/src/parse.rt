@@ -2,14 +2,14 @@
 
 ghost use Rattle.std.specs.Prelude.{◌≤◌, ◌-◌, length};
 ghost use Rattle.rapid_lexer.specs.Tokens.{views};
-ghost use Rattle.rapid_model.specs.Views.{view_list};
+ghost use Rattle.raw_trees.specs.Views.{view_list};
 ghost use Rattle.rapid_forms.specs.Parsed.{Parses};
 ghost use Rattle.stmt_parser.specs.Grammar.{items};
 
 use crate::list::items;
 use rapid_forms::{Parser, SyntaxFault, Tokens};
 use rapid_lexer::Token;
-use rapid_model::RawStmt;
+use raw_trees::RawStmt;
 use std::alloc::Global;
 
 /// The statements from token `at` on, as many as there are, and the number of the token behind them. `depth` levels of

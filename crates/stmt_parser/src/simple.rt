@@ -1,7 +1,7 @@
 //! Statements without lists.
 
 ghost use Rattle.std.specs.Prelude.{◌≤◌, option_map};
-ghost use Rattle.rapid_model.specs.Views.{view_expr, view_place, view_stmt};
+ghost use Rattle.raw_trees.specs.Views.{view_expr, view_place, view_stmt};
 ghost use Rattle.rapid_forms.specs.Reading.{Gives, rest_from};
 ghost use Rattle.expr_parser.specs.Reads.{inside_read, place_read};
 ghost use Rattle.stmt_parser.specs.Reads.{connect_read, exit_read, goto_read, raise_read, retry_read, return_read, simple_read, try_next_read, value_read, worded_read};
@@ -9,7 +9,7 @@ ghost use Rattle.stmt_parser.specs.Reads.{connect_read, exit_read, goto_read, ra
 use crate::exprs::{expr, name, parts};
 use crate::named::named_simple;
 use rapid_forms::{Parser, Sign, SyntaxFault};
-use rapid_model::{RawExpr, RawPlace, RawStmt};
+use raw_trees::{RawExpr, RawPlace, RawStmt};
 
 /// A statement that has no list and is no label.
 pub(crate) fn simple<'a>(

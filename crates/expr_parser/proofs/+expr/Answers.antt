@@ -1,6 +1,6 @@
 use Rattle.std.proofs.Common.{sym, ◌∙◌, map}
 use Rattle.std.proofs.lemmas.Result.{err_from_is_err_and}
-use Rattle.rapid_model.specs.Views.{view_arg, view_expr, view_step}
+use Rattle.raw_trees.specs.Views.{view_arg, view_expr, view_step}
 use Rattle.rapid_forms.specs.Reading.{rest_from}
 use Rattle.rapid_forms.proofs.Loops.{front_none, loop_done, loop_fails, loop_smaller}
 use Rattle.expr_parser.specs.Reads.{args_read, exprs_read}

@@ -1,5 +1,5 @@
 use Rattle.std.proofs.Common.{◌≡◌, ℕ, ◌+◌, ◌-◌, ◌*◌, [], ◌∷◌, length, map}
-use Rattle.rapid_model.specs.Views.{view_expr, view_step, view_arg}
+use Rattle.raw_trees.specs.Views.{view_expr, view_step, view_arg}
 use Rattle.rapid_forms.specs.declared.sign.Sign.TheVariants as signs
 use Rattle.rapid_forms.specs.Reading.{many_read, made_read, seq_read, rest_from}
 use Rattle.rapid_forms.proofs.Loops.{with_front}

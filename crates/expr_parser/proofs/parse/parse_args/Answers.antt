@@ -1,6 +1,6 @@
 use Rattle.std.proofs.Common.{map}
 use Rattle.std.proofs.lemmas.Result.{err_from_is_err_and}
-use Rattle.rapid_model.specs.Views.{view_arg}
+use Rattle.raw_trees.specs.Views.{view_arg}
 use Rattle.expr_parser.proofs.Told.{found, refused, args_known}
 use Rattle.expr_parser.proofs.parse.parse_args.Goals as goal
 

@@ -1,5 +1,5 @@
 use Rattle.std.proofs.lemmas.Result.{err_from_is_err_and}
-use Rattle.rapid_model.specs.Views.{view_expr}
+use Rattle.raw_trees.specs.Views.{view_expr}
 use Rattle.expr_parser.proofs.Told.{found, refused, index_known}
 use Rattle.expr_parser.proofs.parse.parse_index.Goals as goal
 

@@ -1,5 +1,5 @@
 use Rattle.std.proofs.Common.{◌≡◌, ◌-◌, [], ◌∷◌, length, map}
-use Rattle.rapid_model.specs.Views.{view_name}
+use Rattle.raw_trees.specs.Views.{view_name}
 use Rattle.rapid_forms.specs.declared.sign.Sign.TheVariants as signs
 use Rattle.rapid_forms.specs.Reading.{many_read, rest_from}
 use Rattle.rapid_forms.proofs.Loops.{with_front}

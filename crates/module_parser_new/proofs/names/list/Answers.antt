@@ -1,6 +1,6 @@
 use Rattle.std.proofs.Common.{subst}
 use Rattle.rapid_lexer.specs.Tokens.{views}
-use Rattle.rapid_model.specs.Views.{view_list}
+use Rattle.raw_trees.specs.Views.{view_list}
 use Rattle.rapid_forms.specs.Parsed.{Parses}
 use Rattle.stmt_parser.specs.Grammar.{items}
 use Rattle.stmt_parser.proofs.Told.{list_told}

@@ -1,5 +1,5 @@
 use Rattle.std.proofs.lemmas.Result.{err_from_is_err_and}
-use Rattle.rapid_model.specs.Views.{view_list}
+use Rattle.raw_trees.specs.Views.{view_list}
 use Rattle.expr_parser.proofs.Told.{found, refused}
 use Rattle.stmt_parser.proofs.Told.{items_known}
 use Rattle.stmt_parser.proofs.parse.parse_list.Goals as goal

@@ -4,18 +4,18 @@ use Rattle.std.proofs.Common.{ap}
 use Rattle.std.specs.declared.alloc.Global.{Global}
 use Rattle.std.specs.declared.boxed.Box.{Box}
 use Rattle.std.specs.declared.vec.Vec.{Vec}
-use Rattle.rapid_model.specs.declared.raw_name.RawName.{RawName}
-use Rattle.rapid_model.specs.declared.raw_expr.Operator.{Operator}
-use Rattle.rapid_model.specs.declared.raw_expr.RawArg.{RawArg}
-use Rattle.rapid_model.specs.declared.raw_expr.RawArg.TheBlock.{hidden-the_row-RawExpr-0, hidden-the_row-RawArg-1, hidden-the_row-RawExprForm-Chain-1-2-2}
-use Rattle.rapid_model.specs.declared.raw_expr.RawExpr.{RawExpr}
-use Rattle.rapid_model.specs.declared.raw_expr.RawExprForm.{Aggregate, Call, Chain, Row_of-RawExpr, end_of-RawExpr, more_of-RawExpr, items-the_row-RawExpr, items_hidden-the_row-RawExpr-0, Row_of-RawArg, end_of-RawArg, more_of-RawArg, items-the_row-RawArg, items_hidden-the_row-RawArg-1, Row_of-RawExprForm-Chain-1-2, end_of-RawExprForm-Chain-1-2, more_of-RawExprForm-Chain-1-2, items-the_row-RawExprForm-Chain-1-2, items_hidden-the_row-RawExprForm-Chain-1-2-2}
-use Rattle.rapid_model.specs.declared.raw_stmt.RawStmt.{RawStmt}
-use Rattle.rapid_model.specs.declared.raw_stmt.RawForm.TheBlock.{shown-the_row-RawStmt-0, hidden-the_row-RawStmt-0, hidden-the_row-RawForm-If-0-3-1, hidden-the_row-RawForm-Test-1-3-2}
-use Rattle.rapid_model.specs.declared.raw_stmt.RawForm.{If, For, While, Test, Row_of-RawStmt, end_of-RawStmt, more_of-RawStmt, items-the_row-RawStmt, items_shown-the_row-RawStmt-0, items_hidden-the_row-RawStmt-0, Row_of-RawForm-If-0-3, end_of-RawForm-If-0-3, more_of-RawForm-If-0-3, items-the_row-RawForm-If-0-3, items_hidden-the_row-RawForm-If-0-3-1, Row_of-RawForm-Test-1-3, end_of-RawForm-Test-1-3, more_of-RawForm-Test-1-3, items-the_row-RawForm-Test-1-3, items_hidden-the_row-RawForm-Test-1-3-2, back-RawForm-If-1}
-use Rattle.rapid_model.specs.Plain
-use Rattle.rapid_model.specs.Plain.{arms_of, args_of, cases_of, else_of, exprs_of, steps_of, stmts_of}
-use Rattle.rapid_model.specs.Views.{view_arg, view_args, view_arm, view_arms, view_case, view_cases, view_else, view_expr, view_exprs, view_form, view_list, view_name, view_step, view_steps, view_stmt, view_stmt_form, view_stmts}
+use Rattle.raw_trees.specs.declared.raw_name.RawName.{RawName}
+use Rattle.raw_trees.specs.declared.raw_expr.Operator.{Operator}
+use Rattle.raw_trees.specs.declared.raw_expr.RawArg.{RawArg}
+use Rattle.raw_trees.specs.declared.raw_expr.RawArg.TheBlock.{hidden-the_row-RawExpr-0, hidden-the_row-RawArg-1, hidden-the_row-RawExprForm-Chain-1-2-2}
+use Rattle.raw_trees.specs.declared.raw_expr.RawExpr.{RawExpr}
+use Rattle.raw_trees.specs.declared.raw_expr.RawExprForm.{Aggregate, Call, Chain, Row_of-RawExpr, end_of-RawExpr, more_of-RawExpr, items-the_row-RawExpr, items_hidden-the_row-RawExpr-0, Row_of-RawArg, end_of-RawArg, more_of-RawArg, items-the_row-RawArg, items_hidden-the_row-RawArg-1, Row_of-RawExprForm-Chain-1-2, end_of-RawExprForm-Chain-1-2, more_of-RawExprForm-Chain-1-2, items-the_row-RawExprForm-Chain-1-2, items_hidden-the_row-RawExprForm-Chain-1-2-2}
+use Rattle.raw_trees.specs.declared.raw_stmt.RawStmt.{RawStmt}
+use Rattle.raw_trees.specs.declared.raw_stmt.RawForm.TheBlock.{shown-the_row-RawStmt-0, hidden-the_row-RawStmt-0, hidden-the_row-RawForm-If-0-3-1, hidden-the_row-RawForm-Test-1-3-2}
+use Rattle.raw_trees.specs.declared.raw_stmt.RawForm.{If, For, While, Test, Row_of-RawStmt, end_of-RawStmt, more_of-RawStmt, items-the_row-RawStmt, items_shown-the_row-RawStmt-0, items_hidden-the_row-RawStmt-0, Row_of-RawForm-If-0-3, end_of-RawForm-If-0-3, more_of-RawForm-If-0-3, items-the_row-RawForm-If-0-3, items_hidden-the_row-RawForm-If-0-3-1, Row_of-RawForm-Test-1-3, end_of-RawForm-Test-1-3, more_of-RawForm-Test-1-3, items-the_row-RawForm-Test-1-3, items_hidden-the_row-RawForm-Test-1-3-2, back-RawForm-If-1}
+use Rattle.raw_trees.specs.Plain
+use Rattle.raw_trees.specs.Plain.{arms_of, args_of, cases_of, else_of, exprs_of, steps_of, stmts_of}
+use Rattle.raw_trees.specs.Views.{view_arg, view_args, view_arm, view_arms, view_case, view_cases, view_else, view_expr, view_exprs, view_form, view_list, view_name, view_step, view_steps, view_stmt, view_stmt_form, view_stmts}
 
 row_exprs : {n : _} (row : Row_of-RawExpr n) →
     view_exprs row ≡ exprs_of (map view_expr (items-the_row-RawExpr n row))

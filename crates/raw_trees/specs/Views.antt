@@ -2,22 +2,22 @@
 use Rattle.std.specs.Prelude.{ℕ, List, map, option_map}
 use Rattle.std.specs.declared.alloc.Global.{Global}
 use Rattle.std.specs.declared.vec.Vec.{Vec}
-use Rattle.rapid_model.specs.declared.raw_name.RawName.{RawName}
-use Rattle.rapid_model.specs.declared.raw_expr.Operator.{Operator}
-use Rattle.rapid_model.specs.declared.raw_expr.RawExpr.{RawExpr}
-use Rattle.rapid_model.specs.declared.raw_expr.RawExprForm.{RawExprForm, Number, Text, Bool, Group', Aggregate', Call', Place, Not', Signed', Chain', Row_of-RawExpr, end_of-RawExpr, more_of-RawExpr, Row_of-RawArg, end_of-RawArg, more_of-RawArg, Row_of-RawExprForm-Chain-1-2, end_of-RawExprForm-Chain-1-2, more_of-RawExprForm-Chain-1-2}
-use Rattle.rapid_model.specs.declared.raw_expr.RawArg.{RawArg, Needed', Option', Held-RawArg-Option-1, RawArg-Option-1-None', RawArg-Option-1-Some'}
-use Rattle.rapid_model.specs.declared.raw_expr.RawPlace.{RawPlace, RawPlace', Held-RawPlace-index, RawPlace-index-None', RawPlace-index-Some'}
-use Rattle.rapid_model.specs.declared.raw_stmt.RawStmt.{RawStmt}
-use Rattle.rapid_model.specs.declared.raw_stmt.RawForm.{RawForm, Assign, Call, Label, Goto, Return, Exit, Raise, Retry, TryNext, Connect, If', IfOne', For', While', Test', Row_of-RawStmt, end_of-RawStmt, more_of-RawStmt, Row_of-RawForm-If-0-3, end_of-RawForm-If-0-3, more_of-RawForm-If-0-3, Row_of-RawForm-Test-1-3, end_of-RawForm-Test-1-3, more_of-RawForm-Test-1-3, Held-RawForm-If-1, None', Some'}
-use Rattle.rapid_model.specs.declared.raw_datum.RawDatum.{RawDatum}
-use Rattle.rapid_model.specs.declared.raw_routine.RawParam.{RawParam}
-use Rattle.rapid_model.specs.declared.raw_routine.RawRoutine.{RawRoutine}
-use Rattle.rapid_model.specs.declared.raw_module.RawItem.{RawItem}
-use Rattle.rapid_model.specs.declared.raw_module.RawItem.TheVariants.{Datum, Routine}
-use Rattle.rapid_model.specs.declared.raw_module.RawModule.{RawModule}
-use Rattle.rapid_model.specs.Plain
-use Rattle.rapid_model.specs.Plain.{PlainName, PlainExpr, PlainExprs, PlainSteps, PlainHeld, PlainPlace, PlainArg, PlainArgs, PlainStmt, PlainStmts, PlainArms, PlainCases, PlainElse, PlainDatum, PlainParam, PlainRoutine, PlainItem, PlainModule, args_of}
+use Rattle.raw_trees.specs.declared.raw_name.RawName.{RawName}
+use Rattle.raw_trees.specs.declared.raw_expr.Operator.{Operator}
+use Rattle.raw_trees.specs.declared.raw_expr.RawExpr.{RawExpr}
+use Rattle.raw_trees.specs.declared.raw_expr.RawExprForm.{RawExprForm, Number, Text, Bool, Group', Aggregate', Call', Place, Not', Signed', Chain', Row_of-RawExpr, end_of-RawExpr, more_of-RawExpr, Row_of-RawArg, end_of-RawArg, more_of-RawArg, Row_of-RawExprForm-Chain-1-2, end_of-RawExprForm-Chain-1-2, more_of-RawExprForm-Chain-1-2}
+use Rattle.raw_trees.specs.declared.raw_expr.RawArg.{RawArg, Needed', Option', Held-RawArg-Option-1, RawArg-Option-1-None', RawArg-Option-1-Some'}
+use Rattle.raw_trees.specs.declared.raw_expr.RawPlace.{RawPlace, RawPlace', Held-RawPlace-index, RawPlace-index-None', RawPlace-index-Some'}
+use Rattle.raw_trees.specs.declared.raw_stmt.RawStmt.{RawStmt}
+use Rattle.raw_trees.specs.declared.raw_stmt.RawForm.{RawForm, Assign, Call, Label, Goto, Return, Exit, Raise, Retry, TryNext, Connect, If', IfOne', For', While', Test', Row_of-RawStmt, end_of-RawStmt, more_of-RawStmt, Row_of-RawForm-If-0-3, end_of-RawForm-If-0-3, more_of-RawForm-If-0-3, Row_of-RawForm-Test-1-3, end_of-RawForm-Test-1-3, more_of-RawForm-Test-1-3, Held-RawForm-If-1, None', Some'}
+use Rattle.raw_trees.specs.declared.raw_datum.RawDatum.{RawDatum}
+use Rattle.raw_trees.specs.declared.raw_routine.RawParam.{RawParam}
+use Rattle.raw_trees.specs.declared.raw_routine.RawRoutine.{RawRoutine}
+use Rattle.raw_trees.specs.declared.raw_module.RawItem.{RawItem}
+use Rattle.raw_trees.specs.declared.raw_module.RawItem.TheVariants.{Datum, Routine}
+use Rattle.raw_trees.specs.declared.raw_module.RawModule.{RawModule}
+use Rattle.raw_trees.specs.Plain
+use Rattle.raw_trees.specs.Plain.{PlainName, PlainExpr, PlainExprs, PlainSteps, PlainHeld, PlainPlace, PlainArg, PlainArgs, PlainStmt, PlainStmts, PlainArms, PlainCases, PlainElse, PlainDatum, PlainParam, PlainRoutine, PlainItem, PlainModule, args_of}
 
 abbrev pub view_name : RawName → PlainName
 view_name n = record { text = n.text.now; at = n.at }

@@ -1,9 +1,9 @@
 //! Expressions as a module spells them.
 
 ghost use Rattle.std.specs.Prelude.{◌≡◌, IfOk, map, option_map};
-ghost use Rattle.rapid_model.specs.Plain;
-ghost use Rattle.rapid_model.specs.Plain.{args_of, exprs_of, held_of, steps_of};
-ghost use Rattle.rapid_model.specs.Views.{view_arg, view_expr, view_name, view_place, view_step};
+ghost use Rattle.raw_trees.specs.Plain;
+ghost use Rattle.raw_trees.specs.Plain.{args_of, exprs_of, held_of, steps_of};
+ghost use Rattle.raw_trees.specs.Views.{view_arg, view_expr, view_name, view_place, view_step};
 
 use crate::raw_name::RawName;
 use std::alloc::{AllocError, Global};

@@ -1,9 +1,9 @@
 //! Statements as a module spells them.
 
 ghost use Rattle.std.specs.Prelude.{◌≡◌, IfOk, map, option_map};
-ghost use Rattle.rapid_model.specs.Plain;
-ghost use Rattle.rapid_model.specs.Plain.{args_of, arms_of, cases_of, else_of, stmts_of};
-ghost use Rattle.rapid_model.specs.Views.{view_arg, view_arm, view_case, view_expr, view_list, view_name, view_place, view_stmt};
+ghost use Rattle.raw_trees.specs.Plain;
+ghost use Rattle.raw_trees.specs.Plain.{args_of, arms_of, cases_of, else_of, stmts_of};
+ghost use Rattle.raw_trees.specs.Views.{view_arg, view_arm, view_case, view_expr, view_list, view_name, view_place, view_stmt};
 
 use crate::raw_expr::{RawArg, RawExpr, RawPlace};
 use crate::raw_name::RawName;

@@ -1,5 +1,0 @@
-use Rattle.rapid_model.proofs.Rows.{aggregate_view}
-use Rattle.rapid_model.proofs.raw_expr.RawExpr.aggregate.Goals as goal
-
-pub returns : goal.returns
-returns c = aggregate_view c.args.at c.args.values

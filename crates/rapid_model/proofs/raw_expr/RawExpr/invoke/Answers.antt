@@ -1,5 +1,0 @@
-use Rattle.rapid_model.proofs.Rows.{invoke_view}
-use Rattle.rapid_model.proofs.raw_expr.RawExpr.invoke.Goals as goal
-
-pub returns : goal.returns
-returns c = invoke_view c.args.at c.args.name c.args.args

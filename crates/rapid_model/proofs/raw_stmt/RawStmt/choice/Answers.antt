@@ -1,5 +1,0 @@
-use Rattle.rapid_model.proofs.Rows.{choice_view}
-use Rattle.rapid_model.proofs.raw_stmt.RawStmt.choice.Goals as goal
-
-pub returns : goal.returns
-returns c = choice_view c.args.at c.args.arms c.args.other

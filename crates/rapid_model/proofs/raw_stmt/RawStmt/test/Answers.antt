@@ -1,5 +1,0 @@
-use Rattle.rapid_model.proofs.Rows.{test_view}
-use Rattle.rapid_model.proofs.raw_stmt.RawStmt.test.Goals as goal
-
-pub returns : goal.returns
-returns c = test_view c.args.at c.args.value c.args.cases c.args.other

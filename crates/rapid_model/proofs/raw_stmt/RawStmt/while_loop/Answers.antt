@@ -1,5 +1,0 @@
-use Rattle.rapid_model.proofs.Rows.{while_view}
-use Rattle.rapid_model.proofs.raw_stmt.RawStmt.while_loop.Goals as goal
-
-pub returns : goal.returns
-returns c = while_view c.args.at c.args.test c.args.list

@@ -1,0 +1,17 @@
+//! The trees that the text of a module spells: expressions, statements, declarations, with names as slices of the text and
+//! the byte at which each form begins.
+#![tactic(auto)]
+
+mod raw_datum;
+mod raw_expr;
+mod raw_module;
+mod raw_name;
+mod raw_routine;
+mod raw_stmt;
+
+pub use raw_datum::{DatumKind, RawDatum};
+pub use raw_expr::{Operator, RawArg, RawExpr, RawExprForm, RawPlace};
+pub use raw_module::{Attribute, RawItem, RawModule};
+pub use raw_name::RawName;
+pub use raw_routine::{Mode, RawParam, RawRoutine, RoutineKind};
+pub use raw_stmt::{RawForm, RawStmt};
