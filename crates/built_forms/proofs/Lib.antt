@@ -1,0 +1,5 @@
+pub mod Steps
+pub mod Shapes
+pub mod Targets
+pub mod Places
+pub mod Lists

@@ -6,7 +6,7 @@ use Rattle.rapid_num.specs.Literal.{literal_value}
 use Rattle.rapid_num.specs.declared.joints.Joints.{Joints}
 use Rattle.rapid_model.specs.declared.tree.Form.{Form}
 use Rattle.rapid_model.specs.declared.tree.Form.TheVariants.{Move}
-use Rattle.raw_trees.specs.Plain.{PlainName, PlainExpr, PlainExprs, PlainHeld, PlainArg, PlainArgs, PlainStmt, Number, Signed, Aggregate, Place, PlaceOf, NotHeld, Held, NoExprs, MoreExprs, NoArgs, MoreArgs, Needed, Optional, Call}
+use Rattle.raw_trees.specs.Plain.{PlainName, PlainExpr, PlainExprs, PlainHeld, PlainArgs, PlainStmt, Number, Signed, Aggregate, Place, PlaceOf, NotHeld, Held, NoExprs, MoreExprs, NoArgs, MoreArgs, Needed, Optional, Call}
 use Rattle.built_forms.specs.Speeds.{speed_named}
 
 infixl 10 ◌>>=◌

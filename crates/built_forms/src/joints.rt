@@ -1,6 +1,7 @@
 //! Targets that are written out.
 
-ghost use Rattle.std.specs.Prelude.{◌≡◌, ℤ, neg_ℤ, if◌then◌else◌, map, option_map};
+ghost use Rattle.std.specs.Prelude.{◌≡◌, ℕ, ℤ, neg_ℤ, if◌then◌else◌, map, option_map};
+ghost use Rattle.raw_trees.specs.Plain;
 ghost use Rattle.raw_trees.specs.Plain.{exprs_of};
 ghost use Rattle.raw_trees.specs.Views.{view_expr};
 ghost use Rattle.built_forms.specs.Moves.{number_of, six_of, target_of};
@@ -27,7 +28,9 @@ fn number_of(e: &RawExpr<'_>) -> Option<Num>
 }
 
 /// The number of a literal behind a sign.
-fn signed(minus: bool, operand: &RawExpr<'_>) -> Option<Num> {
+fn signed(minus: bool, operand: &RawExpr<'_>) -> Option<Num>
+    ensures { (at : ℕ) → result ≡ number_of (Plain.Signed at minus (view_expr operand.now)) }
+{
     match &operand.form {
         RawExprForm::Number(text) => {
             let number = read_literal(text).ok()?;

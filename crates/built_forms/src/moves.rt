@@ -15,13 +15,13 @@ use raw_trees::{RawArg, RawExpr, RawForm, RawStmt};
 fn value<'e, 'a>(args: &'e [RawArg<'a>], number: usize) -> Option<&'e RawExpr<'a>>
     ensures { option_map (λ e. view_expr e.now) result ≡ slice_get (values_of (args_of (map view_arg args.now))) number }
 {
-    let mut before = 0;
+    let mut left = number;
     for arg in args {
         if let RawArg::Needed(e) = arg {
-            if before == number {
+            if left == 0 {
                 return Some(e);
             }
-            before += 1;
+            left -= 1;
         }
     }
     None

@@ -114,7 +114,7 @@ module_line : (name file : List ℕ) (old new : ℕ) (refused : Refused) → Mod
 module_line name file old new refused (inl (inl r)) = ap (refusal_line (name ∷ file ∷ [])) r.0 ∙ ap (refusal_text file) (sym r.0)
 module_line name file old new refused (inl (inr (inl l))) = ap (refusal_line (name ∷ file ∷ [])) l ∙ ap (refusal_text file) (sym l)
 module_line name file old new refused (inl (inr (inr m))) = ap (refusal_line (name ∷ file ∷ [])) m ∙ ap (refusal_text file) (sym m)
-module_line name file old new refused (inr s) = ap (refusal_line (name ∷ file ∷ [])) s ∙ ap (refusal_text file) (sym s)
+module_line name file old new refused (inr s) = ap (refusal_line (name ∷ file ∷ [])) s.2 ∙ ap (refusal_text file) (sym s.2)
 
 -- what the files come to, with the script read, from what its one module comes to
 module_decides : (files : Told) (name file : List ℕ) (script : ScriptData) (modules : Result (List Tree) Refused) → module_names script.tasks ≡ file ∷ []

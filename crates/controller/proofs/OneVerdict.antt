@@ -8,10 +8,15 @@ use Rattle.rapid_model.specs.declared.script.ScriptRule.TheVariants as rules
 use Rattle.rapid_model.specs.declared.tree.Tree.{Tree}
 use Rattle.cell_script.specs.FirstForm.{script_of_table}
 use Rattle.cell_script.specs.ScriptOf.{IsTable, ScriptOf}
-use Rattle.module_parser.proofs.Modules.{one_tree}
+use Rattle.raw_trees.specs.Plain.{PlainModule}
+use Rattle.rapid_forms.specs.declared.fault.SyntaxFault.{SyntaxFault}
 use Rattle.controller.specs.declared.refused.Refused.{Refused}
+use Rattle.controller.specs.declared.refused.Refused.TheVariants.{Module}
+use Rattle.controller.specs.declared.refused.ModuleRule.TheVariants.{NotBuilt}
 use Rattle.controller.specs.Words.{refused_place, script_name}
-use Rattle.controller.specs.Accepted.{Verdict, Accepted, script_limit, module_limit, file_text, ModuleOf, ModuleIn, ModulesOf, verdict_of, names_of, ScriptDecides, FileDecides, WordsDecide}
+use Rattle.controller.specs.Accepted.{Verdict, Accepted, script_limit, module_limit, file_text, place_at, fault_refusal, BuiltOf, ModuleOf, ModuleIn, ModulesOf, verdict_of, names_of, ScriptDecides, FileDecides, WordsDecide}
+use Rattle.controller.proofs.Pending.{module_text_one}
+use Rattle.controller.proofs.OneBuilt.{built_one}
 
 same_keys : (text : List ℕ) (keys others : Members) → IsTable text keys → IsTable text others → keys ≡ others
 same_keys text keys others a b = let e : Some keys ≡ Some others = sym a.table ∙ b.table in cc
@@ -32,12 +37,30 @@ script_one text (Err rules.NotBuilt) (Ok t) a b =
 script_one text (Err rules.NotBuilt) (Err rules.NotToml) a b = let e : Some a.0 ≡ None = sym a.1.table ∙ b a.1.utf8 in cc
 script_one text (Err rules.NotBuilt) (Err rules.NotBuilt) a b = refl
 
+-- a module that a text spells is built to one tree, or refused at one place
+built_of_one : (file : ℕ) (text : List ℕ) (raw : PlainModule) (a b : Result Tree Refused) → BuiltOf file text raw a → BuiltOf file text raw b → a ≡ b
+built_of_one file text raw (Ok s) (Ok t) p q =
+    let e : Ok s ≡ Ok t = built_one raw (Ok s) (Ok t) p q in
+    let same : s ≡ t = cc in ap Ok same
+built_of_one file text raw (Ok s) (Err r) p q = let e : Ok s ≡ Err q.0 = built_one raw (Ok s) (Err q.0) p q.1 in cc
+built_of_one file text raw (Err r) (Ok t) p q = let e : Ok t ≡ Err p.0 = built_one raw (Ok t) (Err p.0) q p.1 in cc
+built_of_one file text raw (Err r) (Err r') p q =
+    let e : Err p.0 ≡ Err q.0 = built_one raw (Err p.0) (Err q.0) p.1 q.1 in
+    let same : p.0 ≡ q.0 = cc in
+    ap Err (p.2 ∙ ap (λ (at : ℕ). Module file (place_at text at) NotBuilt) same ∙ sym q.2)
+
 -- a text is one module, or is refused
 module_of_one : (file : ℕ) (text : List ℕ) (a b : Result Tree Refused) → ModuleOf file text a → ModuleOf file text b → a ≡ b
-module_of_one file text (Ok s) (Ok t) a b = ap Ok (one_tree {text = text} a b)
-module_of_one file text (Ok s) (Err q) a b = absurd (b.1 s a)
-module_of_one file text (Err r) (Ok t) a b = absurd (a.1 t b)
-module_of_one file text (Err r) (Err q) a b = ap Err (a.0 ∙ sym b.0)
+module_of_one file text a b (inl p) (inl q) =
+    let e : Err p.0 ≡ Err q.0 = module_text_one text (Err p.0) (Err q.0) p.1 q.1 in
+    let same : p.0 ≡ q.0 = cc in
+    p.2 ∙ ap (λ (fault : SyntaxFault). Err (fault_refusal file text fault)) same ∙ sym q.2
+module_of_one file text a b (inl p) (inr q) = let e : Ok q.0 ≡ Err p.0 = module_text_one text (Ok q.0) (Err p.0) q.1 p.1 in cc
+module_of_one file text a b (inr p) (inl q) = let e : Ok p.0 ≡ Err q.0 = module_text_one text (Ok p.0) (Err q.0) p.1 q.1 in cc
+module_of_one file text a b (inr p) (inr q) =
+    let e : Ok p.0 ≡ Ok q.0 = module_text_one text (Ok p.0) (Ok q.0) p.1 q.1 in
+    let same : p.0 ≡ q.0 = cc in
+    built_of_one file text q.0 a b (subst (λ (raw : PlainModule). BuiltOf file text raw a) same p.2) q.2
 
 module_one : (file : ℕ) (read : Result (List ℕ) Refused) (a b : Result Tree Refused) → ModuleIn file read a → ModuleIn file read b → a ≡ b
 module_one file (Err refused) a b p q = p ∙ sym q

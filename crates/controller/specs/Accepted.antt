@@ -6,10 +6,16 @@ use Rattle.rapid_model.specs.ScriptData.{ScriptData, cell_of, module_names}
 use Rattle.rapid_model.specs.declared.script.ScriptRule.{ScriptRule}
 use Rattle.rapid_model.specs.declared.tree.Tree.{Tree}
 use Rattle.cell_script.specs.ScriptOf.{ScriptOf}
-use Rattle.module_parser.specs.Grammar.{SpellsModule}
+use Rattle.rapid_lexer.specs.Places.{line_of, column_of}
+use Rattle.rapid_lexer.specs.declared.place.Place.{Place}
+use Rattle.raw_trees.specs.Plain.{PlainModule}
+use Rattle.rapid_forms.specs.declared.fault.SyntaxFault.{SyntaxFault}
+use Rattle.rapid_forms.specs.declared.fault.SyntaxFault.TheVariants as faults
+use Rattle.module_parser_new.specs.Modules.{ModuleText}
+use Rattle.built_forms.specs.Built.{BuildsTo}
 use Rattle.controller.specs.declared.refused.Refused.{Refused}
-use Rattle.controller.specs.declared.refused.Refused.TheVariants.{Words, Script, Module}
-use Rattle.controller.specs.declared.refused.ModuleRule.TheVariants.{NotBuilt}
+use Rattle.controller.specs.declared.refused.Refused.TheVariants.{Words, Script, Module, Memory}
+use Rattle.controller.specs.declared.refused.ModuleRule.TheVariants.{Lex, Syntax, NotBuilt}
 use Rattle.controller.specs.Files.{text_of}
 use Rattle.controller.specs.Words.{refused_place, script_name}
 
@@ -30,11 +36,26 @@ pub data Verdict : Type 0 where
 abbrev pub file_text : Told → ℕ → ℕ → List ℕ → Result (List ℕ) Refused
 file_text told file limit name = text_of file limit (found (after_reads file told) name)
 
--- the text is that of a module, or is refused at its first byte
+-- the line and the column of a byte
+abbrev pub place_at : List ℕ → ℕ → Place
+place_at text at = record { line = line_of text at; column = column_of text at }
+
+-- the refusal of the file of this number by a fault of its text
+abbrev pub fault_refusal : ℕ → List ℕ → SyntaxFault → Refused
+fault_refusal file text (faults.Lex f) = Module file (place_at text f.at) (Lex f.rule)
+fault_refusal file text (faults.Rule rule at) = Module file (place_at text at) (Syntax rule)
+fault_refusal file text faults.Memory = Memory
+
+-- What a module that its text spells is built to; or it is refused at its first form that is not built.
+abbrev pub BuiltOf : ℕ → List ℕ → PlainModule → Result Tree Refused → Type 0
+BuiltOf file text raw (Ok tree) = BuildsTo raw (Ok tree)
+BuiltOf file text raw (Err refused) = (at : ℕ) × BuildsTo raw (Err at) × (refused ≡ Module file (place_at text at) NotBuilt)
+
+-- What a text comes to: the tree of the module that it spells; or a refusal, by the fault of the text or by what is built.
 abbrev pub ModuleOf : ℕ → List ℕ → Result Tree Refused → Type 0
-ModuleOf file text (Ok tree) = SpellsModule tree text
-ModuleOf file text (Err refused) =
-    (refused ≡ Module file (record { line = 1; column = 1 }) NotBuilt) × ((tree : Tree) → SpellsModule tree text → ⊥)
+ModuleOf file text verdict =
+    ((fault : SyntaxFault) × ModuleText text (Err fault) × (verdict ≡ Err (fault_refusal file text fault)))
+    ⊎ ((raw : PlainModule) × ModuleText text (Ok raw) × BuiltOf file text raw verdict)
 
 -- the module in the file of this number
 abbrev pub ModuleIn : ℕ → Result (List ℕ) Refused → Result Tree Refused → Type 0

@@ -6,7 +6,8 @@ use Rattle.rapid_model.specs.declared.tree.Tree.{Tree}
 use Rattle.cell_script.specs.ScriptOf.{ScriptOf}
 use Rattle.controller.specs.declared.refused.Refused.{Refused}
 use Rattle.controller.specs.declared.refused.Refused.TheVariants.{Script, Module, Memory}
-use Rattle.controller.specs.declared.refused.ModuleRule.TheVariants.{NotBuilt}
+use Rattle.rapid_lexer.specs.declared.place.Place.{Place}
+use Rattle.controller.specs.declared.refused.ModuleRule.{ModuleRule}
 use Rattle.controller.specs.Files.{ReadFaulted}
 use Rattle.controller.specs.Accepted.{ModuleIn}
 
@@ -16,7 +17,7 @@ ScriptFaulted old new refused = ReadFaulted 0 old new refused ⊎ ((rule : Scrip
 
 -- why no module was loaded
 abbrev pub ModuleFaulted : ℕ → ℕ → ℕ → Refused → Type 0
-ModuleFaulted file old new refused = ReadFaulted file old new refused ⊎ (refused ≡ Module file (record { line = 1; column = 1 }) NotBuilt)
+ModuleFaulted file old new refused = ReadFaulted file old new refused ⊎ ((place : Place) × (rule : ModuleRule) × (refused ≡ Module file place rule))
 
 -- the script of what the file's read comes to, want of memory aside
 abbrev pub IsScriptIn : Result (List ℕ) Refused → Result ScriptData Refused → Type 0

@@ -1,4 +1,4 @@
-ghost use Rattle.std.specs.Prelude.{◌≡◌, ◌≤◌, IfErr, IfSome, option_map};
+ghost use Rattle.std.specs.Prelude.{◌≡◌, ◌≤◌, IfOk, IfErr, IfSome, option_map, length};
 ghost use Rattle.outside.specs.Told.{found, after_reads};
 ghost use Rattle.controller.specs.Files.{text_of, ReadFaulted, GivesText};
 
@@ -18,6 +18,7 @@ pub(crate) fn read_file<S: Shelf>(
     ensures told_after { S.told shelf.new ≡ option_map (after_reads 1) (S.told shelf.old) }
     // The refusal is that of this file, or want of memory; a read that failed was counted.
     ensures causes { IfErr result (ReadFaulted file (S.faults shelf.old) (S.faults shelf.new)) }
+    ensures within { IfOk result (λ bytes. length bytes.items ≤ limit) }
     ensures gives { IfSome (S.told shelf.old) (λ told. GivesText (text_of file limit (found told name.now)) result) }
 {
     let mut bytes = Vec::new(alloc);

@@ -1,15 +1,17 @@
-ghost use Rattle.std.specs.Prelude.{◌≡◌, ◌≤◌, Ok, Err, IfOk, IfErr, IfSome, option_map, ◌⊎◌};
+ghost use Rattle.std.specs.Prelude.{◌≡◌, ◌≤◌, ◌<◌, ◌^◌, Ok, IfOk, IfErr, IfSome, option_map, length};
 ghost use Rattle.outside.specs.Told.{found, after_reads};
 ghost use Rattle.controller.specs.Files.{text_of};
 ghost use Rattle.controller.specs.Loaded.{ScriptFaulted, ModuleFaulted, IsScriptIn, IsModuleIn, IsSpelled};
-ghost use Rattle.controller.specs.Accepted.{script_limit, module_limit};
+ghost use Rattle.controller.specs.Accepted.{script_limit, module_limit, place_at};
 
 use crate::file::read_file;
 use crate::refused::{ModuleRule, Refused};
+use built_forms::{BuildFault, build_module};
 use cell_script::{ScriptFault, read_script};
-use module_parser::{ModuleFault, read_module};
+use module_parser_new::parse_module;
 use outside::Shelf;
-use rapid_lexer::Place;
+use rapid_forms::SyntaxFault;
+use rapid_lexer::place_of;
 use rapid_model::{Script, Tree};
 use std::alloc::Global;
 
@@ -52,13 +54,35 @@ pub(crate) fn load_module<S: Shelf>(
     ensures module { IfSome (S.told shelf.old) (λ told. IsModuleIn file (text_of file module_limit (found told name.now)) result) }
 {
     let text = read_file(alloc, shelf, file, MODULE_LIMIT, name)?;
-    match read_module(alloc, text.as_slice()) {
-        Ok(tree) => Ok(tree),
-        Err(ModuleFault::NotBuilt) => Err(Refused::Module {
-            file,
-            place: Place { line: 1, column: 1 },
-            rule: ModuleRule::NotBuilt,
-        }),
-        Err(ModuleFault::Memory) => Err(Refused::Memory),
+    read_tree(alloc, file, text.as_slice())
+}
+
+/// The tree of the module that a text spells, or why the file of this number is refused.
+fn read_tree(alloc: Global, file: u32, text: &[u8]) -> Result<Tree, Refused>
+    requires { length text.now < 2 ^ 31 }
+    ensures { IsModuleIn file (Ok text.now) result }
+{
+    match parse_module(alloc, text) {
+        Ok(module) => match build_module(alloc, &module) {
+            Ok(tree) => Ok(tree),
+            Err(BuildFault::NotBuilt(at)) => Err(refusal(file, text, at, ModuleRule::NotBuilt)),
+            Err(BuildFault::Memory) => Err(Refused::Memory),
+        },
+        Err(SyntaxFault::Lex(fault)) => {
+            Err(refusal(file, text, fault.at, ModuleRule::Lex(fault.rule)))
+        }
+        Err(SyntaxFault::Rule { rule, at }) => {
+            Err(refusal(file, text, at, ModuleRule::Syntax(rule)))
+        }
+        Err(SyntaxFault::Memory) => Err(Refused::Memory),
     }
+}
+
+/// The refusal of a module by a rule at a byte of its text.
+fn refusal(file: u32, text: &[u8], at: usize, rule: ModuleRule) -> Refused
+    requires { length text.now < 2 ^ 31 }
+    ensures { result ≡ Refused.Module file (place_at text.now at) rule }
+{
+    let place = place_of(text, at.min(text.len()));
+    Refused::Module { file, place, rule }
 }

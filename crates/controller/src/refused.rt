@@ -1,10 +1,15 @@
-use rapid_lexer::Place;
+use rapid_forms::SyntaxRule;
+use rapid_lexer::{LexRule, Place};
 use rapid_model::{ScriptRule, Text};
 
 /// The rules of a module.
 #[derive(Clone, Copy, Debug, PartialEq, Eq)]
 pub enum ModuleRule {
-    /// The text is no module of a form that is built.
+    /// The text is not made of tokens.
+    Lex(LexRule),
+    /// The tokens are no module.
+    Syntax(SyntaxRule),
+    /// The module is spelled, and a form of it is not built.
     NotBuilt,
 }
 

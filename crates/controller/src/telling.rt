@@ -1,5 +1,5 @@
 ghost use Rattle.std.specs.Prelude.{◌++◌, ◌≡◌, ◌+◌, ◌≤◌, ◌∷◌, [], codes, decimal, length};
-ghost use Rattle.controller.specs.Refusals.{refusal_text, key_words, place_words, script_rule_name, module_rule_name};
+ghost use Rattle.controller.specs.Refusals.{refusal_text, key_words, place_words, script_rule_name, module_rule_name, lex_rule_name, syntax_rule_name};
 ghost use Rattle.controller.specs.Printed.{sunk, GainedUnlessFaults};
 ghost use Rattle.controller.specs.Written.{Writes, WritesPieces};
 
@@ -8,7 +8,8 @@ use crate::write::write_all;
 use arrayvec::ArrayString;
 use itoa::Buffer;
 use outside::{Failed, Sink};
-use rapid_lexer::Place;
+use rapid_forms::SyntaxRule;
+use rapid_lexer::{LexRule, Place};
 use rapid_model::ScriptRule;
 
 /// Tells a refusal on the second sink. A write that fails there changes nothing else. `name` is the name of the file that
@@ -87,7 +88,33 @@ fn module_rule(rule: ModuleRule) -> &'static str
     ensures { result.now ≡ 32 ∷ module_rule_name rule ++ codes "\n" }
 {
     match rule {
+        ModuleRule::Lex(rule) => lex_rule(rule),
+        ModuleRule::Syntax(rule) => syntax_rule(rule),
         ModuleRule::NotBuilt => " NotBuilt\n",
+    }
+}
+
+fn lex_rule(rule: LexRule) -> &'static str
+    ensures { result.now ≡ 32 ∷ lex_rule_name rule ++ codes "\n" }
+{
+    match rule {
+        LexRule::BadByte => " BadByte\n",
+        LexRule::OpenString => " OpenString\n",
+        LexRule::BadEscape => " BadEscape\n",
+        LexRule::LongString => " LongString\n",
+        LexRule::LongName => " LongName\n",
+        LexRule::BadLiteral => " BadLiteral\n",
+        LexRule::OpenHeader => " OpenHeader\n",
+    }
+}
+
+fn syntax_rule(rule: SyntaxRule) -> &'static str
+    ensures { result.now ≡ 32 ∷ syntax_rule_name rule ++ codes "\n" }
+{
+    match rule {
+        SyntaxRule::Syntax => " Syntax\n",
+        SyntaxRule::LeftOut => " LeftOut\n",
+        SyntaxRule::TooDeep => " TooDeep\n",
     }
 }
 

@@ -22,6 +22,60 @@ const OUT_OF_REACH: &[u8] =
 
 const ASSIGNS: &[u8] = b"MODULE M\nPROC main()\nx := 1;\nENDPROC\nENDMODULE\n";
 
+/// A header, words in either case, comments, and lines as one likes.
+const ANY_LAYOUT: &[u8] =
+    b"%%%\nVERSION:1\n%%%\nmodule m proc MAIN() movEabsj [[1, 0x0, 0b0,0,0,0],\n[9e9,9E+09,9e9,9e9,9e9,9e9]] \\noeoffs, V1000, FINE, tool0; ! done\nendproc endmodule\n";
+
+/// Modules, each with the place and the rule of its refusal.
+static REFUSED: [(&[u8], &[u8]); 19] = [
+    (ASSIGNS, b"3:1 NotBuilt\n"),
+    (
+        b"MODULE M\nPROC main()\nMoveAbsJ [[0,0,0,0,0,0],[9E9,9E9,9E9,9E9,9E9,9E9]]\\NoEOffs, v5, fine, tool0;\n! no move\n  Stop;\nENDPROC\nENDMODULE\n",
+        b"5:3 NotBuilt\n",
+    ),
+    (b"\nMODULE M\nENDMODULE\n", b"1:1 NotBuilt\n"),
+    (
+        b"MODULE M\nVAR num n;\nPROC main()\nENDPROC\nENDMODULE\n",
+        b"2:1 NotBuilt\n",
+    ),
+    (
+        b"MODULE M\nLOCAL PROC main()\nENDPROC\nENDMODULE\n",
+        b"2:1 NotBuilt\n",
+    ),
+    (
+        b"MODULE M\nPROC main()\nENDPROC PROC more()\nENDPROC\nENDMODULE\n",
+        b"3:9 NotBuilt\n",
+    ),
+    (b"", b"1:1 Syntax\n"),
+    (b"MODULE M", b"1:9 Syntax\n"),
+    (b"MODULE M\nPROC main()\nENDPROC\n", b"4:1 Syntax\n"),
+    (b"MODULE M\nENDMODULE\n! more\n ;", b"4:2 Syntax\n"),
+    (
+        b"MODULE M\r\n\tPROC main();\nENDPROC\nENDMODULE\n",
+        b"2:13 Syntax\n",
+    ),
+    (b"MODULE M\n  alias num n;\nENDMODULE\n", b"2:3 LeftOut\n"),
+    (
+        b"MODULE M\nVAR num xxxxxxxxxxxxxxxxxxxxxxxxxxxxxxxxx;\nPROC main()\nENDPROC\nENDMODULE\n",
+        b"2:9 LongName\n",
+    ),
+    (
+        b"MODULE M\nPROC main()\nTPWrite \"abc\nENDPROC\nENDMODULE\n",
+        b"3:9 OpenString\n",
+    ),
+    (
+        b"MODULE M\nPROC main()\nTPWrite \"a\\b\";\nENDPROC\nENDMODULE\n",
+        b"3:11 BadEscape\n",
+    ),
+    (b"MODULE M\nx := 1e10;\n", b"2:6 BadLiteral\n"),
+    (
+        b"MODULE M\nPROC main()\nTPWrite \"sssssssssssssssssssssssssssssssssssssssssssssssssssssssssssssssssssssssssssssssss\";\nENDPROC\nENDMODULE\n",
+        b"3:9 LongString\n",
+    ),
+    (b"\n%%%\nMODULE M\nENDMODULE\n", b"2:1 OpenHeader\n"),
+    (b"x\ny\n%\n", b"3:1 BadByte\n"),
+];
+
 const ONE_MOVE_LINES: [&[u8]; 4] = [
     b"S A 0.833 0.000 0.000 0.000 0.000 0.000\n",
     b"S A 1.667 0.000 0.000 0.000 0.000 0.000\n",
@@ -120,6 +174,13 @@ fn other_moves(rt: HostRuntime) -> Result<(), Fail> {
     Ok(())
 }
 
+#[test]
+fn any_layout(rt: HostRuntime) -> Result<(), Fail> {
+    let lines: [&[u8]; 2] = [b"S A 1.000 0.000 0.000 0.000 0.000 0.000\n", b"E A Done\n"];
+    printed(&rt, &round(rt.alloc(), ANY_LAYOUT)?, 0, &lines, rt.alloc())?;
+    Ok(())
+}
+
 /// Each write of the first sink fails in turn: the lines before it stand, and the report has the whole history.
 #[test]
 fn failing_writes(rt: HostRuntime) -> Result<(), Fail> {
@@ -170,12 +231,6 @@ fn refusals(rt: HostRuntime) -> Result<(), Fail> {
         let left = outcome_of(alloc, given, SCRIPT, ONE_MOVE, None)?;
         refused(&rt, &left, *status, line);
     }
-    refused(
-        &rt,
-        &round(alloc, ASSIGNS)?,
-        4,
-        b"rapid_cell: module a.mod 1:1 NotBuilt\n",
-    );
     let scripts: [(&[u8], &[u8]); 2] = [
         (b"version = ", b"rapid_cell: script - NotToml\n"),
         (b"version = 2\n", b"rapid_cell: script - NotBuilt\n"),
@@ -184,6 +239,57 @@ fn refusals(rt: HostRuntime) -> Result<(), Fail> {
         let left = outcome_of(alloc, &["round", "cell"], script, ONE_MOVE, None)?;
         refused(&rt, &left, 3, line);
     }
+    Ok(())
+}
+
+/// The module was refused at this place and by this rule.
+fn refused_at(rt: &impl Abort, left: &Outcome, at: &[u8], alloc: Global) -> Result<(), AllocError> {
+    let mut line = Vec::from_slice(alloc, b"rapid_cell: module a.mod ")?;
+    line.extend_from_slice(at)?;
+    refused(rt, left, 4, line.as_slice());
+    Ok(())
+}
+
+#[test]
+fn modules_refused(rt: HostRuntime) -> Result<(), Fail> {
+    for (module, at) in &REFUSED {
+        refused_at(&rt, &round(rt.alloc(), module)?, at, rt.alloc())?;
+    }
+    Ok(())
+}
+
+/// A module that assigns a number within so many parentheses.
+fn nested(alloc: Global, parentheses: u32) -> Result<Vec<u8>, AllocError> {
+    let mut text = Vec::from_slice(alloc, b"MODULE M\nPROC main()\nx := ")?;
+    for _ in 0..parentheses {
+        text.push(b'(')?;
+    }
+    text.push(b'1')?;
+    for _ in 0..parentheses {
+        text.push(b')')?;
+    }
+    text.extend_from_slice(b";\nENDPROC\nENDMODULE\n")?;
+    Ok(text)
+}
+
+/// The list of `main` is a level of nesting, and each parenthesis one more: the last of 64 opens the 65th level.
+#[test]
+fn levels(rt: HostRuntime) -> Result<(), Fail> {
+    let alloc = rt.alloc();
+    let within = nested(alloc, 63)?;
+    refused_at(
+        &rt,
+        &round(alloc, within.as_slice())?,
+        b"3:1 NotBuilt\n",
+        alloc,
+    )?;
+    let deep = nested(alloc, 64)?;
+    refused_at(
+        &rt,
+        &round(alloc, deep.as_slice())?,
+        b"3:69 TooDeep\n",
+        alloc,
+    )?;
     Ok(())
 }
 
