@@ -1,8 +1,6 @@
 use crate::parse_expr;
-use rapid_forms::{SyntaxFault, SyntaxRule};
 use rapid_lexer::read_tokens;
-use raw_trees::{Operator, RawArg, RawExprForm};
-use std::rt::HostRuntime;
+use raw_trees::RawExprForm;
 
 #[test]
 fn not_covers_a_whole_conjunction(rt: HostRuntime) {

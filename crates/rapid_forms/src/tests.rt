@@ -7,10 +7,10 @@ fn sign(kind: Kind, text: &[u8]) -> Sign {
 }
 
 #[test]
-fn words_and_marks_have_signs_of_their_own() {
-    assert_eq!(sign(Kind::Word, b"elseIF"), Sign::ElseIf);
-    assert_eq!(sign(Kind::Word, b"XOR"), Sign::Xor);
-    assert_eq!(sign(Kind::Name, b"IF"), Sign::Name);
-    assert_eq!(sign(Kind::Mark, b":="), Sign::Assign);
-    assert_eq!(sign(Kind::Mark, b"!"), Sign::Other);
+fn words_and_marks_have_signs_of_their_own(rt: HostRuntime) {
+    assert_eq!(rt; sign(Kind::Word, b"elseIF"), Sign::ElseIf);
+    assert_eq!(rt; sign(Kind::Word, b"XOR"), Sign::Xor);
+    assert_eq!(rt; sign(Kind::Name, b"IF"), Sign::Name);
+    assert_eq!(rt; sign(Kind::Mark, b":="), Sign::Assign);
+    assert_eq!(rt; sign(Kind::Mark, b"!"), Sign::Other);
 }
