@@ -15,6 +15,7 @@ use Rattle.built_forms.specs.Answers.{Builds}
 use Rattle.built_forms.specs.Moves.{form_of}
 use Rattle.built_forms.specs.Built.{AreBuilt, IsBuilt, NextItem, Unbuilt, UnbuiltIn, first_unbuilt, is_main, item_place, stmt_place}
 
+-- a statement stands at the byte of its form
 pub at_place : (at : ℕ) (form : RawForm) → stmt_place (view_stmt_form at form) ≡ at
 at_place at Exit = refl
 at_place at form = refl
@@ -25,7 +26,7 @@ built_push (x ∷ ss) (y ∷ ts) s t all one = (all.0, built_push ss ts s t all.
 built_push [] (y ∷ ts) s t all one = elim all [ ]
 built_push (x ∷ ss) [] s t all one = elim all [ ]
 
-pub none_unbuilt : (ss : List PlainStmt) (ts : List Stmt) → AreBuilt ss ts → first_unbuilt ss ≡ None
+none_unbuilt : (ss : List PlainStmt) (ts : List Stmt) → AreBuilt ss ts → first_unbuilt ss ≡ None
 unfolding first_unbuilt
 none_unbuilt [] ts all = refl
 none_unbuilt (s ∷ ss) [] all = elim all [ ]

@@ -44,13 +44,14 @@ pub viewed : {A B : Type 0} (f : A → B) (o : Option A) → is_none (option_map
 viewed f None = refl
 viewed f (Some x) = refl
 
+-- a call, by its name and its options, and any other statement
 pub call_form : (at : ℕ) (form : RawForm) (name : RawName) (args : Vec RawArg Global) (move once : Bool) → form ≡ Call name args → str_eq_ignore_ascii_case (codes "MoveAbsJ") name.text.now ≡ move → are_built (options args.items) ≡ once → (if move && once then move_of_values (values args.items) else None) ≡ form_of (view_stmt_form at form)
 unfolding form_of
 call_form at form name args move once is same built =
     sym (
-      ap (λ f. form_of (view_stmt_form at f)) is
-      ∙ ap (λ m. if m && are_built (options args.items) then move_of_values (values args.items) else None) same
-      ∙ ap (λ b. if move && b then move_of_values (values args.items) else None) built
+    ap (λ f. form_of (view_stmt_form at f)) is
+    ∙ ap (λ m. if m && are_built (options args.items) then move_of_values (values args.items) else None) same
+    ∙ ap (λ b. if move && b then move_of_values (values args.items) else None) built
     )
 
 pub no_form : (at : ℕ) (form : RawForm) → ((name : RawName) (args : Vec RawArg Global) → form ≡ Call name args → ⊥) → form_of (view_stmt_form at form) ≡ None

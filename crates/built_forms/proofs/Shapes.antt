@@ -35,6 +35,7 @@ unfolding number_of
 signed_other at minus begin (Number text) differs = absurd (differs text refl)
 signed_other at minus begin form differs = refl
 
+-- forms that are no numbers, no words and no brackets
 pub no_number : (at : ℕ) (form : RawExprForm) → ((text : Bor (List ℕ)) → form ≡ Number text → ⊥) → ((minus : Bool) (operand : Box RawExpr Global) → form ≡ Signed minus operand → ⊥) → number_of (view_form at form) ≡ None
 unfolding number_of
 no_number at (Number text) differs differs' = absurd (differs text refl)

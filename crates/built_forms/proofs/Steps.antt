@@ -28,7 +28,7 @@ row_more rows name i d test lt decides =
     ∙ ap (λ same. if same then Some (get_or rows i d).1 else beside (plain (drop (i + 1) rows)) name) (same_word _ name test decides)
 
 -- a function of the arguments from argument i on
-pub args_more : {A : Type 0} (F : PlainArgs → A) (args : List RawArg) (i : ℕ) (arg : RawArg) → i < length args → arg ≡ get_or args i arg → F (args_of (map view_arg (drop i args))) ≡ F (MoreArgs (view_arg arg) (args_of (map view_arg (drop (i + 1) args))))
+args_more : {A : Type 0} (F : PlainArgs → A) (args : List RawArg) (i : ℕ) (arg : RawArg) → i < length args → arg ≡ get_or args i arg → F (args_of (map view_arg (drop i args))) ≡ F (MoreArgs (view_arg arg) (args_of (map view_arg (drop (i + 1) args))))
 args_more F args i arg lt is =
     at_drop_more (λ left. F (args_of (map view_arg left))) args i arg lt
     ∙ ap (λ a. F (MoreArgs (view_arg a) (args_of (map view_arg (drop (i + 1) args))))) (sym is)
@@ -39,6 +39,7 @@ values args = values_of (args_of (map view_arg args))
 abbrev pub options : List RawArg → List (PlainName × PlainHeld)
 options args = options_of (args_of (map view_arg args))
 
+-- an argument that is a value
 pub value_here : (args : List RawArg) (i : ℕ) (arg : RawArg) (e : RawExpr) → i < length args → arg ≡ get_or args i arg → arg ≡ Needed e → values (drop i args) ≡ view_expr e ∷ values (drop (i + 1) args)
 unfolding values_of
 value_here args i arg e lt is needed =
@@ -59,6 +60,7 @@ pub get_behind : {A : Type 0} (x : A) (xs : List A) (k : ℕ) → (k ≡ 0 → �
 get_behind x xs zero differs = absurd (differs refl)
 get_behind x xs (suc k) differs = rw sub-one refl
 
+-- an argument that is an option
 pub option_here : (args : List RawArg) (i : ℕ) (arg : RawArg) (name : RawName) (value : Option RawExpr) (at : ℕ) → i < length args → arg ≡ get_or args i arg → arg ≡ Optional name value at → options (drop i args) ≡ (view_name name, held_of (option_map view_expr value)) ∷ options (drop (i + 1) args)
 unfolding options_of
 option_here args i arg name value at lt is option =
@@ -82,6 +84,7 @@ rest_built false os = are_built os
 rest_built true [] = true
 rest_built true (o ∷ os) = false
 
+-- an option with a value, one of another name, and \NoEOffs as the first
 pub with_value : (name : PlainName) (value : Option RawExpr) (os : List (PlainName × PlainHeld)) → is_some value ≡ true → are_built ((name, held_of (option_map view_expr value)) ∷ os) ≡ false
 with_value name None os some = cc
 with_value name (Some e) [] some = refl

@@ -31,6 +31,7 @@ after_none : (number : Option ℤ) → after number None ≡ None
 after_none None = refl
 after_none (Some n) = refl
 
+-- values of which one is no number
 none_at : (items : List RawExpr) (k : ℕ) (e : RawExpr) → slice_get items k ≡ Some e → None ≡ number_of (view_expr e) → numbers items ≡ None
 unfolding numbers_of
 none_at [] k e here none = cc
@@ -113,6 +114,7 @@ six_items expr xs a b c d e f is =
     let six = six_of_long expr xs is in
     sym (item xs 0 a _ (omega arith) (item xs 1 b _ (omega arith) (item xs 2 c _ (omega arith) (item xs 3 d _ (omega arith) (item xs 4 e _ (omega arith) (item xs 5 f _ (omega arith) (drop_all 6 xs (omega arith))))))))
 
+-- a target, of what its two parts come to
 abbrev pub joined : Option (List ℤ) → Option (List ℤ) → Option Joints
 joined arm external = option_and_then (λ a. option_and_then (λ e. Some (record { axis = a ++ e })) external) arm
 

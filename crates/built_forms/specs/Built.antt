@@ -79,7 +79,6 @@ Unbuilt [] at = at ≡ 0
 Unbuilt (Datum local task datum place ∷ items) at = at ≡ place
 Unbuilt (Routine r ∷ items) at = UnbuiltIn (is_main r) r (first_unbuilt r.list) items at
 
-
 -- a module is built, and has this tree; or its first form that is not stands at this byte
 abbrev pub BuildsTo : PlainModule → Result Tree ℕ → Type 0
 BuildsTo raw (Ok tree) = IsBuiltModule raw tree

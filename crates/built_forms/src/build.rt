@@ -12,8 +12,8 @@ ghost use Rattle.built_forms.specs.Answers.{Builds};
 use crate::fault::BuildFault;
 use crate::moves::form_of;
 use rapid_model::{Form, Sequence, Stmt, Tree};
-use raw_trees::{RawItem, RawModule, RawRoutine, RawStmt, RoutineKind};
 use rapid_num::{Joints, Num};
+use raw_trees::{RawItem, RawModule, RawRoutine, RawStmt, RoutineKind};
 use std::alloc::Global;
 
 /// The tree of a module that is built. `NotBuilt` where an item or a statement is not; `Memory` comes only where memory
@@ -56,7 +56,7 @@ fn main_of<'m, 'a>(item: &'m RawItem<'a>) -> Option<&'m RawRoutine<'a>>
     }
 }
 
-/// Whether a routine is the procedure main, without all that is not built.
+/// Whether a routine is a procedure main that is not LOCAL, without parameters, data and ERROR part.
 fn is_main(routine: &RawRoutine<'_>) -> bool
     ensures { result ≡ is_main (view_routine routine.now) }
 {

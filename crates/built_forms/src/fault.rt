@@ -1,7 +1,7 @@
-use std::alloc::{AllocError, AllocFailed};
-
 ghost use Rattle.std.specs.Prelude.{◌≡◌};
 ghost use Rattle.built_forms.specs.declared.fault.BuildFault.TheVariants.{Memory};
+
+use std::alloc::{AllocError, AllocFailed};
 
 /// Why a module that is spelled has no tree.
 #[derive(Clone, Copy, Debug, PartialEq, Eq)]

@@ -6,8 +6,8 @@ ghost use Rattle.raw_trees.specs.Plain.{exprs_of};
 ghost use Rattle.raw_trees.specs.Views.{view_expr};
 ghost use Rattle.built_forms.specs.Moves.{number_of, six_of, target_of};
 
-use raw_trees::{RawExpr, RawExprForm};
 use rapid_num::{Joints, Num, read_literal};
+use raw_trees::{RawExpr, RawExprForm};
 
 /// The same size with the other sign.
 fn negated(number: Num) -> Num

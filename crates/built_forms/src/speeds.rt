@@ -5,6 +5,7 @@ ghost use Rattle.built_forms.specs.Speeds.{beside, speed_named};
 
 use rapid_num::Num;
 
+/// Each name, and its v_tcp.
 static SPEEDS: [(&[u8], u16); 26] = [
     (b"v5", 5),
     (b"v10", 10),

@@ -12,6 +12,3 @@ mod primary;
 
 pub use laws::one_answer;
 pub use parse::{parse_args, parse_expr, parse_exprs, parse_index, parse_parts};
-
-#[cfg(test)]
-mod tests;

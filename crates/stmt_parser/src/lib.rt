@@ -9,6 +9,3 @@ mod parse;
 mod simple;
 
 pub use parse::parse_list;
-
-#[cfg(test)]
-mod tests;
