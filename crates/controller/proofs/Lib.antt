@@ -9,6 +9,5 @@ pub mod Printing
 pub mod OneArm
 pub mod Exits
 pub mod Reports
-pub mod Pending
 pub mod OneBuilt
 pub mod OneVerdict

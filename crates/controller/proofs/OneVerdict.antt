@@ -15,7 +15,7 @@ use Rattle.controller.specs.declared.refused.Refused.TheVariants.{Module}
 use Rattle.controller.specs.declared.refused.ModuleRule.TheVariants.{NotBuilt}
 use Rattle.controller.specs.Words.{refused_place, script_name}
 use Rattle.controller.specs.Accepted.{Verdict, Accepted, script_limit, module_limit, file_text, place_at, fault_refusal, BuiltOf, ModuleOf, ModuleIn, ModulesOf, verdict_of, names_of, ScriptDecides, FileDecides, WordsDecide}
-use Rattle.controller.proofs.Pending.{module_text_one}
+use Rattle.module_parser.proofs.OneModule.{module_text_one}
 use Rattle.controller.proofs.OneBuilt.{built_one}
 
 same_keys : (text : List ℕ) (keys others : Members) → IsTable text keys → IsTable text others → keys ≡ others

@@ -11,7 +11,7 @@ use Rattle.rapid_lexer.specs.declared.place.Place.{Place}
 use Rattle.raw_trees.specs.Plain.{PlainModule}
 use Rattle.rapid_forms.specs.declared.fault.SyntaxFault.{SyntaxFault}
 use Rattle.rapid_forms.specs.declared.fault.SyntaxFault.TheVariants as faults
-use Rattle.module_parser_new.specs.Modules.{ModuleText}
+use Rattle.module_parser.specs.Modules.{ModuleText}
 use Rattle.built_forms.specs.Built.{BuildsTo}
 use Rattle.controller.specs.declared.refused.Refused.{Refused}
 use Rattle.controller.specs.declared.refused.Refused.TheVariants.{Words, Script, Module, Memory}

@@ -8,7 +8,7 @@ use crate::file::read_file;
 use crate::refused::{ModuleRule, Refused};
 use built_forms::{BuildFault, build_module};
 use cell_script::{ScriptFault, read_script};
-use module_parser_new::parse_module;
+use module_parser::parse_module;
 use outside::Shelf;
 use rapid_forms::SyntaxFault;
 use rapid_lexer::place_of;

@@ -1,9 +1,6 @@
-pub mod Fields
-pub mod Names
-pub mod Literals
-pub mod Speeds
-pub mod Targets
-pub mod Moves
-pub mod Lists
-pub mod Modules
-mod Examples
+pub mod Ahead
+pub mod Answered
+pub mod Taking
+pub mod OneModule
+pub mod Texts
+pub mod Nested

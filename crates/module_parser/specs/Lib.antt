@@ -1,3 +1,5 @@
-pub mod Speeds
+pub mod Words
 pub mod Grammar
-pub mod Reading
+pub mod Bodies
+pub mod Reads
+pub mod Modules

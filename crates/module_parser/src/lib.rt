@@ -1,17 +1,18 @@
-//! Modules in first form: which texts spell one, and the tree that they spell.
+//! Modules: which texts spell one, and the tree that they spell.
 #![tactic(auto)]
 
-mod fault;
-mod header;
-mod list;
+mod body;
+mod data;
+mod items;
+mod laws;
 mod module;
-mod move_line;
-mod number;
-mod speed;
-mod text;
+mod names;
+mod params;
+mod parse;
+mod words;
 
-pub use fault::ModuleFault;
-pub use module::{one_tree, read_module};
+pub use laws::one_module;
+pub use parse::parse_module;
 
 #[cfg(test)]
 mod tests;

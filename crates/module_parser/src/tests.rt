@@ -1,103 +1,171 @@
-use super::*;
-use rapid_model::{Form, Tree};
+use crate::parse_module;
+use rapid_forms::{SyntaxFault, SyntaxRule};
+use rapid_lexer::{LexFault, LexRule};
+use raw_trees::{Attribute, DatumKind, Mode, RawItem, RoutineKind};
 use std::alloc::{AllocError, Global};
+use std::rt::HostRuntime;
 use std::test::Fail;
 
-const ONE_MOVE: &[u8] =
-    b"MODULE M\nPROC main()\nMoveAbsJ [[2.5,0,0,0,0,0],[9E9,9E9,9E9,9E9,9E9,9E9]]\\NoEOffs, v1000, fine, tool0;\nENDPROC\nENDMODULE\n";
+static SOURCE: &[u8] = b"MODULE m(SYSMODULE, NOVIEW) VAR num x{3} := 1; LOCAL CONST bool c := TRUE; TASK PERS string s; PERS num p; PROC q(num a, INOUT num b, VAR num c, PERS num d) VAR num y; x := 1; ERROR RETRY; TRYNEXT; ENDPROC LOCAL FUNC num f() RETURN 1; ENDFUNC TRAP t ENDTRAP ENDMODULE";
 
-fn is_refused(alloc: Global, source: &[u8]) -> bool {
-    matches!(read_module(alloc, source), Err(ModuleFault::NotBuilt))
-}
+/// Texts whose tokens are no module, with the rule and the byte.
+static REFUSED: [(&[u8], SyntaxRule, usize); 26] = [
+    (b"", SyntaxRule::Syntax, 0),
+    (b"MODULE m", SyntaxRule::Syntax, 8),
+    (b"MODULE m VAR num x;  ", SyntaxRule::Syntax, 21),
+    (b"MODULE m ENDMODULE x", SyntaxRule::Syntax, 19),
+    (b"MODULE m ENDMODULE RECORD", SyntaxRule::LeftOut, 19),
+    (b"MODULE m RECORD r ENDRECORD ENDMODULE", SyntaxRule::LeftOut, 9),
+    (b"MODULE m ALIAS num n; ENDMODULE", SyntaxRule::LeftOut, 9),
+    (b"MODULE m PROC p() UNDO ENDPROC ENDMODULE", SyntaxRule::LeftOut, 18),
+    (b"MODULE m PROC p() BACKWARD ENDPROC ENDMODULE", SyntaxRule::LeftOut, 18),
+    (b"VAR num x;", SyntaxRule::Syntax, 0),
+    (b"MODULE PROC", SyntaxRule::Syntax, 7),
+    (b"MODULE m() ENDMODULE", SyntaxRule::Syntax, 9),
+    (b"MODULE m(x) ENDMODULE", SyntaxRule::Syntax, 9),
+    (b"MODULE m(NOVIEW,) ENDMODULE", SyntaxRule::Syntax, 16),
+    (b"MODULE m VAR num x ENDMODULE", SyntaxRule::Syntax, 19),
+    (b"MODULE m VAR x; ENDMODULE", SyntaxRule::Syntax, 14),
+    (b"MODULE m LOCAL TASK PERS num x; ENDMODULE", SyntaxRule::Syntax, 15),
+    (b"MODULE m TASK VAR num x; ENDMODULE", SyntaxRule::Syntax, 14),
+    (b"MODULE m PROC p ENDPROC ENDMODULE", SyntaxRule::Syntax, 16),
+    (b"MODULE m PROC p(num a,) ENDPROC ENDMODULE", SyntaxRule::Syntax, 22),
+    (b"MODULE m PROC p(CONST num a) ENDPROC ENDMODULE", SyntaxRule::Syntax, 16),
+    (b"MODULE m PROC p() PERS num x; ENDPROC ENDMODULE", SyntaxRule::Syntax, 18),
+    (b"MODULE m PROC p() EXIT; VAR num x; ENDPROC ENDMODULE", SyntaxRule::Syntax, 24),
+    (b"MODULE m PROC p() ERROR ERROR ENDPROC ENDMODULE", SyntaxRule::Syntax, 24),
+    (b"MODULE m FUNC num f() ENDPROC ENDMODULE", SyntaxRule::Syntax, 22),
+    (b"MODULE m TRAP t() ENDTRAP ENDMODULE", SyntaxRule::Syntax, 15),
+];
 
-/// What is read of a module with this line.
-fn read_line(alloc: Global, line: &[u8]) -> Result<Tree, ModuleFault> {
-    let Ok(source) = with_line(alloc, line) else {
-        return Err(ModuleFault::Memory);
-    };
-    read_module(alloc, &source)
-}
-
-fn with_line(alloc: Global, line: &[u8]) -> Result<Vec<u8>, AllocError> {
-    let mut source = Vec::from_slice(alloc, b"MODULE M\nPROC main()\n")?;
-    source.extend_from_slice(line)?;
-    source.extend_from_slice(b"\nENDPROC\nENDMODULE\n")?;
-    Ok(source)
-}
-
-fn is_refused_line(alloc: Global, line: &[u8]) -> bool {
-    matches!(read_line(alloc, line), Err(ModuleFault::NotBuilt))
-}
-
-#[test]
-fn one_move(rt: HostRuntime) -> Result<(), Fail> {
-    let tree = read_module(rt.alloc(), ONE_MOVE)?;
-    let list = tree.list.as_slice();
-    assert_eq!(rt; list.len(), 1);
-    assert_eq!(rt; list[0].at, 21);
-    let Form::Move { target, speed } = &list[0].form;
-    assert_eq!(rt; target.axis[0].thousandths(), 2500);
-    assert_eq!(rt; target.axis[1].thousandths(), 0);
-    assert_eq!(rt; target.axis[11].thousandths(), 9_000_000_000_000);
-    assert_eq!(rt; speed.thousandths(), 1_000_000);
-    Ok(())
+fn fault_of(alloc: Global, source: &[u8]) -> Option<SyntaxFault> {
+    parse_module(alloc, source).err()
 }
 
 #[test]
-fn no_moves(rt: HostRuntime) -> Result<(), Fail> {
-    let tree = read_module(rt.alloc(), b"MODULE M\nPROC main()\nENDPROC\nENDMODULE\n")?;
-    assert!(rt; tree.list.is_empty());
-    Ok(())
-}
-
-#[test]
-fn absent_first_axis(rt: HostRuntime) -> Result<(), Fail> {
-    let line = b"MoveAbsJ [[9E9,0,0,0,0,0],[9E9,9E9,9E9,9E9,9E9,9E9]]\\NoEOffs, vmax, fine, tool0;";
-    let tree = read_line(rt.alloc(), line)?;
-    let list = tree.list.as_slice();
-    assert_eq!(rt; list.len(), 1);
-    let Form::Move { target, speed } = &list[0].form;
-    assert_eq!(rt; target.axis[0].thousandths(), 9_000_000_000_000);
-    assert_eq!(rt; speed.thousandths(), 5_000_000);
-    Ok(())
-}
-
-#[test]
-fn other_lines(rt: HostRuntime) {
+fn each_kind_of_item_is_read(rt: HostRuntime) {
     let alloc = rt.alloc();
-    let blank =
-        b"MoveAbsJ [[0,0,0,0,0,0],[9E9,9E9,9E9,9E9,9E9,9E9]]\\NoEOffs,  v1000, fine, tool0;";
-    assert!(rt; is_refused_line(alloc, blank));
-    let lower_case =
-        b"moveabsj [[0,0,0,0,0,0],[9E9,9E9,9E9,9E9,9E9,9E9]]\\NoEOffs, v1000, fine, tool0;";
-    assert!(rt; is_refused_line(alloc, lower_case));
-    let zone = b"MoveAbsJ [[0,0,0,0,0,0],[9E9,9E9,9E9,9E9,9E9,9E9]]\\NoEOffs, v1000, z10, tool0;";
-    assert!(rt; is_refused_line(alloc, zone));
-    let speed = b"MoveAbsJ [[0,0,0,0,0,0],[9E9,9E9,9E9,9E9,9E9,9E9]]\\NoEOffs, v7, fine, tool0;";
-    assert!(rt; is_refused_line(alloc, speed));
+    let module = parse_module(alloc, SOURCE).unwrap();
+    assert_eq!(rt; module.attributes.len(), 2);
+    assert_eq!(rt; module.attributes[1], Attribute::NoView);
+    assert_eq!(rt; module.items.len(), 7);
+    assert!(rt;
+        matches!(
+            &module.items[0],
+            RawItem::Datum {
+                local: false,
+                task: false,
+                at: 28,
+                ..
+            }
+        )
+    );
+    assert!(rt;
+        matches!(
+            &module.items[1],
+            RawItem::Datum {
+                local: true,
+                task: false,
+                at: 47,
+                ..
+            }
+        )
+    );
+    assert!(rt;
+        matches!(
+            &module.items[2],
+            RawItem::Datum {
+                local: false,
+                task: true,
+                at: 75,
+                ..
+            }
+        )
+    );
+    if let RawItem::Datum { datum, .. } = &module.items[1] {
+        assert_eq!(rt; datum.kind, DatumKind::Const);
+        assert_eq!(rt; datum.at, 53);
+    }
 }
 
 #[test]
-fn other_counts(rt: HostRuntime) {
-    let five = b"MoveAbsJ [[0,0,0,0,0],[9E9,9E9,9E9,9E9,9E9,9E9]]\\NoEOffs, v1000, fine, tool0;";
-    assert!(rt; is_refused_line(rt.alloc(), five));
-    let seven =
-        b"MoveAbsJ [[0,0,0,0,0,0,0],[9E9,9E9,9E9,9E9,9E9,9E9]]\\NoEOffs, v1000, fine, tool0;";
-    assert!(rt; is_refused_line(rt.alloc(), seven));
+fn routines_have_their_parts(rt: HostRuntime) {
+    let alloc = rt.alloc();
+    let module = parse_module(alloc, SOURCE).unwrap();
+    match &module.items[4] {
+        RawItem::Routine(q) => {
+            assert!(rt; !q.local);
+            assert_eq!(rt; q.kind, RoutineKind::Proc);
+            assert_eq!(rt; q.params.len(), 4);
+            assert_eq!(rt; q.params[0].mode, Mode::Value);
+            assert_eq!(rt; q.params[1].mode, Mode::Inout);
+            assert_eq!(rt; q.params[2].mode, Mode::Var);
+            assert_eq!(rt; q.params[3].mode, Mode::Pers);
+            assert_eq!(rt; q.locals.len(), 1);
+            assert_eq!(rt; q.list.len(), 1);
+            assert!(rt; matches!(&q.handler, Some(handler) if handler.len() == 2));
+        }
+        RawItem::Datum { .. } => assert!(rt; false),
+    }
+    match &module.items[5] {
+        RawItem::Routine(f) => {
+            assert!(rt; f.local);
+            assert_eq!(rt; f.kind, RoutineKind::Func);
+            assert!(rt; f.result.is_some());
+            assert!(rt; f.handler.is_none());
+        }
+        RawItem::Datum { .. } => assert!(rt; false),
+    }
 }
 
 #[test]
-fn other_names(rt: HostRuntime) {
-    let digit = b"MODULE 1M\nPROC main()\nENDPROC\nENDMODULE\n";
-    assert!(rt; is_refused(rt.alloc(), digit));
-    let long = b"MODULE abcdefghijabcdefghijabcdefghijabc\nPROC main()\nENDPROC\nENDMODULE\n";
-    assert!(rt; is_refused(rt.alloc(), long));
+fn faults_of_tokens(rt: HostRuntime) {
+    for (source, rule, at) in &REFUSED {
+        let fault = SyntaxFault::Rule {
+            rule: *rule,
+            at: *at,
+        };
+        assert_eq!(rt; fault_of(rt.alloc(), source), Some(fault));
+    }
+}
+
+fn lexical(rule: LexRule, at: usize) -> Option<SyntaxFault> {
+    Some(SyntaxFault::Lex(LexFault { rule, at }))
 }
 
 #[test]
-fn other_ends(rt: HostRuntime) {
-    let cut = b"MODULE M\nPROC main()\nENDPROC\nENDMODULE";
-    assert!(rt; is_refused(rt.alloc(), cut));
-    let trailing = b"MODULE M\nPROC main()\nENDPROC\nENDMODULE\n\n";
-    assert!(rt; is_refused(rt.alloc(), trailing));
+fn lexical_faults_come_first(rt: HostRuntime) {
+    let alloc = rt.alloc();
+    let bad = lexical(LexRule::BadByte, 14);
+    let open = lexical(LexRule::OpenString, 19);
+    assert_eq!(rt; fault_of(alloc, b"MODULE MODULE $"), bad);
+    assert_eq!(rt; fault_of(alloc, b"MODULE m ENDMODULE \"a"), open);
+}
+
+/// The fault of an initial value that begins with so many parentheses.
+fn nested_fault(alloc: Global, parentheses: u32) -> Result<Option<SyntaxFault>, AllocError> {
+    let mut text = Vec::new(alloc);
+    for byte in b"MODULE m VAR num x := " {
+        text.push(*byte)?;
+    }
+    for _ in 0..parentheses {
+        text.push(b'(')?;
+    }
+    Ok(fault_of(alloc, text.as_slice()))
+}
+
+#[test]
+fn levels_of_nesting(rt: HostRuntime) -> Result<(), Fail> {
+    let end = Some(SyntaxFault::Rule {
+        rule: SyntaxRule::Syntax,
+        at: 86,
+    });
+    let deep = Some(SyntaxFault::Rule {
+        rule: SyntaxRule::TooDeep,
+        at: 86,
+    });
+    assert_eq!(rt; nested_fault(rt.alloc(), 64)?, end);
+    assert_eq!(rt; nested_fault(rt.alloc(), 65)?, deep);
+    assert_eq!(rt; nested_fault(rt.alloc(), 70)?, deep);
+    Ok(())
 }

@@ -1,0 +1,82 @@
+-- A text comes to one thing: the answers exclude one another, and each of them is one.
+use Rattle.std.proofs.Common.{◌≡◌, ℕ, suc, ◌+◌, ◌≤◌, ◌<◌, Bool, List, ◌++◌, length, take, drop, Result, Ok, Err, refl, sym, ap, subst, ◌∙◌, inl, inr, ◌⊎◌, arith}
+use Rattle.std.proofs.lemmas.Bool.{cases_order, cases_lt}
+use Rattle.std.proofs.lemmas.List.{take-append-drop, take-take, take_all}
+use Rattle.rapid_lexer.specs.Tokens.{Lexeme, Tiles}
+use Rattle.rapid_lexer.specs.Faults.{IsFirstMisfit}
+use Rattle.rapid_lexer.specs.declared.fault.LexFault.{LexFault}
+use Rattle.rapid_lexer.proofs.Tilings.{one_tiling, one_fault, no_fault}
+use Rattle.raw_trees.specs.Plain.{PlainModule}
+use Rattle.rapid_forms.specs.declared.sign.Sign.{Sign}
+use Rattle.rapid_forms.specs.declared.fault.SyntaxFault.{SyntaxFault}
+use Rattle.rapid_forms.specs.declared.fault.SyntaxFault.TheVariants.{Rule, Lex, Memory}
+use Rattle.rapid_forms.specs.Forms.{Form}
+use Rattle.rapid_forms.specs.Parsed.{IsLongest, IsTooDeep, Spells, syntax_fault, depth_fault}
+use Rattle.rapid_forms.proofs.Laws.{LL}
+use Rattle.rapid_forms.proofs.Spelled.{deep_once}
+use Rattle.module_parser.specs.Grammar.{«module»}
+use Rattle.module_parser.specs.Modules.{SpellsWithin, IsStuck, Stops, ModuleText, most_levels}
+use Rattle.module_parser.proofs.Ahead.{module_ll}
+use Rattle.module_parser.proofs.Answered.{module_above}
+
+-- fewer tokens begin a form as well
+fewer : {A : Type 0} {null : Bool} {first more : List Sign} {f : Form A} → LL null first more f → (ts : List Lexeme) (i j : ℕ) → i ≤ j → f.Begun (take j ts) → f.Begun (take i ts)
+fewer {f = f} l ts i j le b =
+    subst f.Begun (take-take i j ts le) (l.front (take i (take j ts)) (drop i (take j ts)) (subst f.Begun (sym (take-append-drop i (take j ts))) b))
+
+module _ {A : Type 0} {F : ℕ → Form A} {n : ℕ} {ts : List Lexeme} where
+  stuck_once : {j k : ℕ} → IsStuck F n ts j → IsStuck F n ts k → j ≡ k
+  stuck_once {j} {k} h h' = elim (cases_order j k) [
+    | inl e ↦ e
+    | inr (inl less) ↦ absurd (h.longest.most k less h'.longest.there h'.longest.begins)
+    | inr (inr less) ↦ absurd (h'.longest.most j less h.longest.there h.longest.begins)
+  ]
+
+  module _ {null : Bool} {first more : List Sign} (l : LL null first more (F n)) where
+    stuck_deep : {j k : ℕ} → IsStuck F n ts j → IsTooDeep F n ts k → ⊥
+    stuck_deep {j} {k} h d = elim (cases_lt j (suc k)) [
+      | inl less ↦ h.longest.most (suc k) less d.there d.begins
+      | inr le ↦ d.deep (fewer l ts (suc k) j le h.begun)
+    ]
+
+    whole_deep : {k : ℕ} (x : A) → (F n).Whole x ts → IsTooDeep F n ts k → ⊥
+    whole_deep {k} x w d = d.deep (fewer l ts (suc k) (length ts) d.there (subst (F n).Begun (sym (take_all (length ts) ts (omega arith))) (l.begun x ts w)))
+
+stops_once : (end : ℕ) (ts : List Lexeme) (f g : SyntaxFault) → Stops end ts f → Stops end ts g → f ≡ g
+stops_once end ts f g (inl (j, h, e)) (inl (k, h', e')) = e ∙ ap (λ i. syntax_fault end (drop i ts)) (stuck_once h h') ∙ sym e'
+stops_once end ts f g (inl (j, h, e)) (inr (k, d, e')) = absurd (stuck_deep (module_ll most_levels) h d)
+stops_once end ts f g (inr (j, d, e)) (inl (k, h, e')) = absurd (stuck_deep (module_ll most_levels) h d)
+stops_once end ts f g (inr (j, d, e)) (inr (k, d', e')) = e ∙ ap (λ i. depth_fault end (drop i ts)) (deep_once (module_ll most_levels) d d') ∙ sym e'
+
+whole_stops : (end : ℕ) (ts : List Lexeme) (x : PlainModule) (f : SyntaxFault) → («module» most_levels).Whole x ts → Stops end ts f → ⊥
+whole_stops end ts x f w (inl (k, h, e)) = h.none x (most_levels, w)
+whole_stops end ts x f w (inr (k, d, e)) = whole_deep (module_ll most_levels) x w d
+
+pub one_tree : (m n : ℕ) (t u : PlainModule) (source : List ℕ) → SpellsWithin m t source → SpellsWithin n u source → t ≡ u
+one_tree m n t u source (ts, tiles, w) (us, tiles', w') =
+    (module_ll (m + n)).only t u us
+    ((module_above m (m + n) (omega arith)).whole t us (subst ((«module» m).Whole t) (one_tiling source ts us tiles tiles') w))
+    ((module_above n (m + n) (omega arith)).whole u us w')
+
+pub one_module : (source : List ℕ) (a b : Result PlainModule SyntaxFault) → ModuleText source a → ModuleText source b → a ≡ b
+one_module source (Ok t) (Ok u) h h' = ap (λ x. Ok x) (one_tree most_levels most_levels t u source h h')
+one_module source (Ok t) (Err (Lex f)) (ts, tiles, w) h = absurd (no_fault source ts f tiles h)
+one_module source (Ok t) (Err (Rule rule at)) (ts, tiles, w) (us, tiles', s) =
+    absurd (whole_stops (length source) ts t (Rule rule at) w (subst (λ l. Stops (length source) l (Rule rule at)) (one_tiling source us ts tiles' tiles) s))
+one_module source (Err (Lex f)) (Ok u) h (ts, tiles, w) = absurd (no_fault source ts f tiles h)
+one_module source (Err (Lex f)) (Err (Lex g)) h h' = ap (λ f. Err (Lex f)) (one_fault source f g h h')
+one_module source (Err (Lex f)) (Err (Rule rule at)) h (ts, tiles, s) = absurd (no_fault source ts f tiles h)
+one_module source (Err (Rule rule at)) (Ok u) (us, tiles', s) (ts, tiles, w) =
+    absurd (whole_stops (length source) ts u (Rule rule at) w (subst (λ l. Stops (length source) l (Rule rule at)) (one_tiling source us ts tiles' tiles) s))
+one_module source (Err (Rule rule at)) (Err (Lex f)) (ts, tiles, s) h = absurd (no_fault source ts f tiles h)
+one_module source (Err (Rule rule at)) (Err (Rule rule' at')) (ts, tiles, s) (us, tiles', s') =
+    ap (λ f. Err f) (stops_once (length source) us (Rule rule at) (Rule rule' at') (subst (λ l. Stops (length source) l (Rule rule at)) (one_tiling source ts us tiles tiles') s) s')
+one_module source (Err Memory) b h h' = absurd h
+one_module source (Ok t) (Err Memory) h h' = absurd h'
+one_module source (Err (Lex f)) (Err Memory) h h' = absurd h'
+one_module source (Err (Rule rule at)) (Err Memory) h h' = absurd h'
+
+-- what a text comes to is all that it comes to
+pub only_one : (source : List ℕ) (memory : Type 0) (a b : Result PlainModule SyntaxFault) → memory ⊎ ModuleText source a → ModuleText source b → memory ⊎ (a ≡ b)
+only_one source memory a b (inl m) h = inl m
+only_one source memory a b (inr h) h' = inr (one_module source a b h h')
