@@ -15,7 +15,7 @@ use Rattle.controller.specs.declared.refused.Refused.TheVariants.{Module}
 use Rattle.controller.specs.declared.refused.ModuleRule.TheVariants.{NotBuilt}
 use Rattle.controller.specs.Words.{refused_place, script_name}
 use Rattle.controller.specs.Accepted.{Verdict, Accepted, script_limit, module_limit, file_text, place_at, fault_refusal, BuiltOf, ModuleOf, ModuleIn, ModulesOf, verdict_of, names_of, ScriptDecides, FileDecides, WordsDecide}
-use Rattle.module_parser.proofs.OneModule.{module_text_one}
+use Rattle.module_parser.proofs.OneModule.{one_module}
 use Rattle.controller.proofs.OneBuilt.{built_one}
 
 same_keys : (text : List ℕ) (keys others : Members) → IsTable text keys → IsTable text others → keys ≡ others
@@ -52,13 +52,13 @@ built_of_one file text raw (Err r) (Err r') p q =
 -- a text is one module, or is refused
 module_of_one : (file : ℕ) (text : List ℕ) (a b : Result Tree Refused) → ModuleOf file text a → ModuleOf file text b → a ≡ b
 module_of_one file text a b (inl p) (inl q) =
-    let e : Err p.0 ≡ Err q.0 = module_text_one text (Err p.0) (Err q.0) p.1 q.1 in
+    let e : Err p.0 ≡ Err q.0 = one_module text (Err p.0) (Err q.0) p.1 q.1 in
     let same : p.0 ≡ q.0 = cc in
     p.2 ∙ ap (λ (fault : SyntaxFault). Err (fault_refusal file text fault)) same ∙ sym q.2
-module_of_one file text a b (inl p) (inr q) = let e : Ok q.0 ≡ Err p.0 = module_text_one text (Ok q.0) (Err p.0) q.1 p.1 in cc
-module_of_one file text a b (inr p) (inl q) = let e : Ok p.0 ≡ Err q.0 = module_text_one text (Ok p.0) (Err q.0) p.1 q.1 in cc
+module_of_one file text a b (inl p) (inr q) = let e : Ok q.0 ≡ Err p.0 = one_module text (Ok q.0) (Err p.0) q.1 p.1 in cc
+module_of_one file text a b (inr p) (inl q) = let e : Ok p.0 ≡ Err q.0 = one_module text (Ok p.0) (Err q.0) p.1 q.1 in cc
 module_of_one file text a b (inr p) (inr q) =
-    let e : Ok p.0 ≡ Ok q.0 = module_text_one text (Ok p.0) (Ok q.0) p.1 q.1 in
+    let e : Ok p.0 ≡ Ok q.0 = one_module text (Ok p.0) (Ok q.0) p.1 q.1 in
     let same : p.0 ≡ q.0 = cc in
     built_of_one file text q.0 a b (subst (λ (raw : PlainModule). BuiltOf file text raw a) same p.2) q.2
 
