@@ -20,10 +20,7 @@ static DATUM_SIGNS: [Sign; 3] = [Sign::Const, Sign::Var, Sign::Pers];
 
 /// An item.
 #[tactic(auto, unfolding(crate::specs::Reads::item_read, rapid_forms::specs::Reading::either_read, rapid_forms::specs::Reading::made_read, rapid_forms::specs::Reading::seq_read, rapid_forms::specs::Reading::then_read))]
-pub(crate) fn item<'a>(
-    p: &Parser<'_, 'a>,
-    at: usize,
-) -> Result<(RawItem<'a>, usize), SyntaxFault>
+pub(crate) fn item<'a>(p: &Parser<'_, 'a>, at: usize) -> Result<(RawItem<'a>, usize), SyntaxFault>
     ensures { Gives p.now.tokens view_item result (item_read 64 (rest_from p.now.tokens at)) }
 {
     if p.tokens.sees(at, &[Sign::Task]) {

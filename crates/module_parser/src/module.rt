@@ -54,10 +54,7 @@ pub(crate) fn module<'a>(
 }
 
 #[tactic(auto, unfolding(rapid_forms::specs::Reading::made_read, rapid_forms::specs::Reading::optional_read, rapid_forms::specs::Reading::then_read))]
-fn attributes_if_any(
-    p: &Parser<'_, '_>,
-    at: usize,
-) -> Result<(Vec<Attribute>, usize), SyntaxFault>
+fn attributes_if_any(p: &Parser<'_, '_>, at: usize) -> Result<(Vec<Attribute>, usize), SyntaxFault>
     ensures { Gives p.now.tokens (λ v. v.items) result (made_read none_or (optional_read (Sign.OpenParenthesis ∷ []) attributes_read) (rest_from p.now.tokens at)) }
 {
     if p.tokens.sees(at, &[Sign::OpenParenthesis]) {
@@ -80,10 +77,7 @@ fn attributes(p: &Parser<'_, '_>, at: usize) -> Result<(Vec<Attribute>, usize), 
 
 /// Attributes, one at least.
 #[tactic(auto, unfolding(rapid_forms::specs::Reading::made_read, rapid_forms::specs::Reading::seq_read, rapid_forms::specs::Reading::then_read))]
-fn some_attributes(
-    p: &Parser<'_, '_>,
-    at: usize,
-) -> Result<(Vec<Attribute>, usize), SyntaxFault>
+fn some_attributes(p: &Parser<'_, '_>, at: usize) -> Result<(Vec<Attribute>, usize), SyntaxFault>
     ensures { Gives p.now.tokens (λ v. v.items) result (made_read first_and_more (seq_read attribute_read (many_read (Sign.Comma ∷ []) more_attribute_read)) (rest_from p.now.tokens at)) }
 {
     let (first, after) = attribute(p, at)?;
@@ -115,10 +109,7 @@ fn more_attribute(p: &Parser<'_, '_>, at: usize) -> Result<(Attribute, usize), S
     attribute(p, next)
 }
 
-fn items<'a>(
-    p: &Parser<'_, 'a>,
-    at: usize,
-) -> Result<(Vec<RawItem<'a>>, usize), SyntaxFault>
+fn items<'a>(p: &Parser<'_, 'a>, at: usize) -> Result<(Vec<RawItem<'a>>, usize), SyntaxFault>
     ensures { Gives p.now.tokens (λ v. map view_item v.items) result (many_read item_signs (item_read 64) (rest_from p.now.tokens at)) }
 {
     let mut list = Vec::new(p.alloc);

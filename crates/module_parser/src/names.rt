@@ -12,10 +12,7 @@ use raw_trees::{RawExpr, RawName, RawStmt};
 use stmt_parser::parse_list;
 
 #[tactic(auto, unfolding(expr_parser::specs::Reads::name_read, rapid_forms::specs::Reading::made_read, rapid_forms::specs::Reading::then_read))]
-pub(crate) fn name<'a>(
-    p: &Parser<'_, 'a>,
-    at: usize,
-) -> Result<(RawName<'a>, usize), SyntaxFault>
+pub(crate) fn name<'a>(p: &Parser<'_, 'a>, at: usize) -> Result<(RawName<'a>, usize), SyntaxFault>
     ensures { Gives p.now.tokens view_name result (name_read (rest_from p.now.tokens at)) }
 {
     let (token, next) = p.tokens.take(at, &[Sign::Name])?;

@@ -49,10 +49,7 @@ fn params_if_any<'a>(
 
 /// Parameters, one at least.
 #[tactic(auto, unfolding(crate::specs::Reads::some_params_read, rapid_forms::specs::Reading::made_read, rapid_forms::specs::Reading::seq_read, rapid_forms::specs::Reading::then_read))]
-fn some_params<'a>(
-    p: &Parser<'_, 'a>,
-    at: usize,
-) -> Result<(Vec<RawParam<'a>>, usize), SyntaxFault>
+fn some_params<'a>(p: &Parser<'_, 'a>, at: usize) -> Result<(Vec<RawParam<'a>>, usize), SyntaxFault>
     ensures { Gives p.now.tokens (λ v. map view_param v.items) result (some_params_read (rest_from p.now.tokens at)) }
 {
     let (first, after) = param(p, at)?;
@@ -69,10 +66,7 @@ fn some_params<'a>(
 
 /// A comma and the parameter behind it.
 #[tactic(auto, unfolding(crate::specs::Reads::more_param_read, rapid_forms::specs::Reading::made_read, rapid_forms::specs::Reading::seq_read, rapid_forms::specs::Reading::then_read))]
-fn more_param<'a>(
-    p: &Parser<'_, 'a>,
-    at: usize,
-) -> Result<(RawParam<'a>, usize), SyntaxFault>
+fn more_param<'a>(p: &Parser<'_, 'a>, at: usize) -> Result<(RawParam<'a>, usize), SyntaxFault>
     ensures { Gives p.now.tokens view_param result (more_param_read (rest_from p.now.tokens at)) }
 {
     let (_comma, next) = p.tokens.take(at, &[Sign::Comma])?;
@@ -117,10 +111,7 @@ fn param_of<'a>(
 
 /// The word of a parameter's mode, if it is there.
 #[tactic(auto, unfolding(rapid_forms::specs::Reading::optional_read, rapid_forms::specs::Reading::then_read))]
-fn mode_if_any<'a>(
-    p: &Parser<'_, 'a>,
-    at: usize,
-) -> Result<(Option<Token<'a>>, usize), SyntaxFault>
+fn mode_if_any<'a>(p: &Parser<'_, 'a>, at: usize) -> Result<(Option<Token<'a>>, usize), SyntaxFault>
     ensures { Gives p.now.tokens (option_map view) result (optional_read mode_signs (one_read mode_signs) (rest_from p.now.tokens at)) }
 {
     if !p.tokens.sees(at, &MODE_SIGNS) {

@@ -6,7 +6,8 @@ use std::alloc::{AllocError, Global};
 use std::rt::HostRuntime;
 use std::test::Fail;
 
-static SOURCE: &[u8] = b"MODULE m(SYSMODULE, NOVIEW) VAR num x{3} := 1; LOCAL CONST bool c := TRUE; TASK PERS string s; PERS num p; PROC q(num a, INOUT num b, VAR num c, PERS num d) VAR num y; x := 1; ERROR RETRY; TRYNEXT; ENDPROC LOCAL FUNC num f() RETURN 1; ENDFUNC TRAP t ENDTRAP ENDMODULE";
+static SOURCE: &[u8] =
+    b"MODULE m(SYSMODULE, NOVIEW) VAR num x{3} := 1; LOCAL CONST bool c := TRUE; TASK PERS string s; PERS num p; PROC q(num a, INOUT num b, VAR num c, PERS num d) VAR num y; x := 1; ERROR RETRY; TRYNEXT; ENDPROC LOCAL FUNC num f() RETURN 1; ENDFUNC TRAP t ENDTRAP ENDMODULE";
 
 /// Texts whose tokens are no module, with the rule and the byte.
 static REFUSED: [(&[u8], SyntaxRule, usize); 26] = [
@@ -15,10 +16,22 @@ static REFUSED: [(&[u8], SyntaxRule, usize); 26] = [
     (b"MODULE m VAR num x;  ", SyntaxRule::Syntax, 21),
     (b"MODULE m ENDMODULE x", SyntaxRule::Syntax, 19),
     (b"MODULE m ENDMODULE RECORD", SyntaxRule::LeftOut, 19),
-    (b"MODULE m RECORD r ENDRECORD ENDMODULE", SyntaxRule::LeftOut, 9),
+    (
+        b"MODULE m RECORD r ENDRECORD ENDMODULE",
+        SyntaxRule::LeftOut,
+        9,
+    ),
     (b"MODULE m ALIAS num n; ENDMODULE", SyntaxRule::LeftOut, 9),
-    (b"MODULE m PROC p() UNDO ENDPROC ENDMODULE", SyntaxRule::LeftOut, 18),
-    (b"MODULE m PROC p() BACKWARD ENDPROC ENDMODULE", SyntaxRule::LeftOut, 18),
+    (
+        b"MODULE m PROC p() UNDO ENDPROC ENDMODULE",
+        SyntaxRule::LeftOut,
+        18,
+    ),
+    (
+        b"MODULE m PROC p() BACKWARD ENDPROC ENDMODULE",
+        SyntaxRule::LeftOut,
+        18,
+    ),
     (b"VAR num x;", SyntaxRule::Syntax, 0),
     (b"MODULE PROC", SyntaxRule::Syntax, 7),
     (b"MODULE m() ENDMODULE", SyntaxRule::Syntax, 9),
@@ -26,16 +39,52 @@ static REFUSED: [(&[u8], SyntaxRule, usize); 26] = [
     (b"MODULE m(NOVIEW,) ENDMODULE", SyntaxRule::Syntax, 16),
     (b"MODULE m VAR num x ENDMODULE", SyntaxRule::Syntax, 19),
     (b"MODULE m VAR x; ENDMODULE", SyntaxRule::Syntax, 14),
-    (b"MODULE m LOCAL TASK PERS num x; ENDMODULE", SyntaxRule::Syntax, 15),
-    (b"MODULE m TASK VAR num x; ENDMODULE", SyntaxRule::Syntax, 14),
+    (
+        b"MODULE m LOCAL TASK PERS num x; ENDMODULE",
+        SyntaxRule::Syntax,
+        15,
+    ),
+    (
+        b"MODULE m TASK VAR num x; ENDMODULE",
+        SyntaxRule::Syntax,
+        14,
+    ),
     (b"MODULE m PROC p ENDPROC ENDMODULE", SyntaxRule::Syntax, 16),
-    (b"MODULE m PROC p(num a,) ENDPROC ENDMODULE", SyntaxRule::Syntax, 22),
-    (b"MODULE m PROC p(CONST num a) ENDPROC ENDMODULE", SyntaxRule::Syntax, 16),
-    (b"MODULE m PROC p() PERS num x; ENDPROC ENDMODULE", SyntaxRule::Syntax, 18),
-    (b"MODULE m PROC p() EXIT; VAR num x; ENDPROC ENDMODULE", SyntaxRule::Syntax, 24),
-    (b"MODULE m PROC p() ERROR ERROR ENDPROC ENDMODULE", SyntaxRule::Syntax, 24),
-    (b"MODULE m FUNC num f() ENDPROC ENDMODULE", SyntaxRule::Syntax, 22),
-    (b"MODULE m TRAP t() ENDTRAP ENDMODULE", SyntaxRule::Syntax, 15),
+    (
+        b"MODULE m PROC p(num a,) ENDPROC ENDMODULE",
+        SyntaxRule::Syntax,
+        22,
+    ),
+    (
+        b"MODULE m PROC p(CONST num a) ENDPROC ENDMODULE",
+        SyntaxRule::Syntax,
+        16,
+    ),
+    (
+        b"MODULE m PROC p() PERS num x; ENDPROC ENDMODULE",
+        SyntaxRule::Syntax,
+        18,
+    ),
+    (
+        b"MODULE m PROC p() EXIT; VAR num x; ENDPROC ENDMODULE",
+        SyntaxRule::Syntax,
+        24,
+    ),
+    (
+        b"MODULE m PROC p() ERROR ERROR ENDPROC ENDMODULE",
+        SyntaxRule::Syntax,
+        24,
+    ),
+    (
+        b"MODULE m FUNC num f() ENDPROC ENDMODULE",
+        SyntaxRule::Syntax,
+        22,
+    ),
+    (
+        b"MODULE m TRAP t() ENDTRAP ENDMODULE",
+        SyntaxRule::Syntax,
+        15,
+    ),
 ];
 
 fn fault_of(alloc: Global, source: &[u8]) -> Option<SyntaxFault> {

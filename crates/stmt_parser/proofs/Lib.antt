@@ -2,3 +2,6 @@ pub mod Ahead
 pub mod Serves
 pub mod Answered
 pub mod Told
+pub mod Least
+pub mod Lists
+pub mod Begins

@@ -17,6 +17,7 @@ use raw_trees::{RawExpr, RawStmt};
 
 /// IF with lists, or with one statement.
 #[cycle(stmt)]
+#[tactic(auto, using(expr_parser::proofs::Taking::one_placed), unfolding(crate::specs::Reads::tested_read, rapid_forms::specs::Reading::made_read, rapid_forms::specs::Reading::seq_read, rapid_forms::specs::Reading::then_read, rapid_forms::specs::Reading::either_read))]
 pub(crate) fn choice_or_one<'a>(
     p: &Parser<'_, 'a>,
     at: usize,
@@ -37,6 +38,7 @@ pub(crate) fn choice_or_one<'a>(
 
 /// What stands behind the first test of an IF with lists.
 #[cycle(stmt)]
+#[tactic(auto, unfolding(crate::specs::Reads::branched_read, rapid_forms::specs::Reading::seq_read, rapid_forms::specs::Reading::then_read))]
 fn branches<'a>(
     p: &Parser<'_, 'a>,
     word: Token<'a>,
@@ -45,9 +47,10 @@ fn branches<'a>(
     left: u32,
 ) -> Result<(RawStmt<'a>, usize), SyntaxFault>
     requires { left ≤ 64 }
-    ensures { Gives p.now.tokens view_stmt result (then_read (branched_read (inside_read left) (list_read left) (rest_from p.now.tokens at)) λ x rest. Ok (if_tree word.at (view word, (arm_tree word.at (view_expr test.entry, x.0), x.1)), rest)) }
+    ensures { Gives p.now.tokens view_stmt result (then_read (branched_read (inside_read left) (list_read left) (rest_from p.now.tokens at)) λ x rest. Ok (if_tree word.entry.at (view word.entry, (arm_tree word.entry.at (view_expr test.entry, x.0), x.1)), rest)) }
 {
-    let (first, after) = list_behind(p, at, left, Sign::Then)?;
+    let (_then, body) = p.tokens.take(at, &[Sign::Then])?;
+    let (first, after) = list(p, body, left)?;
     let (arms, next) = arms(p, (test, first), after, left)?;
     let (other, last) = list_if_any(p, next, left, Sign::Else)?;
     let (_end, end) = p.tokens.take(last, &[Sign::EndIf])?;
@@ -56,6 +59,7 @@ fn branches<'a>(
 
 /// The first arm of an IF, and each ELSEIF behind it.
 #[cycle(stmt)]
+#[tactic(auto, unfolding(crate::specs::Reads::arms_read, rapid_forms::specs::Reading::then_read))]
 fn arms<'a>(
     p: &Parser<'_, 'a>,
     first: (RawExpr<'a>, Vec<RawStmt<'a>>),
@@ -78,6 +82,7 @@ fn arms<'a>(
 
 /// ELSEIF with its test and its list.
 #[cycle(stmt)]
+#[tactic(auto, unfolding(crate::specs::Reads::behind_read, crate::specs::Reads::arm_read, rapid_forms::specs::Reading::made_read, rapid_forms::specs::Reading::seq_read, rapid_forms::specs::Reading::then_read))]
 fn arm<'a>(
     p: &Parser<'_, 'a>,
     at: usize,
@@ -93,6 +98,7 @@ fn arm<'a>(
 
 /// A word or mark and the list behind it.
 #[cycle(stmt)]
+#[tactic(auto, unfolding(crate::specs::Reads::behind_read, rapid_forms::specs::Reading::made_read, rapid_forms::specs::Reading::seq_read, rapid_forms::specs::Reading::then_read))]
 fn list_behind<'a>(
     p: &Parser<'_, 'a>,
     at: usize,
@@ -108,6 +114,7 @@ fn list_behind<'a>(
 
 /// The list behind a word, if the word is there.
 #[cycle(stmt)]
+#[tactic(auto, unfolding(crate::specs::Reads::if_read, rapid_forms::specs::Reading::optional_read, rapid_forms::specs::Reading::then_read))]
 fn list_if_any<'a>(
     p: &Parser<'_, 'a>,
     at: usize,
@@ -126,6 +133,7 @@ fn list_if_any<'a>(
 
 /// FOR.
 #[cycle(stmt)]
+#[tactic(auto, using(expr_parser::proofs::Taking::one_placed), unfolding(crate::specs::Reads::for_read, rapid_forms::specs::Reading::made_read, rapid_forms::specs::Reading::seq_read, rapid_forms::specs::Reading::then_read))]
 pub(crate) fn for_loop<'a>(
     p: &Parser<'_, 'a>,
     at: usize,
@@ -141,10 +149,14 @@ pub(crate) fn for_loop<'a>(
     let (step, body) = step_if_any(p, by, left)?;
     let (list, close) = list_behind(p, body, left, Sign::Do)?;
     let (_end, end) = p.tokens.take(close, &[Sign::EndFor])?;
-    Ok((RawStmt::for_loop(word.at, name, first, last, step, list), end))
+    Ok((
+        RawStmt::for_loop(word.at, name, first, last, step, list),
+        end,
+    ))
 }
 
 /// The step of a FOR, if it has one.
+#[tactic(auto, unfolding(crate::specs::Reads::if_read, rapid_forms::specs::Reading::optional_read, rapid_forms::specs::Reading::then_read))]
 fn step_if_any<'a>(
     p: &Parser<'_, 'a>,
     at: usize,
@@ -162,6 +174,7 @@ fn step_if_any<'a>(
 
 /// WHILE.
 #[cycle(stmt)]
+#[tactic(auto, using(expr_parser::proofs::Taking::one_placed), unfolding(crate::specs::Reads::while_read, rapid_forms::specs::Reading::made_read, rapid_forms::specs::Reading::seq_read, rapid_forms::specs::Reading::then_read))]
 pub(crate) fn while_loop<'a>(
     p: &Parser<'_, 'a>,
     at: usize,
@@ -179,6 +192,7 @@ pub(crate) fn while_loop<'a>(
 
 /// TEST.
 #[cycle(stmt)]
+#[tactic(auto, using(expr_parser::proofs::Taking::one_placed), unfolding(crate::specs::Reads::test_read, rapid_forms::specs::Reading::made_read, rapid_forms::specs::Reading::seq_read, rapid_forms::specs::Reading::then_read))]
 pub(crate) fn choice<'a>(
     p: &Parser<'_, 'a>,
     at: usize,
@@ -197,6 +211,7 @@ pub(crate) fn choice<'a>(
 
 /// Each CASE.
 #[cycle(stmt)]
+#[tactic(auto, unfolding(crate::specs::Reads::cases_read))]
 fn cases<'a>(
     p: &Parser<'_, 'a>,
     at: usize,
@@ -217,6 +232,7 @@ fn cases<'a>(
 
 /// CASE with its values and its list.
 #[cycle(stmt)]
+#[tactic(auto, unfolding(crate::specs::Reads::behind_read, crate::specs::Reads::case_read, rapid_forms::specs::Reading::made_read, rapid_forms::specs::Reading::seq_read, rapid_forms::specs::Reading::then_read))]
 fn case<'a>(
     p: &Parser<'_, 'a>,
     at: usize,
@@ -233,6 +249,7 @@ fn case<'a>(
 
 /// DEFAULT with its list, if it is there.
 #[cycle(stmt)]
+#[tactic(auto, unfolding(crate::specs::Reads::default_read, crate::specs::Reads::if_read, crate::specs::Reads::behind_read, rapid_forms::specs::Reading::optional_read, rapid_forms::specs::Reading::made_read, rapid_forms::specs::Reading::seq_read, rapid_forms::specs::Reading::then_read))]
 fn default_if_any<'a>(
     p: &Parser<'_, 'a>,
     at: usize,

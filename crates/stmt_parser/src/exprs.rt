@@ -63,10 +63,8 @@ pub(crate) fn args<'a>(
     parse_args(p.alloc, p.tokens.list, first, 64 - left, p.tokens.end)
 }
 
-pub(crate) fn name<'a>(
-    p: &Parser<'_, 'a>,
-    at: usize,
-) -> Result<(RawName<'a>, usize), SyntaxFault>
+#[tactic(auto, unfolding(expr_parser::specs::Reads::name_read, rapid_forms::specs::Reading::made_read, rapid_forms::specs::Reading::then_read))]
+pub(crate) fn name<'a>(p: &Parser<'_, 'a>, at: usize) -> Result<(RawName<'a>, usize), SyntaxFault>
     ensures { Gives p.now.tokens view_name result (name_read (rest_from p.now.tokens at)) }
 {
     let (token, next) = p.tokens.take(at, &[Sign::Name])?;
@@ -78,6 +76,7 @@ pub(crate) fn name<'a>(
 }
 
 /// A word or mark and the expression behind it.
+#[tactic(auto, unfolding(crate::specs::Reads::behind_read, rapid_forms::specs::Reading::made_read, rapid_forms::specs::Reading::seq_read, rapid_forms::specs::Reading::then_read))]
 pub(crate) fn expr_behind<'a>(
     p: &Parser<'_, 'a>,
     at: usize,

@@ -28,6 +28,7 @@ static STMT_SIGNS: [Sign; 12] = [
 
 /// A list of statements, which opens a level where it has any.
 #[cycle(stmt)]
+#[tactic(auto, using(crate::proofs::Lists::list_none, crate::proofs::Lists::list_opens), unfolding(crate::specs::Reads::list_read, rapid_forms::specs::Reading::made_read, rapid_forms::specs::Reading::optional_read, rapid_forms::specs::Reading::then_read, rapid_forms::specs::Reading::nothing_read))]
 pub(crate) fn list<'a>(
     p: &Parser<'_, 'a>,
     at: usize,
@@ -67,11 +68,8 @@ pub(crate) fn items<'a>(
 
 /// A statement.
 #[cycle(stmt)]
-fn stmt<'a>(
-    p: &Parser<'_, 'a>,
-    at: usize,
-    left: u32,
-) -> Result<(RawStmt<'a>, usize), SyntaxFault>
+#[tactic(auto, unfolding(crate::specs::Reads::stmt_read, crate::specs::Reads::stmt_of_read, rapid_forms::specs::Reading::either_read))]
+fn stmt<'a>(p: &Parser<'_, 'a>, at: usize, left: u32) -> Result<(RawStmt<'a>, usize), SyntaxFault>
     requires { left ≤ 64 }
     ensures { Gives p.now.tokens view_stmt result (stmt_read left (rest_from p.now.tokens at)) }
 {

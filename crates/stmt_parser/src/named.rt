@@ -12,6 +12,7 @@ use rapid_forms::{Parser, Sign, SyntaxFault};
 use raw_trees::{RawName, RawPlace, RawStmt};
 
 /// A label, an assignment or a call.
+#[tactic(auto, using(crate::proofs::Begins::name_placed), unfolding(crate::specs::Reads::named_read, rapid_forms::specs::Reading::made_read, rapid_forms::specs::Reading::seq_read, rapid_forms::specs::Reading::then_read, rapid_forms::specs::Reading::either_read))]
 pub(crate) fn named<'a>(
     p: &Parser<'_, 'a>,
     at: usize,
@@ -28,6 +29,7 @@ pub(crate) fn named<'a>(
 }
 
 /// An assignment or a call.
+#[tactic(auto, using(crate::proofs::Begins::name_placed), unfolding(crate::specs::Reads::named_simple_read, rapid_forms::specs::Reading::made_read, rapid_forms::specs::Reading::seq_read, rapid_forms::specs::Reading::then_read))]
 pub(crate) fn named_simple<'a>(
     p: &Parser<'_, 'a>,
     at: usize,
@@ -40,18 +42,20 @@ pub(crate) fn named_simple<'a>(
     behind_name(p, name, next, left)
 }
 
+#[tactic(auto, unfolding(rapid_forms::specs::Reading::then_read))]
 fn label<'a>(
     p: &Parser<'_, 'a>,
     name: RawName<'a>,
     at: usize,
 ) -> Result<(RawStmt<'a>, usize), SyntaxFault>
-    ensures { Gives p.now.tokens view_stmt result (then_read (mark_read Sign.Colon (rest_from p.now.tokens at)) λ x rest. Ok (label_tree name.at (view_name name, x), rest)) }
+    ensures { Gives p.now.tokens view_stmt result (then_read (mark_read Sign.Colon (rest_from p.now.tokens at)) λ x rest. Ok (label_tree name.entry.at (view_name name.entry, x), rest)) }
 {
     let (_colon, end) = p.tokens.take(at, &[Sign::Colon])?;
     Ok((RawStmt::label(name.at, name), end))
 }
 
 /// What makes a name an assignment or a call.
+#[tactic(auto, unfolding(crate::specs::Reads::behind_name_read, rapid_forms::specs::Reading::either_read, rapid_forms::specs::Reading::made_read, rapid_forms::specs::Reading::then_read))]
 fn behind_name<'a>(
     p: &Parser<'_, 'a>,
     name: RawName<'a>,
@@ -59,15 +63,18 @@ fn behind_name<'a>(
     left: u32,
 ) -> Result<(RawStmt<'a>, usize), SyntaxFault>
     requires { left ≤ 64 }
-    ensures { Gives p.now.tokens view_stmt result (then_read (behind_name_read (inside_read left) (rest_from p.now.tokens at)) λ x rest. Ok (named_simple_tree name.at (view_name name, x), rest)) }
+    ensures { Gives p.now.tokens view_stmt result (then_read (behind_name_read (inside_read left) (rest_from p.now.tokens at)) λ x rest. Ok (named_simple_tree name.entry.at (view_name name.entry, x), rest)) }
 {
-    if p.tokens.sees(at, &[Sign::Assign, Sign::OpenBrace, Sign::Dot]) {
+    if p.tokens
+        .sees(at, &[Sign::Assign, Sign::OpenBrace, Sign::Dot])
+    {
         assignment(p, name, at, left)
     } else {
         call(p, name, at, left)
     }
 }
 
+#[tactic(auto, unfolding(crate::specs::Reads::assigned_read, rapid_forms::specs::Reading::seq_read, rapid_forms::specs::Reading::then_read))]
 fn assignment<'a>(
     p: &Parser<'_, 'a>,
     name: RawName<'a>,
@@ -75,7 +82,7 @@ fn assignment<'a>(
     left: u32,
 ) -> Result<(RawStmt<'a>, usize), SyntaxFault>
     requires { left ≤ 64 }
-    ensures { Gives p.now.tokens view_stmt result (then_read (assigned_read (inside_read left) (rest_from p.now.tokens at)) λ x rest. Ok (assigned_tree name.at (view_name name, x), rest)) }
+    ensures { Gives p.now.tokens view_stmt result (then_read (assigned_read (inside_read left) (rest_from p.now.tokens at)) λ x rest. Ok (assigned_tree name.entry.at (view_name name.entry, x), rest)) }
 {
     let ((index, parts), after) = parts(p, at, left)?;
     let place = RawPlace::new(p.alloc, name, index, parts)?;
@@ -85,6 +92,7 @@ fn assignment<'a>(
     Ok((RawStmt::assign(name.at, place, value), end))
 }
 
+#[tactic(auto, unfolding(crate::specs::Reads::called_read, rapid_forms::specs::Reading::seq_read, rapid_forms::specs::Reading::then_read))]
 fn call<'a>(
     p: &Parser<'_, 'a>,
     name: RawName<'a>,
@@ -92,7 +100,7 @@ fn call<'a>(
     left: u32,
 ) -> Result<(RawStmt<'a>, usize), SyntaxFault>
     requires { left ≤ 64 }
-    ensures { Gives p.now.tokens view_stmt result (then_read (called_read (inside_read left) (rest_from p.now.tokens at)) λ x rest. Ok (call_tree name.at (view_name name, x), rest)) }
+    ensures { Gives p.now.tokens view_stmt result (then_read (called_read (inside_read left) (rest_from p.now.tokens at)) λ x rest. Ok (call_tree name.entry.at (view_name name.entry, x), rest)) }
 {
     let (args, last) = args(p, at, left)?;
     let (_semicolon, end) = p.tokens.take(last, &[Sign::Semicolon])?;

@@ -12,6 +12,7 @@ use rapid_forms::{Parser, Sign, SyntaxFault};
 use raw_trees::{RawExpr, RawPlace, RawStmt};
 
 /// A statement that has no list and is no label.
+#[tactic(auto, unfolding(crate::specs::Reads::simple_read, rapid_forms::specs::Reading::either_read))]
 pub(crate) fn simple<'a>(
     p: &Parser<'_, 'a>,
     at: usize,
@@ -27,6 +28,7 @@ pub(crate) fn simple<'a>(
 }
 
 /// A statement without lists that begins with a reserved word.
+#[tactic(auto, unfolding(crate::specs::Reads::worded_read, rapid_forms::specs::Reading::either_read))]
 pub(crate) fn worded<'a>(
     p: &Parser<'_, 'a>,
     at: usize,
@@ -56,6 +58,7 @@ pub(crate) fn worded<'a>(
     connect(p, at, left)
 }
 
+#[tactic(auto, using(expr_parser::proofs::Taking::one_placed), unfolding(crate::specs::Reads::goto_read, rapid_forms::specs::Reading::made_read, rapid_forms::specs::Reading::seq_read, rapid_forms::specs::Reading::then_read))]
 fn goto<'a>(p: &Parser<'_, 'a>, at: usize) -> Result<(RawStmt<'a>, usize), SyntaxFault>
     ensures { Gives p.now.tokens view_stmt result (goto_read (rest_from p.now.tokens at)) }
 {
@@ -65,6 +68,7 @@ fn goto<'a>(p: &Parser<'_, 'a>, at: usize) -> Result<(RawStmt<'a>, usize), Synta
     Ok((RawStmt::goto(word.at, name), end))
 }
 
+#[tactic(auto, using(expr_parser::proofs::Taking::one_placed), unfolding(crate::specs::Reads::return_read, rapid_forms::specs::Reading::made_read, rapid_forms::specs::Reading::seq_read, rapid_forms::specs::Reading::then_read))]
 fn returns<'a>(
     p: &Parser<'_, 'a>,
     at: usize,
@@ -79,6 +83,7 @@ fn returns<'a>(
     Ok((RawStmt::returns(word.at, value), end))
 }
 
+#[tactic(auto, using(expr_parser::proofs::Taking::one_placed), unfolding(crate::specs::Reads::exit_read, rapid_forms::specs::Reading::made_read, rapid_forms::specs::Reading::seq_read, rapid_forms::specs::Reading::then_read))]
 fn exit<'a>(p: &Parser<'_, 'a>, at: usize) -> Result<(RawStmt<'a>, usize), SyntaxFault>
     ensures { Gives p.now.tokens view_stmt result (exit_read (rest_from p.now.tokens at)) }
 {
@@ -87,11 +92,8 @@ fn exit<'a>(p: &Parser<'_, 'a>, at: usize) -> Result<(RawStmt<'a>, usize), Synta
     Ok((RawStmt::exit(word.at), end))
 }
 
-fn raise<'a>(
-    p: &Parser<'_, 'a>,
-    at: usize,
-    left: u32,
-) -> Result<(RawStmt<'a>, usize), SyntaxFault>
+#[tactic(auto, using(expr_parser::proofs::Taking::one_placed), unfolding(crate::specs::Reads::raise_read, rapid_forms::specs::Reading::made_read, rapid_forms::specs::Reading::seq_read, rapid_forms::specs::Reading::then_read))]
+fn raise<'a>(p: &Parser<'_, 'a>, at: usize, left: u32) -> Result<(RawStmt<'a>, usize), SyntaxFault>
     requires { left ≤ 64 }
     ensures { Gives p.now.tokens view_stmt result (raise_read (inside_read left) (rest_from p.now.tokens at)) }
 {
@@ -101,6 +103,7 @@ fn raise<'a>(
     Ok((RawStmt::raise(word.at, value), end))
 }
 
+#[tactic(auto, using(expr_parser::proofs::Taking::one_placed), unfolding(crate::specs::Reads::retry_read, rapid_forms::specs::Reading::made_read, rapid_forms::specs::Reading::seq_read, rapid_forms::specs::Reading::then_read))]
 fn retry<'a>(p: &Parser<'_, 'a>, at: usize) -> Result<(RawStmt<'a>, usize), SyntaxFault>
     ensures { Gives p.now.tokens view_stmt result (retry_read (rest_from p.now.tokens at)) }
 {
@@ -109,6 +112,7 @@ fn retry<'a>(p: &Parser<'_, 'a>, at: usize) -> Result<(RawStmt<'a>, usize), Synt
     Ok((RawStmt::retry(word.at), end))
 }
 
+#[tactic(auto, using(expr_parser::proofs::Taking::one_placed), unfolding(crate::specs::Reads::try_next_read, rapid_forms::specs::Reading::made_read, rapid_forms::specs::Reading::seq_read, rapid_forms::specs::Reading::then_read))]
 fn try_next<'a>(p: &Parser<'_, 'a>, at: usize) -> Result<(RawStmt<'a>, usize), SyntaxFault>
     ensures { Gives p.now.tokens view_stmt result (try_next_read (rest_from p.now.tokens at)) }
 {
@@ -117,6 +121,7 @@ fn try_next<'a>(p: &Parser<'_, 'a>, at: usize) -> Result<(RawStmt<'a>, usize), S
     Ok((RawStmt::try_next(word.at), end))
 }
 
+#[tactic(auto, using(expr_parser::proofs::Taking::one_placed), unfolding(crate::specs::Reads::connect_read, rapid_forms::specs::Reading::made_read, rapid_forms::specs::Reading::seq_read, rapid_forms::specs::Reading::then_read))]
 fn connect<'a>(
     p: &Parser<'_, 'a>,
     at: usize,
@@ -133,11 +138,8 @@ fn connect<'a>(
     Ok((RawStmt::connect(word.at, place, trap), end))
 }
 
-fn place<'a>(
-    p: &Parser<'_, 'a>,
-    at: usize,
-    left: u32,
-) -> Result<(RawPlace<'a>, usize), SyntaxFault>
+#[tactic(auto, unfolding(expr_parser::specs::Reads::place_read, rapid_forms::specs::Reading::made_read, rapid_forms::specs::Reading::seq_read, rapid_forms::specs::Reading::then_read))]
+fn place<'a>(p: &Parser<'_, 'a>, at: usize, left: u32) -> Result<(RawPlace<'a>, usize), SyntaxFault>
     requires { left ≤ 64 }
     ensures { Gives p.now.tokens view_place result (place_read (inside_read left) (rest_from p.now.tokens at)) }
 {
@@ -148,6 +150,7 @@ fn place<'a>(
 }
 
 /// A value, if one is there.
+#[tactic(auto, unfolding(crate::specs::Reads::value_read, rapid_forms::specs::Reading::optional_read, rapid_forms::specs::Reading::then_read))]
 fn value_if_any<'a>(
     p: &Parser<'_, 'a>,
     at: usize,
