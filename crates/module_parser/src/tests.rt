@@ -1,13 +1,42 @@
 use crate::parse_module;
 use rapid_forms::{SyntaxFault, SyntaxRule};
 use rapid_lexer::{LexFault, LexRule};
-use raw_trees::{Attribute, DatumKind, Mode, RawItem, RoutineKind};
 use std::alloc::{AllocError, Global};
-use std::rt::HostRuntime;
 use std::test::Fail;
 
-static SOURCE: &[u8] =
-    b"MODULE m(SYSMODULE, NOVIEW) VAR num x{3} := 1; LOCAL CONST bool c := TRUE; TASK PERS string s; PERS num p; PROC q(num a, INOUT num b, VAR num c, PERS num d) VAR num y; x := 1; ERROR RETRY; TRYNEXT; ENDPROC LOCAL FUNC num f() RETURN 1; ENDFUNC TRAP t ENDTRAP ENDMODULE";
+/// Modules, one for each form of the grammar at least.
+static ACCEPTED: [&[u8]; 30] = [
+    b"MODULE m ENDMODULE",
+    b"module M(SYSMODULE) endmodule",
+    b"MODULE m(SYSMODULE, NOVIEW, NOSTEPIN, VIEWONLY, READONLY) ENDMODULE",
+    b"MODULE m CONST num c := 1; VAR num v; PERS num p := 0x1F; ENDMODULE",
+    b"MODULE m LOCAL VAR num x{3} := [1, 2, 3]; TASK PERS string s := \"a\"; ENDMODULE",
+    b"MODULE m PROC p() ENDPROC LOCAL PROC q() ENDPROC ENDMODULE",
+    b"MODULE m PROC p(num a, INOUT num b, VAR num c, PERS num d) ENDPROC ENDMODULE",
+    b"MODULE m FUNC num f() RETURN 1; ENDFUNC TRAP t RETURN; ENDTRAP ENDMODULE",
+    b"MODULE m PROC p() VAR num x; CONST num y := 2; x := y; ERROR RETRY; ENDPROC ENDMODULE",
+    b"MODULE m PROC p() a: GOTO a; EXIT; RAISE; RAISE 5; TRYNEXT; ENDPROC ENDMODULE",
+    b"MODULE m PROC p() CONNECT i WITH t; CONNECT i{2} WITH t; ENDPROC ENDMODULE",
+    b"MODULE m PROC p() q; q 1; q 1, 2; q \\o; q \\o:=1, 2; ENDPROC ENDMODULE",
+    b"MODULE m PROC p() q 1\\o, 2, \\r:=3\\s; x := f(); x := f(1 \\o, 2); ENDPROC ENDMODULE",
+    b"MODULE m PROC p() x := 1; x{2} := 1; x.y := 1; x{2}.y.z := 1; ENDPROC ENDMODULE",
+    b"MODULE m PROC p() IF a q; IF a x := 1; IF a EXIT; ENDPROC ENDMODULE",
+    b"MODULE m PROC p() IF a THEN ENDIF IF a THEN q; ELSE r; ENDIF ENDPROC ENDMODULE",
+    b"MODULE m PROC p() IF a THEN ELSEIF b THEN q; ELSEIF c THEN ELSE ENDIF ENDPROC ENDMODULE",
+    b"MODULE m PROC p() FOR i FROM 1 TO 3 DO ENDFOR ENDPROC ENDMODULE",
+    b"MODULE m PROC p() FOR i FROM 3 TO 1 STEP -1 DO q; ENDFOR ENDPROC ENDMODULE",
+    b"MODULE m PROC p() WHILE TRUE DO WHILE FALSE DO ENDWHILE ENDWHILE ENDPROC ENDMODULE",
+    b"MODULE m PROC p() TEST a ENDTEST TEST a CASE 1: CASE 2, 3: q; ENDTEST ENDPROC ENDMODULE",
+    b"MODULE m PROC p() TEST a CASE 1: TEST b DEFAULT: q; ENDTEST DEFAULT: ENDTEST ENDPROC ENDMODULE",
+    b"MODULE m VAR bool b := NOT a AND b OR NOT c XOR d; ENDMODULE",
+    b"MODULE m VAR bool b := a = b AND c <> d OR e < f AND g > h; ENDMODULE",
+    b"MODULE m VAR bool b := a <= b XOR c >= d; ENDMODULE",
+    b"MODULE m VAR num n := -a + b - c * d / e DIV f MOD g; ENDMODULE",
+    b"MODULE m VAR num n := +(a) + 1 * (b - (c)); ENDMODULE",
+    b"MODULE m VAR pose p := [[1, -2], [f(), x{1}.y], TRUE]; ENDMODULE",
+    b"%%%\nVERSION:1\n%%%\nMODULE m ! a comment\nENDMODULE ! another",
+    b"MODULE m VAR string s := \"a\"\"b\\41\"; ENDMODULE",
+];
 
 /// Texts whose tokens are no module, with the rule and the byte.
 static REFUSED: [(&[u8], SyntaxRule, usize); 26] = [
@@ -92,78 +121,9 @@ fn fault_of(alloc: Global, source: &[u8]) -> Option<SyntaxFault> {
 }
 
 #[test]
-fn each_kind_of_item_is_read(rt: HostRuntime) {
-    let alloc = rt.alloc();
-    let module = parse_module(alloc, SOURCE).unwrap();
-    assert_eq!(rt; module.attributes.len(), 2);
-    assert_eq!(rt; module.attributes[1], Attribute::NoView);
-    assert_eq!(rt; module.items.len(), 7);
-    assert!(rt;
-        matches!(
-            &module.items[0],
-            RawItem::Datum {
-                local: false,
-                task: false,
-                at: 28,
-                ..
-            }
-        )
-    );
-    assert!(rt;
-        matches!(
-            &module.items[1],
-            RawItem::Datum {
-                local: true,
-                task: false,
-                at: 47,
-                ..
-            }
-        )
-    );
-    assert!(rt;
-        matches!(
-            &module.items[2],
-            RawItem::Datum {
-                local: false,
-                task: true,
-                at: 75,
-                ..
-            }
-        )
-    );
-    if let RawItem::Datum { datum, .. } = &module.items[1] {
-        assert_eq!(rt; datum.kind, DatumKind::Const);
-        assert_eq!(rt; datum.at, 53);
-    }
-}
-
-#[test]
-fn routines_have_their_parts(rt: HostRuntime) {
-    let alloc = rt.alloc();
-    let module = parse_module(alloc, SOURCE).unwrap();
-    match &module.items[4] {
-        RawItem::Routine(q) => {
-            assert!(rt; !q.local);
-            assert_eq!(rt; q.kind, RoutineKind::Proc);
-            assert_eq!(rt; q.params.len(), 4);
-            assert_eq!(rt; q.params[0].mode, Mode::Value);
-            assert_eq!(rt; q.params[1].mode, Mode::Inout);
-            assert_eq!(rt; q.params[2].mode, Mode::Var);
-            assert_eq!(rt; q.params[3].mode, Mode::Pers);
-            assert_eq!(rt; q.locals.len(), 1);
-            assert_eq!(rt; q.list.len(), 1);
-            assert!(rt; matches!(&q.handler, Some(handler) if handler.len() == 2));
-        }
-        RawItem::Datum { .. } => assert!(rt; false),
-    }
-    match &module.items[5] {
-        RawItem::Routine(f) => {
-            assert!(rt; f.local);
-            assert_eq!(rt; f.kind, RoutineKind::Func);
-            assert!(rt; f.result.is_some());
-            assert!(rt; f.handler.is_none());
-        }
-        RawItem::Datum { .. } => assert!(rt; false),
+fn each_form_is_read(rt: HostRuntime) {
+    for source in &ACCEPTED {
+        assert!(rt; parse_module(rt.alloc(), source).is_ok());
     }
 }
 
