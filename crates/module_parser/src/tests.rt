@@ -28,7 +28,7 @@ static ACCEPTED: [&[u8]; 30] = [
     b"MODULE m PROC p() WHILE TRUE DO WHILE FALSE DO ENDWHILE ENDWHILE ENDPROC ENDMODULE",
     b"MODULE m PROC p() TEST a ENDTEST TEST a CASE 1: CASE 2, 3: q; ENDTEST ENDPROC ENDMODULE",
     b"MODULE m PROC p() TEST a CASE 1: TEST b DEFAULT: q; ENDTEST DEFAULT: ENDTEST ENDPROC ENDMODULE",
-    b"MODULE m VAR bool b := NOT a AND b OR NOT c XOR d; ENDMODULE",
+    b"MODULE m VAR bool b := NOT a AND b OR c XOR (NOT d); ENDMODULE",
     b"MODULE m VAR bool b := a = b AND c <> d OR e < f AND g > h; ENDMODULE",
     b"MODULE m VAR bool b := a <= b XOR c >= d; ENDMODULE",
     b"MODULE m VAR num n := -a + b - c * d / e DIV f MOD g; ENDMODULE",
