@@ -72,7 +72,7 @@ fn is_word(word: &[u8], text: &[u8]) -> bool
 }
 
 /// Whether a name is a reserved word, its letters in either case.
-pub(crate) fn is_reserved(text: &[u8]) -> bool
+pub fn is_reserved(text: &[u8]) -> bool
     ensures { result ≡ is_reserved text.now }
 {
     for word in words_of(text.len()) {

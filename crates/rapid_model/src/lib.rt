@@ -1,4 +1,4 @@
-//! What the layers share: requests, answers, events, fates, the cell and the trees of its tasks.
+//! What the layers share: the script, the cell, the trees of its tasks, requests, answers, events and fates.
 #![tactic(auto)]
 
 mod answer;
@@ -6,25 +6,45 @@ mod cell;
 mod event;
 mod fate;
 mod file_name;
+mod function;
+mod input_row;
+mod instruction;
 mod name_text;
+mod pers_value;
+mod predefined;
 mod request;
 mod script;
+mod script_rule;
 mod script_task;
 mod sequence;
+mod signal_row;
+mod sort;
 mod task_row;
 mod text;
 mod tree;
+mod value;
+mod zone_row;
 
 pub use answer::Answer;
 pub use cell::Cell;
 pub use event::Event;
 pub use fate::{Fate, Fault};
 pub use file_name::FileName;
+pub use function::Function;
+pub use input_row::InputRow;
+pub use instruction::Instruction;
 pub use name_text::NameText;
+pub use pers_value::PersValue;
+pub use predefined::Predefined;
 pub use request::Request;
-pub use script::{Script, ScriptRule};
+pub use script::Script;
+pub use script_rule::ScriptRule;
 pub use script_task::ScriptTask;
 pub use sequence::Sequence;
+pub use signal_row::SignalRow;
+pub use sort::Sort;
 pub use task_row::TaskRow;
 pub use text::Text;
 pub use tree::{Form, Stmt, Tree};
+pub use value::Value;
+pub use zone_row::ZoneRow;

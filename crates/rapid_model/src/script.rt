@@ -1,14 +1,22 @@
 ghost use Rattle.std.specs.Prelude.{◌≡◌};
 
+use crate::input_row::InputRow;
+use crate::pers_value::PersValue;
 use crate::script_task::ScriptTask;
 use crate::sequence::Sequence;
+use crate::signal_row::SignalRow;
+use crate::zone_row::ZoneRow;
 use std::marker::Model;
 
-/// A cell script. Contracts see it as plain data within its limits.
+/// A cell script, its references as numbers from 0. Contracts see it as plain data within its limits.
 #[derive(Debug, Drop)]
 pub struct Script {
     pub steps: u32,
+    pub signals: Sequence<SignalRow>,
     pub tasks: Sequence<ScriptTask>,
+    pub pers: Sequence<PersValue>,
+    pub zones: Sequence<ZoneRow>,
+    pub inputs: Sequence<InputRow>,
 }
 
 impl Model for Script {
@@ -16,9 +24,9 @@ impl Model for Script {
 
     ghost Value = { ScriptData };
 
-    ghost view = { λ s. record { steps = s.steps; tasks = s.tasks } };
+    ghost view = { λ s. record { steps = s.steps; signals = s.signals; tasks = s.tasks; pers = s.pers; zones = s.zones; inputs = s.inputs } };
 
-    ghost invariant = { λ s. IsScript (record { steps = s.steps; tasks = s.tasks }) };
+    ghost invariant = { λ s. IsScript (record { steps = s.steps; signals = s.signals; tasks = s.tasks; pers = s.pers; zones = s.zones; inputs = s.inputs }) };
 }
 
 impl Script {
@@ -32,19 +40,38 @@ impl Script {
         self.steps
     }
 
+    /// The signals, in script order.
+    pub fn signals(&self) -> &Sequence<SignalRow>
+        ensures { result.now ≡ self.now.signals }
+    {
+        &self.signals
+    }
+
     /// The tasks, in script order.
     pub fn tasks(&self) -> &Sequence<ScriptTask>
         ensures { result.now ≡ self.now.tasks }
     {
         &self.tasks
     }
-}
 
-/// The rules of a script.
-#[derive(Clone, Copy, Debug, PartialEq, Eq)]
-pub enum ScriptRule {
-    /// The text is no TOML.
-    NotToml,
-    /// The table is not of a form that is built.
-    NotBuilt,
+    /// The first values of persistents.
+    pub fn pers(&self) -> &Sequence<PersValue>
+        ensures { result.now ≡ self.now.pers }
+    {
+        &self.pers
+    }
+
+    /// The zones of the cell, in script order.
+    pub fn zones(&self) -> &Sequence<ZoneRow>
+        ensures { result.now ≡ self.now.zones }
+    {
+        &self.zones
+    }
+
+    /// The input script.
+    pub fn inputs(&self) -> &Sequence<InputRow>
+        ensures { result.now ≡ self.now.inputs }
+    {
+        &self.inputs
+    }
 }

@@ -1,0 +1,24 @@
+/// The rules of a cell script.
+#[derive(Clone, Copy, Debug, PartialEq, Eq)]
+pub enum ScriptRule {
+    /// The text is no TOML.
+    NotToml,
+    /// A key that is needed is missing.
+    NoKey,
+    /// A value of another kind of TOML than the key has.
+    Kind,
+    /// A key that the table does not have.
+    UnknownKey,
+    /// A number, a length or a text outside what the key allows; a low bound that is not below its high one.
+    Range,
+    /// No name: another form than a name's, a reserved word, or for a signal a predefined name.
+    Name,
+    /// A name that is given twice.
+    Twice,
+    /// The name of nothing that is there and of the kind that the key asks for.
+    NoSuch,
+    /// One of two keys that go together, or not exactly one of `num`, `bool` and `text`.
+    Pair,
+    /// The key is not built yet.
+    NotBuilt,
+}

@@ -1,0 +1,10 @@
+use crate::name_text::NameText;
+
+/// A signal of the cell: its name, whether it is an output (kind "do") or an input (kind "di"), and its value at the
+/// start, which is 1 where `start` holds (RAPID Instructions, Functions and Data types: signaldi, signaldo).
+#[derive(Debug, Drop)]
+pub struct SignalRow {
+    pub name: NameText,
+    pub output: bool,
+    pub start: bool,
+}

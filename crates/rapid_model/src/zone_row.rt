@@ -1,0 +1,12 @@
+use crate::name_text::NameText;
+use rapid_num::Shape;
+
+/// A zone of the cell: it watches the arm of the task of this number while the signal of this number has the value.
+#[derive(Debug, Drop)]
+pub struct ZoneRow {
+    pub name: NameText,
+    pub task: u32,
+    pub shape: Shape,
+    pub signal: u32,
+    pub value: bool,
+}
