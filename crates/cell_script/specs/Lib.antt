@@ -1,3 +1,5 @@
-pub mod FirstForm
-pub mod Reading
+pub mod Break
+pub mod Keys
+pub mod Rows
 pub mod ScriptOf
+pub mod Gives

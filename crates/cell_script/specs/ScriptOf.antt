@@ -1,27 +1,51 @@
 -- What the text of a cell script stands for.
-use Rattle.std.specs.Prelude.{◌≡◌, ℕ, List, [], Some, None, Result, Ok, Err}
+use Rattle.std.specs.Prelude.{◌≡◌, ◌⊎◌, ℕ, List, [], ◌∷◌, codes, Some, None, Result, Ok, Err}
 use Rattle.std.specs.Str.{IsUtf8}
 use Rattle.toml.specs.Data.{Members}
 use Rattle.toml.specs.Parse.{parse_document}
 use Rattle.rapid_model.specs.ScriptData.{ScriptData}
-use Rattle.rapid_model.specs.declared.script.ScriptRule.{ScriptRule}
-use Rattle.rapid_model.specs.declared.script.ScriptRule.TheVariants.{NotToml, NotBuilt}
+use Rattle.rapid_model.specs.declared.script_rule.ScriptRule.{ScriptRule}
+use Rattle.rapid_model.specs.declared.script_rule.ScriptRule.TheVariants.{NotToml}
 use Rattle.cell_script.specs.declared.fault.ScriptFault.{ScriptFault}
 use Rattle.cell_script.specs.declared.fault.ScriptFault.TheVariants.{Rule, Memory}
-use Rattle.cell_script.specs.FirstForm.{script_of_table}
+use Rattle.cell_script.specs.Break.{Break, Read, ◌>>=◌}
+use Rattle.cell_script.specs.Keys.{Keys, at, needed, optional, value_of, only_keys, whole_at, rows_at, each_row}
+use Rattle.cell_script.specs.Rows.{signal_of, task_of, pers_of, zone_of, input_of}
+
+-- how many events are counted at most where the script does not say
+abbrev pub default_steps : ℕ
+default_steps = 100_000
+
+-- the script that a table stands for, or the first rule that it breaks, by the order of its keys
+unfoldable pub script_of : Members → Read ScriptData
+script_of members = do
+  let keys = record { path = []; members = members }
+  version ← needed keys (codes "version") >>= whole_at (codes "version") 1 1
+  steps ← optional default_steps (whole_at (codes "steps") 1 1_000_000) (value_of keys (codes "steps"))
+  signals ← optional [] (λ d. rows_at (codes "signal") 0 256 d >>= each_row signal_of []) (value_of keys (codes "signal"))
+  tasks ← needed keys (codes "task") >>= rows_at (codes "task") 1 8 >>= each_row task_of []
+  pers ← optional [] (λ d. rows_at (codes "pers") 0 1_000 d >>= each_row pers_of []) (value_of keys (codes "pers"))
+  zones ← optional [] (λ d. rows_at (codes "zone") 0 16 d >>= each_row (zone_of signals tasks) []) (value_of keys (codes "zone"))
+  inputs ← optional [] (λ d. rows_at (codes "input") 0 10_000 d >>= each_row (input_of signals tasks) []) (value_of keys (codes "input"))
+  only_keys keys (codes "version" ∷ codes "steps" ∷ codes "signal" ∷ codes "task" ∷ codes "pers" ∷ codes "zone" ∷ codes "input" ∷ [])
+    (Ok (record { steps = steps; signals = signals; tasks = tasks; pers = pers; zones = zones; inputs = inputs }))
 
 -- the text is UTF-8, and TOML reads it as a table with these keys
-pub record IsTable (text : List ℕ) (keys : Members) : Type 0 where
+pub record IsTable (text : List ℕ) (members : Members) : Type 0 where
   pub utf8 : IsUtf8 text
-  pub table : parse_document text ≡ Some keys
+  pub table : parse_document text ≡ Some members
 
--- the script that a text spells, or the rule that it breaks
-abbrev pub ScriptOf : List ℕ → Result ScriptData ScriptRule → Type 0
-ScriptOf text (Ok script) = (keys : Members) × IsTable text keys × (script_of_table keys ≡ Some script)
-ScriptOf text (Err NotToml) = IsUtf8 text → parse_document text ≡ None
-ScriptOf text (Err NotBuilt) = (keys : Members) × IsTable text keys × (script_of_table keys ≡ None)
+-- the text is no TOML, which is said of the script as a whole: its key is empty
+pub record IsNoToml (text : List ℕ) (broken : Break) : Type 0 where
+  pub is : broken ≡ record { key = []; rule = NotToml }
+  pub refused : IsUtf8 text → parse_document text ≡ None
 
--- why a text was refused: at the empty key, the rule that it breaks; want of memory says nothing of the text
+-- the script that a text spells, or the first rule that it breaks
+abbrev pub ScriptOf : List ℕ → Read ScriptData → Type 0
+ScriptOf text (Ok script) = (members : Members) × IsTable text members × (script_of members ≡ Ok script)
+ScriptOf text (Err broken) = IsNoToml text broken ⊎ ((members : Members) × IsTable text members × (script_of members ≡ Err broken))
+
+-- why a text was refused: the rule that it breaks, and its key; want of memory says nothing of the text
 abbrev pub FaultOf : List ℕ → ScriptFault → Type 0
-FaultOf text (Rule key rule) = (key ≡ []) × ScriptOf text (Err rule)
+FaultOf text (Rule key rule) = ScriptOf text (Err (record { key = key; rule = rule }))
 FaultOf text Memory = Unit {0}

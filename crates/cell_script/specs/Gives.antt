@@ -1,0 +1,15 @@
+-- What reading a part of the script gives.
+use Rattle.std.specs.Prelude.{◌≡◌, Result, Ok, Err}
+use Rattle.cell_script.specs.declared.fault.ScriptFault.{ScriptFault}
+use Rattle.cell_script.specs.declared.fault.ScriptFault.TheVariants.{Rule, Memory}
+use Rattle.cell_script.specs.Break.{Read}
+
+-- the rule that is broken; want of memory says nothing of the part
+abbrev pub Fails : {A : Type 0} → ScriptFault → Read A → Type 0
+Fails (Rule key rule) read = read ≡ Err (record { key = key; rule = rule })
+Fails Memory read = Unit {0}
+
+-- what a function returned, seen by a view, is what is read, want of memory aside
+abbrev pub Gives : {X A : Type 0} → (X → A) → Result X ScriptFault → Read A → Type 0
+Gives view (Ok x) read = read ≡ Ok (view x)
+Gives view (Err fault) read = Fails fault read

@@ -1,0 +1,126 @@
+-- The values that keys may have. Each is read at a key, by which a broken rule is named.
+use Rattle.std.specs.Prelude.{ℕ, Bool, true, false, not, ◌&&◌, ◌||◌, nat_le, nat_lt, ℤ, pos, negsuc, nat_abs, List, [], ◌∷◌, ◌++◌, length, map, codes, position, Option, Some, None, Result, Ok, Err, ◌==◌, if◌then◌else◌, bytes_eq}
+use Rattle.std.specs.List.{list_all, list_any}
+use Rattle.std.specs.Option.{option_map}
+use Rattle.std.specs.Str.{str_eq_ignore_ascii_case}
+use Rattle.toml.specs.Data.{Data, Items, no_items, item, Members, no_members, member, get_member, as_str, as_integer, as_bool, as_array, as_table}
+use Rattle.rapid_lexer.specs.Reading.{is_reserved}
+use Rattle.rapid_model.specs.Names.{is_name, is_among}
+use Rattle.rapid_model.specs.ScriptData.{is_within}
+use Rattle.rapid_model.specs.declared.script_rule.ScriptRule.TheVariants.{NoKey, Kind, UnknownKey, Range, Name, Twice, NoSuch, Pair}
+use Rattle.cell_script.specs.Break.{Read, ◌>>=◌, key_in, element_of, broken, must, found_or}
+
+-- a table of the script, and where it stands
+pub record Keys : Type 0 where
+  pub path : List ℕ
+  pub members : Members
+
+-- a key of the table
+abbrev pub at : Keys → List ℕ → List ℕ
+at keys key = key_in keys.path key
+
+abbrev pub value_of : Keys → List ℕ → Option Data
+value_of keys key = get_member key keys.members
+
+abbrev pub has_key : Keys → List ℕ → Bool
+has_key keys key = is_there (value_of keys key)
+  where
+    is_there : Option Data → Bool
+    is_there None = false
+    is_there (Some d) = true
+
+-- the value at a key that is needed
+abbrev pub needed : Keys → List ℕ → Read Data
+needed keys key = found_or (at keys key) NoKey (value_of keys key)
+
+-- what an optional key is read as, and what stands where it is not there
+abbrev pub optional : {A : Type 0} → A → (Data → Read A) → Option Data → Read A
+optional absent read None = Ok absent
+optional absent read (Some d) = read d
+
+abbrev pub keys_of : Members → List (List ℕ)
+keys_of no_members = []
+keys_of (member key d rest) = key ∷ keys_of rest
+
+-- the first key that is not known; the tables of TOML keep their keys in byte order
+abbrev pub first_unknown : List (List ℕ) → List (List ℕ) → Option (List ℕ)
+first_unknown known [] = None
+first_unknown known (key ∷ keys) = if list_any (bytes_eq key) known then first_unknown known keys else Some key
+
+-- no other keys than these
+abbrev pub only_keys : {A : Type 0} → Keys → List (List ℕ) → Read A → Read A
+only_keys keys known next = check (first_unknown known (keys_of keys.members))
+  where
+    check : Option (List ℕ) → Read _
+    check None = next
+    check (Some key) = broken (at keys key) UnknownKey
+
+abbrev pub items_list : Items → List Data
+items_list no_items = []
+items_list (item d ds) = d ∷ items_list ds
+
+abbrev pub text_at : List ℕ → Data → Read (List ℕ)
+text_at key d = found_or key Kind (as_str d)
+
+-- a whole number in this range
+abbrev pub whole_at : List ℕ → ℕ → ℕ → Data → Read ℕ
+whole_at key low high d = found_or key Kind (as_integer d) >>= in_range
+  where
+    in_range : ℤ → Read ℕ
+    in_range (pos n) = must (is_within low high n) key Range (Ok n)
+    in_range (negsuc n) = broken key Range
+
+-- 0 or 1
+abbrev pub bit_at : List ℕ → Data → Read Bool
+bit_at key d = whole_at key 0 1 d >>= (λ n. Ok (n == 1))
+
+-- one of two words; the second one is true
+abbrev pub word_at : List ℕ → List ℕ → List ℕ → Data → Read Bool
+word_at key first second d =
+    text_at key d >>= (λ text. must (bytes_eq text first || bytes_eq text second) key Range (Ok (bytes_eq text second)))
+
+-- a name: its form (RAPID Kernel, identifiers), and no reserved word
+abbrev pub name_at : List ℕ → Data → Read (List ℕ)
+name_at key d = text_at key d >>= (λ text. must (is_name text && not (is_reserved text)) key Name (Ok text))
+
+-- the number of the name that a text refers to, letters of either case being the same
+abbrev pub number_at : List ℕ → List (List ℕ) → Data → Read ℕ
+number_at key names d = text_at key d >>= (λ text. found_or key NoSuch (position (str_eq_ignore_ascii_case text) names))
+
+-- all of them, or none
+abbrev pub each_as : {A : Type 0} → (Data → Option A) → List Data → Option (List A)
+each_as as [] = Some []
+each_as as (d ∷ ds) = both (as d) (each_as as ds)
+  where
+    both : Option _ → Option (List _) → Option (List _)
+    both (Some x) (Some xs) = Some (x ∷ xs)
+    both _ _ = None
+
+-- an array of plain values, all of them of one kind
+abbrev pub list_at : {A : Type 0} → List ℕ → (Data → Option A) → Data → Read (List A)
+list_at key as d = found_or key Kind (as_array d) >>= (λ items. found_or key Kind (each_as as (items_list items)))
+
+-- an array of so many tables
+abbrev pub rows_at : List ℕ → ℕ → ℕ → Data → Read (List Data)
+rows_at key low high d =
+    found_or key Kind (as_array d) >>= (λ items. must (is_within low high (length (items_list items))) key Range (Ok (items_list items)))
+
+-- the table of the element of this number
+abbrev pub table_at : List ℕ → ℕ → Data → Read Keys
+table_at key number d =
+    found_or (element_of key number) Kind (as_table d) >>= (λ members. Ok (record { path = element_of key number; members = members }))
+
+-- the rows of an array in turn, each with those before it
+abbrev pub each_row : {A : Type 0} → (List A → Data → Read A) → List A → List Data → Read (List A)
+each_row read before [] = Ok before
+each_row read before (d ∷ ds) = read before d >>= (λ row. each_row read (before ++ (row ∷ [])) ds)
+
+-- two keys that go together: both values, or neither; the one that is missing breaks the rule
+abbrev pub pair_at : {A B : Type 0} → Keys → List ℕ → List ℕ → (Data → Read A) → (Data → Read B) → Read (Option (A × B))
+pair_at keys first second read_first read_second = both (value_of keys first) (value_of keys second)
+  where
+    both : Option Data → Option Data → Read (Option _)
+    both None None = Ok None
+    both None (Some e) = broken (at keys first) Pair
+    both (Some d) None = read_first d >>= (λ x. broken (at keys second) Pair)
+    both (Some d) (Some e) = read_first d >>= (λ x. read_second e >>= (λ y. Ok (Some (x, y))))

@@ -1,0 +1,188 @@
+-- The rows of a script: a signal, a task, a persistent's value, a zone, an input. The keys of each stand in the order in
+-- which they are checked; a key that is not known is found last.
+use Rattle.std.specs.Prelude.{ℕ, ◌+◌, Bool, true, false, not, ◌&&◌, ◌||◌, nat_le, nat_lt, ℤ, pos, neg_ℤ, int_lt, List, [], ◌∷◌, ◌++◌, length, map, replicate, codes, slice_get, Option, Some, None, is_some, Result, Ok, Err, ◌==◌, if◌then◌else◌}
+use Rattle.std.specs.List.{list_all}
+use Rattle.std.specs.Option.{option_map}
+use Rattle.toml.specs.Data.{Data, as_str, as_integer, as_bool}
+use Rattle.rapid_num.specs.Literal.{literal_value}
+use Rattle.rapid_num.specs.Reach.{is_in_reach, absent_axes}
+use Rattle.rapid_num.specs.declared.joints.Joints.{Joints}
+use Rattle.rapid_num.specs.declared.shape.Bound.{Bound}
+use Rattle.rapid_num.specs.declared.shape.Shape.{Shape}
+use Rattle.rapid_builtins.specs.Names.{is_predefined}
+use Rattle.rapid_model.specs.Names.{is_among}
+use Rattle.rapid_model.specs.Printable.{is_printable}
+use Rattle.rapid_model.specs.ScriptData.{is_within, is_file_name, has_arm, is_input_signal}
+use Rattle.rapid_model.specs.declared.input_row.InputRow.{InputRow}
+use Rattle.rapid_model.specs.declared.pers_value.PersValue.{PersValue}
+use Rattle.rapid_model.specs.declared.script_rule.ScriptRule.TheVariants.{NoKey, Kind, Range, Name, Twice, NoSuch, Pair}
+use Rattle.rapid_model.specs.declared.script_task.ScriptTask.{ScriptTask}
+use Rattle.rapid_model.specs.declared.signal_row.SignalRow.{SignalRow}
+use Rattle.rapid_model.specs.declared.value.Value.{Value}
+use Rattle.rapid_model.specs.declared.value.Value.TheVariants as values
+use Rattle.rapid_model.specs.declared.zone_row.ZoneRow.{ZoneRow}
+use Rattle.cell_script.specs.Break.{Read, ◌>>=◌, broken, must, found_or}
+use Rattle.cell_script.specs.Keys.{Keys, at, value_of, has_key, needed, optional, only_keys, text_at, whole_at, bit_at, word_at, name_at, number_at, list_at, table_at, pair_at}
+
+-- the name of a signal is no predefined name and no other signal's
+abbrev pub signal_name_at : List ℕ → List (List ℕ) → Data → Read (List ℕ)
+signal_name_at key others d = do
+  name ← name_at key d
+  must (not (is_predefined name)) key Name (must (not (is_among name others)) key Twice (Ok name))
+
+unfoldable pub signal_of : List SignalRow → Data → Read SignalRow
+signal_of before d = do
+  keys ← table_at (codes "signal") (length before) d
+  name ← needed keys (codes "name") >>= signal_name_at (at keys (codes "name")) (map (λ row. row.name) before)
+  output ← needed keys (codes "kind") >>= word_at (at keys (codes "kind")) (codes "di") (codes "do")
+  start ← optional false (bit_at (at keys (codes "start"))) (value_of keys (codes "start"))
+  only_keys keys (codes "name" ∷ codes "kind" ∷ codes "start" ∷ []) (Ok (record { name = name; output = output; start = start }))
+
+-- the name of a task is no other task's
+abbrev pub task_name_at : List ℕ → List (List ℕ) → Data → Read (List ℕ)
+task_name_at key others d = do
+  name ← name_at key d
+  must (not (is_among name others)) key Twice (Ok name)
+
+-- the files of a task's modules: 1 to 16 names of 1 to 255 bytes
+abbrev pub files_at : List ℕ → Data → Read (List (List ℕ))
+files_at key d = do
+  files ← list_at key as_str d
+  must (is_within 1 16 (length files) && list_all is_file_name files) key Range (Ok files)
+
+-- six angles within 720 degrees, in thousandths; external axes are not there
+abbrev pub arm_at : List ℕ → Data → Read Joints
+arm_at key d = do
+  angles ← list_at key as_integer d
+  must (length angles == 6 && list_all is_in_reach angles) key Range (Ok (record { axis = angles ++ absent_axes }))
+
+unfoldable pub task_of : List ScriptTask → Data → Read ScriptTask
+task_of before d = do
+  keys ← table_at (codes "task") (length before) d
+  name ← needed keys (codes "name") >>= task_name_at (at keys (codes "name")) (map (λ task. task.name) before)
+  modules ← needed keys (codes "modules") >>= files_at (at keys (codes "modules"))
+  arm ← optional None (λ a. arm_at (at keys (codes "arm")) a >>= (λ arm. Ok (Some arm))) (value_of keys (codes "arm"))
+  only_keys keys (codes "name" ∷ codes "modules" ∷ codes "arm" ∷ []) (Ok (record { name = name; modules = modules; arm = arm }))
+
+-- the number of a numerical literal with an optional minus before it, which is not one of its 30 bytes
+abbrev pub signed_literal : List ℕ → Option ℤ
+signed_literal [] = None
+signed_literal (b ∷ bs) = if b == 45 then option_map neg_ℤ (literal_value bs) else literal_value (b ∷ bs)
+
+abbrev pub number_value_at : List ℕ → Data → Read Value
+number_value_at key d = do
+  text ← text_at key d
+  number ← found_or key Range (signed_literal text)
+  Ok (values.Num number)
+
+abbrev pub truth_value_at : List ℕ → Data → Read Value
+truth_value_at key d = do
+  truth ← found_or key Kind (as_bool d)
+  Ok (values.Bool truth)
+
+-- a text of at most 80 bytes from 20 to 7E hexadecimal
+abbrev pub text_value_at : List ℕ → Data → Read Value
+text_value_at key d = do
+  text ← text_at key d
+  must (nat_le (length text) 80 && list_all is_printable text) key Range (Ok (values.Text text))
+
+-- the value at the one of the keys num, bool and text that is there
+abbrev pub given_value : Keys → Option Data → Option Data → Option Data → Read Value
+given_value keys (Some d) None None = number_value_at (at keys (codes "num")) d
+given_value keys None (Some d) None = truth_value_at (at keys (codes "bool")) d
+given_value keys None None (Some d) = text_value_at (at keys (codes "text")) d
+given_value keys _ _ _ = broken keys.path Pair
+
+unfoldable pub pers_of : List PersValue → Data → Read PersValue
+pers_of before d = do
+  keys ← table_at (codes "pers") (length before) d
+  name ← needed keys (codes "name") >>= name_at (at keys (codes "name"))
+  index ← optional None (λ i. whole_at (at keys (codes "index")) 1 1_000 i >>= (λ index. Ok (Some index))) (value_of keys (codes "index"))
+  value ← given_value keys (value_of keys (codes "num")) (value_of keys (codes "bool")) (value_of keys (codes "text"))
+  only_keys keys (codes "name" ∷ codes "index" ∷ codes "num" ∷ codes "bool" ∷ codes "text" ∷ [])
+    (Ok (record { name = name; index = index; value = value }))
+
+-- the number of a task with an arm
+abbrev pub armed_task_at : List ℕ → List ScriptTask → Data → Read ℕ
+armed_task_at key tasks d = do
+  task ← number_at key (map (λ task. task.name) tasks) d
+  must (has_arm tasks task) key NoSuch (Ok task)
+
+-- an axis from 1 to 6
+abbrev pub is_axis : ℤ → Bool
+is_axis (pos a) = is_within 1 6 a
+is_axis (negsuc a) = false
+
+-- the integers ascend, each from 1 to 6
+abbrev pub are_axes : List ℤ → Bool
+are_axes [] = true
+are_axes (a ∷ []) = is_axis a
+are_axes (a ∷ b ∷ axes) = is_axis a && int_lt a b && are_axes (b ∷ axes)
+
+-- one or more axes
+abbrev pub axes_at : List ℕ → Data → Read (List ℤ)
+axes_at key d = do
+  axes ← list_at key as_integer d
+  must (not (length axes == 0) && are_axes axes) key Range (Ok axes)
+
+-- as many bounds as axes, within 720 degrees
+abbrev pub bounds_at : List ℕ → ℕ → Data → Read (List ℤ)
+bounds_at key count d = do
+  bounds ← list_at key as_integer d
+  must (length bounds == count && list_all is_in_reach bounds) key Range (Ok bounds)
+
+abbrev pub each_below : List ℤ → List ℤ → Bool
+each_below (l ∷ ls) (h ∷ hs) = int_lt l h && each_below ls hs
+each_below _ _ = true
+
+-- high bounds: as low ones, and each above its low one
+abbrev pub high_bounds_at : List ℕ → List ℤ → Data → Read (List ℤ)
+high_bounds_at key lows d = do
+  highs ← bounds_at key (length lows) d
+  must (each_below lows highs) key Range (Ok highs)
+
+abbrev pub is_axis_number : ℤ → ℕ → Bool
+is_axis_number (pos a) axis = a == axis
+is_axis_number (negsuc a) axis = false
+
+-- the bound of an axis, from 1, where it is one of these axes
+abbrev pub bound_of : ℕ → List ℤ → List ℤ → List ℤ → Option Bound
+bound_of axis (a ∷ axes) (low ∷ lows) (high ∷ highs) =
+    if is_axis_number a axis then Some (record { low = low; high = high }) else bound_of axis axes lows highs
+bound_of axis _ _ _ = None
+
+abbrev pub shape_of : Bool → List ℤ → List ℤ → List ℤ → Shape
+shape_of inside axes lows highs =
+    record { inside = inside; bounds = map (λ axis. bound_of axis axes lows highs) (1 ∷ 2 ∷ 3 ∷ 4 ∷ 5 ∷ 6 ∷ []) ++ replicate 6 None }
+
+unfoldable pub zone_of : List SignalRow → List ScriptTask → List ZoneRow → Data → Read ZoneRow
+zone_of signals tasks before d = do
+  keys ← table_at (codes "zone") (length before) d
+  name ← needed keys (codes "name") >>= name_at (at keys (codes "name"))
+  task ← needed keys (codes "task") >>= armed_task_at (at keys (codes "task")) tasks
+  inside ← needed keys (codes "kind") >>= word_at (at keys (codes "kind")) (codes "outside") (codes "inside")
+  axes ← needed keys (codes "axes") >>= axes_at (at keys (codes "axes"))
+  lows ← needed keys (codes "low") >>= bounds_at (at keys (codes "low")) (length axes)
+  highs ← needed keys (codes "high") >>= high_bounds_at (at keys (codes "high")) lows
+  signal ← needed keys (codes "signal") >>= number_at (at keys (codes "signal")) (map (λ row. row.name) signals)
+  value ← needed keys (codes "value") >>= bit_at (at keys (codes "value"))
+  only_keys keys (codes "name" ∷ codes "task" ∷ codes "kind" ∷ codes "axes" ∷ codes "low" ∷ codes "high" ∷ codes "signal" ∷ codes "value" ∷ [])
+    (Ok (record { name = name; task = task; shape = shape_of inside axes lows highs; signal = signal; value = value }))
+
+-- the number of an input signal
+abbrev pub input_signal_at : List ℕ → List SignalRow → Data → Read ℕ
+input_signal_at key signals d = do
+  signal ← number_at key (map (λ row. row.name) signals) d
+  must (is_input_signal signals signal) key NoSuch (Ok signal)
+
+unfoldable pub input_of : List SignalRow → List ScriptTask → List InputRow → Data → Read InputRow
+input_of signals tasks before d = do
+  keys ← table_at (codes "input") (length before) d
+  signal ← needed keys (codes "signal") >>= input_signal_at (at keys (codes "signal")) signals
+  value ← needed keys (codes "value") >>= bit_at (at keys (codes "value"))
+  when ← pair_at keys (codes "when") (codes "is") (number_at (at keys (codes "when")) (map (λ row. row.name) signals)) (bit_at (at keys (codes "is")))
+  given ← pair_at keys (codes "task") (codes "setpoints") (number_at (at keys (codes "task")) (map (λ task. task.name) tasks))
+    (whole_at (at keys (codes "setpoints")) 0 1_000_000)
+  after ← optional None (λ a. whole_at (at keys (codes "after")) 0 1_000_000 a >>= (λ after. Ok (Some after))) (value_of keys (codes "after"))
+  only_keys keys (codes "signal" ∷ codes "value" ∷ codes "when" ∷ codes "is" ∷ codes "task" ∷ codes "setpoints" ∷ codes "after" ∷ [])
+    (Ok (record { signal = signal; value = value; when = when; given = given; after = after }))
