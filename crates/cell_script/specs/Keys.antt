@@ -22,13 +22,6 @@ at keys key = key_in keys.path key
 abbrev pub value_of : Keys → List ℕ → Option Data
 value_of keys key = get_member key keys.members
 
-abbrev pub has_key : Keys → List ℕ → Bool
-has_key keys key = is_there (value_of keys key)
-  where
-    is_there : Option Data → Bool
-    is_there None = false
-    is_there (Some d) = true
-
 -- the value at a key that is needed
 abbrev pub needed : Keys → List ℕ → Read Data
 needed keys key = found_or (at keys key) NoKey (value_of keys key)
@@ -47,13 +40,14 @@ abbrev pub first_unknown : List (List ℕ) → List (List ℕ) → Option (List 
 first_unknown known [] = None
 first_unknown known (key ∷ keys) = if list_any (bytes_eq key) known then first_unknown known keys else Some key
 
+-- no key is unknown
+abbrev pub none_unknown : {A : Type 0} → Keys → Option (List ℕ) → Read A → Read A
+none_unknown keys None next = next
+none_unknown keys (Some key) next = broken (at keys key) UnknownKey
+
 -- no other keys than these
 abbrev pub only_keys : {A : Type 0} → Keys → List (List ℕ) → Read A → Read A
-only_keys keys known next = check (first_unknown known (keys_of keys.members))
-  where
-    check : Option (List ℕ) → Read _
-    check None = next
-    check (Some key) = broken (at keys key) UnknownKey
+only_keys keys known next = none_unknown keys (first_unknown known (keys_of keys.members)) next
 
 abbrev pub items_list : Items → List Data
 items_list no_items = []
@@ -87,18 +81,18 @@ name_at key d = text_at key d >>= (λ text. must (is_name text && not (is_reserv
 abbrev pub number_at : List ℕ → List (List ℕ) → Data → Read ℕ
 number_at key names d = text_at key d >>= (λ text. found_or key NoSuch (position (str_eq_ignore_ascii_case text) names))
 
+abbrev pub front_of : {A : Type 0} → Option A → Option (List A) → Option (List A)
+front_of (Some x) (Some xs) = Some (x ∷ xs)
+front_of _ _ = None
+
 -- all of them, or none
 abbrev pub each_as : {A : Type 0} → (Data → Option A) → List Data → Option (List A)
-each_as as [] = Some []
-each_as as (d ∷ ds) = both (as d) (each_as as ds)
-  where
-    both : Option _ → Option (List _) → Option (List _)
-    both (Some x) (Some xs) = Some (x ∷ xs)
-    both _ _ = None
+each_as view [] = Some []
+each_as view (d ∷ ds) = front_of (view d) (each_as view ds)
 
 -- an array of plain values, all of them of one kind
 abbrev pub list_at : {A : Type 0} → List ℕ → (Data → Option A) → Data → Read (List A)
-list_at key as d = found_or key Kind (as_array d) >>= (λ items. found_or key Kind (each_as as (items_list items)))
+list_at key view d = found_or key Kind (as_array d) >>= (λ items. found_or key Kind (each_as view (items_list items)))
 
 -- an array of so many tables
 abbrev pub rows_at : List ℕ → ℕ → ℕ → Data → Read (List Data)
@@ -115,12 +109,14 @@ abbrev pub each_row : {A : Type 0} → (List A → Data → Read A) → List A �
 each_row read before [] = Ok before
 each_row read before (d ∷ ds) = read before d >>= (λ row. each_row read (before ++ (row ∷ [])) ds)
 
--- two keys that go together: both values, or neither; the one that is missing breaks the rule
+-- both values, or neither; the one that is missing breaks the rule at its key
+abbrev pub both_at : {A B : Type 0} → List ℕ → List ℕ → (Data → Read A) → (Data → Read B) → Option Data → Option Data → Read (Option (A × B))
+both_at first second read_first read_second None None = Ok None
+both_at first second read_first read_second None (Some e) = broken first Pair
+both_at first second read_first read_second (Some d) None = read_first d >>= (λ x. broken second Pair)
+both_at first second read_first read_second (Some d) (Some e) = read_first d >>= (λ x. read_second e >>= (λ y. Ok (Some (x, y))))
+
+-- two keys that go together
 abbrev pub pair_at : {A B : Type 0} → Keys → List ℕ → List ℕ → (Data → Read A) → (Data → Read B) → Read (Option (A × B))
-pair_at keys first second read_first read_second = both (value_of keys first) (value_of keys second)
-  where
-    both : Option Data → Option Data → Read (Option _)
-    both None None = Ok None
-    both None (Some e) = broken (at keys first) Pair
-    both (Some d) None = read_first d >>= (λ x. broken (at keys second) Pair)
-    both (Some d) (Some e) = read_first d >>= (λ x. read_second e >>= (λ y. Ok (Some (x, y))))
+pair_at keys first second read_first read_second =
+    both_at (at keys first) (at keys second) read_first read_second (value_of keys first) (value_of keys second)

@@ -1,6 +1,6 @@
 -- The rows of a script: a signal, a task, a persistent's value, a zone, an input. The keys of each stand in the order in
 -- which they are checked; a key that is not known is found last.
-use Rattle.std.specs.Prelude.{ℕ, ◌+◌, Bool, true, false, not, ◌&&◌, ◌||◌, nat_le, nat_lt, ℤ, pos, neg_ℤ, int_lt, List, [], ◌∷◌, ◌++◌, length, map, replicate, codes, slice_get, Option, Some, None, is_some, Result, Ok, Err, ◌==◌, if◌then◌else◌}
+use Rattle.std.specs.Prelude.{ℕ, ◌+◌, Bool, true, false, not, ◌&&◌, ◌||◌, nat_le, nat_lt, ℤ, pos, negsuc, neg_ℤ, int_lt, List, [], ◌∷◌, ◌++◌, length, map, replicate, codes, slice_get, Option, Some, None, is_some, Result, Ok, Err, ◌==◌, if◌then◌else◌}
 use Rattle.std.specs.List.{list_all}
 use Rattle.std.specs.Option.{option_map}
 use Rattle.toml.specs.Data.{Data, as_str, as_integer, as_bool}
@@ -22,7 +22,7 @@ use Rattle.rapid_model.specs.declared.value.Value.{Value}
 use Rattle.rapid_model.specs.declared.value.Value.TheVariants as values
 use Rattle.rapid_model.specs.declared.zone_row.ZoneRow.{ZoneRow}
 use Rattle.cell_script.specs.Break.{Read, ◌>>=◌, broken, must, found_or}
-use Rattle.cell_script.specs.Keys.{Keys, at, value_of, has_key, needed, optional, only_keys, text_at, whole_at, bit_at, word_at, name_at, number_at, list_at, table_at, pair_at}
+use Rattle.cell_script.specs.Keys.{Keys, at, value_of, needed, optional, only_keys, text_at, whole_at, bit_at, word_at, name_at, number_at, list_at, table_at, pair_at}
 
 -- the name of a signal is no predefined name and no other signal's
 abbrev pub signal_name_at : List ℕ → List (List ℕ) → Data → Read (List ℕ)

@@ -17,9 +17,8 @@ abbrev pub default_steps : ℕ
 default_steps = 100_000
 
 -- the script that a table stands for, or the first rule that it breaks, by the order of its keys
-unfoldable pub script_of : Members → Read ScriptData
-script_of members = do
-  let keys = record { path = []; members = members }
+unfoldable pub script_of_keys : Keys → Read ScriptData
+script_of_keys keys = do
   version ← needed keys (codes "version") >>= whole_at (codes "version") 1 1
   steps ← optional default_steps (whole_at (codes "steps") 1 1_000_000) (value_of keys (codes "steps"))
   signals ← optional [] (λ d. rows_at (codes "signal") 0 256 d >>= each_row signal_of []) (value_of keys (codes "signal"))
@@ -29,6 +28,9 @@ script_of members = do
   inputs ← optional [] (λ d. rows_at (codes "input") 0 10_000 d >>= each_row (input_of signals tasks) []) (value_of keys (codes "input"))
   only_keys keys (codes "version" ∷ codes "steps" ∷ codes "signal" ∷ codes "task" ∷ codes "pers" ∷ codes "zone" ∷ codes "input" ∷ [])
     (Ok (record { steps = steps; signals = signals; tasks = tasks; pers = pers; zones = zones; inputs = inputs }))
+
+abbrev pub script_of : Members → Read ScriptData
+script_of members = script_of_keys (record { path = []; members = members })
 
 -- the text is UTF-8, and TOML reads it as a table with these keys
 pub record IsTable (text : List ℕ) (members : Members) : Type 0 where
