@@ -1,5 +1,5 @@
 -- What a report answers to a verdict.
-use Rattle.std.specs.Prelude.{◌≡◌, ℕ, ◌⊎◌, List, [], map, Option, Some, None, IfSome}
+use Rattle.std.specs.Prelude.{◌≡◌, ℕ, ◌⊎◌, List, [], ◌∷◌, map, codes, Option, Some, None, IfSome}
 use Rattle.std.specs.Borrow.{Bor}
 use Rattle.outside.specs.Count.{Rose}
 use Rattle.outside.specs.Told.{Told}
@@ -10,7 +10,7 @@ use Rattle.history_text.specs.Lines.{lines_of, output_of}
 use Rattle.controller.specs.declared.report.Report.{Report}
 use Rattle.controller.specs.declared.refused.Refused.{Refused}
 use Rattle.controller.specs.declared.refused.Refused.TheVariants.{Write, Memory}
-use Rattle.controller.specs.Accepted.{Verdict, refuses, runs, Accepted}
+use Rattle.controller.specs.Accepted.{Verdict, refuses, accepts, runs, Accepted}
 use Rattle.controller.specs.Refusals.{status_of, refusal_line}
 use Rattle.controller.specs.Runs.{IsRun, run_status}
 use Rattle.controller.specs.Sends.{SendsLines, SendsSome}
@@ -56,6 +56,34 @@ pub record IsCutShort (names : List (List ℕ)) (cell : CellData) (trees : List 
   pub calls : TakesBy (SendsSome (lines_of cell report.history.items report.fates.items)) out
   pub told : TakesLine (refusal_line names Write) err
 
+-- the line that tells that all is accepted
+abbrev pub accepted_line : List ℕ
+accepted_line = codes "accepted\n"
+
+-- accepted, and told whole by one call of the first sink, more only where a call took part of the line; nothing was run
+pub record IsAccepted (report : Report) (out err : Sunk) : Type 0 where
+  pub refused_is : report.refused ≡ None
+  pub status : report.status ≡ 0
+  pub history : report.history.items ≡ []
+  pub fates : report.fates.items ≡ []
+  pub printed : Takes accepted_line out
+  pub calls : TakesBy (SendsLines (accepted_line ∷ [])) out
+  pub told : Takes [] err
+
+-- accepted, and told in part, since a write failed
+pub record IsAcceptedInPart (report : Report) (out err : Sunk) : Type 0 where
+  pub refused_is : report.refused ≡ Some Write
+  pub status : report.status ≡ status_of Write
+  pub history : report.history.items ≡ []
+  pub fates : report.fates.items ≡ []
+  pub printed : GainedPart accepted_line out.old.bytes out.new.bytes
+  pub calls : TakesBy (SendsSome (accepted_line ∷ [])) out
+  pub told : TakesLine (refusal_line [] Write) err
+
+-- what is answered where all is accepted; a write fails only where the first sink counted a fault
+abbrev pub AnswersAccepted : Report → Sunk → Sunk → Type 0
+AnswersAccepted report out err = IsAccepted report out err ⊎ (IsAcceptedInPart report out err × Rose out.old.faults out.new.faults)
+
 -- what a run is answered by; a write fails only where the first sink counted a fault
 abbrev pub AnswersRun : CellData → List Tree → Report → Sunk → Sunk → Type 0
 AnswersRun cell trees report out err =
@@ -64,6 +92,7 @@ AnswersRun cell trees report out err =
 -- what a verdict is answered by
 abbrev pub Answers : Verdict → Report → Sunk → Sunk → Type 0
 Answers (refuses names refused) report out err = IsRefused names refused report out err
+Answers (accepts names) report out err = IsAccepted report out err ⊎ IsAcceptedInPart report out err
 Answers (runs names cell trees) report out err = IsPrinted cell trees report out err ⊎ IsCutShort names cell trees report out err
 
 -- want of memory: before the first event, with nothing printed

@@ -1,8 +1,8 @@
 -- The status and the line of a refusal.
 use Rattle.std.specs.Prelude.{ℕ, List, [], ◌∷◌, ◌++◌, Option, Some, None, codes, decimal, slice_get}
 use Rattle.std.specs.Option.{unwrap_or, option_map_or}
-use Rattle.rapid_model.specs.declared.script.ScriptRule.{ScriptRule}
-use Rattle.rapid_model.specs.declared.script.ScriptRule.TheVariants as rules
+use Rattle.rapid_model.specs.declared.script_rule.ScriptRule.{ScriptRule}
+use Rattle.rapid_model.specs.declared.script_rule.ScriptRule.TheVariants as rules
 use Rattle.controller.specs.declared.refused.Refused.{Refused}
 use Rattle.controller.specs.declared.refused.Refused.TheVariants.{Words, Script, Module, Read, Write, Memory, TooLong}
 use Rattle.controller.specs.declared.refused.ModuleRule.{ModuleRule}
@@ -24,6 +24,14 @@ status_of (TooLong file) = 10
 
 abbrev pub script_rule_name : ScriptRule → List ℕ
 script_rule_name rules.NotToml = codes "NotToml"
+script_rule_name rules.NoKey = codes "NoKey"
+script_rule_name rules.Kind = codes "Kind"
+script_rule_name rules.UnknownKey = codes "UnknownKey"
+script_rule_name rules.Range = codes "Range"
+script_rule_name rules.Name = codes "Name"
+script_rule_name rules.Twice = codes "Twice"
+script_rule_name rules.NoSuch = codes "NoSuch"
+script_rule_name rules.Pair = codes "Pair"
 script_rule_name rules.NotBuilt = codes "NotBuilt"
 
 abbrev pub lex_rule_name : LexRule → List ℕ

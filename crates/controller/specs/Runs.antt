@@ -1,5 +1,5 @@
 -- The run theorem: what the report of a run tells.
-use Rattle.std.specs.Prelude.{◌≡◌, ℕ, Bool, true, false, List, length, IsTrue, is_some, if◌then◌else◌}
+use Rattle.std.specs.Prelude.{◌≡◌, ℕ, ◌⊎◌, Bool, true, false, List, [], length, IsTrue, is_some, if◌then◌else◌}
 use Rattle.std.specs.List.{list_any, list_all}
 use Rattle.rapid_model.specs.CellData.{CellData}
 use Rattle.rapid_model.specs.declared.event.Event.{Event}
@@ -32,7 +32,7 @@ run_status cell history =
     else if list_any is_fault (fates_after cell history (length cell.tasks)) then 1
     else 0
 
--- the cell has one task, and it has an arm
-pub record IsOneArm (cell : CellData) : Type 0 where
+-- the cell has one task, and it has an arm or nothing to do
+pub record SuitsOne (cell : CellData) (tree : Tree) : Type 0 where
   pub one : length cell.tasks ≡ 1
-  pub arms : IsTrue (list_all (λ row. is_some row.arm) cell.tasks)
+  pub arms : IsTrue (list_all (λ row. is_some row.arm) cell.tasks) ⊎ (tree.list ≡ [])
