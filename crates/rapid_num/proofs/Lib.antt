@@ -4,3 +4,4 @@ pub mod TenPowers
 pub mod Cuts
 pub mod DecimalDigits
 pub mod ReadBack
+pub mod Remainders

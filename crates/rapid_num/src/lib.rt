@@ -1,6 +1,7 @@
 //! Numbers of RAPID as whole thousandths, and the joints, bounds and shapes that are made of them.
 #![tactic(auto)]
 
+mod arithmetic;
 mod decimal;
 mod digits;
 mod joints;

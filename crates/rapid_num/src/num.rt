@@ -1,6 +1,6 @@
 ghost use Rattle.std.specs.Prelude.{◌≡◌, ◌↔◌, ℤ, IsSome, IfSome, Some, option_map};
 ghost use Rattle.rapid_num.specs.Range.{IsNum};
-ghost use Rattle.rapid_num.specs.Arithmetic.{num_of, difference_of};
+ghost use Rattle.rapid_num.specs.Arithmetic.{num_of};
 
 use std::marker::Model;
 
@@ -43,10 +43,11 @@ impl Num {
         self.thousandths
     }
 
-    /// The exact difference: `None` exactly where it is out of range.
-    pub fn sub(self, other: Num) -> Option<Num>
-        ensures { result ≡ difference_of self other }
+    /// The num of a count in range.
+    pub(crate) fn within_range(thousandths: i64) -> Num
+        requires { IsNum thousandths }
+        ensures { result ≡ thousandths }
     {
-        Num::new(self.thousandths - other.thousandths)
+        Num { thousandths }
     }
 }

@@ -33,6 +33,88 @@ fn differences(rt: HostRuntime) {
     assert_eq!(rt; Num::new(10_000_000_000_000), None);
 }
 
+fn count(num: Option<Num>) -> Option<i64> {
+    num.map(|num| num.thousandths())
+}
+
+/// The sum, the product, the quotient, the whole quotient and the remainder.
+fn answers(left: i64, right: i64) -> Option<[Option<i64>; 5]> {
+    let left = Num::new(left)?;
+    let right = Num::new(right)?;
+    if right.thousandths() == 0 {
+        return None;
+    }
+    Some([
+        count(left.add(right)),
+        count(left.mul(right)),
+        count(left.div(right)),
+        count(left.int_div(right)),
+        Some(left.modulo(right).thousandths()),
+    ])
+}
+
+#[test]
+fn arithmetic(rt: HostRuntime) {
+    let worked = [
+        (
+            2_000,
+            3_000,
+            [Some(5_000), Some(6_000), Some(667), Some(0), Some(2_000)],
+        ),
+        (
+            -2_000,
+            3_000,
+            [Some(1_000), Some(-6_000), Some(-667), Some(0), Some(-2_000)],
+        ),
+        (-1, 500, [Some(499), Some(-1), Some(-2), Some(0), Some(-1)]),
+        (
+            -7_000,
+            2_000,
+            [
+                Some(-5_000),
+                Some(-14_000),
+                Some(-3_500),
+                Some(-3_000),
+                Some(-1_000),
+            ],
+        ),
+        (
+            7_000,
+            -2_000,
+            [
+                Some(5_000),
+                Some(-14_000),
+                Some(-3_500),
+                Some(-3_000),
+                Some(1_000),
+            ],
+        ),
+        (
+            1_000,
+            300,
+            [Some(1_300), Some(300), Some(3_333), Some(3_000), Some(100)],
+        ),
+        (
+            9_000_000_000_000,
+            9_000_000_000_000,
+            [None, None, Some(1_000), Some(1_000), Some(0)],
+        ),
+        (
+            9_999_999_999_999,
+            1,
+            [None, Some(10_000_000_000), None, None, Some(0)],
+        ),
+        (
+            -9_999_999_999_999,
+            -1,
+            [None, Some(10_000_000_000), None, None, Some(0)],
+        ),
+    ];
+    for (left, right, counts) in worked {
+        assert_eq!(rt; answers(left, right), Some(counts));
+    }
+}
+
 #[test]
 fn literals(rt: HostRuntime) {
     let whole: [(&[u8], i64); 14] = [

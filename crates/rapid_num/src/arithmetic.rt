@@ -1,0 +1,118 @@
+//! Sums, differences, products and quotients of nums (RAPID Overview, expressions; RAPID Kernel, operators).
+ghost use Rattle.std.specs.Prelude.{◌≡◌, ◌<◌, ◌≤◌, ◌^◌, ◌*ℤ◌, pos, nat_abs};
+ghost use Rattle.rapid_num.specs.Range.{IsNum, greatest};
+ghost use Rattle.rapid_num.specs.Arithmetic.{num_of, sum_of, difference_of, product_of, quotient_of, whole_quotient_of, remainder_of, rounded_ratio, signed_by, whole_part};
+
+use crate::num::Num;
+use crate::round::round_ratio;
+
+impl Num {
+    /// The exact sum: `None` exactly where it is out of range.
+    pub fn add(self, other: Num) -> Option<Num>
+        ensures { result ≡ sum_of self other }
+    {
+        Num::new(self.thousandths() + other.thousandths())
+    }
+
+    /// The exact difference: `None` exactly where it is out of range.
+    pub fn sub(self, other: Num) -> Option<Num>
+        ensures { result ≡ difference_of self other }
+    {
+        Num::new(self.thousandths() - other.thousandths())
+    }
+
+    /// The product, rounded to a thousandth, halves away from zero: `None` exactly where it is out of range once it is
+    /// rounded.
+    pub fn mul(self, other: Num) -> Option<Num>
+        ensures { result ≡ product_of self other }
+    {
+        num_within(round_ratio(exact_product(wide(self), wide(other)), 1000))
+    }
+
+    /// The quotient, rounded to a thousandth, halves away from zero: `None` exactly where it is out of range once it is
+    /// rounded. `other` is not zero.
+    pub fn div(self, other: Num) -> Option<Num>
+        requires { ¬ (other ≡ pos 0) }
+        ensures { result ≡ quotient_of self other }
+    {
+        num_within(signed_ratio(exact_product(wide(self), 1000), wide(other)))
+    }
+
+    /// DIV: the quotient, truncated toward zero to a whole number: `None` exactly where that is out of range. `other`
+    /// is not zero.
+    pub fn int_div(self, other: Num) -> Option<Num>
+        requires { ¬ (other ≡ pos 0) }
+        ensures { result ≡ whole_quotient_of self other }
+    {
+        Num::new(whole_quotient(self, other) * 1000)
+    }
+
+    /// MOD: what is left of the num after DIV, exactly. It has the sign of the num, whatever the sign of `other`, and
+    /// is smaller in size than `other`, which is not zero.
+    pub fn modulo(self, other: Num) -> Num
+        requires { ¬ (other ≡ pos 0) }
+        ensures { result ≡ remainder_of self other }
+    {
+        Num::within_range(remainder(self, other))
+    }
+}
+
+/// The count of thousandths.
+fn wide(num: Num) -> i128
+    ensures same { result ≡ num }
+    ensures small { nat_abs result ≤ greatest }
+{
+    i128::from(num.thousandths())
+}
+
+/// The product of two counts.
+fn exact_product(left: i128, right: i128) -> i128
+    requires left { nat_abs left ≤ greatest }
+    requires right { nat_abs right ≤ greatest }
+    ensures product { result ≡ left *ℤ right }
+    ensures fits { nat_abs result < 2 ^ 125 }
+{
+    left * right
+}
+
+/// The num of so many thousandths: `None` exactly where the count is out of range.
+fn num_within(count: i128) -> Option<Num>
+    ensures { result ≡ num_of count }
+{
+    if count < -9_999_999_999_999 || count > 9_999_999_999_999 {
+        return None;
+    }
+    Num::new(count as i64)
+}
+
+/// The whole number nearest to `top / bottom`, halves away from zero.
+fn signed_ratio(top: i128, bottom: i128) -> i128
+    requires nonzero { ¬ (bottom ≡ pos 0) }
+    requires top { nat_abs top < 2 ^ 125 }
+    requires bottom { nat_abs bottom ≤ greatest }
+    ensures { result ≡ rounded_ratio (signed_by bottom top) (nat_abs bottom) }
+{
+    if bottom < 0 {
+        round_ratio(-top, -bottom)
+    } else {
+        round_ratio(top, bottom)
+    }
+}
+
+/// How often `right` goes into `left`, toward zero.
+fn whole_quotient(left: Num, right: Num) -> i64
+    requires { ¬ (right ≡ pos 0) }
+    ensures quotient { result ≡ whole_part (signed_by right left) (nat_abs right) }
+    ensures small { nat_abs result ≤ greatest }
+{
+    left.thousandths() / right.thousandths()
+}
+
+/// The thousandths that are left after the whole quotient.
+fn remainder(left: Num, right: Num) -> i64
+    requires { ¬ (right ≡ pos 0) }
+    ensures remainder { result ≡ remainder_of left right }
+    ensures range { IsNum result }
+{
+    left.thousandths() % right.thousandths()
+}
