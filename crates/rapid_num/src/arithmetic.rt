@@ -47,8 +47,8 @@ impl Num {
         Num::new(whole_quotient(self, other) * 1000)
     }
 
-    /// MOD: what is left of the num after DIV, exactly. It has the sign of the num, whatever the sign of `other`, and
-    /// is smaller in size than `other`, which is not zero.
+    /// MOD: what is left of the num after DIV, exactly. It is zero or has the sign of the num, whatever the sign of
+    /// `other`, and is smaller in size than `other`, which is not zero.
     pub fn modulo(self, other: Num) -> Num
         requires { ¬ (other ≡ pos 0) }
         ensures { result ≡ remainder_of self other }

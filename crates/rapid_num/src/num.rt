@@ -1,4 +1,4 @@
-ghost use Rattle.std.specs.Prelude.{◌≡◌, ◌↔◌, ℤ, IsSome, IfSome, Some, option_map};
+ghost use Rattle.std.specs.Prelude.{◌≡◌};
 ghost use Rattle.rapid_num.specs.Range.{IsNum};
 ghost use Rattle.rapid_num.specs.Arithmetic.{num_of};
 

@@ -10,7 +10,6 @@ ghost use Rattle.task_machine.specs.Standing.{fits_last};
 ghost use Rattle.task_machine.specs.declared.stage.Stage.TheVariants as stages;
 
 use crate::departure::departure;
-use crate::reach::is_reachable;
 use crate::stage::Stage;
 use joint_planner::Plan;
 use rapid_model::{Answer, Fate, Fault, Form, Stmt, Tree};
@@ -69,7 +68,7 @@ fn after_look(tree: &Tree, begun: usize) -> Stage
     ensures some { IsSome (request_at result) }
     ensures left { (seen : ℕ) (more : List Answer) → left_at tree.now begun stages.Looking (answers.Go seen ∷ more) ≡ left_at tree.now begun result more }
 {
-    if is_reachable(target_of(&under_way(tree, begun).form)) {
+    if target_of(&under_way(tree, begun).form).is_reachable() {
         Stage::Locating
     } else {
         Stage::Ending {

@@ -4,7 +4,6 @@
 mod advance;
 mod departure;
 mod machine;
-mod reach;
 mod stage;
 #[cfg(test)]
 mod tests;
