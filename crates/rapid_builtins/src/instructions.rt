@@ -1,0 +1,48 @@
+//! The predefined instructions (RAPID Instructions, Functions and Data types).
+
+ghost use Rattle.std.specs.Prelude.{◌≡◌};
+ghost use Rattle.rapid_builtins.specs.Names.{instruction_of};
+
+use crate::table::meant_by;
+use rapid_model::Instruction;
+
+static INSTRUCTIONS: [(&[u8], Instruction); 30] = [
+    (b"MoveAbsJ", Instruction::MoveAbsJ),
+    (b"Set", Instruction::Set),
+    (b"Reset", Instruction::Reset),
+    (b"SetDO", Instruction::SetDO),
+    (b"WaitDI", Instruction::WaitDI),
+    (b"WaitDO", Instruction::WaitDO),
+    (b"WaitUntil", Instruction::WaitUntil),
+    (b"WaitTime", Instruction::WaitTime),
+    (b"WaitTestAndSet", Instruction::WaitTestAndSet),
+    (b"WaitSyncTask", Instruction::WaitSyncTask),
+    (b"TPWrite", Instruction::TPWrite),
+    (b"TPErase", Instruction::TPErase),
+    (b"ISignalDI", Instruction::ISignalDI),
+    (b"ISignalDO", Instruction::ISignalDO),
+    (b"IPers", Instruction::IPers),
+    (b"ISleep", Instruction::ISleep),
+    (b"IWatch", Instruction::IWatch),
+    (b"IDelete", Instruction::IDelete),
+    (b"IDisable", Instruction::IDisable),
+    (b"IEnable", Instruction::IEnable),
+    (b"WZLimJointDef", Instruction::WZLimJointDef),
+    (b"WZHomeJointDef", Instruction::WZHomeJointDef),
+    (b"WZLimSup", Instruction::WZLimSup),
+    (b"WZDisable", Instruction::WZDisable),
+    (b"WZEnable", Instruction::WZEnable),
+    (b"WZFree", Instruction::WZFree),
+    (b"Incr", Instruction::Incr),
+    (b"Decr", Instruction::Decr),
+    (b"Clear", Instruction::Clear),
+    (b"Add", Instruction::Add),
+];
+
+/// The instruction of a name; `None` exactly for other names. Letters of either case are the same (RAPID Instructions,
+/// Functions and Data types; RAPID Kernel, identifiers).
+pub fn instruction(name: &[u8]) -> Option<Instruction>
+    ensures { result ≡ instruction_of name.now }
+{
+    meant_by(&INSTRUCTIONS, name)
+}
