@@ -1,0 +1,87 @@
+-- What a name means at a spot: the innermost declaration of its name that is visible there.
+use Rattle.std.specs.Prelude.{ℕ, zero, suc, Bool, List, [], ◌∷◌, ◌++◌, length, Option, Some, None, is_some, slice_get, if◌then◌else◌, bytes_eq}
+use Rattle.std.specs.Option.{option_map, option_and_then}
+use Rattle.std.specs.Str.{str_to_ascii_lowercase}
+use Rattle.rapid_model.specs.Requests.{or_else}
+use Rattle.rapid_model.specs.declared.sort.Sort.{Sort}
+use Rattle.rapid_model.specs.declared.value.Value.{Value}
+use Rattle.rapid_builtins.specs.Names.{instruction_of, function_of, predefined_of}
+use Rattle.data_scopes.specs.declared.meant.Meant.{Meant}
+use Rattle.data_scopes.specs.declared.meant.Meant.TheVariants as meants
+use Rattle.data_scopes.specs.declared.spot.Spot.{Spot}
+
+-- The names of a scope, in small letters, and what they mean.
+abbrev pub Scope : Type 0
+Scope = List (List ℕ × Meant)
+
+abbrev pub meant_by : List ℕ → Scope → Option Meant
+meant_by key [] = None
+meant_by key (entry ∷ entries) = if bytes_eq key entry.0 then Some entry.1 else meant_by key entries
+
+-- what a name means in a scope, letters of either case being the same
+abbrev pub meant_in : List ℕ → Scope → Option Meant
+meant_in name scope = meant_by (str_to_ascii_lowercase name) scope
+
+-- the scope with one more declaration; where two have one name the first stands
+abbrev pub declare : List ℕ → Meant → Scope → Scope
+declare name meant scope = if is_some (meant_in name scope) then scope else scope ++ ((str_to_ascii_lowercase name, meant) ∷ [])
+
+-- a FOR: its variable in small letters, and the number of the FOR whose list it stands in, if it stands in one
+pub record Loop : Type 0 where
+  pub name : List ℕ
+  pub outer : Option ℕ
+
+-- The names of a task's modules: the items that are not LOCAL; the LOCAL ones of each module; the parameters and data of
+-- each routine, and its FORs in text order; the signals.
+pub record Tables : Type 0 where
+  pub task : Scope
+  pub own : List Scope
+  pub inner : List Scope
+  pub loops : List (List Loop)
+  pub signals : Scope
+
+-- The names, the type of each CONST that is no array, and the values that are kept for these so far.
+pub record Names : Type 0 where
+  pub tables : Tables
+  pub sorts : List Sort
+  pub kept : List (Option Value)
+
+-- this FOR where its variable has the name, else one further out
+abbrev pub named_or : List ℕ → ℕ → Option Loop → (Option ℕ → Option ℕ) → Option ℕ
+named_or key number None further = None
+named_or key number (Some loop) further = if bytes_eq key loop.name then Some number else further loop.outer
+
+-- the FOR of this variable, from the one of this number outward; there are no more steps than FORs
+abbrev pub loop_named : ℕ → List ℕ → List Loop → Option ℕ → Option ℕ
+loop_named zero key loops number = None
+loop_named (suc steps) key loops None = None
+loop_named (suc steps) key loops (Some number) = named_or key number (slice_get loops number) (loop_named steps key loops)
+
+-- the list of this number, or the empty one
+abbrev pub list_at : {A : Type 0} → List (List A) → ℕ → List A
+list_at [] number = []
+list_at (xs ∷ more) zero = xs
+list_at (xs ∷ more) (suc number) = list_at more number
+
+-- in a routine: the variables of the FORs around, then its parameters and data
+abbrev pub meant_in_routine : Tables → List ℕ → Option ℕ → Option ℕ → Option Meant
+meant_in_routine tables name None within = None
+meant_in_routine tables name (Some routine) within =
+    let loops = list_at tables.loops routine in
+    or_else (option_map meants.For (loop_named (length loops) (str_to_ascii_lowercase name) loops within)) (meant_in name (list_at tables.inner routine))
+
+-- a predefined name
+abbrev pub meant_predefined : List ℕ → Option Meant
+meant_predefined name =
+    or_else (option_map meants.Instruction (instruction_of name))
+    (or_else (option_map meants.Function (function_of name)) (option_map meants.Predefined (predefined_of name)))
+
+-- a signal or a predefined name
+abbrev pub meant_outside : Tables → List ℕ → Option Meant
+meant_outside tables name = or_else (meant_in name tables.signals) (meant_predefined name)
+
+-- what a name means at a spot
+abbrev pub meaning : Tables → Spot → List ℕ → Option Meant
+meaning tables spot name =
+    or_else (meant_in_routine tables name spot.routine spot.within)
+    (or_else (meant_in name (list_at tables.own spot.«module»)) (or_else (meant_in name tables.task) (meant_outside tables name)))
