@@ -23,6 +23,7 @@ pub use lexer::Lexer;
 pub use place::{Place, place_of};
 pub use token::Token;
 pub use tokens::read_tokens;
+pub use words::is_reserved;
 
 #[cfg(test)]
 mod tests;
