@@ -25,6 +25,7 @@ fn main(rt: HostRuntime) -> io::Result<()> {
 }
 
 /// What a text comes to.
+#[derive(Drop)]
 enum Told {
     Module { items: usize },
     Fault { at: usize },
