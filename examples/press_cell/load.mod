@@ -1,0 +1,5 @@
+MODULE Load
+  PROC main()
+    MoveAbsJ [[20,10,0,0,30,0],[9E9,9E9,9E9,9E9,9E9,9E9]]\NoEOffs, v1000, fine, tool0;
+  ENDPROC
+ENDMODULE

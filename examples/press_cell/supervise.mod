@@ -1,0 +1,4 @@
+MODULE Supervise
+  PROC main()
+  ENDPROC
+ENDMODULE
