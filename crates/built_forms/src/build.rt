@@ -18,17 +18,17 @@ use std::alloc::Global;
 
 /// The tree of a module that is built. `NotBuilt` where an item or a statement is not; `Memory` comes only where memory
 /// was refused.
-pub fn build_module(alloc: Global, module: &RawModule<'_>) -> Result<Tree, BuildFault>
-    ensures { Builds (view_module module.now) result }
+pub fn build_module(alloc: Global, raw: &RawModule<'_>) -> Result<Tree, BuildFault>
+    ensures { Builds (view_module raw.now) result }
 {
-    let Some(first) = module.items.first() else {
+    let Some(first) = raw.items.first() else {
         return Err(BuildFault::NotBuilt(0));
     };
     let Some(main) = main_of(first) else {
         return Err(BuildFault::NotBuilt(item_place(first)));
     };
     let list = statements(alloc, &main.list)?;
-    match module.items.get(1) {
+    match raw.items.get(1) {
         Some(item) => Err(BuildFault::NotBuilt(item_place(item))),
         None => Ok(Tree {
             list: Sequence::from_vec(list),

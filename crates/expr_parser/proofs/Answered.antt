@@ -1,18 +1,19 @@
 -- The readers of expressions answer for their forms. F n is a form within n levels; what stands inside one that opens a
 -- level stands within one less.
-use Rattle.std.proofs.Common.{◌≡◌, ℕ, zero, suc, ◌≤◌, Bool, true, false, ◌&&◌, List, ◌++◌, Option, None, Some, refl, subst}
+use Rattle.std.proofs.Common.{◌≡◌, ℕ, zero, suc, ◌≤◌, true, false, List, Option, None, Some, refl}
 use Rattle.rapid_lexer.specs.Tokens.{Lexeme}
 use Rattle.raw_trees.specs.Plain.{PlainExpr, PlainArg}
 use Rattle.rapid_forms.specs.declared.sign.Sign.{Sign}
 use Rattle.rapid_forms.specs.declared.sign.Sign.TheVariants as signs
 use Rattle.rapid_forms.specs.Forms.{Form, one, seq, optional, made}
 use Rattle.rapid_forms.specs.Reading.{Reader, one_read, seq_read, optional_read, made_read}
-use Rattle.rapid_forms.proofs.Sets.{apart, when}
+use Rattle.rapid_forms.proofs.Sets.{apart}
 use Rattle.rapid_forms.proofs.Laws.{LL, one_ll, seq_ll, either_ll, optional_ll, many_ll, made_ll}
 use Rattle.rapid_forms.proofs.Up.{Up, up_refl, seq_up, optional_up, made_up}
 use Rattle.rapid_forms.proofs.Opens.{one_opens, seq_opens, made_opens}
 use Rattle.rapid_forms.proofs.Same.{same_sym}
 use Rattle.rapid_forms.proofs.Right.{Reads, one_reads, seq_reads, either_reads, optional_reads, many_reads, made_reads, remade_reads, same_reads, nothing_reads, level_reads}
+use Rattle.rapid_forms.proofs.Pairs.{both_reads, token_reads, between_reads}
 use Rattle.expr_parser.specs.declared.level.Level.TheVariants as levels
 use Rattle.expr_parser.specs.Grammar.{mark, number_tree, quoted_tree, truth_tree, inner, behind, group_tree, aggregate_tree, needed_tree, option_tree, none_or, first_and_more, step_tree, chain_tree, relation_tree, signed_tree, negated_tree, comparisons, name, part, parts_of, primary, chain, term, sum, relation, land, expr_of, group_of, exprs, aggregate_of, index_of, needed, option, args_list, call_of, inside, expr, parts, args}
 use Rattle.expr_parser.specs.Reads.{operators_of, InsideRead, left, right, named_tree, arg_signs, name_read, part_read, parts_read, named_read, primary_read, step_read, chain_read, term_read, signed_read, sum_read, relation_read, land_read, negated_read, expr_of_read, group_read, exprs_read, aggregate_read, index_read, needed_read, value_read, option_read, arg_read, later_read, args_read, call_read, inside_read, expr_read}
@@ -22,19 +23,6 @@ use Rattle.expr_parser.proofs.Ahead.{named, primary_joined, arg, later, args_joi
 pub expr_above : (k m : ℕ) → k ≤ m → Up (expr k) (expr m)
 unfolding expr
 expr_above k m le = expr_of_up (inside_above k m le)
-
--- two forms, one after the other, of which one takes a token at least, and what is made of them
-pub both_reads : {A B C : Type 0} {na nb : Bool} {fa ma fb mb : List Sign} {F : ℕ → Form A} {G : ℕ → Form B} {n : ℕ} {a : Reader A} {b : Reader B} (f : ℕ → A × B → C) → Reads F n a → Reads G n b → ((m : ℕ) → LL na fa ma (F m)) → ((m : ℕ) → LL nb fb mb (G m)) → apart ma fb ≡ true → (na && nb) ≡ false → ((k m : ℕ) → k ≤ m → Up (F k) (F m)) → Reads (λ m. made f (seq (F m) (G m))) n (made_read f (seq_read a b))
-both_reads {na = na} {nb} {fa} {ma} {fb} {mb} {F} {G} f ra rb lf lg e some up =
-    made_reads f (seq_reads ra rb lf lg e up) (λ m. subst (λ null. LL null (fa ++ when na fb) (mb ++ when nb ma) (seq (F m) (G m))) some (seq_ll (lf m) (lg m) e))
-
--- one token, and a form behind it
-pub token_reads : {B C : Type 0} {null : Bool} {first more : List Sign} {G : ℕ → Form B} {n : ℕ} {b : Reader B} (set : List Sign) (f : ℕ → Lexeme × B → C) → Reads G n b → ((m : ℕ) → LL null first more (G m)) → Reads (λ m. made f (seq (one set) (G m))) n (made_read f (seq_read (one_read set) b))
-token_reads set f r l = both_reads f (one_reads set) r (λ m. one_ll set) l refl refl (λ k m le. up_refl _)
-
--- a form between two tokens
-between_reads : {B C : Type 0} {null : Bool} {first more : List Sign} {G : ℕ → Form B} {n : ℕ} {b : Reader B} (front back : List Sign) (f : ℕ → Lexeme × (B × Lexeme) → C) → Reads G n b → ((m : ℕ) → LL null first more (G m)) → apart more back ≡ true → ((k m : ℕ) → k ≤ m → Up (G k) (G m)) → Reads (λ m. made f (seq (one front) (seq (G m) (one back)))) n (made_read f (seq_read (one_read front) (seq_read b (one_read back))))
-between_reads front back f r l e up = token_reads front f (seq_reads r (one_reads back) l (λ m. one_ll back) e up) (λ m. seq_ll (l m) (one_ll back) e)
 
 -- chains
 

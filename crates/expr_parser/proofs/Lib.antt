@@ -2,6 +2,4 @@ pub mod Ahead
 pub mod Answered
 pub mod Told
 pub mod Taking
-pub mod Rounds
-pub mod Arms
 pub mod Operands

@@ -13,7 +13,7 @@
 --   option   = "\" name [ ":=" expr ]
 --
 -- Each parenthesis, bracket, brace and list of arguments opens a level of nesting.
-use Rattle.std.specs.Prelude.{ℕ, zero, suc, Bool, List, [], ◌∷◌, Option, None, Some, map, option_map}
+use Rattle.std.specs.Prelude.{ℕ, zero, suc, List, [], ◌∷◌, Option, None, Some}
 use Rattle.rapid_lexer.specs.Tokens.{Lexeme}
 use Rattle.raw_trees.specs.declared.raw_expr.Operator.{Operator}
 use Rattle.raw_trees.specs.Plain.{PlainName, PlainExpr, PlainPlace, PlainArg, Number, Quoted, Truth, Group, Aggregate, Invoke, Place, Not, Signed, Chain, PlaceOf, Needed, Optional, exprs_of, args_of, steps_of, held_of}

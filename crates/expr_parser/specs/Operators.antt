@@ -1,5 +1,5 @@
 -- What operators and literal words stand for.
-use Rattle.std.specs.Prelude.{ℕ, Bool, List, [], ◌∷◌, if◌then◌else◌}
+use Rattle.std.specs.Prelude.{Bool, List, [], ◌∷◌, if◌then◌else◌}
 use Rattle.rapid_lexer.specs.Tokens.{Lexeme}
 use Rattle.raw_trees.specs.declared.raw_expr.Operator.{Operator}
 use Rattle.raw_trees.specs.declared.raw_expr.Operator.TheVariants as operators

@@ -1,9 +1,10 @@
 //! Arguments.
 
-ghost use Rattle.std.specs.Prelude.{map, option_map, ◌∷◌, []};
+ghost use Rattle.std.specs.Prelude.{option_map, ◌∷◌, []};
 ghost use Rattle.raw_trees.specs.Views.{view_arg, view_expr};
 ghost use Rattle.rapid_forms.specs.Reading.{Gives, made_read, optional_read, rest_from};
 ghost use Rattle.expr_parser.specs.Grammar.{none_or};
+ghost use Rattle.expr_parser.specs.Parts.{view_args};
 ghost use Rattle.expr_parser.specs.Reads.{arg_read, arg_signs, args_read, expr_of_read, inside_read, later_read, option_read, value_read};
 
 use crate::chains::expr;
@@ -33,7 +34,7 @@ pub(crate) fn call<'a>(
     at: usize,
     left: u32,
 ) -> Result<(Vec<RawArg<'a>>, usize), SyntaxFault>
-    ensures { Gives p.now.tokens (λ v. map view_arg v.items) result ((inside_read left).call (rest_from p.now.tokens at)) }
+    ensures { Gives p.now.tokens view_args result ((inside_read left).call (rest_from p.now.tokens at)) }
 {
     if left == 0 {
         return Err(p.tokens.no_level(at, &[Sign::OpenParenthesis]));
@@ -52,7 +53,7 @@ pub(crate) fn args_if_any<'a>(
     at: usize,
     left: u32,
 ) -> Result<(Vec<RawArg<'a>>, usize), SyntaxFault>
-    ensures { Gives p.now.tokens (λ v. map view_arg v.items) result (made_read none_or (optional_read arg_signs (inside_read left).args) (rest_from p.now.tokens at)) }
+    ensures { Gives p.now.tokens view_args result (made_read none_or (optional_read arg_signs (inside_read left).args) (rest_from p.now.tokens at)) }
 {
     if p.tokens.sees(at, &ARG_SIGNS) {
         args(p, at, left)
@@ -69,7 +70,7 @@ fn args<'a>(
     at: usize,
     left: u32,
 ) -> Result<(Vec<RawArg<'a>>, usize), SyntaxFault>
-    ensures { Gives p.now.tokens (λ v. map view_arg v.items) result ((inside_read left).args (rest_from p.now.tokens at)) }
+    ensures { Gives p.now.tokens view_args result ((inside_read left).args (rest_from p.now.tokens at)) }
 {
     if left == 0 {
         return Err(p.tokens.no_level(at, &ARG_SIGNS));
@@ -84,7 +85,7 @@ fn some_args<'a>(
     at: usize,
     left: u32,
 ) -> Result<(Vec<RawArg<'a>>, usize), SyntaxFault>
-    ensures { Gives p.now.tokens (λ v. map view_arg v.items) result (args_read (expr_of_read (inside_read left)) (rest_from p.now.tokens at)) }
+    ensures { Gives p.now.tokens view_args result (args_read (expr_of_read (inside_read left)) (rest_from p.now.tokens at)) }
 {
     let (first, after) = arg(p, at, left)?;
     let mut list = Vec::new(p.alloc);

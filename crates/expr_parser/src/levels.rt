@@ -1,9 +1,10 @@
 //! Forms between two marks, each of which opens a level.
 
-ghost use Rattle.std.specs.Prelude.{map, ◌∷◌, []};
+ghost use Rattle.std.specs.Prelude.{◌∷◌, []};
 ghost use Rattle.raw_trees.specs.Views.{view_expr};
 ghost use Rattle.rapid_forms.specs.Reading.{Gives, made_read, rest_from, seq_read};
 ghost use Rattle.expr_parser.specs.Grammar.{behind};
+ghost use Rattle.expr_parser.specs.Parts.{view_exprs};
 ghost use Rattle.expr_parser.specs.Reads.{expr_of_read, exprs_read, inside_read, mark_read};
 
 use crate::chains::expr;
@@ -76,7 +77,7 @@ pub(crate) fn exprs<'a>(
     at: usize,
     left: u32,
 ) -> Result<(Vec<RawExpr<'a>>, usize), SyntaxFault>
-    ensures { Gives p.now.tokens (λ v. map view_expr v.items) result (exprs_read (expr_of_read (inside_read left)) (rest_from p.now.tokens at)) }
+    ensures { Gives p.now.tokens view_exprs result (exprs_read (expr_of_read (inside_read left)) (rest_from p.now.tokens at)) }
 {
     let (first, after) = expr(p, at, left)?;
     let mut list = Vec::new(p.alloc);

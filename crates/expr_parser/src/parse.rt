@@ -1,11 +1,11 @@
 //! The public calls. `depth` levels of nesting are open before token `at`, and `end` is the length of the text in bytes.
 
-ghost use Rattle.std.specs.Prelude.{◌≤◌, ◌-◌, length, map};
+ghost use Rattle.std.specs.Prelude.{◌≤◌, ◌-◌, length};
 ghost use Rattle.rapid_lexer.specs.Tokens.{views};
-ghost use Rattle.raw_trees.specs.Views.{view_arg, view_expr};
+ghost use Rattle.raw_trees.specs.Views.{view_expr};
 ghost use Rattle.rapid_forms.specs.Parsed.{Parses};
 ghost use Rattle.expr_parser.specs.Grammar.{args, expr, exprs, inside, parts};
-ghost use Rattle.expr_parser.specs.Parts.{view_parts};
+ghost use Rattle.expr_parser.specs.Parts.{view_args, view_exprs, view_parts};
 
 use crate::args::args_if_any;
 use crate::chains::expr;
@@ -46,7 +46,7 @@ pub fn parse_exprs<'a>(
 ) -> Result<(Vec<RawExpr<'a>>, usize), SyntaxFault>
     requires there { at ≤ length tokens.now }
     requires open { depth ≤ 64 }
-    ensures answer { Parses (λ n. exprs (expr n)) (64 - depth) (views tokens.now) end at (λ v. map view_expr v.items) result }
+    ensures answer { Parses (λ n. exprs (expr n)) (64 - depth) (views tokens.now) end at view_exprs result }
 {
     let p = Parser {
         alloc,
@@ -106,7 +106,7 @@ pub fn parse_args<'a>(
 ) -> Result<(Vec<RawArg<'a>>, usize), SyntaxFault>
     requires there { at ≤ length tokens.now }
     requires open { depth ≤ 64 }
-    ensures answer { Parses args (64 - depth) (views tokens.now) end at (λ v. map view_arg v.items) result }
+    ensures answer { Parses args (64 - depth) (views tokens.now) end at view_args result }
 {
     let p = Parser {
         alloc,

@@ -1,11 +1,11 @@
 -- Looking one token ahead: what may begin a form, what may go on with one, and that tokens stand for one thing.
-use Rattle.std.proofs.Common.{◌≡◌, ℕ, zero, suc, Bool, true, false, ◌&&◌, ◌||◌, ◌⊎◌, inl, inr, List, [], ◌∷◌, ◌++◌, Option, None, Some, refl, sym, ◌∙◌, ap, subst}
+use Rattle.std.proofs.Common.{◌≡◌, ℕ, Bool, true, false, ◌&&◌, ◌||◌, ◌⊎◌, inl, inr, List, [], ◌∷◌, ◌++◌, Option, None, Some, refl, sym, ◌∙◌, ap, subst}
 use Rattle.std.proofs.lemmas.Bool.{false_from_ne_true, both_ways, and_from, or_left, or_right, cases_Bool}
 use Rattle.std.proofs.lemmas.List.{append_assoc, append-nil}
 use Rattle.rapid_lexer.specs.Tokens.{Lexeme}
 use Rattle.rapid_forms.specs.declared.sign.Sign.{Sign}
 use Rattle.rapid_forms.specs.Signs.{has, sign_of, begins_with}
-use Rattle.rapid_forms.specs.Forms.{Form, one, seq, either, optional, many, made, nothing, within, WholeEach, place}
+use Rattle.rapid_forms.specs.Forms.{Form, one, seq, either, optional, many, made, nothing, WholeEach, place}
 use Rattle.rapid_forms.proofs.Cuts.{Even, Shorter, Longer, cuts, both_empty, heads, behind, no_middle, no_front}
 use Rattle.rapid_forms.proofs.Sets.{apart, covered, when, has_apart, has_covered, has_left, has_right, has_when}
 
@@ -352,9 +352,3 @@ nothing_ll = record {
   goes = λ x ts t us w b. absurd w;
   only = λ x y ts w w'. absurd w;
 }
-
-pub within_ll : {A : Type 0} {null : Bool} {first more : List Sign} (F : ℕ → Form A) → ((m : ℕ) → LL null first more (F m))
-    → (n : ℕ) → LL null first more (within F n)
-unfolding within
-within_ll F l zero = nothing_ll
-within_ll F l (suc n) = l n

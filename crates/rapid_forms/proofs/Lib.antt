@@ -8,4 +8,8 @@ pub mod Opens
 pub mod Same
 pub mod Right
 pub mod Loops
+pub mod Pairs
+pub mod Placed
+pub mod Serves
+pub mod Arms
 pub mod Spelled

@@ -1,6 +1,6 @@
--- A loop that reads one form after another, with what it has read so far.
-use Rattle.std.proofs.Common.{◌≡◌, ℕ, zero, suc, ◌-◌, ◌≤◌, ◌<◌, true, false, if◌then◌else◌, List, [], ◌∷◌, ◌++◌, length, Ok, Err, refl, sym, ap, ◌∙◌, subst, arith}
-use Rattle.std.proofs.lemmas.List.{append_assoc, append-nil, length-drop, length-map}
+-- A loop that reads one form after another, with what it has read so far, also as views of the trees that it collects.
+use Rattle.std.proofs.Common.{◌≡◌, ℕ, zero, suc, ◌-◌, ◌≤◌, ◌<◌, true, false, if◌then◌else◌, List, [], ◌∷◌, ◌++◌, length, map, Ok, Err, refl, sym, ap, ◌∙◌, subst, arith}
+use Rattle.std.proofs.lemmas.List.{append_assoc, append-nil, length-drop, length-map, map_push}
 use Rattle.rapid_lexer.specs.Tokens.{Lexeme, view, views}
 use Rattle.rapid_forms.specs.declared.fault.SyntaxFault.{SyntaxFault}
 use Rattle.rapid_forms.specs.declared.fault.SyntaxFault.TheVariants.{Rule, Lex, Memory}
@@ -8,7 +8,7 @@ use Rattle.rapid_forms.specs.declared.sign.Sign.{Sign}
 use Rattle.rapid_forms.specs.declared.tokens.Tokens.{Tokens}
 use Rattle.rapid_forms.specs.Signs.{begins_with}
 use Rattle.rapid_forms.specs.Forms.{Form}
-use Rattle.rapid_forms.specs.Reading.{Halt, Read, Reader, then_read, many_within, many_read, Gives, rest_from}
+use Rattle.rapid_forms.specs.Reading.{Halt, Read, Reader, then_read, seq_read, made_read, many_within, many_read, Gives, rest_from}
 use Rattle.rapid_forms.proofs.Laws.{LL}
 use Rattle.rapid_forms.proofs.Right.{Right, Reads, less_left}
 
@@ -67,6 +67,21 @@ front_more xs x (Err h) = refl
 pub loop_more : {A : Type 0} {a : Reader A} → Takes a → (signs : List Sign) (xs : List A) (ts : List Lexeme) (x : A) (rest : List Lexeme) → begins_with signs ts ≡ true → a ts ≡ Ok (x, rest) → with_front xs (many_read signs a ts) ≡ with_front (xs ++ x ∷ []) (many_read signs a rest)
 unfolding then_read
 loop_more {a = a} t signs xs ts x rest h e = rw (many_opened t signs ts h, e) (front_more xs x (many_read signs a rest))
+
+-- One more tree is behind the others.
+pub loop_pushes : {X A : Type 0} {a : Reader A} → Takes a → (view : X → A) (signs : List Sign) (items : List X) (ts : List Lexeme) (x : X) (rest : List Lexeme) → begins_with signs ts ≡ true → a ts ≡ Ok (view x, rest) → with_front (map view (items ++ x ∷ [])) (many_read signs a rest) ≡ with_front (map view items) (many_read signs a ts)
+loop_pushes {a = a} t view signs items ts x rest h e =
+    ap (λ xs. with_front xs (many_read signs a rest)) (map_push view items x) ∙ sym (loop_more t signs (map view items) ts (view x) rest h e)
+
+front_first : {A : Type 0} (x : A) (read : Read (List A)) → with_front (x ∷ []) read ≡ then_read {A = A × List A} (then_read read λ xs left. Ok ((x, xs), left)) λ p left. Ok (p.0 ∷ p.1, left)
+unfolding with_front then_read
+front_first x (Ok p) = refl
+front_first x (Err h) = refl
+
+-- The loop begins behind a first one.
+pub loop_first : {A : Type 0} (e : Reader A) (more : Reader (List A)) (ts : List Lexeme) (x : A) (rest : List Lexeme) → e ts ≡ Ok (x, rest) → with_front (x ∷ []) (more rest) ≡ made_read (λ at p. p.0 ∷ p.1) (seq_read e more) ts
+unfolding made_read seq_read then_read
+loop_first e more ts x rest h = rw h (front_first x (more rest))
 
 -- The loop breaks off where one is not read.
 pub loop_stops : {A : Type 0} {a : Reader A} → Takes a → (signs : List Sign) (xs : List A) (ts : List Lexeme) (halt : Halt) → begins_with signs ts ≡ true → a ts ≡ Err halt → with_front xs (many_read signs a ts) ≡ Err halt

@@ -3,7 +3,7 @@ use Rattle.std.proofs.Common.{◌≡◌, ℕ, suc, true, inl, inr, List, [], ◌
 use Rattle.rapid_lexer.specs.Tokens.{Lexeme}
 use Rattle.rapid_forms.specs.declared.sign.Sign.{Sign}
 use Rattle.rapid_forms.specs.Signs.{has, sign_of}
-use Rattle.rapid_forms.specs.Forms.{Form, one, seq, either, optional, many, made, within}
+use Rattle.rapid_forms.specs.Forms.{Form, one, seq, either, optional, many, made}
 use Rattle.rapid_forms.proofs.Sets.{covered, has_cases, has_covered}
 
 -- F n is the form within n levels
@@ -57,10 +57,6 @@ many_opens o = record { opens = λ t h. let (m, b) = o.opens t h in (m, ([], [],
 pub made_opens : {A B : Type 0} {first : List Sign} {F : ℕ → Form A} (f : ℕ → A → B) → Opens first F → Opens first (λ n. made f (F n))
 unfolding made
 made_opens f o = record { opens = λ t h. o.opens t h }
-
-pub within_opens : {A : Type 0} {first : List Sign} {F : ℕ → Form A} → Opens first F → Opens first (within F)
-unfolding within
-within_opens o = record { opens = λ t h. let (m, b) = o.opens t h in (suc m, b) }
 
 -- a form that is, within a level more, what the signs open
 pub deeper_opens : {A : Type 0} {first : List Sign} (F : ℕ → Form A) → Opens first (λ n. F (suc n)) → Opens first F

@@ -6,13 +6,13 @@ use Rattle.std.proofs.lemmas.List.{append_assoc, append-nil, length-append}
 use Rattle.rapid_lexer.specs.Tokens.{Lexeme}
 use Rattle.rapid_forms.specs.declared.sign.Sign.{Sign}
 use Rattle.rapid_forms.specs.Signs.{has, sign_of, begins_with}
-use Rattle.rapid_forms.specs.Forms.{Form, one, seq, either, optional, many, made, nothing, within, place}
-use Rattle.rapid_forms.specs.Reading.{Fails, Deep, Read, Reader, then_read, one_read, seq_read, either_read, optional_read, many_within, many_read, made_read, nothing_read, within_read}
-use Rattle.rapid_forms.proofs.Laws.{LL, many_ll, within_ll}
+use Rattle.rapid_forms.specs.Forms.{Form, one, seq, either, optional, many, made, nothing, place}
+use Rattle.rapid_forms.specs.Reading.{Fails, Deep, Read, Reader, then_read, one_read, seq_read, either_read, optional_read, many_within, many_read, made_read, nothing_read}
+use Rattle.rapid_forms.proofs.Laws.{LL, many_ll}
 use Rattle.rapid_forms.proofs.Cuts.{Even, Shorter, Longer, cuts, behind, no_middle, no_front}
 use Rattle.rapid_forms.proofs.Sets.{apart, has_apart}
 use Rattle.rapid_forms.proofs.Up.{Up, seq_up, many_up}
-use Rattle.rapid_forms.proofs.Opens.{Opens, seq_opens, within_opens}
+use Rattle.rapid_forms.proofs.Opens.{Opens, seq_opens}
 use Rattle.rapid_forms.proofs.Same.{Same, either_swapped}
 
 -- the next token, if there is one, does not go on with the front
@@ -450,12 +450,6 @@ level_reads {F = F} {G = G} {n = n} {a = a} ra same = record { right = λ ts. le
 
 pub level_opens : {A : Type 0} {signs : List Sign} {F G : ℕ → Form A} → Opens signs F → ((m : ℕ) → G (suc m) ≡ F m) → Opens signs G
 level_opens o same = record { opens = λ t h. let (m, b) = o.opens t h in (suc m, rw (same m) b) }
-
--- premises: the form takes a token, and each first sign opens it
-pub within_reads : {A : Type 0} {first more : List Sign} {F : ℕ → Form A} → ((m : ℕ) → LL false first more (F m)) → Opens first F → (r : ℕ → Reader A) (n : ℕ) → ((k : ℕ) → k < n → Reads F k (r k)) → Reads (within F) n (within_read first r n)
-unfolding within within_read
-within_reads {F = F} lf o r zero reads = nothing_reads refl (within_ll F lf) (within_opens o)
-within_reads lf o r (suc n) reads = level_reads (reads n (omega arith)) (λ m. refl)
 
 -- A list is nothing, or one and a list: many is made of optional and seq, and what holds of those holds of it.
 join_list : {A : Type 0} → Option (A × List A) → List A

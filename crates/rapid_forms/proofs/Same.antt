@@ -1,8 +1,8 @@
 -- Forms that take the same tokens for the same things. Lines that begin alike are read with the common part taken out.
-use Rattle.std.proofs.Common.{◌≡◌, ℕ, zero, suc, Bool, false, ◌⊎◌, inl, inr, List, [], ◌∷◌, ◌++◌, Option, None, Some, refl, sym, ◌∙◌, ap, subst}
+use Rattle.std.proofs.Common.{◌≡◌, ℕ, Bool, false, ◌⊎◌, inl, inr, List, [], ◌∷◌, ◌++◌, Option, None, Some, refl, sym, ◌∙◌, ap, subst}
 use Rattle.rapid_lexer.specs.Tokens.{Lexeme}
 use Rattle.rapid_forms.specs.declared.sign.Sign.{Sign}
-use Rattle.rapid_forms.specs.Forms.{Form, seq, either, optional, many, made, nothing, within, place}
+use Rattle.rapid_forms.specs.Forms.{Form, seq, either, optional, many, made, place}
 use Rattle.rapid_forms.proofs.Cuts.{ahead, behind, no_front}
 use Rattle.rapid_forms.proofs.Laws.{LL}
 use Rattle.rapid_forms.proofs.Up.{Up, up_refl, up_trans, seq_up, either_up, optional_up, many_up, made_up}
@@ -34,11 +34,6 @@ many_same s = record { to = many_up s.to; back = many_up s.back }
 
 pub made_same : {A B : Type 0} {a a' : Form A} (f : ℕ → A → B) → Same a a' → Same (made f a) (made f a')
 made_same f s = record { to = made_up f s.to; back = made_up f s.back }
-
-pub within_same : {A : Type 0} (F G : ℕ → Form A) → ((m : ℕ) → Same (F m) (G m)) → (n : ℕ) → Same (within F n) (within G n)
-unfolding within
-within_same F G s zero = same_refl nothing
-within_same F G s (suc n) = s n
 
 swap : {A : Type 0} (a b : Form A) → Up (either a b) (either b a)
 unfolding either

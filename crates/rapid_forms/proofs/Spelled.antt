@@ -17,7 +17,7 @@ use Rattle.rapid_forms.proofs.Loops.{reads_take, taken_there}
 use Rattle.rapid_forms.proofs.Right.{Right, Reads, Ends}
 
 -- fewer tokens begin a form as well
-fewer : {A : Type 0} {null : Bool} {first more : List Sign} {f : Form A} → LL null first more f → (ts : List Lexeme) (i j : ℕ) → i ≤ j → f.Begun (take j ts) → f.Begun (take i ts)
+pub fewer : {A : Type 0} {null : Bool} {first more : List Sign} {f : Form A} → LL null first more f → (ts : List Lexeme) (i j : ℕ) → i ≤ j → f.Begun (take j ts) → f.Begun (take i ts)
 fewer {f = f} l ts i j le b =
     subst f.Begun (take-take i j ts le) (l.front (take i (take j ts)) (drop i (take j ts)) (subst f.Begun (sym (take-append-drop i (take j ts))) b))
 
@@ -25,11 +25,11 @@ fewer {f = f} l ts i j le b =
 neither_less : (j k : ℕ) → (j < k → ⊥) → (k < j → ⊥) → j ≡ k
 neither_less j k p q = elim (cases_order j k) [ inl e ↦ e | inr (inl l) ↦ absurd (p l) | inr (inr l) ↦ absurd (q l) ]
 
-longest_one : {A : Type 0} {F : ℕ → Form A} {ts : List Lexeme} {j k : ℕ} → IsLongest F ts j → IsLongest F ts k → j ≡ k
+pub longest_one : {A : Type 0} {F : ℕ → Form A} {ts : List Lexeme} {j k : ℕ} → IsLongest F ts j → IsLongest F ts k → j ≡ k
 longest_one {j = j} {k = k} h h' = neither_less j k (λ l. h.most k l h'.there h'.begins) (λ l. h'.most j l h.there h.begins)
 
 -- what begins within n levels up to the longest does not open a level too many
-longest_deep : {A : Type 0} {null : Bool} {first more : List Sign} {F : ℕ → Form A} {n : ℕ} {ts : List Lexeme} {j k : ℕ} → LL null first more (F n) → IsLongest F ts j → (F n).Begun (take j ts) → IsTooDeep F n ts k → ⊥
+pub longest_deep : {A : Type 0} {null : Bool} {first more : List Sign} {F : ℕ → Form A} {n : ℕ} {ts : List Lexeme} {j k : ℕ} → LL null first more (F n) → IsLongest F ts j → (F n).Begun (take j ts) → IsTooDeep F n ts k → ⊥
 longest_deep {ts = ts} {j = j} {k = k} l h b d = elim (cases_lt j (suc k)) [ inl less ↦ h.most (suc k) less d.there d.begins | inr le ↦ d.deep (fewer l ts (suc k) j le b) ]
 
 -- The answers exclude one another, and each of them is one.

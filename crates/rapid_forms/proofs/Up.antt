@@ -2,7 +2,7 @@
 use Rattle.std.proofs.Common.{◌≡◌, ℕ, zero, suc, ◌≤◌, inl, inr, List, [], ◌∷◌, None, Some, arith}
 use Rattle.std.proofs.Math.Nat.{eq-or-lt_of_le}
 use Rattle.rapid_lexer.specs.Tokens.{Lexeme}
-use Rattle.rapid_forms.specs.Forms.{Form, seq, either, optional, many, made, nothing, within, WholeEach}
+use Rattle.rapid_forms.specs.Forms.{Form, seq, either, optional, many, made, nothing, WholeEach}
 
 -- what is whole of f is whole of g, and what begins f begins g
 pub record Up {A : Type 0} (f g : Form A) : Type 0 where
@@ -57,13 +57,6 @@ made_up f p = record { whole = λ y ts w. (w.0, p.whole _ _ w.1, w.2); begun = p
 pub nothing_up : {A : Type 0} (f : Form A) → f.Begun [] → Up nothing f
 unfolding nothing
 nothing_up f s = record { whole = λ x ts w. absurd w; begun = λ ts e. rw e s }
-
--- premise: no token at all begins the form, at each level
-pub within_up : {A : Type 0} (F : ℕ → Form A) → ((m : ℕ) → (F m).Begun []) → ((m : ℕ) → Up (F m) (F (suc m))) → (n : ℕ)
-    → Up (within F n) (within F (suc n))
-unfolding within
-within_up F s p zero = nothing_up (F zero) (s zero)
-within_up F s p (suc n) = p n
 
 -- from one level to any above
 pub up_levels : {A : Type 0} (F : ℕ → Form A) → ((m : ℕ) → Up (F m) (F (suc m))) → (n m : ℕ) → n ≤ m → Up (F n) (F m)

@@ -1,6 +1,6 @@
 -- Forms of a grammar: which tokens are a whole one, and which begin one. A grammar is made of the forms below, each of
 -- which says both.
-use Rattle.std.specs.Prelude.{◌≡◌, ℕ, zero, suc, true, List, [], ◌∷◌, ◌++◌, Option, None, Some, ◌⊎◌}
+use Rattle.std.specs.Prelude.{◌≡◌, ℕ, true, List, [], ◌∷◌, ◌++◌, Option, None, Some, ◌⊎◌}
 use Rattle.rapid_lexer.specs.Tokens.{Lexeme}
 use Rattle.rapid_forms.specs.declared.sign.Sign.{Sign}
 use Rattle.rapid_forms.specs.Signs.{has, sign_of}
@@ -68,8 +68,3 @@ made {A} {B} f a = record {
 -- a form that no level is left for: not one token of it
 unfoldable pub nothing : {A : Type 0} → Form A
 nothing = record { Whole = λ x ts. ⊥; Begun = λ ts. ts ≡ [] }
-
--- a form that opens a level, within so many levels
-unfoldable pub within : {A : Type 0} → (ℕ → Form A) → ℕ → Form A
-within F zero = nothing
-within F (suc n) = F n

@@ -58,10 +58,6 @@ made_read f a ts = then_read (a ts) λ x rest. Ok (f (place ts) x, rest)
 unfoldable pub nothing_read : {A : Type 0} → List Sign → Reader A
 nothing_read signs ts = if begins_with signs ts then Err (Deep ts) else Err (Fails ts)
 
-unfoldable pub within_read : {A : Type 0} → List Sign → (ℕ → Reader A) → ℕ → Reader A
-within_read signs r zero = nothing_read signs
-within_read signs r (suc n) = r n
-
 -- the tokens from number `at` on
 abbrev pub rest_from : Tokens → ℕ → List Lexeme
 rest_from tokens at = drop at (views tokens.list.now)

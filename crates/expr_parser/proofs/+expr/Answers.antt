@@ -2,9 +2,8 @@ use Rattle.std.proofs.Common.{sym, ◌∙◌, map}
 use Rattle.std.proofs.lemmas.Result.{err_from_is_err_and}
 use Rattle.raw_trees.specs.Views.{view_arg, view_expr, view_step}
 use Rattle.rapid_forms.specs.Reading.{rest_from}
-use Rattle.rapid_forms.proofs.Loops.{front_none, loop_done, loop_fails, loop_smaller}
+use Rattle.rapid_forms.proofs.Loops.{front_none, loop_done, loop_fails, loop_smaller, loop_first, loop_pushes}
 use Rattle.expr_parser.specs.Reads.{args_read, exprs_read}
-use Rattle.expr_parser.proofs.Rounds.{loop_first, loop_pushes}
 use Rattle.expr_parser.proofs.Taking.{later_takes, more_expr_takes, step_takes}
 use Rattle.expr_parser.proofs.+expr.Goals as goal
 

@@ -8,21 +8,21 @@ use Rattle.built_forms.proofs.build.build_module.Goals as goal
 
 pub returns-in_default-main_of : goal.returns-in_default-main_of
 returns-in_default-main_of c =
-    let items = c.args.module.now.items.items in
+    let items = c.args.raw.now.items.items in
     let first = first_is items c.in-Some.first.now (c.in-Some.ensures.value ∙ ap (λ list. slice_get list 0) c.deref.ensures.value) in
     rw first (no_main _ _ _ c.item_place.ensures c.in_default-main_of.ensures)
 
 pub returns-in_err-list : goal.returns-in_err-list
 returns-in_err-list c =
-    let items = c.args.module.now.items.items in
+    let items = c.args.raw.now.items.items in
     let first = first_is items c.in-Some.first.now (c.in-Some.ensures.value ∙ ap (λ list. slice_get list 0) c.deref.ensures.value) in
     let main = c.in-Some-main_of.ensures in
     let p = err_from_is_err_and c.from_residual.result c.from_residual.ensures.1 in
-    rw (p.1, p.2) (fails (view_module c.args.module.now) _ _ c.in_err-list.field-0.0 (first ∙ ap (λ item. item ∷ map view_item (drop 1 items)) main.0) main.1 (λ at is. rw c.deref-2.ensures.value at c.in_err-list.ensures.fault at (ap Err is)))
+    rw (p.1, p.2) (fails (view_module c.args.raw.now) _ _ c.in_err-list.field-0.0 (first ∙ ap (λ item. item ∷ map view_item (drop 1 items)) main.0) main.1 (λ at is. rw c.deref-2.ensures.value at c.in_err-list.ensures.fault at (ap Err is)))
 
 pub returns-in-Some-get : goal.returns-in-Some-get
 returns-in-Some-get c =
-    let items = c.args.module.now.items.items in
+    let items = c.args.raw.now.items.items in
     let first = first_is items c.in-Some.first.now (c.in-Some.ensures.value ∙ ap (λ list. slice_get list 0) c.deref.ensures.value) in
     let main = c.in-Some-main_of.ensures in
     let next = c.in-Some-get.ensures.lookup in
@@ -31,7 +31,7 @@ returns-in-Some-get c =
 
 pub returns-in-None : goal.returns-in-None
 returns-in-None c =
-    let items = c.args.module.now.items.items in
+    let items = c.args.raw.now.items.items in
     let first = first_is items c.in-Some.first.now (c.in-Some.ensures.value ∙ ap (λ list. slice_get list 0) c.deref.ensures.value) in
     let main = c.in-Some-main_of.ensures in
     record {

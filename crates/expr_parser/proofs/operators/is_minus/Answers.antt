@@ -1,7 +1,7 @@
 use Rattle.std.proofs.Common.{sym}
 use Rattle.rapid_forms.specs.Signs.{has}
 use Rattle.expr_parser.specs.Operators.{is_minus}
-use Rattle.expr_parser.proofs.Arms.{not_there}
+use Rattle.rapid_forms.proofs.Arms.{not_there}
 use Rattle.expr_parser.proofs.operators.is_minus.Goals as goal
 
 pub returns-in-Minus : goal.returns-in-Minus

@@ -1,4 +1,4 @@
-use Rattle.expr_parser.proofs.Arms.{not_there, either_way}
+use Rattle.rapid_forms.proofs.Arms.{not_there, either_way}
 use Rattle.expr_parser.proofs.operators.operator_with.Goals as goal
 
 pub returns-in_default : goal.returns-in_default

@@ -1,6 +1,5 @@
-use Rattle.std.proofs.Common.{map}
 use Rattle.std.proofs.lemmas.Result.{err_from_is_err_and}
-use Rattle.raw_trees.specs.Views.{view_arg}
+use Rattle.expr_parser.specs.Parts.{view_args}
 use Rattle.expr_parser.proofs.Told.{found, refused, args_known}
 use Rattle.expr_parser.proofs.parse.parse_args.Goals as goal
 
@@ -11,4 +10,4 @@ returns-in_err-args c =
 
 pub returns : goal.returns
 returns c =
-    rw c.min.ensures record { answer = found (args_known _) (record { list = c.args.tokens; end = c.args.end }) c.args.at (λ v. map view_arg v.items) c.in_ok-args.args _ c.requires.there c.in_ok-args.ensures }
+    rw c.min.ensures record { answer = found (args_known _) (record { list = c.args.tokens; end = c.args.end }) c.args.at view_args c.in_ok-args.args _ c.requires.there c.in_ok-args.ensures }

@@ -1,6 +1,5 @@
-use Rattle.std.proofs.Common.{map}
 use Rattle.std.proofs.lemmas.Result.{err_from_is_err_and}
-use Rattle.raw_trees.specs.Views.{view_expr}
+use Rattle.expr_parser.specs.Parts.{view_exprs}
 use Rattle.expr_parser.proofs.Told.{found, refused, exprs_known}
 use Rattle.expr_parser.proofs.parse.parse_exprs.Goals as goal
 
@@ -11,4 +10,4 @@ returns-in_err-trees c =
 
 pub returns : goal.returns
 returns c =
-    rw c.min.ensures record { answer = found (exprs_known _) (record { list = c.args.tokens; end = c.args.end }) c.args.at (λ v. map view_expr v.items) c.in_ok-trees.trees _ c.requires.there c.in_ok-trees.ensures }
+    rw c.min.ensures record { answer = found (exprs_known _) (record { list = c.args.tokens; end = c.args.end }) c.args.at view_exprs c.in_ok-trees.trees _ c.requires.there c.in_ok-trees.ensures }

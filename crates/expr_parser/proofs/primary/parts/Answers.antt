@@ -2,10 +2,9 @@ use Rattle.std.proofs.Common.{sym, ◌∙◌, map}
 use Rattle.std.proofs.lemmas.Result.{err_from_is_err_and}
 use Rattle.raw_trees.specs.Views.{view_name}
 use Rattle.rapid_forms.specs.Reading.{rest_from}
-use Rattle.rapid_forms.proofs.Loops.{front_none, loop_done, loop_fails, loop_smaller}
+use Rattle.rapid_forms.proofs.Loops.{front_none, loop_done, loop_fails, loop_smaller, loop_pushes}
 use Rattle.expr_parser.specs.Reads.{part_read}
 use Rattle.expr_parser.proofs.Taking.{part_takes}
-use Rattle.expr_parser.proofs.Rounds.{loop_pushes}
 use Rattle.expr_parser.proofs.primary.parts.Goals as goal
 
 pub loop-list-init : goal.loop-list-init

@@ -1,5 +1,5 @@
 use Rattle.rapid_forms.specs.Reading.{made_read, then_read}
-use Rattle.expr_parser.proofs.Taking.{one_placed}
+use Rattle.rapid_forms.proofs.Placed.{one_placed}
 use Rattle.expr_parser.proofs.primary.quoted.Goals as goal
 
 pub returns : goal.returns
