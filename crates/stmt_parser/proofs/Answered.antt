@@ -1,5 +1,5 @@
 -- The readers of statements answer for their forms, within any number of levels.
-use Rattle.std.proofs.Common.{ℕ, zero, suc, ◌≤◌, Bool, true, false, List, [], ◌∷◌, ◌++◌, Option, refl}
+use Rattle.std.proofs.Common.{ℕ, zero, suc, ◌≤◌, Bool, true, false, List, [], ◌∷◌, ◌++◌, Option, None, Some, refl}
 use Rattle.rapid_lexer.specs.Tokens.{Lexeme}
 use Rattle.raw_trees.specs.Plain.{PlainExpr, PlainStmt}
 use Rattle.rapid_forms.specs.declared.sign.Sign.{Sign}
@@ -8,7 +8,7 @@ use Rattle.rapid_forms.specs.Forms.{Form, seq, optional, made}
 use Rattle.rapid_forms.specs.Reading.{Reader, seq_read, made_read, optional_read, many_read}
 use Rattle.rapid_forms.proofs.Sets.{when}
 use Rattle.rapid_forms.proofs.Up.{Up, up_levels, optional_up, made_up}
-use Rattle.rapid_forms.proofs.Opens.{one_opens, seq_opens, made_opens}
+use Rattle.rapid_forms.proofs.Opens.{Opens, one_opens, seq_opens, made_opens}
 use Rattle.rapid_forms.proofs.Same.{Same, same_refl, same_sym}
 use Rattle.rapid_forms.proofs.Right.{Reads, nothing_reads, level_reads, same_reads}
 use Rattle.expr_parser.specs.Grammar.{inside, mark, name, parts, parts_of, place, place_tree, expr, expr_of, exprs, args, behind, none_or}
@@ -18,7 +18,7 @@ use Rattle.expr_parser.proofs.Answered.{expr_above, expr_reads, exprs_reads, par
 use Rattle.stmt_parser.specs.Grammar.{goto_tree, return_tree, exit_tree, raise_tree, retry_tree, try_next_tree, connect_tree, arm_tree, for_tree, while_tree, case_tree, test_tree, simple, arm, loop_for, loop_while, case, choice, list_of, stmts, list, stmt, items}
 use Rattle.stmt_parser.specs.Reads.{worded_signs, stmt_signs, assigned_signs, named_simple_tree, named_tree, tested_tree, behind_read, if_read, assigned_read, called_read, behind_name_read, named_simple_read, named_read, goto_read, value_read, return_read, exit_read, raise_read, retry_read, try_next_read, connect_read, worded_read, simple_read, arm_read, arms_read, branched_read, tested_read, for_read, while_read, case_read, cases_read, default_read, test_read, stmt_of_read, list_read, stmt_read, items_read}
 use Rattle.stmt_parser.proofs.Ahead.{simple_signs, called_signs, assigned, called, behind_name, named_simple, named, worded, simple_joined, branched, tested, stmt_joined, simple_same, stmt_same, list_same, stmts_ll, list_ll, stmts_up, list_up, items_up, stmt_opens, stmts_opens}
-use Rattle.stmt_parser.proofs.Serves.{Serves, one_serves, larger_serves, same_serves, both_serve, made_serves, either_serves, optional_serves, many_serves, any_serves}
+use Rattle.rapid_forms.proofs.Serves.{Serves, one_serves, larger_serves, same_serves, both_serve, made_serves, either_serves, remade_serves, optional_serves, many_serves}
 
 -- from any number of levels to any above
 
@@ -30,6 +30,10 @@ list_above = up_levels list list_up
 
 pub items_above : (k m : ℕ) → k ≤ m → Up (items k) (items m)
 items_above = up_levels items items_up
+
+-- a list, or no token, which is the empty one; premise: each first sign opens the form
+pub any_serves : {A : Type 0} {first more : List Sign} {F : ℕ → Form (List A)} {n : ℕ} {a : Reader (List A)} → Serves false first more F n a → Opens first F → Serves true first (more ++ first) (λ m. made none_or (optional (F m))) n (made_read none_or (optional_read first a))
+any_serves x o = remade_serves none_or (optional_serves x o) (λ p q. elim [ None ↦ refl | Some xs ↦ refl ])
 
 module _ {n : ℕ} where
   -- what is read of expressions

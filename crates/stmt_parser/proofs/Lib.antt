@@ -1,5 +1,4 @@
 pub mod Ahead
-pub mod Serves
 pub mod Answered
 pub mod Told
 pub mod Least

@@ -1,19 +1,14 @@
 -- Lists of statements, and what the loops of functions read: one more takes a token each time.
-use Rattle.std.proofs.Common.{◌≡◌, ℕ, zero, suc, ◌-◌, ◌<◌, false, List, [], ◌∷◌, Ok, sym, ◌∙◌, arith}
+use Rattle.std.proofs.Common.{◌≡◌, ℕ, zero, suc, ◌-◌, ◌<◌, false, List, [], Ok, sym, ◌∙◌, arith}
 use Rattle.rapid_lexer.specs.Tokens.{Lexeme}
-use Rattle.rapid_forms.specs.declared.sign.Sign.{Sign}
 use Rattle.rapid_forms.specs.declared.sign.Sign.TheVariants as signs
 use Rattle.rapid_forms.specs.Signs.{begins_with}
-use Rattle.rapid_forms.specs.Forms.{Form}
-use Rattle.rapid_forms.specs.Reading.{Reader, made_read, optional_read, then_read}
-use Rattle.rapid_forms.proofs.Loops.{Takes, reads_take, front_none, loop_done}
+use Rattle.rapid_forms.specs.Reading.{made_read, optional_read, then_read}
+use Rattle.rapid_forms.proofs.Loops.{Takes, front_none, loop_done}
 use Rattle.expr_parser.specs.Reads.{inside_read}
 use Rattle.stmt_parser.specs.Reads.{stmt_signs, behind_read, arm_read, case_read, list_read, stmt_read, items_read}
-use Rattle.stmt_parser.proofs.Serves.{Serves}
+use Rattle.rapid_forms.proofs.Serves.{serves_take}
 use Rattle.stmt_parser.proofs.Answered.{list_reads, stmt_serves, arm_serves, case_serves, behind_serves}
-
-serves_take : {A : Type 0} {first more : List Sign} {F : ℕ → Form A} {n : ℕ} {a : Reader A} → Serves false first more F n a → Takes a
-serves_take {n = n} x = reads_take x.reads (x.ahead n)
 
 pub stmt_takes : (n : ℕ) → Takes (stmt_read n)
 unfolding stmt_read

@@ -12,11 +12,11 @@
 --            | CONNECT place WITH name ";"
 --
 -- Each list of statements opens a level of nesting.
-use Rattle.std.specs.Prelude.{ℕ, zero, suc, List, [], ◌∷◌, Option}
+use Rattle.std.specs.Prelude.{ℕ, zero, suc, List, ◌∷◌, Option}
 use Rattle.rapid_lexer.specs.Tokens.{Lexeme}
 use Rattle.raw_trees.specs.Plain.{PlainName, PlainExpr, PlainPlace, PlainArg, PlainStmt, Assign, Call, Label, Goto, Return, Exit, Raise, Retry, TryNext, Connect, If, IfOne, For, While, Test, args_of, stmts_of, arms_of, cases_of, else_of}
 use Rattle.rapid_forms.specs.declared.sign.Sign.TheVariants as signs
-use Rattle.rapid_forms.specs.Forms.{Form, one, seq, either, optional, many, made, nothing}
+use Rattle.rapid_forms.specs.Forms.{Form, seq, either, optional, many, made, nothing}
 use Rattle.expr_parser.specs.Grammar.{Inside, inside, mark, name, place, exprs, expr_of, behind, none_or, first_and_more}
 
 -- the trees that forms stand for, each at the byte of its first token

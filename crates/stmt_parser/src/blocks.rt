@@ -17,7 +17,7 @@ use raw_trees::{RawExpr, RawStmt};
 
 /// IF with lists, or with one statement.
 #[cycle(stmt)]
-#[tactic(auto, using(expr_parser::proofs::Taking::one_placed), unfolding(crate::specs::Reads::tested_read, rapid_forms::specs::Reading::made_read, rapid_forms::specs::Reading::seq_read, rapid_forms::specs::Reading::then_read, rapid_forms::specs::Reading::either_read))]
+#[tactic(auto, using(rapid_forms::proofs::Placed::one_placed), unfolding(crate::specs::Reads::tested_read, rapid_forms::specs::Reading::made_read, rapid_forms::specs::Reading::seq_read, rapid_forms::specs::Reading::then_read, rapid_forms::specs::Reading::either_read))]
 pub(crate) fn choice_or_one<'a>(
     p: &Parser<'_, 'a>,
     at: usize,
@@ -133,7 +133,7 @@ fn list_if_any<'a>(
 
 /// FOR.
 #[cycle(stmt)]
-#[tactic(auto, using(expr_parser::proofs::Taking::one_placed), unfolding(crate::specs::Reads::for_read, rapid_forms::specs::Reading::made_read, rapid_forms::specs::Reading::seq_read, rapid_forms::specs::Reading::then_read))]
+#[tactic(auto, using(rapid_forms::proofs::Placed::one_placed), unfolding(crate::specs::Reads::for_read, rapid_forms::specs::Reading::made_read, rapid_forms::specs::Reading::seq_read, rapid_forms::specs::Reading::then_read))]
 pub(crate) fn for_loop<'a>(
     p: &Parser<'_, 'a>,
     at: usize,
@@ -174,7 +174,7 @@ fn step_if_any<'a>(
 
 /// WHILE.
 #[cycle(stmt)]
-#[tactic(auto, using(expr_parser::proofs::Taking::one_placed), unfolding(crate::specs::Reads::while_read, rapid_forms::specs::Reading::made_read, rapid_forms::specs::Reading::seq_read, rapid_forms::specs::Reading::then_read))]
+#[tactic(auto, using(rapid_forms::proofs::Placed::one_placed), unfolding(crate::specs::Reads::while_read, rapid_forms::specs::Reading::made_read, rapid_forms::specs::Reading::seq_read, rapid_forms::specs::Reading::then_read))]
 pub(crate) fn while_loop<'a>(
     p: &Parser<'_, 'a>,
     at: usize,
@@ -192,7 +192,7 @@ pub(crate) fn while_loop<'a>(
 
 /// TEST.
 #[cycle(stmt)]
-#[tactic(auto, using(expr_parser::proofs::Taking::one_placed), unfolding(crate::specs::Reads::test_read, rapid_forms::specs::Reading::made_read, rapid_forms::specs::Reading::seq_read, rapid_forms::specs::Reading::then_read))]
+#[tactic(auto, using(rapid_forms::proofs::Placed::one_placed), unfolding(crate::specs::Reads::test_read, rapid_forms::specs::Reading::made_read, rapid_forms::specs::Reading::seq_read, rapid_forms::specs::Reading::then_read))]
 pub(crate) fn choice<'a>(
     p: &Parser<'_, 'a>,
     at: usize,

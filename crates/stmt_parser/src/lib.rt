@@ -3,9 +3,11 @@
 
 mod blocks;
 mod exprs;
+mod laws;
 mod list;
 mod named;
 mod parse;
 mod simple;
 
+pub use laws::one_list;
 pub use parse::parse_list;

@@ -58,7 +58,7 @@ pub(crate) fn worded<'a>(
     connect(p, at, left)
 }
 
-#[tactic(auto, using(expr_parser::proofs::Taking::one_placed), unfolding(crate::specs::Reads::goto_read, rapid_forms::specs::Reading::made_read, rapid_forms::specs::Reading::seq_read, rapid_forms::specs::Reading::then_read))]
+#[tactic(auto, using(rapid_forms::proofs::Placed::one_placed), unfolding(crate::specs::Reads::goto_read, rapid_forms::specs::Reading::made_read, rapid_forms::specs::Reading::seq_read, rapid_forms::specs::Reading::then_read))]
 fn goto<'a>(p: &Parser<'_, 'a>, at: usize) -> Result<(RawStmt<'a>, usize), SyntaxFault>
     ensures { Gives p.now.tokens view_stmt result (goto_read (rest_from p.now.tokens at)) }
 {
@@ -68,7 +68,7 @@ fn goto<'a>(p: &Parser<'_, 'a>, at: usize) -> Result<(RawStmt<'a>, usize), Synta
     Ok((RawStmt::goto(word.at, name), end))
 }
 
-#[tactic(auto, using(expr_parser::proofs::Taking::one_placed), unfolding(crate::specs::Reads::return_read, rapid_forms::specs::Reading::made_read, rapid_forms::specs::Reading::seq_read, rapid_forms::specs::Reading::then_read))]
+#[tactic(auto, using(rapid_forms::proofs::Placed::one_placed), unfolding(crate::specs::Reads::return_read, rapid_forms::specs::Reading::made_read, rapid_forms::specs::Reading::seq_read, rapid_forms::specs::Reading::then_read))]
 fn returns<'a>(
     p: &Parser<'_, 'a>,
     at: usize,
@@ -83,7 +83,7 @@ fn returns<'a>(
     Ok((RawStmt::returns(word.at, value), end))
 }
 
-#[tactic(auto, using(expr_parser::proofs::Taking::one_placed), unfolding(crate::specs::Reads::exit_read, rapid_forms::specs::Reading::made_read, rapid_forms::specs::Reading::seq_read, rapid_forms::specs::Reading::then_read))]
+#[tactic(auto, using(rapid_forms::proofs::Placed::one_placed), unfolding(crate::specs::Reads::exit_read, rapid_forms::specs::Reading::made_read, rapid_forms::specs::Reading::seq_read, rapid_forms::specs::Reading::then_read))]
 fn exit<'a>(p: &Parser<'_, 'a>, at: usize) -> Result<(RawStmt<'a>, usize), SyntaxFault>
     ensures { Gives p.now.tokens view_stmt result (exit_read (rest_from p.now.tokens at)) }
 {
@@ -92,7 +92,7 @@ fn exit<'a>(p: &Parser<'_, 'a>, at: usize) -> Result<(RawStmt<'a>, usize), Synta
     Ok((RawStmt::exit(word.at), end))
 }
 
-#[tactic(auto, using(expr_parser::proofs::Taking::one_placed), unfolding(crate::specs::Reads::raise_read, rapid_forms::specs::Reading::made_read, rapid_forms::specs::Reading::seq_read, rapid_forms::specs::Reading::then_read))]
+#[tactic(auto, using(rapid_forms::proofs::Placed::one_placed), unfolding(crate::specs::Reads::raise_read, rapid_forms::specs::Reading::made_read, rapid_forms::specs::Reading::seq_read, rapid_forms::specs::Reading::then_read))]
 fn raise<'a>(p: &Parser<'_, 'a>, at: usize, left: u32) -> Result<(RawStmt<'a>, usize), SyntaxFault>
     requires { left ≤ 64 }
     ensures { Gives p.now.tokens view_stmt result (raise_read (inside_read left) (rest_from p.now.tokens at)) }
@@ -103,7 +103,7 @@ fn raise<'a>(p: &Parser<'_, 'a>, at: usize, left: u32) -> Result<(RawStmt<'a>, u
     Ok((RawStmt::raise(word.at, value), end))
 }
 
-#[tactic(auto, using(expr_parser::proofs::Taking::one_placed), unfolding(crate::specs::Reads::retry_read, rapid_forms::specs::Reading::made_read, rapid_forms::specs::Reading::seq_read, rapid_forms::specs::Reading::then_read))]
+#[tactic(auto, using(rapid_forms::proofs::Placed::one_placed), unfolding(crate::specs::Reads::retry_read, rapid_forms::specs::Reading::made_read, rapid_forms::specs::Reading::seq_read, rapid_forms::specs::Reading::then_read))]
 fn retry<'a>(p: &Parser<'_, 'a>, at: usize) -> Result<(RawStmt<'a>, usize), SyntaxFault>
     ensures { Gives p.now.tokens view_stmt result (retry_read (rest_from p.now.tokens at)) }
 {
@@ -112,7 +112,7 @@ fn retry<'a>(p: &Parser<'_, 'a>, at: usize) -> Result<(RawStmt<'a>, usize), Synt
     Ok((RawStmt::retry(word.at), end))
 }
 
-#[tactic(auto, using(expr_parser::proofs::Taking::one_placed), unfolding(crate::specs::Reads::try_next_read, rapid_forms::specs::Reading::made_read, rapid_forms::specs::Reading::seq_read, rapid_forms::specs::Reading::then_read))]
+#[tactic(auto, using(rapid_forms::proofs::Placed::one_placed), unfolding(crate::specs::Reads::try_next_read, rapid_forms::specs::Reading::made_read, rapid_forms::specs::Reading::seq_read, rapid_forms::specs::Reading::then_read))]
 fn try_next<'a>(p: &Parser<'_, 'a>, at: usize) -> Result<(RawStmt<'a>, usize), SyntaxFault>
     ensures { Gives p.now.tokens view_stmt result (try_next_read (rest_from p.now.tokens at)) }
 {
@@ -121,7 +121,7 @@ fn try_next<'a>(p: &Parser<'_, 'a>, at: usize) -> Result<(RawStmt<'a>, usize), S
     Ok((RawStmt::try_next(word.at), end))
 }
 
-#[tactic(auto, using(expr_parser::proofs::Taking::one_placed), unfolding(crate::specs::Reads::connect_read, rapid_forms::specs::Reading::made_read, rapid_forms::specs::Reading::seq_read, rapid_forms::specs::Reading::then_read))]
+#[tactic(auto, using(rapid_forms::proofs::Placed::one_placed), unfolding(crate::specs::Reads::connect_read, rapid_forms::specs::Reading::made_read, rapid_forms::specs::Reading::seq_read, rapid_forms::specs::Reading::then_read))]
 fn connect<'a>(
     p: &Parser<'_, 'a>,
     at: usize,

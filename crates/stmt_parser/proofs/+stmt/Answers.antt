@@ -2,8 +2,7 @@ use Rattle.std.proofs.Common.{sym, ◌∙◌, map}
 use Rattle.std.proofs.lemmas.Result.{err_from_is_err_and}
 use Rattle.raw_trees.specs.Views.{view_arm, view_case, view_list, view_stmt}
 use Rattle.rapid_forms.specs.Reading.{rest_from}
-use Rattle.rapid_forms.proofs.Loops.{with_front, front_none, loop_done, loop_fails, loop_smaller}
-use Rattle.expr_parser.proofs.Rounds.{loop_pushes}
+use Rattle.rapid_forms.proofs.Loops.{with_front, front_none, loop_done, loop_fails, loop_smaller, loop_pushes}
 use Rattle.stmt_parser.specs.Reads.{arms_read, cases_read, items_read}
 use Rattle.stmt_parser.proofs.Lists.{arm_takes, case_takes, stmt_takes}
 use Rattle.stmt_parser.proofs.+stmt.Goals as goal

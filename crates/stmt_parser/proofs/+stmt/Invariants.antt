@@ -1,4 +1,4 @@
-use Rattle.std.proofs.Common.{◌≡◌, ℕ, ◌+◌, ◌-◌, ◌*◌, [], ◌∷◌, length, map, Ok}
+use Rattle.std.proofs.Common.{◌≡◌, ◌+◌, ◌-◌, ◌*◌, [], ◌∷◌, length, map, Ok}
 use Rattle.raw_trees.specs.Views.{view_arm, view_case, view_list}
 use Rattle.rapid_forms.specs.declared.sign.Sign.TheVariants as signs
 use Rattle.rapid_forms.specs.Reading.{many_read, rest_from, then_read}

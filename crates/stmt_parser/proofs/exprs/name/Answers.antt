@@ -1,6 +1,6 @@
 use Rattle.rapid_forms.specs.Reading.{made_read, then_read}
 use Rattle.expr_parser.specs.Reads.{name_read}
-use Rattle.expr_parser.proofs.Taking.{one_placed}
+use Rattle.rapid_forms.proofs.Placed.{one_placed}
 use Rattle.stmt_parser.proofs.exprs.name.Goals as goal
 
 pub returns : goal.returns
