@@ -1,56 +1,39 @@
 -- The definitions on small scripts, worked by hand.
-use Rattle.std.proofs.Common.{◌≡◌, [], ◌∷◌, codes, Some, None, refl, ℤ}
-use Rattle.std.specs.Prelude.{pos, negsuc}
-use Rattle.rapid_num.specs.declared.joints.Joints.{Joints}
+use Rattle.std.proofs.Common.{◌≡◌, ℕ, [], ◌∷◌, codes, None, Ok, Err, refl}
+use Rattle.std.specs.Prelude.{pos}
 use Rattle.toml.specs.Data.{Data, string, integer, array, table, no_items, item, Members, no_members, member}
-use Rattle.toml.specs.Parse.{parse_document}
-use Rattle.toml.proofs.OnLiterals.{toml_on_literals}
-use Rattle.cell_script.specs.FirstForm.{name_of, file_of, angle_of, version_of, script_of_table}
+use Rattle.rapid_model.specs.declared.script_rule.ScriptRule.TheVariants.{NoKey, Range, UnknownKey}
+use Rattle.cell_script.specs.Rows.{task_of}
+use Rattle.cell_script.specs.ScriptOf.{script_of_keys, script_of}
 
-abbrev six : Data → Data
-six d = array (item d (item d (item d (item d (item d (item d no_items))))))
+-- a task with these further keys, of which each comes before `modules`
+abbrev task : (Members → Members) → Data
+task more = table (more (member (codes "modules") (array (item (string (codes "a.mod")) no_items)) (member (codes "name") (string (codes "A")) no_members)))
 
-abbrev task : Data
-task = table (member (codes "arm") (six (integer (pos 0)))
-    (member (codes "modules") (array (item (string (codes "a.mod")) no_items))
-    (member (codes "name") (string (codes "A")) no_members)))
+abbrev script : Data → (Members → Members) → Members
+script row more = member (codes "task") (array (item row no_items)) (member (codes "version") (integer (pos 1)) (more no_members))
 
-abbrev script : Members
-script = member (codes "task") (array (item task no_items)) (member (codes "version") (integer (pos 1)) no_members)
+abbrev nothing_more : Members → Members
+nothing_more members = members
 
-abbrev absent : ℤ
-absent = pos 9_000_000_000_000
-
-abbrev rest : Joints
-rest = record { axis = pos 0 ∷ pos 0 ∷ pos 0 ∷ pos 0 ∷ pos 0 ∷ pos 0 ∷ absent ∷ absent ∷ absent ∷ absent ∷ absent ∷ absent ∷ [] }
-
-text_of_one_task : parse_document (codes "version = 1\n[[task]]\nname = \"A\"\nmodules = [\"a.mod\"]\narm = [0,0,0,0,0,0]\n") ≡ Some script
-unfolding toml_on_literals
-text_of_one_task = refl
-
-one_task : script_of_table script ≡ Some (record { steps = 100_000; tasks = record { name = 65 ∷ []; modules = (97 ∷ 46 ∷ 109 ∷ 111 ∷ 100 ∷ []) ∷ []; arm = Some rest } ∷ [] })
+one_task : script_of (script (task nothing_more) nothing_more)
+    ≡ Ok (record { steps = 100_000; signals = []; tasks = record { name = codes "A"; modules = codes "a.mod" ∷ []; arm = None } ∷ []; pers = []; zones = []; inputs = [] })
+unfolding script_of_keys task_of
 one_task = refl
 
-two_tasks : script_of_table (member (codes "task") (array (item task (item task no_items))) (member (codes "version") (integer (pos 1)) no_members)) ≡ None
-two_tasks = refl
+an_arm_of_one : script_of (script (task (member (codes "arm") (array (item (integer (pos 0)) no_items)))) nothing_more) ≡ Err (record { key = codes "task[0].arm"; rule = Range })
+unfolding script_of_keys task_of
+an_arm_of_one = refl
 
-an_extra_key : script_of_table (member (codes "steps") (integer (pos 9)) script) ≡ None
-an_extra_key = refl
+an_unknown_key : script_of (script (task nothing_more) (member (codes "zones") (integer (pos 1)))) ≡ Err (record { key = codes "zones"; rule = UnknownKey })
+unfolding script_of_keys task_of
+an_unknown_key = refl
 
-version_2 : version_of (integer (pos 2)) ≡ None
-version_2 = refl
+-- the key of an element comes before the script's own unknown ones
+an_unknown_key_of_a_task : script_of (script (task (member (codes "base") (integer (pos 1)))) (member (codes "zones") (integer (pos 1)))) ≡ Err (record { key = codes "task[0].base"; rule = UnknownKey })
+unfolding script_of_keys task_of
+an_unknown_key_of_a_task = refl
 
-digit_first : name_of (string (codes "1A")) ≡ None
-digit_first = refl
-
-with_underscore : name_of (string (codes "A_1")) ≡ Some (65 ∷ 95 ∷ 49 ∷ [])
-with_underscore = refl
-
-no_file : file_of (string []) ≡ None
-no_file = refl
-
-largest_angle : angle_of (integer (negsuc 719_999)) ≡ Some (negsuc 719_999)
-largest_angle = refl
-
-past_largest_angle : angle_of (integer (negsuc 720_000)) ≡ None
-past_largest_angle = refl
+no_version : script_of no_members ≡ Err (record { key = codes "version"; rule = NoKey })
+unfolding script_of_keys
+no_version = refl

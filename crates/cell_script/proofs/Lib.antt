@@ -1,6 +1,16 @@
-mod Arms
-mod Cells
-mod Chains
-mod Entries
-mod Examples
-mod Tasks
+pub mod Arms
+pub mod Cells
+pub mod EachRow
+pub mod Examples
+pub mod Faults
+pub mod Items
+pub mod Keeps
+pub mod KeepsNames
+pub mod KeepsRows
+pub mod Known
+pub mod Limits
+pub mod LimitsInput
+pub mod LimitsScript
+pub mod LimitsZone
+pub mod Named
+pub mod Shown

@@ -3,3 +3,4 @@ pub mod Keys
 pub mod Rows
 pub mod ScriptOf
 pub mod Gives
+pub mod Parts

@@ -100,7 +100,7 @@ pers_of before d = do
   index ← optional None (λ i. whole_at (at keys (codes "index")) 1 1_000 i >>= (λ index. Ok (Some index))) (value_of keys (codes "index"))
   value ← given_value keys (value_of keys (codes "num")) (value_of keys (codes "bool")) (value_of keys (codes "text"))
   only_keys keys (codes "name" ∷ codes "index" ∷ codes "num" ∷ codes "bool" ∷ codes "text" ∷ [])
-    (Ok (record { name = name; index = index; value = value }))
+      (Ok (record { name = name; index = index; value = value }))
 
 -- the number of a task with an arm
 abbrev pub armed_task_at : List ℕ → List ScriptTask → Data → Read ℕ
@@ -167,7 +167,7 @@ zone_of signals tasks before d = do
   signal ← needed keys (codes "signal") >>= number_at (at keys (codes "signal")) (map (λ row. row.name) signals)
   value ← needed keys (codes "value") >>= bit_at (at keys (codes "value"))
   only_keys keys (codes "name" ∷ codes "task" ∷ codes "kind" ∷ codes "axes" ∷ codes "low" ∷ codes "high" ∷ codes "signal" ∷ codes "value" ∷ [])
-    (Ok (record { name = name; task = task; shape = shape_of inside axes lows highs; signal = signal; value = value }))
+      (Ok (record { name = name; task = task; shape = shape_of inside axes lows highs; signal = signal; value = value }))
 
 -- the number of an input signal
 abbrev pub input_signal_at : List ℕ → List SignalRow → Data → Read ℕ
@@ -182,7 +182,7 @@ input_of signals tasks before d = do
   value ← needed keys (codes "value") >>= bit_at (at keys (codes "value"))
   when ← pair_at keys (codes "when") (codes "is") (number_at (at keys (codes "when")) (map (λ row. row.name) signals)) (bit_at (at keys (codes "is")))
   given ← pair_at keys (codes "task") (codes "setpoints") (number_at (at keys (codes "task")) (map (λ task. task.name) tasks))
-    (whole_at (at keys (codes "setpoints")) 0 1_000_000)
+      (whole_at (at keys (codes "setpoints")) 0 1_000_000)
   after ← optional None (λ a. whole_at (at keys (codes "after")) 0 1_000_000 a >>= (λ after. Ok (Some after))) (value_of keys (codes "after"))
   only_keys keys (codes "signal" ∷ codes "value" ∷ codes "when" ∷ codes "is" ∷ codes "task" ∷ codes "setpoints" ∷ codes "after" ∷ [])
-    (Ok (record { signal = signal; value = value; when = when; given = given; after = after }))
+      (Ok (record { signal = signal; value = value; when = when; given = given; after = after }))

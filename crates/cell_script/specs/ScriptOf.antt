@@ -27,7 +27,7 @@ script_of_keys keys = do
   zones ← optional [] (λ d. rows_at (codes "zone") 0 16 d >>= each_row (zone_of signals tasks) []) (value_of keys (codes "zone"))
   inputs ← optional [] (λ d. rows_at (codes "input") 0 10_000 d >>= each_row (input_of signals tasks) []) (value_of keys (codes "input"))
   only_keys keys (codes "version" ∷ codes "steps" ∷ codes "signal" ∷ codes "task" ∷ codes "pers" ∷ codes "zone" ∷ codes "input" ∷ [])
-    (Ok (record { steps = steps; signals = signals; tasks = tasks; pers = pers; zones = zones; inputs = inputs }))
+      (Ok (record { steps = steps; signals = signals; tasks = tasks; pers = pers; zones = zones; inputs = inputs }))
 
 abbrev pub script_of : Members → Read ScriptData
 script_of members = script_of_keys (record { path = []; members = members })

@@ -1,14 +1,21 @@
 //! Cell scripts: which texts are one, and the script that they spell.
 #![tactic(auto)]
 
-mod arm;
+mod angle;
 mod cell;
 mod fault;
+mod input;
 mod keys;
+mod list;
 mod name;
-mod refusal;
+mod path;
+mod pers;
+mod plain;
 mod script;
+mod shape;
+mod signal;
 mod task;
+mod zone;
 
 pub use cell::make_cell;
 pub use fault::ScriptFault;

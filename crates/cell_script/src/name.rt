@@ -1,22 +1,37 @@
-ghost use Rattle.std.specs.Prelude.{◌≡◌, IsTrue};
-ghost use Rattle.std.specs.List.{list_all};
+//! Names of the script: their form, and the rows that they name.
+
+ghost use Rattle.std.specs.Prelude.{◌≡◌, IsTrue, map, position};
+ghost use Rattle.std.specs.List.{list_all, list_any};
+ghost use Rattle.std.specs.Str.{str_eq_ignore_ascii_case};
 ghost use Rattle.toml.specs.View.{view};
 ghost use Rattle.rapid_model.specs.Names.{is_letter, is_name_byte, is_name};
-ghost use Rattle.cell_script.specs.FirstForm.{name_of};
+ghost use Rattle.cell_script.specs.Keys.{at, name_at};
+ghost use Rattle.cell_script.specs.Gives.{Gives, view_keys};
 
-use rapid_model::NameText;
+use crate::fault::ScriptFault;
+use crate::keys::TableKeys;
+use crate::plain::text_at;
+use rapid_lexer::is_reserved;
+use rapid_model::{NameText, ScriptRule};
 use toml::Value;
 
-/// The name of a task.
-pub(crate) fn read_name(value: &Value) -> Option<NameText>
-    ensures { result ≡ name_of (view value.now) }
+/// A name that is no reserved word.
+pub(crate) fn name_at(
+    keys: &TableKeys<'_>,
+    key: &str,
+    value: &Value,
+) -> Result<NameText, ScriptFault>
+    ensures { Gives (λ name. name) result (name_at (at (view_keys keys.now) key.now) (view value.now)) }
 {
-    let bytes = value.as_str()?.as_bytes();
-    if is_name(bytes) {
-        Some(copy_name(bytes))
-    } else {
-        None
+    let text = text_at(keys, key, value)?;
+    let bytes = text.as_bytes();
+    if !is_name(bytes) {
+        return Err(keys.broken(key, ScriptRule::Name));
     }
+    if is_reserved(bytes) {
+        return Err(keys.broken(key, ScriptRule::Name));
+    }
+    Ok(copy_name(bytes))
 }
 
 fn copy_name(bytes: &[u8]) -> NameText
@@ -30,6 +45,7 @@ fn copy_name(bytes: &[u8]) -> NameText
     name
 }
 
+/// The form of a name (RAPID Kernel, identifiers): a letter, then letters, digits and underscores, at most 32 in all.
 fn is_name(bytes: &[u8]) -> bool
     ensures { result ≡ is_name bytes.now }
 {
@@ -55,4 +71,11 @@ fn is_letter(byte: u8) -> bool
     ensures { result ≡ is_letter byte }
 {
     (65..=90).contains(&byte) || (97..=122).contains(&byte)
+}
+
+/// Whether a text is this name, its letters in either case.
+pub(crate) fn is_same_name(text: &[u8], name: &NameText) -> bool
+    ensures { result ≡ str_eq_ignore_ascii_case text.now name.now }
+{
+    text.eq_ignore_ascii_case(name.bytes())
 }

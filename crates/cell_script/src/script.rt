@@ -1,81 +1,100 @@
-ghost use Rattle.std.specs.Prelude.{◌≡◌, IfOk, IfErr, Ok, [], IsOk, is_some, codes, option_and_then};
-ghost use Rattle.toml.specs.Data.{get_member};
-ghost use Rattle.toml.specs.View.{view, table_view};
-ghost use Rattle.cell_script.specs.FirstForm.{only_item, task_of, version_of, script_of_table};
-ghost use Rattle.cell_script.specs.Reading.{Gives};
-ghost use Rattle.cell_script.specs.ScriptOf.{ScriptOf, FaultOf};
+//! The whole script.
+
+ghost use Rattle.std.specs.Prelude.{◌≡◌, IfOk, IfErr, Ok, [], codes};
+ghost use Rattle.toml.specs.View.{table_view};
+ghost use Rattle.cell_script.specs.declared.fault.ScriptFault.TheVariants.{Rule};
+ghost use Rattle.rapid_model.specs.declared.script_rule.ScriptRule.TheVariants.{NotToml};
+ghost use Rattle.cell_script.specs.Keys.{at, optional, value_of, whole_at};
+ghost use Rattle.cell_script.specs.Parts.{needed_whole};
+ghost use Rattle.cell_script.specs.ScriptOf.{default_steps, script_of, script_of_keys, ScriptOf, FaultOf};
+ghost use Rattle.cell_script.specs.Gives.{Gives, view_keys};
 
 use crate::fault::ScriptFault;
-use crate::keys::{count_keys, read_only_item, value_at};
-use crate::refusal::Refusal;
-use crate::task::read_task;
-use rapid_model::{Script, ScriptRule, ScriptTask, Sequence, Text};
+use crate::input::inputs_in;
+use crate::keys::TableKeys;
+use crate::path::Path;
+use crate::pers::values_in;
+use crate::plain::whole_at;
+use crate::signal::signals_in;
+use crate::task::tasks_in;
+use crate::zone::zones_in;
+use rapid_model::{Script, ScriptRule, Sequence, Text};
 use std::alloc::Global;
-use toml::{Table, Value};
+use toml::Table;
 
-/// The script that the text spells. Its first form has exactly the keys `version`, the integer 1, and `task`, an array of
-/// one table with exactly `name`, `modules` (an array of one text of 1 to 255 bytes) and `arm` (six integers, thousandths
-/// of a degree, each of at most 720000 in size).
+/// The script that a text spells, or the first rule that it breaks, with its key. The keys of a table are checked in the
+/// order of its row: of the script `version` (1), `steps` (1 to 1000000, 100000 where it is not given), `signal`, `task`,
+/// `pers`, `zone` and `input`; each element with all its keys before the next; a key that is not known last.
 pub fn read_script(alloc: Global, text: &[u8]) -> Result<Script, ScriptFault>
     ensures spelled { IfOk result (λ script. ScriptOf text.now (Ok script)) }
     // The key and the rule, exactly where the text breaks it.
     ensures refused { IfErr result (FaultOf text.now) }
 {
     let Ok(text) = std::str::from_utf8(text) else {
-        return Err(broken(ScriptRule::NotToml));
+        return Err(no_toml());
     };
     match toml::table_from_str(alloc, text) {
-        Ok(table) => match read_table(alloc, &table) {
-            Ok(script) => Ok(script),
-            Err(Refusal::NotBuilt) => Err(broken(ScriptRule::NotBuilt)),
-            Err(Refusal::Memory) => Err(ScriptFault::Memory),
-        },
+        Ok(table) => read_table(alloc, &table),
         Err(error) if error.is_memory() => Err(ScriptFault::Memory),
-        Err(_) => Err(broken(ScriptRule::NotToml)),
+        Err(_) => Err(no_toml()),
     }
 }
 
-/// The rule broken by the script as a whole.
-fn broken(rule: ScriptRule) -> ScriptFault
-    ensures { result ≡ ScriptFault.Rule [] rule }
+/// The text as a whole is no TOML.
+fn no_toml() -> ScriptFault
+    ensures { result ≡ Rule [] NotToml }
 {
     ScriptFault::Rule {
         key: Text::new(),
-        rule,
+        rule: ScriptRule::NotToml,
     }
 }
 
-/// A script: exactly the keys version and task.
-fn read_table(alloc: Global, keys: &Table) -> Result<Script, Refusal>
-    ensures { Gives result (script_of_table (table_view keys.now)) }
+#[tactic(auto, unfolding(crate::specs::ScriptOf::script_of_keys))]
+fn read_table(alloc: Global, table: &Table) -> Result<Script, ScriptFault>
+    ensures { Gives (λ script. script) result (script_of (table_view table.now)) }
 {
-    if count_keys(keys) != 2 || !has_version(keys) {
-        return Err(Refusal::NotBuilt);
-    }
-    let task = task_in(alloc, keys)?;
-    Ok(Script {
-        steps: 100_000,
-        tasks: Sequence::from_vec(vec![in alloc; task]?),
-    })
+    let keys = TableKeys {
+        path: Path::Script,
+        table,
+    };
+    check_version(&keys)?;
+    let steps = steps_of(&keys)?;
+    let signals = signals_in(alloc, &keys)?;
+    let tasks = tasks_in(alloc, &keys)?;
+    let pers = values_in(alloc, &keys)?;
+    let zones = zones_in(alloc, &keys, &signals, &tasks)?;
+    let inputs = inputs_in(alloc, &keys, &signals, &tasks)?;
+    let script = Script {
+        steps,
+        signals: Sequence::from_vec(signals),
+        tasks: Sequence::from_vec(tasks),
+        pers: Sequence::from_vec(pers),
+        zones: Sequence::from_vec(zones),
+        inputs: Sequence::from_vec(inputs),
+    };
+    keys.only(
+        &[
+            "version", "steps", "signal", "task", "pers", "zone", "input",
+        ],
+        script,
+    )
 }
 
-fn task_in(alloc: Global, keys: &Table) -> Result<ScriptTask, Refusal>
-    ensures { Gives result (option_and_then task_of (option_and_then only_item (get_member (codes "task") (table_view keys.now)))) }
+/// The version of the format: 1.
+fn check_version(keys: &TableKeys<'_>) -> Result<u32, ScriptFault>
+    ensures { Gives (λ version. version) result (needed_whole (view_keys keys.now) (codes "version") 1 1) }
 {
-    match value_at(keys, "task") {
-        Some(tasks) => match read_only_item(tasks) {
-            Some(task) => read_task(alloc, task),
-            None => Err(Refusal::NotBuilt),
-        },
-        None => Err(Refusal::NotBuilt),
-    }
+    let value = keys.needed("version")?;
+    whole_at(keys, "version", 1, 1, value)
 }
 
-fn has_version(keys: &Table) -> bool
-    ensures { result ≡ is_some (option_and_then version_of (get_member (codes "version") (table_view keys.now))) }
+/// How many events are counted at most.
+fn steps_of(keys: &TableKeys<'_>) -> Result<u32, ScriptFault>
+    ensures { Gives (λ steps. steps) result (optional default_steps (whole_at (at (view_keys keys.now) (codes "steps")) 1 1_000_000) (value_of (view_keys keys.now) (codes "steps"))) }
 {
-    match value_at(keys, "version") {
-        Some(version) => version.as_integer() == Some(1),
-        None => false,
+    match keys.value("steps") {
+        Some(steps) => whole_at(keys, "steps", 1, 1_000_000, steps),
+        None => Ok(100_000),
     }
 }

@@ -1,68 +1,178 @@
-ghost use Rattle.std.specs.Prelude.{◌≡◌, codes, option_and_then};
-ghost use Rattle.toml.specs.Data.{get_member};
-ghost use Rattle.toml.specs.View.{view, table_view};
-ghost use Rattle.cell_script.specs.FirstForm.{only_item, name_of, file_of, arm_of, task_of};
-ghost use Rattle.cell_script.specs.Reading.{Gives};
+//! The tasks of the cell.
 
-use crate::arm::read_arm;
-use crate::keys::{count_keys, read_only_item, value_at};
-use crate::name::read_name;
-use crate::refusal::Refusal;
-use rapid_model::{FileName, NameText, ScriptTask, Sequence};
-use rapid_num::Joints;
+ghost use Rattle.std.specs.Prelude.{◌≡◌, ◌++◌, ◌==◌, ◌&&◌, [], codes, map, length, position, Some, None, IfSome, ◌<◌, ◌≤◌, if◌then◌else◌};
+ghost use Rattle.std.specs.List.{list_any, list_all};
+ghost use Rattle.std.specs.Str.{str_eq_ignore_ascii_case};
+ghost use Rattle.toml.specs.View.{view};
+ghost use Rattle.rapid_num.specs.Reach.{absent_axes};
+ghost use Rattle.rapid_model.specs.ScriptData.{is_file_name};
+ghost use Rattle.cell_script.specs.Keys.{at, value_of, number_at, each_row};
+ghost use Rattle.cell_script.specs.Rows.{task_name_at, files_at, arm_at, task_of};
+ghost use Rattle.cell_script.specs.Parts.{needed_rows, where_there};
+ghost use Rattle.cell_script.specs.Gives.{Gives, view_keys};
+
+use crate::angle::angles_at;
+use crate::fault::ScriptFault;
+use crate::keys::{TableKeys, table_at};
+use crate::list::{rows_at, texts_at};
+use crate::name::{is_same_name, name_at};
+use crate::plain::text_at;
+use rapid_model::{FileName, NameText, ScriptRule, ScriptTask, Sequence};
+use rapid_num::{Joints, Num};
 use std::alloc::Global;
-use toml::{Table, Value};
+use toml::Value;
 
-/// A task: exactly the keys name, modules and arm.
-pub(crate) fn read_task(alloc: Global, value: &Value) -> Result<ScriptTask, Refusal>
-    ensures { Gives result (task_of (view value.now)) }
+/// The tasks, in script order: 1 to 8.
+pub(crate) fn tasks_in(alloc: Global, keys: &TableKeys<'_>) -> Result<Vec<ScriptTask>, ScriptFault>
+    ensures { Gives (λ tasks. tasks.items) result (needed_rows (view_keys keys.now) (codes "task") 1 8 task_of) }
 {
-    let keys = value.as_table().ok_or(Refusal::NotBuilt)?;
-    if count_keys(keys) != 3 {
-        return Err(Refusal::NotBuilt);
+    let value = keys.needed("task")?;
+    let rows = rows_at(keys, "task", 1, 8, value)?;
+    tasks_of(alloc, rows)
+}
+
+fn tasks_of(alloc: Global, rows: &[Value]) -> Result<Vec<ScriptTask>, ScriptFault>
+    ensures { Gives (λ tasks. tasks.items) result (each_row task_of [] (map view rows.now)) }
+{
+    let mut tasks = Vec::new(alloc);
+    for row in rows {
+        let task = task_of(alloc, &tasks, row)?;
+        tasks.push(task)?;
     }
-    let name = name_in(keys).ok_or(Refusal::NotBuilt)?;
-    let file = file_in(alloc, keys)?;
-    let arm = arm_in(keys).ok_or(Refusal::NotBuilt)?;
-    Ok(ScriptTask {
-        name,
-        modules: Sequence::from_vec(vec![in alloc; file]?),
-        arm: Some(arm),
-    })
+    Ok(tasks)
 }
 
-fn name_in(keys: &Table) -> Option<NameText>
-    ensures { result ≡ option_and_then name_of (get_member (codes "name") (table_view keys.now)) }
+#[tactic(auto, unfolding(crate::specs::Rows::task_of))]
+fn task_of(alloc: Global, before: &[ScriptTask], value: &Value) -> Result<ScriptTask, ScriptFault>
+    ensures { Gives (λ task. task) result (task_of before.now (view value.now)) }
 {
-    read_name(value_at(keys, "name")?)
+    let keys = table_at("task", before.len(), value)?;
+    let name = task_name_at(&keys, "name", before, keys.needed("name")?)?;
+    let modules = files_at(alloc, &keys, "modules", keys.needed("modules")?)?;
+    let arm = arm_of(alloc, &keys)?;
+    keys.only(
+        &["name", "modules", "arm"],
+        ScriptTask { name, modules, arm },
+    )
 }
 
-fn file_in(alloc: Global, keys: &Table) -> Result<FileName, Refusal>
-    ensures { Gives result (option_and_then file_of (option_and_then only_item (get_member (codes "modules") (table_view keys.now)))) }
+/// The name of a task: no other task's.
+fn task_name_at(
+    keys: &TableKeys<'_>,
+    key: &str,
+    others: &[ScriptTask],
+    value: &Value,
+) -> Result<NameText, ScriptFault>
+    ensures { Gives (λ name. name) result (task_name_at (at (view_keys keys.now) key.now) (map (λ task. task.name) others.now) (view value.now)) }
 {
-    match value_at(keys, "modules") {
-        Some(modules) => match read_only_item(modules) {
-            Some(file) => read_file(alloc, file),
-            None => Err(Refusal::NotBuilt),
-        },
-        None => Err(Refusal::NotBuilt),
+    let name = name_at(keys, key, value)?;
+    if is_task(name.bytes(), others) {
+        return Err(keys.broken(key, ScriptRule::Twice));
+    }
+    Ok(name)
+}
+
+/// Whether a task has this name.
+fn is_task(name: &[u8], tasks: &[ScriptTask]) -> bool
+    ensures { result ≡ list_any (λ task. str_eq_ignore_ascii_case name.now task.name) tasks.now }
+{
+    tasks.iter().any(|task| is_same_name(name, &task.name))
+}
+
+/// The number of the task that a text names.
+pub(crate) fn task_at(
+    keys: &TableKeys<'_>,
+    key: &str,
+    tasks: &[ScriptTask],
+    value: &Value,
+) -> Result<u32, ScriptFault>
+    requires { length tasks.now ≤ 8 }
+    ensures { Gives (λ number. number) result (number_at (at (view_keys keys.now) key.now) (map (λ task. task.name) tasks.now) (view value.now)) }
+{
+    let text = text_at(keys, key, value)?;
+    match find_task(text.as_bytes(), tasks) {
+        Some(number) => Ok(number as u32),
+        None => Err(keys.broken(key, ScriptRule::NoSuch)),
     }
 }
 
-fn arm_in(keys: &Table) -> Option<Joints>
-    ensures { result ≡ option_and_then arm_of (get_member (codes "arm") (table_view keys.now)) }
+fn find_task(name: &[u8], tasks: &[ScriptTask]) -> Option<usize>
+    ensures bound { IfSome result (λ number. number < length tasks.now) }
+    ensures found { result ≡ position (λ task. str_eq_ignore_ascii_case name.now task.name) tasks.now }
 {
-    read_arm(value_at(keys, "arm")?)
+    tasks.iter().position(|task| is_same_name(name, &task.name))
 }
 
-/// The name of a file: 1 to 255 bytes.
-fn read_file(alloc: Global, value: &Value) -> Result<FileName, Refusal>
-    ensures { Gives result (file_of (view value.now)) }
+/// The files of a task's modules: 1 to 16 names of 1 to 255 bytes.
+fn files_at(
+    alloc: Global,
+    keys: &TableKeys<'_>,
+    key: &str,
+    value: &Value,
+) -> Result<Sequence<FileName>, ScriptFault>
+    ensures { Gives (λ files. files) result (files_at (at (view_keys keys.now) key.now) (view value.now)) }
 {
-    match value.as_str() {
-        Some(text) if (1..=255).contains(&text.len()) => {
-            Ok(FileName::from_string(String::from_str(alloc, text)?))
+    let files = texts_at(alloc, keys, key, value)?;
+    if 1 <= files.len() && files.len() <= 16 && are_file_names(&files) {
+        Ok(Sequence::from_vec(files))
+    } else {
+        Err(keys.broken(key, ScriptRule::Range))
+    }
+}
+
+fn are_file_names(files: &[FileName]) -> bool
+    ensures { result ≡ list_all is_file_name files.now }
+{
+    files.iter().all(|file| is_file_name(file))
+}
+
+fn is_file_name(file: &FileName) -> bool
+    ensures { result ≡ is_file_name file.now }
+{
+    (1..=255).contains(&file.as_str().len())
+}
+
+/// Where the arm starts, if there is one.
+fn arm_of(alloc: Global, keys: &TableKeys<'_>) -> Result<Option<Joints>, ScriptFault>
+    ensures { Gives (λ arm. arm) result (where_there (arm_at (at (view_keys keys.now) (codes "arm"))) (value_of (view_keys keys.now) (codes "arm"))) }
+{
+    match keys.value("arm") {
+        Some(arm) => Ok(Some(arm_at(alloc, keys, "arm", arm)?)),
+        None => Ok(None),
+    }
+}
+
+/// Six angles within 720 degrees. The external axes are not there, which 9E9 says (RAPID Instructions, Functions and Data
+/// types: extjoint).
+fn arm_at(
+    alloc: Global,
+    keys: &TableKeys<'_>,
+    key: &str,
+    value: &Value,
+) -> Result<Joints, ScriptFault>
+    ensures { Gives (λ arm. arm) result (arm_at (at (view_keys keys.now) key.now) (view value.now)) }
+{
+    let Some(angles) = angles_at(alloc, keys, key, value)? else {
+        return Err(keys.broken(key, ScriptRule::Range));
+    };
+    match arm_from(&angles) {
+        Some(arm) => Ok(arm),
+        None => Err(keys.broken(key, ScriptRule::Range)),
+    }
+}
+
+fn arm_from(angles: &[Num]) -> Option<Joints>
+    ensures { result ≡ (if length angles.now == 6 then Some (record { axis = angles.now ++ absent_axes }) else None) }
+{
+    match angles {
+        [first, second, third, fourth, fifth, sixth] => {
+            let absent = Num::new(9_000_000_000_000)?;
+            let axis = [
+                *first, *second, *third, *fourth, *fifth, *sixth, absent, absent, absent, absent,
+                absent, absent,
+            ];
+            Some(Joints { axis })
         }
-        _ => Err(Refusal::NotBuilt),
+        _ => None,
     }
 }

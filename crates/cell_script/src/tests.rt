@@ -1,165 +1,644 @@
 use super::{ScriptFault, make_cell, read_script};
-use rapid_model::ScriptRule;
-use rapid_num::Joints;
-use std::alloc::Global;
+use rapid_model::{InputRow, ScriptRule as Rule, Value};
+use std::alloc::{AllocError, Global};
 use std::test::*;
 
-const ONE_TASK: &str =
-    "version = 1\n[[task]]\nname = \"A\"\nmodules = [\"a.mod\"]\narm = [0,0,0,0,0,0]\n";
+/// A script with each key.
+const WHOLE: &str =
+    "version = 1\nsteps = 5000\n[[signal]]\nname = \"di1\"\nkind = \"di\"\n[[signal]]\nname = \"Do_1\"\nkind = \"do\"\nstart = 1\n[[task]]\nname = \"T_ROB1\"\nmodules = [\"main.mod\", \"more.mod\"]\narm = [1000, -2000, 0, 720000, -720000, 5]\n[[task]]\nname = \"WATCH\"\nmodules = [\"w.mod\"]\n[[pers]]\nname = \"count\"\nnum = \"-2.5\"\n[[pers]]\nname = \"flags\"\nindex = 3\nbool = true\n[[pers]]\nname = \"word\"\ntext = \"ok ~\"\n[[zone]]\nname = \"near\"\ntask = \"t_rob1\"\nkind = \"outside\"\naxes = [1, 3]\nlow = [-1000, 0]\nhigh = [1000, 90000]\nsignal = \"DO_1\"\nvalue = 1\n[[input]]\nsignal = \"di1\"\nvalue = 1\nwhen = \"do_1\"\nis = 1\ntask = \"watch\"\nsetpoints = 12\nafter = 40\n[[input]]\nsignal = \"di1\"\nvalue = 0\n";
 
 #[test]
-fn one_task(rt: HostRuntime) -> Result<(), Fail> {
-    let script = read_script(rt.alloc(), ONE_TASK.as_bytes())
+fn signals_and_tasks(rt: HostRuntime) -> Result<(), Fail> {
+    let script = read_script(rt.alloc(), WHOLE.as_bytes())
         .ok()
-        .ok_or("a script in first form")?;
-    assert_eq!(rt; script.steps(), 100_000);
-    assert_eq!(rt; script.tasks().len(), 1);
-    for task in script.tasks().as_slice() {
-        assert_eq!(rt; task.name.bytes(), b"A".as_slice());
-        assert_eq!(rt; task.modules.len(), 1);
-        for file in task.modules.as_slice() {
-            assert_eq!(rt; file.as_str(), "a.mod");
-        }
-        assert!(rt; is_still(task.arm));
-    }
+        .ok_or("a script with each key")?;
+    assert_eq!(rt; script.steps(), 5000);
+    let signals = script.signals().as_slice();
+    assert_eq!(rt; signals.len(), 2);
+    assert_eq!(rt; signals[0].name.bytes(), b"di1".as_slice());
+    assert!(rt; !signals[0].output && !signals[0].start);
+    assert_eq!(rt; signals[1].name.bytes(), b"Do_1".as_slice());
+    assert!(rt; signals[1].output && signals[1].start);
+    let tasks = script.tasks().as_slice();
+    assert_eq!(rt; tasks.len(), 2);
+    assert_eq!(rt; tasks[0].name.bytes(), b"T_ROB1".as_slice());
+    let modules = tasks[0].modules.as_slice();
+    assert_eq!(rt; modules.len(), 2);
+    assert_eq!(rt; modules[1].as_str(), "more.mod");
+    let arm = tasks[0].arm.ok_or("an arm")?;
+    assert_eq!(rt; arm.axis[1].thousandths(), -2000);
+    assert_eq!(rt; arm.axis[3].thousandths(), 720_000);
+    assert_eq!(rt; arm.axis[6].thousandths(), 9_000_000_000_000);
+    assert!(rt; tasks[1].arm.is_none());
     let cell = make_cell(rt.alloc(), &script).ok().ok_or("ample memory")?;
-    assert_eq!(rt; cell.steps(), 100_000);
-    assert_eq!(rt; cell.tasks().len(), 1);
-    for row in cell.tasks().as_slice() {
-        assert_eq!(rt; row.name.bytes(), b"A".as_slice());
-        assert!(rt; is_still(row.arm));
-    }
+    assert_eq!(rt; cell.steps(), 5000);
+    let rows = cell.tasks().as_slice();
+    assert_eq!(rt; rows.len(), 2);
+    assert_eq!(rt; rows[1].name.bytes(), b"WATCH".as_slice());
+    assert!(rt; rows[0].arm.is_some() && rows[1].arm.is_none());
     Ok(())
 }
 
-/// Whether an arm starts at 0 on each axis, with no external axes.
-fn is_still(arm: Option<Joints>) -> bool {
-    let Some(arm) = arm else {
-        return false;
-    };
-    arm.axis.iter().enumerate().all(|(i, angle)| {
-        angle.thousandths() == if i < 6 { 0 } else { 9_000_000_000_000 }
-    })
+#[test]
+fn other_rows(rt: HostRuntime) -> Result<(), Fail> {
+    let script = read_script(rt.alloc(), WHOLE.as_bytes())
+        .ok()
+        .ok_or("a script with each key")?;
+    let pers = script.pers().as_slice();
+    assert_eq!(rt; pers.len(), 3);
+    assert_eq!(rt; pers[0].name.bytes(), b"count".as_slice());
+    assert!(rt; matches!(&pers[0].value, Value::Num(n) if n.thousandths() == -2500));
+    assert_eq!(rt; pers[1].index, Some(3));
+    assert!(rt; matches!(&pers[1].value, Value::Bool(true)));
+    assert!(rt; matches!(&pers[2].value, Value::Text(t) if t.bytes() == b"ok ~".as_slice()));
+    let zones = script.zones().as_slice();
+    assert_eq!(rt; zones.len(), 1);
+    assert_eq!(rt; zones[0].name.bytes(), b"near".as_slice());
+    assert_eq!(rt; zones[0].task, 0);
+    assert_eq!(rt; zones[0].signal, 1);
+    assert!(rt; zones[0].value && !zones[0].shape.inside);
+    let bounds = zones[0].shape.bounds;
+    let third = bounds[2].ok_or("bounds of axis 3")?;
+    assert_eq!(rt; third.high.thousandths(), 90_000);
+    assert!(rt; bounds[0].is_some() && bounds[1].is_none() && bounds[11].is_none());
+    let inputs = script.inputs().as_slice();
+    assert_eq!(rt; inputs.len(), 2);
+    assert_eq!(rt; inputs[0].when, Some((1, true)));
+    assert_eq!(rt; inputs[0].given, Some((1, 12)));
+    assert_eq!(rt; inputs[0].after, Some(40));
+    assert!(rt; inputs[0].value && !inputs[1].value && inputs[1].when.is_none());
+    Ok(())
 }
 
-/// The rule that a text breaks as a whole, if it is refused for one.
-fn broken_rule(alloc: Global, text: &[u8]) -> Option<ScriptRule> {
-    match &read_script(alloc, text).err()? {
-        ScriptFault::Rule { key, rule } if key.bytes().is_empty() => Some(*rule),
-        _ => None,
+/// Whether the texts behind one another are refused for this rule at this key.
+fn is_refused(alloc: Global, head: &str, rest: &str, key: &str, rule: Rule) -> bool {
+    let Ok(text) = joined(alloc, head, rest) else {
+        return false;
+    };
+    match &read_script(alloc, text.as_slice()) {
+        Err(
+            ScriptFault::Rule {
+                key: at,
+                rule: broken,
+            },
+        ) => at.bytes() == key.as_bytes() && *broken == rule,
+        _ => false,
     }
 }
 
-/// Each way to leave the first form, and a text that leaves it so.
-const OTHER_FORMS: [(&str, &str); 23] = [
+fn joined(alloc: Global, head: &str, rest: &str) -> Result<Vec<u8>, AllocError> {
+    let mut text = Vec::from_slice(alloc, head.as_bytes())?;
+    text.extend_from_slice(rest.as_bytes())?;
+    Ok(text)
+}
+
+/// The first text of the rows that is not refused as its row says.
+fn first_other<'a>(alloc: Global, head: &str, rows: &[(&'a str, &str, Rule)]) -> Option<&'a str> {
+    for (text, key, rule) in rows {
+        if !is_refused(alloc, head, text, key, *rule) {
+            return Some(*text);
+        }
+    }
+    None
+}
+
+#[test]
+fn faults(rt: HostRuntime) {
+    assert_eq!(rt; first_other(rt.alloc(), "", &SCRIPT_FAULTS), None);
+    assert_eq!(rt; first_other(rt.alloc(), HEAD, &PERS_FAULTS), None);
+    assert_eq!(rt; first_other(rt.alloc(), HEAD, &ZONE_FAULTS), None);
+    assert_eq!(rt; first_other(rt.alloc(), HEAD, &INPUT_FAULTS), None);
+}
+
+/// Bytes that are no UTF-8, 100000 events where the script does not say, and the largest parts.
+#[test]
+fn edges(rt: HostRuntime) -> Result<(), Fail> {
+    assert!(rt;
+        matches!(&read_script(rt.alloc(), &[0xFF]), Err(ScriptFault::Rule { key, rule: Rule::NotToml }) if key.bytes().is_empty())
+    );
+    let script = read_script(rt.alloc(), LARGEST.as_bytes())
+        .ok()
+        .ok_or("the largest parts")?;
+    assert_eq!(rt; script.steps(), 100_000);
+    assert!(rt; is_refused(rt.alloc(), HEAD, LONG_KEY, SHOWN_KEY, Rule::UnknownKey));
+    Ok(())
+}
+
+const LARGEST: &str =
+    "version=1\ntask=[{name='Z_9zzzzzzzzzzzzzzzzzzzzzzzzzzzzz',modules=['mmmmmmmmmmmmmmmmmmmmmmmmmmmmmmmmmmmmmmmmmmmmmmmmmmmmmmmmmmmmmmmmmmmmmmmmmmmmmmmmmmmmmmmmmmmmmmmmmmmmmmmmmmmmmmmmmmmmmmmmmmmmmmmmmmmmmmmmmmmmmmmmmmmmmmmmmmmmmmmmmmmmmmmmmmmmmmmmmmmmmmmmmmmmmmmmmmmmmmmmmmmmmmmmmmmmmmmmmmmmmmmmmmmmmmmmmmmmmmmmmmmmmmmmmmmmmmm'],arm=[720000,-720000,0,0,0,0]}]";
+
+const LONG_KEY: &str =
+    "kkkkkkkkkkkkkkkkkkkkkkkkkkkkkkkkkkkkkkkkkkkkkkkkkkkkkkkkkkkkkkkkkkkkkkkkkkkkkkkkkkkkkkkkkk=1";
+
+const SHOWN_KEY: &str =
+    "kkkkkkkkkkkkkkkkkkkkkkkkkkkkkkkkkkkkkkkkkkkkkkkkkkkkkkkkkkkkkkkkkkkkkkkkkkkkkkkk";
+
+/// A task with an arm and one without, a signal of each kind.
+const HEAD: &str =
+    "version=1\ntask=[{name='A',modules=['a'],arm=[0,0,0,0,0,0]},{name='B',modules=['a']}]\nsignal=[{name='i',kind='di'},{name='o',kind='do'}]\n";
+
+/// Texts, the key at which each is broken, and the rule.
+const SCRIPT_FAULTS: [(&str, &str, Rule); 48] = [
+    ("version = ", "", Rule::NotToml),
+    ("a = 1\na = 2", "", Rule::NotToml),
+    ("", "version", Rule::NoKey),
+    ("version='1'", "version", Rule::Kind),
+    ("version=2", "version", Rule::Range),
+    ("steps=0\nx=1", "version", Rule::NoKey),
+    ("version=1\nsteps=true", "steps", Rule::Kind),
+    ("version=1\nsteps=0", "steps", Rule::Range),
+    ("version=1\nsteps=1000001\nsignal=1", "steps", Rule::Range),
+    ("version=1\nsignal=1\ntask=1", "signal", Rule::Kind),
+    ("version=1\nsignal=[1]", "signal[0]", Rule::Kind),
     (
-        "version 2",
-        "version=2\ntask=[{name='A',modules=['a.mod'],arm=[0,0,0,0,0,0]}]",
+        "version=1\nsignal=[{kind='di'}]",
+        "signal[0].name",
+        Rule::NoKey,
     ),
     (
-        "a version that is text",
-        "version='1'\ntask=[{name='A',modules=['a.mod'],arm=[0,0,0,0,0,0]}]",
+        "version=1\nsignal=[{name=1,kind=1}]",
+        "signal[0].name",
+        Rule::Kind,
     ),
     (
-        "no version",
-        "task=[{name='A',modules=['a.mod'],arm=[0,0,0,0,0,0]}]",
+        "version=1\nsignal=[{name='1a',kind='di'}]",
+        "signal[0].name",
+        Rule::Name,
     ),
     (
-        "an extra key",
-        "version=1\nsteps=9\ntask=[{name='A',modules=['a.mod'],arm=[0,0,0,0,0,0]}]",
+        "version=1\nsignal=[{name='aaaaaaaaaaaaaaaaaaaaaaaaaaaaaaaaa',kind='di'}]",
+        "signal[0].name",
+        Rule::Name,
     ),
     (
-        "an extra key of the task",
-        "version=1\ntask=[{name='A',modules=['a.mod'],arm=[0,0,0,0,0,0],zone=1}]",
+        "version=1\nsignal=[{name='While',kind='di'}]",
+        "signal[0].name",
+        Rule::Name,
     ),
     (
-        "two tasks",
-        "version=1\ntask=[{name='A',modules=['a.mod'],arm=[0,0,0,0,0,0]},{name='A',modules=['a.mod'],arm=[0,0,0,0,0,0]}]",
-    ),
-    ("no tasks", "version=1\ntask=[]"),
-    (
-        "no key task",
-        "version=1\ntasks=[{name='A',modules=['a.mod'],arm=[0,0,0,0,0,0]}]",
-    ),
-    ("a task that is no table", "version=1\ntask=[1]"),
-    (
-        "a name with a blank",
-        "version=1\ntask=[{name='A B',modules=['a.mod'],arm=[0,0,0,0,0,0]}]",
+        "version=1\nsignal=[{name='setdo',kind='di'}]",
+        "signal[0].name",
+        Rule::Name,
     ),
     (
-        "a name of 33 bytes",
-        "version=1\ntask=[{name='AAAAAAAAAAAAAAAAAAAAAAAAAAAAAAAAA',modules=['a.mod'],arm=[0,0,0,0,0,0]}]",
+        "version=1\nsignal=[{name='a',kind='di'},{name='A',kind='ai'}]",
+        "signal[1].name",
+        Rule::Twice,
     ),
     (
-        "a name that begins with a digit",
-        "version=1\ntask=[{name='1A',modules=['a.mod'],arm=[0,0,0,0,0,0]}]",
+        "version=1\nsignal=[{name='a'}]",
+        "signal[0].kind",
+        Rule::NoKey,
     ),
     (
-        "an empty name",
-        "version=1\ntask=[{name='',modules=['a.mod'],arm=[0,0,0,0,0,0]}]",
+        "version=1\nsignal=[{name='a',kind=1}]",
+        "signal[0].kind",
+        Rule::Kind,
     ),
     (
-        "no modules",
-        "version=1\ntask=[{name='A',modules=[],arm=[0,0,0,0,0,0]}]",
+        "version=1\nsignal=[{name='a',kind='ai',start=2}]",
+        "signal[0].kind",
+        Rule::Range,
     ),
     (
-        "two modules",
-        "version=1\ntask=[{name='A',modules=['a.mod','b.mod'],arm=[0,0,0,0,0,0]}]",
+        "version=1\nsignal=[{name='a',kind='di',start='1'}]",
+        "signal[0].start",
+        Rule::Kind,
     ),
     (
-        "a module name of 256 bytes",
-        "version=1\ntask=[{name='A',modules=['mmmmmmmmmmmmmmmmmmmmmmmmmmmmmmmmmmmmmmmmmmmmmmmmmmmmmmmmmmmmmmmmmmmmmmmmmmmmmmmmmmmmmmmmmmmmmmmmmmmmmmmmmmmmmmmmmmmmmmmmmmmmmmmmmmmmmmmmmmmmmmmmmmmmmmmmmmmmmmmmmmmmmmmmmmmmmmmmmmmmmmmmmmmmmmmmmmmmmmmmmmmmmmmmmmmmmmmmmmmmmmmmmmmmmmmmmmmmmmmmmmmmmmmmmmmmmmmm'],arm=[0,0,0,0,0,0]}]",
+        "version=1\nsignal=[{name='a',kind='di',start=2,x=1}]",
+        "signal[0].start",
+        Rule::Range,
     ),
     (
-        "an empty module name",
-        "version=1\ntask=[{name='A',modules=[''],arm=[0,0,0,0,0,0]}]",
+        "version=1\nsignal=[{name='a',kind='di',stop=1},{name='a',kind='di'}]",
+        "signal[0].stop",
+        Rule::UnknownKey,
+    ),
+    ("version=1", "task", Rule::NoKey),
+    ("version=1\ntask=1", "task", Rule::Kind),
+    ("version=1\ntask=[]", "task", Rule::Range),
+    ("version=1\ntask=[1,1,1,1,1,1,1,1,1]", "task", Rule::Range),
+    ("version=1\ntask=[1]", "task[0]", Rule::Kind),
+    (
+        "version=1\ntask=[{modules=['a']}]",
+        "task[0].name",
+        Rule::NoKey,
     ),
     (
-        "a module name that is no text",
-        "version=1\ntask=[{name='A',modules=[1],arm=[0,0,0,0,0,0]}]",
+        "version=1\ntask=[{name=1,modules=['a']}]",
+        "task[0].name",
+        Rule::Kind,
     ),
     (
-        "an arm of five",
-        "version=1\ntask=[{name='A',modules=['a.mod'],arm=[0,0,0,0,0]}]",
+        "version=1\ntask=[{name='a b',modules=1}]",
+        "task[0].name",
+        Rule::Name,
     ),
     (
-        "an arm of seven",
-        "version=1\ntask=[{name='A',modules=['a.mod'],arm=[0,0,0,0,0,0,0]}]",
+        "version=1\ntask=[{name='If',modules=['a']}]",
+        "task[0].name",
+        Rule::Name,
     ),
     (
-        "720.001 degrees",
-        "version=1\ntask=[{name='A',modules=['a.mod'],arm=[0,0,720001,0,0,0]}]",
+        "version=1\ntask=[{name='A',modules=['a']},{name='a',modules=['a']}]",
+        "task[1].name",
+        Rule::Twice,
     ),
     (
-        "-720.001 degrees",
-        "version=1\ntask=[{name='A',modules=['a.mod'],arm=[0,0,0,0,0,-720001]}]",
+        "version=1\ntask=[{name='A'}]",
+        "task[0].modules",
+        Rule::NoKey,
     ),
     (
-        "an angle that is a float",
-        "version=1\ntask=[{name='A',modules=['a.mod'],arm=[0.0,0,0,0,0,0]}]",
+        "version=1\ntask=[{name='A',modules='a'}]",
+        "task[0].modules",
+        Rule::Kind,
+    ),
+    (
+        "version=1\ntask=[{name='A',modules=['',1]}]",
+        "task[0].modules",
+        Rule::Kind,
+    ),
+    (
+        "version=1\ntask=[{name='A',modules=[]}]",
+        "task[0].modules",
+        Rule::Range,
+    ),
+    (
+        "version=1\ntask=[{name='A',modules=['a','']}]",
+        "task[0].modules",
+        Rule::Range,
+    ),
+    (
+        "version=1\ntask=[{name='A',modules=['mmmmmmmmmmmmmmmmmmmmmmmmmmmmmmmmmmmmmmmmmmmmmmmmmmmmmmmmmmmmmmmmmmmmmmmmmmmmmmmmmmmmmmmmmmmmmmmmmmmmmmmmmmmmmmmmmmmmmmmmmmmmmmmmmmmmmmmmmmmmmmmmmmmmmmmmmmmmmmmmmmmmmmmmmmmmmmmmmmmmmmmmmmmmmmmmmmmmmmmmmmmmmmmmmmmmmmmmmmmmmmmmmmmmmmmmmmmmmmmmmmmmmmmmmmmmmmmm']}]",
+        "task[0].modules",
+        Rule::Range,
+    ),
+    (
+        "version=1\ntask=[{name='A',modules=['a'],arm=0}]",
+        "task[0].arm",
+        Rule::Kind,
+    ),
+    (
+        "version=1\ntask=[{name='A',modules=['a'],arm=[720001,0,0,0,0,'0']}]",
+        "task[0].arm",
+        Rule::Kind,
+    ),
+    (
+        "version=1\ntask=[{name='A',modules=['a'],arm=[0,0,0,0,0]}]",
+        "task[0].arm",
+        Rule::Range,
+    ),
+    (
+        "version=1\ntask=[{name='A',modules=['a'],arm=[0,0,0,0,0,-720001]}]",
+        "task[0].arm",
+        Rule::Range,
+    ),
+    (
+        "version=1\ntask=[{name='A',modules=['a'],zone=1},{name='A',modules=['a']}]",
+        "task[0].zone",
+        Rule::UnknownKey,
+    ),
+    (
+        "version=1\nx=1\ntask=[{name='A',modules=['a']}]\npers=1",
+        "pers",
+        Rule::Kind,
+    ),
+    (
+        "version=1\nx=1\ntask=[{name='A',modules=['a']}]",
+        "x",
+        Rule::UnknownKey,
+    ),
+    (
+        "version=1\n\"a\\tb\"=1\ntask=[{name='A',modules=['a']}]",
+        "a?b",
+        Rule::UnknownKey,
     ),
 ];
 
-#[test]
-fn other_forms(rt: HostRuntime) {
-    for (why, text) in OTHER_FORMS {
-        let rule = broken_rule(rt.alloc(), text.as_bytes());
-        assert_eq!(rt; rule, Some(ScriptRule::NotBuilt), "{why}");
-    }
-}
+/// The same behind `HEAD`.
+const PERS_FAULTS: [(&str, &str, Rule); 18] = [
+    ("pers=[1]", "pers[0]", Rule::Kind),
+    ("pers=[{num='1'}]", "pers[0].name", Rule::NoKey),
+    ("pers=[{name=1,num='1'}]", "pers[0].name", Rule::Kind),
+    ("pers=[{name='',num='1'}]", "pers[0].name", Rule::Name),
+    (
+        "pers=[{name='p',index='1',num='1'}]",
+        "pers[0].index",
+        Rule::Kind,
+    ),
+    (
+        "pers=[{name='p',index=0,num='1',bool=true}]",
+        "pers[0].index",
+        Rule::Range,
+    ),
+    ("pers=[{name='p',index=1001}]", "pers[0].index", Rule::Range),
+    ("pers=[{name='p'}]", "pers[0]", Rule::Pair),
+    ("pers=[{name='p',num='1',bool=true}]", "pers[0]", Rule::Pair),
+    ("pers=[{name='p',num=1,text=1,x=1}]", "pers[0]", Rule::Pair),
+    ("pers=[{name='p',num=1,x=1}]", "pers[0].num", Rule::Kind),
+    ("pers=[{name='p',num='--1'}]", "pers[0].num", Rule::Range),
+    ("pers=[{name='p',bool='true'}]", "pers[0].bool", Rule::Kind),
+    ("pers=[{name='p',text=true}]", "pers[0].text", Rule::Kind),
+    (
+        "pers=[{name='p',text='ttttttttttttttttttttttttttttttttttttttttttttttttttttttttttttttttttttttttttttttttt'}]",
+        "pers[0].text",
+        Rule::Range,
+    ),
+    (
+        "pers=[{name='p',text=\"\\t\"}]",
+        "pers[0].text",
+        Rule::Range,
+    ),
+    (
+        "pers=[{name='p',num='1',x=1},1]",
+        "pers[0].x",
+        Rule::UnknownKey,
+    ),
+    (
+        "pers=[{name='p',num='1'},{name='p'}]",
+        "pers[1]",
+        Rule::Pair,
+    ),
+];
 
-#[test]
-fn no_toml(rt: HostRuntime) {
-    assert_eq!(rt;
-        broken_rule(rt.alloc(), b"version = "),
-        Some(ScriptRule::NotToml)
-    );
-    assert_eq!(rt; broken_rule(rt.alloc(), &[0xFF]), Some(ScriptRule::NotToml));
-}
+/// The same behind `HEAD`.
+const ZONE_FAULTS: [(&str, &str, Rule); 34] = [
+    ("zone=1", "zone", Rule::Kind),
+    ("zone=[1]", "zone[0]", Rule::Kind),
+    (
+        "zone=[{task='A',kind='inside',axes=[1,2],low=[0,0],high=[1,1],signal='o',value=1}]",
+        "zone[0].name",
+        Rule::NoKey,
+    ),
+    (
+        "zone=[{name='z',kind='inside',axes=[1,2],low=[0,0],high=[1,1],signal='o',value=1}]",
+        "zone[0].task",
+        Rule::NoKey,
+    ),
+    (
+        "zone=[{name='z',task='A',axes=[1,2],low=[0,0],high=[1,1],signal='o',value=1}]",
+        "zone[0].kind",
+        Rule::NoKey,
+    ),
+    (
+        "zone=[{name='z',task='A',kind='inside',low=[0,0],high=[1,1],signal='o',value=1}]",
+        "zone[0].axes",
+        Rule::NoKey,
+    ),
+    (
+        "zone=[{name='z',task='A',kind='inside',axes=[1,2],high=[1,1],signal='o',value=1}]",
+        "zone[0].low",
+        Rule::NoKey,
+    ),
+    (
+        "zone=[{name='z',task='A',kind='inside',axes=[1,2],low=[0,0],signal='o',value=1}]",
+        "zone[0].high",
+        Rule::NoKey,
+    ),
+    (
+        "zone=[{name='z',task='A',kind='inside',axes=[1,2],low=[0,0],high=[1,1],value=1}]",
+        "zone[0].signal",
+        Rule::NoKey,
+    ),
+    (
+        "zone=[{name='z',task='A',kind='inside',axes=[1,2],low=[0,0],high=[1,1],signal='o'}]",
+        "zone[0].value",
+        Rule::NoKey,
+    ),
+    (
+        "zone=[{name=1,task=1,kind='inside',axes=[1,2],low=[0,0],high=[1,1],signal='o',value=1}]",
+        "zone[0].name",
+        Rule::Kind,
+    ),
+    (
+        "zone=[{name='to',task='A',kind='inside',axes=[1,2],low=[0,0],high=[1,1],signal='o',value=1}]",
+        "zone[0].name",
+        Rule::Name,
+    ),
+    (
+        "zone=[{name='z',task=1,kind='inside',axes=[1,2],low=[0,0],high=[1,1],signal='o',value=1}]",
+        "zone[0].task",
+        Rule::Kind,
+    ),
+    (
+        "zone=[{name='z',task='C',kind='inside',axes=[1,2],low=[0,0],high=[1,1],signal='o',value=1}]",
+        "zone[0].task",
+        Rule::NoSuch,
+    ),
+    (
+        "zone=[{name='z',task='B',kind=1,axes=[1,2],low=[0,0],high=[1,1],signal='o',value=1}]",
+        "zone[0].task",
+        Rule::NoSuch,
+    ),
+    (
+        "zone=[{name='z',task='A',kind=1,axes=[1,2],low=[0,0],high=[1,1],signal='o',value=1}]",
+        "zone[0].kind",
+        Rule::Kind,
+    ),
+    (
+        "zone=[{name='z',task='A',kind='in',axes=1,low=[0,0],high=[1,1],signal='o',value=1}]",
+        "zone[0].kind",
+        Rule::Range,
+    ),
+    (
+        "zone=[{name='z',task='A',kind='inside',axes=1,low=[0,0],high=[1,1],signal='o',value=1}]",
+        "zone[0].axes",
+        Rule::Kind,
+    ),
+    (
+        "zone=[{name='z',task='A',kind='inside',axes=[7,'1'],low=[0,0],high=[1,1],signal='o',value=1}]",
+        "zone[0].axes",
+        Rule::Kind,
+    ),
+    (
+        "zone=[{name='z',task='A',kind='inside',axes=[],low=[0,0],high=[1,1],signal='o',value=1}]",
+        "zone[0].axes",
+        Rule::Range,
+    ),
+    (
+        "zone=[{name='z',task='A',kind='inside',axes=[2,2],low=[0,0],high=[1,1],signal='o',value=1}]",
+        "zone[0].axes",
+        Rule::Range,
+    ),
+    (
+        "zone=[{name='z',task='A',kind='inside',axes=[0,1],low=1,high=[1,1],signal='o',value=1}]",
+        "zone[0].axes",
+        Rule::Range,
+    ),
+    (
+        "zone=[{name='z',task='A',kind='inside',axes=[1,2],low=1,high=[1,1],signal='o',value=1}]",
+        "zone[0].low",
+        Rule::Kind,
+    ),
+    (
+        "zone=[{name='z',task='A',kind='inside',axes=[1,2],low=[0],high=[1,1],signal='o',value=1}]",
+        "zone[0].low",
+        Rule::Range,
+    ),
+    (
+        "zone=[{name='z',task='A',kind='inside',axes=[1,2],low=[0,720001],high=1,signal='o',value=1}]",
+        "zone[0].low",
+        Rule::Range,
+    ),
+    (
+        "zone=[{name='z',task='A',kind='inside',axes=[1,2],low=[0,0],high=1,signal='o',value=1}]",
+        "zone[0].high",
+        Rule::Kind,
+    ),
+    (
+        "zone=[{name='z',task='A',kind='inside',axes=[1,2],low=[0,0],high=[1,1,1],signal='o',value=1}]",
+        "zone[0].high",
+        Rule::Range,
+    ),
+    (
+        "zone=[{name='z',task='A',kind='inside',axes=[1,2],low=[0,0],high=[-1,'1'],signal='o',value=1}]",
+        "zone[0].high",
+        Rule::Kind,
+    ),
+    (
+        "zone=[{name='z',task='A',kind='inside',axes=[1,2],low=[0,0],high=[1,0],signal=1,value=1}]",
+        "zone[0].high",
+        Rule::Range,
+    ),
+    (
+        "zone=[{name='z',task='A',kind='inside',axes=[1,2],low=[0,0],high=[1,1],signal=1,value=1}]",
+        "zone[0].signal",
+        Rule::Kind,
+    ),
+    (
+        "zone=[{name='z',task='A',kind='inside',axes=[1,2],low=[0,0],high=[1,1],signal='A',value=2}]",
+        "zone[0].signal",
+        Rule::NoSuch,
+    ),
+    (
+        "zone=[{name='z',task='A',kind='inside',axes=[1,2],low=[0,0],high=[1,1],signal='o',value=true}]",
+        "zone[0].value",
+        Rule::Kind,
+    ),
+    (
+        "zone=[{name='z',task='A',kind='inside',axes=[1,2],low=[0,0],high=[1,1],signal='o',value=2,x=1}]",
+        "zone[0].value",
+        Rule::Range,
+    ),
+    (
+        "zone=[{name='z',task='A',kind='inside',axes=[1,2],low=[0,0],high=[1,1],signal='o',value=1,x=1}]",
+        "zone[0].x",
+        Rule::UnknownKey,
+    ),
+];
 
-#[test]
-fn largest_parts(rt: HostRuntime) {
-    let text =
-        "version=1\ntask=[{name='Z_9zzzzzzzzzzzzzzzzzzzzzzzzzzzzz',modules=['mmmmmmmmmmmmmmmmmmmmmmmmmmmmmmmmmmmmmmmmmmmmmmmmmmmmmmmmmmmmmmmmmmmmmmmmmmmmmmmmmmmmmmmmmmmmmmmmmmmmmmmmmmmmmmmmmmmmmmmmmmmmmmmmmmmmmmmmmmmmmmmmmmmmmmmmmmmmmmmmmmmmmmmmmmmmmmmmmmmmmmmmmmmmmmmmmmmmmmmmmmmmmmmmmmmmmmmmmmmmmmmmmmmmmmmmmmmmmmmmmmmmmmmmmmmmmmm'],arm=[720000,-720000,0,0,0,0]}]";
-    assert!(rt; read_script(rt.alloc(), text.as_bytes()).is_ok());
-}
+/// The same behind `HEAD`.
+const INPUT_FAULTS: [(&str, &str, Rule); 26] = [
+    ("input=1", "input", Rule::Kind),
+    ("input=[1]", "input[0]", Rule::Kind),
+    ("input=[{value=1}]", "input[0].signal", Rule::NoKey),
+    ("input=[{signal=1,value=1}]", "input[0].signal", Rule::Kind),
+    (
+        "input=[{signal='x',value=2}]",
+        "input[0].signal",
+        Rule::NoSuch,
+    ),
+    (
+        "input=[{signal='o',value=1}]",
+        "input[0].signal",
+        Rule::NoSuch,
+    ),
+    ("input=[{signal='i'}]", "input[0].value", Rule::NoKey),
+    (
+        "input=[{signal='i',value='1'}]",
+        "input[0].value",
+        Rule::Kind,
+    ),
+    (
+        "input=[{signal='i',value=2,is=1}]",
+        "input[0].value",
+        Rule::Range,
+    ),
+    (
+        "input=[{signal='i',value=1,is=1}]",
+        "input[0].when",
+        Rule::Pair,
+    ),
+    (
+        "input=[{signal='i',value=1,when='o',task=1}]",
+        "input[0].is",
+        Rule::Pair,
+    ),
+    (
+        "input=[{signal='i',value=1,when=1}]",
+        "input[0].when",
+        Rule::Kind,
+    ),
+    (
+        "input=[{signal='i',value=1,when='x'}]",
+        "input[0].when",
+        Rule::NoSuch,
+    ),
+    (
+        "input=[{signal='i',value=1,when='o',is='1'}]",
+        "input[0].is",
+        Rule::Kind,
+    ),
+    (
+        "input=[{signal='i',value=1,when='o',is=2}]",
+        "input[0].is",
+        Rule::Range,
+    ),
+    (
+        "input=[{signal='i',value=1,setpoints=1}]",
+        "input[0].task",
+        Rule::Pair,
+    ),
+    (
+        "input=[{signal='i',value=1,task='A'}]",
+        "input[0].setpoints",
+        Rule::Pair,
+    ),
+    (
+        "input=[{signal='i',value=1,task=1,setpoints=1}]",
+        "input[0].task",
+        Rule::Kind,
+    ),
+    (
+        "input=[{signal='i',value=1,task='C',setpoints=1}]",
+        "input[0].task",
+        Rule::NoSuch,
+    ),
+    (
+        "input=[{signal='i',value=1,task='B',setpoints=-1}]",
+        "input[0].setpoints",
+        Rule::Range,
+    ),
+    (
+        "input=[{signal='i',value=1,task='B',setpoints=1000001,after=-1}]",
+        "input[0].setpoints",
+        Rule::Range,
+    ),
+    (
+        "input=[{signal='i',value=1,task='B',setpoints='1'}]",
+        "input[0].setpoints",
+        Rule::Kind,
+    ),
+    (
+        "input=[{signal='i',value=1,after='1'}]",
+        "input[0].after",
+        Rule::Kind,
+    ),
+    (
+        "input=[{signal='i',value=1,after=-1,x=1}]",
+        "input[0].after",
+        Rule::Range,
+    ),
+    (
+        "input=[{signal='i',value=1,after=1000001}]",
+        "input[0].after",
+        Rule::Range,
+    ),
+    (
+        "input=[{signal='i',value=1,x=1}]",
+        "input[0].x",
+        Rule::UnknownKey,
+    ),
+];

@@ -1,0 +1,20 @@
+-- Reading that stops at the first broken rule.
+use Rattle.std.proofs.Common.{◌≡◌, ℕ, List, Result, Ok, Err, refl, sym, ap, ◌∙◌}
+use Rattle.rapid_model.specs.declared.script_rule.ScriptRule.{ScriptRule}
+use Rattle.cell_script.specs.declared.fault.ScriptFault.{ScriptFault}
+use Rattle.cell_script.specs.declared.fault.ScriptFault.TheVariants.{Rule, Memory}
+use Rattle.cell_script.specs.Break.{Break, Read, ◌>>=◌, shown, broken}
+use Rattle.cell_script.specs.Gives.{Fails, Gives}
+
+-- a part that fails fails the whole
+pub Fails-then : {A B : Type 0} (fault : ScriptFault) (read : Read A) (f : A → Read B) → Fails fault read → Fails fault (read >>= f)
+Fails-then (Rule key rule) read f fails = rw fails refl
+Fails-then Memory read f fails = tt
+
+-- the fault of a rule that is broken at a key
+pub Fails-broken : {A : Type 0} (fault : ScriptFault) (key : List ℕ) (rule : ScriptRule) (read : Read A) → fault ≡ Rule (shown key) rule → read ≡ broken key rule → Fails fault read
+Fails-broken fault key rule read is at = rw (is, at) refl
+
+-- the same part fails alike
+pub Fails-same : {A : Type 0} (fault : ScriptFault) (read other : Read A) → read ≡ other → Fails fault other → Fails fault read
+Fails-same fault read other e fails = rw e fails

@@ -1,0 +1,140 @@
+-- Each row that is read is within its limits.
+use Rattle.std.proofs.Common.{◌≡◌, ℕ, zero, suc, ◌+◌, ◌≤◌, Bool, true, false, not, ◌&&◌, ◌||◌, nat_le, nat_lt, ℤ, List, [], ◌∷◌, ◌++◌, length, map, replicate, take, drop, codes, slice_get, Option, Some, None, is_some, is_none, Result, Ok, Err, ◌==◌, if◌then◌else◌, refl, sym, ap, ◌∙◌, arith}
+use Rattle.std.specs.Prelude.{pos, negsuc, int_lt}
+use Rattle.std.specs.List.{list_all, list_any}
+use Rattle.std.proofs.Math.Seq.{take-append_seam, drop-append_seam}
+use Rattle.std.proofs.lemmas.Bool.{and_parts, and_from, eqb-true}
+use Rattle.toml.specs.Data.{Data, as_str, as_integer, as_bool}
+use Rattle.rapid_num.specs.Reach.{is_in_reach, is_absent, absent_axes, is_position}
+use Rattle.rapid_num.specs.declared.joints.Joints.{Joints}
+use Rattle.rapid_model.specs.CellData.{is_start}
+use Rattle.rapid_model.specs.Names.{is_name}
+use Rattle.rapid_model.specs.ScriptData.{is_within, holds_where_there, is_signal, is_file_name, is_task, is_given_value, is_pers_value, has_arm, is_input_signal, is_zone, is_input, is_zone_shape}
+use Rattle.rapid_model.specs.declared.input_row.InputRow.{InputRow}
+use Rattle.rapid_model.specs.declared.pers_value.PersValue.{PersValue}
+use Rattle.rapid_model.specs.declared.script_rule.ScriptRule.TheVariants.{Kind, Range, NoSuch, Pair}
+use Rattle.rapid_model.specs.declared.script_task.ScriptTask.{ScriptTask}
+use Rattle.rapid_model.specs.declared.signal_row.SignalRow.{SignalRow}
+use Rattle.rapid_model.specs.declared.value.Value.{Value}
+use Rattle.rapid_model.specs.declared.value.Value.TheVariants as values
+use Rattle.rapid_model.specs.declared.zone_row.ZoneRow.{ZoneRow}
+use Rattle.cell_script.specs.Break.{Read, ◌>>=◌, broken, must, found_or}
+use Rattle.cell_script.specs.Keys.{Keys, at, value_of, needed, optional, only_keys, text_at, whole_at, bit_at, word_at, name_at, number_at, list_at, table_at, both_at, pair_at}
+use Rattle.cell_script.specs.Rows.{signal_name_at, signal_of, task_name_at, files_at, arm_at, task_of, signed_literal, number_value_at, truth_value_at, text_value_at, given_value, pers_of}
+use Rattle.cell_script.proofs.Keeps.{Keeps, Keeps-then, Keeps-any, Keeps-must, Keeps-found, Keeps-optional, Keeps-only}
+use Rattle.cell_script.proofs.KeepsNames.{IsName, IsNew, IsOf, name_keeps, signal_name_keeps, task_name_keeps, number_keeps}
+use Rattle.cell_script.proofs.KeepsRows.{IsAt}
+
+pub whole_keeps : (key : List ℕ) (low high : ℕ) (d : Data) → Keeps (λ n. is_within low high n ≡ true) (whole_at key low high d)
+whole_keeps key low high d = by_integer (as_integer d) refl
+  where
+    by_integer : (o : Option ℤ) → as_integer d ≡ o → Keeps (λ n. is_within low high n ≡ true) (whole_at key low high d)
+    by_integer None e = rw e tt
+    by_integer (Some (pos n)) e = rw e (Keeps-must (λ n. is_within low high n ≡ true) (is_within low high n) key Range (Ok n) (λ w. w))
+    by_integer (Some (negsuc n)) e = rw e tt
+
+-- ---- signals
+
+pub signal_keeps : (before : List SignalRow) (d : Data) → Keeps (λ row. (is_signal row ≡ true) × IsNew (map (λ row. row.name) before) row.name) (signal_of before d)
+unfolding signal_of
+signal_keeps before d =
+    let Q : SignalRow → Type 0 = λ row. (is_signal row ≡ true) × IsNew (map (λ row. row.name) before) row.name in
+    let P : List ℕ → Type 0 = λ name. IsName name × IsNew (map (λ row. row.name) before) name in
+    Keeps-any Q (table_at (codes "signal") (length before) d) _ (λ keys.
+    Keeps-then P Q (needed keys (codes "name") >>= signal_name_at (at keys (codes "name")) (map (λ row. row.name) before)) _
+    (Keeps-any P (needed keys (codes "name")) _ (λ n. signal_name_keeps (at keys (codes "name")) (map (λ row. row.name) before) n)) (λ name is.
+    Keeps-any Q (needed keys (codes "kind") >>= word_at (at keys (codes "kind")) (codes "di") (codes "do")) _ (λ output.
+    Keeps-any Q (optional false (bit_at (at keys (codes "start"))) (value_of keys (codes "start"))) _ (λ start.
+    Keeps-only Q keys (codes "name" ∷ codes "kind" ∷ codes "start" ∷ []) (Ok (record { name = name; output = output; start = start })) is))))
+
+-- ---- tasks
+
+files_keep : (key : List ℕ) (d : Data) → Keeps (λ files. (is_within 1 16 (length files) && list_all is_file_name files) ≡ true) (files_at key d)
+files_keep key d =
+    let Q : List (List ℕ) → Type 0 = λ files. (is_within 1 16 (length files) && list_all is_file_name files) ≡ true in
+    Keeps-any Q (list_at key as_str d) _ (λ files. Keeps-must Q (is_within 1 16 (length files) && list_all is_file_name files) key Range (Ok files) (λ e. e))
+
+position : (angles : List ℤ) (arm : Joints) → list_all is_in_reach angles ≡ true → length angles ≡ 6 → arm.axis ≡ angles ++ absent_axes → is_position arm ≡ true
+position angles arm reach six e =
+    let front : take 6 arm.axis ≡ angles = rw (e, ← six) (take-append_seam angles absent_axes) in
+    let back : drop 6 arm.axis ≡ absent_axes = rw (e, ← six) (drop-append_seam angles absent_axes) in
+    and_from (list_all is_in_reach (take 6 arm.axis)) (list_all is_absent (drop 6 arm.axis)) (rw front reach) (rw back)
+
+arm_keeps : (key : List ℕ) (d : Data) → Keeps (λ arm. is_position arm ≡ true) (arm_at key d)
+arm_keeps key d =
+    let Q : Joints → Type 0 = λ arm. is_position arm ≡ true in
+    Keeps-any Q (list_at key as_integer d) _ (λ angles.
+    Keeps-must Q (length angles == 6 && list_all is_in_reach angles) key Range (Ok (record { axis = angles ++ absent_axes })) (λ e.
+    let parts = and_parts (length angles == 6) (list_all is_in_reach angles) e in
+    position angles (record { axis = angles ++ absent_axes }) parts.1 (eqb-true (length angles) 6 parts.0) refl))
+
+start_keeps : (key : List ℕ) (o : Option Data) → Keeps (λ arm. is_start arm ≡ true) (optional None (λ a. arm_at key a >>= (λ arm. Ok (Some arm))) o)
+start_keeps key o =
+    let Q : Option Joints → Type 0 = λ arm. is_start arm ≡ true in
+    let P : Joints → Type 0 = λ arm. is_position arm ≡ true in
+    Keeps-optional Q None (λ a. arm_at key a >>= (λ arm. Ok (Some arm))) o refl (λ d. Keeps-then P Q (arm_at key d) (λ arm. Ok (Some arm)) (arm_keeps key d) (λ arm is. is))
+
+pub task_keeps : (before : List ScriptTask) (d : Data) → Keeps (λ task. (is_task task ≡ true) × IsNew (map (λ task. task.name) before) task.name) (task_of before d)
+unfolding task_of
+task_keeps before d =
+    let names : List (List ℕ) = map (λ task. task.name) before in
+    let Q : ScriptTask → Type 0 = λ task. (is_task task ≡ true) × IsNew names task.name in
+    let P : List ℕ → Type 0 = λ name. IsName name × IsNew names name in
+    let F : List (List ℕ) → Type 0 = λ files. (is_within 1 16 (length files) && list_all is_file_name files) ≡ true in
+    let S : Option Joints → Type 0 = λ arm. is_start arm ≡ true in
+    Keeps-any Q (table_at (codes "task") (length before) d) _ (λ keys.
+    Keeps-then P Q (needed keys (codes "name") >>= task_name_at (at keys (codes "name")) names) _
+    (Keeps-any P (needed keys (codes "name")) _ (λ n. task_name_keeps (at keys (codes "name")) names n)) (λ name is.
+    Keeps-then F Q (needed keys (codes "modules") >>= files_at (at keys (codes "modules"))) _
+    (Keeps-any F (needed keys (codes "modules")) _ (λ m. files_keep (at keys (codes "modules")) m)) (λ modules files.
+    Keeps-then S Q (optional None (λ a. arm_at (at keys (codes "arm")) a >>= (λ arm. Ok (Some arm))) (value_of keys (codes "arm"))) _
+    (start_keeps (at keys (codes "arm")) (value_of keys (codes "arm"))) (λ arm start.
+    let parts = and_parts (is_within 1 16 (length modules)) (list_all is_file_name modules) files in
+    Keeps-only Q keys (codes "name" ∷ codes "modules" ∷ codes "arm" ∷ []) (Ok (record { name = name; modules = modules; arm = arm })) (
+      and_from ((is_name name && is_within 1 16 (length modules)) && list_all is_file_name modules) (is_start arm)
+          (and_from (is_name name && is_within 1 16 (length modules)) (list_all is_file_name modules) (and_from (is_name name) (is_within 1 16 (length modules)) is.0 parts.0) parts.1) start,
+      is.1,
+    )))))
+
+-- ---- first values
+
+number_value_keeps : (key : List ℕ) (d : Data) → Keeps (IsAt is_given_value) (number_value_at key d)
+number_value_keeps key d = Keeps-any (IsAt is_given_value) (text_at key d) _ (λ text. Keeps-any (IsAt is_given_value) (found_or key Range (signed_literal text)) _ (λ n. refl))
+
+truth_value_keeps : (key : List ℕ) (d : Data) → Keeps (IsAt is_given_value) (truth_value_at key d)
+truth_value_keeps key d = Keeps-any (IsAt is_given_value) (found_or key Kind (as_bool d)) _ (λ b. refl)
+
+text_value_keeps : (key : List ℕ) (d : Data) → Keeps (IsAt is_given_value) (text_value_at key d)
+text_value_keeps key d = Keeps-any (IsAt is_given_value) (text_at key d) _ (λ text. Keeps-must (IsAt is_given_value) _ key Range (Ok (values.Text text)) (λ e. refl))
+
+given_keeps : (keys : Keys) (num bool text : Option Data) → Keeps (IsAt is_given_value) (given_value keys num bool text)
+given_keeps keys (Some d) None None = number_value_keeps (at keys (codes "num")) d
+given_keeps keys None (Some d) None = truth_value_keeps (at keys (codes "bool")) d
+given_keeps keys None None (Some d) = text_value_keeps (at keys (codes "text")) d
+given_keeps keys None None None = tt
+given_keeps keys (Some d) (Some e) None = tt
+given_keeps keys (Some d) None (Some f) = tt
+given_keeps keys None (Some e) (Some f) = tt
+given_keeps keys (Some d) (Some e) (Some f) = tt
+
+-- a whole number where it is there
+pub optional_whole_keeps : (key : List ℕ) (low high : ℕ) (o : Option Data) → Keeps (λ n. holds_where_there (is_within low high) n ≡ true) (optional None (λ d. whole_at key low high d >>= (λ n. Ok (Some n))) o)
+optional_whole_keeps key low high o =
+    let Q : Option ℕ → Type 0 = λ n. holds_where_there (is_within low high) n ≡ true in
+    let P : ℕ → Type 0 = λ n. is_within low high n ≡ true in
+    Keeps-optional Q None (λ d. whole_at key low high d >>= (λ n. Ok (Some n))) o refl (λ d. Keeps-then P Q (whole_at key low high d) (λ n. Ok (Some n)) (whole_keeps key low high d) (λ n is. is))
+
+pub pers_keeps : (before : List PersValue) (d : Data) → Keeps (IsAt is_pers_value) (pers_of before d)
+unfolding pers_of
+pers_keeps before d =
+    let Q : PersValue → Type 0 = IsAt is_pers_value in
+    let I : Option ℕ → Type 0 = λ n. holds_where_there (is_within 1 1_000) n ≡ true in
+    Keeps-any Q (table_at (codes "pers") (length before) d) _ (λ keys.
+    Keeps-then IsName Q (needed keys (codes "name") >>= name_at (at keys (codes "name"))) _
+    (Keeps-any IsName (needed keys (codes "name")) _ (λ n. name_keeps (at keys (codes "name")) n)) (λ name form.
+    Keeps-then I Q (optional None (λ i. whole_at (at keys (codes "index")) 1 1_000 i >>= (λ index. Ok (Some index))) (value_of keys (codes "index"))) _
+    (optional_whole_keeps (at keys (codes "index")) 1 1_000 (value_of keys (codes "index"))) (λ index within.
+    Keeps-then (IsAt is_given_value) Q (given_value keys (value_of keys (codes "num")) (value_of keys (codes "bool")) (value_of keys (codes "text"))) _
+    (given_keeps keys (value_of keys (codes "num")) (value_of keys (codes "bool")) (value_of keys (codes "text"))) (λ value given.
+    Keeps-only Q keys (codes "name" ∷ codes "index" ∷ codes "num" ∷ codes "bool" ∷ codes "text" ∷ []) (Ok (record { name = name; index = index; value = value }))
+    (and_from (is_name name && holds_where_there (is_within 1 1_000) index) (is_given_value value) (and_from (is_name name) (holds_where_there (is_within 1 1_000) index) form within) given)))))

@@ -1,0 +1,107 @@
+-- A script that is read is within its limits.
+use Rattle.std.proofs.Common.{◌≡◌, ℕ, ◌≤◌, Bool, true, false, ◌&&◌, nat_le, List, [], length, map, codes, Option, Some, None, Result, Ok, Err, refl, sym, ap, ◌∙◌, arith}
+use Rattle.std.specs.List.{list_all}
+use Rattle.std.proofs.lemmas.Bool.{and_parts, leb-true}
+use Rattle.toml.specs.Data.{Data}
+use Rattle.rapid_model.specs.Names.{differ}
+use Rattle.rapid_model.specs.ScriptData.{ScriptData, IsScript, is_within, is_signal, is_task, is_pers_value, is_zone, is_input}
+use Rattle.rapid_model.specs.declared.input_row.InputRow.{InputRow}
+use Rattle.rapid_model.specs.declared.pers_value.PersValue.{PersValue}
+use Rattle.rapid_model.specs.declared.script_task.ScriptTask.{ScriptTask}
+use Rattle.rapid_model.specs.declared.signal_row.SignalRow.{SignalRow}
+use Rattle.rapid_model.specs.declared.zone_row.ZoneRow.{ZoneRow}
+use Rattle.cell_script.specs.Break.{Read, ◌>>=◌}
+use Rattle.cell_script.specs.Keys.{Keys, at, value_of, needed, optional, whole_at, rows_at, each_row}
+use Rattle.cell_script.specs.Parts.{rows_in, needed_rows}
+use Rattle.cell_script.specs.Rows.{signal_of, task_of, pers_of, zone_of, input_of}
+use Rattle.cell_script.specs.ScriptOf.{default_steps}
+use Rattle.cell_script.proofs.Keeps.{Keeps, Keeps-then, Keeps-any, Keeps-optional, Keeps-grouped, kept}
+use Rattle.cell_script.proofs.KeepsNames.{IsNew}
+use Rattle.cell_script.proofs.KeepsRows.{IsAt, SoMany, rows_keep, rows_differ}
+use Rattle.cell_script.proofs.Limits.{whole_keeps, signal_keeps, task_keeps, pers_keeps}
+use Rattle.cell_script.proofs.LimitsZone.{zone_keeps}
+use Rattle.cell_script.proofs.LimitsInput.{input_keeps}
+
+-- the first of two facts, and the second
+first_kept : {A : Type 0} (P Q : A → Type 0) (read : Read A) → Keeps (λ x. P x × Q x) read → Keeps P read
+first_kept P Q (Ok x) both = both.0
+first_kept P Q (Err b) both = tt
+
+second_kept : {A : Type 0} (P Q : A → Type 0) (read : Read A) → Keeps (λ x. P x × Q x) read → Keeps Q read
+second_kept P Q (Ok x) both = both.1
+second_kept P Q (Err b) both = tt
+
+-- the rows of an array that may be left out
+optional_rows : {A : Type 0} (test : A → Bool) (key : List ℕ) (high : ℕ) (read : List A → Data → Read A) (o : Option Data) → ((b : List A) (e : Data) → Keeps (IsAt test) (read b e))
+    → Keeps (SoMany test 0 high) (optional [] (rows_in key 0 high read) o)
+optional_rows test key high read o row =
+    Keeps-optional (SoMany test 0 high) [] (rows_in key 0 high read) o (record { each = refl; at_least = omega arith; at_most = omega arith }) (λ d. rows_keep test key 0 high read d row)
+
+signal_is : (b : List SignalRow) (e : Data) → Keeps (IsAt is_signal) (signal_of b e)
+signal_is b e = first_kept (IsAt is_signal) (λ row. IsNew (map (λ row. row.name) b) row.name) (signal_of b e) (signal_keeps b e)
+
+signal_is_new : (b : List SignalRow) (e : Data) → Keeps (λ row. IsNew (map (λ row. row.name) b) row.name) (signal_of b e)
+signal_is_new b e = second_kept (IsAt is_signal) (λ row. IsNew (map (λ row. row.name) b) row.name) (signal_of b e) (signal_keeps b e)
+
+task_is : (b : List ScriptTask) (e : Data) → Keeps (IsAt is_task) (task_of b e)
+task_is b e = first_kept (IsAt is_task) (λ task. IsNew (map (λ task. task.name) b) task.name) (task_of b e) (task_keeps b e)
+
+task_is_new : (b : List ScriptTask) (e : Data) → Keeps (λ task. IsNew (map (λ task. task.name) b) task.name) (task_of b e)
+task_is_new b e = second_kept (IsAt is_task) (λ task. IsNew (map (λ task. task.name) b) task.name) (task_of b e) (task_keeps b e)
+
+pub signals_are : (key : List ℕ) (o : Option Data) (signals : List SignalRow) → optional [] (rows_in key 0 256 signal_of) o ≡ Ok signals → SoMany is_signal 0 256 signals
+signals_are key o signals e = kept (SoMany is_signal 0 256) _ signals (optional_rows is_signal key 256 signal_of o signal_is) e
+
+signals_differ : (key : List ℕ) (o : Option Data) (signals : List SignalRow) → optional [] (rows_in key 0 256 signal_of) o ≡ Ok signals → differ (map (λ row. row.name) signals) ≡ true
+signals_differ key o signals e =
+    let Q : List SignalRow → Type 0 = λ rows. differ (map (λ row. row.name) rows) ≡ true in
+    kept Q _ signals (Keeps-optional Q [] (rows_in key 0 256 signal_of) o refl (λ d. rows_differ (λ row. row.name) key 0 256 signal_of d signal_is_new)) e
+
+pub tasks_are : (keys : Keys) (tasks : List ScriptTask) → needed_rows keys (codes "task") 1 8 task_of ≡ Ok tasks → SoMany is_task 1 8 tasks
+tasks_are keys tasks e =
+    let Q : List ScriptTask → Type 0 = SoMany is_task 1 8 in
+    let key : List ℕ = at keys (codes "task") in
+    kept Q (needed_rows keys (codes "task") 1 8 task_of) tasks (Keeps-grouped Q (needed keys (codes "task")) (rows_at key 1 8) (each_row task_of [])
+    (Keeps-any Q (needed keys (codes "task")) (rows_in key 1 8 task_of) (λ d. rows_keep is_task key 1 8 task_of d task_is))) e
+
+tasks_differ : (keys : Keys) (tasks : List ScriptTask) → needed_rows keys (codes "task") 1 8 task_of ≡ Ok tasks → differ (map (λ task. task.name) tasks) ≡ true
+tasks_differ keys tasks e =
+    let Q : List ScriptTask → Type 0 = λ rows. differ (map (λ task. task.name) rows) ≡ true in
+    let key : List ℕ = at keys (codes "task") in
+    kept Q (needed_rows keys (codes "task") 1 8 task_of) tasks (Keeps-grouped Q (needed keys (codes "task")) (rows_at key 1 8) (each_row task_of [])
+    (Keeps-any Q (needed keys (codes "task")) (rows_in key 1 8 task_of) (λ d. rows_differ (λ task. task.name) key 1 8 task_of d task_is_new))) e
+
+pub IsScript-from : (keys : Keys) (steps : ℕ) (signals : List SignalRow) (tasks : List ScriptTask) (pers : List PersValue) (zones : List ZoneRow) (inputs : List InputRow)
+    → optional default_steps (whole_at (at keys (codes "steps")) 1 1_000_000) (value_of keys (codes "steps")) ≡ Ok steps
+    → optional [] (rows_in (at keys (codes "signal")) 0 256 signal_of) (value_of keys (codes "signal")) ≡ Ok signals
+    → needed_rows keys (codes "task") 1 8 task_of ≡ Ok tasks
+    → optional [] (rows_in (at keys (codes "pers")) 0 1_000 pers_of) (value_of keys (codes "pers")) ≡ Ok pers
+    → optional [] (rows_in (at keys (codes "zone")) 0 16 (zone_of signals tasks)) (value_of keys (codes "zone")) ≡ Ok zones
+    → optional [] (rows_in (at keys (codes "input")) 0 10_000 (input_of signals tasks)) (value_of keys (codes "input")) ≡ Ok inputs
+    → IsScript (record { steps = steps; signals = signals; tasks = tasks; pers = pers; zones = zones; inputs = inputs })
+IsScript-from keys steps signals tasks pers zones inputs s1 s2 s3 s4 s5 s6 =
+    let S : ℕ → Type 0 = λ n. is_within 1 1_000_000 n ≡ true in
+    let within = kept S _ steps (Keeps-optional S default_steps (whole_at (at keys (codes "steps")) 1 1_000_000) (value_of keys (codes "steps")) refl (λ d. whole_keeps (at keys (codes "steps")) 1 1_000_000 d)) s1 in
+    let parts = and_parts (nat_le 1 steps) (nat_le steps 1_000_000) within in
+    let are_signals = signals_are (at keys (codes "signal")) (value_of keys (codes "signal")) signals s2 in
+    let are_tasks = tasks_are keys tasks s3 in
+    let are_pers = kept (SoMany is_pers_value 0 1_000) _ pers (optional_rows is_pers_value (at keys (codes "pers")) 1_000 pers_of (value_of keys (codes "pers")) pers_keeps) s4 in
+    let are_zones = kept (SoMany (is_zone signals tasks) 0 16) _ zones (optional_rows (is_zone signals tasks) (at keys (codes "zone")) 16 (zone_of signals tasks) (value_of keys (codes "zone")) (zone_keeps signals tasks)) s5 in
+    let are_inputs = kept (SoMany (is_input signals tasks) 0 10_000) _ inputs (optional_rows (is_input signals tasks) (at keys (codes "input")) 10_000 (input_of signals tasks) (value_of keys (codes "input")) (input_keeps signals tasks)) s6 in
+    record {
+      some_steps = leb-true 1 steps parts.0;
+      few_steps = leb-true steps 1_000_000 parts.1;
+      few_signals = are_signals.at_most;
+      signals = are_signals.each;
+      signal_names = signals_differ (at keys (codes "signal")) (value_of keys (codes "signal")) signals s2;
+      some_tasks = are_tasks.at_least;
+      few_tasks = are_tasks.at_most;
+      tasks = are_tasks.each;
+      task_names = tasks_differ keys tasks s3;
+      few_pers = are_pers.at_most;
+      pers = are_pers.each;
+      few_zones = are_zones.at_most;
+      zones = are_zones.each;
+      few_inputs = are_inputs.at_most;
+      inputs = are_inputs.each;
+    }

@@ -1,0 +1,140 @@
+-- Each zone that is read is within its limits.
+use Rattle.std.proofs.Common.{◌≡◌, ℕ, zero, suc, ◌+◌, ◌<◌, ◌≤◌, Bool, true, false, not, ◌&&◌, ◌||◌, nat_le, nat_lt, ℤ, List, [], ◌∷◌, ◌++◌, length, get_or, map, replicate, take, drop, codes, Option, Some, None, is_some, is_none, Result, Ok, Err, ◌==◌, if◌then◌else◌, refl, sym, ap, ◌∙◌, arith}
+use Rattle.std.specs.Prelude.{pos, negsuc, int_lt}
+use Rattle.std.specs.List.{list_all, list_any}
+use Rattle.std.proofs.lemmas.Bool.{and_parts, and_from, eqb-true, leb-true}
+use Rattle.std.proofs.lemmas.List.Folds.{list_any_at}
+use Rattle.toml.specs.Data.{Data, as_integer}
+use Rattle.rapid_num.specs.Reach.{is_in_reach}
+use Rattle.rapid_num.specs.declared.shape.Bound.{Bound}
+use Rattle.rapid_num.specs.declared.shape.Shape.{Shape}
+use Rattle.rapid_model.specs.Names.{is_name}
+use Rattle.rapid_model.specs.ScriptData.{holds_where_there, is_bounded, is_zone_shape, has_arm, is_zone}
+use Rattle.rapid_model.specs.declared.script_rule.ScriptRule.TheVariants.{NoSuch, Range}
+use Rattle.rapid_model.specs.declared.script_task.ScriptTask.{ScriptTask}
+use Rattle.rapid_model.specs.declared.signal_row.SignalRow.{SignalRow}
+use Rattle.rapid_model.specs.declared.zone_row.ZoneRow.{ZoneRow}
+use Rattle.cell_script.specs.Break.{Read, ◌>>=◌, must}
+use Rattle.cell_script.specs.Keys.{Keys, at, value_of, needed, bit_at, word_at, name_at, number_at, list_at, table_at}
+use Rattle.cell_script.specs.Rows.{armed_task_at, is_axis, are_axes, axes_at, bounds_at, each_below, high_bounds_at, is_axis_number, bound_of, shape_of, zone_of}
+use Rattle.cell_script.proofs.Keeps.{Keeps, Keeps-then, Keeps-any, Keeps-must, Keeps-only}
+use Rattle.cell_script.proofs.KeepsNames.{IsName, IsOf, name_keeps, number_keeps}
+use Rattle.cell_script.proofs.KeepsRows.{IsAt}
+
+task_is_armed : (key : List ℕ) (tasks : List ScriptTask) (d : Data) → Keeps (λ n. has_arm tasks n ≡ true) (armed_task_at key tasks d)
+task_is_armed key tasks d =
+    let Q : ℕ → Type 0 = λ n. has_arm tasks n ≡ true in
+    Keeps-any Q (number_at key (map (λ task. task.name) tasks) d) _ (λ n. Keeps-must Q (has_arm tasks n) key NoSuch (Ok n) (λ e. e))
+
+-- one or more axes
+record AreAxes (axes : List ℤ) : Type 0 where
+  pub some : not (length axes == 0) ≡ true
+  pub ascend : are_axes axes ≡ true
+
+axes_keep : (key : List ℕ) (d : Data) → Keeps AreAxes (axes_at key d)
+axes_keep key d =
+    Keeps-any AreAxes (list_at key as_integer d) _ (λ axes.
+    Keeps-must AreAxes (not (length axes == 0) && are_axes axes) key Range (Ok axes) (λ e.
+    let parts = and_parts (not (length axes == 0)) (are_axes axes) e in record { some = parts.0; ascend = parts.1 }))
+
+-- so many bounds in reach
+record AreBounds (count : ℕ) (bounds : List ℤ) : Type 0 where
+  pub count_is : length bounds ≡ count
+  pub reach : list_all is_in_reach bounds ≡ true
+
+bounds_keep : (key : List ℕ) (count : ℕ) (d : Data) → Keeps (AreBounds count) (bounds_at key count d)
+bounds_keep key count d =
+    Keeps-any (AreBounds count) (list_at key as_integer d) _ (λ bounds.
+    Keeps-must (AreBounds count) (length bounds == count && list_all is_in_reach bounds) key Range (Ok bounds) (λ e.
+    let parts = and_parts (length bounds == count) (list_all is_in_reach bounds) e in record { count_is = eqb-true (length bounds) count parts.0; reach = parts.1 }))
+
+record AreHighs (lows highs : List ℤ) : Type 0 where
+  pub count_is : length highs ≡ length lows
+  pub reach : list_all is_in_reach highs ≡ true
+  pub below : each_below lows highs ≡ true
+
+highs_keep : (key : List ℕ) (lows : List ℤ) (d : Data) → Keeps (AreHighs lows) (high_bounds_at key lows d)
+highs_keep key lows d =
+    Keeps-then (AreBounds (length lows)) (AreHighs lows) (bounds_at key (length lows) d) _ (bounds_keep key (length lows) d) (λ highs are.
+    Keeps-must (AreHighs lows) (each_below lows highs) key Range (Ok highs) (λ e. record { count_is = are.count_is; reach = are.reach; below = e }))
+
+-- the bound of an axis, where it is there, is one
+bounded : (axis : ℕ) (axes lows highs : List ℤ) → list_all is_in_reach lows ≡ true → list_all is_in_reach highs ≡ true → each_below lows highs ≡ true
+    → holds_where_there is_bounded (bound_of axis axes lows highs) ≡ true
+bounded axis [] lows highs low high below = refl
+bounded axis (a ∷ axes) [] highs low high below = refl
+bounded axis (a ∷ axes) (l ∷ lows) [] low high below = refl
+bounded axis (a ∷ axes) (l ∷ lows) (h ∷ highs) low high below =
+    let ls = and_parts (is_in_reach l) (list_all is_in_reach lows) low in
+    let hs = and_parts (is_in_reach h) (list_all is_in_reach highs) high in
+    let bs = and_parts (int_lt l h) (each_below lows highs) below in
+    by_test (is_axis_number a axis) (and_from (is_in_reach l && is_in_reach h) (int_lt l h) (and_from (is_in_reach l) (is_in_reach h) ls.0 hs.0) bs.0) (bounded axis axes lows highs ls.1 hs.1 bs.1)
+  where
+    by_test : (test : Bool) → (is_in_reach l && is_in_reach h && int_lt l h) ≡ true → holds_where_there is_bounded (bound_of axis axes lows highs) ≡ true
+        → holds_where_there is_bounded (if test then Some (record { low = l; high = h }) else bound_of axis axes lows highs) ≡ true
+    by_test true here more = here
+    by_test false here more = more
+
+six_all : (f : ℕ → Option Bound) → ((n : ℕ) → holds_where_there is_bounded (f n) ≡ true) → list_all (holds_where_there is_bounded) (f 1 ∷ f 2 ∷ f 3 ∷ f 4 ∷ f 5 ∷ f 6 ∷ []) ≡ true
+six_all f each = rw (each 1, each 2, each 3, each 4, each 5, each 6) refl
+
+first_axis : (a : ℤ) (axes : List ℤ) → are_axes (a ∷ axes) ≡ true → is_axis a ≡ true
+first_axis a [] e = (and_parts (is_axis a) true (and_from (is_axis a) true e refl)).0
+first_axis a (b ∷ axes) e = (and_parts (is_axis a) (int_lt a b) (and_parts (is_axis a && int_lt a b) (are_axes (b ∷ axes)) e).0).0
+
+some_at : (f : ℕ → Option Bound) (k : ℕ) → k < 6 → is_some (get_or (f 1 ∷ f 2 ∷ f 3 ∷ f 4 ∷ f 5 ∷ f 6 ∷ []) k None) ≡ true → list_any is_some (f 1 ∷ f 2 ∷ f 3 ∷ f 4 ∷ f 5 ∷ f 6 ∷ []) ≡ true
+some_at f k lt e = list_any_at is_some (f 1 ∷ f 2 ∷ f 3 ∷ f 4 ∷ f 5 ∷ f 6 ∷ []) k None lt e
+
+-- the first axis has a bound
+some_bound : (axes lows highs : List ℤ) → AreAxes axes → length lows ≡ length axes → length highs ≡ length lows
+    → list_any is_some (map (λ axis. bound_of axis axes lows highs) (1 ∷ 2 ∷ 3 ∷ 4 ∷ 5 ∷ 6 ∷ [])) ≡ true
+some_bound [] lows highs are low high = absurd (cc (are.some))
+some_bound (a ∷ axes) [] highs are low high = absurd (omega arith)
+some_bound (a ∷ axes) (l ∷ lows) [] are low high = absurd (omega arith)
+some_bound (a ∷ axes) (l ∷ lows) (h ∷ highs) are low high = by_axis a (first_axis a axes are.ascend)
+  where
+    by_axis : (a : ℤ) → is_axis a ≡ true → list_any is_some (map (λ axis. bound_of axis (a ∷ axes) (l ∷ lows) (h ∷ highs)) (1 ∷ 2 ∷ 3 ∷ 4 ∷ 5 ∷ 6 ∷ [])) ≡ true
+    by_axis (pos zero) e = absurd cc
+    by_axis (pos (suc zero)) e = some_at (λ axis. bound_of axis (pos 1 ∷ axes) (l ∷ lows) (h ∷ highs)) 0 (omega arith) refl
+    by_axis (pos (suc (suc zero))) e = some_at (λ axis. bound_of axis (pos 2 ∷ axes) (l ∷ lows) (h ∷ highs)) 1 (omega arith) refl
+    by_axis (pos (suc (suc (suc zero)))) e = some_at (λ axis. bound_of axis (pos 3 ∷ axes) (l ∷ lows) (h ∷ highs)) 2 (omega arith) refl
+    by_axis (pos (suc (suc (suc (suc zero))))) e = some_at (λ axis. bound_of axis (pos 4 ∷ axes) (l ∷ lows) (h ∷ highs)) 3 (omega arith) refl
+    by_axis (pos (suc (suc (suc (suc (suc zero)))))) e = some_at (λ axis. bound_of axis (pos 5 ∷ axes) (l ∷ lows) (h ∷ highs)) 4 (omega arith) refl
+    by_axis (pos (suc (suc (suc (suc (suc (suc zero))))))) e = some_at (λ axis. bound_of axis (pos 6 ∷ axes) (l ∷ lows) (h ∷ highs)) 5 (omega arith) refl
+    by_axis (pos (suc (suc (suc (suc (suc (suc (suc n)))))))) e =
+        let m : ℕ = suc (suc (suc (suc (suc (suc (suc n)))))) in
+        absurd (omega (arith, leb-true m 6 (and_parts (nat_le 1 m) (nat_le m 6) e).1))
+    by_axis (negsuc n) e = absurd cc
+
+shape_keeps : (inside : Bool) (axes lows highs : List ℤ) → AreAxes axes → AreBounds (length axes) lows → AreHighs lows highs → is_zone_shape (shape_of inside axes lows highs) ≡ true
+shape_keeps inside axes lows highs are low high =
+    let f : ℕ → Option Bound = λ axis. bound_of axis axes lows highs in
+    and_from (list_any is_some (f 1 ∷ f 2 ∷ f 3 ∷ f 4 ∷ f 5 ∷ f 6 ∷ []) && list_all (holds_where_there is_bounded) (f 1 ∷ f 2 ∷ f 3 ∷ f 4 ∷ f 5 ∷ f 6 ∷ [])) true
+    (and_from (list_any is_some (f 1 ∷ f 2 ∷ f 3 ∷ f 4 ∷ f 5 ∷ f 6 ∷ [])) (list_all (holds_where_there is_bounded) (f 1 ∷ f 2 ∷ f 3 ∷ f 4 ∷ f 5 ∷ f 6 ∷ []))
+    (some_bound axes lows highs are low.count_is high.count_is) (six_all f (λ n. bounded n axes lows highs low.reach high.reach high.below))) refl
+
+pub zone_keeps : (signals : List SignalRow) (tasks : List ScriptTask) (before : List ZoneRow) (d : Data) → Keeps (IsAt (is_zone signals tasks)) (zone_of signals tasks before d)
+unfolding zone_of
+zone_keeps signals tasks before d =
+    let Q : ZoneRow → Type 0 = IsAt (is_zone signals tasks) in
+    let T : ℕ → Type 0 = λ n. has_arm tasks n ≡ true in
+    Keeps-any Q (table_at (codes "zone") (length before) d) _ (λ keys.
+    Keeps-then IsName Q (needed keys (codes "name") >>= name_at (at keys (codes "name"))) _
+    (Keeps-any IsName (needed keys (codes "name")) _ (λ n. name_keeps (at keys (codes "name")) n)) (λ name form.
+    Keeps-then T Q (needed keys (codes "task") >>= armed_task_at (at keys (codes "task")) tasks) _
+    (Keeps-any T (needed keys (codes "task")) _ (λ n. task_is_armed (at keys (codes "task")) tasks n)) (λ task armed.
+    Keeps-any Q (needed keys (codes "kind") >>= word_at (at keys (codes "kind")) (codes "outside") (codes "inside")) _ (λ inside.
+    Keeps-then AreAxes Q (needed keys (codes "axes") >>= axes_at (at keys (codes "axes"))) _
+    (Keeps-any AreAxes (needed keys (codes "axes")) _ (λ n. axes_keep (at keys (codes "axes")) n)) (λ axes are.
+    Keeps-then (AreBounds (length axes)) Q (needed keys (codes "low") >>= bounds_at (at keys (codes "low")) (length axes)) _
+    (Keeps-any (AreBounds (length axes)) (needed keys (codes "low")) _ (λ n. bounds_keep (at keys (codes "low")) (length axes) n)) (λ lows low.
+    Keeps-then (AreHighs lows) Q (needed keys (codes "high") >>= high_bounds_at (at keys (codes "high")) lows) _
+    (Keeps-any (AreHighs lows) (needed keys (codes "high")) _ (λ n. highs_keep (at keys (codes "high")) lows n)) (λ highs high.
+    Keeps-then (IsOf signals) Q (needed keys (codes "signal") >>= number_at (at keys (codes "signal")) (map (λ row. row.name) signals)) _
+    (Keeps-any (IsOf signals) (needed keys (codes "signal")) _ (λ n. number_keeps (at keys (codes "signal")) (λ row. row.name) signals n)) (λ signal of.
+    Keeps-any Q (needed keys (codes "value") >>= bit_at (at keys (codes "value"))) _ (λ value.
+    Keeps-only Q keys (codes "name" ∷ codes "task" ∷ codes "kind" ∷ codes "axes" ∷ codes "low" ∷ codes "high" ∷ codes "signal" ∷ codes "value" ∷ [])
+    (Ok (record { name = name; task = task; shape = shape_of inside axes lows highs; signal = signal; value = value }))
+    (and_from ((is_name name && has_arm tasks task) && is_zone_shape (shape_of inside axes lows highs)) (nat_lt signal (length signals))
+    (and_from (is_name name && has_arm tasks task) (is_zone_shape (shape_of inside axes lows highs)) (and_from (is_name name) (has_arm tasks task) form armed)
+    (shape_keeps inside axes lows highs are low high)) of))))))))))

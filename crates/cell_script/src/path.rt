@@ -1,0 +1,77 @@
+//! How a broken rule names a key.
+
+ghost use Rattle.std.specs.Prelude.{◌≡◌, List, ℕ, ◌++◌};
+ghost use Rattle.cell_script.specs.Break.{key_in, element_of, shown, shown_byte};
+ghost use Rattle.cell_script.specs.Gives.{path_of};
+
+use itoa::Buffer;
+use rapid_model::Text;
+
+/// Where a table stands: it is the script, or the element of this number, from 0, of an array of the script.
+#[derive(Clone, Copy)]
+pub(crate) enum Path {
+    Script,
+    Element { array: &'static str, number: usize },
+}
+
+impl Path {
+    /// The path itself.
+    pub(crate) fn shown(&self) -> Text
+        ensures { result ≡ shown (path_of self.now) }
+    {
+        match self {
+            Path::Script => Text::new(),
+            Path::Element { array, number } => shown_element(array, *number),
+        }
+    }
+
+    /// A key of the table.
+    pub(crate) fn shown_key(&self, key: &str) -> Text
+        ensures { result ≡ shown (key_in (path_of self.now) key.now) }
+    {
+        let mut text = self.shown();
+        match self {
+            Path::Script => {
+                show(&mut text, key.as_bytes());
+                text
+            }
+            Path::Element { .. } => {
+                show(&mut text, b".");
+                show(&mut text, key.as_bytes());
+                text
+            }
+        }
+    }
+}
+
+/// The element of this number of an array.
+pub(crate) fn shown_element(array: &str, number: usize) -> Text
+    ensures { result ≡ shown (element_of array.now number) }
+{
+    let mut text = Text::new();
+    let mut buffer = Buffer::new();
+    show(&mut text, array.as_bytes());
+    show(&mut text, b"[");
+    show(&mut text, buffer.format(number).as_bytes());
+    show(&mut text, b"]");
+    text
+}
+
+/// Appends bytes to what is shown.
+fn show(text: &mut Text, bytes: &[u8])
+    ensures { (front : List ℕ) → text.old ≡ shown front → text.new ≡ shown (front ++ bytes.now) }
+{
+    for byte in bytes {
+        text.push(shown_byte(*byte));
+    }
+}
+
+fn shown_byte(byte: u8) -> u8
+    ensures { result ≡ shown_byte byte }
+{
+    if (32..=126).contains(&byte) {
+        byte
+    } else {
+        b'?'
+    }
+}
