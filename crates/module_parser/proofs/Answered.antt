@@ -12,8 +12,8 @@ use Rattle.expr_parser.specs.Reads.{inside_read, value_read, left, right}
 use Rattle.expr_parser.proofs.Ahead.{inside_ll, inside_above, index_opens}
 use Rattle.expr_parser.proofs.Answered.{inside_reads}
 use Rattle.stmt_parser.specs.Reads.{behind_read, if_read}
-use Rattle.stmt_parser.proofs.Serves.{Serves, one_serves, larger_serves, same_serves, both_serve, made_serves, either_serves, optional_serves, many_serves, any_serves}
-use Rattle.stmt_parser.proofs.Answered.{name_serves, value_serves, behind_serves, if_serves, list_serves, list_reads}
+use Rattle.rapid_forms.proofs.Serves.{Serves, one_serves, larger_serves, same_serves, both_serve, made_serves, either_serves, optional_serves, many_serves}
+use Rattle.stmt_parser.proofs.Answered.{any_serves, name_serves, value_serves, behind_serves, if_serves, list_serves, list_reads}
 use Rattle.module_parser.specs.Words.{attribute_of}
 use Rattle.module_parser.specs.Grammar.{datum_tree, task_item, param_tree, module_tree, rest, datum, param, params, body, local, item, attribute, attributes, «module»}
 use Rattle.module_parser.specs.Reads.{datum_signs, item_signs, attribute_signs, mode_signs, param_signs, rest_read, datum_read, param_read, more_param_read, some_params_read, params_read, locals_read, body_read, proc_read, func_read, trap_read, behind_local_read, local_tree, local_read, task_read, item_read, attribute_read, more_attribute_read, attributes_read, module_read}

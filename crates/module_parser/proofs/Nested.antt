@@ -1,6 +1,6 @@
 -- What is read behind LOCAL, if it is there, and made an item.
 use Rattle.std.proofs.Common.{◌≡◌, ℕ, true, false, List, [], ◌∷◌, Option, Ok, Err, refl, sym, ap, ◌∙◌}
-use mathlib.Core.Logic.{◌⊎◌, inl, inr}
+use mathlib.Core.Logic.{inl, inr}
 use Rattle.rapid_lexer.specs.Tokens.{Lexeme}
 use Rattle.raw_trees.specs.Plain.{PlainItem}
 use Rattle.rapid_forms.specs.declared.sign.Sign.TheVariants as signs

@@ -1,43 +1,28 @@
 -- A text comes to one thing: the answers exclude one another, and each of them is one.
-use Rattle.std.proofs.Common.{◌≡◌, ℕ, suc, ◌+◌, ◌≤◌, ◌<◌, Bool, List, ◌++◌, length, take, drop, Result, Ok, Err, refl, sym, ap, subst, ◌∙◌, inl, inr, ◌⊎◌, arith}
-use Rattle.std.proofs.lemmas.Bool.{cases_order, cases_lt}
-use Rattle.std.proofs.lemmas.List.{take-append-drop, take-take, take_all}
-use Rattle.rapid_lexer.specs.Tokens.{Lexeme, Tiles}
-use Rattle.rapid_lexer.specs.Faults.{IsFirstMisfit}
-use Rattle.rapid_lexer.specs.declared.fault.LexFault.{LexFault}
+use Rattle.std.proofs.Common.{◌≡◌, ℕ, suc, ◌+◌, Bool, List, length, drop, Result, Ok, Err, sym, ap, subst, ◌∙◌, inl, inr, ◌⊎◌, arith}
+use Rattle.std.proofs.lemmas.List.{take_all}
+use Rattle.rapid_lexer.specs.Tokens.{Lexeme}
 use Rattle.rapid_lexer.proofs.Tilings.{one_tiling, one_fault, no_fault}
 use Rattle.raw_trees.specs.Plain.{PlainModule}
 use Rattle.rapid_forms.specs.declared.sign.Sign.{Sign}
 use Rattle.rapid_forms.specs.declared.fault.SyntaxFault.{SyntaxFault}
 use Rattle.rapid_forms.specs.declared.fault.SyntaxFault.TheVariants.{Rule, Lex, Memory}
 use Rattle.rapid_forms.specs.Forms.{Form}
-use Rattle.rapid_forms.specs.Parsed.{IsLongest, IsTooDeep, Spells, syntax_fault, depth_fault}
+use Rattle.rapid_forms.specs.Parsed.{IsTooDeep, syntax_fault, depth_fault}
 use Rattle.rapid_forms.proofs.Laws.{LL}
-use Rattle.rapid_forms.proofs.Spelled.{deep_once}
+use Rattle.rapid_forms.proofs.Spelled.{fewer, longest_one, longest_deep, deep_once}
 use Rattle.module_parser.specs.Grammar.{«module»}
 use Rattle.module_parser.specs.Modules.{SpellsWithin, IsStuck, Stops, ModuleText, most_levels}
 use Rattle.module_parser.proofs.Ahead.{module_ll}
 use Rattle.module_parser.proofs.Answered.{module_above}
 
--- fewer tokens begin a form as well
-fewer : {A : Type 0} {null : Bool} {first more : List Sign} {f : Form A} → LL null first more f → (ts : List Lexeme) (i j : ℕ) → i ≤ j → f.Begun (take j ts) → f.Begun (take i ts)
-fewer {f = f} l ts i j le b =
-    subst f.Begun (take-take i j ts le) (l.front (take i (take j ts)) (drop i (take j ts)) (subst f.Begun (sym (take-append-drop i (take j ts))) b))
-
 module _ {A : Type 0} {F : ℕ → Form A} {n : ℕ} {ts : List Lexeme} where
   stuck_once : {j k : ℕ} → IsStuck F n ts j → IsStuck F n ts k → j ≡ k
-  stuck_once {j} {k} h h' = elim (cases_order j k) [
-    | inl e ↦ e
-    | inr (inl less) ↦ absurd (h.longest.most k less h'.longest.there h'.longest.begins)
-    | inr (inr less) ↦ absurd (h'.longest.most j less h.longest.there h.longest.begins)
-  ]
+  stuck_once h h' = longest_one h.longest h'.longest
 
   module _ {null : Bool} {first more : List Sign} (l : LL null first more (F n)) where
     stuck_deep : {j k : ℕ} → IsStuck F n ts j → IsTooDeep F n ts k → ⊥
-    stuck_deep {j} {k} h d = elim (cases_lt j (suc k)) [
-      | inl less ↦ h.longest.most (suc k) less d.there d.begins
-      | inr le ↦ d.deep (fewer l ts (suc k) j le h.begun)
-    ]
+    stuck_deep h d = longest_deep l h.longest h.begun d
 
     whole_deep : {k : ℕ} (x : A) → (F n).Whole x ts → IsTooDeep F n ts k → ⊥
     whole_deep {k} x w d = d.deep (fewer l ts (suc k) (length ts) d.there (subst (F n).Begun (sym (take_all (length ts) ts (omega arith))) (l.begun x ts w)))

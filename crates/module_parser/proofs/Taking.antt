@@ -1,18 +1,13 @@
 -- What the loops read takes a token each time.
-use Rattle.std.proofs.Common.{ℕ, false, List}
+use Rattle.std.proofs.Common.{ℕ, List}
 use Rattle.rapid_forms.specs.declared.sign.Sign.{Sign}
 use Rattle.rapid_forms.specs.declared.sign.Sign.TheVariants as signs
-use Rattle.rapid_forms.specs.Forms.{Form}
-use Rattle.rapid_forms.specs.Reading.{Reader}
-use Rattle.rapid_forms.proofs.Loops.{Takes, reads_take}
+use Rattle.rapid_forms.proofs.Loops.{Takes}
 use Rattle.stmt_parser.specs.Reads.{behind_read}
-use Rattle.stmt_parser.proofs.Serves.{Serves}
+use Rattle.rapid_forms.proofs.Serves.{serves_take}
 use Rattle.stmt_parser.proofs.Answered.{behind_serves}
 use Rattle.module_parser.specs.Reads.{datum_read, more_param_read, more_attribute_read, item_read}
 use Rattle.module_parser.proofs.Answered.{param_serves, datum_serves, item_serves, attribute_serves}
-
-serves_take : {A : Type 0} {first more : List Sign} {F : ℕ → Form A} {n : ℕ} {a : Reader A} → Serves false first more F n a → Takes a
-serves_take {n = n} s = reads_take s.reads (s.ahead n)
 
 pub datum_takes : (words : List Sign) (n : ℕ) → Takes (datum_read words n)
 datum_takes words n = serves_take (datum_serves {n = n} words)

@@ -12,18 +12,16 @@
 --   params   = param { "," param }
 --   param    = [ INOUT | VAR | PERS ] name name
 --   body     = { (CONST | VAR) rest } list [ ERROR list ]
-use Rattle.std.specs.Prelude.{ℕ, Bool, true, false, is_some, List, [], ◌∷◌, Option, None, Some}
+use Rattle.std.specs.Prelude.{ℕ, true, false, is_some, List, [], ◌∷◌, Option, None, Some}
 use Rattle.rapid_lexer.specs.Tokens.{Lexeme}
 use Rattle.raw_trees.specs.declared.raw_module.Attribute.{Attribute}
-use Rattle.raw_trees.specs.declared.raw_datum.DatumKind.{DatumKind}
 use Rattle.raw_trees.specs.declared.raw_routine.RoutineKind.TheVariants as kinds
-use Rattle.raw_trees.specs.declared.raw_routine.Mode.{Mode}
 use Rattle.raw_trees.specs.declared.raw_routine.Mode.TheVariants as modes
-use Rattle.raw_trees.specs.Plain.{PlainName, PlainExpr, PlainStmt, PlainDatum, PlainParam, PlainRoutine, PlainItem, PlainModule, Datum, Routine}
+use Rattle.raw_trees.specs.Plain.{PlainName, PlainExpr, PlainStmt, PlainDatum, PlainParam, PlainItem, PlainModule, Datum, Routine}
 use Rattle.rapid_forms.specs.declared.sign.Sign.{Sign}
 use Rattle.rapid_forms.specs.declared.sign.Sign.TheVariants as signs
 use Rattle.rapid_forms.specs.Forms.{Form, one, seq, either, optional, many, made}
-use Rattle.expr_parser.specs.Grammar.{Inside, inside, mark, name, expr_of, behind, inner, none_or, first_and_more}
+use Rattle.expr_parser.specs.Grammar.{inside, mark, name, expr_of, behind, inner, none_or, first_and_more}
 use Rattle.stmt_parser.specs.Grammar.{list}
 use Rattle.module_parser.specs.Words.{attribute_of, kind_of, mode_of}
 

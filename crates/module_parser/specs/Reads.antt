@@ -1,10 +1,10 @@
 -- Reading modules from left to right: the readers of the forms of the grammar, by which its functions are proved. Items
 -- are read with LOCAL taken out, which begins several of them.
-use Rattle.std.specs.Prelude.{ℕ, List, [], ◌∷◌, Option, is_some}
+use Rattle.std.specs.Prelude.{ℕ, List, [], ◌∷◌, Option}
 use mathlib.Core.Logic.{◌⊎◌, inl, inr}
 use Rattle.rapid_lexer.specs.Tokens.{Lexeme}
 use Rattle.raw_trees.specs.declared.raw_module.Attribute.{Attribute}
-use Rattle.raw_trees.specs.Plain.{PlainName, PlainExpr, PlainStmt, PlainDatum, PlainParam, PlainItem, PlainModule}
+use Rattle.raw_trees.specs.Plain.{PlainName, PlainDatum, PlainParam, PlainItem, PlainModule}
 use Rattle.rapid_forms.specs.declared.sign.Sign.{Sign}
 use Rattle.rapid_forms.specs.declared.sign.Sign.TheVariants as signs
 use Rattle.rapid_forms.specs.Reading.{Reader, one_read, seq_read, either_read, optional_read, many_read, made_read}

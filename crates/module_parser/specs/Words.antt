@@ -1,5 +1,5 @@
 -- What the words of declarations stand for.
-use Rattle.std.specs.Prelude.{ℕ, Bool, List, [], ◌∷◌, if◌then◌else◌}
+use Rattle.std.specs.Prelude.{ℕ, Bool, [], ◌∷◌, if◌then◌else◌}
 use Rattle.rapid_lexer.specs.Tokens.{Lexeme}
 use Rattle.raw_trees.specs.declared.raw_module.Attribute.{Attribute}
 use Rattle.raw_trees.specs.declared.raw_module.Attribute.TheVariants as attributes

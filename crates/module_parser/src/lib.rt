@@ -15,4 +15,6 @@ pub use laws::one_module;
 pub use parse::parse_module;
 
 #[cfg(test)]
+mod refused;
+#[cfg(test)]
 mod tests;

@@ -2,8 +2,7 @@ use Rattle.std.proofs.Common.{map, sym, ◌∙◌}
 use Rattle.std.proofs.lemmas.Result.{err_from_is_err_and}
 use Rattle.raw_trees.specs.Views.{view_item}
 use Rattle.rapid_forms.specs.Reading.{rest_from}
-use Rattle.rapid_forms.proofs.Loops.{front_none, loop_done, loop_fails, loop_smaller}
-use Rattle.expr_parser.proofs.Rounds.{loop_pushes}
+use Rattle.rapid_forms.proofs.Loops.{front_none, loop_done, loop_fails, loop_smaller, loop_pushes}
 use Rattle.module_parser.proofs.Taking.{item_takes}
 use Rattle.module_parser.proofs.module.items.Goals as goal
 

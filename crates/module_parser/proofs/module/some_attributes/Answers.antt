@@ -1,8 +1,7 @@
 use Rattle.std.proofs.Common.{sym, ◌∙◌}
 use Rattle.std.proofs.lemmas.Result.{err_from_is_err_and}
 use Rattle.rapid_forms.specs.Reading.{rest_from}
-use Rattle.rapid_forms.proofs.Loops.{loop_done, loop_fails, loop_smaller, loop_more}
-use Rattle.expr_parser.proofs.Rounds.{loop_first}
+use Rattle.rapid_forms.proofs.Loops.{loop_done, loop_fails, loop_smaller, loop_more, loop_first}
 use Rattle.module_parser.proofs.Taking.{more_attribute_takes}
 use Rattle.module_parser.proofs.module.some_attributes.Goals as goal
 

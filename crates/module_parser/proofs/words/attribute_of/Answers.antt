@@ -1,5 +1,5 @@
 use Rattle.rapid_forms.specs.Signs.{has}
-use Rattle.expr_parser.proofs.Arms.{not_there}
+use Rattle.rapid_forms.proofs.Arms.{not_there}
 use Rattle.module_parser.specs.Words.{attribute_of}
 use Rattle.module_parser.proofs.words.attribute_of.Goals as goal
 
