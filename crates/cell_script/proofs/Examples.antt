@@ -1,5 +1,6 @@
 -- The definitions on small scripts, worked by hand.
-use Rattle.std.proofs.Common.{◌≡◌, ℕ, [], ◌∷◌, codes, None, Ok, Err, refl}
+use Rattle.std.proofs.Common.{◌≡◌, [], ◌∷◌, codes, None, Ok, Err, refl}
+use Rattle.std.specs.Fmt.{digits}
 use Rattle.std.specs.Prelude.{pos}
 use Rattle.toml.specs.Data.{Data, string, integer, array, table, no_items, item, Members, no_members, member}
 use Rattle.rapid_model.specs.declared.script_rule.ScriptRule.TheVariants.{NoKey, Range, UnknownKey}
@@ -22,7 +23,7 @@ unfolding script_of_keys task_of
 one_task = refl
 
 an_arm_of_one : script_of (script (task (member (codes "arm") (array (item (integer (pos 0)) no_items)))) nothing_more) ≡ Err (record { key = codes "task[0].arm"; rule = Range })
-unfolding script_of_keys task_of
+unfolding digits script_of_keys task_of
 an_arm_of_one = refl
 
 an_unknown_key : script_of (script (task nothing_more) (member (codes "zones") (integer (pos 1)))) ≡ Err (record { key = codes "zones"; rule = UnknownKey })
@@ -31,7 +32,7 @@ an_unknown_key = refl
 
 -- the key of an element comes before the script's own unknown ones
 an_unknown_key_of_a_task : script_of (script (task (member (codes "base") (integer (pos 1)))) (member (codes "zones") (integer (pos 1)))) ≡ Err (record { key = codes "task[0].base"; rule = UnknownKey })
-unfolding script_of_keys task_of
+unfolding digits script_of_keys task_of
 an_unknown_key_of_a_task = refl
 
 no_version : script_of no_members ≡ Err (record { key = codes "version"; rule = NoKey })

@@ -1,10 +1,10 @@
 -- Reading that stops at the first broken rule.
-use Rattle.std.proofs.Common.{◌≡◌, ℕ, List, Result, Ok, Err, refl, sym, ap, ◌∙◌}
+use Rattle.std.proofs.Common.{◌≡◌, ℕ, List, refl}
 use Rattle.rapid_model.specs.declared.script_rule.ScriptRule.{ScriptRule}
 use Rattle.cell_script.specs.declared.fault.ScriptFault.{ScriptFault}
 use Rattle.cell_script.specs.declared.fault.ScriptFault.TheVariants.{Rule, Memory}
-use Rattle.cell_script.specs.Break.{Break, Read, ◌>>=◌, shown, broken}
-use Rattle.cell_script.specs.Gives.{Fails, Gives}
+use Rattle.cell_script.specs.Break.{Read, ◌>>=◌, shown, broken}
+use Rattle.cell_script.specs.Gives.{Fails}
 
 -- a part that fails fails the whole
 pub Fails-then : {A B : Type 0} (fault : ScriptFault) (read : Read A) (f : A → Read B) → Fails fault read → Fails fault (read >>= f)

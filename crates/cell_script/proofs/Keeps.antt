@@ -1,8 +1,8 @@
 -- What is true of each value that a part may be read as.
-use Rattle.std.proofs.Common.{◌≡◌, ℕ, ◌≤◌, Bool, true, false, ◌&&◌, nat_le, List, [], ◌∷◌, Option, Some, None, Result, Ok, Err, refl, sym, ap, ◌∙◌, rules}
+use Rattle.std.proofs.Common.{◌≡◌, ℕ, Bool, true, false, List, Option, Some, None, Ok, Err, refl}
 use Rattle.toml.specs.Data.{Data}
 use Rattle.rapid_model.specs.declared.script_rule.ScriptRule.{ScriptRule}
-use Rattle.cell_script.specs.Break.{Break, Read, ◌>>=◌, broken, must, found_or}
+use Rattle.cell_script.specs.Break.{Read, ◌>>=◌, must, found_or}
 use Rattle.cell_script.specs.Keys.{Keys, optional, none_unknown, only_keys, first_unknown, keys_of}
 
 abbrev pub Keeps : {A : Type 0} → (A → Type 0) → Read A → Type 0

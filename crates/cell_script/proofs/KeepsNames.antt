@@ -1,19 +1,18 @@
 -- Names that are read keep their form and differ; numbers that are read are those of rows.
-use Rattle.std.proofs.Common.{◌≡◌, ℕ, ◌<◌, ◌≤◌, Bool, true, false, not, ◌&&◌, ◌||◌, nat_le, nat_lt, List, [], ◌∷◌, ◌++◌, length, map, Option, Some, None, Result, Ok, Err, if◌then◌else◌, refl, sym, ap, ◌∙◌}
-use Rattle.std.specs.List.{list_any, list_all, position, position_or_len}
-use Rattle.std.specs.Bool.{Decides}
+use Rattle.std.proofs.Common.{◌≡◌, ℕ, Bool, true, false, not, ◌&&◌, ◌||◌, nat_lt, List, [], ◌∷◌, ◌++◌, length, map, Some, None, Ok, if◌then◌else◌, refl, sym, ◌∙◌}
+use Rattle.std.specs.List.{position, position_or_len}
 use Rattle.std.specs.Char.{to_ascii_lowercase}
 use Rattle.std.specs.Str.{str_eq_ignore_ascii_case}
-use Rattle.std.proofs.lemmas.Bool.{and_parts, and_from}
+use Rattle.std.proofs.lemmas.Bool.{and_parts}
 use Rattle.std.proofs.lemmas.Bool.Decides.{same_from_decides}
-use Rattle.std.proofs.lemmas.List.{map-append, length-map}
+use Rattle.std.proofs.lemmas.List.{length-map}
 use Rattle.std.proofs.lemmas.Slice.Eq.{bytes_eq-Decides}
 use Rattle.toml.specs.Data.{Data}
 use Rattle.rapid_lexer.specs.Reading.{is_reserved}
 use Rattle.rapid_builtins.specs.Names.{is_predefined}
 use Rattle.rapid_model.specs.Names.{is_name, is_among, differ}
 use Rattle.rapid_model.specs.declared.script_rule.ScriptRule.TheVariants.{Name, Twice, NoSuch}
-use Rattle.cell_script.specs.Break.{Read, ◌>>=◌, must, found_or}
+use Rattle.cell_script.specs.Break.{must, found_or}
 use Rattle.cell_script.specs.Keys.{text_at, name_at, number_at}
 use Rattle.cell_script.specs.Rows.{signal_name_at, task_name_at}
 use Rattle.cell_script.proofs.Keeps.{Keeps, Keeps-then, Keeps-any, Keeps-must, Keeps-found}

@@ -1,14 +1,14 @@
 -- Rows that are read in turn.
-use Rattle.std.proofs.Common.{◌≡◌, ℕ, ◌+◌, ◌≤◌, Bool, true, false, ◌&&◌, nat_le, List, [], ◌∷◌, ◌++◌, length, map, Option, Some, None, Result, Ok, Err, refl, sym, ap, ◌∙◌, arith}
+use Rattle.std.proofs.Common.{◌≡◌, ℕ, ◌+◌, ◌≤◌, Bool, true, ◌&&◌, nat_le, List, [], ◌∷◌, ◌++◌, length, map, Ok, Err, refl, ap, ◌∙◌, arith}
 use Rattle.std.specs.List.{list_all}
 use Rattle.std.proofs.lemmas.Bool.{and_parts, and_from, leb-true}
 use Rattle.std.proofs.lemmas.List.{map-append, length-append}
 use Rattle.std.proofs.lemmas.List.Folds.{list_all-append}
-use Rattle.toml.specs.Data.{Data, as_array, Items}
+use Rattle.toml.specs.Data.{Data, as_array}
 use Rattle.rapid_model.specs.Names.{differ}
 use Rattle.rapid_model.specs.ScriptData.{is_within}
 use Rattle.rapid_model.specs.declared.script_rule.ScriptRule.TheVariants.{Kind, Range}
-use Rattle.cell_script.specs.Break.{Read, ◌>>=◌, must, found_or}
+use Rattle.cell_script.specs.Break.{Read, must, found_or}
 use Rattle.cell_script.specs.Keys.{items_list, rows_at, each_row}
 use Rattle.cell_script.specs.Parts.{rows_in}
 use Rattle.cell_script.proofs.Keeps.{Keeps, Keeps-then, Keeps-any, Keeps-must}

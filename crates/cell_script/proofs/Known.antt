@@ -1,12 +1,11 @@
 -- The keys of a table that are not known.
-use Rattle.std.proofs.Common.{◌≡◌, ℕ, Bool, true, false, List, [], ◌∷◌, map, Option, Some, None, Result, Ok, Err, if◌then◌else◌, String, Global, string_bytes, Bor, refl, sym, ap, ◌∙◌}
+use Rattle.std.proofs.Common.{◌≡◌, ℕ, Bool, List, [], ◌∷◌, map, Option, Some, if◌then◌else◌, String, Global, string_bytes, Bor, refl, sym, ap, ◌∙◌}
 use Rattle.std.specs.Prelude.{bytes_eq}
 use Rattle.std.specs.List.{list_any}
 use Rattle.toml.specs.View.{members_view}
 use Rattle.toml.specs.declared.value.Value.{Value}
-use Rattle.rapid_model.specs.declared.script_rule.ScriptRule.TheVariants.{UnknownKey}
-use Rattle.cell_script.specs.Break.{Read, broken}
-use Rattle.cell_script.specs.Keys.{Keys, at, keys_of, first_unknown, none_unknown, only_keys}
+use Rattle.cell_script.specs.Break.{Read}
+use Rattle.cell_script.specs.Keys.{Keys, keys_of, first_unknown, none_unknown, only_keys}
 use Rattle.cell_script.proofs.Named.{list_any-map}
 
 pub keys_of-view : (entries : List (String Global × Value)) → map string_bytes (map (λ e. e.0) entries) ≡ keys_of (members_view entries)

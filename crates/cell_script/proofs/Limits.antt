@@ -1,7 +1,7 @@
 -- Each row that is read is within its limits.
-use Rattle.std.proofs.Common.{◌≡◌, ℕ, zero, suc, ◌+◌, ◌≤◌, Bool, true, false, not, ◌&&◌, ◌||◌, nat_le, nat_lt, ℤ, List, [], ◌∷◌, ◌++◌, length, map, replicate, take, drop, codes, slice_get, Option, Some, None, is_some, is_none, Result, Ok, Err, ◌==◌, if◌then◌else◌, refl, sym, ap, ◌∙◌, arith}
-use Rattle.std.specs.Prelude.{pos, negsuc, int_lt}
-use Rattle.std.specs.List.{list_all, list_any}
+use Rattle.std.proofs.Common.{◌≡◌, ℕ, true, false, ◌&&◌, ℤ, List, [], ◌∷◌, ◌++◌, length, map, take, drop, codes, Option, Some, None, Ok, ◌==◌, refl}
+use Rattle.std.specs.Prelude.{pos, negsuc}
+use Rattle.std.specs.List.{list_all}
 use Rattle.std.proofs.Math.Seq.{take-append_seam, drop-append_seam}
 use Rattle.std.proofs.lemmas.Bool.{and_parts, and_from, eqb-true}
 use Rattle.toml.specs.Data.{Data, as_str, as_integer, as_bool}
@@ -9,20 +9,17 @@ use Rattle.rapid_num.specs.Reach.{is_in_reach, is_absent, absent_axes, is_positi
 use Rattle.rapid_num.specs.declared.joints.Joints.{Joints}
 use Rattle.rapid_model.specs.CellData.{is_start}
 use Rattle.rapid_model.specs.Names.{is_name}
-use Rattle.rapid_model.specs.ScriptData.{is_within, holds_where_there, is_signal, is_file_name, is_task, is_given_value, is_pers_value, has_arm, is_input_signal, is_zone, is_input, is_zone_shape}
-use Rattle.rapid_model.specs.declared.input_row.InputRow.{InputRow}
+use Rattle.rapid_model.specs.ScriptData.{is_within, holds_where_there, is_signal, is_file_name, is_task, is_given_value, is_pers_value}
 use Rattle.rapid_model.specs.declared.pers_value.PersValue.{PersValue}
-use Rattle.rapid_model.specs.declared.script_rule.ScriptRule.TheVariants.{Kind, Range, NoSuch, Pair}
+use Rattle.rapid_model.specs.declared.script_rule.ScriptRule.TheVariants.{Kind, Range}
 use Rattle.rapid_model.specs.declared.script_task.ScriptTask.{ScriptTask}
 use Rattle.rapid_model.specs.declared.signal_row.SignalRow.{SignalRow}
-use Rattle.rapid_model.specs.declared.value.Value.{Value}
 use Rattle.rapid_model.specs.declared.value.Value.TheVariants as values
-use Rattle.rapid_model.specs.declared.zone_row.ZoneRow.{ZoneRow}
-use Rattle.cell_script.specs.Break.{Read, ◌>>=◌, broken, must, found_or}
-use Rattle.cell_script.specs.Keys.{Keys, at, value_of, needed, optional, only_keys, text_at, whole_at, bit_at, word_at, name_at, number_at, list_at, table_at, both_at, pair_at}
+use Rattle.cell_script.specs.Break.{◌>>=◌, found_or}
+use Rattle.cell_script.specs.Keys.{Keys, at, value_of, needed, optional, text_at, whole_at, bit_at, word_at, name_at, list_at, table_at}
 use Rattle.cell_script.specs.Rows.{signal_name_at, signal_of, task_name_at, files_at, arm_at, task_of, signed_literal, number_value_at, truth_value_at, text_value_at, given_value, pers_of}
-use Rattle.cell_script.proofs.Keeps.{Keeps, Keeps-then, Keeps-any, Keeps-must, Keeps-found, Keeps-optional, Keeps-only}
-use Rattle.cell_script.proofs.KeepsNames.{IsName, IsNew, IsOf, name_keeps, signal_name_keeps, task_name_keeps, number_keeps}
+use Rattle.cell_script.proofs.Keeps.{Keeps, Keeps-then, Keeps-any, Keeps-must, Keeps-optional, Keeps-only}
+use Rattle.cell_script.proofs.KeepsNames.{IsName, IsNew, name_keeps, signal_name_keeps, task_name_keeps}
 use Rattle.cell_script.proofs.KeepsRows.{IsAt}
 
 pub whole_keeps : (key : List ℕ) (low high : ℕ) (d : Data) → Keeps (λ n. is_within low high n ≡ true) (whole_at key low high d)

@@ -1,5 +1,5 @@
 -- Each step of the input script that is read is within its limits.
-use Rattle.std.proofs.Common.{◌≡◌, ℕ, ◌≤◌, Bool, true, false, ◌&&◌, nat_le, nat_lt, List, [], ◌∷◌, length, map, codes, Option, Some, None, Result, Ok, Err, refl, sym, ap, ◌∙◌}
+use Rattle.std.proofs.Common.{◌≡◌, ℕ, Bool, true, ◌&&◌, nat_le, nat_lt, List, [], ◌∷◌, length, map, codes, Option, Some, None, Ok, Err, refl}
 use Rattle.std.proofs.lemmas.Bool.{and_parts, and_from}
 use Rattle.toml.specs.Data.{Data}
 use Rattle.rapid_model.specs.ScriptData.{is_within, holds_where_there, is_input_signal, is_input}
@@ -7,8 +7,8 @@ use Rattle.rapid_model.specs.declared.input_row.InputRow.{InputRow}
 use Rattle.rapid_model.specs.declared.script_rule.ScriptRule.TheVariants.{NoSuch}
 use Rattle.rapid_model.specs.declared.script_task.ScriptTask.{ScriptTask}
 use Rattle.rapid_model.specs.declared.signal_row.SignalRow.{SignalRow}
-use Rattle.cell_script.specs.Break.{Read, ◌>>=◌, must}
-use Rattle.cell_script.specs.Keys.{Keys, at, value_of, needed, optional, whole_at, bit_at, number_at, table_at, both_at, pair_at}
+use Rattle.cell_script.specs.Break.{Read, ◌>>=◌}
+use Rattle.cell_script.specs.Keys.{at, value_of, needed, optional, whole_at, bit_at, number_at, table_at, both_at, pair_at}
 use Rattle.cell_script.specs.Rows.{input_signal_at, input_of}
 use Rattle.cell_script.proofs.Keeps.{Keeps, Keeps-then, Keeps-any, Keeps-must, Keeps-only}
 use Rattle.cell_script.proofs.KeepsNames.{IsOf, number_keeps}

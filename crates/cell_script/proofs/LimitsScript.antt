@@ -1,21 +1,20 @@
 -- A script that is read is within its limits.
-use Rattle.std.proofs.Common.{◌≡◌, ℕ, ◌≤◌, Bool, true, false, ◌&&◌, nat_le, List, [], length, map, codes, Option, Some, None, Result, Ok, Err, refl, sym, ap, ◌∙◌, arith}
-use Rattle.std.specs.List.{list_all}
+use Rattle.std.proofs.Common.{◌≡◌, ℕ, Bool, true, nat_le, List, [], map, codes, Option, Ok, Err, refl, arith}
 use Rattle.std.proofs.lemmas.Bool.{and_parts, leb-true}
 use Rattle.toml.specs.Data.{Data}
 use Rattle.rapid_model.specs.Names.{differ}
-use Rattle.rapid_model.specs.ScriptData.{ScriptData, IsScript, is_within, is_signal, is_task, is_pers_value, is_zone, is_input}
+use Rattle.rapid_model.specs.ScriptData.{IsScript, is_within, is_signal, is_task, is_pers_value, is_zone, is_input}
 use Rattle.rapid_model.specs.declared.input_row.InputRow.{InputRow}
 use Rattle.rapid_model.specs.declared.pers_value.PersValue.{PersValue}
 use Rattle.rapid_model.specs.declared.script_task.ScriptTask.{ScriptTask}
 use Rattle.rapid_model.specs.declared.signal_row.SignalRow.{SignalRow}
 use Rattle.rapid_model.specs.declared.zone_row.ZoneRow.{ZoneRow}
-use Rattle.cell_script.specs.Break.{Read, ◌>>=◌}
+use Rattle.cell_script.specs.Break.{Read}
 use Rattle.cell_script.specs.Keys.{Keys, at, value_of, needed, optional, whole_at, rows_at, each_row}
 use Rattle.cell_script.specs.Parts.{rows_in, needed_rows}
 use Rattle.cell_script.specs.Rows.{signal_of, task_of, pers_of, zone_of, input_of}
 use Rattle.cell_script.specs.ScriptOf.{default_steps}
-use Rattle.cell_script.proofs.Keeps.{Keeps, Keeps-then, Keeps-any, Keeps-optional, Keeps-grouped, kept}
+use Rattle.cell_script.proofs.Keeps.{Keeps, Keeps-any, Keeps-optional, Keeps-grouped, kept}
 use Rattle.cell_script.proofs.KeepsNames.{IsNew}
 use Rattle.cell_script.proofs.KeepsRows.{IsAt, SoMany, rows_keep, rows_differ}
 use Rattle.cell_script.proofs.Limits.{whole_keeps, signal_keeps, task_keeps, pers_keeps}

@@ -1,5 +1,5 @@
 -- Each zone that is read is within its limits.
-use Rattle.std.proofs.Common.{◌≡◌, ℕ, zero, suc, ◌+◌, ◌<◌, ◌≤◌, Bool, true, false, not, ◌&&◌, ◌||◌, nat_le, nat_lt, ℤ, List, [], ◌∷◌, ◌++◌, length, get_or, map, replicate, take, drop, codes, Option, Some, None, is_some, is_none, Result, Ok, Err, ◌==◌, if◌then◌else◌, refl, sym, ap, ◌∙◌, arith}
+use Rattle.std.proofs.Common.{◌≡◌, ℕ, zero, suc, ◌<◌, Bool, true, false, not, ◌&&◌, nat_le, nat_lt, ℤ, List, [], ◌∷◌, length, get_or, map, codes, Option, Some, None, is_some, Ok, ◌==◌, if◌then◌else◌, refl, arith}
 use Rattle.std.specs.Prelude.{pos, negsuc, int_lt}
 use Rattle.std.specs.List.{list_all, list_any}
 use Rattle.std.proofs.lemmas.Bool.{and_parts, and_from, eqb-true, leb-true}
@@ -7,15 +7,14 @@ use Rattle.std.proofs.lemmas.List.Folds.{list_any_at}
 use Rattle.toml.specs.Data.{Data, as_integer}
 use Rattle.rapid_num.specs.Reach.{is_in_reach}
 use Rattle.rapid_num.specs.declared.shape.Bound.{Bound}
-use Rattle.rapid_num.specs.declared.shape.Shape.{Shape}
 use Rattle.rapid_model.specs.Names.{is_name}
 use Rattle.rapid_model.specs.ScriptData.{holds_where_there, is_bounded, is_zone_shape, has_arm, is_zone}
 use Rattle.rapid_model.specs.declared.script_rule.ScriptRule.TheVariants.{NoSuch, Range}
 use Rattle.rapid_model.specs.declared.script_task.ScriptTask.{ScriptTask}
 use Rattle.rapid_model.specs.declared.signal_row.SignalRow.{SignalRow}
 use Rattle.rapid_model.specs.declared.zone_row.ZoneRow.{ZoneRow}
-use Rattle.cell_script.specs.Break.{Read, ◌>>=◌, must}
-use Rattle.cell_script.specs.Keys.{Keys, at, value_of, needed, bit_at, word_at, name_at, number_at, list_at, table_at}
+use Rattle.cell_script.specs.Break.{◌>>=◌}
+use Rattle.cell_script.specs.Keys.{at, needed, bit_at, word_at, name_at, number_at, list_at, table_at}
 use Rattle.cell_script.specs.Rows.{armed_task_at, is_axis, are_axes, axes_at, bounds_at, each_below, high_bounds_at, is_axis_number, bound_of, shape_of, zone_of}
 use Rattle.cell_script.proofs.Keeps.{Keeps, Keeps-then, Keeps-any, Keeps-must, Keeps-only}
 use Rattle.cell_script.proofs.KeepsNames.{IsName, IsOf, name_keeps, number_keeps}

@@ -1,5 +1,5 @@
 -- Names of rows, and the form of a name.
-use Rattle.std.proofs.Common.{◌≡◌, length, nat_lt, ℕ, ◌+◌, zero, suc, Bool, true, false, not, ◌&&◌, ◌||◌, List, [], ◌∷◌, map, Option, Some, None, Result, Ok, Err, if◌then◌else◌, refl, sym, ap, ◌∙◌}
+use Rattle.std.proofs.Common.{◌≡◌, ℕ, ◌+◌, Bool, not, ◌&&◌, ◌||◌, List, [], ◌∷◌, map, Option, Ok, if◌then◌else◌, refl, sym, ap, ◌∙◌}
 use Rattle.std.specs.List.{list_any, position, prefix_len}
 use Rattle.std.proofs.lemmas.List.{length-map}
 use Rattle.std.specs.Str.{str_eq_ignore_ascii_case}
@@ -7,7 +7,7 @@ use Rattle.toml.specs.Data.{Data}
 use Rattle.rapid_lexer.specs.Reading.{is_reserved}
 use Rattle.rapid_model.specs.Names.{is_name, is_among}
 use Rattle.rapid_model.specs.declared.script_rule.ScriptRule.TheVariants.{Name, NoSuch, Twice}
-use Rattle.cell_script.specs.Break.{Read, ◌>>=◌, broken, must, found_or}
+use Rattle.cell_script.specs.Break.{must, found_or}
 use Rattle.cell_script.specs.Keys.{text_at, name_at, number_at}
 use Rattle.cell_script.specs.Rows.{signal_name_at, task_name_at}
 use Rattle.rapid_builtins.specs.Names.{is_predefined}

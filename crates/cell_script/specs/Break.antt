@@ -1,5 +1,5 @@
 -- A rule of the script that is broken, the key at which it is, and reading that stops at the first one.
-use Rattle.std.specs.Prelude.{ℕ, Bool, ◌&&◌, nat_le, List, [], ◌∷◌, ◌++◌, map, take, decimal, Option, Some, None, Result, Ok, Err, if◌then◌else◌}
+use Rattle.std.specs.Prelude.{ℕ, Bool, List, [], ◌∷◌, ◌++◌, map, take, decimal, Option, Some, None, Result, Ok, Err, if◌then◌else◌}
 use Rattle.rapid_model.specs.Printable.{is_printable}
 use Rattle.rapid_model.specs.declared.script_rule.ScriptRule.{ScriptRule}
 

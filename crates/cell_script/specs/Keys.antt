@@ -1,13 +1,12 @@
 -- The values that keys may have. Each is read at a key, by which a broken rule is named.
-use Rattle.std.specs.Prelude.{ℕ, Bool, true, false, not, ◌&&◌, ◌||◌, nat_le, nat_lt, ℤ, pos, negsuc, nat_abs, List, [], ◌∷◌, ◌++◌, length, map, codes, position, Option, Some, None, Result, Ok, Err, ◌==◌, if◌then◌else◌, bytes_eq}
-use Rattle.std.specs.List.{list_all, list_any}
-use Rattle.std.specs.Option.{option_map}
+use Rattle.std.specs.Prelude.{ℕ, Bool, not, ◌&&◌, ◌||◌, ℤ, pos, negsuc, List, [], ◌∷◌, ◌++◌, length, position, Option, Some, None, Ok, ◌==◌, if◌then◌else◌, bytes_eq}
+use Rattle.std.specs.List.{list_any}
 use Rattle.std.specs.Str.{str_eq_ignore_ascii_case}
-use Rattle.toml.specs.Data.{Data, Items, no_items, item, Members, no_members, member, get_member, as_str, as_integer, as_bool, as_array, as_table}
+use Rattle.toml.specs.Data.{Data, Items, no_items, item, Members, no_members, member, get_member, as_str, as_integer, as_array, as_table}
 use Rattle.rapid_lexer.specs.Reading.{is_reserved}
-use Rattle.rapid_model.specs.Names.{is_name, is_among}
+use Rattle.rapid_model.specs.Names.{is_name}
 use Rattle.rapid_model.specs.ScriptData.{is_within}
-use Rattle.rapid_model.specs.declared.script_rule.ScriptRule.TheVariants.{NoKey, Kind, UnknownKey, Range, Name, Twice, NoSuch, Pair}
+use Rattle.rapid_model.specs.declared.script_rule.ScriptRule.TheVariants.{NoKey, Kind, UnknownKey, Range, Name, NoSuch, Pair}
 use Rattle.cell_script.specs.Break.{Read, ◌>>=◌, key_in, element_of, broken, must, found_or}
 
 -- a table of the script, and where it stands

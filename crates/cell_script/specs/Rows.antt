@@ -1,6 +1,6 @@
 -- The rows of a script: a signal, a task, a persistent's value, a zone, an input. The keys of each stand in the order in
 -- which they are checked; a key that is not known is found last.
-use Rattle.std.specs.Prelude.{ℕ, ◌+◌, Bool, true, false, not, ◌&&◌, ◌||◌, nat_le, nat_lt, ℤ, pos, negsuc, neg_ℤ, int_lt, List, [], ◌∷◌, ◌++◌, length, map, replicate, codes, slice_get, Option, Some, None, is_some, Result, Ok, Err, ◌==◌, if◌then◌else◌}
+use Rattle.std.specs.Prelude.{ℕ, Bool, true, false, not, ◌&&◌, nat_le, ℤ, pos, negsuc, neg_ℤ, int_lt, List, [], ◌∷◌, ◌++◌, length, map, replicate, codes, Option, Some, None, Ok, ◌==◌, if◌then◌else◌}
 use Rattle.std.specs.List.{list_all}
 use Rattle.std.specs.Option.{option_map}
 use Rattle.toml.specs.Data.{Data, as_str, as_integer, as_bool}
@@ -15,7 +15,7 @@ use Rattle.rapid_model.specs.Printable.{is_printable}
 use Rattle.rapid_model.specs.ScriptData.{is_within, is_file_name, has_arm, is_input_signal}
 use Rattle.rapid_model.specs.declared.input_row.InputRow.{InputRow}
 use Rattle.rapid_model.specs.declared.pers_value.PersValue.{PersValue}
-use Rattle.rapid_model.specs.declared.script_rule.ScriptRule.TheVariants.{NoKey, Kind, Range, Name, Twice, NoSuch, Pair}
+use Rattle.rapid_model.specs.declared.script_rule.ScriptRule.TheVariants.{Kind, Range, Name, Twice, NoSuch, Pair}
 use Rattle.rapid_model.specs.declared.script_task.ScriptTask.{ScriptTask}
 use Rattle.rapid_model.specs.declared.signal_row.SignalRow.{SignalRow}
 use Rattle.rapid_model.specs.declared.value.Value.{Value}

@@ -1,15 +1,14 @@
 -- What the text of a cell script stands for.
-use Rattle.std.specs.Prelude.{◌≡◌, ◌⊎◌, ℕ, List, [], ◌∷◌, codes, Some, None, Result, Ok, Err}
+use Rattle.std.specs.Prelude.{◌≡◌, ◌⊎◌, ℕ, List, [], ◌∷◌, codes, Some, None, Ok, Err}
 use Rattle.std.specs.Str.{IsUtf8}
 use Rattle.toml.specs.Data.{Members}
 use Rattle.toml.specs.Parse.{parse_document}
 use Rattle.rapid_model.specs.ScriptData.{ScriptData}
-use Rattle.rapid_model.specs.declared.script_rule.ScriptRule.{ScriptRule}
 use Rattle.rapid_model.specs.declared.script_rule.ScriptRule.TheVariants.{NotToml}
 use Rattle.cell_script.specs.declared.fault.ScriptFault.{ScriptFault}
 use Rattle.cell_script.specs.declared.fault.ScriptFault.TheVariants.{Rule, Memory}
 use Rattle.cell_script.specs.Break.{Break, Read, ◌>>=◌}
-use Rattle.cell_script.specs.Keys.{Keys, at, needed, optional, value_of, only_keys, whole_at, rows_at, each_row}
+use Rattle.cell_script.specs.Keys.{Keys, needed, optional, value_of, only_keys, whole_at, rows_at, each_row}
 use Rattle.cell_script.specs.Rows.{signal_of, task_of, pers_of, zone_of, input_of}
 
 -- how many events are counted at most where the script does not say

@@ -1,5 +1,5 @@
-use Rattle.std.proofs.Common.{◌≡◌, Some, sym, ap, ◌∙◌, option_map, map}
-use Rattle.toml.specs.View.{view, items_view}
+use Rattle.std.proofs.Common.{Some, sym, ap, ◌∙◌, option_map, map}
+use Rattle.toml.specs.View.{view}
 use Rattle.cell_script.specs.Keys.{items_list}
 use Rattle.cell_script.proofs.Items.{items_list-view}
 use Rattle.cell_script.proofs.list.items_of.Goals as goal

@@ -1,4 +1,4 @@
-use Rattle.std.proofs.Common.{◌≡◌, [], codes, ◌≤◌, length}
+use Rattle.std.proofs.Common.{[], codes}
 use Rattle.toml.specs.View.{table_view}
 use Rattle.cell_script.specs.Keys.{Keys, at, value_of}
 use Rattle.cell_script.proofs.LimitsScript.{IsScript-from, signals_are, tasks_are}

@@ -1,8 +1,8 @@
-use Rattle.std.proofs.Common.{◌≡◌, Bool, true, false, List, [], map, Some, None, Ok, string_bytes, ap, sym, ◌∙◌}
+use Rattle.std.proofs.Common.{true, false, map, Some, None, Ok, string_bytes, ap, sym, ◌∙◌}
 use Rattle.std.proofs.lemmas.Map.Iter.{rest_more, rest_all}
 use Rattle.std.specs.Map.Iter.{deref}
 use Rattle.rapid_model.specs.declared.script_rule.ScriptRule.TheVariants.{UnknownKey}
-use Rattle.cell_script.specs.Keys.{at, first_unknown, keys_of}
+use Rattle.cell_script.specs.Keys.{at, first_unknown}
 use Rattle.cell_script.specs.Gives.{view_keys}
 use Rattle.cell_script.proofs.Faults.{Fails-broken}
 use Rattle.cell_script.proofs.Known.{keys_of-view, unknown_more, only_by}
