@@ -1,10 +1,11 @@
 -- A module is built to one tree, or has one first form that is not built.
-use Rattle.std.proofs.Common.{◌≡◌, ℕ, Bool, true, false, List, [], ◌∷◌, Option, Some, None, Result, Ok, Err, refl, ap, sym, ◌∙◌, subst}
+use Rattle.std.proofs.Common.{◌≡◌, ℕ, Bool, true, false, List, [], ◌∷◌, Option, Some, None, Result, Ok, Err, refl, ap, sym, ◌∙◌, subst, ◌⊎◌, inl, inr}
 use Rattle.rapid_model.specs.declared.tree.Form.{Form}
 use Rattle.rapid_model.specs.declared.tree.Stmt.{Stmt}
 use Rattle.rapid_model.specs.declared.tree.Tree.{Tree}
 use Rattle.raw_trees.specs.Plain.{PlainStmt, PlainRoutine, PlainItem, PlainModule, Datum, Routine}
 use Rattle.built_forms.specs.Built.{is_main, IsBuilt, AreBuilt, IsBuiltModule, first_unbuilt, NextItem, UnbuiltIn, Unbuilt, BuildsTo}
+use Rattle.controller.specs.Accepted.{Mention, unarmed_move, BuiltAs}
 
 stmt_one : (raw : PlainStmt) (s t : Stmt) → IsBuilt raw s → IsBuilt raw t → s ≡ t
 stmt_one raw s t p q =
@@ -56,8 +57,44 @@ not_both raw tree at p q =
     let main : UnbuiltIn true p.main (first_unbuilt p.main.list) [] at = subst (λ (is : Bool). UnbuiltIn is p.main (first_unbuilt p.main.list) [] at) p.is_main here in
     subst (λ (stmt : Option PlainStmt). UnbuiltIn true p.main stmt [] at) (none_unbuilt p.main.list tree.list p.statements) main
 
-pub built_one : (raw : PlainModule) (a b : Result Tree ℕ) → BuildsTo raw a → BuildsTo raw b → a ≡ b
+built_one : (raw : PlainModule) (a b : Result Tree ℕ) → BuildsTo raw a → BuildsTo raw b → a ≡ b
 built_one raw (Ok s) (Ok t) p q = ap Ok (tree_one raw s t p q)
 built_one raw (Ok s) (Err at) p q = absurd (not_both raw s at p q)
 built_one raw (Err at) (Ok t) p q = absurd (not_both raw t at q p)
 built_one raw (Err at) (Err other) p q = ap Err (unbuilt_one raw.items at other p q)
+
+-- the same for a task's module
+
+never : {A : Type 0} (b : Bool) → b ≡ true → b ≡ false → A
+never b p q = let no : true ≡ false = sym p ∙ q in cc
+
+moves_or_not : (armed : Bool) (s t : Tree) (at : ℕ) → s ≡ t → unarmed_move armed s.list ≡ None → unarmed_move armed t.list ≡ Some at → ⊥
+moves_or_not armed s t at same p q =
+    let no : None ≡ Some at = sym p ∙ ap (λ (x : Tree). unarmed_move armed x.list) same ∙ q in cc
+
+-- why the first module of a task is not built
+abbrev FirstUnbuilt : Mention → PlainModule → ℕ → Type 0
+FirstUnbuilt m raw at = BuildsTo raw (Err at) ⊎ ((tree : Tree) × BuildsTo raw (Ok tree) × (unarmed_move m.armed tree.list ≡ Some at))
+
+not_both_first : (m : Mention) (raw : PlainModule) (s : Tree) (at : ℕ) → BuildsTo raw (Ok s) → unarmed_move m.armed s.list ≡ None → FirstUnbuilt m raw at → ⊥
+not_both_first m raw s at p none (inl q) = not_both raw s at p q
+not_both_first m raw s at p none (inr q) = moves_or_not m.armed s q.0 at (tree_one raw s q.0 p q.1) none q.2
+
+first_one : (m : Mention) (raw : PlainModule) (at other : ℕ) → FirstUnbuilt m raw at → FirstUnbuilt m raw other → at ≡ other
+first_one m raw at other (inl p) (inl q) = unbuilt_one raw.items at other p q
+first_one m raw at other (inl p) (inr q) = absurd (not_both raw q.0 at q.1 p)
+first_one m raw at other (inr p) (inl q) = absurd (not_both raw p.0 other p.1 q)
+first_one m raw at other (inr p) (inr q) =
+    let same : p.0 ≡ q.0 = tree_one raw p.0 q.0 p.1 q.1 in
+    let e : Some at ≡ Some other = sym p.2 ∙ ap (λ (x : Tree). unarmed_move m.armed x.list) same ∙ q.2 in cc
+
+pub built_as_one : (m : Mention) (raw : PlainModule) (a b : Result Tree ℕ) → BuiltAs m raw a → BuiltAs m raw b → a ≡ b
+built_as_one m raw (Ok s) (Ok t) p q = built_one raw (Ok s) (Ok t) p.1 q.1
+built_as_one m raw (Ok s) (Err at) p (inl q) = never m.first p.0 q.0
+built_as_one m raw (Ok s) (Err at) p (inr q) = absurd (not_both_first m raw s at p.1 p.2 q.1)
+built_as_one m raw (Err at) (Ok t) (inl p) q = never m.first q.0 p.0
+built_as_one m raw (Err at) (Ok t) (inr p) q = absurd (not_both_first m raw t at q.1 q.2 p.1)
+built_as_one m raw (Err at) (Err other) (inl p) (inl q) = ap Err (p.1 ∙ sym q.1)
+built_as_one m raw (Err at) (Err other) (inl p) (inr q) = never m.first q.0 p.0
+built_as_one m raw (Err at) (Err other) (inr p) (inl q) = never m.first p.0 q.0
+built_as_one m raw (Err at) (Err other) (inr p) (inr q) = ap Err (first_one m raw at other p.1 q.1)

@@ -1,5 +1,5 @@
 -- Printing one line after another.
-use Rattle.std.proofs.Common.{◌≡◌, ℕ, ◌+◌, ◌<◌, List, [], ◌∷◌, ◌++◌, length, drop, get_or, ap, sym, ◌∙◌, subst, inl, inr, arith, append_assoc, add-one, drop-cons}
+use Rattle.std.proofs.Common.{◌≡◌, ℕ, ◌+◌, ◌<◌, List, [], ◌∷◌, ◌++◌, length, drop, get_or, ap, sym, ◌∙◌, subst, inl, inr, arith, append_assoc}
 use Rattle.std.specs.Prelude.{Some, map, slice_get}
 use Rattle.std.proofs.lemmas.Option.{slice_get_cases, get_or_from_slice_get}
 use Rattle.rapid_model.specs.CellData.{CellData}
@@ -11,6 +11,7 @@ use Rattle.history_text.specs.Lines.{fate_line, fate_lines}
 use Rattle.controller.proofs.Fates.{drop-fates_after}
 use Rattle.controller.specs.Printed.{Seen, Sunk}
 use Rattle.controller.specs.Written.{WritesAll, WritesPart}
+use Rattle.controller.proofs.Lists.{drop-at, drop-element}
 use Rattle.controller.proofs.Gains.{between, wrote_more, wrote_part, wrote_first}
 
 -- of all lines, these are left to be written
@@ -31,15 +32,11 @@ printing_fails all line rest a b c p w =
     subst (λ (lines : List (List ℕ)). WritesPart lines (between a c)) (sym p.split)
     (wrote_part p.done (line ∷ rest) a b c p.written (wrote_first (line ∷ []) rest (between b c) w))
 
--- the elements from k on
-drop-element : {A : Type 0} (xs : List A) (k : ℕ) (d : A) → k < length xs → drop k xs ≡ get_or xs k d ∷ drop (k + 1) xs
-drop-element xs k d lt = drop-cons xs k d lt ∙ ap (λ (i : ℕ). get_or xs k d ∷ drop i xs) (sym (add-one k))
-
 -- the lines of the events from k on are that of event k and those behind it
 lines_split : (line : Event → List ℕ) (history : List Event) (k : ℕ) (e : Event) → k < length history → slice_get history k ≡ Some e
     → map line (drop k history) ≡ line e ∷ map line (drop (k + 1) history)
 lines_split line history k e lt at =
-    ap (map line) (drop-element history k e lt)
+    ap (map line) (drop-at history k e lt)
     ∙ ap (λ (x : Event). line x ∷ map line (drop (k + 1) history)) (get_or_from_slice_get history k e e at)
 
 pub event_printed : (line : Event → List ℕ) (history : List Event) (k : ℕ) (all : List (List ℕ)) (a b c : Seen) → k < length history
@@ -66,7 +63,7 @@ fates_split : (cell : CellData) (history : List Event) (k : ℕ) (row : TaskRow)
     ≡ fate_line row.name (fate_after cell history k) ∷ fate_lines (drop (k + 1) cell.tasks) (drop (k + 1) (fates_after cell history (length cell.tasks)))
 fates_split cell history k row lt is =
     ap (λ (rows : List TaskRow). fate_lines rows (drop k (fates_after cell history (length cell.tasks))))
-    (drop-element cell.tasks k row lt ∙ ap (λ (r : TaskRow). r ∷ drop (k + 1) cell.tasks) (sym is))
+    (drop-element cell.tasks k row lt is)
     ∙ ap (fate_lines (row ∷ drop (k + 1) cell.tasks)) (drop-fates_after cell history (length cell.tasks) k (fate_after cell history k) lt)
 
 -- the lines from task k on, in which the fate of task k has been looked up

@@ -1,7 +1,7 @@
 -- The line of a refusal in three pieces.
 use Rattle.std.proofs.Common.{◌≡◌, ℕ, List, ◌∷◌, ◌++◌, ap, append_assoc, refl, ◌∙◌}
 use Rattle.std.specs.Prelude.{codes, decimal}
-use Rattle.rapid_model.specs.declared.script.ScriptRule.{ScriptRule}
+use Rattle.rapid_model.specs.declared.script_rule.ScriptRule.{ScriptRule}
 use Rattle.rapid_lexer.specs.declared.place.Place.{Place}
 use Rattle.controller.specs.declared.refused.ModuleRule.{ModuleRule}
 use Rattle.controller.specs.declared.refused.Refused.{Refused}

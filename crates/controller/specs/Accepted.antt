@@ -19,7 +19,7 @@ use Rattle.rapid_forms.specs.declared.fault.SyntaxFault.TheVariants as faults
 use Rattle.module_parser.specs.Modules.{ModuleText}
 use Rattle.built_forms.specs.Built.{BuildsTo, item_place}
 use Rattle.controller.specs.declared.command.Action.{Action}
-use Rattle.controller.specs.declared.command.Action.TheVariants.{Check, Round}
+use Rattle.controller.specs.declared.command.Action.TheVariants.{Round}
 use Rattle.controller.specs.declared.refused.Refused.{Refused}
 use Rattle.controller.specs.declared.refused.Refused.TheVariants.{Words, Script, Module, Memory}
 use Rattle.controller.specs.declared.refused.ModuleRule.TheVariants.{Lex, Syntax, NotBuilt}

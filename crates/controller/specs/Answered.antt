@@ -103,6 +103,10 @@ IsOutOfMemory report out err = IsRefused [] Memory report out err
 abbrev pub RunsOrMemory : CellData → List Tree → Report → Sunk → Sunk → Type 0
 RunsOrMemory cell trees report out err = IsOutOfMemory report out err ⊎ AnswersRun cell trees report out err
 
+-- a verdict, want of memory aside
+abbrev pub AnswersOrMemory : Verdict → Report → Sunk → Sunk → Type 0
+AnswersOrMemory verdict report out err = IsOutOfMemory report out err ⊎ Answers verdict report out err
+
 -- The report answers what the words and the files come to, where the shelf tells its files; else it answers as for some
 -- files. Want of memory aside.
 abbrev pub AnswersWords : List (List ℕ) → Option Told → Report → Sunk → Sunk → Type 0

@@ -3,16 +3,32 @@ use Rattle.std.specs.Prelude.{◌≡◌, ℕ, nat_le, ◌⊎◌, List, length, O
 use Rattle.std.specs.declared.alloc.Global.{Global}
 use Rattle.outside.specs.Count.{Rose}
 use Rattle.controller.specs.declared.refused.Refused.{Refused}
-use Rattle.controller.specs.declared.refused.Refused.TheVariants.{Read, TooLong, Memory}
+use Rattle.controller.specs.declared.refused.Refused.TheVariants.{Words, Script, Module, Read, Write, Memory, TooLong}
 
 -- from what is found under its name: it fails, the file is too long, or its bytes
 abbrev pub text_of : ℕ → ℕ → Option (List ℕ) → Result (List ℕ) Refused
 text_of file limit None = Err (Read file)
 text_of file limit (Some bytes) = if nat_le (length bytes) limit then Ok bytes else Err (TooLong file)
 
--- the cause of a refusal: a fault that was counted, the file's length, or memory
-abbrev pub ReadFaulted : ℕ → ℕ → ℕ → Refused → Type 0
-ReadFaulted file old new refused = ((refused ≡ Read file) × Rose old new) ⊎ ((refused ≡ TooLong file) ⊎ (refused ≡ Memory))
+-- why loading was refused: not for the words, nor for a write; and a read failed only where a fault was counted
+abbrev pub IsLoadFault : ℕ → ℕ → Refused → Type 0
+IsLoadFault old new (Words place) = ⊥
+IsLoadFault old new (Script key rule) = Unit {0}
+IsLoadFault old new (Module file place rule) = Unit {0}
+IsLoadFault old new (Read file) = Rose old new
+IsLoadFault old new Write = ⊥
+IsLoadFault old new Memory = Unit {0}
+IsLoadFault old new (TooLong file) = Unit {0}
+
+-- what an action is refused for: not for the words, nor for a read; and a write failed only where a fault was counted
+abbrev pub IsDoneFault : ℕ → ℕ → Refused → Type 0
+IsDoneFault old new (Words place) = ⊥
+IsDoneFault old new (Script key rule) = Unit {0}
+IsDoneFault old new (Module file place rule) = Unit {0}
+IsDoneFault old new (Read file) = ⊥
+IsDoneFault old new Write = Rose old new
+IsDoneFault old new Memory = Unit {0}
+IsDoneFault old new (TooLong file) = Unit {0}
 
 -- a result gives this, want of memory aside
 abbrev pub Gives : {X Y : Type 0} → (X → Y) → Result Y Refused → Result X Refused → Type 0

@@ -1,4 +1,5 @@
 pub mod Words
+pub mod Picked
 pub mod Refusals
 pub mod Files
 pub mod Accepted

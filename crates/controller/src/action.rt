@@ -4,18 +4,19 @@ ghost use Rattle.controller.specs.Words.{refused_place};
 ghost use Rattle.controller.specs.Printed.{sunk};
 ghost use Rattle.controller.specs.Answered.{AnswersWords, word_bytes};
 
-use crate::load::{load_module, load_script};
-use crate::refusal_report::refuse;
+use crate::done::do_action;
+use crate::load::{load_modules, load_script};
+use crate::mention::mentions_of;
+use crate::refusal_report::{refuse, refuse_file};
 use crate::refused::Refused;
 use crate::report::Report;
-use crate::run_report::run_tree;
-use crate::script_module::module_name;
-use crate::words::script_word;
+use crate::words::read_words;
 use outside::{Shelf, Sink};
 use std::alloc::Global;
 
-/// Does what the command words say, by turns on one thread: `round CELL` runs the cell of the script in the file CELL and
-/// prints its setpoints and how each task ended. It always returns.
+/// Does what the command words say, over the script in the file CELL and the modules that it names. `check CELL` tells
+/// whether all is accepted; `round CELL` runs the cell by turns on one thread, and prints its setpoints and how each task
+/// ended. `--history` may stand anywhere among the words, once. It always returns.
 pub fn quiet<S: Shelf, O: Sink, E: Sink>(
     alloc: Global,
     words: &[&str],
@@ -31,17 +32,21 @@ pub fn quiet<S: Shelf, O: Sink, E: Sink>(
     ensures read { (file : ℕ) → result.refused ≡ Some (Refused.Read file) → Rose (S.faults shelf.old) (S.faults shelf.new) }
     ensures write { result.refused ≡ Some Refused.Write → Rose (O.faults out.old) (O.faults out.new) }
 {
-    match script_word(words) {
-        Err(place) => refuse(alloc, err, "", Refused::Words { place }),
-        Ok(name) => match load_script(alloc, shelf, name) {
-            Err(refused) => refuse(alloc, err, name, refused),
-            Ok(script) => {
-                let file = module_name(&script);
-                match load_module(alloc, shelf, 1, file) {
-                    Err(refused) => refuse(alloc, err, file, refused),
-                    Ok(tree) => run_tree(alloc, &script, tree, out, err),
-                }
-            }
-        },
+    let command = match read_words(words) {
+        Ok(command) => command,
+        Err(place) => return refuse(alloc, err, "", Refused::Words { place }),
+    };
+    let script = match load_script(alloc, shelf, command.script) {
+        Ok(script) => script,
+        Err(refused) => return refuse_file(alloc, err, command.script, &[], refused),
+    };
+    let mentions = match mentions_of(alloc, &script) {
+        Ok(mentions) => mentions,
+        Err(_) => return refuse(alloc, err, "", Refused::Memory),
+    };
+    let modules = mentions.as_slice();
+    match load_modules(alloc, shelf, modules) {
+        Ok(builds) => do_action(alloc, &command, &script, modules, builds, out, err),
+        Err(refused) => refuse_file(alloc, err, command.script, modules, refused),
     }
 }

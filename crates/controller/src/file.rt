@@ -1,6 +1,6 @@
 ghost use Rattle.std.specs.Prelude.{◌≡◌, ◌≤◌, IfOk, IfErr, IfSome, option_map, length};
 ghost use Rattle.outside.specs.Told.{found, after_reads};
-ghost use Rattle.controller.specs.Files.{text_of, ReadFaulted, GivesText};
+ghost use Rattle.controller.specs.Files.{text_of, IsLoadFault, GivesText};
 
 use crate::refused::Refused;
 use outside::{Shelf, ShelfFault};
@@ -16,8 +16,8 @@ pub(crate) fn read_file<S: Shelf>(
 ) -> Result<Vec<u8>, Refused>
     ensures faults { S.faults shelf.old ≤ S.faults shelf.new }
     ensures told_after { S.told shelf.new ≡ option_map (after_reads 1) (S.told shelf.old) }
-    // The refusal is that of this file, or want of memory; a read that failed was counted.
-    ensures causes { IfErr result (ReadFaulted file (S.faults shelf.old) (S.faults shelf.new)) }
+    // A read that failed was counted.
+    ensures causes { IfErr result (IsLoadFault (S.faults shelf.old) (S.faults shelf.new)) }
     ensures within { IfOk result (λ bytes. length bytes.items ≤ limit) }
     ensures gives { IfSome (S.told shelf.old) (λ told. GivesText (text_of file limit (found told name.now)) result) }
 {

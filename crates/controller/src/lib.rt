@@ -2,23 +2,27 @@
 #![tactic(auto)]
 
 mod action;
+mod build;
+mod command;
+mod done;
 mod file;
-mod laws;
 mod load;
+mod mention;
+mod module_text;
+mod not_built;
 mod print;
 mod refusal_report;
 mod refused;
 mod report;
 mod run;
 mod run_report;
-mod script_module;
 mod status;
 mod telling;
 mod words;
 mod write;
 
 pub use action::quiet;
-pub use laws::verdict_is_one;
+pub use command::Action;
 pub use refused::{ModuleRule, Refused};
 pub use report::Report;
 

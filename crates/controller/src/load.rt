@@ -1,18 +1,17 @@
-ghost use Rattle.std.specs.Prelude.{◌≡◌, ◌≤◌, ◌<◌, ◌^◌, Ok, IfOk, IfErr, IfSome, option_map, length};
-ghost use Rattle.outside.specs.Told.{found, after_reads};
-ghost use Rattle.controller.specs.Files.{text_of};
-ghost use Rattle.controller.specs.Loaded.{ScriptFaulted, ModuleFaulted, IsScriptIn, IsModuleIn, IsSpelled};
-ghost use Rattle.controller.specs.Accepted.{script_limit, module_limit, place_at};
+ghost use Rattle.std.specs.Prelude.{◌≡◌, ◌≤◌, ◌<◌, ◌^◌, Some, IfOk, IfErr, IfSome, option_map, map, length};
+ghost use Rattle.outside.specs.Told.{Told, found, after_reads};
+ghost use Rattle.controller.specs.Files.{text_of, IsLoadFault};
+ghost use Rattle.controller.specs.Loaded.{mention_of, build_of, IsScriptIn, IsModuleIn, AreModules, IsSuited, AreSuited};
+ghost use Rattle.controller.specs.Accepted.{script_limit, module_limit};
 
+use crate::build::Build;
 use crate::file::read_file;
-use crate::refused::{ModuleRule, Refused};
-use built_forms::{BuildFault, build_module};
+use crate::mention::Mention;
+use crate::module_text::read_module;
+use crate::refused::Refused;
 use cell_script::{ScriptFault, read_script};
-use module_parser::parse_module;
 use outside::Shelf;
-use rapid_forms::SyntaxFault;
-use rapid_lexer::place_of;
-use rapid_model::{Script, Tree};
+use rapid_model::Script;
 use std::alloc::Global;
 
 /// The most bytes of a script.
@@ -29,8 +28,7 @@ pub(crate) fn load_script<S: Shelf>(
 ) -> Result<Script, Refused>
     ensures faults { S.faults shelf.old ≤ S.faults shelf.new }
     ensures told_after { S.told shelf.new ≡ option_map (after_reads 1) (S.told shelf.old) }
-    ensures causes { IfErr result (ScriptFaulted (S.faults shelf.old) (S.faults shelf.new)) }
-    ensures spelled { IfOk result IsSpelled }
+    ensures causes { IfErr result (IsLoadFault (S.faults shelf.old) (S.faults shelf.new)) }
     ensures script { IfSome (S.told shelf.old) (λ told. IsScriptIn (text_of 0 script_limit (found told name.now)) result) }
 {
     let text = read_file(alloc, shelf, 0, SCRIPT_LIMIT, name)?;
@@ -41,48 +39,47 @@ pub(crate) fn load_script<S: Shelf>(
     }
 }
 
-/// The tree of the module in the file of this number and name.
-pub(crate) fn load_module<S: Shelf>(
+/// What the modules of these mentions are built to, each in turn: the first file after the script's has number 1. The
+/// first refusal ends it.
+pub(crate) fn load_modules<S: Shelf>(
+    alloc: Global,
+    shelf: &mut S,
+    modules: &[Mention<'_>],
+) -> Result<Vec<Build>, Refused>
+    requires { length modules.now < 2 ^ 31 }
+    ensures faults { S.faults shelf.old ≤ S.faults shelf.new }
+    ensures causes { IfErr result (IsLoadFault (S.faults shelf.old) (S.faults shelf.new)) }
+    ensures suited { IfOk result (λ builds. AreSuited (map mention_of modules.now) (map build_of builds.items)) }
+    // In the words of what was told before the script was read.
+    ensures modules { (told : Told) → S.told shelf.old ≡ Some (after_reads 1 told) → AreModules told (map mention_of modules.now) result }
+{
+    let mut builds = Vec::new(alloc);
+    for (k, mention) in modules.iter().enumerate() {
+        let build = match load_module(alloc, shelf, k as u32 + 1, mention) {
+            Ok(build) => build,
+            Err(refused) => return Err(refused),
+        };
+        match builds.push(build) {
+            Ok(()) => {}
+            Err(_) => return Err(Refused::Memory),
+        }
+    }
+    Ok(builds)
+}
+
+/// What the module in the file of this number is built to.
+fn load_module<S: Shelf>(
     alloc: Global,
     shelf: &mut S,
     file: u32,
-    name: &str,
-) -> Result<Tree, Refused>
+    mention: &Mention<'_>,
+) -> Result<Build, Refused>
     ensures faults { S.faults shelf.old ≤ S.faults shelf.new }
     ensures told_after { S.told shelf.new ≡ option_map (after_reads 1) (S.told shelf.old) }
-    ensures causes { IfErr result (ModuleFaulted file (S.faults shelf.old) (S.faults shelf.new)) }
-    ensures module { IfSome (S.told shelf.old) (λ told. IsModuleIn file (text_of file module_limit (found told name.now)) result) }
+    ensures causes { IfErr result (IsLoadFault (S.faults shelf.old) (S.faults shelf.new)) }
+    ensures suited { IfOk result (λ build. IsSuited (mention_of mention.now) (build_of build)) }
+    ensures module { IfSome (S.told shelf.old) (λ told. IsModuleIn (mention_of mention.now) file (text_of file module_limit (found told mention.now.name.now)) result) }
 {
-    let text = read_file(alloc, shelf, file, MODULE_LIMIT, name)?;
-    read_tree(alloc, file, text.as_slice())
-}
-
-/// The tree of the module that a text spells, or why the file of this number is refused.
-fn read_tree(alloc: Global, file: u32, text: &[u8]) -> Result<Tree, Refused>
-    requires { length text.now < 2 ^ 31 }
-    ensures { IsModuleIn file (Ok text.now) result }
-{
-    match parse_module(alloc, text) {
-        Ok(module) => match build_module(alloc, &module) {
-            Ok(tree) => Ok(tree),
-            Err(BuildFault::NotBuilt(at)) => Err(refusal(file, text, at, ModuleRule::NotBuilt)),
-            Err(BuildFault::Memory) => Err(Refused::Memory),
-        },
-        Err(SyntaxFault::Lex(fault)) => {
-            Err(refusal(file, text, fault.at, ModuleRule::Lex(fault.rule)))
-        }
-        Err(SyntaxFault::Rule { rule, at }) => {
-            Err(refusal(file, text, at, ModuleRule::Syntax(rule)))
-        }
-        Err(SyntaxFault::Memory) => Err(Refused::Memory),
-    }
-}
-
-/// The refusal of a module by a rule at a byte of its text.
-fn refusal(file: u32, text: &[u8], at: usize, rule: ModuleRule) -> Refused
-    requires { length text.now < 2 ^ 31 }
-    ensures { result ≡ Refused.Module file (place_at text.now at) rule }
-{
-    let place = place_of(text, at.min(text.len()));
-    Refused::Module { file, place, rule }
+    let text = read_file(alloc, shelf, file, MODULE_LIMIT, mention.name)?;
+    read_module(alloc, file, mention, text.as_slice())
 }

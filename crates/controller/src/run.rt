@@ -2,7 +2,7 @@ ghost use Rattle.std.specs.Prelude.{◌≡◌, [], ◌∷◌, IfOk};
 ghost use Rattle.rapid_meaning.specs.Runs.{tree_asks};
 ghost use Rattle.rapid_meaning.specs.Turns.{IsByTurns};
 ghost use Rattle.task_machine.specs.MachineData.{fresh};
-ghost use Rattle.controller.specs.Runs.{IsOneArm};
+ghost use Rattle.controller.specs.Runs.{SuitsOne};
 
 use cell_core::Core;
 use cell_crew::run_round;
@@ -13,7 +13,7 @@ use task_machine::Machine;
 
 /// Runs the one task of a cell by turns. All memory is taken before the first event.
 pub(crate) fn run_task(alloc: Global, cell: Cell, tree: Tree) -> Result<Core, Memory>
-    requires { IsOneArm cell }
+    requires { SuitsOne cell tree }
     ensures cell { IfOk result (λ core. core.cell ≡ cell) }
     ensures by_turns { IfOk result (λ core. IsByTurns (tree_asks (tree ∷ [])) cell core.history) }
 {

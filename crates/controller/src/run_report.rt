@@ -3,7 +3,7 @@ ghost use Rattle.rapid_model.specs.ScriptData.{cell_of};
 ghost use Rattle.rapid_model.specs.declared.tree.Tree.{Tree};
 ghost use Rattle.rapid_meaning.specs.Runs.{tree_asks};
 ghost use Rattle.rapid_meaning.specs.Turns.{IsByTurns};
-ghost use Rattle.controller.specs.Runs.{IsOneArm};
+ghost use Rattle.controller.specs.Runs.{SuitsOne};
 ghost use Rattle.controller.specs.Printed.{sunk};
 ghost use Rattle.controller.specs.Answered.{RunsOrMemory, AnswersRun};
 
@@ -28,7 +28,7 @@ pub(crate) fn run_tree<O: Sink, E: Sink>(
     out: &mut O,
     err: &mut E,
 ) -> Report
-    requires { IsOneArm (cell_of script.now) }
+    requires { SuitsOne (cell_of script.now) tree }
     ensures { RunsOrMemory (cell_of script.now) (tree ∷ []) result (sunk O.told O.calls O.faults out.old out.new) (sunk E.told E.calls E.faults err.old err.new) }
 {
     match make_cell(alloc, script) {

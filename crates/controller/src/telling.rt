@@ -68,6 +68,14 @@ fn script_rule(rule: ScriptRule) -> &'static [u8]
 {
     match rule {
         ScriptRule::NotToml => b" NotToml\n",
+        ScriptRule::NoKey => b" NoKey\n",
+        ScriptRule::Kind => b" Kind\n",
+        ScriptRule::UnknownKey => b" UnknownKey\n",
+        ScriptRule::Range => b" Range\n",
+        ScriptRule::Name => b" Name\n",
+        ScriptRule::Twice => b" Twice\n",
+        ScriptRule::NoSuch => b" NoSuch\n",
+        ScriptRule::Pair => b" Pair\n",
         ScriptRule::NotBuilt => b" NotBuilt\n",
     }
 }

@@ -83,6 +83,23 @@ const ONE_MOVE_LINES: [&[u8]; 4] = [
     b"E A Done\n",
 ];
 
+/// Two tasks, each with a module.
+const TWO_TASKS: &[u8] =
+    b"version = 1\n[[task]]\nname = \"A\"\nmodules = [\"a.mod\"]\narm = [0,0,0,0,0,0]\n[[task]]\nname = \"B\"\nmodules = [\"b.mod\"]\narm = [0,0,0,0,0,0]\n";
+
+/// A task with two modules.
+const TWO_MODULES: &[u8] =
+    b"version = 1\n[[task]]\nname = \"A\"\nmodules = [\"a.mod\", \"b.mod\"]\narm = [0,0,0,0,0,0]\n";
+
+const NO_ARM: &[u8] = b"version = 1\n[[task]]\nname = \"A\"\nmodules = [\"a.mod\"]\n";
+
+const ONE_VALUE: &[u8] =
+    b"version = 1\n[[task]]\nname = \"A\"\nmodules = [\"a.mod\"]\narm = [0,0,0,0,0,0]\n[[pers]]\nname = \"n\"\nnum = \"1\"\n";
+
+const NO_ITEMS: &[u8] = b"MODULE N\nENDMODULE\n";
+
+const NOTHING_TO_DO: &[u8] = b"MODULE M\nPROC main()\nENDPROC\nENDMODULE\n";
+
 /// What a call left: its report, and the bytes of both sinks.
 #[derive(Drop)]
 struct Outcome {
@@ -91,12 +108,13 @@ struct Outcome {
     err: MemorySink,
 }
 
-/// Does what the words say over a script and a module; the write of this number to the first sink fails.
+/// Does what the words say over a script and the modules `a.mod` and `b.mod`; the write of this number to the first sink
+/// fails.
 fn outcome_of(
     alloc: Global,
     words: &[&str],
     script: &[u8],
-    module: &[u8],
+    modules: [&[u8]; 2],
     failing_write: Option<u32>,
 ) -> Result<Outcome, Fail> {
     let mut files = Vec::new(alloc);
@@ -106,7 +124,11 @@ fn outcome_of(
     ))?;
     files.push((
         String::from_str(alloc, "a.mod")?,
-        Vec::from_slice(alloc, module)?,
+        Vec::from_slice(alloc, modules[0])?,
+    ))?;
+    files.push((
+        String::from_str(alloc, "b.mod")?,
+        Vec::from_slice(alloc, modules[1])?,
     ))?;
     let mut failing = Vec::new(alloc);
     if let Some(number) = failing_write {
@@ -122,7 +144,7 @@ fn outcome_of(
 }
 
 fn round(alloc: Global, module: &[u8]) -> Result<Outcome, Fail> {
-    outcome_of(alloc, &["round", "cell"], SCRIPT, module, None)
+    outcome_of(alloc, &["round", "cell"], SCRIPT, [module, b""], None)
 }
 
 /// The call printed these lines and nothing on the second sink.
@@ -189,7 +211,7 @@ fn failing_writes(rt: HostRuntime) -> Result<(), Fail> {
             rt.alloc(),
             &["round", "cell"],
             SCRIPT,
-            ONE_MOVE,
+            [ONE_MOVE, b""],
             Some(number),
         )?;
         let mut bytes = Vec::new(rt.alloc());
@@ -216,29 +238,142 @@ fn refused(rt: &impl Abort, left: &Outcome, status: u8, line: &[u8]) {
     assert!(rt; left.report.fates.is_empty());
 }
 
+/// Words that are refused, each with its place, from 0.
+static WORDS: [(&[&str], &[u8]); 9] = [
+    (&["round"], b"rapid_cell: words 1\n"),
+    (&["--history", "round"], b"rapid_cell: words 2\n"),
+    (&["--history"], b"rapid_cell: words 1\n"),
+    (&[], b"rapid_cell: words 0\n"),
+    (&["", "cell"], b"rapid_cell: words 0\n"),
+    (&["round", "cell", "more"], b"rapid_cell: words 2\n"),
+    (&["round", "x", "y", "-z"], b"rapid_cell: words 3\n"),
+    (
+        &["nosuch", "a", "b", "--history", "--history"],
+        b"rapid_cell: words 4\n",
+    ),
+    (
+        &["--history", "round", "--history", "cell"],
+        b"rapid_cell: words 2\n",
+    ),
+];
+
 #[test]
-fn refusals(rt: HostRuntime) -> Result<(), Fail> {
+fn words(rt: HostRuntime) -> Result<(), Fail> {
     let alloc = rt.alloc();
-    let words: [(u8, &[&str], &[u8]); 6] = [
-        (2, &["round"], b"rapid_cell: words 1\n"),
-        (2, &[], b"rapid_cell: words 0\n"),
-        (2, &["walk", "cell"], b"rapid_cell: words 0\n"),
-        (2, &["round", "cell", "more"], b"rapid_cell: words 2\n"),
-        (2, &["walk", "-v"], b"rapid_cell: words 1\n"),
-        (5, &["round", "none"], b"rapid_cell: read none\n"),
-    ];
-    for (status, given, line) in words.iter() {
-        let left = outcome_of(alloc, given, SCRIPT, ONE_MOVE, None)?;
-        refused(&rt, &left, *status, line);
+    for (given, line) in &WORDS {
+        let left = outcome_of(alloc, given, SCRIPT, [ONE_MOVE, b""], None)?;
+        refused(&rt, &left, 2, line);
     }
-    let scripts: [(&[u8], &[u8]); 2] = [
-        (b"version = ", b"rapid_cell: script - NotToml\n"),
-        (b"version = 2\n", b"rapid_cell: script - NotBuilt\n"),
+    let taken: [&[&str]; 2] = [
+        &["--history", "round", "cell"],
+        &["round", "cell", "--history"],
     ];
-    for (script, line) in scripts.iter() {
-        let left = outcome_of(alloc, &["round", "cell"], script, ONE_MOVE, None)?;
-        refused(&rt, &left, 3, line);
+    for given in &taken {
+        let left = outcome_of(alloc, given, SCRIPT, [ONE_MOVE, b""], None)?;
+        printed(&rt, &left, 0, &ONE_MOVE_LINES, alloc)?;
     }
+    let left = outcome_of(alloc, &["round", "none"], SCRIPT, [ONE_MOVE, b""], None)?;
+    refused(&rt, &left, 5, b"rapid_cell: read none\n");
+    Ok(())
+}
+
+/// Scripts and modules that are refused: the status and the line.
+static CELLS: [(&[u8], [&[u8]; 2], u8, &[u8]); 9] = [
+    (
+        b"version = ",
+        [ONE_MOVE, b""],
+        3,
+        b"rapid_cell: script - NotToml\n",
+    ),
+    (
+        b"version = 1\nsteps = 0\n",
+        [ONE_MOVE, b""],
+        3,
+        b"rapid_cell: script steps Range\n",
+    ),
+    (
+        b"version = 1\nsteps = 1.5\n",
+        [ONE_MOVE, b""],
+        3,
+        b"rapid_cell: script steps Kind\n",
+    ),
+    // A module that is no module comes before one that is not built.
+    (
+        TWO_TASKS,
+        [ASSIGNS, b""],
+        4,
+        b"rapid_cell: module b.mod 1:1 Syntax\n",
+    ),
+    (
+        TWO_TASKS,
+        [ONE_MOVE, ONE_MOVE],
+        3,
+        b"rapid_cell: script task[1] NotBuilt\n",
+    ),
+    (
+        TWO_MODULES,
+        [ONE_MOVE, NO_ITEMS],
+        4,
+        b"rapid_cell: module b.mod 1:1 NotBuilt\n",
+    ),
+    (
+        NO_ARM,
+        [ONE_MOVE, b""],
+        4,
+        b"rapid_cell: module a.mod 3:1 NotBuilt\n",
+    ),
+    (
+        ONE_VALUE,
+        [ASSIGNS, b""],
+        4,
+        b"rapid_cell: module a.mod 3:1 NotBuilt\n",
+    ),
+    (
+        ONE_VALUE,
+        [ONE_MOVE, b""],
+        3,
+        b"rapid_cell: script pers[0] NoSuch\n",
+    ),
+];
+
+/// Both actions refuse them, with the same line.
+#[test]
+fn cells_refused(rt: HostRuntime) -> Result<(), Fail> {
+    let alloc = rt.alloc();
+    for (script, modules, status, line) in &CELLS {
+        let run = outcome_of(alloc, &["round", "cell"], script, *modules, None)?;
+        refused(&rt, &run, *status, line);
+        let checked = outcome_of(alloc, &["check", "cell"], script, *modules, None)?;
+        refused(&rt, &checked, *status, line);
+    }
+    Ok(())
+}
+
+#[test]
+fn accepted(rt: HostRuntime) -> Result<(), Fail> {
+    let alloc = rt.alloc();
+    let line: [&[u8]; 1] = [b"accepted\n"];
+    let left = outcome_of(alloc, &["check", "cell"], SCRIPT, [ONE_MOVE, b""], None)?;
+    printed(&rt, &left, 0, &line, alloc)?;
+    assert!(rt; left.report.history.is_empty());
+    assert!(rt; left.report.fates.is_empty());
+    let failed = outcome_of(alloc, &["check", "cell"], SCRIPT, [ONE_MOVE, b""], Some(0))?;
+    refused(&rt, &failed, 6, b"rapid_cell: write\n");
+    Ok(())
+}
+
+/// A task without an arm that has nothing to do.
+#[test]
+fn nothing_to_do(rt: HostRuntime) -> Result<(), Fail> {
+    let line: [&[u8]; 1] = [b"E A Done\n"];
+    let left = outcome_of(
+        rt.alloc(),
+        &["round", "cell"],
+        NO_ARM,
+        [NOTHING_TO_DO, b""],
+        None,
+    )?;
+    printed(&rt, &left, 0, &line, rt.alloc())?;
     Ok(())
 }
 

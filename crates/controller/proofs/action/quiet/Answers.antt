@@ -1,10 +1,8 @@
+use Rattle.std.proofs.Common.{ap, map, ◌∙◌}
+use Rattle.controller.specs.Loaded.{mention_of, build_of}
 use Rattle.controller.proofs.Gains.{gained_none}
-use Rattle.controller.proofs.OneArm.{spelled_has_arm}
-use Rattle.controller.proofs.Exits.{words_refused, script_refused, module_refused, task_run}
+use Rattle.controller.proofs.Exits.{words_refused, script_refused, module_refused, all_read}
 use Rattle.controller.proofs.action.quiet.Goals as goal
-
-pub run_tree-requires : goal.run_tree-requires
-run_tree-requires g c = spelled_has_arm c.in-Ok-load_script.script c.in-Ok-load_script.ensures.spelled.0 c.in-Ok-load_script.ensures.spelled.1
 
 pub returns-in-Err-clause-answers : goal.returns-in-Err-clause-answers
 returns-in-Err-clause-answers g c =
@@ -20,30 +18,40 @@ returns-in-Err-clause-answers g c =
 
 pub returns-in-Err-load_script-clause-answers : goal.returns-in-Err-load_script-clause-answers
 returns-in-Err-load_script-clause-answers g c =
-    script_refused _ _ c.in-Ok.name.now c.in-Err-load_script.refused _ _ _ _ _ c.in-Ok.ensures.taken c.in-Ok.ensures.name c.in-Err-load_script.ensures.causes (record {
-      refused_is = c.refuse-in-Err-load_script.ensures.refused;
-      status = c.refuse-in-Err-load_script.ensures.status;
-      history = c.refuse-in-Err-load_script.ensures.history;
-      fates = c.refuse-in-Err-load_script.ensures.fates;
+    script_refused _ _ c.in-Ok.command.script.now c.in-Err-load_script.refused _ _ _ c.in-Ok.ensures.taken c.in-Ok.ensures.name (record {
+      refused_is = c.refuse_file.ensures.refused;
+      status = c.refuse_file.ensures.status;
+      history = c.refuse_file.ensures.history;
+      fates = c.refuse_file.ensures.fates;
       printed = gained_none _;
       calls = gained_none _;
-      told = c.refuse-in-Err-load_script.ensures.told;
+      told = c.refuse_file.ensures.told;
     }) c.in-Err-load_script.ensures.script
 
-pub returns-in-Err-load_module-clause-answers : goal.returns-in-Err-load_module-clause-answers
-returns-in-Err-load_module-clause-answers g c =
-    module_refused _ _ _ c.in-Ok.name.now c.module_name-file.result.now c.in-Ok-load_script.script c.in-Err-load_module.refused _ _ _ _ _ c.in-Ok.ensures.taken c.in-Ok.ensures.name
-    c.module_name-file.ensures c.in-Ok-load_script.ensures.script c.in-Ok-load_script.ensures.told_after c.in-Err-load_module.ensures.causes (record {
-      refused_is = c.refuse-in-Err-load_module.ensures.refused;
-      status = c.refuse-in-Err-load_module.ensures.status;
-      history = c.refuse-in-Err-load_module.ensures.history;
-      fates = c.refuse-in-Err-load_module.ensures.fates;
-      printed = gained_none _;
-      calls = gained_none _;
-      told = c.refuse-in-Err-load_module.ensures.told;
-    }) c.in-Err-load_module.ensures.module
+pub returns-in-Ok-load_modules-clause-answers : goal.returns-in-Ok-load_modules-clause-answers
+returns-in-Ok-load_modules-clause-answers g c =
+    all_read _ _ (g.S.Shelf.told c.load_script.new.shelf) c.in-Ok.command.script.now _ c.in-Ok-load_script.script c.as_slice-modules.result.now (map build_of c.in-Ok-load_modules.builds.items) _ _ _ (record {
+      taken = c.in-Ok.ensures.taken;
+      name_is = c.in-Ok.ensures.name;
+      script_in = c.in-Ok-load_script.ensures.script;
+      after = c.in-Ok-load_script.ensures.told_after;
+      mentioned = ap (map mention_of) c.as_slice-modules.ensures.value ∙ c.in-Ok-mentions_of.ensures.named;
+    }) c.in-Ok.ensures.action c.in-Ok-load_modules.ensures.modules c.do_action.ensures.answers
 
 pub returns-clause-answers : goal.returns-clause-answers
 returns-clause-answers g c =
-    task_run _ _ _ c.in-Ok.name.now c.module_name-file.result.now c.in-Ok-load_script.script c.in-Ok-load_module.tree _ _ _ c.in-Ok.ensures.taken c.in-Ok.ensures.name
-    c.module_name-file.ensures c.in-Ok-load_script.ensures.script c.in-Ok-load_script.ensures.told_after c.in-Ok-load_module.ensures.module c.run_tree.ensures
+    module_refused _ _ (g.S.Shelf.told c.load_script.new.shelf) c.in-Ok.command.script.now c.in-Ok-load_script.script c.as_slice-modules.result.now c.in-Err-load_modules.refused _ _ _ (record {
+      taken = c.in-Ok.ensures.taken;
+      name_is = c.in-Ok.ensures.name;
+      script_in = c.in-Ok-load_script.ensures.script;
+      after = c.in-Ok-load_script.ensures.told_after;
+      mentioned = ap (map mention_of) c.as_slice-modules.ensures.value ∙ c.in-Ok-mentions_of.ensures.named;
+    }) (record {
+      refused_is = c.refuse_file-in-Err-load_modules.ensures.refused;
+      status = c.refuse_file-in-Err-load_modules.ensures.status;
+      history = c.refuse_file-in-Err-load_modules.ensures.history;
+      fates = c.refuse_file-in-Err-load_modules.ensures.fates;
+      printed = gained_none _;
+      calls = gained_none _;
+      told = c.refuse_file-in-Err-load_modules.ensures.told;
+    }) c.in-Err-load_modules.ensures.modules

@@ -1,0 +1,165 @@
+-- Where nothing is refused there is one task with one module, and the cell suits its tree.
+use Rattle.std.proofs.Common.{◌≡◌, ℕ, suc, ◌+◌, ◌≤◌, List, [], ◌∷◌, ◌++◌, length, map, Bool, true, false, not, ◌&&◌, ◌==◌, ◌⊎◌, refl, ap, sym, ◌∙◌, subst, inl, inr, arith}
+use Rattle.std.specs.Prelude.{Option, Some, None, Ok, Err, IsTrue, is_some, nat_lt, codes, if◌then◌else◌, IfSome}
+use Rattle.std.specs.Option.{option_map}
+use Rattle.std.specs.List.{list_all}
+use Rattle.std.proofs.lemmas.Bool.Decides.{nat_tests}
+use Rattle.std.proofs.lemmas.List.{length-map}
+use Rattle.rapid_model.specs.Requests.{or_else}
+use Rattle.rapid_model.specs.ScriptData.{ScriptData, IsScript, is_task, row_of, cell_of}
+use Rattle.rapid_model.specs.declared.script_task.ScriptTask.{ScriptTask}
+use Rattle.rapid_model.specs.declared.script_rule.ScriptRule.TheVariants as rules
+use Rattle.rapid_model.specs.declared.tree.Stmt.{Stmt}
+use Rattle.rapid_model.specs.declared.tree.Tree.{Tree}
+use Rattle.controller.specs.declared.build.Build as declared_build
+use Rattle.controller.specs.declared.mention.Mention as declared_mention
+use Rattle.controller.specs.declared.refused.Refused.{Refused}
+use Rattle.controller.specs.declared.refused.Refused.TheVariants.{Script}
+use Rattle.controller.specs.Accepted.{Mention, Build, later_mentions, mentions_of, mentions, unarmed_move, unbuilt_key, unbuilt_module, unknown_pers, not_built}
+use Rattle.controller.specs.Files.{IsDoneFault}
+use Rattle.controller.specs.Loaded.{mention_of, build_of, AreSuited}
+use Rattle.controller.specs.Runs.{SuitsOne}
+use Rattle.controller.proofs.Mentions.{first_of_all, task_modules, few_modules, length-seen}
+
+-- as many builds as mentions
+suited_length : (ms : List Mention) (builds : List Build) → AreSuited ms builds → length builds ≡ length ms
+suited_length [] [] p = refl
+suited_length [] (b ∷ builds) p = absurd p
+suited_length (m ∷ ms) [] p = absurd p
+suited_length (m ∷ ms) (b ∷ builds) p = ap (λ (n : ℕ). suc n) (suited_length ms builds p.1)
+
+length_built : (builds : List declared_build.Build) → length (map build_of builds) ≡ length builds
+length_built [] = refl
+length_built (b ∷ builds) = ap (λ (n : ℕ). suc n) (length_built builds)
+
+pub few_builds : (script : ScriptData) (ms : List declared_mention.Mention) (builds : List declared_build.Build) → IsScript script → map mention_of ms ≡ mentions script.tasks
+    → AreSuited (map mention_of ms) (map build_of builds) → length builds ≤ 128
+few_builds script ms builds limits is suited =
+    let few = few_modules script ms limits is in
+    let same = suited_length (map mention_of ms) (map build_of builds) suited in
+    let here = length_built builds in
+    let seen = length-seen ms in
+    omega (arith, few, same, here, seen)
+
+-- neither is there
+none_first : {A : Type 0} (a b : Option A) → or_else a b ≡ None → a ≡ None
+none_first None b p = refl
+none_first (Some x) b p = cc
+
+none_then : {A : Type 0} (a b : Option A) → or_else a b ≡ None → b ≡ None
+none_then None b p = p
+none_then (Some x) b p = cc
+
+none_mapped : {A B : Type 0} (f : A → B) (o : Option A) → option_map f o ≡ None → o ≡ None
+none_mapped f None p = refl
+none_mapped f (Some x) p = cc
+
+-- the second of some keys is not there
+second_not : {A : Type 0} (a b : Bool) (x y : A) (o : Option A) → (if a then Some x else if b then Some y else o) ≡ None → b ≡ false
+second_not true b x y o p = cc
+second_not false true x y o p = cc
+second_not false false x y o p = refl
+
+few_tasks : (script : ScriptData) → unbuilt_key script ≡ None → length script.tasks ≤ 1
+few_tasks script none =
+    let not_two : nat_lt 1 (length script.tasks) ≡ false =
+    second_not (not (length script.signals == 0)) (nat_lt 1 (length script.tasks)) (codes "signal") (codes "task[1]")
+    (if not (length script.zones == 0) then Some (codes "zone") else if not (length script.inputs == 0) then Some (codes "input") else None) none in
+    grind (arith, nat_tests)
+
+-- a first module that is built, and no second one
+no_second : (armed : Bool) (names : List (List ℕ)) (builds : List Build) (file : ℕ) → AreSuited (later_mentions armed names ++ []) builds → unbuilt_module file builds ≡ None → builds ≡ []
+no_second armed [] [] file p none = refl
+no_second armed [] (b ∷ builds) file p none = absurd p
+no_second armed (name ∷ names) [] file p none = absurd p
+no_second armed (name ∷ names) (Ok tree ∷ builds) file p none = let no : false ≡ true = p.0.0 in cc
+no_second armed (name ∷ names) (Err place ∷ builds) file p none = cc
+
+and_true : (b : Bool) → IsTrue b → IsTrue (b && true)
+and_true true h = refl
+and_true false h = h
+
+-- a tree that moves no arm that is not there
+suits : (armed : Bool) (tree : Tree) (list : List Stmt) → list ≡ tree.list → unarmed_move armed list ≡ None → IsTrue armed ⊎ (tree.list ≡ [])
+suits armed tree [] is none = inr (sym is)
+suits true tree (stmt ∷ list) is none = inl refl
+suits false tree (stmt ∷ list) is none = cc
+
+armed_rows : (tasks : List ScriptTask) (task : ScriptTask) → tasks ≡ task ∷ [] → IsTrue (is_some task.arm) → IsTrue (list_all (λ row. is_some row.arm) (map row_of tasks))
+armed_rows tasks task one armed =
+    subst (λ (ts : List ScriptTask). IsTrue (list_all (λ row. is_some row.arm) (map row_of ts))) (sym one) (and_true (is_some task.arm) armed)
+
+-- the same builds, seen as a slice
+pub seen_refusal : (script : ScriptData) (seen builds : List declared_build.Build) (o : Option Refused) → seen ≡ builds → o ≡ not_built script (map build_of seen) → not_built script (map build_of builds) ≡ o
+seen_refusal script seen builds o same is = sym (is ∙ ap (λ (bs : List declared_build.Build). not_built script (map build_of bs)) same)
+
+-- one module that is built
+pub record OneTree (script : ScriptData) (builds : List Build) : Type 0 where
+  pub tree : Tree
+  pub one : builds ≡ Ok tree ∷ []
+  pub suits : SuitsOne (cell_of script) tree
+
+of_task : (script : ScriptData) (task : ScriptTask) (names : List (List ℕ)) (builds : List Build) → script.tasks ≡ task ∷ [] → 1 ≤ length names → AreSuited (mentions_of (is_some task.arm) names ++ []) builds
+    → unbuilt_module 1 builds ≡ None → OneTree script builds
+of_task script task [] builds one some p none = absurd (omega arith)
+of_task script task (name ∷ names) [] one some p none = absurd p
+of_task script task (name ∷ names) (Err place ∷ builds) one some p none = cc
+of_task script task (name ∷ names) (Ok tree ∷ builds) one some p none = record {
+  tree = tree;
+  one = ap (λ (bs : List Build). let b : Build = Ok tree in b ∷ bs) (no_second (is_some task.arm) names builds 2 p.1 none);
+  suits = record {
+    one = length-map script.tasks row_of ∙ ap length one;
+    arms = arms_of (suits (is_some task.arm) tree tree.list refl p.0.1);
+  };
+}
+  where
+    arms_of : IsTrue (is_some task.arm) ⊎ (tree.list ≡ []) → IsTrue (list_all (λ row. is_some row.arm) (cell_of script).tasks) ⊎ (tree.list ≡ [])
+    arms_of (inl armed) = inl (armed_rows script.tasks task one armed)
+    arms_of (inr nothing) = inr nothing
+
+of_tasks : (script : ScriptData) (tasks : List ScriptTask) (builds : List Build) → script.tasks ≡ tasks → 1 ≤ length tasks → length tasks ≤ 1 → IsTrue (list_all is_task tasks) → AreSuited (mentions tasks) builds
+    → unbuilt_module 1 builds ≡ None → OneTree script builds
+of_tasks script [] builds is some few all p none = absurd (omega arith)
+of_tasks script (task ∷ []) builds is some few all p none =
+    of_task script task task.modules builds is (task_modules task (first_of_all (is_task task) true all)).some p none
+of_tasks script (task ∷ other ∷ tasks) builds is some few all p none = absurd (omega arith)
+
+-- where nothing is refused
+pub one_tree : (script : ScriptData) (ms : List declared_mention.Mention) (builds : List Build) → IsScript script → map mention_of ms ≡ mentions script.tasks → AreSuited (map mention_of ms) builds
+    → not_built script builds ≡ None → OneTree script builds
+one_tree script ms builds limits is suited none =
+    let key : Option Refused = option_map (λ key. Script key rules.NotBuilt) (unbuilt_key script) in
+    let later : Option Refused = or_else (unbuilt_module 1 builds) (unknown_pers script) in
+    let no_key : unbuilt_key script ≡ None = none_mapped (λ key. Script key rules.NotBuilt) (unbuilt_key script) (none_first key later none) in
+    let no_module : unbuilt_module 1 builds ≡ None = none_first (unbuilt_module 1 builds) (unknown_pers script) (none_then key later none) in
+    of_tasks script script.tasks builds refl limits.some_tasks (few_tasks script no_key) limits.tasks (subst (λ (xs : List Mention). AreSuited xs builds) is suited) no_module
+
+-- the tree of the one module
+pub suits_only : (script : ScriptData) (builds : List Build) (tree : Tree) → OneTree script builds → builds ≡ Ok tree ∷ [] → SuitsOne (cell_of script) tree
+suits_only script builds tree o is =
+    let e : Ok o.tree ∷ [] ≡ Ok tree ∷ [] = sym o.one ∙ is in
+    let same : o.tree ≡ tree = cc in
+    subst (λ (t : Tree). SuitsOne (cell_of script) t) same o.suits
+
+-- what is not built is no fault of a write
+key_fault : (old new : ℕ) (o : Option (List ℕ)) (rest : Option Refused) → IfSome rest (IsDoneFault old new) → IfSome (or_else (option_map (λ key. Script key rules.NotBuilt) o) rest) (IsDoneFault old new)
+key_fault old new None rest p = p
+key_fault old new (Some key) rest p = tt
+
+module_fault : (old new file : ℕ) (builds : List Build) (rest : Option Refused) → IfSome rest (IsDoneFault old new) → IfSome (or_else (unbuilt_module file builds) rest) (IsDoneFault old new)
+module_fault old new file [] rest p = p
+module_fault old new file (Ok tree ∷ builds) rest p = module_fault old new (file + 1) builds rest p
+module_fault old new file (Err place ∷ builds) rest p = tt
+
+pers_fault : (old new : ℕ) (none : Bool) → IfSome (if none then None else Some (Script (codes "pers[0]") rules.NoSuch)) (IsDoneFault old new)
+pers_fault old new true = tt
+pers_fault old new false = tt
+
+not_built_fault : (old new : ℕ) (script : ScriptData) (builds : List Build) → IfSome (not_built script builds) (IsDoneFault old new)
+not_built_fault old new script builds =
+    key_fault old new (unbuilt_key script) (or_else (unbuilt_module 1 builds) (unknown_pers script))
+    (module_fault old new 1 builds (unknown_pers script) (pers_fault old new (length script.pers == 0)))
+
+pub not_built_told : (old new : ℕ) (script : ScriptData) (builds : List Build) (told : Option Refused) (refused : Refused) → not_built script builds ≡ Some refused → told ≡ Some refused → IfSome told (IsDoneFault old new)
+not_built_told old new script builds told refused is same =
+    subst (λ (o : Option Refused). IfSome o (IsDoneFault old new)) (is ∙ sym same) (not_built_fault old new script builds)
