@@ -1,5 +1,6 @@
 use super::{ScriptFault, make_cell, read_script};
-use rapid_model::{InputRow, ScriptRule as Rule, Value};
+use rapid_model::{InputRow, PersValue, ScriptRule as Rule, ScriptTask, SignalRow, Value, ZoneRow};
+use rapid_num::{Joints, Shape};
 use std::alloc::{AllocError, Global};
 use std::test::*;
 
@@ -8,66 +9,107 @@ const WHOLE: &str =
     "version = 1\nsteps = 5000\n[[signal]]\nname = \"di1\"\nkind = \"di\"\n[[signal]]\nname = \"Do_1\"\nkind = \"do\"\nstart = 1\n[[task]]\nname = \"T_ROB1\"\nmodules = [\"main.mod\", \"more.mod\"]\narm = [1000, -2000, 0, 720000, -720000, 5]\n[[task]]\nname = \"WATCH\"\nmodules = [\"w.mod\"]\n[[pers]]\nname = \"count\"\nnum = \"-2.5\"\n[[pers]]\nname = \"flags\"\nindex = 3\nbool = true\n[[pers]]\nname = \"word\"\ntext = \"ok ~\"\n[[zone]]\nname = \"near\"\ntask = \"t_rob1\"\nkind = \"outside\"\naxes = [1, 3]\nlow = [-1000, 0]\nhigh = [1000, 90000]\nsignal = \"DO_1\"\nvalue = 1\n[[input]]\nsignal = \"di1\"\nvalue = 1\nwhen = \"do_1\"\nis = 1\ntask = \"watch\"\nsetpoints = 12\nafter = 40\n[[input]]\nsignal = \"di1\"\nvalue = 0\n";
 
 #[test]
-fn signals_and_tasks(rt: HostRuntime) -> Result<(), Fail> {
+fn whole_script(rt: HostRuntime) -> Result<(), Fail> {
     let script = read_script(rt.alloc(), WHOLE.as_bytes())
         .ok()
         .ok_or("a script with each key")?;
     assert_eq!(rt; script.steps(), 5000);
-    let signals = script.signals().as_slice();
-    assert_eq!(rt; signals.len(), 2);
-    assert_eq!(rt; signals[0].name.bytes(), b"di1".as_slice());
-    assert!(rt; !signals[0].output && !signals[0].start);
-    assert_eq!(rt; signals[1].name.bytes(), b"Do_1".as_slice());
-    assert!(rt; signals[1].output && signals[1].start);
-    let tasks = script.tasks().as_slice();
-    assert_eq!(rt; tasks.len(), 2);
-    assert_eq!(rt; tasks[0].name.bytes(), b"T_ROB1".as_slice());
-    let modules = tasks[0].modules.as_slice();
-    assert_eq!(rt; modules.len(), 2);
-    assert_eq!(rt; modules[1].as_str(), "more.mod");
-    let arm = tasks[0].arm.ok_or("an arm")?;
-    assert_eq!(rt; arm.axis[1].thousandths(), -2000);
-    assert_eq!(rt; arm.axis[3].thousandths(), 720_000);
-    assert_eq!(rt; arm.axis[6].thousandths(), 9_000_000_000_000);
-    assert!(rt; tasks[1].arm.is_none());
+    assert!(rt; are_signals(script.signals().as_slice()));
+    assert!(rt; are_tasks(script.tasks().as_slice()));
+    assert!(rt; are_values(script.pers().as_slice()));
+    assert!(rt; are_zones(script.zones().as_slice()));
+    assert!(rt; are_inputs(script.inputs().as_slice()));
     let cell = make_cell(rt.alloc(), &script).ok().ok_or("ample memory")?;
     assert_eq!(rt; cell.steps(), 5000);
-    let rows = cell.tasks().as_slice();
-    assert_eq!(rt; rows.len(), 2);
-    assert_eq!(rt; rows[1].name.bytes(), b"WATCH".as_slice());
-    assert!(rt; rows[0].arm.is_some() && rows[1].arm.is_none());
+    assert_eq!(rt; cell.tasks().len(), 2);
     Ok(())
 }
 
-#[test]
-fn other_rows(rt: HostRuntime) -> Result<(), Fail> {
-    let script = read_script(rt.alloc(), WHOLE.as_bytes())
-        .ok()
-        .ok_or("a script with each key")?;
-    let pers = script.pers().as_slice();
-    assert_eq!(rt; pers.len(), 3);
-    assert_eq!(rt; pers[0].name.bytes(), b"count".as_slice());
-    assert!(rt; matches!(&pers[0].value, Value::Num(n) if n.thousandths() == -2500));
-    assert_eq!(rt; pers[1].index, Some(3));
-    assert!(rt; matches!(&pers[1].value, Value::Bool(true)));
-    assert!(rt; matches!(&pers[2].value, Value::Text(t) if t.bytes() == b"ok ~".as_slice()));
-    let zones = script.zones().as_slice();
-    assert_eq!(rt; zones.len(), 1);
-    assert_eq!(rt; zones[0].name.bytes(), b"near".as_slice());
-    assert_eq!(rt; zones[0].task, 0);
-    assert_eq!(rt; zones[0].signal, 1);
-    assert!(rt; zones[0].value && !zones[0].shape.inside);
-    let bounds = zones[0].shape.bounds;
-    let third = bounds[2].ok_or("bounds of axis 3")?;
-    assert_eq!(rt; third.high.thousandths(), 90_000);
-    assert!(rt; bounds[0].is_some() && bounds[1].is_none() && bounds[11].is_none());
-    let inputs = script.inputs().as_slice();
-    assert_eq!(rt; inputs.len(), 2);
-    assert_eq!(rt; inputs[0].when, Some((1, true)));
-    assert_eq!(rt; inputs[0].given, Some((1, 12)));
-    assert_eq!(rt; inputs[0].after, Some(40));
-    assert!(rt; inputs[0].value && !inputs[1].value && inputs[1].when.is_none());
-    Ok(())
+fn are_signals(signals: &[SignalRow]) -> bool {
+    let [input, output] = signals else {
+        return false;
+    };
+    input.name.bytes() == b"di1".as_slice()
+        && !input.output
+        && !input.start
+        && output.name.bytes() == b"Do_1".as_slice()
+        && output.output
+        && output.start
+}
+
+fn are_tasks(tasks: &[ScriptTask]) -> bool {
+    let [robot, watch] = tasks else {
+        return false;
+    };
+    robot.name.bytes() == b"T_ROB1".as_slice()
+        && robot.modules.len() == 2
+        && is_arm(robot.arm)
+        && watch.name.bytes() == b"WATCH".as_slice()
+        && watch.modules.len() == 1
+        && watch.arm.is_none()
+}
+
+fn is_arm(arm: Option<Joints>) -> bool {
+    let Some(arm) = arm else {
+        return false;
+    };
+    arm.axis[1].thousandths() == -2000
+        && arm.axis[3].thousandths() == 720_000
+        && arm.axis[6].thousandths() == 9_000_000_000_000
+}
+
+fn are_values(values: &[PersValue]) -> bool {
+    let [count, flags, word] = values else {
+        return false;
+    };
+    count.index.is_none()
+        && flags.index == Some(3)
+        && is_value(&count.value, -2500, b"")
+        && matches!(&flags.value, Value::Bool(true))
+        && is_value(&word.value, 0, b"ok ~")
+}
+
+/// Whether a value is this num, or this text.
+fn is_value(value: &Value, number: i64, text: &[u8]) -> bool {
+    match value {
+        Value::Num(n) => n.thousandths() == number,
+        Value::Text(t) => t.bytes() == text,
+        _ => false,
+    }
+}
+
+fn are_zones(zones: &[ZoneRow]) -> bool {
+    let [zone] = zones else {
+        return false;
+    };
+    zone.name.bytes() == b"near".as_slice()
+        && zone.task == 0
+        && zone.signal == 1
+        && zone.value
+        && is_shape(&zone.shape)
+}
+
+fn is_shape(shape: &Shape) -> bool {
+    let Some(third) = shape.bounds[2] else {
+        return false;
+    };
+    !shape.inside
+        && third.low.thousandths() == 0
+        && third.high.thousandths() == 90_000
+        && shape.bounds[0].is_some()
+        && shape.bounds[1].is_none()
+}
+
+fn are_inputs(inputs: &[InputRow]) -> bool {
+    let [first, second] = inputs else {
+        return false;
+    };
+    first.value
+        && first.when == Some((1, true))
+        && first.given == Some((1, 12))
+        && first.after == Some(40)
+        && !second.value
+        && second.when.is_none()
 }
 
 /// Whether the texts behind one another are refused for this rule at this key.
