@@ -1,6 +1,5 @@
 pub mod Arms
 pub mod Cells
-pub mod EachRow
 pub mod Examples
 pub mod Faults
 pub mod Items
