@@ -1,4 +1,4 @@
-use Rattle.std.proofs.Common.{ap, map, ◌∙◌}
+use Rattle.std.proofs.Common.{ap, map, ◌∙◌, inl}
 use Rattle.controller.specs.Loaded.{mention_of, build_of}
 use Rattle.controller.proofs.Gains.{gained_none}
 use Rattle.controller.proofs.Exits.{words_refused, script_refused, module_refused, all_read}
@@ -27,6 +27,18 @@ returns-in-Err-load_script-clause-answers g c =
       calls = gained_none _;
       told = c.refuse_file.ensures.told;
     }) c.in-Err-load_script.ensures.script
+
+pub returns-in-Err-mentions_of-clause-answers : goal.returns-in-Err-mentions_of-clause-answers
+returns-in-Err-mentions_of-clause-answers g c =
+    inl (record {
+      refused_is = c.refuse-in-Err-mentions_of.ensures.refused;
+      status = c.refuse-in-Err-mentions_of.ensures.status;
+      history = c.refuse-in-Err-mentions_of.ensures.history;
+      fates = c.refuse-in-Err-mentions_of.ensures.fates;
+      printed = gained_none _;
+      calls = gained_none _;
+      told = c.refuse-in-Err-mentions_of.ensures.told;
+    })
 
 pub returns-in-Ok-load_modules-clause-answers : goal.returns-in-Ok-load_modules-clause-answers
 returns-in-Ok-load_modules-clause-answers g c =
