@@ -6,6 +6,7 @@ mod build;
 mod command;
 mod done;
 mod file;
+mod laws;
 mod load;
 mod mention;
 mod module_text;
@@ -23,6 +24,7 @@ mod write;
 
 pub use action::quiet;
 pub use command::Action;
+pub use laws::verdict_is_one;
 pub use refused::{ModuleRule, Refused};
 pub use report::Report;
 
