@@ -1,0 +1,7 @@
+pub mod Below
+pub mod Entries
+mod Examples
+pub mod Keeping
+pub mod ListAt
+pub mod LoopRows
+pub mod Typed

@@ -1,6 +1,6 @@
 -- The first rule that is broken at a declared name or at its type's name: from left to right through the modules in order,
 -- a declaration's type before its name.
-use Rattle.std.specs.Prelude.{ℕ, ◌+◌, Bool, true, false, not, ◌||◌, List, [], ◌∷◌, ◌++◌, length, replicate, Option, Some, None, is_some, Result, Ok, Err, ◌==◌, if◌then◌else◌}
+use Rattle.std.specs.Prelude.{ℕ, ◌+◌, Bool, true, false, not, ◌||◌, List, [], ◌∷◌, ◌++◌, length, map, replicate, Option, Some, None, is_some, Result, Ok, Err, ◌==◌, if◌then◌else◌}
 use Rattle.std.specs.List.{list_any}
 use Rattle.std.specs.Str.{str_eq_ignore_ascii_case}
 use Rattle.raw_trees.specs.Plain.{PlainDatum, PlainParam, PlainRoutine, PlainItem, PlainModule, PlainName, Datum, Routine}
@@ -10,10 +10,11 @@ use Rattle.rapid_model.specs.declared.signal_row.SignalRow.{SignalRow}
 use Rattle.rapid_model.specs.declared.sort.Sort.{Sort}
 use Rattle.data_scopes.specs.declared.fault.TypeRule.{TypeRule}
 use Rattle.data_scopes.specs.declared.fault.TypeRule.TheVariants.{NameTwice, NameTaken, NoName, NotThis, TypeClash, PersKind}
+use Rattle.data_scopes.specs.declared.counts.Counts.{Counts}
 use Rattle.data_scopes.specs.declared.meant.Meant.{Meant}
 use Rattle.data_scopes.specs.declared.meant.Meant.TheVariants as meants
 use Rattle.data_scopes.specs.declared.spot.Spot.{Spot}
-use Rattle.data_scopes.specs.Numbers.{Counts, no_counts, is_const, is_pers, is_scalar_const, datum_meant, after_datum, after_routine, after_items, param_meant, local_meant, tables_of}
+use Rattle.data_scopes.specs.Numbers.{no_counts, is_const, is_pers, is_scalar_const, datum_meant, after_item, after_items, param_meant, local_meant, tables_of}
 use Rattle.data_scopes.specs.Scopes.{Scope, Tables, Names, list_at, meant_in, meant_outside, meaning}
 use Rattle.data_scopes.specs.Sorts.{sort_of, has_values}
 
@@ -34,22 +35,26 @@ abbrev pub ◌>>=◌ : {A B : Type 0} → Checked A → (A → Checked B) → Ch
 abbrev pub broken : {A : Type 0} → Spot → TypeRule → Checked A
 broken spot rule = Err (record { «module» = spot.«module»; at = spot.at; rule = rule })
 
--- a rule stands at a spot: it is broken there, or what follows is checked
-abbrev pub must : {A : Type 0} → Bool → Spot → TypeRule → Checked A → Checked A
-must holds spot rule next = if holds then next else broken spot rule
+-- a rule stands at a spot: it holds, or it is broken there
+abbrev pub must : Bool → Spot → TypeRule → Checked (Unit {0})
+must holds spot rule = if holds then Ok tt else broken spot rule
 
 -- a name in a module, and in a routine of it
 abbrev pub spot_of : ℕ → Option ℕ → PlainName → Spot
 spot_of number routine name = record { «module» = number; routine = routine; within = None; at = name.at }
 
+-- the type that a name is by what it means
+abbrev pub type_of : Meant → Option Sort
+type_of (meants.Predefined name) = sort_of name
+type_of _ = None
+
+abbrev pub or_not_this : Spot → Option Sort → Checked Sort
+or_not_this spot (Some sort) = Ok sort
+or_not_this spot None = broken spot NotThis
+
 abbrev pub sort_meant : Spot → Option Meant → Checked Sort
 sort_meant spot None = broken spot NoName
-sort_meant spot (Some (meants.Predefined name)) = or_not (sort_of name)
-  where
-    or_not : Option Sort → Checked Sort
-    or_not (Some sort) = Ok sort
-    or_not None = broken spot NotThis
-sort_meant spot (Some _) = broken spot NotThis
+sort_meant spot (Some meant) = or_not_this spot (type_of meant)
 
 -- the type that a name means, which is looked up as any name
 abbrev pub sort_at : Tables → Spot → PlainName → Checked Sort
@@ -71,26 +76,27 @@ item_scope tables number true = list_at tables.own number
 item_scope tables number false = tables.task
 
 -- the name of an item
-abbrev pub item_name_rules : {A : Type 0} → Tables → Spot → Bool → Meant → PlainName → Checked A → Checked A
-item_name_rules tables spot local own name next =
+abbrev pub item_name_rules : Tables → Spot → Bool → Meant → PlainName → Checked (Unit {0})
+item_name_rules tables spot local own name =
     must (is_own own (meant_in name.text (item_scope tables spot.«module» local))) spot NameTwice
-    (must (not (is_some (meant_outside tables name.text))) spot NameTaken next)
+    >>= (λ _. must (not (is_some (meant_outside tables name.text))) spot NameTaken)
 
 -- the type of a datum, which fits its kind
 abbrev pub datum_sort : Tables → ℕ → Option ℕ → PlainDatum → Checked Sort
 datum_sort tables number routine d =
     let spot = spot_of number routine d.sort in
     sort_at tables spot d.sort >>= (λ sort.
-    must (has_values sort || not (is_const d.kind)) spot TypeClash (must (has_values sort || not (is_pers d.kind)) spot PersKind (Ok sort)))
+    must (has_values sort || not (is_const d.kind)) spot TypeClash >>= (λ _.
+    must (has_values sort || not (is_pers d.kind)) spot PersKind >>= (λ _. Ok sort)))
 
--- the type of a CONST that is no array
-abbrev pub const_sort : PlainDatum → Sort → List Sort
-const_sort d sort = if is_scalar_const d then sort ∷ [] else []
+-- the types so far, and behind them that of a CONST that is no array
+abbrev pub with_const : List Sort → PlainDatum → Sort → List Sort
+with_const sorts d sort = if is_scalar_const d then sorts ++ sort ∷ [] else sorts
 
-abbrev pub datum_rules : Tables → ℕ → Bool → Counts → PlainDatum → Checked (List Sort)
-datum_rules tables number local c d =
+abbrev pub datum_rules : Tables → ℕ → Bool → Counts → PlainDatum → List Sort → Checked (List Sort)
+datum_rules tables number local c d sorts =
     datum_sort tables number None d >>= (λ sort.
-    item_name_rules tables (spot_of number None d.name) local (datum_meant c d) d.name (Ok (const_sort d sort)))
+    item_name_rules tables (spot_of number None d.name) local (datum_meant c d) d.name >>= (λ _. Ok (with_const sorts d sort)))
 
 -- an argument by value has a value
 abbrev pub takes_sort : Mode → Sort → Bool
@@ -100,62 +106,82 @@ takes_sort modes.Var sort = true
 takes_sort modes.Pers sort = true
 
 -- a parameter at this place of a routine
-abbrev pub param_rules : {A : Type 0} → Tables → ℕ → ℕ → ℕ → PlainParam → Checked A → Checked A
-param_rules tables number routine place p next =
+abbrev pub param_rules : Tables → ℕ → ℕ → ℕ → PlainParam → Checked (Unit {0})
+param_rules tables number routine place p =
     let spot = spot_of number (Some routine) p.sort in
     sort_at tables spot p.sort >>= (λ sort.
-    must (takes_sort p.mode sort) spot TypeClash
-    (must (is_own (param_meant place p.mode) (meant_in p.name.text (list_at tables.inner routine))) (spot_of number (Some routine) p.name) NameTwice next))
+    must (takes_sort p.mode sort) spot TypeClash >>= (λ _.
+    must (is_own (param_meant place p.mode) (meant_in p.name.text (list_at tables.inner routine))) (spot_of number (Some routine) p.name) NameTwice))
 
-abbrev pub params_rules : {A : Type 0} → Tables → ℕ → ℕ → ℕ → List PlainParam → Checked A → Checked A
-params_rules tables number routine place [] next = next
-params_rules tables number routine place (p ∷ ps) next =
-    param_rules tables number routine place p (params_rules tables number routine (place + 1) ps next)
+abbrev pub params_rules : Tables → ℕ → ℕ → ℕ → List PlainParam → Checked (Unit {0})
+params_rules tables number routine place [] = Ok tt
+params_rules tables number routine place (p ∷ ps) =
+    param_rules tables number routine place p >>= (λ _. params_rules tables number routine (place + 1) ps)
 
--- the data of a routine, the first of which has this place, with so many CONSTs before
-abbrev pub locals_rules : Tables → ℕ → ℕ → ℕ → ℕ → List PlainDatum → Checked (List Sort)
-locals_rules tables number routine place consts [] = Ok []
-locals_rules tables number routine place consts (d ∷ ds) =
+-- where the parameters are faultless, their number
+abbrev pub counted : List PlainParam → Checked (Unit {0}) → Checked ℕ
+counted params checked = checked >>= (λ _. Ok (length params))
+
+-- a datum of a routine at this place, with so many CONSTs before
+abbrev pub local_rules : Tables → ℕ → ℕ → ℕ → ℕ → PlainDatum → List Sort → Checked (List Sort)
+local_rules tables number routine place consts d sorts =
     datum_sort tables number (Some routine) d >>= (λ sort.
     must (is_own (local_meant place consts d) (meant_in d.name.text (list_at tables.inner routine))) (spot_of number (Some routine) d.name) NameTwice
-    (locals_rules tables number routine (place + 1) (consts + (if is_scalar_const d then 1 else 0)) ds >>= (λ sorts. Ok (const_sort d sort ++ sorts))))
+    >>= (λ _. Ok (with_const sorts d sort)))
+
+abbrev pub locals_rules : Tables → ℕ → ℕ → ℕ → ℕ → List PlainDatum → List Sort → Checked (List Sort)
+locals_rules tables number routine place consts [] sorts = Ok sorts
+locals_rules tables number routine place consts (d ∷ ds) sorts =
+    local_rules tables number routine place consts d sorts >>= (λ more.
+    locals_rules tables number routine (place + 1) (consts + (if is_scalar_const d then 1 else 0)) ds more)
 
 -- the type of a function's result, which has values
-abbrev pub result_rules : {A : Type 0} → Tables → ℕ → ℕ → Option PlainName → Checked A → Checked A
-result_rules tables number routine None next = next
-result_rules tables number routine (Some name) next =
+abbrev pub result_rules : Tables → ℕ → ℕ → Option PlainName → Checked (Unit {0})
+result_rules tables number routine None = Ok tt
+result_rules tables number routine (Some name) =
     let spot = spot_of number (Some routine) name in
-    sort_at tables spot name >>= (λ sort. must (has_values sort) spot TypeClash next)
+    sort_at tables spot name >>= (λ sort. must (has_values sort) spot TypeClash)
 
-abbrev pub routine_rules : Tables → ℕ → Counts → PlainRoutine → Checked (List Sort)
-routine_rules tables number c r =
-    result_rules tables number c.routines r.result
-    (item_name_rules tables (spot_of number None r.name) r.local (meants.Routine c.routines) r.name
-    (params_rules tables number c.routines 0 r.params (locals_rules tables number c.routines (length r.params) c.consts r.locals)))
+abbrev pub routine_rules : Tables → ℕ → Counts → PlainRoutine → List Sort → Checked (List Sort)
+routine_rules tables number c r sorts =
+    result_rules tables number c.routines r.result >>= (λ _.
+    item_name_rules tables (spot_of number None r.name) r.local (meants.Routine c.routines) r.name >>= (λ _.
+    params_rules tables number c.routines 0 r.params >>= (λ _.
+    locals_rules tables number c.routines (length r.params) c.consts r.locals sorts)))
 
--- the items of a module; it answers the types of its CONSTs that are no arrays
-abbrev pub items_rules : Tables → ℕ → Counts → List PlainItem → Checked (List Sort)
-items_rules tables number c [] = Ok []
-items_rules tables number c (Datum local task d at ∷ items) =
-    datum_rules tables number local c d >>= (λ here. items_rules tables number (after_datum c d) items >>= (λ more. Ok (here ++ more)))
-items_rules tables number c (Routine r ∷ items) =
-    routine_rules tables number c r >>= (λ here. items_rules tables number (after_routine c r) items >>= (λ more. Ok (here ++ more)))
+-- an item of a module, behind CONSTs of these types
+abbrev pub item_rules : Tables → ℕ → Counts → PlainItem → List Sort → Checked (List Sort)
+item_rules tables number c (Datum local task d at) sorts = datum_rules tables number local c d sorts
+item_rules tables number c (Routine r) sorts = routine_rules tables number c r sorts
+
+-- the items of a module; the types of their CONSTs that are no arrays go behind these
+abbrev pub items_rules : Tables → ℕ → Counts → List PlainItem → List Sort → Checked (List Sort)
+items_rules tables number c [] sorts = Ok sorts
+items_rules tables number c (item ∷ items) sorts =
+    item_rules tables number c item sorts >>= (λ more. items_rules tables number (after_item c item) items more)
 
 -- the names of modules are compared with each other alone
 abbrev pub is_among : List ℕ → List (List ℕ) → Bool
 is_among name names = list_any (str_eq_ignore_ascii_case name) names
 
--- the modules, the first of which has this number, behind modules of these names
-abbrev pub modules_rules : Tables → ℕ → List (List ℕ) → Counts → List PlainModule → Checked (List Sort)
-modules_rules tables number before c [] = Ok []
-modules_rules tables number before c (m ∷ ms) =
-    must (not (is_among m.name.text before)) (spot_of number None m.name) NameTwice
-    (items_rules tables number c m.items >>= (λ here.
-    modules_rules tables (number + 1) (before ++ (m.name.text ∷ [])) (after_items c m.items) ms >>= (λ more. Ok (here ++ more))))
+abbrev pub names : List PlainModule → List (List ℕ)
+names modules = map (λ m. m.name.text) modules
+
+-- a module of this number, behind modules of these names
+abbrev pub module_rules : Tables → ℕ → List (List ℕ) → Counts → PlainModule → List Sort → Checked (List Sort)
+module_rules tables number before c m sorts =
+    must (not (is_among m.name.text before)) (spot_of number None m.name) NameTwice >>= (λ _. items_rules tables number c m.items sorts)
+
+-- the modules, the first of which has this number
+abbrev pub modules_rules : Tables → ℕ → List (List ℕ) → Counts → List PlainModule → List Sort → Checked (List Sort)
+modules_rules tables number before c [] sorts = Ok sorts
+modules_rules tables number before c (m ∷ ms) sorts =
+    module_rules tables number before c m sorts >>= (λ more.
+    modules_rules tables (number + 1) (before ++ (m.name.text ∷ [])) (after_items c m.items) ms more)
 
 -- the names of a task's modules, or the first rule that is broken
 abbrev pub names_of : List PlainModule → List SignalRow → Checked Names
 names_of modules signals =
     let tables = tables_of modules signals in
-    modules_rules tables 0 [] no_counts modules >>= (λ sorts.
+    modules_rules tables 0 [] no_counts modules [] >>= (λ sorts.
     Ok (record { tables = tables; sorts = sorts; kept = replicate (length sorts) None }))

@@ -4,3 +4,4 @@ pub mod Numbers
 pub mod Sorts
 pub mod Declarations
 pub mod Gives
+pub mod Kept

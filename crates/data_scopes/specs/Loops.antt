@@ -1,7 +1,7 @@
 -- The FORs of a routine in text order, each with the FOR whose list it stands in.
 use Rattle.std.specs.Prelude.{ℕ, ◌+◌, List, [], ◌∷◌, ◌++◌, length, Option, Some, None}
 use Rattle.std.specs.Str.{str_to_ascii_lowercase}
-use Rattle.raw_trees.specs.Plain.{PlainStmt, PlainStmts, PlainArms, PlainCases, PlainElse, PlainRoutine, Assign, Call, Label, Goto, Return, Exit, Raise, Retry, TryNext, Connect, If, IfOne, For, While, Test, NoStmts, MoreStmts, NoArms, MoreArms, NoCases, MoreCases, NoElse, Else, stmts_of, else_of}
+use Rattle.raw_trees.specs.Plain.{PlainStmt, PlainStmts, PlainArms, PlainCases, PlainElse, PlainRoutine, If, IfOne, For, While, Test, NoStmts, MoreStmts, NoArms, MoreArms, NoCases, MoreCases, NoElse, Else, stmts_of, else_of}
 use Rattle.data_scopes.specs.Scopes.{Loop}
 
 -- in the list of the FOR of this number, where there is one; the first FOR that is met has the next number

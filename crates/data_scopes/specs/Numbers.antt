@@ -1,23 +1,16 @@
 -- What each declaration of a task's modules means: its number among those of its kind, in the order of modules and text.
-use Rattle.std.specs.Prelude.{ℕ, ◌+◌, Bool, true, false, not, ◌&&◌, List, [], ◌∷◌, ◌++◌, length, map, Option, Some, None, is_some, is_none, if◌then◌else◌}
-use Rattle.std.specs.Str.{str_to_ascii_lowercase}
+use Rattle.std.specs.Prelude.{ℕ, ◌+◌, Bool, true, false, ◌&&◌, List, [], ◌∷◌, ◌++◌, length, is_none, if◌then◌else◌}
 use Rattle.raw_trees.specs.Plain.{PlainDatum, PlainParam, PlainRoutine, PlainItem, PlainModule, PlainName, Datum, Routine}
 use Rattle.raw_trees.specs.declared.raw_datum.DatumKind.{DatumKind}
 use Rattle.raw_trees.specs.declared.raw_datum.DatumKind.TheVariants as kinds
 use Rattle.raw_trees.specs.declared.raw_routine.Mode.{Mode}
 use Rattle.raw_trees.specs.declared.raw_routine.Mode.TheVariants as modes
+use Rattle.data_scopes.specs.declared.counts.Counts.{Counts}
 use Rattle.data_scopes.specs.declared.meant.Meant.{Meant}
 use Rattle.data_scopes.specs.declared.meant.Meant.TheVariants as meants
 use Rattle.data_scopes.specs.Loops.{loops_in_routine}
 use Rattle.data_scopes.specs.Scopes.{Scope, Loop, Tables, declare}
 use Rattle.rapid_model.specs.declared.signal_row.SignalRow.{SignalRow}
-
--- how many of each kind stand before: VARs and array CONSTs of modules; PERSs; CONSTs that are no arrays; routines
-pub record Counts : Type 0 where
-  pub slots : ℕ
-  pub pers : ℕ
-  pub consts : ℕ
-  pub routines : ℕ
 
 abbrev pub is_const : DatumKind → Bool
 is_const kinds.Const = true
@@ -37,7 +30,7 @@ abbrev pub scalar_consts : List PlainDatum → ℕ
 scalar_consts [] = 0
 scalar_consts (d ∷ ds) = (if is_scalar_const d then 1 else 0) + scalar_consts ds
 
--- what a datum of a module means
+-- what a datum of a module means, where so many of each kind stand before
 abbrev pub datum_meant : Counts → PlainDatum → Meant
 datum_meant c d =
     if is_scalar_const d then meants.Const c.consts
@@ -111,11 +104,15 @@ task_items c [] scope = scope
 task_items c (item ∷ items) scope =
     task_items (after_item c item) items (if is_local item then scope else declare (item_name item).text (item_meant c item) scope)
 
+-- the scope of a routine
+abbrev pub item_scopes : Counts → PlainItem → List Scope
+item_scopes c (Datum local task d at) = []
+item_scopes c (Routine r) = routine_scope c r ∷ []
+
 -- the scopes of the routines of a module
 abbrev pub routine_scopes : Counts → List PlainItem → List Scope
 routine_scopes c [] = []
-routine_scopes c (Datum local task d at ∷ items) = routine_scopes (after_datum c d) items
-routine_scopes c (Routine r ∷ items) = routine_scope c r ∷ routine_scopes (after_routine c r) items
+routine_scopes c (item ∷ items) = item_scopes c item ++ routine_scopes (after_item c item) items
 
 -- over all modules
 abbrev pub task_scope : Counts → List PlainModule → Scope → Scope
@@ -130,14 +127,18 @@ abbrev pub inner_scopes : Counts → List PlainModule → List Scope
 inner_scopes c [] = []
 inner_scopes c (m ∷ ms) = routine_scopes c m.items ++ inner_scopes (after_items c m.items) ms
 
-abbrev pub item_loops : List PlainItem → List (List Loop)
-item_loops [] = []
-item_loops (Datum local task d at ∷ items) = item_loops items
-item_loops (Routine r ∷ items) = loops_in_routine r ∷ item_loops items
+-- the FORs of the routines
+abbrev pub item_loops : PlainItem → List (List Loop)
+item_loops (Datum local task d at) = []
+item_loops (Routine r) = loops_in_routine r ∷ []
+
+abbrev pub items_loops : List PlainItem → List (List Loop)
+items_loops [] = []
+items_loops (item ∷ items) = item_loops item ++ items_loops items
 
 abbrev pub all_loops : List PlainModule → List (List Loop)
 all_loops [] = []
-all_loops (m ∷ ms) = item_loops m.items ++ all_loops ms
+all_loops (m ∷ ms) = items_loops m.items ++ all_loops ms
 
 -- the signals, the first of which has this number
 abbrev pub signal_scope : ℕ → List SignalRow → Scope → Scope

@@ -1,7 +1,10 @@
 -- What a name means at a spot: the innermost declaration of its name that is visible there.
-use Rattle.std.specs.Prelude.{ℕ, zero, suc, Bool, List, [], ◌∷◌, ◌++◌, length, Option, Some, None, is_some, slice_get, if◌then◌else◌, bytes_eq}
-use Rattle.std.specs.Option.{option_map, option_and_then}
+use Rattle.std.specs.Prelude.{◌≤◌, ℕ, zero, suc, List, [], ◌∷◌, ◌++◌, length, map, Option, Some, None, is_some, slice_get, if◌then◌else◌, bytes_eq}
+use Rattle.std.specs.Option.{option_map}
 use Rattle.std.specs.Str.{str_to_ascii_lowercase}
+use Rattle.std.specs.declared.alloc.Global.{Global}
+use Rattle.std.specs.declared.vec.Vec.{Vec}
+use Rattle.arrayvec.specs.ArrayVec.{ArrayVec}
 use Rattle.rapid_model.specs.Requests.{or_else}
 use Rattle.rapid_model.specs.declared.sort.Sort.{Sort}
 use Rattle.rapid_model.specs.declared.value.Value.{Value}
@@ -17,6 +20,15 @@ Scope = List (List ℕ × Meant)
 abbrev pub meant_by : List ℕ → Scope → Option Meant
 meant_by key [] = None
 meant_by key (entry ∷ entries) = if bytes_eq key entry.0 then Some entry.1 else meant_by key entries
+
+-- an entry of a table, whose key is a name in small letters
+abbrev pub entry_of : ArrayVec ℕ × Meant → List ℕ × Meant
+entry_of e = (e.0.items, e.1)
+
+-- no name has more than 32 letters
+abbrev pub AreShort : Scope → Type 0
+AreShort [] = Unit {0}
+AreShort (entry ∷ entries) = (length entry.0 ≤ 32) × AreShort entries
 
 -- what a name means in a scope, letters of either case being the same
 abbrev pub meant_in : List ℕ → Scope → Option Meant
@@ -57,6 +69,10 @@ loop_named zero key loops number = None
 loop_named (suc steps) key loops None = None
 loop_named (suc steps) key loops (Some number) = named_or key number (slice_get loops number) (loop_named steps key loops)
 
+-- the FORs of routines as lists
+abbrev pub loop_rows : List (Vec Loop Global) → List (List Loop)
+loop_rows lists = map (λ rows. rows.items) lists
+
 -- the list of this number, or the empty one
 abbrev pub list_at : {A : Type 0} → List (List A) → ℕ → List A
 list_at [] number = []
@@ -71,7 +87,7 @@ meant_in_routine tables name (Some routine) within =
     or_else (option_map meants.For (loop_named (length loops) (str_to_ascii_lowercase name) loops within)) (meant_in name (list_at tables.inner routine))
 
 -- a predefined name
-abbrev pub meant_predefined : List ℕ → Option Meant
+unfoldable pub meant_predefined : List ℕ → Option Meant
 meant_predefined name =
     or_else (option_map meants.Instruction (instruction_of name))
     (or_else (option_map meants.Function (function_of name)) (option_map meants.Predefined (predefined_of name)))

@@ -1,3 +1,10 @@
+//! Why a task's modules are refused.
+
+ghost use Rattle.std.specs.Prelude.{◌≡◌};
+ghost use Rattle.data_scopes.specs.declared.fault.TypeFault.TheVariants.{Memory};
+
+use std::alloc::{AllocError, AllocFailed};
+
 /// The rules of names and types. Each stands at the first byte of the smallest form that it speaks of.
 #[derive(Clone, Copy, Debug, PartialEq, Eq)]
 pub enum TypeRule {
@@ -25,4 +32,20 @@ pub enum TypeFault {
         rule: TypeRule,
     },
     Memory,
+}
+
+impl From<AllocError> for TypeFault {
+    ghost from_gives = { λ _ e. e ≡ Memory };
+
+    fn from(_e: AllocError) -> TypeFault {
+        TypeFault::Memory
+    }
+}
+
+impl<T: Drop> From<AllocFailed<T>> for TypeFault {
+    ghost from_gives = { λ _ e. e ≡ Memory };
+
+    fn from(_e: AllocFailed<T>) -> TypeFault {
+        TypeFault::Memory
+    }
 }

@@ -1,12 +1,31 @@
 //! What each name means at each spot of a task's modules, and the first faulty declaration.
 #![tactic(auto)]
 
+mod checking;
+mod counts;
 mod fault;
+mod filling;
+mod key;
 mod known;
+mod laws;
+mod loop_row;
+mod loops;
 mod meant;
+mod numbers;
+mod own;
+mod scopes;
+mod sorts;
 mod spot;
+mod table;
+mod tables;
+mod walking;
 
 pub use fault::{TypeFault, TypeRule};
 pub use known::Known;
+pub use laws::kept_by_number;
 pub use meant::Meant;
+pub use scopes::Scopes;
 pub use spot::Spot;
+
+#[cfg(test)]
+mod tests;

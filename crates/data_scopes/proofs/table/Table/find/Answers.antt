@@ -1,0 +1,9 @@
+use Rattle.std.proofs.Common.{sym, ◌∙◌}
+use Rattle.data_scopes.proofs.Entries.{found, too_long}
+use Rattle.data_scopes.proofs.table.Table.find.Goals as goal
+
+pub returns-in_err-key : goal.returns-in_err-key
+returns-in_err-key c = c.from_residual.ensures ∙ sym (too_long _ _ _ c.self.view_is c.self.invariant c.in_err-key.ensures)
+
+pub returns : goal.returns
+returns c = c.copied.ensures ∙ c.get.ensures.value ∙ found _ c.in_ok-key.key c.self.inside.entries.entries _ c.self.view_is c.in_ok-key.ensures.0

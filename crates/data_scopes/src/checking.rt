@@ -1,0 +1,143 @@
+//! The rules of a declared name and of its type's name.
+
+ghost use Rattle.std.specs.Prelude.{◌≡◌};
+ghost use Rattle.raw_trees.specs.Views.{view_datum, view_name};
+ghost use Rattle.data_scopes.specs.Declarations;
+ghost use Rattle.data_scopes.specs.Scopes.{meant_in};
+ghost use Rattle.data_scopes.specs.Gives.{Gives};
+ghost use Rattle.data_scopes.specs.declared.fault.TypeFault.TheVariants.{Rule};
+
+use crate::fault::{TypeFault, TypeRule};
+use crate::meant::Meant;
+use crate::numbers::{is_const, is_pers, is_scalar_const};
+use crate::own::is_own;
+use crate::sorts::{has_values, sort_of};
+use crate::spot::Spot;
+use crate::tables::NameTables;
+use rapid_model::Sort;
+use raw_trees::{RawDatum, RawName};
+
+/// The rule holds, or it is broken at the spot.
+pub(crate) fn must(holds: bool, spot: Spot, rule: TypeRule) -> Result<(), TypeFault>
+    ensures { Gives (λ u. u) result (Declarations.must holds spot rule) }
+{
+    if holds {
+        return Ok(());
+    }
+    Err(broken(spot, rule))
+}
+
+/// The rule is broken at the spot.
+fn broken(spot: Spot, rule: TypeRule) -> TypeFault
+    ensures { result ≡ Rule spot.«module» spot.at rule }
+{
+    TypeFault::Rule {
+        module: spot.module,
+        at: spot.at,
+        rule,
+    }
+}
+
+/// A name in a module, and in a routine of it.
+pub(crate) fn spot_of(number: u32, routine: Option<u32>, name: &RawName<'_>) -> Spot
+    ensures { result ≡ Declarations.spot_of number routine (view_name name.now) }
+{
+    Spot {
+        module: number,
+        routine,
+        within: None,
+        at: name.at,
+    }
+}
+
+/// The type that a name means: what it means, and whether that is a type.
+pub(crate) fn sort_at(
+    tables: &NameTables,
+    spot: Spot,
+    name: &RawName<'_>,
+) -> Result<Sort, TypeFault>
+    ensures { Gives (λ s. s) result (Declarations.sort_at tables.now spot (view_name name.now)) }
+{
+    sort_meant(spot, tables.meaning(spot, name.text))
+}
+
+fn sort_meant(spot: Spot, meant: Option<Meant>) -> Result<Sort, TypeFault>
+    ensures { Gives (λ s. s) result (Declarations.sort_meant spot meant) }
+{
+    match meant {
+        None => Err(broken(spot, TypeRule::NoName)),
+        Some(meant) => match type_of(meant) {
+            Some(sort) => Ok(sort),
+            None => Err(broken(spot, TypeRule::NotThis)),
+        },
+    }
+}
+
+/// The type that a name is by what it means.
+fn type_of(meant: Meant) -> Option<Sort>
+    ensures { result ≡ Declarations.type_of meant }
+{
+    match meant {
+        Meant::Predefined(name) => sort_of(name),
+        _ => None,
+    }
+}
+
+/// The type of a datum, which fits its kind.
+pub(crate) fn datum_sort(
+    tables: &NameTables,
+    number: u32,
+    routine: Option<u32>,
+    datum: &RawDatum<'_>,
+) -> Result<Sort, TypeFault>
+    ensures { Gives (λ s. s) result (Declarations.datum_sort tables.now number routine (view_datum datum.now)) }
+{
+    let spot = spot_of(number, routine, &datum.sort);
+    let sort = sort_at(tables, spot, &datum.sort)?;
+    let holds = has_values(sort) || !is_const(datum.kind);
+    must(holds, spot, TypeRule::TypeClash)?;
+    let holds = has_values(sort) || !is_pers(datum.kind);
+    must(holds, spot, TypeRule::PersKind)?;
+    Ok(sort)
+}
+
+/// The name of an item.
+pub(crate) fn item_name_rules(
+    tables: &NameTables,
+    spot: Spot,
+    local: bool,
+    own: Meant,
+    name: &RawName<'_>,
+) -> Result<(), TypeFault>
+    ensures { Gives (λ u. u) result (Declarations.item_name_rules tables.now spot local own (view_name name.now)) }
+{
+    let meant = item_meant(tables, spot.module, local, name.text);
+    must(is_own(own, meant), spot, TypeRule::NameTwice)?;
+    let holds = tables.outside(name.text).is_none();
+    must(holds, spot, TypeRule::NameTaken)
+}
+
+/// What the name means in the scope of a module's items.
+fn item_meant(tables: &NameTables, number: u32, local: bool, name: &[u8]) -> Option<Meant>
+    ensures { result ≡ meant_in name.now (Declarations.item_scope tables.now number local) }
+{
+    if local {
+        return tables.own(number, name);
+    }
+    tables.task(name)
+}
+
+/// The types so far, and behind them that of a CONST that is no array. Its error is want of memory.
+pub(crate) fn with_const(
+    sorts: Vec<Sort>,
+    datum: &RawDatum<'_>,
+    sort: Sort,
+) -> Result<Vec<Sort>, TypeFault>
+    ensures { Gives (λ v. v.items) result (Ok (Declarations.with_const sorts.items (view_datum datum.now) sort)) }
+{
+    let mut sorts = sorts;
+    if is_scalar_const(datum) {
+        sorts.push(sort)?;
+    }
+    Ok(sorts)
+}

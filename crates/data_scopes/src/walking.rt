@@ -1,0 +1,276 @@
+//! The second walk over a task's modules: the first rule that is broken.
+
+ghost use Rattle.std.specs.Prelude.{◌≡◌, [], map, option_map};
+ghost use Rattle.std.specs.Str.{str_eq_ignore_ascii_case};
+ghost use Rattle.raw_trees.specs.Views.{view_datum, view_item, view_module, view_name, view_param, view_routine};
+ghost use Rattle.data_scopes.specs.Declarations;
+ghost use Rattle.data_scopes.specs.Numbers.{no_counts};
+ghost use Rattle.data_scopes.specs.Gives.{Gives};
+
+use crate::checking::{datum_sort, item_name_rules, must, sort_at, spot_of, with_const};
+use crate::counts::Counts;
+use crate::fault::{TypeFault, TypeRule};
+use crate::meant::Meant;
+use crate::numbers::{
+    after_item, after_items, after_local, datum_meant, local_meant, next, param_meant,
+};
+use crate::own::is_own;
+use crate::sorts::has_values;
+use crate::tables::NameTables;
+use rapid_model::Sort;
+use raw_trees::{Mode, RawDatum, RawItem, RawModule, RawName, RawParam, RawRoutine};
+use std::alloc::Global;
+
+/// A datum of a module.
+fn datum_rules(
+    tables: &NameTables,
+    number: u32,
+    local: bool,
+    counts: Counts,
+    datum: &RawDatum<'_>,
+    sorts: Vec<Sort>,
+) -> Result<Vec<Sort>, TypeFault>
+    ensures { Gives (λ v. v.items) result (Declarations.datum_rules tables.now number local counts (view_datum datum.now) sorts.items) }
+{
+    let sort = datum_sort(tables, number, None, datum)?;
+    let spot = spot_of(number, None, &datum.name);
+    item_name_rules(tables, spot, local, datum_meant(counts, datum), &datum.name)?;
+    with_const(sorts, datum, sort)
+}
+
+/// An argument by value has a value.
+fn takes_sort(mode: Mode, sort: Sort) -> bool
+    ensures { result ≡ Declarations.takes_sort mode sort }
+{
+    match mode {
+        Mode::Value => has_values(sort),
+        Mode::Inout => true,
+        Mode::Var => true,
+        Mode::Pers => true,
+    }
+}
+
+/// A parameter at this place of a routine.
+fn param_rules(
+    tables: &NameTables,
+    number: u32,
+    routine: u32,
+    place: u32,
+    param: &RawParam<'_>,
+) -> Result<(), TypeFault>
+    ensures { Gives (λ u. u) result (Declarations.param_rules tables.now number routine place (view_param param.now)) }
+{
+    let spot = spot_of(number, Some(routine), &param.sort);
+    let sort = sort_at(tables, spot, &param.sort)?;
+    must(takes_sort(param.mode, sort), spot, TypeRule::TypeClash)?;
+    let meant = tables.inner(routine, param.name.text);
+    let holds = is_own(param_meant(place, param.mode), meant);
+    must(
+        holds,
+        spot_of(number, Some(routine), &param.name),
+        TypeRule::NameTwice,
+    )
+}
+
+/// The parameters of a routine; it answers how many there are.
+fn params_rules(
+    tables: &NameTables,
+    number: u32,
+    routine: u32,
+    params: &[RawParam<'_>],
+) -> Result<u32, TypeFault>
+    ensures { Gives (λ n. n) result (Declarations.counted (map view_param params.now) (Declarations.params_rules tables.now number routine 0 (map view_param params.now))) }
+{
+    let mut place = 0;
+    for param in params {
+        param_rules(tables, number, routine, place, param)?;
+        place = next(place)?;
+    }
+    Ok(place)
+}
+
+/// A datum of a routine at this place, with so many CONSTs before.
+fn local_rules(
+    tables: &NameTables,
+    number: u32,
+    routine: u32,
+    place: u32,
+    consts: u32,
+    datum: &RawDatum<'_>,
+    sorts: Vec<Sort>,
+) -> Result<Vec<Sort>, TypeFault>
+    ensures { Gives (λ v. v.items) result (Declarations.local_rules tables.now number routine place consts (view_datum datum.now) sorts.items) }
+{
+    let sort = datum_sort(tables, number, Some(routine), datum)?;
+    let meant = tables.inner(routine, datum.name.text);
+    let holds = is_own(local_meant(place, consts, datum), meant);
+    must(
+        holds,
+        spot_of(number, Some(routine), &datum.name),
+        TypeRule::NameTwice,
+    )?;
+    with_const(sorts, datum, sort)
+}
+
+/// The data of a routine, the first of which has this place, with so many CONSTs before.
+fn locals_rules(
+    tables: &NameTables,
+    number: u32,
+    routine: u32,
+    first: u32,
+    before: u32,
+    locals: &[RawDatum<'_>],
+    sorts: Vec<Sort>,
+) -> Result<Vec<Sort>, TypeFault>
+    ensures { Gives (λ v. v.items) result (Declarations.locals_rules tables.now number routine first before (map view_datum locals.now) sorts.items) }
+{
+    let mut place = first;
+    let mut consts = before;
+    let mut more = sorts;
+    for datum in locals {
+        more = local_rules(tables, number, routine, place, consts, datum, more)?;
+        place = next(place)?;
+        consts = after_local(consts, datum)?;
+    }
+    Ok(more)
+}
+
+/// The type of a function's result.
+fn result_rules(
+    tables: &NameTables,
+    number: u32,
+    routine: u32,
+    name: &Option<RawName<'_>>,
+) -> Result<(), TypeFault>
+    ensures { Gives (λ u. u) result (Declarations.result_rules tables.now number routine (option_map view_name name.now)) }
+{
+    match name {
+        None => Ok(()),
+        Some(name) => {
+            let spot = spot_of(number, Some(routine), name);
+            let sort = sort_at(tables, spot, name)?;
+            must(has_values(sort), spot, TypeRule::TypeClash)
+        }
+    }
+}
+
+/// A routine.
+fn routine_rules(
+    tables: &NameTables,
+    number: u32,
+    counts: Counts,
+    routine: &RawRoutine<'_>,
+    sorts: Vec<Sort>,
+) -> Result<Vec<Sort>, TypeFault>
+    ensures { Gives (λ v. v.items) result (Declarations.routine_rules tables.now number counts (view_routine routine.now) sorts.items) }
+{
+    let own = Meant::Routine(counts.routines);
+    result_rules(tables, number, counts.routines, &routine.result)?;
+    let spot = spot_of(number, None, &routine.name);
+    item_name_rules(tables, spot, routine.local, own, &routine.name)?;
+    let place = params_rules(tables, number, counts.routines, &routine.params)?;
+    locals_rules(
+        tables,
+        number,
+        counts.routines,
+        place,
+        counts.consts,
+        &routine.locals,
+        sorts,
+    )
+}
+
+/// An item of a module.
+fn item_rules(
+    tables: &NameTables,
+    number: u32,
+    counts: Counts,
+    item: &RawItem<'_>,
+    sorts: Vec<Sort>,
+) -> Result<Vec<Sort>, TypeFault>
+    ensures { Gives (λ v. v.items) result (Declarations.item_rules tables.now number counts (view_item item.now) sorts.items) }
+{
+    match item {
+        RawItem::Datum { local, datum, .. } => {
+            datum_rules(tables, number, *local, counts, datum, sorts)
+        }
+        RawItem::Routine(routine) => routine_rules(tables, number, counts, routine, sorts),
+    }
+}
+
+/// The items of a module.
+fn items_rules(
+    tables: &NameTables,
+    number: u32,
+    before: Counts,
+    items: &[RawItem<'_>],
+    sorts: Vec<Sort>,
+) -> Result<Vec<Sort>, TypeFault>
+    ensures { Gives (λ v. v.items) result (Declarations.items_rules tables.now number before (map view_item items.now) sorts.items) }
+{
+    let mut counts = before;
+    let mut more = sorts;
+    for item in items {
+        more = item_rules(tables, number, counts, item, more)?;
+        counts = after_item(counts, item)?;
+    }
+    Ok(more)
+}
+
+/// Whether the module has the name, letters of either case being the same.
+fn is_named(unit: &RawModule<'_>, name: &[u8]) -> bool
+    ensures { result ≡ str_eq_ignore_ascii_case name.now (view_module unit.now).name.text }
+{
+    name.eq_ignore_ascii_case(unit.name.text)
+}
+
+/// Whether the name is among those of the modules.
+fn is_among(name: &[u8], modules: &[RawModule<'_>]) -> bool
+    ensures { result ≡ Declarations.is_among name.now (Declarations.names (map view_module modules.now)) }
+{
+    for other in modules {
+        if is_named(other, name) {
+            return true;
+        }
+    }
+    false
+}
+
+/// A module, behind these.
+fn module_rules(
+    unit: &RawModule<'_>,
+    tables: &NameTables,
+    number: u32,
+    before: &[RawModule<'_>],
+    counts: Counts,
+    sorts: Vec<Sort>,
+) -> Result<Vec<Sort>, TypeFault>
+    ensures { Gives (λ v. v.items) result (Declarations.module_rules tables.now number (Declarations.names (map view_module before.now)) counts (view_module unit.now) sorts.items) }
+{
+    let holds = !is_among(unit.name.text, before);
+    must(
+        holds,
+        spot_of(number, None, &unit.name),
+        TypeRule::NameTwice,
+    )?;
+    items_rules(tables, number, counts, &unit.items, sorts)
+}
+
+/// The modules; it answers the types of their CONSTs that are no arrays.
+pub(crate) fn modules_rules(
+    alloc: Global,
+    modules: &[RawModule<'_>],
+    tables: &NameTables,
+) -> Result<Vec<Sort>, TypeFault>
+    ensures { Gives (λ v. v.items) result (Declarations.modules_rules tables.now 0 [] no_counts (map view_module modules.now) []) }
+{
+    let mut number = 0;
+    let mut counts = Counts::new();
+    let mut sorts = Vec::new(alloc);
+    for (index, unit) in modules.iter().enumerate() {
+        sorts = module_rules(unit, tables, number, &modules[..index], counts, sorts)?;
+        number = next(number)?;
+        counts = after_items(counts, &unit.items)?;
+    }
+    Ok(sorts)
+}
