@@ -34,7 +34,9 @@ enum Told {
 
 fn parse(alloc: Global, text: &[u8]) -> Told {
     match parse_module(alloc, text) {
-        Ok(module) => Told::Module { items: module.items.len() },
+        Ok(module) => Told::Module {
+            items: module.items.len(),
+        },
         Err(SyntaxFault::Rule { at, .. }) => Told::Fault { at },
         Err(SyntaxFault::Lex(fault)) => Told::Fault { at: fault.at },
         Err(SyntaxFault::Memory) => Told::Memory,
