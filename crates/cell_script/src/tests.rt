@@ -1,5 +1,7 @@
 use super::{ScriptFault, make_cell, read_script};
-use rapid_model::{InputRow, PersValue, ScriptRule as Rule, ScriptTask, SignalRow, Value, ZoneRow};
+use rapid_model::{
+    FileName, InputRow, PersValue, ScriptRule as Rule, ScriptTask, SignalRow, Value, ZoneRow,
+};
 use rapid_num::{Joints, Shape};
 use std::alloc::{AllocError, Global};
 use std::test::*;
@@ -42,11 +44,18 @@ fn are_tasks(tasks: &[ScriptTask]) -> bool {
         return false;
     };
     robot.name.bytes() == b"T_ROB1".as_slice()
-        && robot.modules.len() == 2
+        && are_files(robot.modules.as_slice(), "main.mod", "more.mod")
         && is_arm(robot.arm)
         && watch.name.bytes() == b"WATCH".as_slice()
         && watch.modules.len() == 1
         && watch.arm.is_none()
+}
+
+fn are_files(files: &[FileName], first: &str, second: &str) -> bool {
+    let [a, b] = files else {
+        return false;
+    };
+    a.as_str() == first && b.as_str() == second
 }
 
 fn is_arm(arm: Option<Joints>) -> bool {
@@ -64,15 +73,20 @@ fn are_values(values: &[PersValue]) -> bool {
     };
     count.index.is_none()
         && flags.index == Some(3)
-        && is_value(&count.value, -2500, b"")
+        && is_num(&count.value, -2500)
         && matches!(&flags.value, Value::Bool(true))
-        && is_value(&word.value, 0, b"ok ~")
+        && is_text(&word.value, b"ok ~")
 }
 
-/// Whether a value is this num, or this text.
-fn is_value(value: &Value, number: i64, text: &[u8]) -> bool {
+fn is_num(value: &Value, number: i64) -> bool {
     match value {
         Value::Num(n) => n.thousandths() == number,
+        _ => false,
+    }
+}
+
+fn is_text(value: &Value, text: &[u8]) -> bool {
+    match value {
         Value::Text(t) => t.bytes() == text,
         _ => false,
     }
@@ -104,20 +118,27 @@ fn are_inputs(inputs: &[InputRow]) -> bool {
     let [first, second] = inputs else {
         return false;
     };
-    first.value
+    first.signal == 0
+        && first.value
         && first.when == Some((1, true))
         && first.given == Some((1, 12))
         && first.after == Some(40)
+        && second.signal == 0
         && !second.value
         && second.when.is_none()
 }
 
 /// Whether the texts behind one another are refused for this rule at this key.
 fn is_refused(alloc: Global, head: &str, rest: &str, key: &str, rule: Rule) -> bool {
-    let Ok(text) = joined(alloc, head, rest) else {
-        return false;
-    };
-    match &read_script(alloc, text.as_slice()) {
+    match &joined(alloc, head, rest) {
+        Ok(text) => breaks(alloc, text.as_slice(), key, rule),
+        Err(_) => false,
+    }
+}
+
+/// Whether a text is refused for this rule at this key.
+fn breaks(alloc: Global, text: &[u8], key: &str, rule: Rule) -> bool {
+    match &read_script(alloc, text) {
         Err(
             ScriptFault::Rule {
                 key: at,
@@ -152,6 +173,38 @@ fn faults(rt: HostRuntime) {
     assert_eq!(rt; first_other(rt.alloc(), HEAD, &INPUT_FAULTS), None);
 }
 
+/// A script with an array of so many empty tables at a key.
+fn with_tables(alloc: Global, key: &str, count: usize) -> Result<Vec<u8>, AllocError> {
+    let mut text = joined(alloc, "version=1\ntask=[{name='A',modules=['a']}]\n", key)?;
+    text.extend_from_slice(b"=[")?;
+    for _ in 0..count {
+        text.extend_from_slice(b"{},")?;
+    }
+    text.push(b']')?;
+    Ok(text)
+}
+
+/// As many tables are read, and the first key of the first one is missing; one more is too many.
+#[test]
+fn lengths_of_arrays(rt: HostRuntime) -> Result<(), Fail> {
+    let alloc = rt.alloc();
+    for (key, most, missing) in &[
+        ("signal", 256, "signal[0].name"),
+        ("pers", 1_000, "pers[0].name"),
+        ("zone", 16, "zone[0].name"),
+        ("input", 10_000, "input[0].signal"),
+    ] {
+        let longest = with_tables(alloc, key, *most)?;
+        assert!(rt;
+            breaks(alloc, longest.as_slice(), missing, Rule::NoKey),
+            "{key}"
+        );
+        let longer = with_tables(alloc, key, *most + 1)?;
+        assert!(rt; breaks(alloc, longer.as_slice(), key, Rule::Range), "{key}");
+    }
+    Ok(())
+}
+
 /// Bytes that are no UTF-8, 100000 events where the script does not say, and the largest parts.
 #[test]
 fn edges(rt: HostRuntime) -> Result<(), Fail> {
@@ -180,7 +233,12 @@ const HEAD: &str =
     "version=1\ntask=[{name='A',modules=['a'],arm=[0,0,0,0,0,0]},{name='B',modules=['a']}]\nsignal=[{name='i',kind='di'},{name='o',kind='do'}]\n";
 
 /// Texts, the key at which each is broken, and the rule.
-const SCRIPT_FAULTS: [(&str, &str, Rule); 48] = [
+const SCRIPT_FAULTS: [(&str, &str, Rule); 49] = [
+    (
+        "version=1\ntask=[{name='A',modules=['a','a','a','a','a','a','a','a','a','a','a','a','a','a','a','a','a']}]",
+        "task[0].modules",
+        Rule::Range,
+    ),
     ("version = ", "", Rule::NotToml),
     ("a = 1\na = 2", "", Rule::NotToml),
     ("", "version", Rule::NoKey),
