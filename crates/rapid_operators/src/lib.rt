@@ -1,0 +1,19 @@
+//! RAPID's operators on values, and what an element's number and equal values are.
+#![tactic(auto)]
+
+mod applied;
+mod equality;
+mod index;
+mod laws;
+mod numbers;
+mod operation;
+#[cfg(test)]
+mod tests;
+mod texts;
+
+pub use applied::Applied;
+pub use equality::same_value;
+pub use index::whole_index;
+pub use laws::{equal_values, equality_is_symmetric};
+pub use numbers::negated;
+pub use operation::apply;
