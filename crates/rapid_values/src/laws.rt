@@ -1,0 +1,37 @@
+//! Laws of the parts of values.
+
+ghost use Rattle.std.specs.Prelude.{◌≡◌, ℕ, true, length};
+ghost use Rattle.rapid_model.specs.declared.value.Value.{Value};
+ghost use Rattle.rapid_values.specs.declared.part_name.PartName.{PartName};
+ghost use Rattle.rapid_values.specs.Lengths as lengths;
+ghost use Rattle.rapid_values.specs.Values.{part_of, put_part};
+
+use rapid_model::Value;
+use rapid_num::Num;
+
+/// Each value has as many nums as its type says: 6 in a robjoint and in an extjoint, 12 in a jointtarget, 4 in a speeddata.
+pub fn is_full(value: &Value)
+    ensures { lengths.is_full value.now ≡ true }
+{
+    match value {
+        Value::Rob(axes) => is_long(axes),
+        Value::Ext(axes) => is_long(axes),
+        Value::Target(joints) => is_long(&joints.axis),
+        Value::Speed(nums) => is_long(nums),
+        _ => {}
+    }
+}
+
+/// An array has as many items as its type says.
+fn is_long<const N: usize>(nums: &[Num; N])
+    ensures { length nums.now ≡ N }
+{}
+
+/// What is put in is what the part is then, and the value is of as many nums as before; another axis, and another part of a
+/// speed, stays as it was (RAPID Kernel, assignment).
+pub fn put_parts()
+    ensures there { (v w new : Value) (p : PartName) → lengths.is_full v ≡ true → lengths.is_full new ≡ true → put_part v p new ≡ Some w → part_of w p ≡ Some new }
+    ensures full { (v w new : Value) (p : PartName) → lengths.is_full v ≡ true → lengths.is_full new ≡ true → put_part v p new ≡ Some w → lengths.is_full w ≡ true }
+    ensures other_axes { (v w new : Value) (j k : ℕ) → (j ≡ k → ⊥) → put_part v (PartName.Axis j) new ≡ Some w → part_of w (PartName.Axis k) ≡ part_of v (PartName.Axis k) }
+    ensures other_speeds { (v w new : Value) (j k : ℕ) → (j ≡ k → ⊥) → put_part v (PartName.SpeedPart j) new ≡ Some w → part_of w (PartName.SpeedPart k) ≡ part_of v (PartName.SpeedPart k) }
+{}

@@ -1,0 +1,21 @@
+//! Values of RAPID by type: what each begins with, its components, and its parts.
+#![tactic(auto)]
+
+mod components;
+mod laws;
+mod nums;
+mod part_name;
+mod parts;
+mod put;
+mod record;
+mod start;
+#[cfg(test)]
+mod tests;
+
+pub use components::{component, component_sorts};
+pub use laws::{is_full, put_parts};
+pub use part_name::PartName;
+pub use parts::part;
+pub use put::with_part;
+pub use record::record_of;
+pub use start::start_value;

@@ -1,0 +1,59 @@
+//! Nums of a list, and six of them as the axes of a joint.
+
+ghost use Rattle.std.specs.Prelude.{◌≡◌, pos, length, ◌++◌, if◌then◌else◌};
+ghost use Rattle.rapid_values.specs.Values.{num_at, with_num};
+
+use rapid_model::Value;
+use rapid_num::{Joints, Num};
+
+/// The num 0.
+pub(crate) fn zero() -> Num
+    ensures { result ≡ pos 0 }
+{
+    Num::new(0).unwrap()
+}
+
+/// Six nums as an array.
+pub(crate) fn six(nums: &[Num]) -> [Num; 6]
+    requires { length nums.now ≡ 6 }
+    ensures { result ≡ nums.now }
+{
+    let mut axes = [nums[0]; 6];
+    axes.copy_from_slice(nums);
+    axes
+}
+
+/// Joints of six axes of an arm and six external ones.
+pub(crate) fn joined(rob: &[Num], ext: &[Num]) -> Joints
+    requires rob { length rob.now ≡ 6 }
+    requires ext { length ext.now ≡ 6 }
+    ensures { result ≡ record { axis = rob.now ++ ext.now } }
+{
+    let mut axis = [zero(); 12];
+    let all = &mut axis[..];
+    all[..6].copy_from_slice(rob);
+    all[6..].copy_from_slice(ext);
+    Joints { axis }
+}
+
+/// A num of a list, from 0; None exactly behind its end.
+pub(crate) fn num_at(nums: &[Num], number: usize) -> Option<Value>
+    ensures { result ≡ num_at nums.now number }
+{
+    let num = nums.get(number)?;
+    Some(Value::Num(*num))
+}
+
+/// Puts a num at a place of a list, from 0. No exactly where the list has no such place or the value is no num; nothing changes
+/// then.
+pub(crate) fn put_num(nums: &mut [Num], number: usize, new: &Value) -> bool
+    ensures { with_num nums.old number new.now ≡ (if result then Some nums.new else None) }
+{
+    match new {
+        Value::Num(num) if number < nums.len() => {
+            nums[number] = *num;
+            true
+        }
+        _ => false,
+    }
+}

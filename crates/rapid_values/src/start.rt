@@ -1,0 +1,26 @@
+//! What a value of a type begins with (RAPID Overview, basic elements: initial values).
+
+ghost use Rattle.std.specs.Prelude.{◌≡◌, ℤ, pos};
+ghost use Rattle.rapid_values.specs.Values as given;
+
+use crate::nums::zero;
+use rapid_model::{Sort, Text, Value};
+use rapid_num::Joints;
+
+/// What a datum of this type is before its first assignment: zero, FALSE or the empty text in every part. None exactly for the
+/// types that have no values: intnum, syncident, shapedata, wztemporary and wzstationary.
+pub fn start_value(sort: Sort) -> Option<Value>
+    ensures { result ≡ given.start_value sort }
+{
+    let zero = zero();
+    match sort {
+        Sort::Num => Some(Value::Num(zero)),
+        Sort::Bool => Some(Value::Bool(false)),
+        Sort::Text | Sort::Tasks => Some(Value::Text(Text::new())),
+        Sort::RobJoint => Some(Value::Rob([zero; 6])),
+        Sort::ExtJoint => Some(Value::Ext([zero; 6])),
+        Sort::JointTarget => Some(Value::Target(Joints { axis: [zero; 12] })),
+        Sort::SpeedData => Some(Value::Speed([zero; 4])),
+        _ => None,
+    }
+}

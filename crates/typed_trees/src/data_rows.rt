@@ -1,0 +1,28 @@
+//! Data of a checked task's modules.
+
+use crate::datum::Datum;
+use rapid_model::{NameText, Sort, Value};
+
+/// A VAR of a module, or a CONST array of one, as `variable` tells: its type, its length where it is an array, and its first
+/// values, one for each element.
+#[derive(Debug, Drop)]
+pub struct SlotRow {
+    pub name: NameText,
+    pub variable: bool,
+    pub sort: Sort,
+    pub len: Option<u16>,
+    pub first: Vec<Datum>,
+}
+
+/// A PERS: the number of its module, the byte of its name, whether it is the task's own (TASK or LOCAL), its type, its length
+/// where it is an array, and the values that its declaration gives, if any.
+#[derive(Debug, Drop)]
+pub struct PersRow {
+    pub name: NameText,
+    pub module: u32,
+    pub at: usize,
+    pub own: bool,
+    pub sort: Sort,
+    pub len: Option<u16>,
+    pub first: Option<Vec<Value>>,
+}

@@ -1,0 +1,17 @@
+//! The trees of a task once its names are resolved and its types are known. Each form has the byte of its module at which it
+//! begins.
+#![tactic(auto)]
+
+mod data_rows;
+mod datum;
+mod expr;
+mod routine;
+mod stmt;
+mod tree;
+
+pub use data_rows::{PersRow, SlotRow};
+pub use datum::{Datum, Lvalue, Root};
+pub use expr::{Arg, Expr, ExprForm, TreePlace, TreeRoot};
+pub use routine::{LocalRow, Param, Routine};
+pub use stmt::{Form, Stmt};
+pub use tree::Tree;

@@ -1,0 +1,40 @@
+//! Routines of a checked task.
+
+use crate::datum::Datum;
+use crate::stmt::Stmt;
+use rapid_model::{NameText, Sort};
+use raw_trees::{Mode, RoutineKind};
+
+/// A parameter: its name, how its argument is handed over, and its type.
+#[derive(Debug, Drop)]
+pub struct Param {
+    pub name: NameText,
+    pub mode: Mode,
+    pub sort: Sort,
+}
+
+/// A datum of a routine, made anew at each call: whether it is a VAR, its type, the length of an array, and its first
+/// values, one for each element.
+#[derive(Debug, Drop)]
+pub struct LocalRow {
+    pub name: NameText,
+    pub variable: bool,
+    pub sort: Sort,
+    pub len: Option<u16>,
+    pub first: Vec<Datum>,
+}
+
+/// A routine: the number of its module, a function's type, its statements and its ERROR part. `at` is the byte of its first
+/// word. Parameters come first among its places, then its data, an array as one, then its FORs in text order.
+#[derive(Drop)]
+pub struct Routine {
+    pub name: NameText,
+    pub module: u32,
+    pub kind: RoutineKind,
+    pub result: Option<Sort>,
+    pub params: Vec<Param>,
+    pub locals: Vec<LocalRow>,
+    pub list: Vec<Stmt>,
+    pub handler: Option<Vec<Stmt>>,
+    pub at: usize,
+}
