@@ -12,7 +12,7 @@ use Rattle.rapid_values.specs.declared.part_name.PartName.TheVariants as parts
 use Rattle.rapid_values.specs.Lengths.{is_full}
 use Rattle.rapid_values.specs.Values.{num_at, part_of, put_part, with_axes, with_num}
 
-some_same : {A : Type 0} {x y : A} → Some x ≡ Some y → x ≡ y
+pub some_same : {A : Type 0} {x y : A} → Some x ≡ Some y → x ≡ y
 some_same {x = x} is = ap (λ o. unwrap_or o x) is
 
 -- another place of a list is as it was
@@ -56,7 +56,7 @@ num_length nums i new ns is =
     ap length w.3 ∙ length-set nums i w.0
 
 -- what a mapped option was made of
-mapped : {A B : Type 0} (f : A → B) (r : Option A) (y : B) → option_map f r ≡ Some y → (x : A) × (r ≡ Some x) × (y ≡ f x)
+pub mapped : {A B : Type 0} (f : A → B) (r : Option A) (y : B) → option_map f r ≡ Some y → (x : A) × (r ≡ Some x) × (y ≡ f x)
 mapped f None y is = absurd (none-some _ is)
 mapped f (Some x) y is = (x, refl, sym (some_same is))
 

@@ -1,7 +1,7 @@
 //! The components of the record types (RAPID Instructions, Functions and Data types: robjoint, extjoint, jointtarget,
 //! speeddata, tasks).
 
-ghost use Rattle.std.specs.Prelude.{◌≡◌, List, map};
+ghost use Rattle.std.specs.Prelude.{◌≡◌, map};
 ghost use Rattle.std.specs.Option.{option_map};
 ghost use Rattle.std.specs.Str.{str_eq_ignore_ascii_case};
 ghost use Rattle.rapid_values.specs.Components.{component_of, components};
@@ -42,7 +42,8 @@ static SPEED_DATA: [(&[u8], PartName, Sort); 4] = [
 static TASKS: [(&[u8], PartName, Sort); 1] = [(b"taskname", PartName::Taskname, Sort::Text)];
 
 /// The component of this name of a type: the part of a value that it is, and its type. None exactly where the type has no
-/// such component; letters of either case are the same.
+/// such component; letters of either case are the same (RAPID Instructions, Functions and Data types: robjoint, extjoint,
+/// jointtarget, speeddata, tasks). Axes are numbered from 0, `eax_a` being 6, and the parts of a speed from 0.
 pub fn component(sort: Sort, name: &[u8]) -> Option<(PartName, Sort)>
     ensures { result ≡ option_map (λ c. (c.part, c.sort)) (component_of name.now (components sort)) }
 {

@@ -1,16 +1,19 @@
 //! Laws of the parts of values.
 
-ghost use Rattle.std.specs.Prelude.{◌≡◌, ℕ, true, length};
+ghost use Rattle.std.specs.Prelude.{◌≡◌, ◌<◌, ◌≤◌, ℕ, true, List, length, slice_get};
+ghost use Rattle.std.specs.List.{list_all};
+ghost use Rattle.rapid_model.specs.declared.sort.Sort.{Sort};
 ghost use Rattle.rapid_model.specs.declared.value.Value.{Value};
 ghost use Rattle.rapid_values.specs.declared.part_name.PartName.{PartName};
+ghost use Rattle.rapid_values.specs.Components.{Component, components};
 ghost use Rattle.rapid_values.specs.Lengths as lengths;
-ghost use Rattle.rapid_values.specs.Values.{part_of, put_part};
+ghost use Rattle.rapid_values.specs.Values.{made_of, part_of, put_part};
 
 use rapid_model::Value;
 use rapid_num::Num;
 
 /// Each value has as many nums as its type says: 6 in a robjoint and in an extjoint, 12 in a jointtarget, 4 in a speeddata.
-pub fn is_full(value: &Value)
+pub fn value_is_full(value: &Value)
     ensures { lengths.is_full value.now ≡ true }
 {
     match value {
@@ -34,4 +37,13 @@ pub fn put_parts()
     ensures full { (v w new : Value) (p : PartName) → lengths.is_full v ≡ true → lengths.is_full new ≡ true → put_part v p new ≡ Some w → lengths.is_full w ≡ true }
     ensures other_axes { (v w new : Value) (j k : ℕ) → (j ≡ k → ⊥) → put_part v (PartName.Axis j) new ≡ Some w → part_of w (PartName.Axis k) ≡ part_of v (PartName.Axis k) }
     ensures other_speeds { (v w new : Value) (j k : ℕ) → (j ≡ k → ⊥) → put_part v (PartName.SpeedPart j) new ≡ Some w → part_of w (PartName.SpeedPart k) ≡ part_of v (PartName.SpeedPart k) }
+{}
+
+/// A value that is made of components has each of them as the part that the component's name stands for, and the axes of a
+/// jointtarget's two parts are its own, under the same numbers (RAPID Instructions, Functions and Data types: robjoint,
+/// extjoint, jointtarget, speeddata, tasks).
+pub fn made_parts()
+    ensures made { (sort : Sort) (vs : List Value) (v : Value) (i : ℕ) (c : Component) → list_all lengths.is_full vs ≡ true → made_of sort vs ≡ Some v → slice_get (components sort) i ≡ Some c → part_of v c.part ≡ slice_get vs i }
+    ensures arm { (v arm : Value) (j : ℕ) → j < 6 → part_of v PartName.Robax ≡ Some arm → part_of arm (PartName.Axis j) ≡ part_of v (PartName.Axis j) }
+    ensures external { (v external : Value) (j : ℕ) → 6 ≤ j → part_of v PartName.Extax ≡ Some external → part_of external (PartName.Axis j) ≡ part_of v (PartName.Axis j) }
 {}

@@ -13,7 +13,7 @@ mod start;
 mod tests;
 
 pub use components::{component, component_sorts};
-pub use laws::{is_full, put_parts};
+pub use laws::{made_parts, put_parts, value_is_full};
 pub use part_name::PartName;
 pub use parts::part;
 pub use put::with_part;

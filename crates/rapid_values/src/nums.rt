@@ -44,8 +44,7 @@ pub(crate) fn num_at(nums: &[Num], number: usize) -> Option<Value>
     Some(Value::Num(*num))
 }
 
-/// Puts a num at a place of a list, from 0. No exactly where the list has no such place or the value is no num; nothing changes
-/// then.
+/// Puts a num at a place of a list, from 0. No exactly where the list has no such place or the value is no num.
 pub(crate) fn put_num(nums: &mut [Num], number: usize, new: &Value) -> bool
     ensures { with_num nums.old number new.now ≡ (if result then Some nums.new else None) }
 {

@@ -7,8 +7,10 @@ use crate::nums::{joined, put_num};
 use crate::part_name::PartName;
 use rapid_model::Value;
 
-/// The value with this part put in, and all other parts as they were. None exactly where the value has no such part, or what is
-/// put in is none of its type (RAPID Kernel, assignment).
+/// The value with this part put in, and all other parts as they were; axes are numbered from 0, those of an extjoint from 6.
+/// None exactly where the value has no such part, or what is put in is none of the part's type; all of a value is any value,
+/// so that types are the caller's to compare there (RAPID Kernel, assignment; RAPID Instructions, Functions and Data types:
+/// robjoint, extjoint, jointtarget, speeddata, tasks).
 pub fn with_part(value: Value, part: PartName, new: Value) -> Option<Value>
     ensures { result ≡ put_part value part new }
 {

@@ -1,8 +1,7 @@
-//! Values of record types from their components (RAPID Kernel, aggregates).
+//! Values of record types from their components.
 
 ghost use Rattle.std.specs.Prelude.{◌≡◌, ℤ, List, length, if◌then◌else◌};
 ghost use Rattle.rapid_model.specs.declared.value.Value.{Value};
-ghost use Rattle.rapid_model.specs.declared.sort.Sort.{Sort};
 ghost use Rattle.rapid_values.specs.Values.{made_of, nums_of, so_many};
 
 use crate::nums::{joined, zero};
@@ -10,7 +9,8 @@ use rapid_model::{Sort, Value};
 use rapid_num::Num;
 
 /// The value of a record type that has these components, in their order. None exactly where the type is no record, or the
-/// components are not as many or not of the types that it has.
+/// components are not as many or not of the types that it has (RAPID Kernel, aggregates; RAPID Instructions, Functions and Data
+/// types: robjoint, extjoint, jointtarget, speeddata, tasks).
 pub fn record_of(sort: Sort, parts: &[Value]) -> Option<Value>
     ensures { result ≡ made_of sort parts.now }
 {

@@ -1,6 +1,6 @@
-//! What a value of a type begins with (RAPID Overview, basic elements: initial values).
+//! What a value of a type begins with.
 
-ghost use Rattle.std.specs.Prelude.{◌≡◌, ℤ, pos};
+ghost use Rattle.std.specs.Prelude.{◌≡◌};
 ghost use Rattle.rapid_values.specs.Values as given;
 
 use crate::nums::zero;
@@ -8,7 +8,8 @@ use rapid_model::{Sort, Text, Value};
 use rapid_num::Joints;
 
 /// What a datum of this type is before its first assignment: zero, FALSE or the empty text in every part. None exactly for the
-/// types that have no values: intnum, syncident, shapedata, wztemporary and wzstationary.
+/// types that have no values: intnum, syncident, shapedata, wztemporary and wzstationary (RAPID Kernel, variable
+/// declarations; RAPID Instructions, Functions and Data types).
 pub fn start_value(sort: Sort) -> Option<Value>
     ensures { result ≡ given.start_value sort }
 {

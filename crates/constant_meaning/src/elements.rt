@@ -1,0 +1,78 @@
+//! Elements of constant arrays (RAPID Overview, arrays).
+
+ghost use Rattle.std.specs.Prelude.{◌≡◌, length, map, slice_get, option_map};
+ghost use Rattle.constant_meaning.specs.Constants.{array_of, element_at, element_number, element_part, elements_of, flat, items_of};
+ghost use Rattle.constant_meaning.specs.declared.outcome.Outcome.TheVariants as outcomes;
+
+use crate::arrays::Arrays;
+use crate::operands::value_or_not_known;
+use crate::outcome::Outcome;
+use rapid_model::Value;
+use rapid_num::Num;
+use rapid_values::{PartName, part};
+use typed_trees::TreeRoot;
+
+/// The elements of the constant array that a root names: None exactly where it is none whose elements are known.
+pub(crate) fn array_of<'a>(arrays: &Arrays<'a>, root: TreeRoot) -> Option<&'a Vec<Value>>
+    ensures { option_map (λ v. v.now.items) result ≡ array_of (elements_of arrays.now) root }
+{
+    match root {
+        TreeRoot::Slot(number) => array_at(arrays.slots, number),
+        TreeRoot::Local(number) => array_at(arrays.locals, number),
+        TreeRoot::Ref(_) | TreeRoot::Pers(_) => None,
+    }
+}
+
+/// The elements of the array of a number, counted from 0, where they are known.
+fn array_at(arrays: &[Option<Vec<Value>>], number: u32) -> Option<&Vec<Value>>
+    ensures { option_map (λ v. v.now.items) result ≡ flat (slice_get (map items_of arrays.now) number) }
+{
+    arrays.get(number as usize)?.as_ref()
+}
+
+/// The part of an element of an array, by what its index comes to: an index counts from 1.
+pub(crate) fn element_at(elements: &[Value], part: PartName, index: Outcome) -> Outcome
+    ensures { result ≡ element_at (Some elements.now) part index }
+{
+    match index {
+        Outcome::Value(value) => element_by(elements, part, &value),
+        other => other,
+    }
+}
+
+/// The part of an element of an array, by a value.
+fn element_by(elements: &[Value], part: PartName, index: &Value) -> Outcome
+    ensures { result ≡ element_at (Some elements.now) part (outcomes.Value index.now) }
+{
+    match index {
+        Value::Num(number) => element_part(elements, part, *number),
+        _ => Outcome::NotKnown,
+    }
+}
+
+/// The part of the element that a num names.
+fn element_part(elements: &[Value], name: PartName, number: Num) -> Outcome
+    ensures { result ≡ element_part elements.now name (element_number (length elements.now) number) }
+{
+    let Some(number) = element_number(elements.len(), number) else {
+        return Outcome::OutOfArray;
+    };
+    let Some(element) = elements.get(number - 1) else {
+        return Outcome::NotKnown;
+    };
+    value_or_not_known(part(element, name))
+}
+
+/// The element, counted from 1, that a num names in an array of so many: None where it is no whole number from 1 to the
+/// length.
+fn element_number(len: usize, number: Num) -> Option<usize>
+    ensures { result ≡ element_number len number }
+{
+    let Ok(count) = usize::try_from(number.thousandths()) else {
+        return None;
+    };
+    if count % 1_000 == 0 && 1 <= count / 1_000 && count / 1_000 <= len {
+        return Some(count / 1_000);
+    }
+    None
+}

@@ -1,0 +1,15 @@
+//! What expressions mean whose value is known before the run: initial values and lengths.
+#![tactic(auto)]
+
+mod arrays;
+mod components;
+mod elements;
+mod evaluate;
+mod operands;
+mod outcome;
+#[cfg(test)]
+mod tests;
+
+pub use arrays::Arrays;
+pub use evaluate::{constant_value, is_constant};
+pub use outcome::Outcome;
