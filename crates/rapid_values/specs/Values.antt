@@ -45,7 +45,7 @@ abbrev pub with_axes : List ℤ → Value
 with_axes axes = values.Target (record { axis = axes })
 
 -- the value with this part put in, and all other parts as they were; none where the value has no such part, or what is put
--- in is none of its type
+-- in has not the part's type. The whole may be any value.
 abbrev pub put_part : Value → PartName → Value → Option Value
 put_part value parts.Whole new = Some new
 put_part (values.Target joints) parts.Robax (values.Rob axes) = Some (with_axes (axes ++ drop 6 joints.axis))
