@@ -1,0 +1,37 @@
+-- Reading from left to right: the characters behind a quote.
+use Rattle.std.specs.Prelude.{◌≡◌, ℕ, ◌+◌, ◌*◌, ◌==◌, if◌then◌else◌, List, [], ◌∷◌, ◌++◌, map, Option, Some, None}
+use Rattle.std.specs.List.{concat}
+use Rattle.rapid_num.specs.Literal.{digit_value}
+use Rattle.rapid_lexer.specs.Bytes.{is_printable}
+use Rattle.rapid_lexer.specs.Strings.{is_code, AreCharacters}
+use Rattle.string_texts.specs.Spelled.{character_of}
+
+-- what a second quote spells with the one before it, and the length of both
+abbrev pub doubled : List ℕ → Option (ℕ × ℕ)
+doubled [] = None
+doubled (c ∷ cs) = if c == 34 then Some (34, 2) else None
+
+-- what an escape spells whose backslash stands before, and its length with it
+abbrev pub escaped : List ℕ → Option (ℕ × ℕ)
+escaped [] = None
+escaped (c ∷ []) = if c == 92 then Some (92, 2) else None
+escaped (c ∷ d ∷ ds) =
+    if c == 92 then Some (92, 2)
+    else if is_code c d then Some (digit_value c * 16 + digit_value d, 3)
+    else None
+
+-- what the first character spells, and its length
+abbrev pub first_of : List ℕ → Option (ℕ × ℕ)
+first_of [] = None
+first_of (b ∷ bs) =
+    if b == 34 then doubled bs
+    else if b == 92 then escaped bs
+    else if is_printable b then Some (b, 1)
+    else None
+
+-- the bytes are characters and a quote, and the text is continued by what they spell
+pub record Continues (bytes begun text : List ℕ) : Type 0 where
+  pub characters : List (List ℕ)
+  pub are : AreCharacters characters
+  pub whole : bytes ≡ concat characters ++ 34 ∷ []
+  pub text_is : text ≡ begun ++ map character_of characters

@@ -1,0 +1,10 @@
+//! The texts that strings spell.
+#![tactic(auto)]
+
+mod first;
+mod text;
+
+pub use text::text_of;
+
+#[cfg(test)]
+mod tests;

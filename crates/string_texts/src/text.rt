@@ -1,0 +1,52 @@
+//! The text of a string token.
+
+ghost use Rattle.std.specs.Prelude.{◌≡◌, ◌≤◌, ◌+◌, ◌++◌, ℕ, List, [], ◌∷◌, IfSome, IsTrue, ◌↔◌, if◌then◌else◌, length};
+ghost use Rattle.rapid_model.specs.Printable.{takes};
+ghost use Rattle.string_texts.specs.Spelled.{Spells};
+ghost use Rattle.string_texts.specs.Reading.{Continues};
+
+use crate::first::first_of;
+use rapid_model::Text;
+
+fn is_end(bytes: &[u8]) -> bool
+    ensures { IsTrue result ↔ bytes.now ≡ 34 ∷ [] }
+{
+    matches!(bytes, [34])
+}
+
+/// The text and one byte more. None where it holds 80 or the byte is outside 20 to 7E hexadecimal.
+fn with_byte(begun: Text, byte: u8) -> Option<Text>
+    ensures { result ≡ (if takes 80 begun byte then Some (begun ++ byte ∷ []) else None) }
+{
+    let mut text = begun;
+    if text.push(byte) { Some(text) } else { None }
+}
+
+/// The begun text, continued by what the bytes spell up to the quote that ends them.
+fn continued(bytes: &[u8], begun: Text) -> Option<Text>
+    ensures spelled { IfSome result (λ t. Continues bytes.now begun t) }
+    ensures only { (t : List ℕ) → Continues bytes.now begun t → length t ≤ 80 → result ≡ Some t }
+{
+    match first_of(bytes) {
+        Some((byte, len)) => {
+            match with_byte(begun, byte) {
+                Some(text) => continued(&bytes[len..], text),
+                None => None,
+            }
+        }
+        None => { if is_end(bytes) { Some(begun) } else { None } }
+    }
+}
+
+/// The text that a string token spells: the characters between its quotes, each a byte from space to `~`, a doubled
+/// quote or backslash for one, or a backslash and two hexadecimal digits (RAPID Kernel, lexical elements). None
+/// exactly where the token is no string of at most 80 characters.
+pub fn text_of(quoted: &[u8]) -> Option<Text>
+    ensures spelled { IfSome result (λ t. Spells quoted.now t) }
+    ensures only { (t : List ℕ) → Spells quoted.now t → length t ≤ 80 → result ≡ Some t }
+{
+    match quoted {
+        [34, rest @ ..] => continued(rest, Text::new()),
+        _ => None,
+    }
+}
