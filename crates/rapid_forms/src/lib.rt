@@ -2,10 +2,13 @@
 #![tactic(auto)]
 
 mod fault;
+mod marks;
 mod parser;
+mod rows;
 mod sign;
 mod signs;
 mod tokens;
+mod words;
 
 pub use fault::{SyntaxFault, SyntaxRule};
 pub use parser::Parser;

@@ -1,6 +1,6 @@
 use Rattle.std.proofs.Common.{sym, ◌∙◌}
 use Rattle.rapid_forms.proofs.Codes.{row_more}
-use Rattle.rapid_forms.proofs.signs.sign_in.Goals as goal
+use Rattle.rapid_forms.proofs.rows.sign_in.Goals as goal
 
 pub returns-then-eq_ignore_ascii_case : goal.returns-then-eq_ignore_ascii_case
 returns-then-eq_ignore_ascii_case c =
