@@ -40,14 +40,16 @@ pub(crate) fn is_blank(byte: u8) -> bool
     byte == 9 || byte == 10 || byte == 12 || byte == 13 || byte == 32
 }
 
-pub(crate) fn is_printable(byte: u8) -> bool
+/// Whether a byte is one that a string may hold as it stands and that an escape may name: 20 to 7E hexadecimal (RAPID
+/// Kernel, lexical elements).
+pub fn is_printable(byte: u8) -> bool
     ensures { result ≡ is_printable byte }
 {
     byte >= 32 && byte <= 126
 }
 
-/// What a byte counts as a hexadecimal digit; 16 for a byte that is none.
-pub(crate) fn digit_value(byte: u8) -> u8
+/// What a byte counts as a hexadecimal digit, its letter in either case; 16 for a byte that is none.
+pub fn digit_value(byte: u8) -> u8
     ensures same { result ≡ digit_value byte }
     ensures small { result ≤ 16 }
 {
@@ -62,7 +64,8 @@ pub(crate) fn digit_value(byte: u8) -> u8
     }
 }
 
-pub(crate) fn is_hex(byte: u8) -> bool
+/// Whether a byte is a hexadecimal digit, its letter in either case.
+pub fn is_hex(byte: u8) -> bool
     ensures { result ≡ is_hex byte }
 {
     digit_value(byte) < 16

@@ -16,6 +16,7 @@ mod token;
 mod tokens;
 mod words;
 
+pub use bytes::{digit_value, is_hex, is_printable};
 pub use fault::{LexFault, LexRule, TokensFault};
 pub use kind::Kind;
 pub use laws::one_reading;

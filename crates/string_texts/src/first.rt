@@ -1,38 +1,11 @@
 //! The first character behind a quote.
 
-ghost use Rattle.std.specs.Prelude.{◌≡◌, ◌≤◌, ◌+◌, ◌*◌, if◌then◌else◌};
+ghost use Rattle.std.specs.Prelude.{◌≡◌, ◌+◌, ◌*◌, if◌then◌else◌};
 ghost use Rattle.rapid_num.specs.Literal.{digit_value};
-ghost use Rattle.rapid_lexer.specs.Bytes.{is_hex, is_printable};
 ghost use Rattle.rapid_lexer.specs.Strings.{is_code};
 ghost use Rattle.string_texts.specs.Reading.{doubled, escaped, first_of};
 
-fn is_printable(byte: u8) -> bool
-    ensures { result ≡ is_printable byte }
-{
-    byte >= 32 && byte <= 126
-}
-
-/// What a byte counts as a hexadecimal digit; 16 for a byte that is none.
-fn digit_value(byte: u8) -> u8
-    ensures same { result ≡ digit_value byte }
-    ensures small { result ≤ 16 }
-{
-    if byte >= 48 && byte <= 57 {
-        byte - 48
-    } else if byte >= 65 && byte <= 70 {
-        byte - 55
-    } else if byte >= 97 && byte <= 102 {
-        byte - 87
-    } else {
-        16
-    }
-}
-
-fn is_hex(byte: u8) -> bool
-    ensures { result ≡ is_hex byte }
-{
-    digit_value(byte) < 16
-}
+use rapid_lexer::{digit_value, is_hex, is_printable};
 
 /// What a second quote spells with the one that stands before these bytes, and the length of both.
 fn doubled(bytes: &[u8]) -> Option<(u8, usize)>
