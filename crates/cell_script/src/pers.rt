@@ -1,6 +1,6 @@
 //! First values of persistents.
 
-ghost use Rattle.std.specs.Prelude.{◌≡◌, ◌≤◌, [], neg_ℤ, IsTrue, codes, map, length, Some, None, Ok};
+ghost use Rattle.std.specs.Prelude.{◌≡◌, ◌≤◌, [], IsTrue, codes, map, length, Some, None, Ok};
 ghost use Rattle.std.specs.List.{list_all};
 ghost use Rattle.toml.specs.View.{view};
 ghost use Rattle.rapid_model.specs.Printable.{is_printable};
@@ -94,17 +94,10 @@ fn signed_literal(text: &[u8]) -> Option<Num>
         [] => None,
         [b'-', size @ ..] => {
             let number = read_literal(size).ok()?;
-            Some(negated(number))
+            Some(number.negated())
         }
         [_, ..] => read_literal(text).ok(),
     }
-}
-
-/// The same size with the other sign.
-fn negated(number: Num) -> Num
-    ensures { result ≡ neg_ℤ number }
-{
-    Num::new(-number.thousandths()).unwrap()
 }
 
 fn truth_value_at(keys: &TableKeys<'_>, key: &str, value: &Value) -> Result<Given, ScriptFault>

@@ -1,5 +1,5 @@
-//! Sums, differences, products and quotients of nums (RAPID Overview, expressions; RAPID Kernel, operators).
-ghost use Rattle.std.specs.Prelude.{◌≡◌, ◌<◌, ◌≤◌, ◌^◌, ◌*ℤ◌, pos, nat_abs};
+//! Sums, differences, opposites, products and quotients of nums (RAPID Overview, expressions; RAPID Kernel, operators).
+ghost use Rattle.std.specs.Prelude.{◌≡◌, ◌<◌, ◌≤◌, ◌^◌, ◌*ℤ◌, pos, neg_ℤ, nat_abs};
 ghost use Rattle.rapid_num.specs.Range.{IsNum, greatest};
 ghost use Rattle.rapid_num.specs.Arithmetic.{num_of, sum_of, difference_of, product_of, quotient_of, whole_quotient_of, remainder_of, rounded_ratio, signed_by, whole_part};
 
@@ -19,6 +19,13 @@ impl Num {
         ensures { result ≡ difference_of self other }
     {
         Num::new(self.thousandths() - other.thousandths())
+    }
+
+    /// The opposite, which is in range too.
+    pub fn negated(self) -> Num
+        ensures { result ≡ neg_ℤ self }
+    {
+        Num::within_range(-self.thousandths())
     }
 
     /// The product, rounded to a thousandth, halves away from zero: `None` exactly where it is out of range once it is

@@ -12,7 +12,7 @@ use raw_trees::Operator;
 pub fn negated(value: Num) -> Num
     ensures { result ≡ neg_ℤ value }
 {
-    Num::new(-value.thousandths()).unwrap()
+    value.negated()
 }
 
 /// What an operator other than `=` and `<>` comes to at two nums.
