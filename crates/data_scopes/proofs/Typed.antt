@@ -4,12 +4,13 @@ use Rattle.std.proofs.lemmas.List.{length-replicate}
 use Rattle.rapid_model.specs.declared.signal_row.SignalRow.{SignalRow}
 use Rattle.rapid_model.specs.declared.value.Value.{Value}
 use Rattle.rapid_model.specs.declared.sort.Sort.{Sort}
+use Rattle.rapid_model.specs.Names.{is_among}
 use Rattle.raw_trees.specs.Plain.{PlainDatum, PlainRoutine, PlainItem, PlainModule, Datum, Routine}
 use Rattle.data_scopes.specs.declared.counts.Counts.{Counts}
 use Rattle.data_scopes.specs.declared.fault.TypeRule.TheVariants.{NameTwice}
 use Rattle.data_scopes.specs.declared.meant.Meant.TheVariants as meants
 use Rattle.data_scopes.specs.Kept.{AreKept, AreOfTypes, TablesBelow}
-use Rattle.data_scopes.specs.Declarations.{Checked, ◌>>=◌, is_among, is_own, must, spot_of, with_const, datum_sort, item_name_rules, datum_rules, result_rules, params_rules, local_rules, locals_rules, routine_rules, item_rules, items_rules, module_rules, modules_rules}
+use Rattle.data_scopes.specs.Declarations.{Checked, ◌>>=◌, is_own, must, spot_of, with_const, datum_sort, item_name_rules, datum_rules, result_rules, params_rules, local_rules, locals_rules, routine_rules, item_rules, items_rules, module_rules, modules_rules}
 use Rattle.data_scopes.specs.Numbers.{no_counts, tables_of, datum_meant, local_meant, is_pers, is_scalar_const, scalar_consts, after_item, after_items}
 use Rattle.data_scopes.specs.Sorts.{is_value_of}
 use Rattle.data_scopes.specs.Scopes.{Tables, list_at, meant_in}

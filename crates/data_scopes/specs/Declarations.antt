@@ -1,13 +1,12 @@
 -- The first rule that is broken at a declared name or at its type's name: from left to right through the modules in order,
 -- a declaration's type before its name.
 use Rattle.std.specs.Prelude.{ℕ, ◌+◌, Bool, true, false, not, ◌||◌, List, [], ◌∷◌, ◌++◌, length, map, replicate, Option, Some, None, is_some, Result, Ok, Err, ◌==◌, if◌then◌else◌}
-use Rattle.std.specs.List.{list_any}
-use Rattle.std.specs.Str.{str_eq_ignore_ascii_case}
 use Rattle.raw_trees.specs.Plain.{PlainDatum, PlainParam, PlainRoutine, PlainItem, PlainModule, PlainName, Datum, Routine}
 use Rattle.raw_trees.specs.declared.raw_routine.Mode.{Mode}
 use Rattle.raw_trees.specs.declared.raw_routine.Mode.TheVariants as modes
 use Rattle.rapid_model.specs.declared.signal_row.SignalRow.{SignalRow}
 use Rattle.rapid_model.specs.declared.sort.Sort.{Sort}
+use Rattle.rapid_model.specs.Names.{is_among}
 use Rattle.data_scopes.specs.declared.fault.TypeRule.{TypeRule}
 use Rattle.data_scopes.specs.declared.fault.TypeRule.TheVariants.{NameTwice, NameTaken, NoName, NotThis, TypeClash, PersKind}
 use Rattle.data_scopes.specs.declared.counts.Counts.{Counts}
@@ -161,9 +160,6 @@ items_rules tables number c (item ∷ items) sorts =
     item_rules tables number c item sorts >>= (λ more. items_rules tables number (after_item c item) items more)
 
 -- the names of modules are compared with each other alone
-abbrev pub is_among : List ℕ → List (List ℕ) → Bool
-is_among name names = list_any (str_eq_ignore_ascii_case name) names
-
 abbrev pub names : List PlainModule → List (List ℕ)
 names modules = map (λ m. m.name.text) modules
 

@@ -2,6 +2,7 @@
 
 ghost use Rattle.std.specs.Prelude.{◌≡◌, [], map, option_map};
 ghost use Rattle.std.specs.Str.{str_eq_ignore_ascii_case};
+ghost use Rattle.rapid_model.specs.Names.{is_among};
 ghost use Rattle.raw_trees.specs.Views.{view_datum, view_item, view_module, view_name, view_param, view_routine};
 ghost use Rattle.data_scopes.specs.Declarations;
 ghost use Rattle.data_scopes.specs.Numbers.{no_counts};
@@ -226,7 +227,7 @@ fn is_named(unit: &RawModule<'_>, name: &[u8]) -> bool
 
 /// Whether the name is among those of the modules.
 fn is_among(name: &[u8], modules: &[RawModule<'_>]) -> bool
-    ensures { result ≡ Declarations.is_among name.now (Declarations.names (map view_module modules.now)) }
+    ensures { result ≡ is_among name.now (Declarations.names (map view_module modules.now)) }
 {
     for other in modules {
         if is_named(other, name) {
