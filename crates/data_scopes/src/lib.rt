@@ -4,6 +4,7 @@
 mod checking;
 mod counts;
 mod data_row;
+mod datum_rows;
 mod fault;
 mod filling;
 mod key;
@@ -15,6 +16,7 @@ mod meant;
 mod numbers;
 mod own;
 mod routine_entry;
+mod routine_rows;
 mod row_tables;
 mod rows;
 mod scopes;
