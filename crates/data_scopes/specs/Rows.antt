@@ -1,8 +1,6 @@
 -- What is declared, by its number among those of its kind: the types of data, and how routines are called.
-use Rattle.std.specs.Prelude.{ℕ, ◌+◌, Bool, true, false, List, [], ◌∷◌, ◌++◌, length, map, Option, Some, None, is_some, Ok, if◌then◌else◌}
+use Rattle.std.specs.Prelude.{ℕ, ◌+◌, Bool, List, [], ◌∷◌, ◌++◌, length, map, Option, Some, None, is_some, Ok, if◌then◌else◌}
 use Rattle.raw_trees.specs.Plain.{PlainExpr, PlainDatum, PlainParam, PlainRoutine, PlainItem, PlainModule, PlainName, Number, Quoted, Truth, Group, Aggregate, Invoke, Place, Not, Signed, Chain, Datum, Routine}
-use Rattle.raw_trees.specs.declared.raw_datum.DatumKind.{DatumKind}
-use Rattle.raw_trees.specs.declared.raw_routine.RoutineKind.{RoutineKind}
 use Rattle.rapid_model.specs.declared.signal_row.SignalRow.{SignalRow}
 use Rattle.rapid_model.specs.declared.sort.Sort.{Sort}
 use Rattle.data_scopes.specs.declared.data_row.DatumRow.{DatumRow}

@@ -30,7 +30,7 @@ fn value_at(name: &RawName<'_>, value: &Option<RawExpr<'_>>) -> usize
     }
 }
 
-/// Where a CONST of a module is declared.
+/// Where a CONST of a module, or of a routine of it, is declared.
 fn since_of(number: u32, datum: &RawDatum<'_>) -> Option<Since>
     ensures { result ≡ Rows.since_of number (view_datum datum.now) }
 {
