@@ -1,3 +1,4 @@
+pub mod Begins
 pub mod Below
 pub mod Entries
 mod Examples

@@ -1,10 +1,9 @@
 -- The first rule that is broken at a declared name or at its type's name: from left to right through the modules in order,
 -- a declaration's type before its name.
-use Rattle.std.specs.Prelude.{ℕ, ◌+◌, Bool, true, false, not, ◌||◌, List, [], ◌∷◌, ◌++◌, length, map, replicate, Option, Some, None, is_some, Result, Ok, Err, ◌==◌, if◌then◌else◌}
+use Rattle.std.specs.Prelude.{ℕ, ◌+◌, Bool, true, false, not, ◌||◌, List, [], ◌∷◌, ◌++◌, length, map, Option, Some, None, is_some, Result, Ok, Err, ◌==◌, if◌then◌else◌}
 use Rattle.raw_trees.specs.Plain.{PlainDatum, PlainParam, PlainRoutine, PlainItem, PlainModule, PlainName, Datum, Routine}
 use Rattle.raw_trees.specs.declared.raw_routine.Mode.{Mode}
 use Rattle.raw_trees.specs.declared.raw_routine.Mode.TheVariants as modes
-use Rattle.rapid_model.specs.declared.signal_row.SignalRow.{SignalRow}
 use Rattle.rapid_model.specs.declared.sort.Sort.{Sort}
 use Rattle.rapid_model.specs.Names.{is_among}
 use Rattle.data_scopes.specs.declared.fault.TypeRule.{TypeRule}
@@ -13,8 +12,8 @@ use Rattle.data_scopes.specs.declared.counts.Counts.{Counts}
 use Rattle.data_scopes.specs.declared.meant.Meant.{Meant}
 use Rattle.data_scopes.specs.declared.meant.Meant.TheVariants as meants
 use Rattle.data_scopes.specs.declared.spot.Spot.{Spot}
-use Rattle.data_scopes.specs.Numbers.{no_counts, is_const, is_pers, is_scalar_const, datum_meant, after_item, after_items, param_meant, local_meant, tables_of}
-use Rattle.data_scopes.specs.Scopes.{Scope, Tables, Names, list_at, meant_in, meant_outside, meaning}
+use Rattle.data_scopes.specs.Numbers.{is_const, is_pers, is_scalar_const, datum_meant, after_item, after_items, param_meant, local_meant}
+use Rattle.data_scopes.specs.Scopes.{Scope, Tables, list_at, meant_in, meant_outside, meaning}
 use Rattle.data_scopes.specs.Sorts.{sort_of, has_values}
 
 -- a rule that is broken, and where
@@ -174,10 +173,3 @@ modules_rules tables number before c [] sorts = Ok sorts
 modules_rules tables number before c (m ∷ ms) sorts =
     module_rules tables number before c m sorts >>= (λ more.
     modules_rules tables (number + 1) (before ++ (m.name.text ∷ [])) (after_items c m.items) ms more)
-
--- the names of a task's modules, or the first rule that is broken
-abbrev pub names_of : List PlainModule → List SignalRow → Checked Names
-names_of modules signals =
-    let tables = tables_of modules signals in
-    modules_rules tables 0 [] no_counts modules [] >>= (λ sorts.
-    Ok (record { tables = tables; sorts = sorts; kept = replicate (length sorts) None }))

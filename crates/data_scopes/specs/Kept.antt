@@ -9,7 +9,14 @@ use Rattle.data_scopes.specs.Sorts.{is_value_of}
 
 -- the names, with one more value kept
 abbrev pub with_kept : Names → ℕ → Value → Names
-with_kept names constant value = record { tables = names.tables; sorts = names.sorts; kept = set names.kept constant (Some value) }
+with_kept names constant value = record {
+  tables = names.tables;
+  sorts = names.sorts;
+  kept = set names.kept constant (Some value);
+  rows = names.rows;
+  outputs = names.outputs;
+  arm = names.arm;
+}
 
 -- the number of a CONST is below this
 abbrev pub IsBelow : ℕ → Meant → Type 0

@@ -5,3 +5,6 @@ pub mod Sorts
 pub mod Declarations
 pub mod Gives
 pub mod Kept
+pub mod Rows
+pub mod Naming
+pub mod Called

@@ -1,5 +1,5 @@
 -- What a name means at a spot: the innermost declaration of its name that is visible there.
-use Rattle.std.specs.Prelude.{◌≤◌, ℕ, zero, suc, List, [], ◌∷◌, ◌++◌, length, map, Option, Some, None, is_some, slice_get, if◌then◌else◌, bytes_eq}
+use Rattle.std.specs.Prelude.{◌≤◌, ℕ, Bool, zero, suc, List, [], ◌∷◌, ◌++◌, length, map, Option, Some, None, is_some, slice_get, if◌then◌else◌, bytes_eq}
 use Rattle.std.specs.Option.{option_map}
 use Rattle.std.specs.Str.{str_to_ascii_lowercase}
 use Rattle.std.specs.declared.alloc.Global.{Global}
@@ -9,6 +9,9 @@ use Rattle.rapid_model.specs.Requests.{or_else}
 use Rattle.rapid_model.specs.declared.sort.Sort.{Sort}
 use Rattle.rapid_model.specs.declared.value.Value.{Value}
 use Rattle.rapid_builtins.specs.Names.{instruction_of, function_of, predefined_of}
+use Rattle.raw_trees.specs.declared.raw_routine.RoutineKind.{RoutineKind}
+use Rattle.data_scopes.specs.declared.data_row.DatumRow.{DatumRow}
+use Rattle.data_scopes.specs.declared.data_row.ParamRow.{ParamRow}
 use Rattle.data_scopes.specs.declared.meant.Meant.{Meant}
 use Rattle.data_scopes.specs.declared.meant.Meant.TheVariants as meants
 use Rattle.data_scopes.specs.declared.spot.Spot.{Spot}
@@ -52,11 +55,30 @@ pub record Tables : Type 0 where
   pub loops : List (List Loop)
   pub signals : Scope
 
--- The names, the type of each CONST that is no array, and the values that are kept for these so far.
+-- how a routine is called, and what its data are
+pub record RoutineRow : Type 0 where
+  pub kind : RoutineKind
+  pub result : Option Sort
+  pub params : List ParamRow
+  pub locals : List DatumRow
+
+-- The declarations by their numbers: the CONSTs that are no arrays, the VARs and CONST arrays of the modules, the PERSs, and
+-- the routines.
+pub record Rows : Type 0 where
+  pub consts : List DatumRow
+  pub slots : List DatumRow
+  pub pers : List DatumRow
+  pub routines : List RoutineRow
+
+-- The names; the type of each CONST that is no array, and the values that are kept for these so far; the declarations; of each
+-- signal whether it is an output, and whether the task has an arm.
 pub record Names : Type 0 where
   pub tables : Tables
   pub sorts : List Sort
   pub kept : List (Option Value)
+  pub rows : Rows
+  pub outputs : List Bool
+  pub arm : Bool
 
 -- this FOR where its variable has the name, else one further out
 abbrev pub named_or : List ℕ → ℕ → Option Loop → (Option ℕ → Option ℕ) → Option ℕ

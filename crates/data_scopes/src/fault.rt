@@ -18,8 +18,50 @@ pub enum TypeRule {
     NotThis,
     /// A value of another type than needed, or a type without values where values are.
     TypeClash,
+    /// A CONST without a value.
+    NoInit,
+    /// An initial value or a length with a variable, a persistent, a signal or a call.
+    NotConst,
+    /// A CONST that is declared later.
+    ConstOrder,
+    /// An initial value whose evaluation faults or raises an error.
+    ConstFault,
+    /// A length that is no whole number from 1 to 1000; brackets with another number of values.
+    DimRange,
+    /// An array without an index.
+    WholeArray,
+    /// A write to a CONST, to a FOR variable, to ERRNO or to a predefined datum.
+    ReadOnly,
+    /// A reference argument that is no place of the needed kind and type.
+    BadRef,
+    /// Too few or too many arguments, or more than 32.
+    ArgCount,
+    /// A wrong, missing or repeated option.
+    ArgName,
+    /// A GOTO whose label is neither in its own list nor in one around it.
+    NoLabel,
+    /// Two labels of a name in one routine.
+    LabelTwice,
+    /// RETRY, TRYNEXT, or RAISE without a number, outside an ERROR part.
+    HandlerOnly,
+    /// RETURN with a value outside a function, or without one in it.
+    ReturnKind,
     /// A persistent of a type without values.
     PersKind,
+    /// A zone other than `fine`.
+    CornerZone,
+    /// A tool other than `tool0`, or a work object other than `wobj0`.
+    ToolOnly,
+    /// A meeting's name that is no VAR syncident of a module.
+    SyncName,
+    /// A statement or a call that needs an arm, in a task without one.
+    NoArm,
+    /// No procedure `main` that is not LOCAL and has no parameters.
+    NoMain,
+    /// More than 20,000 values of module data.
+    DataRange,
+    /// A persistent of the cell with two types or lengths.
+    PersType,
 }
 
 /// Why a task's modules are refused: the rule, the module's number from 0 and the byte at which it stands; or memory was

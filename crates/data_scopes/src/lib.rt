@@ -3,6 +3,8 @@
 
 mod checking;
 mod counts;
+mod data_row;
+mod datum_rows;
 mod fault;
 mod filling;
 mod key;
@@ -13,6 +15,10 @@ mod loops;
 mod meant;
 mod numbers;
 mod own;
+mod routine_entry;
+mod routine_rows;
+mod row_tables;
+mod rows;
 mod scopes;
 mod sorts;
 mod spot;
@@ -20,6 +26,7 @@ mod table;
 mod tables;
 mod walking;
 
+pub use data_row::{DatumRow, ParamRow, Since};
 pub use fault::{TypeFault, TypeRule};
 pub use known::Known;
 pub use laws::kept_by_number;

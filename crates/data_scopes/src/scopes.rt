@@ -1,20 +1,25 @@
 ghost use Rattle.std.specs.Prelude.{◌≡◌, ◌<◌, map, length, slice_get, replicate, IfSome, IsTrue, ℕ};
 ghost use Rattle.raw_trees.specs.Views.{view_module};
-ghost use Rattle.data_scopes.specs.Declarations.{names_of};
+ghost use Rattle.data_scopes.specs.Naming.{names_of};
+ghost use Rattle.data_scopes.specs.Called.{kind_of, local_of, param_of, params_of, places_of, result_of};
+ghost use Rattle.data_scopes.specs.Rows.{outputs_of};
 ghost use Rattle.data_scopes.specs.Gives.{Gives};
 ghost use Rattle.data_scopes.specs.Kept.{with_kept};
 ghost use Rattle.data_scopes.specs.Scopes.{meaning};
 ghost use Rattle.data_scopes.specs.Sorts.{is_value_of};
 
+use crate::data_row::{DatumRow, ParamRow};
 use crate::fault::TypeFault;
 use crate::filling::tables_of;
 use crate::known::Known;
 use crate::meant::Meant;
+use crate::row_tables::RowTables;
+use crate::rows::modules_rows;
 use crate::spot::Spot;
 use crate::tables::NameTables;
 use crate::walking::modules_rules;
-use rapid_model::{Sort, Value};
-use raw_trees::RawModule;
+use rapid_model::{SignalRow, Sort, Value};
+use raw_trees::{RawModule, RoutineKind};
 use std::alloc::Global;
 use std::marker::Model;
 
@@ -24,6 +29,9 @@ pub struct Scopes {
     tables: NameTables,
     sorts: Vec<Sort>,
     kept: Vec<Option<Value>>,
+    rows: RowTables,
+    outputs: Vec<bool>,
+    arm: bool,
 }
 
 impl Model for Scopes {
@@ -32,7 +40,7 @@ impl Model for Scopes {
 
     ghost Value = { Names };
 
-    ghost view = { λ s. record { tables = s.tables; sorts = s.sorts.items; kept = s.kept.items } };
+    ghost view = { λ s. record { tables = s.tables; sorts = s.sorts.items; kept = s.kept.items; rows = s.rows; outputs = s.outputs.items; arm = s.arm } };
 
     ghost invariant = { λ s. AreKept s.tables s.sorts.items s.kept.items };
 }
@@ -46,15 +54,20 @@ impl Scopes {
         modules: &[RawModule<'_>],
         known: &Known<'_>,
     ) -> Result<Scopes, TypeFault>
-        ensures { Gives (λ scopes. scopes) result (names_of (map view_module modules.now) known.now.signals.now) }
+        ensures { Gives (λ scopes. scopes) result (names_of (map view_module modules.now) known.now.signals.now known.now.arm) }
     {
         let tables = tables_of(alloc, modules, known.signals)?;
         let sorts = modules_rules(alloc, modules, &tables)?;
         let kept = no_values(alloc, sorts.len())?;
+        let rows = modules_rows(alloc, &tables, modules)?;
+        let outputs = outputs_of(alloc, known.signals)?;
         Ok(Scopes {
             tables,
             sorts,
             kept,
+            rows,
+            outputs,
+            arm: known.arm,
         })
     }
 
@@ -96,6 +109,83 @@ impl Scopes {
             None => None,
         }
     }
+
+    /// The VAR or CONST array of a module that a `Slot` means.
+    pub fn slot(&self, number: u32) -> Option<DatumRow>
+        ensures { result ≡ slice_get self.now.rows.slots number }
+    {
+        row_at(&self.rows.slots, number)
+    }
+
+    /// The PERS of this number.
+    pub fn pers(&self, number: u32) -> Option<DatumRow>
+        ensures { result ≡ slice_get self.now.rows.pers number }
+    {
+        row_at(&self.rows.pers, number)
+    }
+
+    /// The CONST of this number, which is no array.
+    pub fn constant(&self, number: u32) -> Option<DatumRow>
+        ensures { result ≡ slice_get self.now.rows.consts number }
+    {
+        row_at(&self.rows.consts, number)
+    }
+
+    /// The datum at a place of a routine, among its parameters and then its data; a parameter as if it were one by value.
+    pub fn local(&self, routine: Option<u32>, place: u32) -> Option<DatumRow>
+        ensures { result ≡ local_of self.now.rows routine place }
+    {
+        self.rows.local(routine, place)
+    }
+
+    /// The parameter at a place of a routine.
+    pub fn param(&self, routine: Option<u32>, place: u32) -> Option<ParamRow>
+        ensures { result ≡ param_of self.now.rows routine place }
+    {
+        self.rows.param(routine, place)
+    }
+
+    /// How many parameters and data a routine has.
+    pub fn places(&self, routine: Option<u32>) -> usize
+        ensures { result ≡ places_of self.now.rows routine }
+    {
+        self.rows.places(routine)
+    }
+
+    /// Whether a routine is a procedure, a function or a trap.
+    pub fn routine_kind(&self, routine: u32) -> Option<RoutineKind>
+        ensures { result ≡ kind_of self.now.rows routine }
+    {
+        self.rows.kind(routine)
+    }
+
+    /// The type of a function's result.
+    pub fn routine_result(&self, routine: u32) -> Option<Sort>
+        ensures { result ≡ result_of self.now.rows routine }
+    {
+        self.rows.result(routine)
+    }
+
+    /// The parameters of a routine; none where there is no such routine.
+    pub fn routine_params(&self, routine: u32) -> &[ParamRow]
+        ensures { result.now ≡ params_of self.now.rows routine }
+    {
+        self.rows.params(routine)
+    }
+
+    /// Whether a signal is an output; `None` exactly where there is none of this number.
+    pub fn output(&self, signal: u32) -> Option<bool>
+        ensures { result ≡ slice_get self.now.outputs signal }
+    {
+        self.outputs.get(signal as usize).copied()
+    }
+
+    /// Whether the task has an arm.
+    pub fn has_arm(&self) -> bool
+        ensures { result ≡ self.now.arm }
+    {
+        self.arm
+    }
 }
 
 /// The type of this number.
@@ -114,4 +204,22 @@ fn no_values(alloc: Global, count: usize) -> Result<Vec<Option<Value>>, TypeFaul
         kept.push(None)?;
     }
     Ok(kept)
+}
+
+/// The datum of this number.
+fn row_at(rows: &[DatumRow], number: u32) -> Option<DatumRow>
+    ensures { result ≡ slice_get rows.now number }
+{
+    rows.get(number as usize).copied()
+}
+
+/// Of each signal, whether it is an output.
+fn outputs_of(alloc: Global, signals: &[SignalRow]) -> Result<Vec<bool>, TypeFault>
+    ensures { Gives (λ v. v.items) result (Ok (outputs_of signals.now)) }
+{
+    let mut outputs = Vec::new(alloc);
+    for signal in signals {
+        outputs.push(signal.output)?;
+    }
+    Ok(outputs)
 }

@@ -1,6 +1,6 @@
 //! Modules made by hand: the first rule that they break, and what their names mean.
 
-use super::{Known, Meant, Scopes, Spot, TypeFault, TypeRule};
+use super::{DatumRow, Known, Meant, ParamRow, Scopes, Since, Spot, TypeFault, TypeRule};
 use rapid_model::{Instruction, NameText, SignalRow, Sort, Value};
 use raw_trees::{
     DatumKind, Mode, RawDatum, RawExpr, RawItem, RawModule, RawName, RawParam, RawRoutine, RawStmt,
@@ -10,16 +10,18 @@ use std::alloc::{AllocError, Global};
 use std::test::*;
 
 /// Where a name is declared: among the items of the first or the second module, LOCAL or not, among those of a second
-/// module that is named as the first, or in the routine of the first.
+/// module that is named as the first, or in the routine of the first; and of an array, in the first module or its routine.
 #[derive(Clone, Copy)]
 enum Place {
     First,
     FirstLocal,
+    FirstArray,
     Second,
     SecondLocal,
     Same,
     Param(Mode),
     Inner,
+    InnerArray,
     Result,
 }
 
@@ -47,7 +49,31 @@ fn item(local: bool, datum: RawDatum<'static>) -> RawItem<'static> {
     }
 }
 
-// The type stands at a byte, the name behind it.
+fn is_array(place: Place) -> bool {
+    match place {
+        Place::FirstArray => true,
+        Place::InnerArray => true,
+        _ => false,
+    }
+}
+
+// The value of a CONST.
+fn first_value(kind: DatumKind, at: usize) -> Option<RawExpr<'static>> {
+    if kind == DatumKind::Const {
+        return Some(RawExpr::number(at, b"1"));
+    }
+    None
+}
+
+// The length of an array.
+fn length_of(place: Place, at: usize) -> Option<RawExpr<'static>> {
+    if is_array(place) {
+        return Some(RawExpr::number(at, b"4"));
+    }
+    None
+}
+
+// The type stands at a byte, behind it the name, the length and the value.
 fn declare(parts: &mut Parts, row: Row, at: usize) -> Result<(), AllocError> {
     let sort = RawName { text: row.2, at };
     let name = RawName {
@@ -58,12 +84,13 @@ fn declare(parts: &mut Parts, row: Row, at: usize) -> Result<(), AllocError> {
         kind: row.1,
         sort,
         name,
-        len: None,
-        first: None,
+        len: length_of(row.0, at.wrapping_add(2)),
+        first: first_value(row.1, at.wrapping_add(3)),
         at,
     };
     match row.0 {
         Place::First => parts.first.push(item(false, datum))?,
+        Place::FirstArray => parts.first.push(item(false, datum))?,
         Place::FirstLocal => parts.first.push(item(true, datum))?,
         Place::Second => parts.second.push(item(false, datum))?,
         Place::SecondLocal => parts.second.push(item(true, datum))?,
@@ -75,6 +102,7 @@ fn declare(parts: &mut Parts, row: Row, at: usize) -> Result<(), AllocError> {
             at,
         })?,
         Place::Inner => parts.locals.push(datum)?,
+        Place::InnerArray => parts.locals.push(datum)?,
         Place::Result => parts.result = Some(sort),
     }
     Ok(())
@@ -142,14 +170,14 @@ fn modules_of(alloc: Global, rows: &[Row]) -> Result<Vec<RawModule<'static>>, Al
     Ok(vec![in alloc; first, second]?)
 }
 
-fn signal() -> SignalRow {
+fn signal(text: &[u8; 4], output: bool) -> SignalRow {
     let mut name = NameText::new();
-    for byte in b"di_1" {
+    for byte in text {
         name.push(*byte);
     }
     SignalRow {
         name,
-        output: false,
+        output,
         start: false,
     }
 }
@@ -288,7 +316,7 @@ static BROKEN: [(&[Row], Option<(u32, usize, TypeRule)>); 22] = [
 #[test]
 fn the_first_rule(rt: HostRuntime) -> Result<(), Fail> {
     let alloc = rt.alloc();
-    let signals = [signal()];
+    let signals = [signal(b"di_1", false)];
     for (rows, wanted) in &BROKEN {
         let modules = modules_of(alloc, rows).map_err(|_| "modules are made")?;
         let known = Known {
@@ -345,7 +373,7 @@ static MEANT: [(u32, Option<u32>, Option<u32>, &[u8], Option<Meant>); 15] = [
 #[test]
 fn what_names_mean(rt: HostRuntime) -> Result<(), Fail> {
     let alloc = rt.alloc();
-    let signals = [signal()];
+    let signals = [signal(b"di_1", false)];
     let known = Known {
         tasks: &[],
         signals: &signals,
@@ -374,5 +402,117 @@ fn what_names_mean(rt: HostRuntime) -> Result<(), Fail> {
         _ => return Err("the constant is a bool".into()),
     }
     assert_eq!(rt; scopes.kept(0), Some(Value::Bool(true)));
+    Ok(())
+}
+
+static NUMBERED: [Row; 10] = [
+    (Place::First, DatumKind::Var, b"num", b"count"),
+    (Place::FirstArray, DatumKind::Const, b"bool", b"flags"),
+    (Place::First, DatumKind::Pers, b"string", b"label"),
+    (Place::First, DatumKind::Const, b"speeddata", b"fast"),
+    (Place::Param(Mode::Value), DatumKind::Var, b"num", b"a"),
+    (Place::Param(Mode::Inout), DatumKind::Var, b"intnum", b"b"),
+    (Place::Inner, DatumKind::Const, b"robjoint", b"home"),
+    (Place::InnerArray, DatumKind::Var, b"bool", b"list"),
+    (Place::Result, DatumKind::Var, b"extjoint", b""),
+    (Place::Second, DatumKind::Const, b"num", b"last"),
+];
+
+/// A datum that is asked for by its number.
+#[derive(Clone, Copy)]
+enum Asked {
+    Slot(u32),
+    Pers(u32),
+    Constant(u32),
+    Local(Option<u32>, u32),
+}
+
+/// What is asked, and the type, whether it is an array, and the module and byte of a CONST's value.
+static ROWS: [(Asked, Option<(Sort, bool, Option<(u32, usize)>)>); 14] = [
+    (Asked::Slot(0), Some((Sort::Num, false, None))),
+    (Asked::Slot(1), Some((Sort::Bool, true, Some((0, 13))))),
+    (Asked::Slot(2), None),
+    (Asked::Pers(0), Some((Sort::Text, false, None))),
+    (Asked::Pers(1), None),
+    (
+        Asked::Constant(0),
+        Some((Sort::SpeedData, false, Some((0, 33)))),
+    ),
+    // The CONSTs of a routine stand before those of the next module.
+    (
+        Asked::Constant(1),
+        Some((Sort::RobJoint, false, Some((0, 63)))),
+    ),
+    (Asked::Constant(2), Some((Sort::Num, false, Some((1, 93))))),
+    (Asked::Constant(3), None),
+    (Asked::Local(Some(0), 1), Some((Sort::IntNum, false, None))),
+    (
+        Asked::Local(Some(0), 2),
+        Some((Sort::RobJoint, false, Some((0, 63)))),
+    ),
+    (Asked::Local(Some(0), 3), Some((Sort::Bool, true, None))),
+    (Asked::Local(Some(0), 4), None),
+    (Asked::Local(None, 0), None),
+];
+
+fn row_of(scopes: &Scopes, asked: Asked) -> Option<DatumRow> {
+    match asked {
+        Asked::Slot(number) => scopes.slot(number),
+        Asked::Pers(number) => scopes.pers(number),
+        Asked::Constant(number) => scopes.constant(number),
+        Asked::Local(routine, place) => scopes.local(routine, place),
+    }
+}
+
+fn since(at: Option<(u32, usize)>) -> Option<Since> {
+    let (module, at) = at?;
+    Some(Since { module, at })
+}
+
+fn row(wanted: Option<(Sort, bool, Option<(u32, usize)>)>) -> Option<DatumRow> {
+    let (sort, array, at) = wanted?;
+    Some(DatumRow {
+        sort,
+        array,
+        since: since(at),
+    })
+}
+
+#[test]
+fn declarations_by_number(rt: HostRuntime) -> Result<(), Fail> {
+    let alloc = rt.alloc();
+    let signals = [signal(b"di_1", false), signal(b"do_1", true)];
+    let known = Known {
+        tasks: &[],
+        signals: &signals,
+        arm: false,
+    };
+    let modules = modules_of(alloc, &NUMBERED).map_err(|_| "modules are made")?;
+    let Ok(scopes) = Scopes::new(alloc, &modules, &known) else {
+        return Err("the modules are faultless".into());
+    };
+    for (asked, wanted) in &ROWS {
+        assert_eq!(rt; row_of(&scopes, *asked), row(*wanted));
+    }
+    let params = [
+        ParamRow {
+            mode: Mode::Value,
+            sort: Sort::Num,
+        },
+        ParamRow {
+            mode: Mode::Inout,
+            sort: Sort::IntNum,
+        },
+    ];
+    assert_eq!(rt; scopes.routine_params(0), params.as_slice());
+    assert_eq!(rt; scopes.param(Some(0), 1), Some(params[1]));
+    assert_eq!(rt; scopes.param(None, 0), None);
+    assert_eq!(rt; scopes.places(Some(0)), 4);
+    assert_eq!(rt; scopes.routine_kind(0), Some(RoutineKind::Proc));
+    assert_eq!(rt; scopes.routine_kind(1), None);
+    assert_eq!(rt; scopes.routine_result(0), Some(Sort::ExtJoint));
+    assert_eq!(rt; scopes.output(1), Some(true));
+    assert_eq!(rt; scopes.output(2), None);
+    assert!(rt; !scopes.has_arm());
     Ok(())
 }

@@ -1,0 +1,50 @@
+-- The declarations, asked by number.
+use Rattle.std.specs.Prelude.{ℕ, ◌+◌, ◌-◌, false, nat_lt, List, [], length, slice_get, Option, Some, None, if◌then◌else◌}
+use Rattle.std.specs.Option.{option_and_then, option_map}
+use Rattle.raw_trees.specs.declared.raw_routine.RoutineKind.{RoutineKind}
+use Rattle.rapid_model.specs.declared.sort.Sort.{Sort}
+use Rattle.data_scopes.specs.declared.data_row.DatumRow.{DatumRow}
+use Rattle.data_scopes.specs.declared.data_row.ParamRow.{ParamRow}
+use Rattle.data_scopes.specs.Scopes.{RoutineRow, Rows}
+
+abbrev pub kind_of : Rows → ℕ → Option RoutineKind
+kind_of rows routine = option_map (λ row. row.kind) (slice_get rows.routines routine)
+
+-- the type of a function's result
+abbrev pub result_of : Rows → ℕ → Option Sort
+result_of rows routine = option_and_then (λ row. row.result) (slice_get rows.routines routine)
+
+-- the parameters of a routine
+abbrev pub params_in : Option RoutineRow → List ParamRow
+params_in None = []
+params_in (Some row) = row.params
+
+abbrev pub params_of : Rows → ℕ → List ParamRow
+params_of rows routine = params_in (slice_get rows.routines routine)
+
+-- a by-value parameter as a datum
+abbrev pub value_row : ParamRow → DatumRow
+value_row param = record { sort = param.sort; array = false; since = None }
+
+-- the places of a routine are its parameters and then its data
+abbrev pub place_row : RoutineRow → ℕ → Option DatumRow
+place_row row place =
+    if nat_lt place (length row.params) then option_map value_row (slice_get row.params place)
+    else slice_get row.locals (place - length row.params)
+
+-- the datum at a place of a routine
+abbrev pub local_of : Rows → Option ℕ → ℕ → Option DatumRow
+local_of rows routine place = option_and_then (λ r. option_and_then (λ row. place_row row place) (slice_get rows.routines r)) routine
+
+-- the parameter at a place of a routine
+abbrev pub param_of : Rows → Option ℕ → ℕ → Option ParamRow
+param_of rows routine place = option_and_then (λ r. slice_get (params_of rows r) place) routine
+
+-- how many parameters and data a routine has
+abbrev pub places_in : Option RoutineRow → ℕ
+places_in None = 0
+places_in (Some row) = length row.params + length row.locals
+
+abbrev pub places_of : Rows → Option ℕ → ℕ
+places_of rows None = 0
+places_of rows (Some routine) = places_in (slice_get rows.routines routine)

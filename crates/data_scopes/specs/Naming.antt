@@ -1,0 +1,23 @@
+-- The names of a task's modules, or the first rule that is broken at a declared name or at its type's name.
+use Rattle.std.specs.Prelude.{Bool, List, [], length, replicate, None, Ok}
+use Rattle.raw_trees.specs.Plain.{PlainModule}
+use Rattle.rapid_model.specs.declared.signal_row.SignalRow.{SignalRow}
+use Rattle.data_scopes.specs.Declarations.{Checked, ◌>>=◌, modules_rules}
+use Rattle.data_scopes.specs.Numbers.{no_counts, tables_of}
+use Rattle.data_scopes.specs.Rows.{modules_rows, no_rows, outputs_of}
+use Rattle.data_scopes.specs.Scopes.{Names}
+
+-- of a task with an arm or without one, among these signals
+abbrev pub names_of : List PlainModule → List SignalRow → Bool → Checked Names
+names_of modules signals arm =
+    let tables = tables_of modules signals in
+    modules_rules tables 0 [] no_counts modules [] >>= (λ sorts.
+    modules_rows tables 0 modules no_rows >>= (λ rows.
+    Ok (record {
+      tables = tables;
+      sorts = sorts;
+      kept = replicate (length sorts) None;
+      rows = rows;
+      outputs = outputs_of signals;
+      arm = arm;
+    })))

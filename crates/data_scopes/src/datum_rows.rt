@@ -1,0 +1,83 @@
+//! The rows of data, of modules and of routines.
+
+ghost use Rattle.std.specs.Prelude.{◌≡◌, option_map};
+ghost use Rattle.raw_trees.specs.Views.{view_datum, view_expr, view_name};
+ghost use Rattle.data_scopes.specs.Rows;
+ghost use Rattle.data_scopes.specs.Gives.{Gives};
+
+use crate::checking::{sort_at, spot_of};
+use crate::data_row::{DatumRow, Since};
+use crate::fault::TypeFault;
+use crate::numbers::{is_const, is_pers, is_scalar_const};
+use crate::row_tables::RowTables;
+use crate::tables::NameTables;
+use raw_trees::{RawDatum, RawExpr, RawName};
+
+/// The byte at which an expression begins.
+fn begin_of(value: &RawExpr<'_>) -> usize
+    ensures { result ≡ Rows.begin_of (view_expr value.now) }
+{
+    value.at
+}
+
+/// The byte at which the value of a datum begins; its name's where it has none.
+fn value_at(name: &RawName<'_>, value: &Option<RawExpr<'_>>) -> usize
+    ensures { result ≡ Rows.value_at (view_name name.now) (option_map view_expr value.now) }
+{
+    match value {
+        Some(value) => begin_of(value),
+        None => name.at,
+    }
+}
+
+/// Where a CONST of a module, or of a routine of it, is declared.
+fn since_of(number: u32, datum: &RawDatum<'_>) -> Option<Since>
+    ensures { result ≡ Rows.since_of number (view_datum datum.now) }
+{
+    if is_const(datum.kind) {
+        return Some(Since {
+            module: number,
+            at: value_at(&datum.name, &datum.first),
+        });
+    }
+    None
+}
+
+/// The row of a datum of a module, or of a routine of it.
+pub(crate) fn datum_row(
+    tables: &NameTables,
+    number: u32,
+    routine: Option<u32>,
+    datum: &RawDatum<'_>,
+) -> Result<DatumRow, TypeFault>
+    ensures { Gives (λ row. row) result (Rows.datum_row tables.now number routine (view_datum datum.now)) }
+{
+    let spot = spot_of(number, routine, &datum.sort);
+    let sort = sort_at(tables, spot, &datum.sort)?;
+    Ok(DatumRow {
+        sort,
+        array: datum.len.is_some(),
+        since: since_of(number, datum),
+    })
+}
+
+/// Behind these rows that of a CONST that is no array, of a PERS, or of another datum. Its error is want of memory.
+pub(crate) fn with_datum(
+    rows: RowTables,
+    datum: &RawDatum<'_>,
+    row: DatumRow,
+) -> Result<RowTables, TypeFault>
+    ensures { Gives (λ rows. rows) result (Ok (Rows.with_datum rows (view_datum datum.now) row)) }
+{
+    let mut rows = rows;
+    if is_scalar_const(datum) {
+        rows.consts.push(row)?;
+        return Ok(rows);
+    }
+    if is_pers(datum.kind) {
+        rows.pers.push(row)?;
+        return Ok(rows);
+    }
+    rows.slots.push(row)?;
+    Ok(rows)
+}
