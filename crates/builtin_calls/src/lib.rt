@@ -2,6 +2,7 @@
 #![tactic(auto)]
 
 mod arms;
+mod data;
 mod functions;
 mod instruction_option;
 mod instructions;
@@ -11,6 +12,7 @@ mod option_choice;
 mod option_rows;
 
 pub use arms::{function_needs_arm, needs_arm};
+pub use data::predefined_datum;
 pub use functions::{function_needs, function_result};
 pub use instruction_option::InstructionOption;
 pub use instructions::instruction_needs;

@@ -1,8 +1,9 @@
 use super::{
     Choice, Need, choice, function_needs, function_needs_arm, function_result, instruction_needs,
-    needs_arm, option_of, options,
+    needs_arm, option_of, options, predefined_datum,
 };
-use rapid_model::{Function, Instruction, Sort};
+use rapid_model::{Function, Instruction, Predefined, Sort, Value};
+use rapid_num::Num;
 
 /// Functions with their arguments, their answer, and whether they need an arm.
 static FUNCTIONS: [(Function, &[Need], Sort, bool); 6] = [
@@ -120,6 +121,19 @@ static NAMES: [(Instruction, &[u8], Option<Option<Need>>); 9] = [
     (Instruction::WZLimSup, b"Inside", None),
     (Instruction::ISleep, b"Single", None),
 ];
+
+fn whole(count: i32) -> Num {
+    Num::new(i64::from(count) * 1_000).unwrap()
+}
+
+#[test]
+fn data_are_as_the_manual_has_them(rt: HostRuntime) {
+    let speed = Value::Speed([20, 500, 5_000, 1_000].map(whole));
+    let high = Value::Num(whole(1));
+    assert!(rt; predefined_datum(Predefined::V20) == Some((Sort::SpeedData, speed)));
+    assert!(rt; predefined_datum(Predefined::High) == Some((Sort::Num, high)));
+    assert!(rt; predefined_datum(Predefined::Fine).is_none());
+}
 
 #[test]
 fn calls_are_as_the_manual_has_them(rt: HostRuntime) {

@@ -1,10 +1,11 @@
 -- Reading from left to right: the characters behind a quote.
-use Rattle.std.specs.Prelude.{◌≡◌, ℕ, ◌+◌, ◌*◌, ◌==◌, if◌then◌else◌, List, [], ◌∷◌, ◌++◌, map, Option, Some, None}
+use Rattle.std.specs.Prelude.{◌≡◌, ℕ, ◌+◌, ◌-◌, ◌*◌, ◌==◌, if◌then◌else◌, List, [], ◌∷◌, ◌++◌, length, map, Option, Some, None}
 use Rattle.std.specs.List.{concat}
+use Rattle.std.specs.Option.{option_map}
 use Rattle.rapid_num.specs.Literal.{digit_value}
 use Rattle.rapid_lexer.specs.Bytes.{is_printable}
 use Rattle.rapid_lexer.specs.Strings.{is_code, AreCharacters}
-use Rattle.string_texts.specs.Spelled.{character_of}
+use Rattle.string_texts.specs.Spelled.{character_of, limited}
 
 -- what a second quote spells with the one before it, and the length of both
 abbrev pub doubled : List ℕ → Option (ℕ × ℕ)
@@ -35,3 +36,7 @@ pub record Continues (bytes begun text : List ℕ) : Type 0 where
   pub are : AreCharacters characters
   pub whole : bytes ≡ concat characters ++ 34 ∷ []
   pub text_is : text ≡ begun ++ map character_of characters
+
+-- the begun text, continued by this one where both together have at most 80 characters
+abbrev pub continued_by : List ℕ → Option (List ℕ) → Option (List ℕ)
+continued_by begun text = option_map (λ more. begun ++ more) (limited (80 - length begun) text)

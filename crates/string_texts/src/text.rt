@@ -2,8 +2,8 @@
 
 ghost use Rattle.std.specs.Prelude.{◌≡◌, ◌≤◌, ◌+◌, ◌++◌, ℕ, List, [], ◌∷◌, IfSome, IsTrue, ◌↔◌, if◌then◌else◌, length};
 ghost use Rattle.rapid_model.specs.Printable.{takes};
-ghost use Rattle.string_texts.specs.Spelled.{Spells};
-ghost use Rattle.string_texts.specs.Reading.{Continues};
+ghost use Rattle.string_texts.specs.Spelled.{Spells, text_behind, text_in};
+ghost use Rattle.string_texts.specs.Reading.{Continues, continued_by};
 
 use crate::first::first_of;
 use rapid_model::Text;
@@ -26,6 +26,7 @@ fn with_byte(begun: Text, byte: u8) -> Option<Text>
 fn continued(bytes: &[u8], begun: Text) -> Option<Text>
     ensures spelled { IfSome result (λ t. Continues bytes.now begun t) }
     ensures only { (t : List ℕ) → Continues bytes.now begun t → length t ≤ 80 → result ≡ Some t }
+    ensures text { result ≡ continued_by begun (text_behind bytes.now) }
 {
     match first_of(bytes) {
         Some((byte, len)) => {
@@ -44,6 +45,7 @@ fn continued(bytes: &[u8], begun: Text) -> Option<Text>
 pub fn text_of(quoted: &[u8]) -> Option<Text>
     ensures spelled { IfSome result (λ t. Spells quoted.now t) }
     ensures only { (t : List ℕ) → Spells quoted.now t → length t ≤ 80 → result ≡ Some t }
+    ensures text { result ≡ text_in quoted.now }
 {
     match quoted {
         [34, rest @ ..] => continued(rest, Text::new()),

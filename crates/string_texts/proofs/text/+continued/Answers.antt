@@ -1,6 +1,8 @@
 use Rattle.std.proofs.Common.{◌≡◌, ◌∷◌, ◌++◌, [], Bool, cond, true, false, Some, None, sym, ap, ◌∙◌, arith}
 use Rattle.std.proofs.lemmas.List.{take_rest}
 use Rattle.rapid_model.specs.Printable.{takes}
+use Rattle.string_texts.specs.Reading.{continued_by}
+use Rattle.string_texts.proofs.Behind.{behind_nothing, goes_text, too_long}
 use Rattle.string_texts.proofs.Continuing.{kept, nothing_more, one_more, goes, takes_it, grown}
 use Rattle.string_texts.proofs.text.+continued.Goals as goal
 
@@ -31,3 +33,16 @@ pub returns-else-is_end-clause-only : goal.returns-else-is_end-clause-only
 returns-else-is_end-clause-only t c text h le =
     let yes : false ≡ true = c.if-is_end.ensures.1 (nothing_more c.args.bytes.now c.args.begun text (sym c.in-None.ensures) h).0 in
     absurd cc
+
+pub returns-in-Some-with_byte-clause-text : goal.returns-in-Some-with_byte-clause-text
+returns-in-Some-with_byte-clause-text t c =
+    goes_text c.args.bytes.now _ c.args.begun c.in-Some-with_byte.text c.in-Some.byte c.in-Some.len c.continued.result (sym c.in-Some.ensures) c.in-Some-with_byte.ensures
+    (take_rest c.args.bytes.now c.in-Some.len) c.continued.ensures.text
+
+pub returns-in-None-with_byte-clause-text : goal.returns-in-None-with_byte-clause-text
+returns-in-None-with_byte-clause-text t c =
+    too_long c.args.bytes.now c.args.begun c.in-Some.byte c.in-Some.len (sym c.in-Some.ensures) c.in-None-with_byte.ensures
+
+pub returns-else-is_end-clause-text : goal.returns-else-is_end-clause-text
+returns-else-is_end-clause-text t c =
+    sym (ap (continued_by c.args.begun) (behind_nothing c.args.bytes.now (sym c.in-None.ensures) (λ is. let yes : false ≡ true = c.if-is_end.ensures.1 is in cc)))

@@ -1,0 +1,4 @@
+pub mod Rules
+pub mod Wants
+pub mod Data
+pub mod Views

@@ -1,0 +1,6 @@
+-- How contracts see where checking stands.
+use Rattle.named_data.specs.declared.site.Site.{Site}
+use Rattle.named_data.specs.Rules
+
+abbrev pub view_site : Site → Rules.Site
+view_site site = record { names = site.scopes.now; spot = site.spot }

@@ -1,0 +1,112 @@
+-- What the place of an expression asks of its type.
+use Rattle.std.specs.Prelude.{Bool, true, false, List, [], ◌∷◌}
+use Rattle.raw_trees.specs.declared.raw_expr.Operator.{Operator}
+use Rattle.raw_trees.specs.declared.raw_expr.Operator.TheVariants as operators
+use Rattle.raw_trees.specs.Plain.{PlainSteps, NoSteps, MoreSteps}
+use Rattle.rapid_model.specs.declared.sort.Sort.{Sort}
+use Rattle.rapid_model.specs.declared.sort.Sort.TheVariants as sorts
+use Rattle.rapid_values.specs.Components.{Component, components}
+use Rattle.data_scopes.specs.declared.fault.TypeRule.{TypeRule}
+use Rattle.data_scopes.specs.declared.fault.TypeRule.TheVariants.{TypeClash, BadRef, SyncName}
+use Rattle.named_data.specs.declared.wanted.Wanted.{Wanted}
+use Rattle.named_data.specs.declared.wanted.Wanted.TheVariants.{Any, Is, Same, Fits, Nothing, Reference, Meeting}
+
+abbrev pub same_sort : Sort → Sort → Bool
+same_sort sorts.Num sorts.Num = true
+same_sort sorts.Bool sorts.Bool = true
+same_sort sorts.Text sorts.Text = true
+same_sort sorts.RobJoint sorts.RobJoint = true
+same_sort sorts.ExtJoint sorts.ExtJoint = true
+same_sort sorts.JointTarget sorts.JointTarget = true
+same_sort sorts.SpeedData sorts.SpeedData = true
+same_sort sorts.Tasks sorts.Tasks = true
+same_sort sorts.IntNum sorts.IntNum = true
+same_sort sorts.SyncIdent sorts.SyncIdent = true
+same_sort sorts.ShapeData sorts.ShapeData = true
+same_sort sorts.WzTemporary sorts.WzTemporary = true
+same_sort sorts.WzStationary sorts.WzStationary = true
+same_sort _ _ = false
+
+-- types whose values are compared
+abbrev pub is_compared : Sort → Bool
+is_compared sorts.Num = true
+is_compared sorts.Bool = true
+is_compared sorts.Text = true
+is_compared sorts.RobJoint = true
+is_compared sorts.ExtJoint = true
+is_compared sorts.JointTarget = true
+is_compared sorts.SpeedData = true
+is_compared _ = false
+
+-- an operator takes operands of this type, both of one type
+abbrev pub suits : Operator → Sort → Bool
+suits operators.Equal sort = is_compared sort
+suits operators.NotEqual sort = is_compared sort
+suits operators.And sort = same_sort sort sorts.Bool
+suits operators.Or sort = same_sort sort sorts.Bool
+suits operators.Xor sort = same_sort sort sorts.Bool
+suits operators.Add sorts.Text = true
+suits _ sort = same_sort sort sorts.Num
+
+-- the type of what an operator comes to between operands of this type
+abbrev pub comes_to : Operator → Sort → Sort
+comes_to operators.Add sort = sort
+comes_to operators.Sub sort = sorts.Num
+comes_to operators.Mul sort = sorts.Num
+comes_to operators.Div sort = sorts.Num
+comes_to operators.IntDiv sort = sorts.Num
+comes_to operators.Mod sort = sorts.Num
+comes_to _ sort = sorts.Bool
+
+-- a type is what is wanted
+abbrev pub fits : Wanted → Sort → Bool
+fits Any sort = true
+fits (Is wanted) sort = same_sort sort wanted
+fits (Same wanted) sort = same_sort sort wanted
+fits (Fits operator) sort = suits operator sort
+fits Nothing sort = false
+fits Reference sort = false
+fits Meeting sort = false
+
+-- the rule that a value breaks whose type is not what is wanted
+abbrev pub clash : Wanted → TypeRule
+clash Reference = BadRef
+clash Meeting = SyncName
+clash _ = TypeClash
+
+-- the rule that brackets break of which no type is known
+abbrev pub untyped : Wanted → TypeRule
+untyped Meeting = SyncName
+untyped _ = TypeClash
+
+-- what is wanted of what parentheses hold: they hand on the type
+abbrev pub inside : Wanted → Wanted
+inside Reference = Any
+inside Meeting = Any
+inside wanted = wanted
+
+-- an expression in parentheses may stand there, if what they hold may
+abbrev pub hands_on : Wanted → Bool
+hands_on Reference = false
+hands_on Meeting = false
+hands_on _ = true
+
+-- the components that brackets are to have: those of the type that is needed. An operand hands its type to no brackets.
+abbrev pub needed_components : Wanted → List Component
+needed_components (Is sort) = components sort
+needed_components _ = []
+
+-- the type of brackets
+abbrev pub needed_sort : Wanted → Sort
+needed_sort (Is sort) = sort
+needed_sort _ = sorts.Num
+
+-- what is wanted of the next element
+abbrev pub of_component : List Component → Wanted
+of_component [] = Any
+of_component (c ∷ cs) = Is c.sort
+
+-- what is wanted of the first operand of a chain
+abbrev pub first_operand : PlainSteps → Wanted
+first_operand NoSteps = Any
+first_operand (MoreSteps operator e steps) = Fits operator

@@ -1,0 +1,21 @@
+//! What a name stands for in an expression, and what the place of an expression asks of its type.
+#![tactic(auto)]
+
+mod access;
+mod component;
+mod data;
+mod named;
+mod places;
+mod rules;
+mod site;
+mod values;
+mod wanted;
+mod wants;
+
+pub use component::{Part, part_at};
+pub use data::datum_at;
+pub use named::{Access, NamedDatum, Source};
+pub use rules::{fault, must};
+pub use site::Site;
+pub use wanted::Wanted;
+pub use wants::{clash, comes_to, fits, hands_on, inside, same_sort, suits, untyped};

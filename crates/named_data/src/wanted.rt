@@ -1,0 +1,21 @@
+use rapid_model::Sort;
+use raw_trees::Operator;
+
+/// What the place of an expression asks of it.
+#[derive(Clone, Copy, Debug, PartialEq, Eq)]
+pub enum Wanted {
+    /// A value of any type; brackets have none there.
+    Any,
+    /// A value of the type, which brackets take.
+    Is(Sort),
+    /// An operand of the type; brackets have none there.
+    Same(Sort),
+    /// The first operand of the operator.
+    Fits(Operator),
+    /// No value: the place takes a name.
+    Nothing,
+    /// No value: the place takes a reference.
+    Reference,
+    /// No value: the place takes the name of a meeting.
+    Meeting,
+}

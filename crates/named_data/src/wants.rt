@@ -1,0 +1,122 @@
+//! What the place of an expression asks of its type.
+
+ghost use Rattle.std.specs.Prelude.{◌≡◌, length};
+ghost use Rattle.rapid_values.specs.Components.{components};
+ghost use Rattle.named_data.specs.Wants;
+
+use crate::wanted::Wanted;
+use data_scopes::TypeRule;
+use rapid_model::Sort;
+use raw_trees::Operator;
+
+/// Whether two types are one.
+pub fn same_sort(a: Sort, b: Sort) -> bool
+    ensures { result ≡ Wants.same_sort a b }
+{
+    matches!(
+        (a, b),
+        (Sort::Num, Sort::Num)
+            | (Sort::Bool, Sort::Bool)
+            | (Sort::Text, Sort::Text)
+            | (Sort::RobJoint, Sort::RobJoint)
+            | (Sort::ExtJoint, Sort::ExtJoint)
+            | (Sort::JointTarget, Sort::JointTarget)
+            | (Sort::SpeedData, Sort::SpeedData)
+            | (Sort::Tasks, Sort::Tasks)
+            | (Sort::IntNum, Sort::IntNum)
+            | (Sort::SyncIdent, Sort::SyncIdent)
+            | (Sort::ShapeData, Sort::ShapeData)
+            | (Sort::WzTemporary, Sort::WzTemporary)
+            | (Sort::WzStationary, Sort::WzStationary)
+    )
+}
+
+/// Whether values of the type are compared by `=` and `<>` (RAPID Overview, expressions).
+fn is_compared(sort: Sort) -> bool
+    ensures { result ≡ Wants.is_compared sort }
+{
+    matches!(
+        sort,
+        Sort::Num
+            | Sort::Bool
+            | Sort::Text
+            | Sort::RobJoint
+            | Sort::ExtJoint
+            | Sort::JointTarget
+            | Sort::SpeedData
+    )
+}
+
+/// Whether an operator takes operands of the type, both of one type (RAPID Overview, expressions).
+pub fn suits(operator: Operator, sort: Sort) -> bool
+    ensures { result ≡ Wants.suits operator sort }
+{
+    match operator {
+        Operator::Equal | Operator::NotEqual => is_compared(sort),
+        Operator::And | Operator::Or | Operator::Xor => same_sort(sort, Sort::Bool),
+        Operator::Add => matches!(sort, Sort::Num | Sort::Text),
+        _ => same_sort(sort, Sort::Num),
+    }
+}
+
+/// The type of what an operator comes to between operands of this type.
+pub fn comes_to(operator: Operator, sort: Sort) -> Sort
+    ensures { result ≡ Wants.comes_to operator sort }
+{
+    match operator {
+        Operator::Add => sort,
+        Operator::Sub | Operator::Mul | Operator::Div | Operator::IntDiv | Operator::Mod =>
+            Sort::Num,
+        _ => Sort::Bool,
+    }
+}
+
+/// Whether a type is what is wanted.
+pub fn fits(want: Wanted, sort: Sort) -> bool
+    ensures { result ≡ Wants.fits want sort }
+{
+    match want {
+        Wanted::Any => true,
+        Wanted::Is(wanted) | Wanted::Same(wanted) => same_sort(sort, wanted),
+        Wanted::Fits(operator) => suits(operator, sort),
+        Wanted::Nothing | Wanted::Reference | Wanted::Meeting => false,
+    }
+}
+
+/// The rule that a value breaks whose type is not what is wanted.
+pub fn clash(want: Wanted) -> TypeRule
+    ensures { result ≡ Wants.clash want }
+{
+    match want {
+        Wanted::Reference => TypeRule::BadRef,
+        Wanted::Meeting => TypeRule::SyncName,
+        _ => TypeRule::TypeClash,
+    }
+}
+
+/// The rule that brackets break of which no type is known.
+pub fn untyped(want: Wanted) -> TypeRule
+    ensures { result ≡ Wants.untyped want }
+{
+    match want {
+        Wanted::Meeting => TypeRule::SyncName,
+        _ => TypeRule::TypeClash,
+    }
+}
+
+/// What is wanted of what parentheses hold.
+pub fn inside(want: Wanted) -> Wanted
+    ensures { result ≡ Wants.inside want }
+{
+    match want {
+        Wanted::Reference | Wanted::Meeting => Wanted::Any,
+        other => other,
+    }
+}
+
+/// Whether an expression in parentheses may stand there, if what they hold may.
+pub fn hands_on(want: Wanted) -> bool
+    ensures { result ≡ Wants.hands_on want }
+{
+    !matches!(want, Wanted::Reference | Wanted::Meeting)
+}

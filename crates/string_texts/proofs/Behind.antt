@@ -1,0 +1,137 @@
+-- What stands behind a quote, character by character.
+use Rattle.std.proofs.Common.{◌≡◌, ℕ, ◌+◌, ◌-◌, ◌*◌, ◌<◌, ◌≤◌, Bool, true, false, cond, eqb, nat_le, nat_lt, get_or, List, [], ◌∷◌, ◌++◌, length, drop, Option, Some, None, refl, sym, ap, ◌∙◌, append_assoc, length-append, arith}
+use Rattle.std.proofs.lemmas.Bool.{eqb-true, and_parts}
+use Rattle.std.proofs.lemmas.Bool.Decides.{nat_tests}
+use Rattle.std.specs.Option.{option_map}
+use Rattle.rapid_num.specs.Literal.{digit_value}
+use Rattle.rapid_model.specs.Printable.{takes}
+use Rattle.rapid_lexer.specs.Bytes.{is_printable}
+use Rattle.rapid_lexer.specs.Strings.{is_code}
+use Rattle.string_texts.specs.Spelled.{limited, text_behind, text_in, with_character}
+use Rattle.string_texts.specs.Reading.{continued_by, first_of}
+use Rattle.string_texts.proofs.Firsts.{found}
+use Rattle.string_texts.proofs.Continuing.{grown, quote_first, takes_it}
+
+-- the first character, and the text behind it
+abbrev behind : Option (ℕ × ℕ) → List ℕ → Option (List ℕ)
+behind None bytes = None
+behind (Some first) bytes = with_character first.0 (text_behind (drop first.1 bytes))
+
+-- two bytes, by what they are tested for
+two : (quote again escape twice plain : Bool) (b c : ℕ)
+    → cond quote None (cond escape None (cond plain (with_character b (text_behind (c ∷ []))) None))
+    ≡ behind (cond quote (cond again (found 34 2) None) (cond escape (cond twice (found 92 2) None) (cond plain (found b 1) None))) (b ∷ c ∷ [])
+two true true escape twice plain b c = refl
+two true false escape twice plain b c = refl
+two false again true true plain b c = refl
+two false again true false plain b c = refl
+two false again false twice true b c = refl
+two false again false twice false b c = refl
+
+-- three bytes or more, by what they are tested for
+more : (quote again escape twice code plain : Bool) (n b c d : ℕ) (ds : List ℕ)
+    → cond quote (cond again (with_character 34 (text_behind (d ∷ ds))) None)
+    (cond escape (cond twice (with_character 92 (text_behind (d ∷ ds))) (cond code (with_character n (text_behind ds)) None))
+    (cond plain (with_character b (text_behind (c ∷ d ∷ ds))) None))
+    ≡ behind
+    (cond quote (cond again (found 34 2) None) (cond escape (cond twice (found 92 2) (cond code (found n 3) None)) (cond plain (found b 1) None)))
+    (b ∷ c ∷ d ∷ ds)
+more true true escape twice code plain n b c d ds = refl
+more true false escape twice code plain n b c d ds = refl
+more false again true true code plain n b c d ds = refl
+more false again true false true plain n b c d ds = refl
+more false again true false false plain n b c d ds = refl
+more false again false twice code true n b c d ds = refl
+more false again false twice code false n b c d ds = refl
+
+-- the text behind bytes that are more than the last quote
+first_then : (bytes : List ℕ) → (bytes ≡ 34 ∷ [] → ⊥) → text_behind bytes ≡ behind (first_of bytes) bytes
+first_then [] not_last = refl
+first_then (b ∷ []) not_last = at (eqb b 34) (eqb b 92) (is_printable b) refl
+  where
+    at : (quote escape plain : Bool) → eqb b 34 ≡ quote
+        → cond quote (Some []) None ≡ behind (cond quote None (cond escape None (cond plain (found b 1) None))) (b ∷ [])
+    at true escape plain is = absurd (not_last (ap (λ (n : ℕ). n ∷ []) (eqb-true b 34 is)))
+    at false true plain is = refl
+    at false false true is = refl
+    at false false false is = refl
+first_then (b ∷ c ∷ []) not_last = two (eqb b 34) (eqb c 34) (eqb b 92) (eqb c 92) (is_printable b) b c
+first_then (b ∷ c ∷ d ∷ ds) not_last =
+    more (eqb b 34) (eqb c 34) (eqb b 92) (eqb c 92) (is_code c d) (is_printable b) (digit_value c * 16 + digit_value d) b c d ds
+
+-- a character comes first
+behind_first : (bytes : List ℕ) (byte len : ℕ) → first_of bytes ≡ Some (byte, len) → text_behind bytes ≡ with_character byte (text_behind (drop len bytes))
+behind_first bytes byte len e =
+    first_then bytes (λ is. let no : None ≡ found byte len = sym (ap first_of is) ∙ e in cc) ∙ ap (λ (f : Option (ℕ × ℕ)). behind f bytes) e
+
+-- no character comes first, and no last quote
+pub behind_nothing : (bytes : List ℕ) → first_of bytes ≡ None → (bytes ≡ 34 ∷ [] → ⊥) → text_behind bytes ≡ None
+behind_nothing bytes e not_last = first_then bytes not_last ∙ ap (λ (f : Option (ℕ × ℕ)). behind f bytes) e
+
+-- a text that is not full goes on with one character
+grows : (begun : List ℕ) (byte : ℕ) (text : Option (List ℕ)) → length begun < 80
+    → continued_by (begun ++ byte ∷ []) text ≡ continued_by begun (with_character byte text)
+grows begun byte None room = refl
+grows begun byte (Some rest) room =
+    let longer : length (begun ++ byte ∷ []) ≡ length begun + 1 = length-append begun (byte ∷ []) in
+    let same : nat_le (length rest) (80 - length (begun ++ byte ∷ [])) ≡ nat_le (length (byte ∷ rest)) (80 - length begun) = rw longer (grind (arith, nat_tests)) in
+    at (nat_le (length rest) (80 - length (begun ++ byte ∷ []))) (nat_le (length (byte ∷ rest)) (80 - length begun)) same
+  where
+    at : (a b : Bool) → a ≡ b → option_map (λ more. (begun ++ byte ∷ []) ++ more) (cond a (Some rest) None) ≡ option_map (λ more. begun ++ more) (cond b (Some (byte ∷ rest)) None)
+    at true true e = ap Some (append_assoc begun (byte ∷ []) rest)
+    at false false e = refl
+    at true false e = absurd cc
+    at false true e = absurd cc
+
+-- a text that is full takes no more
+full : (begun : List ℕ) (byte : ℕ) (text : Option (List ℕ)) → 80 ≤ length begun → None ≡ continued_by begun (with_character byte text)
+full begun byte None le = refl
+full begun byte (Some rest) le =
+    let no : nat_le (length (byte ∷ rest)) (80 - length begun) ≡ false = grind (arith, nat_tests) in rw no refl
+
+-- what is begun with nothing
+from_nothing : (text : Option (List ℕ)) → continued_by [] text ≡ limited 80 text
+from_nothing None = refl
+from_nothing (Some text) = at (nat_le (length text) 80)
+  where
+    at : (room : Bool) → option_map (λ (more : List ℕ). [] ++ more) (cond room (Some text) None) ≡ cond room (Some text) None
+    at true = refl
+    at false = refl
+
+-- a character that is taken: what stands behind it goes on
+pub goes_text : (bytes rest begun text : List ℕ) (byte len : ℕ) (result : Option (List ℕ)) → first_of bytes ≡ Some (byte, len)
+    → Some text ≡ cond (takes 80 begun byte) (Some (begun ++ byte ∷ [])) None → rest ≡ drop len bytes
+    → result ≡ continued_by text (text_behind rest) → result ≡ continued_by begun (text_behind bytes)
+goes_text bytes rest begun text byte len result first taken is goes =
+    goes
+    ∙ ap (λ (t : List ℕ). continued_by t (text_behind rest)) (grown (takes 80 begun byte) text (begun ++ byte ∷ []) taken)
+    ∙ grows begun byte (text_behind rest) (room (takes 80 begun byte) refl taken)
+    ∙ ap (λ (r : List ℕ). continued_by begun (with_character byte (text_behind r))) is
+    ∙ ap (continued_by begun) (sym (behind_first bytes byte len first))
+  where
+    room : (b : Bool) → takes 80 begun byte ≡ b → Some text ≡ cond b (Some (begun ++ byte ∷ [])) None → length begun < 80
+    room true e h = let x = (and_parts (is_printable byte) (nat_lt (length begun) 80) e).1 in grind (arith, nat_tests)
+    room false e h = absurd cc
+
+-- a character that is not taken: the text would be too long
+pub too_long : (bytes begun : List ℕ) (byte len : ℕ) → first_of bytes ≡ Some (byte, len)
+    → None ≡ cond (takes 80 begun byte) (Some (begun ++ byte ∷ [])) None → None ≡ continued_by begun (text_behind bytes)
+too_long bytes begun byte len first refused =
+    full begun byte (text_behind (drop len bytes)) (at (nat_lt (length begun) 80) refl) ∙ ap (continued_by begun) (sym (behind_first bytes byte len first))
+  where
+    at : (b : Bool) → nat_lt (length begun) 80 ≡ b → 80 ≤ length begun
+    at true e =
+        let less : length begun < 80 = grind (arith, nat_tests) in
+        let yes = takes_it bytes begun byte len first less in
+        absurd (let no : None ≡ Some (begun ++ byte ∷ []) = refused ∙ ap (λ (b : Bool). cond b (Some (begun ++ byte ∷ [])) None) yes in cc)
+    at false e = grind (arith, nat_tests)
+
+-- the text behind the quote that bytes begin with
+pub from_quote : (quoted rest begun : List ℕ) (result : Option (List ℕ)) → get_or quoted 0 0 ≡ 34 → begun ≡ [] → rest ≡ drop 1 quoted
+    → result ≡ continued_by begun (text_behind rest) → result ≡ text_in quoted
+from_quote quoted rest begun result first none is goes =
+    goes
+    ∙ ap (λ (t : List ℕ). continued_by t (text_behind rest)) none
+    ∙ from_nothing (text_behind rest)
+    ∙ ap (λ (r : List ℕ). limited 80 (text_behind r)) is
+    ∙ ap text_in (sym (quote_first quoted first))
