@@ -1,0 +1,235 @@
+-- The persistents and meetings of a cell: which of its tasks' trees are one, their numbers, and the first values of persistents
+-- (RAPID Overview, persistent data; RAPID Instructions, WaitSyncTask).
+use Rattle.std.specs.Prelude.{ℕ, ◌+◌, ◌-◌, Bool, true, false, not, ◌&&◌, ◌==◌, suc, nat_le, List, [], ◌∷◌, ◌++◌, codes, length, set, replicate, Option, Some, None, is_some, is_none, slice_get, Result, Ok, Err, if◌then◌else◌}
+use Rattle.std.specs.Option.{option_map}
+use Rattle.std.specs.Str.{str_eq_ignore_ascii_case}
+use Rattle.rapid_model.specs.declared.pers_value.PersValue.{PersValue}
+use Rattle.rapid_model.specs.declared.script_rule.ScriptRule.{ScriptRule}
+use Rattle.rapid_model.specs.declared.script_rule.ScriptRule.TheVariants.{NoSuch, Kind, Range, Twice}
+use Rattle.rapid_model.specs.declared.sort.Sort.{Sort}
+use Rattle.rapid_model.specs.declared.sort.Sort.TheVariants as sorts
+use Rattle.rapid_model.specs.declared.value.Value.{Value}
+use Rattle.rapid_model.specs.declared.value.Value.TheVariants as values
+use Rattle.typed_trees.specs.Plain.{TypedPers, TypedTree}
+use Rattle.cell_script.specs.Break.{element_of}
+use Rattle.named_data.specs.Wants.{same_sort}
+
+-- why no cell is made: two declarations of one persistent differ, the later one being here; or a rule of the script is broken at
+-- a key
+pub data CellBreak : Type 0 where
+  Clash : ℕ → ℕ → ℕ → CellBreak
+  InScript : List ℕ → ScriptRule → CellBreak
+
+abbrev pub Making : Type 0 → Type 0
+Making A = Result A CellBreak
+
+infixl 10 ◌>>=◌
+abbrev pub ◌>>=◌ : {A B : Type 0} → Making A → (A → Making B) → Making B
+(Ok x) >>= f = f x
+(Err b) >>= f = Err b
+
+-- A persistent of the cell: its name as it is first spelled, the task that it belongs to unless it is global, its type, its length
+-- where it is an array, the values that a declaration gives, if any does, and those that the script gives to its elements.
+pub record PersInfo : Type 0 where
+  pub name : List ℕ
+  pub owner : Option ℕ
+  pub sort : Sort
+  pub len : Option ℕ
+  pub declared : Option (List Value)
+  pub told : List (Option Value)
+
+-- how many elements it has
+abbrev pub width : Option ℕ → ℕ
+width None = 1
+width (Some n) = n
+
+abbrev pub same_len : Option ℕ → Option ℕ → Bool
+same_len None None = true
+same_len (Some m) (Some n) = m == n
+same_len _ _ = false
+
+-- a global persistent of this name
+abbrev pub is_global : List ℕ → PersInfo → Bool
+is_global name p = is_none p.owner && str_eq_ignore_ascii_case name p.name
+
+-- the number of the first global persistent of this name
+abbrev pub global_number : List ℕ → List PersInfo → Option ℕ
+global_number name [] = None
+global_number name (p ∷ ps) = if is_global name p then Some 0 else option_map suc (global_number name ps)
+
+abbrev pub new_pers : Option ℕ → TypedPers → PersInfo
+new_pers owner row = record {
+  name = row.name;
+  owner = owner;
+  sort = row.sort;
+  len = row.len;
+  declared = row.first;
+  told = replicate (width row.len) None;
+}
+
+-- the first declaration that gives values gives them
+abbrev pub or_declared : Option (List Value) → Option (List Value) → Option (List Value)
+or_declared (Some vs) more = Some vs
+or_declared None more = more
+
+abbrev pub with_declared : PersInfo → TypedPers → PersInfo
+with_declared p row = record {
+  name = p.name;
+  owner = p.owner;
+  sort = p.sort;
+  len = p.len;
+  declared = or_declared p.declared row.first;
+  told = p.told;
+}
+
+-- the persistents so far, and the numbers of those of the tree at hand
+pub record Numbered : Type 0 where
+  pub pers : List PersInfo
+  pub numbers : List ℕ
+
+abbrev pub added : Numbered → PersInfo → Numbered
+added n p = record { pers = n.pers ++ p ∷ []; numbers = n.numbers ++ length n.pers ∷ [] }
+
+abbrev pub joined : Numbered → ℕ → PersInfo → Numbered
+joined n number p = record { pers = set n.pers number p; numbers = n.numbers ++ number ∷ [] }
+
+-- one more declaration of a global persistent has its type and its length
+abbrev pub join : Numbered → ℕ → TypedPers → ℕ → Option PersInfo → Making Numbered
+join n task row number None = Ok (added n (new_pers None row))
+join n task row number (Some p) =
+    if same_sort p.sort row.sort && same_len p.len row.len then Ok (joined n number (with_declared p row)) else Err (Clash task row.«module» row.at)
+
+abbrev pub global_pers : Numbered → ℕ → TypedPers → Option ℕ → Making Numbered
+global_pers n task row None = Ok (added n (new_pers None row))
+global_pers n task row (Some number) = join n task row number (slice_get n.pers number)
+
+-- a PERS of a tree: the task's own, or a global one
+abbrev pub one_pers : Numbered → ℕ → TypedPers → Making Numbered
+one_pers n task row =
+    if row.own then Ok (added n (new_pers (Some task) row)) else global_pers n task row (global_number row.name n.pers)
+
+abbrev pub all_pers : Numbered → ℕ → List TypedPers → Making Numbered
+all_pers n task [] = Ok n
+all_pers n task (row ∷ rows) = one_pers n task row >>= (λ m. all_pers m task rows)
+
+-- the persistents of the cell, and for each tree the numbers of its own
+pub record PersTables : Type 0 where
+  pub pers : List PersInfo
+  pub lists : List (List ℕ)
+
+abbrev pub with_list : PersTables → Numbered → PersTables
+with_list t n = record { pers = n.pers; lists = t.lists ++ n.numbers ∷ [] }
+
+-- the trees, the first of which is that of the task of this number
+abbrev pub trees_pers : PersTables → ℕ → List TypedTree → Making PersTables
+trees_pers t task [] = Ok t
+trees_pers t task (tree ∷ trees) =
+    all_pers (record { pers = t.pers; numbers = [] }) task tree.pers >>= (λ n. trees_pers (with_list t n) (task + 1) trees)
+
+-- a script's value is of this type
+abbrev pub has_sort : Sort → Value → Bool
+has_sort sorts.Num (values.Num n) = true
+has_sort sorts.Bool (values.Bool b) = true
+has_sort sorts.Text (values.Text t) = true
+has_sort _ _ = false
+
+-- an element of an array, or what is no array
+abbrev pub fits_index : Option ℕ → Option ℕ → Bool
+fits_index len index = if is_some len then is_some index else is_none index
+
+-- the place among the elements, from 0, that an index from 1 names
+abbrev pub element : Option ℕ → ℕ
+element None = 0
+element (Some index) = index - 1
+
+abbrev pub key_of : ℕ → List ℕ
+key_of number = element_of (codes "pers") number
+
+abbrev pub in_script : {A : Type 0} → ℕ → ScriptRule → Making A
+in_script number rule = Err (InScript (key_of number) rule)
+
+abbrev pub must : {A : Type 0} → Bool → ℕ → ScriptRule → Making A → Making A
+must holds number rule next = if holds then next else in_script number rule
+
+abbrev pub is_told : Option (Option Value) → Bool
+is_told (Some (Some v)) = true
+is_told _ = false
+
+abbrev pub with_told : PersInfo → ℕ → Value → PersInfo
+with_told p place value = record {
+  name = p.name;
+  owner = p.owner;
+  sort = p.sort;
+  len = p.len;
+  declared = p.declared;
+  told = set p.told place (Some value);
+}
+
+-- the value of this number in the script, for the persistent that it names
+abbrev pub tell_to : List PersInfo → ℕ → PersValue → ℕ → Option PersInfo → Making (List PersInfo)
+tell_to ps number row k None = in_script number NoSuch
+tell_to ps number row k (Some p) =
+    must (has_sort p.sort row.value && fits_index p.len row.index) number Kind
+    (must (nat_le (element row.index + 1) (width p.len)) number Range
+    (must (not (is_told (slice_get p.told (element row.index)))) number Twice
+    (Ok (set ps k (with_told p (element row.index) row.value)))))
+
+abbrev pub tell_global : List PersInfo → ℕ → PersValue → Option ℕ → Making (List PersInfo)
+tell_global ps number row None = in_script number NoSuch
+tell_global ps number row (Some k) = tell_to ps number row k (slice_get ps k)
+
+abbrev pub tell : List PersInfo → ℕ → PersValue → Making (List PersInfo)
+tell ps number row = tell_global ps number row (global_number row.name ps)
+
+-- the values of the script, the first of which has this number
+abbrev pub tell_all : List PersInfo → ℕ → List PersValue → Making (List PersInfo)
+tell_all ps number [] = Ok ps
+tell_all ps number (row ∷ rows) = tell ps number row >>= (λ qs. tell_all qs (number + 1) rows)
+
+-- the number of the first meeting of this name
+abbrev pub meeting_number : List ℕ → List (List ℕ) → Option ℕ
+meeting_number name [] = None
+meeting_number name (m ∷ ms) = if str_eq_ignore_ascii_case name m then Some 0 else option_map suc (meeting_number name ms)
+
+-- meetings so far, and the numbers of those of the tree at hand
+pub record Meetings : Type 0 where
+  pub names : List (List ℕ)
+  pub numbers : List ℕ
+
+abbrev pub met : Meetings → List ℕ → Option ℕ → Meetings
+met m name (Some number) = record { names = m.names; numbers = m.numbers ++ number ∷ [] }
+met m name None = record { names = m.names ++ name ∷ []; numbers = m.numbers ++ length m.names ∷ [] }
+
+abbrev pub meet_all : Meetings → List (List ℕ) → Meetings
+meet_all m [] = m
+meet_all m (name ∷ names) = meet_all (met m name (meeting_number name m.names)) names
+
+pub record MeetingTables : Type 0 where
+  pub names : List (List ℕ)
+  pub lists : List (List ℕ)
+
+abbrev pub meetings_with : MeetingTables → Meetings → MeetingTables
+meetings_with t m = record { names = m.names; lists = t.lists ++ m.numbers ∷ [] }
+
+-- meetings of one name are one
+abbrev pub trees_meetings : MeetingTables → List TypedTree → MeetingTables
+trees_meetings t [] = t
+trees_meetings t (tree ∷ trees) =
+    trees_meetings (meetings_with t (meet_all (record { names = t.names; numbers = [] }) tree.meetings)) trees
+
+-- the persistents and the meetings of a cell, and for each tree the numbers of its own
+pub record CellTables : Type 0 where
+  pub pers : List PersInfo
+  pub pers_of : List (List ℕ)
+  pub meetings : List (List ℕ)
+  pub meeting_of : List (List ℕ)
+
+abbrev pub tables : PersTables → List PersInfo → MeetingTables → CellTables
+tables t ps m = record { pers = ps; pers_of = t.lists; meetings = m.names; meeting_of = m.lists }
+
+-- of a script with these values of persistents, and the trees of its tasks
+abbrev pub cell_tables : List PersValue → List TypedTree → Making CellTables
+cell_tables rows trees =
+    trees_pers (record { pers = []; lists = [] }) 0 trees >>= (λ t.
+    tell_all t.pers 0 rows >>= (λ ps.
+    Ok (tables t ps (trees_meetings (record { names = []; lists = [] }) trees))))
