@@ -19,7 +19,7 @@ pub use instructions::instruction_needs;
 pub use laws::options_differ;
 pub use need::Need;
 pub use option_choice::Choice;
-pub use option_rows::{choice, option_of, options};
+pub use option_rows::{choice, first_named, option_of, options};
 
 #[cfg(test)]
 mod tests;

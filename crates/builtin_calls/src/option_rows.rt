@@ -84,8 +84,9 @@ fn is_named(option: &InstructionOption, name: &[u8]) -> bool
     option.name.eq_ignore_ascii_case(name)
 }
 
-/// The first of these options that has this name; `None` exactly where none has.
-fn first_named(rows: &[InstructionOption], name: &[u8]) -> Option<InstructionOption>
+/// The first of these options that has this name, letters of either case being the same; `None` exactly where none has (RAPID
+/// Kernel, identifiers). A checker of types asks it at each option of a call.
+pub fn first_named(rows: &[InstructionOption], name: &[u8]) -> Option<InstructionOption>
     ensures { option_map row_of result ≡ option_named name.now (map row_of rows.now) }
 {
     for option in rows {

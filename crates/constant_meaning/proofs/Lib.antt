@@ -1,2 +1,2 @@
 mod Examples
-mod Lists
+pub mod Lists

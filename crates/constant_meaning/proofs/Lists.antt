@@ -60,7 +60,7 @@ stopped sort front (outcomes.Value v) more differs = absurd (differs v refl)
 stopped sort front one more differs = refl
 
 -- one that is kept
-kept : (front : List Value) (v : Value) (more : Outcomes) → behind front (and_more (outcomes.Value v) more) ≡ behind (front ++ v ∷ []) more
+pub kept : (front : List Value) (v : Value) (more : Outcomes) → behind front (and_more (outcomes.Value v) more) ≡ behind (front ++ v ∷ []) more
 kept front v (all vs) = ap all (sym (append_assoc front (v ∷ []) vs))
 kept front v (stops other) = refl
 

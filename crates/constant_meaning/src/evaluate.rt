@@ -129,9 +129,10 @@ fn is_constant_place(arrays: &Arrays<'_>, place: &TreePlace) -> bool
     array_of(arrays, place.root).is_some() && is_constant(arrays, index)
 }
 
-/// Whether each expression of a list is constant.
+/// Whether each expression of a list is constant (RAPID Kernel, constant expressions), as the components of a record and the
+/// elements of an array have to be in its initial value.
 #[cycle(constants_only)]
-fn are_constant(arrays: &Arrays<'_>, components: &Vec<Expr>) -> bool
+pub fn are_constant(arrays: &Arrays<'_>, components: &Vec<Expr>) -> bool
     ensures { result ≡ are_constant (elements_of arrays.now) (exprs_of (map view_expr components.now.items)) }
 {
     for component in components {

@@ -11,5 +11,5 @@ mod outcome;
 mod tests;
 
 pub use arrays::Arrays;
-pub use evaluate::{constant_value, is_constant};
+pub use evaluate::{are_constant, constant_value, is_constant};
 pub use outcome::Outcome;

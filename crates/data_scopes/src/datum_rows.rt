@@ -13,8 +13,8 @@ use crate::row_tables::RowTables;
 use crate::tables::NameTables;
 use raw_trees::{RawDatum, RawExpr, RawName};
 
-/// The byte at which an expression begins.
-fn begin_of(value: &RawExpr<'_>) -> usize
+/// The byte at which an expression begins, from 0: a rule that speaks of the expression stands there.
+pub fn begin_of(value: &RawExpr<'_>) -> usize
     ensures { result ≡ Rows.begin_of (view_expr value.now) }
 {
     value.at

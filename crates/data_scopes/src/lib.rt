@@ -27,11 +27,14 @@ mod tables;
 mod walking;
 
 pub use data_row::{DatumRow, ParamRow, Since};
+pub use datum_rows::begin_of;
 pub use fault::{TypeFault, TypeRule};
 pub use known::Known;
 pub use laws::kept_by_number;
 pub use meant::Meant;
+pub use numbers::{is_const, is_pers, is_scalar_const};
 pub use scopes::Scopes;
+pub use sorts::{has_values, is_value_of};
 pub use spot::Spot;
 
 #[cfg(test)]

@@ -21,7 +21,9 @@ pub(crate) fn next(number: u32) -> Result<u32, TypeFault>
     }
 }
 
-pub(crate) fn is_const(kind: DatumKind) -> bool
+/// Whether data of the kind are CONSTs, which need an initial value and are never assigned (RAPID Kernel, constant
+/// declarations).
+pub fn is_const(kind: DatumKind) -> bool
     ensures { result ≡ Numbers.is_const kind }
 {
     match kind {
@@ -31,7 +33,9 @@ pub(crate) fn is_const(kind: DatumKind) -> bool
     }
 }
 
-pub(crate) fn is_pers(kind: DatumKind) -> bool
+/// Whether data of the kind are PERSs, which outlast the run and which tasks may share (RAPID Kernel, persistent
+/// declarations).
+pub fn is_pers(kind: DatumKind) -> bool
     ensures { result ≡ Numbers.is_pers kind }
 {
     match kind {
@@ -41,8 +45,9 @@ pub(crate) fn is_pers(kind: DatumKind) -> bool
     }
 }
 
-/// Whether the datum is a CONST that is no array.
-pub(crate) fn is_scalar_const(datum: &RawDatum<'_>) -> bool
+/// Whether the datum is a CONST that is no array: its name means a value that is kept by its number (`Scopes::keep`), and it
+/// has no slot (RAPID Kernel, constant declarations).
+pub fn is_scalar_const(datum: &RawDatum<'_>) -> bool
     ensures { result ≡ Numbers.is_scalar_const (view_datum datum.now) }
 {
     is_const(datum.kind) && datum.len.is_none()

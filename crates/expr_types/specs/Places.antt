@@ -1,0 +1,64 @@
+-- Places as they are written: a name, its index where it has one, and components.
+use Rattle.std.specs.Prelude.{ℕ, Bool, true, false, not, ◌&&◌, is_some, Ok}
+use Rattle.rapid_model.specs.declared.sort.Sort.{Sort}
+use Rattle.typed_trees.specs.Plain
+use Rattle.typed_trees.specs.Plain.{TypedPlace, TypedArg}
+use Rattle.raw_trees.specs.Plain.{PlainExpr, Place, PlainPlace, PlaceOf, PlainHeld}
+use Rattle.data_scopes.specs.declared.fault.TypeRule.{TypeRule}
+use Rattle.data_scopes.specs.declared.fault.TypeRule.TheVariants.{NoName, TypeClash, BadRef, SyncName}
+use Rattle.data_scopes.specs.Declarations.{Checked, ◌>>=◌}
+use Rattle.data_scopes.specs.Rows.{begin_of}
+use Rattle.named_data.specs.declared.wanted.Wanted.{Wanted}
+use Rattle.named_data.specs.declared.wanted.Wanted.TheVariants.{Reference, Meeting}
+use Rattle.named_data.specs.Data
+use Rattle.named_data.specs.Data.{NamedPart, named, datum_at, part_at, whole_of, is_none}
+use Rattle.named_data.specs.declared.named.Source.{Source}
+use Rattle.named_data.specs.declared.named.Source.TheVariants as sources
+use Rattle.named_data.specs.Rules.{Site, fail, must}
+use Rattle.named_data.specs.Wants.{same_sort}
+use Rattle.expr_types.specs.Arguments.{is_held, whole_pers}
+use Rattle.expr_types.specs.Typing.{index, typed}
+
+abbrev pub index_of : PlainPlace → PlainHeld
+index_of (PlaceOf name held components) = held
+
+-- neither an index nor components
+abbrev pub is_datum : PlainPlace → Bool
+is_datum (PlaceOf name held components) = not (is_held held) && is_none components
+
+-- what a place names; the whole of an array may be named where whole holds
+abbrev pub place : Site → Bool → PlainPlace → Checked NamedPart
+place site whole (PlaceOf name held components) = Data.place site whole name (is_held held) (index site held) components
+
+-- the place that an expression is; the rule is broken where it is none, after what is broken in it as something wanted
+abbrev pub place_in : Site → Bool → Wanted → TypeRule → PlainExpr → Checked NamedPart
+place_in site whole want rule (Place at p) = place site whole p
+place_in site whole want rule e = typed site e want >>= (λ t. fail site (begin_of e) rule)
+
+-- a place of a type, of whatever kind, where the rule stands at this byte
+abbrev pub lent_from : Site → Sort → ℕ → NamedPart → Source → Checked TypedPlace
+lent_from site sort at p (sources.Place root access) =
+    must site (same_sort p.sort sort) at TypeClash >>= (λ _. Ok (Plain.PlaceOf root p.index p.part p.sort))
+lent_from site sort at p _ = fail site at TypeClash
+
+abbrev pub lent_of : Site → Sort → ℕ → NamedPart → Checked TypedPlace
+lent_of site sort at p = lent_from site sort at p p.source
+
+abbrev pub lent_place : Site → ℕ → Sort → PlainPlace → Checked TypedPlace
+lent_place site at sort written = place site false written >>= (λ p. lent_of site sort at p)
+
+-- what is broken in an expression that is no name and stands for a meeting
+abbrev pub no_meeting : Site → PlainExpr → Checked TypedArg
+no_meeting site (Place at (PlaceOf name held components)) =
+    must site (is_some (named site name)) at NoName >>= (λ _. index site held >>= (λ i. fail site at SyncName))
+no_meeting site e = typed site e Meeting >>= (λ t. fail site (begin_of e) SyncName)
+
+-- the name of a declared PERS, as an argument that begins at this byte
+abbrev pub pers_at : Site → ℕ → PlainPlace → Checked TypedArg
+pers_at site at (PlaceOf name held components) =
+    datum_at site name >>= (λ d. index site held >>= (λ i. part_at site (whole_of d.sort) components >>= (λ c.
+    whole_pers site (not (is_held held) && is_none components) at d.sort d.source)))
+
+abbrev pub pers_name : Site → PlainExpr → Checked TypedArg
+pers_name site (Place at p) = pers_at site at p
+pers_name site e = typed site e Reference >>= (λ t. fail site (begin_of e) BadRef)

@@ -1,0 +1,58 @@
+//! Names that stand alone.
+
+ghost use Rattle.std.specs.Prelude.{◌≡◌, option_map};
+ghost use Rattle.raw_trees.specs.Views.{view_expr as view_raw, view_name, view_place};
+ghost use Rattle.named_data.specs.Data;
+ghost use Rattle.named_data.specs.Views.{view_site};
+ghost use Rattle.expr_types.specs.Arguments;
+ghost use Rattle.expr_types.specs.Places;
+
+use data_scopes::Meant;
+use named_data::Site;
+use raw_trees::{RawExpr, RawExprForm, RawName, RawPlace};
+
+/// What the innermost declaration of the name means that is visible (RAPID Kernel, scope rules).
+pub(crate) fn named(site: &Site<'_>, name: &RawName<'_>) -> Option<Meant>
+    ensures { result ≡ Data.named (view_site site.now) (view_name name.now) }
+{
+    site.scopes.find(site.spot, name.text)
+}
+
+/// Whether an expression is a place with neither an index nor components.
+pub(crate) fn is_whole(raw: &RawExpr<'_>) -> bool
+    ensures { result ≡ Arguments.is_whole (view_raw raw.now) }
+{
+    bare_name(raw).is_some()
+}
+
+/// Whether a place has neither an index nor components.
+pub(crate) fn is_datum(raw: &RawPlace<'_>) -> bool
+    ensures { result ≡ Places.is_datum (view_place raw.now) }
+{
+    raw.index.is_none() && raw.parts.is_empty()
+}
+
+/// The name that an expression is, without an index and components.
+pub(crate) fn bare_name<'a>(raw: &RawExpr<'a>) -> Option<RawName<'a>>
+    ensures { option_map view_name result ≡ Arguments.bare (view_raw raw.now) }
+{
+    match &raw.form {
+        RawExprForm::Place(place) => {
+            if is_datum(place) {
+                return Some(place.name);
+            }
+            None
+        }
+        _ => None,
+    }
+}
+
+/// Whether an expression is this name alone.
+pub(crate) fn is_bare(text: &[u8], raw: &RawExpr<'_>) -> bool
+    ensures { result ≡ Arguments.is_bare text.now (view_raw raw.now) }
+{
+    match bare_name(raw) {
+        Some(name) => text.eq_ignore_ascii_case(name.text),
+        None => false,
+    }
+}

@@ -1,0 +1,112 @@
+//! What the arguments of a call have to be, in their order.
+
+ghost use Rattle.std.specs.Prelude.{◌≡◌, drop, length};
+ghost use Rattle.expr_types.specs.Calls;
+ghost use Rattle.expr_types.specs.Views.{view_needs};
+
+use builtin_calls::Need;
+use data_scopes::ParamRow;
+use rapid_model::Sort;
+use raw_trees::Mode;
+
+/// The needs of the arguments that are left, in their order (RAPID Kernel, procedure calls).
+#[derive(Clone, Copy)]
+pub enum Needs<'a> {
+    /// Those of a predefined function or instruction; `zone` stands for the variable of a world zone.
+    Predefined { needs: &'a [Need], zone: Need },
+    /// Those of a routine's parameters.
+    Params(&'a [ParamRow]),
+}
+
+impl<'a> Needs<'a> {
+    /// What the next argument has to be; `None` exactly where no more is needed.
+    pub fn first(self) -> Option<Need>
+        ensures { result ≡ Calls.first_need (view_needs self.entry) }
+    {
+        match self {
+            Needs::Predefined { needs, zone } => first_told(needs, zone),
+            Needs::Params(params) => first_param(params),
+        }
+    }
+
+    /// The needs behind the first.
+    pub fn rest(self) -> Needs<'a>
+        ensures { view_needs result ≡ drop 1 (view_needs self.entry) }
+    {
+        match self {
+            Needs::Predefined { needs, zone } => Needs::Predefined {
+                needs: behind_first(needs),
+                zone,
+            },
+            Needs::Params(params) => Needs::Params(behind_first(params)),
+        }
+    }
+
+    /// How many arguments are left.
+    pub fn count(self) -> usize
+        ensures { result ≡ length (view_needs self.entry) }
+    {
+        match self {
+            Needs::Predefined { needs, .. } => needs.len(),
+            Needs::Params(params) => params.len(),
+        }
+    }
+}
+
+/// The rows behind the first.
+fn behind_first<T>(rows: &[T]) -> &[T]
+    ensures { result.now ≡ drop 1 rows.now }
+{
+    match rows {
+        [] => rows,
+        [_, rest @ ..] => rest,
+    }
+}
+
+/// The first need of a predefined function or instruction.
+fn first_told(needs: &[Need], zone: Need) -> Option<Need>
+    ensures { result ≡ Calls.first_need (view_needs (Needs.Predefined needs.entry zone)) }
+{
+    match needs.first() {
+        Some(need) => Some(told(zone, *need)),
+        None => None,
+    }
+}
+
+/// The need of the first parameter.
+fn first_param(params: &[ParamRow]) -> Option<Need>
+    ensures { result ≡ Calls.first_need (view_needs (Needs.Params params.entry)) }
+{
+    match params.first() {
+        Some(param) => Some(need_of(*param)),
+        None => None,
+    }
+}
+
+/// The need, that of a world zone's variable being this one.
+fn told(zone: Need, need: Need) -> Need
+    ensures { result ≡ Calls.told zone need }
+{
+    match need {
+        Need::WorldZone => zone,
+        other => other,
+    }
+}
+
+/// The need of a parameter (RAPID Kernel, parameter declarations).
+fn need_of(param: ParamRow) -> Need
+    ensures { result ≡ Calls.need_of param }
+{
+    by_mode(param.mode, param.sort)
+}
+
+fn by_mode(mode: Mode, sort: Sort) -> Need
+    ensures { result ≡ Calls.by_mode mode sort }
+{
+    match mode {
+        Mode::Value => Need::Value(sort),
+        Mode::Inout => Need::VarOrPers(sort),
+        Mode::Var => Need::Var(sort),
+        Mode::Pers => Need::Pers(sort),
+    }
+}

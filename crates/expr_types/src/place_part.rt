@@ -1,0 +1,15 @@
+use named_data::Source;
+use rapid_model::Sort;
+use rapid_values::PartName;
+use typed_trees::Expr;
+
+/// A part of what a name stands for, or of an element of it: where its value is, whether the name is an array's, the index of
+/// the element, the part and its type.
+#[derive(Drop)]
+pub struct PlacePart {
+    pub source: Source,
+    pub array: bool,
+    pub index: Option<Expr>,
+    pub part: PartName,
+    pub sort: Sort,
+}

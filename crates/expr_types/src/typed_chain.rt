@@ -1,0 +1,10 @@
+use rapid_model::Sort;
+use raw_trees::Operator;
+use typed_trees::Expr;
+
+/// Operators of one level and their operands behind the first, and the type of what they come to.
+#[derive(Drop)]
+pub struct TypedChain {
+    pub steps: Vec<(Operator, Expr)>,
+    pub sort: Sort,
+}

@@ -1,0 +1,8 @@
+use rapid_model::Sort;
+
+/// What is asked of an expression: any type, or this one.
+#[derive(Clone, Copy, Debug, PartialEq, Eq)]
+pub enum Want {
+    Any,
+    Is(Sort),
+}

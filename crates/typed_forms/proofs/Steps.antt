@@ -1,0 +1,52 @@
+-- When checking in steps comes to a value: exactly where each step does. Each law, here and in the other files, says both ways.
+use Rattle.std.proofs.Common.{◌≡◌, ◌↔◌, ℕ, Bool, true, false, Ok, Err, refl, sym, ap, ◌∙◌}
+use Rattle.data_scopes.specs.declared.fault.TypeRule.{TypeRule}
+use Rattle.data_scopes.specs.Declarations.{Break, Checked, ◌>>=◌}
+use Rattle.named_data.specs.Rules.{Site, must}
+
+-- a law, with what it says in other words
+pub in_words : {A B C : Type 0} → (A ↔ B) → (B → C) → (C → B) → A ↔ C
+in_words law there back = (λ a. there (law.0 a), λ c. law.1 (back c))
+
+-- a law of what never is, with other words for that
+pub neither : {A C : Type 0} → (A ↔ ⊥) → (C → ⊥) → A ↔ C
+neither law none = (λ a. absurd (law.0 a), λ c. absurd (none c))
+
+-- a value, and another one
+pub done : {A : Type 0} (x t : A) → (◌≡◌ {A = Checked A} (Ok x) (Ok t)) ↔ (t ≡ x)
+done x t = (λ e. sym (cc), λ e. ap Ok (sym e))
+
+pub never : {A : Type 0} (b : Break) (t : A) → (◌≡◌ {A = Checked A} (Err b) (Ok t)) ↔ ⊥
+never b t = (λ e. absurd (cc), λ none. absurd none)
+
+-- a step, and what follows it
+pub then : {A B : Type 0} {P Q : A → Type 0} (m : Checked A) (f : A → Checked B) (t : B) → ((x : A) → (m ≡ Ok x) ↔ P x) → ((x : A) → (f x ≡ Ok t) ↔ Q x)
+    → ((m >>= f) ≡ Ok t) ↔ ((x : A) × P x × Q x)
+then (Ok x) f t first next =
+    (λ e. (x, (first x).0 refl, (next x).0 e), λ (y, is, more). ap (λ m. m >>= f) ((first y).1 is) ∙ (next y).1 more)
+then (Err b) f t first next = (λ e. absurd (cc), λ (y, is, more). ap (λ m. m >>= f) ((first y).1 is) ∙ (next y).1 more)
+
+-- two steps, and what is made of their values
+pub both : {A B C : Type 0} {P : A → Type 0} {Q : B → Type 0} (m : Checked A) (n : Checked B) (made : A → B → C) (t : C) → ((x : A) → (m ≡ Ok x) ↔ P x) → ((y : B) → (n ≡ Ok y) ↔ Q y)
+    → ((m >>= (λ x. n >>= (λ y. Ok (made x y)))) ≡ Ok t) ↔ ((x : A) × (y : B) × P x × Q y × (t ≡ made x y))
+both m n made t first next =
+    in_words
+    (then m _ t first (λ x. then n _ t next (λ y. done (made x y) t)))
+    (λ (x, p, (y, q, is)). (x, y, p, q, is))
+    (λ (x, y, p, q, is). (x, p, (y, q, is)))
+
+-- a step behind which no value comes
+pub never_after : {A B : Type 0} (m : Checked A) (f : A → Checked B) (t : B) → ((x : A) → (f x ≡ Ok t) ↔ ⊥) → ((m >>= f) ≡ Ok t) ↔ ⊥
+never_after (Ok x) f t none = none x
+never_after (Err b) f t none = never b t
+
+-- a rule, and what follows where it holds
+pub where_it_holds : {B P : Type 0} (s : Site) (holds : Bool) (at : ℕ) (rule : TypeRule) (rest : Checked B) (t : B) → ((rest ≡ Ok t) ↔ P)
+    → ((must s holds at rule >>= (λ _. rest)) ≡ Ok t) ↔ ((holds ≡ true) × P)
+where_it_holds s true at rule rest t next = (λ e. (refl, next.0 e), λ (holds, is). next.1 is)
+where_it_holds s false at rule rest t next = (λ e. absurd (cc), λ (holds, is). absurd (cc))
+
+-- a rule alone
+pub it_holds : (s : Site) (holds : Bool) (at : ℕ) (rule : TypeRule) (t : Unit {0}) → (must s holds at rule ≡ Ok t) ↔ (holds ≡ true)
+it_holds s true at rule t = (λ e. refl, λ e. refl)
+it_holds s false at rule t = (λ e. absurd (cc), λ e. absurd (cc))
