@@ -12,6 +12,10 @@ use Rattle.data_scopes.specs.Loops.{loops_in_routine}
 use Rattle.data_scopes.specs.Scopes.{Scope, Loop, Tables, declare}
 use Rattle.rapid_model.specs.declared.signal_row.SignalRow.{SignalRow}
 
+-- how many of each kind stand before
+abbrev pub Tally : Type 0
+Tally = Counts
+
 abbrev pub is_const : DatumKind → Bool
 is_const kinds.Const = true
 is_const kinds.Var = false

@@ -13,7 +13,8 @@ use crate::row_tables::RowTables;
 use crate::tables::NameTables;
 use raw_trees::{RawDatum, RawExpr, RawName};
 
-/// The byte at which an expression begins, from 0: a rule that speaks of the expression stands there.
+/// The byte at which an expression begins, where a rule that it breaks is reported (RAPID Kernel, expressions). It is the
+/// field `at`, and the clause says so of the tree that definitions speak of.
 pub fn begin_of(value: &RawExpr<'_>) -> usize
     ensures { result ≡ Rows.begin_of (view_expr value.now) }
 {

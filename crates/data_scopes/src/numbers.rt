@@ -33,8 +33,7 @@ pub fn is_const(kind: DatumKind) -> bool
     }
 }
 
-/// Whether data of the kind are PERSs, which outlast the run and which tasks may share (RAPID Kernel, persistent
-/// declarations).
+/// Whether data of the kind are PERSs, which tasks may share (RAPID Kernel, persistent declarations).
 pub fn is_pers(kind: DatumKind) -> bool
     ensures { result ≡ Numbers.is_pers kind }
 {

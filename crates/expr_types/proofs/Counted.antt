@@ -1,17 +1,16 @@
 -- Arguments, needs and meetings, counted.
-use Rattle.std.proofs.Common.{◌≡◌, codes, ℕ, zero, suc, ◌+◌, ◌<◌, ◌≤◌, Bool, true, false, ◌&&◌, if◌then◌else◌, List, [], ◌∷◌, ◌++◌, length, get_or, map, drop, Option, None, Some, slice_get, refl, sym, ap, ◌∙◌, add-one, arith}
+use Rattle.std.proofs.Common.{◌≡◌, codes, ℕ, zero, suc, ◌+◌, ◌<◌, Bool, true, false, if◌then◌else◌, List, [], ◌∷◌, length, get_or, map, drop, Option, None, Some, slice_get, refl, sym, ap, ◌∙◌, add-one, arith}
 use Rattle.std.proofs.lemmas.List.{at_drop_more}
 use Rattle.std.specs.Str.{str_eq_ignore_ascii_case}
 use Rattle.rapid_model.specs.declared.sort.Sort.TheVariants as sorts
-use Rattle.raw_trees.specs.Plain.{PlainArg, PlainArgs, Needed, Optional, NoArgs, MoreArgs, PlainExprs, NoExprs, MoreExprs, PlainExpr, args_of, exprs_of}
+use Rattle.raw_trees.specs.Plain.{PlainArg, PlainArgs, Needed, Optional, MoreArgs, PlainExpr, args_of, exprs_of}
 use Rattle.raw_trees.specs.declared.raw_expr.RawArg.{RawArg}
 use Rattle.raw_trees.specs.Views.{view_arg}
-use Rattle.builtin_calls.specs.Calls.{function_needs}
 use Rattle.builtin_calls.specs.declared.need.Need.{Need}
 use Rattle.builtin_calls.specs.declared.need.Need.TheVariants as needs
 use Rattle.data_scopes.specs.declared.data_row.DatumRow.{DatumRow}
 use Rattle.expr_types.specs.Arguments.{is_meeting, meetings_before}
-use Rattle.expr_types.specs.Calls.{all_in, told, told_by, zone_need, zone_told}
+use Rattle.expr_types.specs.Calls.{all_in, zone_need, zone_told}
 use Rattle.expr_types.specs.Typing.{count}
 
 pub all_counted : (args : List PlainArg) → length args ≡ all_in (args_of args)
@@ -21,23 +20,6 @@ all_counted (a ∷ args) = rw (← all_counted args) (omega arith)
 pub exprs_counted : (es : List PlainExpr) → count (exprs_of es) ≡ length es
 exprs_counted [] = refl
 exprs_counted (e ∷ es) = ap suc (exprs_counted es)
-
--- a need that is told by nothing
-told_nothing : (need : Need) → told needs.WorldZone need ≡ need
-told_nothing needs.WorldZone = refl
-told_nothing need = refl
-
-pub none_told : (list : List Need) → map (told needs.WorldZone) list ≡ list
-none_told [] = refl
-none_told (need ∷ list) = rw (told_nothing need, none_told list) refl
-
-told_same : (args : PlainArgs) (need : Need) → told (zone_need args) need ≡ told_by args need
-told_same args needs.WorldZone = refl
-told_same args need = refl
-
-pub all_told : (args : PlainArgs) (list : List Need) → map (told (zone_need args)) list ≡ map (told_by args) list
-all_told args [] = refl
-all_told args (need ∷ list) = rw (told_same args need, all_told args list) refl
 
 -- one more row of the modules' data
 meetings_suc : (count : ℕ) (rows : List DatumRow) → meetings_before (suc count) rows ≡ meetings_before count rows + (if is_meeting (slice_get rows count) then 1 else 0)

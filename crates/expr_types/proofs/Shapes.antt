@@ -1,5 +1,5 @@
 -- Expressions and arguments by their forms.
-use Rattle.std.proofs.Common.{◌≡◌, ℕ, ◌⊎◌, inl, inr, Bool, true, false, not, ◌&&◌, List, [], ◌∷◌, map, length, Option, None, Some, Result, Ok, Err, refl, sym, ap, subst, ◌∙◌}
+use Rattle.std.proofs.Common.{◌≡◌, ℕ, ◌⊎◌, inl, inr, Bool, true, false, not, ◌&&◌, List, [], ◌∷◌, map, Option, None, Some, Result, Ok, Err, refl, sym, ap, subst, ◌∙◌}
 use Rattle.std.specs.Result.{IsErrAnd}
 use Rattle.std.specs.declared.alloc.Global.{Global}
 use Rattle.std.specs.declared.boxed.Box.{Box}
@@ -7,11 +7,10 @@ use Rattle.std.specs.declared.vec.Vec.{Vec}
 use Rattle.raw_trees.specs.declared.raw_expr.Operator.{Operator}
 use Rattle.raw_trees.specs.declared.raw_expr.RawArg.{RawArg, Needed as NeededArg, Option as OptionArg}
 use Rattle.raw_trees.specs.declared.raw_expr.RawExpr.{RawExpr}
-use Rattle.raw_trees.specs.declared.raw_expr.RawExprForm.{Aggregate, Call, Chain, Place as PlaceForm}
-use Rattle.raw_trees.specs.declared.raw_expr.RawPlace.{RawPlace, RawPlace'}
+use Rattle.raw_trees.specs.declared.raw_expr.RawExprForm.{Aggregate, Call, Chain}
 use Rattle.raw_trees.specs.declared.raw_name.RawName.{RawName}
-use Rattle.raw_trees.specs.Plain.{PlainExpr, PlainName, PlainPlace, PlainSteps, Place, NotHeld, Held, PlaceOf, Optional, args_of as raw_args_of, exprs_of as raw_exprs_of, steps_of as raw_steps_of}
-use Rattle.raw_trees.specs.Views.{view_arg as view_raw_arg, view_expr as view_raw, view_form, view_name, view_place, view_step as view_raw_step}
+use Rattle.raw_trees.specs.Plain.{PlainExpr, PlainName, Place, NotHeld, Held, PlaceOf, Optional, args_of as raw_args_of, exprs_of as raw_exprs_of, steps_of as raw_steps_of}
+use Rattle.raw_trees.specs.Views.{view_arg as view_raw_arg, view_expr as view_raw, view_form, view_name, view_step as view_raw_step}
 use Rattle.raw_trees.proofs.Rows.{aggregate_view, chain_view, invoke_view}
 use Rattle.rapid_model.specs.declared.sort.Sort.{Sort}
 use Rattle.rapid_model.specs.declared.sort.Sort.TheVariants as sorts
@@ -31,15 +30,15 @@ use Rattle.data_scopes.specs.Rows.{begin_of}
 use Rattle.data_scopes.specs.Sorts.{has_values}
 use Rattle.named_data.specs.declared.wanted.Wanted.{Wanted}
 use Rattle.named_data.specs.declared.wanted.Wanted.TheVariants.{Any, Nothing, Reference}
-use Rattle.named_data.specs.Data.{NamedPart, datum_at, given, named, is_none, part_at, whole_of}
-use Rattle.named_data.specs.Rules.{Site, fail, must}
+use Rattle.named_data.specs.Data.{NamedPart, given, named, is_none}
+use Rattle.named_data.specs.Rules.{Site, fail}
 use Rattle.named_data.specs.Wants.{first_operand, needed_components, same_sort}
-use Rattle.expr_types.specs.Arguments.{any_place, argument, array_fits, bare, is_bare, is_held, is_whole, lent, lent_as, lent_of, lent_whole, meeting, meeting_meant, pers_name, reference, signal, signal_meant, whole_array, whole_pers}
+use Rattle.expr_types.specs.Arguments.{any_place, argument, bare, is_held, is_whole, lent, lent_as, lent_of, lent_whole, meeting, meeting_meant, pers_name, reference, signal, signal_meant, whole_array}
 use Rattle.expr_types.specs.Calls.{Taking, first_need, function_at, needed, needed_by, option_with, taking, valued_option}
 use Rattle.builtin_calls.specs.Calls.{OptionRow, option_named}
 use Rattle.expr_types.specs.Places
 use Rattle.expr_types.specs.Places.{no_meeting, place_in}
-use Rattle.expr_types.specs.Typing.{aggregate, arguments, call, elements, index, index_in, one_argument, sort_of, steps, typed}
+use Rattle.expr_types.specs.Typing.{aggregate, arguments, call, elements, index_in, one_argument, sort_of, steps, typed}
 
 -- what is given by one is given by what is the same
 pub along : {X A : Type 0} (view : X → A) (r : Result X TypeFault) (a b : Checked A) → b ≡ a → Gives view r a → Gives view r b

@@ -200,8 +200,8 @@ zone_told (Optional name held at) = zone_named name.text
 
 -- the need of a world zone's variable is this one
 abbrev pub told : Need → Need → Need
-told zone needs.WorldZone = zone
-told zone need = need
+told world needs.WorldZone = world
+told world need = need
 
 abbrev pub told_by : PlainArgs → Need → Need
 told_by args needs.WorldZone = zone_need args

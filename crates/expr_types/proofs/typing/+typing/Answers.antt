@@ -1,6 +1,6 @@
 use Rattle.std.proofs.Common.{◌≡◌, ◌∙◌, ◌+◌, List, [], ◌∷◌, ◌++◌, Ok, ap, arith, drop, false, refl, length, map, subst, sym, true}
 use Rattle.raw_trees.specs.Plain.{args_of as raw_args_of, exprs_of as raw_exprs_of, steps_of as raw_steps_of}
-use Rattle.raw_trees.specs.Views.{view_arg as view_raw_arg, view_expr as view_raw, view_name, view_place, view_step as view_raw_step}
+use Rattle.raw_trees.specs.Views.{view_arg as view_raw_arg, view_expr as view_raw, view_name, view_step as view_raw_step}
 use Rattle.raw_trees.specs.declared.raw_expr.Operator.{Operator}
 use Rattle.typed_trees.specs.declared.expr.Arg.{Arg}
 use Rattle.typed_trees.specs.declared.expr.Expr.{Expr}
@@ -11,16 +11,15 @@ use Rattle.typed_trees.specs.Views.{view_arg, view_expr, view_step}
 use Rattle.data_scopes.specs.declared.fault.TypeRule.TheVariants.{ArgName, BadRef, TypeClash}
 use Rattle.data_scopes.specs.Declarations.{Checked, ◌>>=◌}
 use Rattle.data_scopes.specs.Rows.{begin_of}
-use Rattle.named_data.specs.declared.wanted.Wanted.TheVariants.{Any, Meeting, Nothing, Reference}
-use Rattle.named_data.specs.Data.{NamedPart, datum_at, given, named, part_at, whole_of}
+use Rattle.named_data.specs.declared.wanted.Wanted.TheVariants.{Any, Nothing, Reference}
+use Rattle.named_data.specs.Data.{NamedPart, given, named}
 use Rattle.named_data.specs.Rules.{fail, must}
 use Rattle.named_data.specs.Views.{view_site}
 use Rattle.named_data.specs.Wants.{first_operand, needed_components, of_component}
-use Rattle.expr_types.specs.Arguments.{argument, is_whole, lent_as, lent_of, lent_whole, meeting_meant, signal_meant, whole_pers}
-use Rattle.expr_types.specs.Calls.{Called, after, function_at, needed_by, option_with, taking}
-use Rattle.expr_types.specs.Places
+use Rattle.expr_types.specs.Arguments.{argument, is_whole, lent_as, lent_of, lent_whole, meeting_meant, signal_meant}
+use Rattle.expr_types.specs.Calls.{Called, after, needed_by, option_with, taking}
 use Rattle.expr_types.specs.Places.{no_meeting, place_in}
-use Rattle.expr_types.specs.Typing.{TypedRest, aggregate, arguments, call, elements, index, index_in, one_argument, sort_of, steps, typed}
+use Rattle.expr_types.specs.Typing.{TypedRest, aggregate, arguments, call, elements, index_in, sort_of, steps, typed}
 use Rattle.expr_types.specs.Views.{view_called, view_chain, view_part, view_signature, view_taking}
 use Rattle.expr_types.proofs.Loops.{arguments_end, arguments_step, arguments_stop, behind, more_steps, elements_end, elements_step, elements_stop, steps_clash, steps_end, steps_step, steps_stop, stops}
 use Rattle.expr_types.proofs.Shapes.{along, argument_by_reference, argument_of_array, argument_of_sort, breaks, by_name, exits, meeting_by, needed_argument, needed_by_first, needed_by_none, optional_argument, pers_name_by, signal_by, sort_view, typed_aggregate, typed_call, typed_chain, valued_argument, valued_from}
