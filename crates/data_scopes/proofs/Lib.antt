@@ -5,4 +5,6 @@ mod Examples
 pub mod Keeping
 pub mod ListAt
 pub mod LoopRows
+pub mod Rowed
 pub mod Typed
+pub mod Within

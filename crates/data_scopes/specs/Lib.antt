@@ -8,3 +8,4 @@ pub mod Kept
 pub mod Rows
 pub mod Naming
 pub mod Called
+pub mod Numbered

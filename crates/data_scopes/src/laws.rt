@@ -1,12 +1,25 @@
-//! Laws of kept values.
+//! Laws of kept values, and of the numbers that names mean.
 
-ghost use Rattle.std.specs.Prelude.{◌≡◌, ◌≢◌, ◌<◌, ℕ, length, slice_get};
+ghost use Rattle.std.specs.Prelude.{◌≡◌, ◌≢◌, ◌<◌, ℕ, Bool, List, Ok, Some, length, map, slice_get};
+ghost use Rattle.rapid_model.specs.declared.signal_row.SignalRow.{SignalRow};
 ghost use Rattle.rapid_model.specs.declared.value.Value.{Value};
+ghost use Rattle.raw_trees.specs.Plain.{PlainModule};
+ghost use Rattle.data_scopes.specs.declared.meant.Meant.{Meant};
+ghost use Rattle.data_scopes.specs.declared.spot.Spot.{Spot};
 ghost use Rattle.data_scopes.specs.Kept.{with_kept};
-ghost use Rattle.data_scopes.specs.Scopes.{Names};
+ghost use Rattle.data_scopes.specs.Naming.{names_of};
+ghost use Rattle.data_scopes.specs.Numbered.{HasRow};
+ghost use Rattle.data_scopes.specs.Scopes.{Names, meaning};
 
 /// The value that is kept for a constant is found there, and at no other constant anything changes.
 pub fn kept_by_number()
     ensures same { (names : Names) (constant : ℕ) (value : Value) → constant < length names.kept → slice_get (with_kept names constant value).kept constant ≡ Some (Some value) }
     ensures others { (names : Names) (constant other : ℕ) (value : Value) → other ≢ constant → slice_get (with_kept names constant value).kept other ≡ slice_get names.kept other }
+{}
+
+/// Among the names of a task's modules, each VAR, PERS, CONST and routine that a name means at a spot has its row, and the
+/// type of each CONST that is no array is that of its row.
+pub fn numbers_have_rows()
+    ensures rows { (modules : List PlainModule) (signals : List SignalRow) (arm : Bool) (names : Names) → names_of modules signals arm ≡ Ok names → (spot : Spot) (name : List ℕ) (meant : Meant) → meaning names.tables spot name ≡ Some meant → HasRow names.rows meant }
+    ensures types { (modules : List PlainModule) (signals : List SignalRow) (arm : Bool) (names : Names) → names_of modules signals arm ≡ Ok names → names.sorts ≡ map (λ row. row.sort) names.rows.consts }
 {}

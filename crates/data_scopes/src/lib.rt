@@ -30,7 +30,7 @@ pub use data_row::{DatumRow, ParamRow, Since};
 pub use datum_rows::begin_of;
 pub use fault::{TypeFault, TypeRule};
 pub use known::Known;
-pub use laws::kept_by_number;
+pub use laws::{kept_by_number, numbers_have_rows};
 pub use meant::Meant;
 pub use numbers::{is_const, is_pers, is_scalar_const};
 pub use scopes::Scopes;
