@@ -48,8 +48,8 @@ fn is_written(need: Need) -> bool
     matches!(need, Need::Written(_))
 }
 
-/// What is never written: a CONST, the variable of a FOR, ERRNO, a predefined datum.
-fn is_fixed(source: &Source) -> bool
+/// What is never written: a CONST, the variable of a FOR, ERRNO, a predefined datum (RAPID Kernel, assignment statement).
+pub fn is_fixed(source: &Source) -> bool
     ensures { result ≡ Arguments.is_fixed source.now }
 {
     match source {

@@ -22,6 +22,7 @@ mod zone;
 
 pub use callee::Callee;
 pub use check::{call_arguments, check_expr, lent_place};
+pub use lending::is_fixed;
 pub use needs::Needs;
 pub use place_part::PlacePart;
 pub use signature::{Signature, instruction_signature, routine_signature};

@@ -1,0 +1,4 @@
+pub mod Labels
+pub mod Bodies
+pub mod Parts
+pub mod Views

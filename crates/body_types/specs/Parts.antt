@@ -1,0 +1,18 @@
+-- The lists that a statement holds.
+use Rattle.raw_trees.specs.Plain.{PlainStmt, PlainArms, PlainCases, PlainElse, If, Test, NoArms, NoCases, NoElse}
+
+-- IF and ELSEIF with their lists
+abbrev pub arms_in : PlainStmt → PlainArms
+arms_in (If at arms other) = arms
+arms_in _ = NoArms
+
+-- CASE with their values and lists
+abbrev pub cases_in : PlainStmt → PlainCases
+cases_in (Test at value cases other) = cases
+cases_in _ = NoCases
+
+-- ELSE or DEFAULT
+abbrev pub else_in : PlainStmt → PlainElse
+else_in (If at arms other) = other
+else_in (Test at value cases other) = other
+else_in _ = NoElse

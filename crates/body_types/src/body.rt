@@ -1,0 +1,15 @@
+use data_scopes::Scopes;
+use raw_trees::{RawName, RoutineKind};
+use std::alloc::Global;
+
+/// A routine that is checked: the names of the task's modules, its module's number and its own, whether it is a procedure, a
+/// function or a trap, and all its labels in text order.
+#[derive(Clone, Copy)]
+pub struct Body<'a, 'b> {
+    pub alloc: Global,
+    pub scopes: &'a Scopes,
+    pub module: u32,
+    pub routine: u32,
+    pub kind: RoutineKind,
+    pub labels: &'a [RawName<'b>],
+}

@@ -1,0 +1,30 @@
+//! The values of a CASE.
+
+ghost use Rattle.std.specs.Prelude.{map};
+ghost use Rattle.raw_trees.specs.Views.{view_expr as view_raw};
+ghost use Rattle.typed_trees.specs.Views.{view_expr};
+ghost use Rattle.data_scopes.specs.Gives.{Gives};
+ghost use Rattle.named_data.specs.Views.{view_site};
+ghost use Rattle.body_types.specs.Bodies;
+
+use data_scopes::TypeFault;
+use expr_types::typed;
+use named_data::{Site, Wanted};
+use rapid_model::Sort;
+use raw_trees::RawExpr;
+use typed_trees::Expr;
+
+/// The values of a CASE, of the type of the tested one (RAPID Kernel, TEST).
+pub(crate) fn case_values(
+    site: &Site<'_>,
+    sort: Sort,
+    values: &[RawExpr<'_>],
+) -> Result<Vec<Expr>, TypeFault>
+    ensures { Gives (λ v. map view_expr v.items) result (Bodies.case_values (view_site site.now) sort (map view_raw values.now)) }
+{
+    let mut done = Vec::new(site.alloc);
+    for value in values {
+        done.push(typed(site, value, Wanted::Same(sort))?)?;
+    }
+    Ok(done)
+}

@@ -1,0 +1,21 @@
+//! The typed forms of a routine's statements.
+#![tactic(auto)]
+
+mod all_labels;
+mod around;
+mod body;
+mod bounds;
+mod calls;
+mod case_values;
+mod jumps;
+mod labels;
+mod numbers;
+mod returns;
+mod statements;
+mod targets;
+mod typed_rows;
+
+pub use all_labels::labels_of;
+pub use body::Body;
+pub use statements::typed_list;
+pub use typed_rows::TypedList;

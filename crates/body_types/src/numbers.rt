@@ -1,0 +1,34 @@
+//! Numbers of labels, of FORs and of places.
+
+ghost use Rattle.std.specs.Prelude.{◌+◌, Ok};
+ghost use Rattle.data_scopes.specs.Gives.{Gives};
+ghost use Rattle.body_types.specs.Bodies;
+ghost use Rattle.body_types.specs.Views.{view_body};
+
+use crate::body::Body;
+use data_scopes::TypeFault;
+
+/// The number behind this one. Its error is want of memory, also for a number past 32 bits.
+pub(crate) fn after(number: u32) -> Result<u32, TypeFault>
+    ensures { Gives (λ n. n) result (Ok (number + 1)) }
+{
+    match number.checked_add(1) {
+        Some(next) => Ok(next),
+        None => Err(TypeFault::Memory),
+    }
+}
+
+/// The place of the variable of the FOR of this number, behind the parameters and data of its routine. Its error is want of
+/// memory, also for a number past 32 bits.
+pub(crate) fn counter_place(body: &Body<'_, '_>, number: u32) -> Result<u32, TypeFault>
+    ensures { Gives (λ n. n) result (Ok (Bodies.counter_place (view_body body.now) number)) }
+{
+    let before = body.scopes.places(Some(body.routine));
+    let Ok(first) = u32::try_from(before) else {
+        return Err(TypeFault::Memory);
+    };
+    match first.checked_add(number) {
+        Some(place) => Ok(place),
+        None => Err(TypeFault::Memory),
+    }
+}

@@ -1,0 +1,25 @@
+-- Statements as a list, and the rows of data that are left.
+use Rattle.std.proofs.Common.{◌≡◌, ℕ, zero, suc, List, [], ◌∷◌, ◌++◌, drop, length, map, refl, ap, ◌∙◌, length-append, arith}
+use Rattle.std.proofs.lemmas.List.{drop-drop, length-map}
+use Rattle.typed_trees.specs.Plain.{TypedStmt, stmts_of}
+use Rattle.data_scopes.specs.Scopes.{list_at}
+use Rattle.stmt_types.specs.Task.{list_of}
+
+pub list_of_stmts : (list : List TypedStmt) → list_of (stmts_of list) ≡ list
+list_of_stmts [] = refl
+list_of_stmts (s ∷ list) = ap (λ more. s ∷ more) (list_of_stmts list)
+
+list_at-drop : {A : Type 0} (n : ℕ) (lists : List (List A)) → list_at (drop n lists) 0 ≡ list_at lists n
+list_at-drop zero lists = refl
+list_at-drop (suc n) [] = refl
+list_at-drop (suc n) (list ∷ lists) = list_at-drop n lists
+
+-- the first list that is left behind so many is the one of that number
+pub first_left : {A X Y : Type 0} (lists left : List (List A)) (taken : List A) (f : X → Y) (done : List X) (number : ℕ) → left ≡ drop (length (map f done)) lists → taken ≡ list_at left 0 → number ≡ length done → taken ≡ list_at lists number
+first_left lists left taken f done number is first same =
+    first ∙ ap (λ xs. list_at xs 0) is ∙ list_at-drop (length (map f done)) lists ∙ ap (list_at lists) (omega (arith, same, length-map done f))
+
+-- one behind the first, and what is left then
+pub rest_left : {A X Y : Type 0} (lists left rest : List (List A)) (f : X → Y) (done more : List X) (x : X) → left ≡ drop (length (map f done)) lists → rest ≡ drop 1 left → more ≡ done ++ x ∷ [] → rest ≡ drop (length (map f more)) lists
+rest_left lists left rest f done more x is one behind =
+    one ∙ ap (drop 1) is ∙ drop-drop 1 (length (map f done)) lists ∙ ap (λ k. drop k lists) (omega (arith, ap length behind, length-append done (x ∷ []), length-map done f, length-map more f))

@@ -1,0 +1,102 @@
+//! A whole task.
+
+ghost use Rattle.std.specs.Prelude.{◌≡◌, Ok, map};
+ghost use Rattle.raw_trees.specs.Views.{view_module};
+ghost use Rattle.typed_trees.specs.Views.{view_routine, view_tree};
+ghost use Rattle.data_scopes.specs.Gives.{Gives};
+ghost use Rattle.named_data.specs.Views.{view_site};
+ghost use Rattle.data_types.specs.Views.{view_progress};
+ghost use Rattle.stmt_types.specs.Task;
+ghost use Rattle.stmt_types.specs.Task.{task_of};
+
+use crate::bodies::bodies;
+use crate::main_routine::{main_among, main_or};
+use crate::meetings::meeting_names;
+use crate::names::copied_names;
+use crate::numbers::number_of;
+use data_scopes::{Known, Scopes, Spot, TypeFault, TypeRule};
+use data_types::{Progress, data_of};
+use named_data::{Site, must};
+use raw_trees::RawModule;
+use std::alloc::Global;
+use std::mem;
+use typed_trees::{Routine, Tree};
+
+/// The greatest number of values of a task's module data.
+const MOST_VALUES: usize = 20_000;
+
+/// The first byte of the first module.
+fn top(alloc: Global, scopes: &Scopes) -> Site<'_>
+    ensures { view_site result ≡ Task.top scopes.now }
+{
+    Site {
+        alloc,
+        scopes,
+        spot: Spot {
+            module: 0,
+            routine: None,
+            within: None,
+            at: 0,
+        },
+    }
+}
+
+/// The tree of modules with these data and routines. Its error is want of memory.
+fn tree_of(
+    alloc: Global,
+    modules: &[RawModule<'_>],
+    known: &Known<'_>,
+    progress: Progress,
+    routines: Vec<Routine>,
+    main: u32,
+) -> Result<Tree, TypeFault>
+    ensures { Gives view_tree result (Ok (Task.tree_of (map view_module modules.now) known.now.tasks.now (view_progress progress) (map view_routine routines.items) main)) }
+{
+    let count = number_of(modules.len())?;
+    let tasks = copied_names(alloc, known.tasks)?;
+    let meetings = meeting_names(alloc, &progress.slots)?;
+    Ok(Tree {
+        modules: count,
+        tasks,
+        slots: progress.slots,
+        pers: progress.pers,
+        meetings,
+        routines,
+        main,
+        pers_of: Vec::new(alloc),
+        meeting_of: Vec::new(alloc),
+    })
+}
+
+/// The typed tree of a task's modules, or the first rule that is broken. The rules come in this order:
+///
+/// 1. those of declared names and of their types' names, over all modules (RAPID Kernel, declarations and scope rules);
+/// 2. those of lengths and initial values, over all modules (RAPID Kernel, data declarations and constant expressions);
+/// 3. those of the routines' statements, over all modules; an ERROR part comes behind the statements of its routine (RAPID
+///    Kernel, statements and expressions);
+/// 4. `NoMain`, where no routine is a main (RAPID Overview, modules), at the first byte of the first module;
+/// 5. `DataRange`, where the modules' data have more than 20,000 values, an array one for each element, at the same byte.
+///
+/// The error is also want of memory, as where a name has more than 32 letters.
+pub fn check_task(
+    alloc: Global,
+    modules: &[RawModule<'_>],
+    known: &Known<'_>,
+) -> Result<Tree, TypeFault>
+    ensures { Gives view_tree result (task_of (map view_module modules.now) known.now.tasks.now known.now.signals.now known.now.arm) }
+{
+    let scopes = Scopes::new(alloc, modules, known)?;
+    let mut progress = data_of(alloc, modules, scopes)?;
+    let locals = mem::replace(&mut progress.locals, Vec::new(alloc));
+    let routines = bodies(alloc, &progress.scopes, modules, locals)?;
+    let main = main_among(modules)?;
+    let site = top(alloc, &progress.scopes);
+    let main = main_or(&site, main)?;
+    must(
+        &site,
+        progress.values <= MOST_VALUES,
+        0,
+        TypeRule::DataRange,
+    )?;
+    tree_of(alloc, modules, known, progress, routines, main)
+}

@@ -1,0 +1,56 @@
+//! Parameters of a routine.
+
+ghost use Rattle.std.specs.Prelude.{◌≡◌, ◌++◌, [], ◌∷◌, Ok, map, slice_get};
+ghost use Rattle.raw_trees.specs.Views.{view_param as view_raw};
+ghost use Rattle.typed_trees.specs.Views.{view_param};
+ghost use Rattle.data_scopes.specs.Gives.{Gives};
+ghost use Rattle.stmt_types.specs.Task;
+
+use crate::names::name_text;
+use data_scopes::{ParamRow, TypeFault};
+use raw_trees::RawParam;
+use std::alloc::Global;
+use typed_trees::Param;
+
+/// The row of the parameter at this place.
+fn row_at(rows: &[ParamRow], place: usize) -> Option<ParamRow>
+    ensures { result ≡ slice_get rows.now place }
+{
+    rows.get(place).copied()
+}
+
+/// Behind these parameters one more, by its name and its row.
+fn with_param(
+    typed: Vec<Param>,
+    param: &RawParam<'_>,
+    row: ParamRow,
+) -> Result<Vec<Param>, TypeFault>
+    ensures { Gives (λ v. map view_param v.items) result (Ok (map view_param typed.items ++ Task.typed_params (view_raw param.now ∷ []) (row ∷ []))) }
+{
+    let name = name_text(param.name.text)?;
+    let mut typed = typed;
+    typed.push(Param {
+        name,
+        mode: row.mode,
+        sort: row.sort,
+    })?;
+    Ok(typed)
+}
+
+/// The parameters by their names and their rows.
+pub(crate) fn typed_params(
+    alloc: Global,
+    params: &[RawParam<'_>],
+    rows: &[ParamRow],
+) -> Result<Vec<Param>, TypeFault>
+    ensures { Gives (λ v. map view_param v.items) result (Ok (Task.typed_params (map view_raw params.now) rows.now)) }
+{
+    let mut typed = Vec::new(alloc);
+    for (place, param) in params.iter().enumerate() {
+        let Some(row) = row_at(rows, place) else {
+            return Ok(typed);
+        };
+        typed = with_param(typed, param, row)?;
+    }
+    Ok(typed)
+}

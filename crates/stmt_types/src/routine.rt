@@ -1,0 +1,76 @@
+//! A routine with its statements.
+
+ghost use Rattle.std.specs.Prelude.{◌≡◌, List, map, option_map};
+ghost use Rattle.raw_trees.specs.Views.{view_list as view_raw_list, view_routine as view_raw};
+ghost use Rattle.typed_trees.specs.Plain.{TypedLocal};
+ghost use Rattle.typed_trees.specs.Views.{view_list, view_local, view_routine};
+ghost use Rattle.data_scopes.specs.Gives.{Gives};
+ghost use Rattle.data_scopes.specs.Scopes.{list_at};
+ghost use Rattle.body_types.specs.Views.{view_body};
+ghost use Rattle.stmt_types.specs.Task;
+
+use crate::names::name_text;
+use crate::params::typed_params;
+use body_types::{Body, labels_of, typed_list};
+use data_scopes::{Scopes, TypeFault};
+use raw_trees::{RawRoutine, RawStmt};
+use std::alloc::Global;
+use typed_trees::{LocalRow, Routine, Stmt};
+
+/// The ERROR part of a routine, where the next FOR has this number.
+#[tactic(auto, using(crate::proofs::Lists::list_of_stmts))]
+fn handler_of(
+    body: &Body<'_, '_>,
+    handler: &Option<Vec<RawStmt<'_>>>,
+    next: u32,
+) -> Result<Option<Vec<Stmt>>, TypeFault>
+    ensures { Gives (option_map view_list) result (Task.handler_of (view_body body.now) (option_map view_raw_list handler.now) next) }
+{
+    match handler {
+        None => Ok(None),
+        Some(list) => {
+            let typed = typed_list(body, list, true, next)?;
+            Ok(Some(typed.list))
+        }
+    }
+}
+
+/// The routine of this number, in the module of this number, with the rows of its data.
+#[tactic(auto, using(crate::proofs::Lists::list_of_stmts))]
+pub(crate) fn typed_routine(
+    alloc: Global,
+    scopes: &Scopes,
+    module: u32,
+    number: u32,
+    routine: &RawRoutine<'_>,
+    rows: Vec<LocalRow>,
+) -> Result<Routine, TypeFault>
+    ghost locals: { List (List TypedLocal) }
+    requires { map view_local rows.items ≡ list_at locals number }
+    ensures { Gives view_routine result (Task.typed_routine scopes.now locals «module» number (view_raw routine.now)) }
+{
+    let labels = labels_of(alloc, routine)?;
+    let body = Body {
+        alloc,
+        scopes,
+        module,
+        routine: number,
+        kind: routine.kind,
+        labels: &labels,
+    };
+    let typed = typed_list(&body, &routine.list, false, 0)?;
+    let handler = handler_of(&body, &routine.handler, typed.next)?;
+    let name = name_text(routine.name.text)?;
+    let params = typed_params(alloc, &routine.params, scopes.routine_params(number))?;
+    Ok(Routine {
+        name,
+        module,
+        kind: routine.kind,
+        result: scopes.routine_result(number),
+        params,
+        locals: rows,
+        list: typed.list,
+        handler,
+        at: routine.at,
+    })
+}

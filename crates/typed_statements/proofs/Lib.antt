@@ -1,0 +1,7 @@
+pub mod Sequences
+pub mod Places
+pub mod Connects
+pub mod Calls
+pub mod Returns
+pub mod Parts
+pub mod Statements
