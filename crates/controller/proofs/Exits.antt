@@ -1,10 +1,13 @@
 -- Each way in which a call ends answers its words and files.
-use Rattle.std.proofs.Common.{◌≡◌, ℕ, List, [], ◌∷◌, Option, Some, None, Result, Ok, Err, map, refl, ap, sym, ◌∙◌, subst, inl, inr}
-use Rattle.std.specs.Prelude.{IfSome, option_map}
+use Rattle.std.proofs.Common.{◌≡◌, ℕ, List, [], ◌∷◌, Option, Some, None, Result, Ok, Err, map, refl, ap, sym, ◌∙◌, subst, ◌⊎◌, inl, inr}
+use Rattle.std.specs.Prelude.{IfSome, option_map, Vec}
+use Rattle.std.specs.declared.alloc.Global.{Global}
+use Rattle.raw_trees.specs.declared.raw_module.RawModule.{RawModule}
+use Rattle.outside.specs.Count.{Rose}
 use Rattle.outside.specs.Told.{Told, found, after_reads}
 use Rattle.outside.proofs.Counting.{after_reads-zero}
 use Rattle.rapid_model.specs.CellData.{CellData}
-use Rattle.rapid_model.specs.ScriptData.{ScriptData, cell_of}
+use Rattle.rapid_model.specs.ScriptData.{ScriptData, cell_of, module_names}
 use Rattle.rapid_model.specs.declared.tree.Tree.{Tree}
 use Rattle.controller.specs.declared.command.Action.{Action}
 use Rattle.controller.specs.declared.command.Action.TheVariants.{Check, Round}
@@ -14,10 +17,11 @@ use Rattle.controller.specs.declared.refused.Refused.{Refused}
 use Rattle.controller.specs.declared.refused.Refused.TheVariants.{Words, Memory}
 use Rattle.controller.specs.Words.{refused_place, plain_words, first_action, script_name}
 use Rattle.controller.specs.Files.{text_of}
-use Rattle.controller.specs.Loaded.{mention_of, file_names, IsScriptIn, AreModules}
-use Rattle.controller.specs.Accepted.{Verdict, refuses, accepts, runs, Accepted, Build, Mention, script_limit, file_text, mentions, ModulesOf, not_built, trees_of, done_by, unless_refused, verdict_of, FileDecides, WordsDecide}
+use Rattle.controller.specs.Loaded.{mention_of, names_in_turn, file_names, bytes_of, reads_of, IsScriptIn, AreTexts, TextsDecide}
+use Rattle.controller.specs.Accepted.{Verdict, refuses, accepts, runs, Accepted, Build, ReadModule, script_limit, file_text, mentions, ModulesOf, checked, AreBuilds, not_built, trees_of, unless_refused, ActionDecides, CheckedDecides, ModulesDecide, FileDecides, WordsDecide}
 use Rattle.controller.specs.Printed.{Sunk}
-use Rattle.controller.specs.Answered.{IsRefused, IsCutShort, Answers, AnswersAccepted, AnswersOrMemory, IsOutOfMemory, RunsOrMemory, AnswersWords}
+use Rattle.controller.specs.Answered.{IsRefused, IsPrinted, IsCutShort, Answers, AnswersAccepted, AnswersReads, AnswersBuilt, IsOutOfMemory, RunsOrMemory, AnswersWords}
+use Rattle.controller.proofs.Loads.{modules_from_texts}
 use Rattle.controller.proofs.Mentions.{names_are}
 
 -- what holds of all files holds of those that are told
@@ -83,83 +87,147 @@ pub record IsRead (words : List (List ℕ)) (told later : Option Told) (name : L
   pub mentioned : map mention_of ms ≡ mentions script.tasks
 
 -- what the words and files come to, from what the modules come to
-modules_decide : (words : List (List ℕ)) (files : Told) (later : Option Told) (name : List ℕ) (script : ScriptData) (ms : List declared_mention.Mention) (modules : Result (List Build) Refused)
-    → IsRead words (Some files) later name script ms → ModulesOf files 1 (map mention_of ms) modules
-    → Accepted words files (verdict_of (first_action (plain_words words)) (file_names name ms) script modules)
-modules_decide words files later name script ms modules r d =
-    words_decide words files name (Ok r.script_in.0) (verdict_of (first_action (plain_words words)) (file_names name ms) script modules) r.taken r.name_is r.script_in.1 (
+modules_decide : (words : List (List ℕ)) (files : Told) (later : Option Told) (name : List ℕ) (script : ScriptData) (ms : List declared_mention.Mention) (modules : Result (List ReadModule) Refused) (verdict : Verdict)
+    → IsRead words (Some files) later name script ms → ModulesOf files 1 (names_in_turn ms) modules
+    → ModulesDecide (first_action (plain_words words)) (file_names name ms) script modules verdict → Accepted words files verdict
+modules_decide words files later name script ms modules verdict r d decides =
+    let named : names_in_turn ms ≡ module_names script.tasks = names_are ms script.tasks r.mentioned in
+    words_decide words files name (Ok r.script_in.0) verdict r.taken r.name_is r.script_in.1 (
       Ok script,
       r.script_in.2,
       (
         modules,
-        subst (λ (xs : List Mention). ModulesOf files 1 xs modules) r.mentioned d,
-        ap (λ (ns : List (List ℕ)). verdict_of (first_action (plain_words words)) ns script modules) (names_are name ms script.tasks r.mentioned),
+        subst (λ (ns : List (List ℕ)). ModulesOf files 1 ns modules) named d,
+        subst (λ (ns : List (List ℕ)). ModulesDecide (first_action (plain_words words)) (name ∷ ns) script modules verdict) named decides,
       ),
     )
 
+-- why the modules are refused
+abbrev pub AreRefused : List (List ℕ) → Option Refused → Refused → Type 0
+AreRefused texts failed refused = (refused ≡ Memory) ⊎ TextsDecide 1 texts failed (Err refused)
+
 module_refused_in : (words : List (List ℕ)) (files : Told) (later : Option Told) (name : List ℕ) (script : ScriptData) (ms : List declared_mention.Mention) (refused : Refused) (report : Report) (out err : Sunk)
-    → IsRead words (Some files) later name script ms → IsRefused (file_names name ms) refused report out err → AreModules files (map mention_of ms) (Err refused) → AnswersWords words (Some files) report out err
-module_refused_in words files later name script ms refused report out err r t (inl memory) = inl (out_of_memory (file_names name ms) refused report out err memory t)
+    → IsRead words (Some files) later name script ms → IsRefused (file_names name ms) refused report out err
+    → (let all : Result (List ReadModule) Refused = Err refused in all ≡ Err Memory) ⊎ ModulesOf files 1 (names_in_turn ms) (Err refused) → AnswersWords words (Some files) report out err
+module_refused_in words files later name script ms refused report out err r t (inl memory) = let e : refused ≡ Memory = cc in inl (out_of_memory (file_names name ms) refused report out err e t)
 module_refused_in words files later name script ms refused report out err r t (inr d) =
-    inr (refuses (file_names name ms) refused, t, modules_decide words files later name script ms (Err refused) r d)
+    inr (refuses (file_names name ms) refused, t, modules_decide words files later name script ms (Err refused) (refuses (file_names name ms) refused) r d refl)
 
 -- a module is refused
-pub module_refused : (words : List (List ℕ)) (told later : Option Told) (name : List ℕ) (script : ScriptData) (ms : List declared_mention.Mention) (refused : Refused) (report : Report) (out err : Sunk)
-    → IsRead words told later name script ms → IsRefused (file_names name ms) refused report out err
-    → ((files : Told) → later ≡ Some (after_reads 1 files) → AreModules files (map mention_of ms) (Err refused)) → AnswersWords words told report out err
-module_refused words None later name script ms refused report out err r t modules = inr (refuses (file_names name ms) refused, t, tt)
-module_refused words (Some files) later name script ms refused report out err r t modules =
-    module_refused_in words files later name script ms refused report out err r t (modules files r.after)
+pub module_refused : (words : List (List ℕ)) (told later : Option Told) (name : List ℕ) (script : ScriptData) (ms : List declared_mention.Mention) (texts : List (List ℕ)) (failed : Option Refused) (refused : Refused)
+    (report : Report) (out err : Sunk) → IsRead words told later name script ms → IsRefused (file_names name ms) refused report out err
+    → ((files : Told) → later ≡ Some (after_reads 1 files) → AreTexts files 1 (names_in_turn ms) texts failed) → AreRefused texts failed refused → AnswersWords words told report out err
+module_refused words told later name script ms texts failed refused report out err r t read (inl memory) = inl (out_of_memory (file_names name ms) refused report out err memory t)
+module_refused words None later name script ms texts failed refused report out err r t read (inr d) = inr (refuses (file_names name ms) refused, t, tt)
+module_refused words (Some files) later name script ms texts failed refused report out err r t read (inr d) =
+    module_refused_in words files later name script ms refused report out err r t
+    (modules_from_texts files 1 (names_in_turn ms) texts failed (Err refused) (read files r.after) d)
 
-read_whole : (words : List (List ℕ)) (told later : Option Told) (name : List ℕ) (action : Option Action) (script : ScriptData) (ms : List declared_mention.Mention) (builds : List Build)
-    → IsRead words told later name script ms → first_action (plain_words words) ≡ action → ((files : Told) → later ≡ Some (after_reads 1 files) → ModulesOf files 1 (map mention_of ms) (Ok builds))
-    → IfSome told (λ files. Accepted words files (verdict_of action (file_names name ms) script (Ok builds)))
-read_whole words None later name action script ms builds r asked modules = tt
-read_whole words (Some files) later name action script ms builds r asked modules =
-    subst (λ (a : Option Action). Accepted words files (verdict_of a (file_names name ms) script (Ok builds))) asked
-    (modules_decide words files later name script ms (Ok builds) r (modules files r.after))
+read_whole_in : (words : List (List ℕ)) (files : Told) (later : Option Told) (name : List ℕ) (action : Option Action) (script : ScriptData) (ms : List declared_mention.Mention) (reads : List ReadModule) (verdict : Verdict)
+    → IsRead words (Some files) later name script ms → first_action (plain_words words) ≡ action
+    → (let all : Result (List ReadModule) Refused = Ok reads in all ≡ Err Memory) ⊎ ModulesOf files 1 (names_in_turn ms) (Ok reads) → CheckedDecides action (file_names name ms) script reads (checked script reads) verdict
+    → Accepted words files verdict
+read_whole_in words files later name action script ms reads verdict r asked (inl memory) decides = cc
+read_whole_in words files later name action script ms reads verdict r asked (inr d) decides =
+    modules_decide words files later name script ms (Ok reads) verdict r d
+    (subst (λ (a : Option Action). CheckedDecides a (file_names name ms) script reads (checked script reads) verdict) (sym asked) decides)
+
+read_whole : (words : List (List ℕ)) (told later : Option Told) (name : List ℕ) (action : Option Action) (script : ScriptData) (ms : List declared_mention.Mention) (texts : List (List ℕ)) (failed : Option Refused)
+    (reads : List ReadModule) (verdict : Verdict) → IsRead words told later name script ms → first_action (plain_words words) ≡ action
+    → ((files : Told) → later ≡ Some (after_reads 1 files) → AreTexts files 1 (names_in_turn ms) texts failed) → TextsDecide 1 texts failed (Ok reads)
+    → CheckedDecides action (file_names name ms) script reads (checked script reads) verdict → IfSome told (λ files. Accepted words files verdict)
+read_whole words None later name action script ms texts failed reads verdict r asked read d decides = tt
+read_whole words (Some files) later name action script ms texts failed reads verdict r asked read d decides =
+    read_whole_in words files later name action script ms reads verdict r asked (modules_from_texts files 1 (names_in_turn ms) texts failed (Ok reads) (read files r.after) d) decides
 
 -- all is read
-pub all_read : (words : List (List ℕ)) (told later : Option Told) (name : List ℕ) (action : Option Action) (script : ScriptData) (ms : List declared_mention.Mention) (builds : List Build) (report : Report) (out err : Sunk)
-    → IsRead words told later name script ms → first_action (plain_words words) ≡ action → ((files : Told) → later ≡ Some (after_reads 1 files) → ModulesOf files 1 (map mention_of ms) (Ok builds))
-    → AnswersOrMemory (unless_refused (file_names name ms) (not_built script builds) (done_by action (file_names name ms) script builds)) report out err → AnswersWords words told report out err
-all_read words told later name action script ms builds report out err r asked modules (inl memory) = inl memory
-all_read words told later name action script ms builds report out err r asked modules (inr answers) =
-    inr (verdict_of action (file_names name ms) script (Ok builds), answers, read_whole words told later name action script ms builds r asked modules)
+pub all_read : (words : List (List ℕ)) (told later : Option Told) (name : List ℕ) (action : Option Action) (script : ScriptData) (ms : List declared_mention.Mention) (texts : List (List ℕ)) (failed : Option Refused)
+    (reads : List ReadModule) (report : Report) (out err : Sunk) → IsRead words told later name script ms → first_action (plain_words words) ≡ action
+    → ((files : Told) → later ≡ Some (after_reads 1 files) → AreTexts files 1 (names_in_turn ms) texts failed) → TextsDecide 1 texts failed (Ok reads)
+    → AnswersReads action (file_names name ms) script reads report out err → AnswersWords words told report out err
+all_read words told later name action script ms texts failed reads report out err r asked read d (inl memory) = inl memory
+all_read words told later name action script ms texts failed reads report out err r asked read d (inr answers) =
+    inr (answers.0, answers.2, read_whole words told later name action script ms texts failed reads answers.0 r asked read d answers.1)
+
+-- the same as the program has them
+pub parsed_here : (texts here seen : List (Vec ℕ Global)) (trees shown : List RawModule) (failed : Option Refused) → here ≡ texts → seen ≡ texts → shown ≡ trees
+    → TextsDecide 1 (bytes_of here) failed (Ok (reads_of here trees)) → TextsDecide 1 (bytes_of texts) failed (Ok (reads_of seen shown))
+parsed_here texts here seen trees shown failed same equal alike d =
+    subst (λ (ms : List RawModule). TextsDecide 1 (bytes_of texts) failed (Ok (reads_of seen ms))) (sym alike)
+    (subst (λ (ts : List (Vec ℕ Global)). TextsDecide 1 (bytes_of texts) failed (Ok (reads_of ts trees))) (sym equal)
+    (subst (λ (ts : List (Vec ℕ Global)). TextsDecide 1 (bytes_of ts) failed (Ok (reads_of ts trees))) same d))
 
 -- with all read, what becomes of it
 
--- something is not built
-pub not_built_refused : (names : List (List ℕ)) (action : Option Action) (script : ScriptData) (builds : List Build) (refused : Refused) (report : Report) (out err : Sunk) → not_built script builds ≡ Some refused
-    → IsRefused names refused report out err → AnswersOrMemory (unless_refused names (not_built script builds) (done_by action names script builds)) report out err
-not_built_refused names action script builds refused report out err is r =
-    inr (subst (λ (o : Option Refused). Answers (unless_refused names o (done_by action names script builds)) report out err) (sym is) r)
+-- a rule is broken
+pub check_refused : (names : List (List ℕ)) (action : Option Action) (script : ScriptData) (reads : List ReadModule) (refused : Refused) (report : Report) (out err : Sunk)
+    → (refused ≡ Memory) ⊎ (checked script reads ≡ Some refused) → IsRefused names refused report out err → AnswersReads action names script reads report out err
+check_refused names action script reads refused report out err (inl memory) r = inl (out_of_memory names refused report out err memory r)
+check_refused names action script reads refused report out err (inr found) r =
+    inr (
+      refuses names refused,
+      subst (λ (o : Option Refused). CheckedDecides action names script reads o (refuses names refused)) (sym found) refl,
+      r,
+    )
 
 accepted_answers : (names : List (List ℕ)) (report : Report) (out err : Sunk) → AnswersAccepted report out err → Answers (accepts names) report out err
 accepted_answers names report out err (inl a) = inl a
 accepted_answers names report out err (inr a) = inr a.0
 
 -- all is accepted
-pub all_accepted : (names : List (List ℕ)) (action : Action) (script : ScriptData) (builds : List Build) (report : Report) (out err : Sunk) → action ≡ Check → not_built script builds ≡ None
-    → AnswersAccepted report out err → AnswersOrMemory (unless_refused names (not_built script builds) (done_by (Some action) names script builds)) report out err
-all_accepted names action script builds report out err is none a =
-    inr (subst (λ (o : Option Refused). Answers (unless_refused names o (done_by (Some action) names script builds)) report out err) (sym none)
-    (subst (λ (x : Action). Answers (done_by (Some x) names script builds) report out err) (sym is) (accepted_answers names report out err a)))
+pub all_accepted : (names : List (List ℕ)) (action : Action) (script : ScriptData) (reads : List ReadModule) (report : Report) (out err : Sunk) → action ≡ Check → checked script reads ≡ None
+    → AnswersAccepted report out err → AnswersReads (Some action) names script reads report out err
+all_accepted names action script reads report out err is none a =
+    inr (
+      accepts names,
+      subst (λ (o : Option Refused). CheckedDecides (Some action) names script reads o (accepts names)) (sym none)
+          (subst (λ (x : Action). ActionDecides (Some x) names script reads (accepts names)) (sym is) refl),
+      accepted_answers names report out err a,
+    )
+
+-- all is accepted, and what is built is run
+pub built_answers : (names : List (List ℕ)) (action : Action) (script : ScriptData) (reads : List ReadModule) (report : Report) (out err : Sunk) → action ≡ Round → checked script reads ≡ None
+    → AnswersBuilt names script reads report out err → AnswersReads (Some action) names script reads report out err
+built_answers names action script reads report out err is none (inl memory) = inl memory
+built_answers names action script reads report out err is none (inr answers) =
+    inr (
+      answers.0,
+      subst (λ (o : Option Refused). CheckedDecides (Some action) names script reads o answers.0) (sym none)
+          (subst (λ (x : Action). ActionDecides (Some x) names script reads answers.0) (sym is) answers.1),
+      answers.2,
+    )
+
+-- something is not built
+pub not_built_refused : (names : List (List ℕ)) (script : ScriptData) (reads : List ReadModule) (builds : List Build) (refused : Refused) (report : Report) (out err : Sunk)
+    → AreBuilds (mentions script.tasks) reads builds → not_built script builds ≡ Some refused → IsRefused names refused report out err → AnswersBuilt names script reads report out err
+not_built_refused names script reads builds refused report out err built is r =
+    inr (
+      refuses names refused,
+      (builds, built, ap (λ (o : Option Refused). unless_refused names o (runs names (cell_of script) (trees_of builds))) (sym is)),
+      r,
+    )
 
 -- a run that was cut short, with other names
 cut_with_names : (names : List (List ℕ)) (cell : CellData) (trees : List Tree) (report : Report) (out err : Sunk) → IsCutShort [] cell trees report out err → IsCutShort names cell trees report out err
 cut_with_names names cell trees report out err c = record { run = c.run; refused_is = c.refused_is; status = c.status; printed = c.printed; calls = c.calls; told = c.told }
 
-run_answers : (names : List (List ℕ)) (cell : CellData) (trees : List Tree) (report : Report) (out err : Sunk) → RunsOrMemory cell trees report out err → AnswersOrMemory (runs names cell trees) report out err
-run_answers names cell trees report out err (inl memory) = inl memory
-run_answers names cell trees report out err (inr (inl p)) = inr (inl p)
-run_answers names cell trees report out err (inr (inr c)) = inr (inr (cut_with_names names cell trees report out err c.0))
-
 -- the task is run
-pub task_run : (names : List (List ℕ)) (action : Action) (script : ScriptData) (builds : List Build) (tree : Tree) (report : Report) (out err : Sunk) → action ≡ Round → not_built script builds ≡ None → builds ≡ Ok tree ∷ []
-    → RunsOrMemory (cell_of script) (tree ∷ []) report out err → AnswersOrMemory (unless_refused names (not_built script builds) (done_by (Some action) names script builds)) report out err
-task_run names action script builds tree report out err is none one run =
-    subst (λ (o : Option Refused). AnswersOrMemory (unless_refused names o (done_by (Some action) names script builds)) report out err) (sym none)
-    (subst (λ (x : Action). AnswersOrMemory (done_by (Some x) names script builds) report out err) (sym is)
-    (subst (λ (bs : List Build). AnswersOrMemory (runs names (cell_of script) (trees_of bs)) report out err) (sym one)
-    (run_answers names (cell_of script) (tree ∷ []) report out err run)))
+pub task_run : (names : List (List ℕ)) (script : ScriptData) (reads : List ReadModule) (builds : List Build) (tree : Tree) (report : Report) (out err : Sunk) → AreBuilds (mentions script.tasks) reads builds
+    → not_built script builds ≡ None → builds ≡ Ok tree ∷ [] → RunsOrMemory (cell_of script) (tree ∷ []) report out err → AnswersBuilt names script reads report out err
+task_run names script reads builds tree report out err built none one (inl memory) = inl memory
+task_run names script reads builds tree report out err built none one (inr run) =
+    inr (
+      runs names (cell_of script) (tree ∷ []),
+      (
+        builds,
+        built,
+        ap (λ (bs : List Build). runs names (cell_of script) (trees_of bs)) (sym one)
+            ∙ ap (λ (o : Option Refused). unless_refused names o (runs names (cell_of script) (trees_of builds))) (sym none),
+      ),
+      answers run,
+    )
+  where
+    answers : (IsPrinted (cell_of script) (tree ∷ []) report out err) ⊎ (IsCutShort [] (cell_of script) (tree ∷ []) report out err × Rose out.old.faults out.new.faults)
+        → Answers (runs names (cell_of script) (tree ∷ [])) report out err
+    answers (inl p) = inl p
+    answers (inr c) = inr (cut_with_names names (cell_of script) (tree ∷ []) report out err c.0)

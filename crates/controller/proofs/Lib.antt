@@ -4,6 +4,10 @@ pub mod Lists
 pub mod Picking
 pub mod Mentions
 pub mod Loads
+pub mod ReadModules
+pub mod Parsing
+pub mod Checking
+pub mod Building
 pub mod OneArm
 pub mod OneTree
 pub mod FileNames
@@ -14,5 +18,6 @@ pub mod Fates
 pub mod Printing
 pub mod Reports
 pub mod Exits
+pub mod Causes
 pub mod OneBuilt
 pub mod OneVerdict

@@ -1,6 +1,6 @@
 -- The elements of a list from a place on, and up to a place.
-use Rattle.std.proofs.Common.{◌≡◌, ℕ, zero, suc, ◌+◌, ◌<◌, List, ◌∷◌, [], ◌++◌, length, drop, take, get_or, refl, ap, sym, ◌∙◌, arith, add-one, drop-cons}
-use Rattle.std.proofs.Math.Seq.{take-suc}
+use Rattle.std.proofs.Common.{◌≡◌, ℕ, zero, suc, ◌+◌, ◌-◌, ◌<◌, ◌≤◌, min, length-drop, List, ◌∷◌, [], ◌++◌, length, drop, take, get_or, refl, ap, sym, ◌∙◌, arith, add-one, drop-cons}
+use Rattle.std.proofs.Math.Seq.{take-suc, take-length}
 
 -- the elements from k on
 pub drop-at : {A : Type 0} (xs : List A) (k : ℕ) (d : A) → k < length xs → drop k xs ≡ get_or xs k d ∷ drop (k + 1) xs
@@ -20,3 +20,31 @@ pub get_or-there : {A : Type 0} (xs : List A) (k : ℕ) (d e : A) → k < length
 get_or-there [] k d e lt = absurd (omega arith)
 get_or-there (x ∷ xs) zero d e lt = refl
 get_or-there (x ∷ xs) (suc k) d e lt = get_or-there xs k d e (omega arith)
+
+-- nothing is behind the last element
+pub drop-past : {A : Type 0} (xs : List A) (k : ℕ) → length xs ≤ k → drop k xs ≡ []
+drop-past [] zero past = refl
+drop-past [] (suc k) past = refl
+drop-past (x ∷ xs) zero past = absurd (omega arith)
+drop-past (x ∷ xs) (suc k) past = drop-past xs k (omega arith)
+
+take-nil : {A : Type 0} (n : ℕ) → take {A = A} n [] ≡ []
+take-nil zero = refl
+take-nil (suc n) = refl
+
+-- so many of the first elements, as there are
+pub take-min : {A : Type 0} (xs : List A) (count n : ℕ) → n ≡ min count (length xs) → take n xs ≡ take count xs
+take-min [] count n is = take-nil n ∙ sym (take-nil count)
+take-min (x ∷ xs) zero n is = let none : n ≡ 0 = omega arith in ap (λ (i : ℕ). take i (x ∷ xs)) none
+take-min (x ∷ xs) (suc count) zero is = absurd (omega arith)
+take-min (x ∷ xs) (suc count) (suc n) is = ap (λ ys. x ∷ ys) (take-min xs count n (omega arith))
+
+pub drop-min : {A : Type 0} (xs : List A) (count n : ℕ) → n ≡ min count (length xs) → drop n xs ≡ drop count xs
+drop-min [] count n is = drop-past [] n (omega arith) ∙ sym (drop-past [] count (omega arith))
+drop-min (x ∷ xs) zero n is = let none : n ≡ 0 = omega arith in ap (λ (i : ℕ). drop i (x ∷ xs)) none
+drop-min (x ∷ xs) (suc count) zero is = absurd (omega arith)
+drop-min (x ∷ xs) (suc count) (suc n) is = drop-min xs count n (omega arith)
+
+-- what is left behind some elements, all of it
+pub take-rest : {A : Type 0} (xs : List A) (n : ℕ) → take (length xs - n) (drop n xs) ≡ drop n xs
+take-rest xs n = ap (λ (i : ℕ). take i (drop n xs)) (sym (length-drop n xs)) ∙ take-length (drop n xs)

@@ -7,7 +7,7 @@ use Rattle.std.proofs.lemmas.Bool.Decides.{nat_tests}
 use Rattle.rapid_model.specs.ScriptData.{ScriptData, IsScript, is_task, module_names}
 use Rattle.rapid_model.specs.declared.script_task.ScriptTask.{ScriptTask}
 use Rattle.controller.specs.Accepted.{Mention, later_mentions, mentions_of, mentions}
-use Rattle.controller.specs.Loaded.{mention_of, file_names}
+use Rattle.controller.specs.Loaded.{mention_of, names_in_turn}
 use Rattle.controller.specs.declared.mention.Mention as declared_mention
 use Rattle.controller.proofs.Lists.{take-element}
 
@@ -82,10 +82,9 @@ names_seen : (ms : List declared_mention.Mention) → map (λ (m : declared_ment
 names_seen [] = refl
 names_seen (m ∷ ms) = ap (λ (xs : List (List ℕ)). m.name.now ∷ xs) (names_seen ms)
 
--- the names of the files, by the mentions and by the script
-pub names_are : (name : List ℕ) (ms : List declared_mention.Mention) (tasks : List ScriptTask) → map mention_of ms ≡ mentions tasks → file_names name ms ≡ name ∷ module_names tasks
-names_are name ms tasks is =
-    ap (λ (xs : List (List ℕ)). name ∷ xs) (names_seen ms ∙ ap (map (λ (m : Mention). m.name)) is ∙ mentioned tasks)
+-- the names of the modules' files, by the mentions and by the script
+pub names_are : (ms : List declared_mention.Mention) (tasks : List ScriptTask) → map mention_of ms ≡ mentions tasks → names_in_turn ms ≡ module_names tasks
+names_are ms tasks is = names_seen ms ∙ ap (map (λ (m : Mention). m.name)) is ∙ mentioned tasks
 
 length_later : (armed : Bool) (names : List (List ℕ)) → length (later_mentions armed names) ≡ length names
 length_later armed [] = refl
@@ -107,7 +106,7 @@ pub first_of_all : (b c : Bool) → IsTrue (b && c) → IsTrue b
 first_of_all true c h = refl
 first_of_all false c h = h
 
-rest_of_all : (b c : Bool) → IsTrue (b && c) → IsTrue c
+pub rest_of_all : (b c : Bool) → IsTrue (b && c) → IsTrue c
 rest_of_all true c h = h
 rest_of_all false c h = absurd (let no : false ≡ true = h in cc)
 

@@ -15,28 +15,49 @@ use Rattle.controller.specs.declared.build.Build as declared_build
 use Rattle.controller.specs.declared.mention.Mention as declared_mention
 use Rattle.controller.specs.declared.refused.Refused.{Refused}
 use Rattle.controller.specs.declared.refused.Refused.TheVariants.{Script}
-use Rattle.controller.specs.Accepted.{Mention, Build, later_mentions, mentions_of, mentions, unarmed_move, unbuilt_key, unbuilt_module, unknown_pers, not_built}
+use Rattle.controller.specs.Accepted.{Mention, Build, ReadModule, AreBuilds, later_mentions, mentions_of, mentions, unarmed_move, unbuilt_key, unbuilt_module, not_built}
 use Rattle.controller.specs.Files.{IsDoneFault}
-use Rattle.controller.specs.Loaded.{mention_of, build_of, AreSuited}
+use Rattle.controller.specs.Loaded.{mention_of, build_of}
 use Rattle.controller.specs.Runs.{SuitsOne}
 use Rattle.controller.proofs.Mentions.{first_of_all, task_modules, few_modules, length-seen}
 
+-- a tree is that of a task's first module, and moves only where the task has an arm
+abbrev IsSuited : Mention → Build → Type 0
+IsSuited m (Ok tree) = (m.first ≡ true) × (unarmed_move m.armed tree.list ≡ None)
+IsSuited m (Err place) = Unit {0}
+
+abbrev AreSuited : List Mention → List Build → Type 0
+AreSuited [] [] = Unit {0}
+AreSuited (m ∷ ms) (build ∷ builds) = IsSuited m build × AreSuited ms builds
+AreSuited _ _ = ⊥
+
+suited : (ms : List Mention) (reads : List ReadModule) (builds : List Build) → AreBuilds ms reads builds → AreSuited ms builds
+suited [] [] [] p = tt
+suited [] [] (b ∷ builds) p = absurd p
+suited [] (r ∷ reads) builds p = absurd p
+suited (m ∷ ms) [] builds p = absurd p
+suited (m ∷ ms) (r ∷ reads) [] p = absurd p
+suited (m ∷ ms) (r ∷ reads) (Ok tree ∷ builds) p = ((p.0.0, p.0.2), suited ms reads builds p.1)
+suited (m ∷ ms) (r ∷ reads) (Err place ∷ builds) p = (tt, suited ms reads builds p.1)
+
 -- as many builds as mentions
-suited_length : (ms : List Mention) (builds : List Build) → AreSuited ms builds → length builds ≡ length ms
-suited_length [] [] p = refl
-suited_length [] (b ∷ builds) p = absurd p
-suited_length (m ∷ ms) [] p = absurd p
-suited_length (m ∷ ms) (b ∷ builds) p = ap (λ (n : ℕ). suc n) (suited_length ms builds p.1)
+built_length : (ms : List Mention) (reads : List ReadModule) (builds : List Build) → AreBuilds ms reads builds → length builds ≡ length ms
+built_length [] [] [] p = refl
+built_length [] [] (b ∷ builds) p = absurd p
+built_length [] (r ∷ reads) builds p = absurd p
+built_length (m ∷ ms) [] builds p = absurd p
+built_length (m ∷ ms) (r ∷ reads) [] p = absurd p
+built_length (m ∷ ms) (r ∷ reads) (b ∷ builds) p = ap (λ (n : ℕ). suc n) (built_length ms reads builds p.1)
 
 length_built : (builds : List declared_build.Build) → length (map build_of builds) ≡ length builds
 length_built [] = refl
 length_built (b ∷ builds) = ap (λ (n : ℕ). suc n) (length_built builds)
 
-pub few_builds : (script : ScriptData) (ms : List declared_mention.Mention) (builds : List declared_build.Build) → IsScript script → map mention_of ms ≡ mentions script.tasks
-    → AreSuited (map mention_of ms) (map build_of builds) → length builds ≤ 128
-few_builds script ms builds limits is suited =
+pub few_builds : (script : ScriptData) (ms : List declared_mention.Mention) (reads : List ReadModule) (builds : List declared_build.Build) → IsScript script → map mention_of ms ≡ mentions script.tasks
+    → AreBuilds (map mention_of ms) reads (map build_of builds) → length builds ≤ 128
+few_builds script ms reads builds limits is built =
     let few = few_modules script ms limits is in
-    let same = suited_length (map mention_of ms) (map build_of builds) suited in
+    let same = built_length (map mention_of ms) reads (map build_of builds) built in
     let here = length_built builds in
     let seen = length-seen ms in
     omega (arith, few, same, here, seen)
@@ -125,14 +146,14 @@ of_tasks script (task ∷ []) builds is some few all p none =
 of_tasks script (task ∷ other ∷ tasks) builds is some few all p none = absurd (omega arith)
 
 -- where nothing is refused
-pub one_tree : (script : ScriptData) (ms : List declared_mention.Mention) (builds : List Build) → IsScript script → map mention_of ms ≡ mentions script.tasks → AreSuited (map mention_of ms) builds
-    → not_built script builds ≡ None → OneTree script builds
-one_tree script ms builds limits is suited none =
+pub one_tree : (script : ScriptData) (ms : List declared_mention.Mention) (reads : List ReadModule) (builds : List Build) → IsScript script → map mention_of ms ≡ mentions script.tasks
+    → AreBuilds (map mention_of ms) reads builds → not_built script builds ≡ None → OneTree script builds
+one_tree script ms reads builds limits is built none =
     let key : Option Refused = option_map (λ key. Script key rules.NotBuilt) (unbuilt_key script) in
-    let later : Option Refused = or_else (unbuilt_module 1 builds) (unknown_pers script) in
-    let no_key : unbuilt_key script ≡ None = none_mapped (λ key. Script key rules.NotBuilt) (unbuilt_key script) (none_first key later none) in
-    let no_module : unbuilt_module 1 builds ≡ None = none_first (unbuilt_module 1 builds) (unknown_pers script) (none_then key later none) in
-    of_tasks script script.tasks builds refl limits.some_tasks (few_tasks script no_key) limits.tasks (subst (λ (xs : List Mention). AreSuited xs builds) is suited) no_module
+    let no_key : unbuilt_key script ≡ None = none_mapped (λ key. Script key rules.NotBuilt) (unbuilt_key script) (none_first key (unbuilt_module 1 builds) none) in
+    let no_module : unbuilt_module 1 builds ≡ None = none_then key (unbuilt_module 1 builds) none in
+    of_tasks script script.tasks builds refl limits.some_tasks (few_tasks script no_key) limits.tasks
+    (suited (mentions script.tasks) reads builds (subst (λ (xs : List Mention). AreBuilds xs reads builds) is built)) no_module
 
 -- the tree of the one module
 pub suits_only : (script : ScriptData) (builds : List Build) (tree : Tree) → OneTree script builds → builds ≡ Ok tree ∷ [] → SuitsOne (cell_of script) tree
@@ -146,19 +167,13 @@ key_fault : (old new : ℕ) (o : Option (List ℕ)) (rest : Option Refused) → 
 key_fault old new None rest p = p
 key_fault old new (Some key) rest p = tt
 
-module_fault : (old new file : ℕ) (builds : List Build) (rest : Option Refused) → IfSome rest (IsDoneFault old new) → IfSome (or_else (unbuilt_module file builds) rest) (IsDoneFault old new)
-module_fault old new file [] rest p = p
-module_fault old new file (Ok tree ∷ builds) rest p = module_fault old new (file + 1) builds rest p
-module_fault old new file (Err place ∷ builds) rest p = tt
-
-pers_fault : (old new : ℕ) (none : Bool) → IfSome (if none then None else Some (Script (codes "pers[0]") rules.NoSuch)) (IsDoneFault old new)
-pers_fault old new true = tt
-pers_fault old new false = tt
+module_fault : (old new file : ℕ) (builds : List Build) → IfSome (unbuilt_module file builds) (IsDoneFault old new)
+module_fault old new file [] = tt
+module_fault old new file (Ok tree ∷ builds) = module_fault old new (file + 1) builds
+module_fault old new file (Err place ∷ builds) = tt
 
 not_built_fault : (old new : ℕ) (script : ScriptData) (builds : List Build) → IfSome (not_built script builds) (IsDoneFault old new)
-not_built_fault old new script builds =
-    key_fault old new (unbuilt_key script) (or_else (unbuilt_module 1 builds) (unknown_pers script))
-    (module_fault old new 1 builds (unknown_pers script) (pers_fault old new (length script.pers == 0)))
+not_built_fault old new script builds = key_fault old new (unbuilt_key script) (unbuilt_module 1 builds) (module_fault old new 1 builds)
 
 pub not_built_told : (old new : ℕ) (script : ScriptData) (builds : List Build) (told : Option Refused) (refused : Refused) → not_built script builds ≡ Some refused → told ≡ Some refused → IfSome told (IsDoneFault old new)
 not_built_told old new script builds told refused is same =

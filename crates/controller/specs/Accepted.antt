@@ -1,5 +1,5 @@
 -- What command words and files come to: the first refusal; or what is checked; or the cell and the trees of its tasks.
-use Rattle.std.specs.Prelude.{◌≡◌, ℕ, ◌+◌, ◌⊎◌, Bool, true, false, not, nat_lt, List, [], ◌∷◌, ◌++◌, length, map, codes, Option, Some, None, is_some, Result, Ok, Err, ◌==◌, if◌then◌else◌}
+use Rattle.std.specs.Prelude.{◌≡◌, ℕ, zero, suc, ◌+◌, ◌-◌, ◌⊎◌, take, drop, slice_get, Bool, true, false, not, nat_lt, List, [], ◌∷◌, ◌++◌, length, map, codes, Option, Some, None, is_some, Result, Ok, Err, ◌==◌, if◌then◌else◌}
 use Rattle.std.specs.Option.{option_map}
 use Rattle.outside.specs.Told.{Told, found, after_reads}
 use Rattle.rapid_model.specs.CellData.{CellData}
@@ -14,6 +14,12 @@ use Rattle.cell_script.specs.ScriptOf.{ScriptOf}
 use Rattle.rapid_lexer.specs.Places.{line_of, column_of}
 use Rattle.rapid_lexer.specs.declared.place.Place.{Place}
 use Rattle.raw_trees.specs.Plain.{PlainModule, PlainItem}
+use Rattle.typed_trees.specs.Plain.{TypedTree}
+use Rattle.data_scopes.specs.declared.fault.TypeRule.{TypeRule}
+use Rattle.data_scopes.specs.declared.fault.TypeRule.TheVariants.{PersType}
+use Rattle.data_scopes.specs.Declarations.{Checked}
+use Rattle.stmt_types.specs.Task.{task_of}
+use Rattle.cell_numbers.specs.Cells.{CellBreak, Clash, InScript, Making, CellTables, cell_tables}
 use Rattle.rapid_forms.specs.declared.fault.SyntaxFault.{SyntaxFault}
 use Rattle.rapid_forms.specs.declared.fault.SyntaxFault.TheVariants as faults
 use Rattle.module_parser.specs.Modules.{ModuleText}
@@ -22,7 +28,7 @@ use Rattle.controller.specs.declared.command.Action.{Action}
 use Rattle.controller.specs.declared.command.Action.TheVariants.{Round}
 use Rattle.controller.specs.declared.refused.Refused.{Refused}
 use Rattle.controller.specs.declared.refused.Refused.TheVariants.{Words, Script, Module, Memory}
-use Rattle.controller.specs.declared.refused.ModuleRule.TheVariants.{Lex, Syntax, NotBuilt}
+use Rattle.controller.specs.declared.refused.ModuleRule.TheVariants.{Lex, Syntax, Typing, NotBuilt}
 use Rattle.controller.specs.Files.{text_of}
 use Rattle.controller.specs.Words.{refused_place, script_name, plain_words, first_action}
 
@@ -100,25 +106,90 @@ abbrev pub BuildOf : Mention → List ℕ → PlainModule → Build → Type 0
 BuildOf m text raw (Ok tree) = BuiltAs m raw (Ok tree)
 BuildOf m text raw (Err place) = (at : ℕ) × BuiltAs m raw (Err at) × (place ≡ place_at text at)
 
--- what a text comes to: a refusal by its fault; or what the module that it spells is built to
-abbrev pub ModuleOf : Mention → ℕ → List ℕ → Result Build Refused → Type 0
-ModuleOf m file text (Err refused) = (fault : SyntaxFault) × ModuleText text (Err fault) × (refused ≡ fault_refusal file text fault)
-ModuleOf m file text (Ok build) = (raw : PlainModule) × ModuleText text (Ok raw) × BuildOf m text raw build
+-- a module that is read: its text, and what the text spells
+pub record ReadModule : Type 0 where
+  pub text : List ℕ
+  pub raw : PlainModule
+
+-- what a text comes to: a refusal by its fault; or the module that it spells
+abbrev pub ModuleOf : ℕ → List ℕ → Result ReadModule Refused → Type 0
+ModuleOf file text (Err refused) = (fault : SyntaxFault) × ModuleText text (Err fault) × (refused ≡ fault_refusal file text fault)
+ModuleOf file text (Ok read) = (read.text ≡ text) × ModuleText text (Ok read.raw)
 
 -- the module in the file of this number
-abbrev pub ModuleIn : Mention → ℕ → Result (List ℕ) Refused → Result Build Refused → Type 0
-ModuleIn m file (Err refused) verdict = verdict ≡ Err refused
-ModuleIn m file (Ok text) verdict = ModuleOf m file text verdict
+abbrev pub ModuleIn : ℕ → Result (List ℕ) Refused → Result ReadModule Refused → Type 0
+ModuleIn file (Err refused) verdict = verdict ≡ Err refused
+ModuleIn file (Ok text) verdict = ModuleOf file text verdict
 
--- the modules of these mentions, the first of which has this number; or the first refusal
-abbrev pub ModulesOf : Told → ℕ → List Mention → Result (List Build) Refused → Type 0
+-- the modules of these names, the first of which has this number; or the first refusal
+abbrev pub ModulesOf : Told → ℕ → List (List ℕ) → Result (List ReadModule) Refused → Type 0
 ModulesOf told file [] verdict = verdict ≡ Ok []
-ModulesOf told file (m ∷ ms) (Err refused) =
-    ModuleIn m file (file_text told file module_limit m.name) (Err refused)
-    ⊎ ((build : Build) × ModuleIn m file (file_text told file module_limit m.name) (Ok build) × ModulesOf told (file + 1) ms (Err refused))
-ModulesOf told file (m ∷ ms) (Ok []) = ⊥
-ModulesOf told file (m ∷ ms) (Ok (build ∷ builds)) =
-    ModuleIn m file (file_text told file module_limit m.name) (Ok build) × ModulesOf told (file + 1) ms (Ok builds)
+ModulesOf told file (name ∷ names) (Err refused) =
+    ModuleIn file (file_text told file module_limit name) (Err refused)
+    ⊎ ((read : ReadModule) × ModuleIn file (file_text told file module_limit name) (Ok read) × ModulesOf told (file + 1) names (Err refused))
+ModulesOf told file (name ∷ names) (Ok []) = ⊥
+ModulesOf told file (name ∷ names) (Ok (read ∷ reads)) =
+    ModuleIn file (file_text told file module_limit name) (Ok read) × ModulesOf told (file + 1) names (Ok reads)
+
+abbrev pub read_text : Option ReadModule → List ℕ
+read_text (Some read) = read.text
+read_text None = []
+
+-- the refusal by a rule of names and types, in the module of this number among these; the first of them is in this file
+abbrev pub rule_refusal : ℕ → List ReadModule → ℕ → ℕ → TypeRule → Refused
+rule_refusal file reads number at rule = Module (file + number) (place_at (read_text (slice_get reads number)) at) (Typing rule)
+
+abbrev pub or_refused : ℕ → List ReadModule → Checked TypedTree → Result TypedTree Refused
+or_refused file reads (Ok tree) = Ok tree
+or_refused file reads (Err broken) = Err (rule_refusal file reads broken.«module» broken.at broken.rule)
+
+abbrev pub names_in : List ScriptTask → List (List ℕ)
+names_in tasks = map (λ task. task.name) tasks
+
+-- the typed tree of a task, whose modules these are, the first of them in this file
+abbrev pub typed_task : ScriptData → ScriptTask → ℕ → List ReadModule → Result TypedTree Refused
+typed_task script task file reads =
+    or_refused file reads (task_of (map (λ read. read.raw) reads) (names_in script.tasks) script.signals (is_some task.arm))
+
+abbrev pub with_tree : TypedTree → Result (List TypedTree) Refused → Result (List TypedTree) Refused
+with_tree tree (Ok trees) = Ok (tree ∷ trees)
+with_tree tree (Err refused) = Err refused
+
+-- a tree and those of further tasks; or the first refusal
+abbrev pub then_trees : Result TypedTree Refused → Result (List TypedTree) Refused → Result (List TypedTree) Refused
+then_trees (Ok tree) more = with_tree tree more
+then_trees (Err refused) more = Err refused
+
+-- the typed trees of these tasks, each with as many of the modules as it names; the first module is in this file
+abbrev pub typed_tasks : ScriptData → List ScriptTask → ℕ → List ReadModule → Result (List TypedTree) Refused
+typed_tasks script [] file reads = Ok []
+typed_tasks script (task ∷ tasks) file reads =
+    let count = length task.modules in
+    then_trees (typed_task script task file (take count reads)) (typed_tasks script tasks (file + count) (drop count reads))
+
+-- the file of the first module of the task of this number
+abbrev pub first_file : List ScriptTask → ℕ → ℕ
+first_file [] number = 1
+first_file (task ∷ tasks) zero = 1
+first_file (task ∷ tasks) (suc number) = length task.modules + first_file tasks number
+
+-- why no cell is made of the trees: the later of two declarations that differ, or a value of the script
+abbrev pub cell_refusal : ScriptData → List ReadModule → CellBreak → Refused
+cell_refusal script reads (Clash task number at) = rule_refusal 1 reads ((first_file script.tasks task - 1) + number) at PersType
+cell_refusal script reads (InScript key rule) = Script key rule
+
+abbrev pub cell_checked : ScriptData → List ReadModule → Making CellTables → Option Refused
+cell_checked script reads (Ok tables) = None
+cell_checked script reads (Err broken) = Some (cell_refusal script reads broken)
+
+abbrev pub trees_checked : ScriptData → List ReadModule → Result (List TypedTree) Refused → Option Refused
+trees_checked script reads (Err refused) = Some refused
+trees_checked script reads (Ok trees) = cell_checked script reads (cell_tables script.pers trees)
+
+-- the first refusal of the modules of a script: by names and types, task by task; then by what the tasks share; then by the
+-- script's values of persistents
+abbrev pub checked : ScriptData → List ReadModule → Option Refused
+checked script reads = trees_checked script reads (typed_tasks script script.tasks 1 reads)
 
 -- the first key of the script that is there and not built
 abbrev pub unbuilt_key : ScriptData → Option (List ℕ)
@@ -135,33 +206,40 @@ unbuilt_module file [] = None
 unbuilt_module file (Ok tree ∷ builds) = unbuilt_module (file + 1) builds
 unbuilt_module file (Err place ∷ builds) = Some (Module file place NotBuilt)
 
--- values of persistents speak of persistents of the modules, and a built module has none
-abbrev pub unknown_pers : ScriptData → Option Refused
-unknown_pers script = if length script.pers == 0 then None else Some (Script (codes "pers[0]") rules.NoSuch)
-
--- the refusal of what is not built: a key of the script, then a form of a module; then a value of a persistent
+-- the refusal of what is not built: a key of the script, then a form of a module
 abbrev pub not_built : ScriptData → List Build → Option Refused
-not_built script builds =
-    or_else (option_map (λ key. Script key rules.NotBuilt) (unbuilt_key script)) (or_else (unbuilt_module 1 builds) (unknown_pers script))
+not_built script builds = or_else (option_map (λ key. Script key rules.NotBuilt) (unbuilt_key script)) (unbuilt_module 1 builds)
+
+-- what each module of these mentions is built to
+abbrev pub AreBuilds : List Mention → List ReadModule → List Build → Type 0
+AreBuilds [] [] [] = Unit {0}
+AreBuilds (m ∷ ms) (read ∷ reads) (build ∷ builds) = BuildOf m read.text read.raw build × AreBuilds ms reads builds
+AreBuilds _ _ _ = ⊥
 
 abbrev pub trees_of : List Build → List Tree
 trees_of [] = []
 trees_of (Ok tree ∷ builds) = tree ∷ trees_of builds
 trees_of (Err place ∷ builds) = trees_of builds
 
--- what the action does with a script whose modules are all read
-abbrev pub done_by : Option Action → List (List ℕ) → ScriptData → List Build → Verdict
-done_by (Some Round) names script builds = runs names (cell_of script) (trees_of builds)
-done_by _ names script builds = accepts names
-
 abbrev pub unless_refused : List (List ℕ) → Option Refused → Verdict → Verdict
 unless_refused names (Some refused) verdict = refuses names refused
 unless_refused names None verdict = verdict
 
+-- what the action comes to where all is accepted: a run needs what is built
+abbrev pub ActionDecides : Option Action → List (List ℕ) → ScriptData → List ReadModule → Verdict → Type 0
+ActionDecides (Some Round) names script reads verdict =
+    (builds : List Build) × AreBuilds (mentions script.tasks) reads builds
+    × (verdict ≡ unless_refused names (not_built script builds) (runs names (cell_of script) (trees_of builds)))
+ActionDecides _ names script reads verdict = verdict ≡ accepts names
+
+abbrev pub CheckedDecides : Option Action → List (List ℕ) → ScriptData → List ReadModule → Option Refused → Verdict → Type 0
+CheckedDecides action names script reads (Some refused) verdict = verdict ≡ refuses names refused
+CheckedDecides action names script reads None verdict = ActionDecides action names script reads verdict
+
 -- with the script read, its modules and its cell
-abbrev pub verdict_of : Option Action → List (List ℕ) → ScriptData → Result (List Build) Refused → Verdict
-verdict_of action names script (Ok builds) = unless_refused names (not_built script builds) (done_by action names script builds)
-verdict_of action names script (Err refused) = refuses names refused
+abbrev pub ModulesDecide : Option Action → List (List ℕ) → ScriptData → Result (List ReadModule) Refused → Verdict → Type 0
+ModulesDecide action names script (Err refused) verdict = verdict ≡ refuses names refused
+ModulesDecide action names script (Ok reads) verdict = CheckedDecides action names script reads (checked script reads) verdict
 
 abbrev pub names_of : List ℕ → ScriptData → List (List ℕ)
 names_of name script = name ∷ module_names script.tasks
@@ -170,8 +248,8 @@ names_of name script = name ∷ module_names script.tasks
 abbrev pub ScriptDecides : Option Action → Told → List ℕ → Read ScriptData → Verdict → Type 0
 ScriptDecides action told name (Err broken) verdict = verdict ≡ refuses (name ∷ []) (Script broken.key broken.rule)
 ScriptDecides action told name (Ok script) verdict =
-    (modules : Result (List Build) Refused) × ModulesOf told 1 (mentions script.tasks) modules
-    × (verdict ≡ verdict_of action (names_of name script) script modules)
+    (modules : Result (List ReadModule) Refused) × ModulesOf told 1 (module_names script.tasks) modules
+    × ModulesDecide action (names_of name script) script modules verdict
 
 abbrev pub FileDecides : Option Action → Told → List ℕ → Result (List ℕ) Refused → Verdict → Type 0
 FileDecides action told name (Err refused) verdict = verdict ≡ refuses (name ∷ []) refused

@@ -10,7 +10,10 @@ use Rattle.history_text.specs.Lines.{lines_of, output_of}
 use Rattle.controller.specs.declared.report.Report.{Report}
 use Rattle.controller.specs.declared.refused.Refused.{Refused}
 use Rattle.controller.specs.declared.refused.Refused.TheVariants.{Write, Memory}
-use Rattle.controller.specs.Accepted.{Verdict, refuses, accepts, runs, Accepted}
+use Rattle.rapid_model.specs.ScriptData.{ScriptData}
+use Rattle.controller.specs.declared.command.Action.{Action}
+use Rattle.controller.specs.declared.command.Action.TheVariants.{Round}
+use Rattle.controller.specs.Accepted.{Verdict, refuses, accepts, runs, Accepted, ReadModule, checked, ActionDecides, CheckedDecides}
 use Rattle.controller.specs.Refusals.{status_of, refusal_line}
 use Rattle.controller.specs.Runs.{IsRun, run_status}
 use Rattle.controller.specs.Sends.{SendsLines, SendsSome}
@@ -106,6 +109,19 @@ RunsOrMemory cell trees report out err = IsOutOfMemory report out err ⊎ Answer
 -- a verdict, want of memory aside
 abbrev pub AnswersOrMemory : Verdict → Report → Sunk → Sunk → Type 0
 AnswersOrMemory verdict report out err = IsOutOfMemory report out err ⊎ Answers verdict report out err
+
+-- it answers a verdict of which this holds, want of memory aside
+abbrev pub AnswersSome : (Verdict → Type 0) → Report → Sunk → Sunk → Type 0
+AnswersSome P report out err = IsOutOfMemory report out err ⊎ ((verdict : Verdict) × P verdict × Answers verdict report out err)
+
+-- with all modules read
+abbrev pub AnswersReads : Option Action → List (List ℕ) → ScriptData → List ReadModule → Report → Sunk → Sunk → Type 0
+AnswersReads action names script reads report out err =
+    AnswersSome (CheckedDecides action names script reads (checked script reads)) report out err
+
+-- with all modules accepted, where they are to run
+abbrev pub AnswersBuilt : List (List ℕ) → ScriptData → List ReadModule → Report → Sunk → Sunk → Type 0
+AnswersBuilt names script reads report out err = AnswersSome (ActionDecides (Some Round) names script reads) report out err
 
 -- The report answers what the words and the files come to, where the shelf tells its files; else it answers as for some
 -- files. Want of memory aside.

@@ -1,5 +1,5 @@
--- What loading a script and its modules comes to.
-use Rattle.std.specs.Prelude.{◌≡◌, ℕ, ◌⊎◌, true, List, [], ◌∷◌, map, None, Result, Ok, Err, Vec}
+-- What loading a script and its modules comes to, and how contracts see what is loaded.
+use Rattle.std.specs.Prelude.{◌≡◌, ℕ, ◌+◌, ◌<◌, ◌^◌, ◌⊎◌, List, [], ◌∷◌, map, length, Option, None, Some, Result, Ok, Err, Vec, All}
 use Rattle.std.specs.declared.alloc.Global.{Global}
 use Rattle.outside.specs.Told.{Told}
 use Rattle.rapid_model.specs.ScriptData.{ScriptData}
@@ -7,14 +7,22 @@ use Rattle.rapid_model.specs.declared.tree.Tree.{Tree}
 use Rattle.cell_script.specs.Break.{Break}
 use Rattle.cell_script.specs.ScriptOf.{ScriptOf}
 use Rattle.raw_trees.specs.Plain.{PlainModule}
+use Rattle.raw_trees.specs.Views.{view_module}
+use Rattle.raw_trees.specs.declared.raw_module.RawModule.{RawModule}
+use Rattle.data_scopes.specs.declared.fault.TypeFault.{TypeFault}
+use Rattle.data_scopes.specs.declared.fault.TypeFault.TheVariants as types
+use Rattle.cell_numbers.specs.Cells.{Clash}
+use Rattle.cell_numbers.specs.declared.cell_fault.CellFault.{CellFault}
+use Rattle.cell_numbers.specs.declared.cell_fault.CellFault.TheVariants as cells
 use Rattle.built_forms.specs.declared.fault.BuildFault.{BuildFault}
 use Rattle.built_forms.specs.declared.fault.BuildFault.TheVariants as faults
 use Rattle.controller.specs.declared.build.Build as declared_build
 use Rattle.controller.specs.declared.build.Build.TheVariants as kinds
 use Rattle.controller.specs.declared.mention.Mention as declared_mention
+use Rattle.controller.specs.declared.modules.Modules.{Modules}
 use Rattle.controller.specs.declared.refused.Refused.{Refused}
 use Rattle.controller.specs.declared.refused.Refused.TheVariants.{Script, Memory}
-use Rattle.controller.specs.Accepted.{Mention, Build, BuiltAs, ModuleIn, ModulesOf, unarmed_move}
+use Rattle.controller.specs.Accepted.{Mention, Build, BuiltAs, ReadModule, ModuleOf, module_limit, file_text, rule_refusal, cell_refusal}
 
 -- a mention and a build as contracts see them
 abbrev pub mention_of : declared_mention.Mention → Mention
@@ -24,9 +32,30 @@ abbrev pub build_of : declared_build.Build → Build
 build_of (kinds.Tree tree) = Ok tree
 build_of (kinds.NotBuilt place) = Err place
 
+-- the names of the modules' files
+abbrev pub names_in_turn : List declared_mention.Mention → List (List ℕ)
+names_in_turn ms = map (λ m. m.name.now) ms
+
 -- the names of the files, the script's first
 abbrev pub file_names : List ℕ → List declared_mention.Mention → List (List ℕ)
-file_names script ms = script ∷ map (λ m. m.name.now) ms
+file_names script ms = script ∷ names_in_turn ms
+
+-- modules by their texts and trees
+abbrev pub reads_of : List (Vec ℕ Global) → List RawModule → List ReadModule
+reads_of (text ∷ texts) (tree ∷ trees) = record { text = text.items; raw = view_module tree } ∷ reads_of texts trees
+reads_of _ _ = []
+
+abbrev pub reads_in : Modules → List ReadModule
+reads_in modules = reads_of modules.texts.now modules.trees.now
+
+-- a text has fewer bytes than places can count
+abbrev pub IsShort : Vec ℕ Global → Type 0
+IsShort text = length text.items < 2 ^ 31
+
+-- each tree has its text
+pub record ArePaired (modules : Modules) : Type 0 where
+  pub same : length modules.texts.now ≡ length modules.trees.now
+  pub short : All IsShort modules.texts.now
 
 -- the script of what the file's read comes to, want of memory aside
 abbrev pub IsScriptIn : Result (List ℕ) Refused → Result ScriptData Refused → Type 0
@@ -35,28 +64,52 @@ IsScriptIn read (Err refused) =
     (refused ≡ Memory) ⊎ ((read ≡ Err refused)
     ⊎ ((text : List ℕ) × (broken : Break) × (read ≡ Ok text) × ScriptOf text (Err broken) × (refused ≡ Script broken.key broken.rule)))
 
--- the module of what the file's read comes to, want of memory aside
-abbrev pub IsModuleIn : Mention → ℕ → Result (List ℕ) Refused → Result declared_build.Build Refused → Type 0
-IsModuleIn m file read (Ok build) = ModuleIn m file read (Ok (build_of build))
-IsModuleIn m file read (Err refused) = (refused ≡ Memory) ⊎ ModuleIn m file read (Err refused)
+-- The texts of the files of these names, the first of which has this number, up to the first one that is not read, and why
+-- that one is not. Want of memory aside.
+abbrev pub AreTexts : Told → ℕ → List (List ℕ) → List (List ℕ) → Option Refused → Type 0
+AreTexts told file [] [] None = Unit {0}
+AreTexts told file (name ∷ names) [] (Some refused) = (refused ≡ Memory) ⊎ (file_text told file module_limit name ≡ Err refused)
+AreTexts told file (name ∷ names) (text ∷ texts) failed =
+    (file_text told file module_limit name ≡ Ok text) × AreTexts told (file + 1) names texts failed
+AreTexts _ _ _ _ _ = ⊥
+
+-- what these texts come to, of which the first has this number, with what failed behind them
+abbrev pub TextsDecide : ℕ → List (List ℕ) → Option Refused → Result (List ReadModule) Refused → Type 0
+TextsDecide file [] None verdict = verdict ≡ Ok []
+TextsDecide file [] (Some refused) verdict = verdict ≡ Err refused
+TextsDecide file (text ∷ texts) failed (Err refused) =
+    ModuleOf file text (Err refused)
+    ⊎ ((read : ReadModule) × ModuleOf file text (Ok read) × TextsDecide (file + 1) texts failed (Err refused))
+TextsDecide file (text ∷ texts) failed (Ok []) = ⊥
+TextsDecide file (text ∷ texts) failed (Ok (read ∷ reads)) = ModuleOf file text (Ok read) × TextsDecide (file + 1) texts failed (Ok reads)
+
+-- the bytes of texts
+abbrev pub bytes_of : List (Vec ℕ Global) → List (List ℕ)
+bytes_of texts = map (λ v. v.items) texts
+
+-- what the texts come to, want of memory aside
+abbrev pub AreParsed : List (Vec ℕ Global) → Option Refused → Result (Vec RawModule Global) Refused → Type 0
+AreParsed texts failed (Ok trees) = TextsDecide 1 (bytes_of texts) failed (Ok (reads_of texts trees.items))
+AreParsed texts failed (Err refused) = (refused ≡ Memory) ⊎ TextsDecide 1 (bytes_of texts) failed (Err refused)
+
+-- the refusal by a rule of names and types, in one of these modules, want of memory aside
+abbrev pub IsRuleRefusal : ℕ → List ReadModule → TypeFault → Refused → Type 0
+IsRuleRefusal file reads (types.Rule number at rule) refused = (refused ≡ Memory) ⊎ (refused ≡ rule_refusal file reads number at rule)
+IsRuleRefusal file reads types.Memory refused = refused ≡ Memory
+
+-- the refusal of a cell, want of memory aside
+abbrev pub IsCellRefusal : ScriptData → List ReadModule → CellFault → Refused → Type 0
+IsCellRefusal script reads (cells.Clash task number at) refused = (refused ≡ Memory) ⊎ (refused ≡ cell_refusal script reads (Clash task number at))
+IsCellRefusal script reads (cells.Script key rule) refused = refused ≡ Script key rule
+IsCellRefusal script reads cells.Memory refused = refused ≡ Memory
+
+-- nothing is refused, or just this, want of memory aside
+abbrev pub Checks : {A : Type 0} → Option Refused → Result A Refused → Type 0
+Checks found (Ok x) = found ≡ None
+Checks found (Err refused) = (refused ≡ Memory) ⊎ (found ≡ Some refused)
 
 -- what the module of a mention is built to, as a byte of its text where it is not, want of memory aside
 abbrev pub IsBuiltFor : Mention → PlainModule → Result Tree BuildFault → Type 0
 IsBuiltFor m raw (Ok tree) = BuiltAs m raw (Ok tree)
 IsBuiltFor m raw (Err (faults.NotBuilt at)) = BuiltAs m raw (Err at)
 IsBuiltFor m raw (Err faults.Memory) = Unit {0}
-
--- the modules that are read from what was told before the script, want of memory aside
-abbrev pub AreModules : Told → List Mention → Result (Vec declared_build.Build Global) Refused → Type 0
-AreModules told ms (Ok builds) = ModulesOf told 1 ms (Ok (map build_of builds.items))
-AreModules told ms (Err refused) = (refused ≡ Memory) ⊎ ModulesOf told 1 ms (Err refused)
-
--- a tree is that of a task's first module, and moves only where the task has an arm
-abbrev pub IsSuited : Mention → Build → Type 0
-IsSuited m (Ok tree) = (m.first ≡ true) × (unarmed_move m.armed tree.list ≡ None)
-IsSuited m (Err place) = Unit {0}
-
-abbrev pub AreSuited : List Mention → List Build → Type 0
-AreSuited [] [] = Unit {0}
-AreSuited (m ∷ ms) (build ∷ builds) = IsSuited m build × AreSuited ms builds
-AreSuited _ _ = ⊥

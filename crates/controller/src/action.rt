@@ -5,11 +5,14 @@ ghost use Rattle.controller.specs.Printed.{sunk};
 ghost use Rattle.controller.specs.Answered.{AnswersWords, word_bytes};
 
 use crate::done::do_action;
-use crate::load::{load_modules, load_script};
+use crate::load::{load_script, load_texts};
 use crate::mention::mentions_of;
+use crate::module_text::parse_texts;
+use crate::modules::Modules;
 use crate::refusal_report::{refuse, refuse_file};
 use crate::refused::Refused;
 use crate::report::Report;
+use crate::texts::Texts;
 use crate::words::read_words;
 use outside::{Shelf, Sink};
 use std::alloc::Global;
@@ -44,9 +47,16 @@ pub fn quiet<S: Shelf, O: Sink, E: Sink>(
         Ok(mentions) => mentions,
         Err(_) => return refuse(alloc, err, "", Refused::Memory),
     };
-    let modules = mentions.as_slice();
-    match load_modules(alloc, shelf, modules) {
-        Ok(builds) => do_action(alloc, &command, &script, modules, builds, out, err),
-        Err(refused) => refuse_file(alloc, err, command.script, modules, refused),
+    let files = mentions.as_slice();
+    let Texts { texts, failed } = load_texts(alloc, shelf, files);
+    match parse_texts(alloc, texts.as_slice(), failed) {
+        Ok(trees) => {
+            let modules = Modules {
+                texts: texts.as_slice(),
+                trees: trees.as_slice(),
+            };
+            do_action(alloc, &command, &script, files, &modules, out, err)
+        }
+        Err(refused) => refuse_file(alloc, err, command.script, files, refused),
     }
 }

@@ -3,6 +3,8 @@
 
 mod action;
 mod build;
+mod built;
+mod check;
 mod command;
 mod done;
 mod file;
@@ -10,6 +12,7 @@ mod laws;
 mod load;
 mod mention;
 mod module_text;
+mod modules;
 mod not_built;
 mod print;
 mod refusal_report;
@@ -19,6 +22,7 @@ mod run;
 mod run_report;
 mod status;
 mod telling;
+mod texts;
 mod words;
 mod write;
 

@@ -1,14 +1,13 @@
-ghost use Rattle.std.specs.Prelude.{◌≡◌, ◌≤◌, ◌<◌, ◌^◌, Some, IfOk, IfErr, IfSome, option_map, map, length};
+ghost use Rattle.std.specs.Prelude.{◌≡◌, ◌≤◌, ◌<◌, ◌^◌, None, Some, IfOk, IfErr, IfSome, option_map, length, All};
 ghost use Rattle.outside.specs.Told.{Told, found, after_reads};
 ghost use Rattle.controller.specs.Files.{text_of, IsLoadFault};
-ghost use Rattle.controller.specs.Loaded.{mention_of, build_of, IsScriptIn, IsModuleIn, AreModules, IsSuited, AreSuited};
-ghost use Rattle.controller.specs.Accepted.{script_limit, module_limit};
+ghost use Rattle.controller.specs.Loaded.{names_in_turn, bytes_of, IsScriptIn, IsShort, AreTexts};
+ghost use Rattle.controller.specs.Accepted.{script_limit};
 
-use crate::build::Build;
 use crate::file::read_file;
 use crate::mention::Mention;
-use crate::module_text::read_module;
 use crate::refused::Refused;
+use crate::texts::Texts;
 use cell_script::{ScriptFault, read_script};
 use outside::Shelf;
 use rapid_model::Script;
@@ -39,47 +38,41 @@ pub(crate) fn load_script<S: Shelf>(
     }
 }
 
-/// What the modules of these mentions are built to, each in turn: the first file after the script's has number 1. The
-/// first refusal ends it.
-pub(crate) fn load_modules<S: Shelf>(
-    alloc: Global,
-    shelf: &mut S,
-    modules: &[Mention<'_>],
-) -> Result<Vec<Build>, Refused>
+/// The texts of the modules of these mentions, each in turn: the first file after the script's has number 1. The first one
+/// that cannot be read ends it.
+pub(crate) fn load_texts<S: Shelf>(alloc: Global, shelf: &mut S, modules: &[Mention<'_>]) -> Texts
     requires { length modules.now < 2 ^ 31 }
     ensures faults { S.faults shelf.old ≤ S.faults shelf.new }
-    ensures causes { IfErr result (IsLoadFault (S.faults shelf.old) (S.faults shelf.new)) }
-    ensures suited { IfOk result (λ builds. AreSuited (map mention_of modules.now) (map build_of builds.items)) }
+    ensures causes { IfSome result.failed (IsLoadFault (S.faults shelf.old) (S.faults shelf.new)) }
+    ensures short { All IsShort result.texts.items }
+    ensures few { length result.texts.items ≤ length modules.now }
+    ensures whole { result.failed ≡ None → length result.texts.items ≡ length modules.now }
     // In the words of what was told before the script was read.
-    ensures modules { (told : Told) → S.told shelf.old ≡ Some (after_reads 1 told) → AreModules told (map mention_of modules.now) result }
+    ensures texts { (told : Told) → S.told shelf.old ≡ Some (after_reads 1 told) → AreTexts told 1 (names_in_turn modules.now) (bytes_of result.texts.items) result.failed }
 {
-    let mut builds = Vec::new(alloc);
+    let mut texts = Vec::new(alloc);
     for (k, mention) in modules.iter().enumerate() {
-        let build = match load_module(alloc, shelf, k as u32 + 1, mention) {
-            Ok(build) => build,
-            Err(refused) => return Err(refused),
+        let text = match read_file(alloc, shelf, k as u32 + 1, MODULE_LIMIT, mention.name) {
+            Ok(text) => text,
+            Err(refused) => {
+                return Texts {
+                    texts,
+                    failed: Some(refused),
+                };
+            }
         };
-        match builds.push(build) {
+        match texts.push(text) {
             Ok(()) => {}
-            Err(_) => return Err(Refused::Memory),
+            Err(_) => {
+                return Texts {
+                    texts,
+                    failed: Some(Refused::Memory),
+                };
+            }
         }
     }
-    Ok(builds)
-}
-
-/// What the module in the file of this number is built to.
-fn load_module<S: Shelf>(
-    alloc: Global,
-    shelf: &mut S,
-    file: u32,
-    mention: &Mention<'_>,
-) -> Result<Build, Refused>
-    ensures faults { S.faults shelf.old ≤ S.faults shelf.new }
-    ensures told_after { S.told shelf.new ≡ option_map (after_reads 1) (S.told shelf.old) }
-    ensures causes { IfErr result (IsLoadFault (S.faults shelf.old) (S.faults shelf.new)) }
-    ensures suited { IfOk result (λ build. IsSuited (mention_of mention.now) (build_of build)) }
-    ensures module { IfSome (S.told shelf.old) (λ told. IsModuleIn (mention_of mention.now) file (text_of file module_limit (found told mention.now.name.now)) result) }
-{
-    let text = read_file(alloc, shelf, file, MODULE_LIMIT, mention.name)?;
-    read_module(alloc, file, mention, text.as_slice())
+    Texts {
+        texts,
+        failed: None,
+    }
 }

@@ -1,13 +1,13 @@
 ghost use Rattle.std.specs.Prelude.{◌≡◌, ◌<◌, ◌≤◌, ◌^◌, ◌++◌, map, length, codes, take};
 ghost use Rattle.rapid_model.specs.Printable.{ArePrintable};
-ghost use Rattle.controller.specs.Accepted.{not_built, unbuilt_key, unbuilt_module, unknown_pers};
+ghost use Rattle.controller.specs.Accepted.{not_built, unbuilt_key, unbuilt_module};
 ghost use Rattle.controller.specs.Loaded.{build_of};
 
 use crate::build::Build;
 use crate::refused::{ModuleRule, Refused};
 use rapid_model::{Script, ScriptRule, Text};
 
-/// The refusal of what is not built: a key of the script, then a form of a module, then a value of a persistent.
+/// The refusal of what is not built: a key of the script, then a form of a module.
 pub(crate) fn not_built(script: &Script, builds: &[Build]) -> Option<Refused>
     requires { length builds.now < 2 ^ 31 }
     ensures { result ≡ not_built script.now (map build_of builds.now) }
@@ -18,10 +18,7 @@ pub(crate) fn not_built(script: &Script, builds: &[Build]) -> Option<Refused>
             rule: ScriptRule::NotBuilt,
         });
     }
-    if let Some(refused) = unbuilt_module(builds) {
-        return Some(refused);
-    }
-    unknown_pers(script)
+    unbuilt_module(builds)
 }
 
 /// The first key of the script that is there and not built.
@@ -56,19 +53,6 @@ fn unbuilt_module(builds: &[Build]) -> Option<Refused>
         }
     }
     None
-}
-
-/// A built module has no persistents, of which a value could speak.
-fn unknown_pers(script: &Script) -> Option<Refused>
-    ensures { result ≡ unknown_pers script.now }
-{
-    if script.pers().is_empty() {
-        return None;
-    }
-    Some(Refused::Script {
-        key: key_of(b"pers[0]"),
-        rule: ScriptRule::NoSuch,
-    })
 }
 
 /// The text of a key.

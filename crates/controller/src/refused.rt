@@ -1,3 +1,4 @@
+use data_scopes::TypeRule;
 use rapid_forms::SyntaxRule;
 use rapid_lexer::{LexRule, Place};
 use rapid_model::{ScriptRule, Text};
@@ -9,7 +10,9 @@ pub enum ModuleRule {
     Lex(LexRule),
     /// The tokens are no module.
     Syntax(SyntaxRule),
-    /// The module is spelled, and a form of it is not built.
+    /// A rule of names and types.
+    Typing(TypeRule),
+    /// The module is accepted, and a form of it is not built.
     NotBuilt,
 }
 

@@ -1,11 +1,12 @@
 ghost use Rattle.std.specs.Prelude.{◌++◌, ◌≡◌, ◌+◌, ◌≤◌, ◌∷◌, [], codes, decimal, length};
-ghost use Rattle.controller.specs.Refusals.{refusal_text, key_words, place_words, script_rule_name, module_rule_name, lex_rule_name, syntax_rule_name};
+ghost use Rattle.controller.specs.Refusals.{refusal_text, key_words, place_words, script_rule_name, module_rule_name, lex_rule_name, syntax_rule_name, type_rule_name};
 ghost use Rattle.controller.specs.Printed.{sunk, GainedUnlessFaults};
 ghost use Rattle.controller.specs.Written.{Writes, WritesPieces};
 
 use crate::refused::{ModuleRule, Refused};
 use crate::write::write_all;
 use arrayvec::ArrayString;
+use data_scopes::TypeRule;
 use itoa::Buffer;
 use outside::{Failed, Sink};
 use rapid_forms::SyntaxRule;
@@ -98,6 +99,7 @@ fn module_rule(rule: ModuleRule) -> &'static str
     match rule {
         ModuleRule::Lex(rule) => lex_rule(rule),
         ModuleRule::Syntax(rule) => syntax_rule(rule),
+        ModuleRule::Typing(rule) => type_rule(rule),
         ModuleRule::NotBuilt => " NotBuilt\n",
     }
 }
@@ -123,6 +125,40 @@ fn syntax_rule(rule: SyntaxRule) -> &'static str
         SyntaxRule::Syntax => " Syntax\n",
         SyntaxRule::LeftOut => " LeftOut\n",
         SyntaxRule::TooDeep => " TooDeep\n",
+    }
+}
+
+fn type_rule(rule: TypeRule) -> &'static str
+    ensures { result.now ≡ 32 ∷ type_rule_name rule ++ codes "\n" }
+{
+    match rule {
+        TypeRule::NameTwice => " NameTwice\n",
+        TypeRule::NameTaken => " NameTaken\n",
+        TypeRule::NoName => " NoName\n",
+        TypeRule::NotThis => " NotThis\n",
+        TypeRule::TypeClash => " TypeClash\n",
+        TypeRule::NoInit => " NoInit\n",
+        TypeRule::NotConst => " NotConst\n",
+        TypeRule::ConstOrder => " ConstOrder\n",
+        TypeRule::ConstFault => " ConstFault\n",
+        TypeRule::DimRange => " DimRange\n",
+        TypeRule::WholeArray => " WholeArray\n",
+        TypeRule::ReadOnly => " ReadOnly\n",
+        TypeRule::BadRef => " BadRef\n",
+        TypeRule::ArgCount => " ArgCount\n",
+        TypeRule::ArgName => " ArgName\n",
+        TypeRule::NoLabel => " NoLabel\n",
+        TypeRule::LabelTwice => " LabelTwice\n",
+        TypeRule::HandlerOnly => " HandlerOnly\n",
+        TypeRule::ReturnKind => " ReturnKind\n",
+        TypeRule::PersKind => " PersKind\n",
+        TypeRule::CornerZone => " CornerZone\n",
+        TypeRule::ToolOnly => " ToolOnly\n",
+        TypeRule::SyncName => " SyncName\n",
+        TypeRule::NoArm => " NoArm\n",
+        TypeRule::NoMain => " NoMain\n",
+        TypeRule::DataRange => " DataRange\n",
+        TypeRule::PersType => " PersType\n",
     }
 }
 

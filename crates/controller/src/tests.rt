@@ -28,19 +28,19 @@ const ANY_LAYOUT: &[u8] =
 
 /// Modules, each with the place and the rule of its refusal.
 static REFUSED: [(&[u8], &[u8]); 19] = [
-    (ASSIGNS, b"3:1 NotBuilt\n"),
+    (ASSIGNS, b"3:1 NoName\n"),
     (
         b"MODULE M\nPROC main()\nMoveAbsJ [[0,0,0,0,0,0],[9E9,9E9,9E9,9E9,9E9,9E9]]\\NoEOffs, v5, fine, tool0;\n! no move\n  Stop;\nENDPROC\nENDMODULE\n",
         b"5:3 NotBuilt\n",
     ),
-    (b"\nMODULE M\nENDMODULE\n", b"1:1 NotBuilt\n"),
+    (b"\nMODULE M\nENDMODULE\n", b"1:1 NoMain\n"),
     (
         b"MODULE M\nVAR num n;\nPROC main()\nENDPROC\nENDMODULE\n",
         b"2:1 NotBuilt\n",
     ),
     (
         b"MODULE M\nLOCAL PROC main()\nENDPROC\nENDMODULE\n",
-        b"2:1 NotBuilt\n",
+        b"1:1 NoMain\n",
     ),
     (
         b"MODULE M\nPROC main()\nENDPROC PROC more()\nENDPROC\nENDMODULE\n",
@@ -95,6 +95,14 @@ const NO_ARM: &[u8] = b"version = 1\n[[task]]\nname = \"A\"\nmodules = [\"a.mod\
 
 const ONE_VALUE: &[u8] =
     b"version = 1\n[[task]]\nname = \"A\"\nmodules = [\"a.mod\"]\narm = [0,0,0,0,0,0]\n[[pers]]\nname = \"n\"\nnum = \"1\"\n";
+
+/// Two tasks, and a value of a persistent.
+const TWO_TASKS_ONE_VALUE: &[u8] =
+    b"version = 1\n[[task]]\nname = \"A\"\nmodules = [\"a.mod\"]\narm = [0,0,0,0,0,0]\n[[task]]\nname = \"B\"\nmodules = [\"b.mod\"]\narm = [0,0,0,0,0,0]\n[[pers]]\nname = \"m\"\nnum = \"1\"\n";
+
+const PERS_NUM: &[u8] = b"MODULE M\nPERS num n := 1;\nPROC main()\nENDPROC\nENDMODULE\n";
+
+const PERS_STRING: &[u8] = b"MODULE M\nPERS string n := \"a\";\nPROC main()\nENDPROC\nENDMODULE\n";
 
 const NO_ITEMS: &[u8] = b"MODULE N\nENDMODULE\n";
 
@@ -277,8 +285,11 @@ fn words(rt: HostRuntime) -> Result<(), Fail> {
     Ok(())
 }
 
-/// Scripts and modules that are refused: the status and the line.
-static CELLS: [(&[u8], [&[u8]; 2], u8, &[u8]); 9] = [
+/// A cell that is refused: its script, the modules `a.mod` and `b.mod`, the status and the line.
+type RefusedCell = (&'static [u8], [&'static [u8]; 2], u8, &'static [u8]);
+
+/// Cells that break a rule.
+static BROKEN: [RefusedCell; 11] = [
     (
         b"version = ",
         [ONE_MOVE, b""],
@@ -297,13 +308,75 @@ static CELLS: [(&[u8], [&[u8]; 2], u8, &[u8]); 9] = [
         3,
         b"rapid_cell: script steps Kind\n",
     ),
-    // A module that is no module comes before one that is not built.
+    // A module that is no module comes before one that breaks a rule of names.
     (
         TWO_TASKS,
         [ASSIGNS, b""],
         4,
         b"rapid_cell: module b.mod 1:1 Syntax\n",
     ),
+    // The tasks are checked in script order, each in its own files.
+    (
+        TWO_TASKS,
+        [ASSIGNS, ASSIGNS],
+        4,
+        b"rapid_cell: module a.mod 3:1 NoName\n",
+    ),
+    (
+        TWO_TASKS,
+        [ONE_MOVE, ASSIGNS],
+        4,
+        b"rapid_cell: module b.mod 3:1 NoName\n",
+    ),
+    (
+        NO_ARM,
+        [ONE_MOVE, b""],
+        4,
+        b"rapid_cell: module a.mod 3:1 NoArm\n",
+    ),
+    // Rules of names come before what the tasks share, and that before the script's values.
+    (
+        TWO_TASKS_ONE_VALUE,
+        [PERS_NUM, ASSIGNS],
+        4,
+        b"rapid_cell: module b.mod 3:1 NoName\n",
+    ),
+    (
+        TWO_TASKS_ONE_VALUE,
+        [PERS_NUM, PERS_STRING],
+        4,
+        b"rapid_cell: module b.mod 2:13 PersType\n",
+    ),
+    (
+        TWO_TASKS_ONE_VALUE,
+        [PERS_NUM, ONE_MOVE],
+        3,
+        b"rapid_cell: script pers[0] NoSuch\n",
+    ),
+    // A rule that is broken comes before a form that is not built.
+    (
+        ONE_VALUE,
+        [ASSIGNS, b""],
+        4,
+        b"rapid_cell: module a.mod 3:1 NoName\n",
+    ),
+];
+
+/// Both actions refuse them, with the same line.
+#[test]
+fn cells_refused(rt: HostRuntime) -> Result<(), Fail> {
+    let alloc = rt.alloc();
+    for (script, modules, status, line) in &BROKEN {
+        let run = outcome_of(alloc, &["round", "cell"], script, *modules, None)?;
+        refused(&rt, &run, *status, line);
+        let checked = outcome_of(alloc, &["check", "cell"], script, *modules, None)?;
+        refused(&rt, &checked, *status, line);
+    }
+    Ok(())
+}
+
+/// Cells that are accepted and not built.
+static NOT_BUILT: [RefusedCell; 3] = [
     (
         TWO_TASKS,
         [ONE_MOVE, ONE_MOVE],
@@ -317,34 +390,23 @@ static CELLS: [(&[u8], [&[u8]; 2], u8, &[u8]); 9] = [
         b"rapid_cell: module b.mod 1:1 NotBuilt\n",
     ),
     (
-        NO_ARM,
-        [ONE_MOVE, b""],
-        4,
-        b"rapid_cell: module a.mod 3:1 NotBuilt\n",
-    ),
-    (
         ONE_VALUE,
-        [ASSIGNS, b""],
+        [PERS_NUM, b""],
         4,
-        b"rapid_cell: module a.mod 3:1 NotBuilt\n",
-    ),
-    (
-        ONE_VALUE,
-        [ONE_MOVE, b""],
-        3,
-        b"rapid_cell: script pers[0] NoSuch\n",
+        b"rapid_cell: module a.mod 2:1 NotBuilt\n",
     ),
 ];
 
-/// Both actions refuse them, with the same line.
+/// They are refused only where they are to run.
 #[test]
-fn cells_refused(rt: HostRuntime) -> Result<(), Fail> {
+fn cells_not_built(rt: HostRuntime) -> Result<(), Fail> {
     let alloc = rt.alloc();
-    for (script, modules, status, line) in &CELLS {
+    let accepted: [&[u8]; 1] = [b"accepted\n"];
+    for (script, modules, status, line) in &NOT_BUILT {
         let run = outcome_of(alloc, &["round", "cell"], script, *modules, None)?;
         refused(&rt, &run, *status, line);
         let checked = outcome_of(alloc, &["check", "cell"], script, *modules, None)?;
-        refused(&rt, &checked, *status, line);
+        printed(&rt, &checked, 0, &accepted, alloc)?;
     }
     Ok(())
 }
@@ -415,7 +477,7 @@ fn levels(rt: HostRuntime) -> Result<(), Fail> {
     refused_at(
         &rt,
         &round(alloc, within.as_slice())?,
-        b"3:1 NotBuilt\n",
+        b"3:1 NoName\n",
         alloc,
     )?;
     let deep = nested(alloc, 64)?;

@@ -1,7 +1,9 @@
-use Rattle.std.proofs.Common.{ap, map, ◌∙◌, inl}
-use Rattle.controller.specs.Loaded.{mention_of, build_of}
+use Rattle.std.proofs.Common.{ℕ, List, Vec, Global, ap, map, ◌∙◌, inl, subst}
+use Rattle.controller.specs.Answered.{word_bytes}
+use Rattle.controller.specs.Loaded.{mention_of, bytes_of}
 use Rattle.controller.proofs.Gains.{gained_none}
-use Rattle.controller.proofs.Exits.{words_refused, script_refused, module_refused, all_read}
+use Rattle.controller.proofs.Exits.{AreRefused, words_refused, script_refused, module_refused, parsed_here, all_read}
+use Rattle.controller.proofs.Causes.{no_words, read_counted, no_write}
 use Rattle.controller.proofs.action.quiet.Goals as goal
 
 pub returns-in-Err-clause-answers : goal.returns-in-Err-clause-answers
@@ -40,30 +42,50 @@ returns-in-Err-mentions_of-clause-answers g c =
       told = c.refuse-in-Err-mentions_of.ensures.told;
     })
 
-pub returns-in-Ok-load_modules-clause-answers : goal.returns-in-Ok-load_modules-clause-answers
-returns-in-Ok-load_modules-clause-answers g c =
-    all_read _ _ (g.S.Shelf.told c.load_script.new.shelf) c.in-Ok.command.script.now _ c.in-Ok-load_script.script c.as_slice-modules.result.now (map build_of c.in-Ok-load_modules.builds.items) _ _ _ (record {
+pub returns-in-Ok-parse_texts-clause-answers : goal.returns-in-Ok-parse_texts-clause-answers
+returns-in-Ok-parse_texts-clause-answers g c =
+    all_read _ _ (g.S.Shelf.told c.load_script.new.shelf) c.in-Ok.command.script.now _ c.in-Ok-load_script.script c.as_slice-files.result.now (bytes_of c.load_texts-texts.result.texts.items) c.load_texts-texts.result.failed _ _ _ _
+    (record {
       taken = c.in-Ok.ensures.taken;
       name_is = c.in-Ok.ensures.name;
       script_in = c.in-Ok-load_script.ensures.script;
       after = c.in-Ok-load_script.ensures.told_after;
-      mentioned = ap (map mention_of) c.as_slice-modules.ensures.value ∙ c.in-Ok-mentions_of.ensures.named;
-    }) c.in-Ok.ensures.action c.in-Ok-load_modules.ensures.modules c.do_action.ensures.answers
+      mentioned = ap (map mention_of) c.as_slice-files.ensures.value ∙ c.in-Ok-mentions_of.ensures.named;
+    }) c.in-Ok.ensures.action c.load_texts-texts.ensures.texts
+    (parsed_here c.load_texts-texts.result.texts.items c.as_slice.result.now c.as_slice-in-Ok-parse_texts.result.now c.in-Ok-parse_texts.trees.items c.as_slice-in-Ok-parse_texts-2.result.now
+    c.load_texts-texts.result.failed c.as_slice.ensures.value c.as_slice-in-Ok-parse_texts.ensures.value c.as_slice-in-Ok-parse_texts-2.ensures.value c.in-Ok-parse_texts.ensures.parsed) c.do_action.ensures.answers
 
 pub returns-clause-answers : goal.returns-clause-answers
 returns-clause-answers g c =
-    module_refused _ _ (g.S.Shelf.told c.load_script.new.shelf) c.in-Ok.command.script.now c.in-Ok-load_script.script c.as_slice-modules.result.now c.in-Err-load_modules.refused _ _ _ (record {
+    module_refused _ _ (g.S.Shelf.told c.load_script.new.shelf) c.in-Ok.command.script.now c.in-Ok-load_script.script c.as_slice-files.result.now (bytes_of c.load_texts-texts.result.texts.items) c.load_texts-texts.result.failed
+    c.in-Err-parse_texts.refused _ _ _ (record {
       taken = c.in-Ok.ensures.taken;
       name_is = c.in-Ok.ensures.name;
       script_in = c.in-Ok-load_script.ensures.script;
       after = c.in-Ok-load_script.ensures.told_after;
-      mentioned = ap (map mention_of) c.as_slice-modules.ensures.value ∙ c.in-Ok-mentions_of.ensures.named;
+      mentioned = ap (map mention_of) c.as_slice-files.ensures.value ∙ c.in-Ok-mentions_of.ensures.named;
     }) (record {
-      refused_is = c.refuse_file-in-Err-load_modules.ensures.refused;
-      status = c.refuse_file-in-Err-load_modules.ensures.status;
-      history = c.refuse_file-in-Err-load_modules.ensures.history;
-      fates = c.refuse_file-in-Err-load_modules.ensures.fates;
+      refused_is = c.refuse_file-in-Err-parse_texts.ensures.refused;
+      status = c.refuse_file-in-Err-parse_texts.ensures.status;
+      history = c.refuse_file-in-Err-parse_texts.ensures.history;
+      fates = c.refuse_file-in-Err-parse_texts.ensures.fates;
       printed = gained_none _;
       calls = gained_none _;
-      told = c.refuse_file-in-Err-load_modules.ensures.told;
-    }) c.in-Err-load_modules.ensures.modules
+      told = c.refuse_file-in-Err-parse_texts.ensures.told;
+    }) c.load_texts-texts.ensures.texts
+    (subst (λ (texts : List (Vec ℕ Global)). AreRefused (bytes_of texts) c.load_texts-texts.result.failed c.in-Err-parse_texts.refused) c.as_slice.ensures.value c.in-Err-parse_texts.ensures.parsed)
+
+pub returns-clause-words : goal.returns-clause-words
+returns-clause-words g c =
+    no_words (word_bytes c.args.words.now) (g.S.Shelf.faults c.load_script.new.shelf) (g.S.Shelf.faults c.load_texts-texts.new.shelf) c.in-Err-parse_texts.refused _ c.in-Ok.ensures.taken
+    (c.in-Err-parse_texts.ensures.causes _ _ c.load_texts-texts.ensures.causes) c.refuse_file-in-Err-parse_texts.ensures.refused
+
+pub returns-clause-read : goal.returns-clause-read
+returns-clause-read g c =
+    read_counted (g.S.Shelf.faults c.args.shelf.now) (g.S.Shelf.faults c.load_script.new.shelf) (g.S.Shelf.faults c.load_texts-texts.new.shelf) c.in-Err-parse_texts.refused _
+    c.in-Ok-load_script.ensures.faults c.load_texts-texts.ensures.faults (c.in-Err-parse_texts.ensures.causes _ _ c.load_texts-texts.ensures.causes) c.refuse_file-in-Err-parse_texts.ensures.refused
+
+pub returns-clause-write : goal.returns-clause-write
+returns-clause-write g c =
+    no_write (g.S.Shelf.faults c.load_script.new.shelf) (g.S.Shelf.faults c.load_texts-texts.new.shelf) c.in-Err-parse_texts.refused _
+    (c.in-Err-parse_texts.ensures.causes _ _ c.load_texts-texts.ensures.causes) c.refuse_file-in-Err-parse_texts.ensures.refused

@@ -1,36 +1,17 @@
-use Rattle.std.proofs.Common.{ap, length, arith, sym, map}
-use Rattle.std.specs.Prelude.{None, Some}
-use Rattle.controller.specs.Loaded.{build_of, file_names}
-use Rattle.controller.proofs.Exits.{not_built_refused, all_accepted, task_run}
+use Rattle.std.proofs.Common.{Some}
+use Rattle.controller.specs.Loaded.{file_names, reads_in}
+use Rattle.controller.proofs.Checking.{checks_told}
+use Rattle.controller.proofs.Exits.{check_refused, all_accepted}
 use Rattle.controller.proofs.Gains.{gained_none}
-use Rattle.controller.proofs.OneTree.{few_builds, one_tree, suits_only, seen_refusal, not_built_told}
 use Rattle.controller.proofs.done.do_action.Goals as goal
 
-pub not_built-requires : goal.not_built-requires
-not_built-requires g c =
-    let few = few_builds c.args.script.now c.args.modules.now c.args.builds.items c.steps-steps.ensures.limits c.requires.mentions c.requires.suited in
-    let same = ap length c.as_slice.ensures.value in omega (arith, few, same)
+pub returns-in-Check-clause-answers : goal.returns-in-Check-clause-answers
+returns-in-Check-clause-answers g c =
+    all_accepted (file_names c.args.command.now.script.now c.args.files.now) c.args.command.now.action c.args.script.now (reads_in c.args.modules.now) _ _ _ c.in-Check.is c.in-Ok.ensures c.report_accepted.ensures
 
-pub only_tree-requires : goal.only_tree-requires
-only_tree-requires g c =
-    let none = seen_refusal c.args.script.now c.as_slice.result.now c.args.builds.items None c.as_slice.ensures.value c.in-None.ensures in
-    let one = one_tree c.args.script.now c.args.modules.now (map build_of c.args.builds.items) c.steps-steps.ensures.limits c.requires.mentions c.requires.suited none in
-    (one.tree, one.one)
-
-pub run_tree-requires : goal.run_tree-requires
-run_tree-requires g c =
-    let none = seen_refusal c.args.script.now c.as_slice.result.now c.args.builds.items None c.as_slice.ensures.value c.in-None.ensures in
-    let one = one_tree c.args.script.now c.args.modules.now (map build_of c.args.builds.items) c.steps-steps.ensures.limits c.requires.mentions c.requires.suited none in
-    suits_only c.args.script.now (map build_of c.args.builds.items) c.only_tree.result one c.only_tree.ensures
-
-pub returns-in-Some-clause-causes : goal.returns-in-Some-clause-causes
-returns-in-Some-clause-causes g c =
-    not_built_told _ _ c.args.script.now (map build_of c.as_slice.result.now) c.refuse_file.result.refused c.in-Some.refused (sym c.in-Some.ensures) c.refuse_file.ensures.refused
-
-pub returns-in-Some-clause-answers : goal.returns-in-Some-clause-answers
-returns-in-Some-clause-answers g c =
-    let is = seen_refusal c.args.script.now c.as_slice.result.now c.args.builds.items (Some c.in-Some.refused) c.as_slice.ensures.value c.in-Some.ensures in
-    not_built_refused (file_names c.args.command.now.script.now c.args.modules.now) (Some c.args.command.now.action) c.args.script.now (map build_of c.args.builds.items) c.in-Some.refused _ _ _ is (record {
+pub returns-in-Err-clause-answers : goal.returns-in-Err-clause-answers
+returns-in-Err-clause-answers g c =
+    check_refused (file_names c.args.command.now.script.now c.args.files.now) (Some c.args.command.now.action) c.args.script.now (reads_in c.args.modules.now) c.in-Err.refused _ _ _ c.in-Err.ensures (record {
       refused_is = c.refuse_file.ensures.refused;
       status = c.refuse_file.ensures.status;
       history = c.refuse_file.ensures.history;
@@ -40,13 +21,6 @@ returns-in-Some-clause-answers g c =
       told = c.refuse_file.ensures.told;
     })
 
-pub returns-in-Check-clause-answers : goal.returns-in-Check-clause-answers
-returns-in-Check-clause-answers g c =
-    let none = seen_refusal c.args.script.now c.as_slice.result.now c.args.builds.items None c.as_slice.ensures.value c.in-None.ensures in
-    all_accepted (file_names c.args.command.now.script.now c.args.modules.now) c.args.command.now.action c.args.script.now (map build_of c.args.builds.items) _ _ _ c.in-Check.is none c.report_accepted.ensures
-
-pub returns-in-Round-clause-answers : goal.returns-in-Round-clause-answers
-returns-in-Round-clause-answers g c =
-    let none = seen_refusal c.args.script.now c.as_slice.result.now c.args.builds.items None c.as_slice.ensures.value c.in-None.ensures in
-    task_run (file_names c.args.command.now.script.now c.args.modules.now) c.args.command.now.action c.args.script.now (map build_of c.args.builds.items) c.only_tree.result _ _ _ c.in-Round.is none
-    c.only_tree.ensures c.run_tree.ensures
+pub returns-in-Err-clause-causes : goal.returns-in-Err-clause-causes
+returns-in-Err-clause-causes g c =
+    checks_told _ _ c.args.script.now (reads_in c.args.modules.now) c.refuse_file.result.refused c.in-Err.refused c.in-Err.ensures c.refuse_file.ensures.refused

@@ -1,0 +1,28 @@
+-- What a refusal by a file says of the words and the sinks: nothing of the words, of reads what was counted, nothing of writes.
+use Rattle.std.proofs.Common.{◌≡◌, ℕ, ◌≤◌, List, Some, None, sym, ◌∙◌, subst}
+use Rattle.std.specs.Prelude.{Option, ◌↔◌}
+use Rattle.outside.specs.Count.{Rose}
+use Rattle.outside.proofs.Counting.{Rose-since}
+use Rattle.controller.specs.declared.refused.Refused.{Refused}
+use Rattle.controller.specs.declared.refused.Refused.TheVariants.{Words, Read, Write}
+use Rattle.controller.specs.Files.{IsLoadFault}
+use Rattle.controller.specs.Words.{refused_place}
+
+fault_is : (old new : ℕ) (refused other : Refused) (told : Option Refused) → IsLoadFault old new refused → told ≡ Some refused → told ≡ Some other → IsLoadFault old new other
+fault_is old new refused other told fault is same =
+    let e : Some refused ≡ Some other = sym is ∙ same in
+    let equal : refused ≡ other = cc in
+    subst (λ (r : Refused). IsLoadFault old new r) equal fault
+
+pub no_words : (words : List (List ℕ)) (old new : ℕ) (refused : Refused) (told : Option Refused) → refused_place words ≡ None → IsLoadFault old new refused → told ≡ Some refused
+    → (place : ℕ) → (told ≡ Some (Words place)) ↔ (refused_place words ≡ Some place)
+no_words words old new refused told taken fault is = λ place.
+    (λ same. absurd (fault_is old new refused (Words place) told fault is same), λ same. absurd (let no : None ≡ Some place = sym taken ∙ same in cc))
+
+pub read_counted : (start old new : ℕ) (refused : Refused) (told : Option Refused) → start ≤ old → old ≤ new → IsLoadFault old new refused → told ≡ Some refused
+    → (file : ℕ) → told ≡ Some (Read file) → Rose start new
+read_counted start old new refused told before rise fault is = λ file same.
+    Rose-since start old new before rise (fault_is old new refused (Read file) told fault is same)
+
+pub no_write : {A : Type 0} (old new : ℕ) (refused : Refused) (told : Option Refused) → IsLoadFault old new refused → told ≡ Some refused → told ≡ Some Write → A
+no_write old new refused told fault is same = absurd (fault_is old new refused Write told fault is same)
