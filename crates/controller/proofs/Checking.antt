@@ -1,6 +1,6 @@
 -- Checking one task after another.
 use Rattle.std.proofs.Common.{◌≡◌, ℕ, zero, suc, ◌+◌, ◌*◌, ◌<◌, ◌≤◌, min, List, [], ◌∷◌, ◌++◌, length, take, drop, get_or, map, refl, ap, sym, ◌∙◌, subst, ◌⊎◌, inl, inr, arith, append_assoc, Bool}
-use Rattle.std.proofs.lemmas.List.{append-nil, map-append}
+use Rattle.std.proofs.lemmas.List.{map-append}
 use Rattle.std.specs.Prelude.{Option, Some, Result, Ok, Err, IsTrue, IfSome, is_some}
 use Rattle.std.specs.List.{list_all}
 use Rattle.rapid_model.specs.ScriptData.{ScriptData, is_task}
@@ -22,9 +22,9 @@ use Rattle.controller.specs.declared.refused.Refused.{Refused}
 use Rattle.controller.specs.declared.refused.Refused.TheVariants.{Memory}
 use Rattle.controller.specs.declared.modules.Modules.{Modules}
 use Rattle.controller.specs.Accepted.{ReadModule, rule_refusal, or_refused, names_in, typed_task, with_tree, then_trees, typed_tasks, first_file, cell_checked, trees_checked, checked}
-use Rattle.controller.specs.Files.{Gives, IsDoneFault}
+use Rattle.controller.specs.Files.{IsDoneFault}
 use Rattle.controller.specs.Loaded.{reads_in, ArePaired, IsRuleRefusal}
-use Rattle.controller.proofs.Lists.{drop-element, drop-past}
+use Rattle.controller.proofs.Lists.{drop-element}
 use Rattle.controller.proofs.Mentions.{task_modules, first_of_all, rest_of_all}
 
 -- with these before further trees
@@ -35,10 +35,6 @@ with_trees front (Err refused) = Err refused
 trees_more : (front : List TypedTree) (t : TypedTree) (v : Result (List TypedTree) Refused) → with_trees front (with_tree t v) ≡ with_trees (front ++ t ∷ []) v
 trees_more front t (Ok more) = ap Ok (sym (append_assoc front (t ∷ []) more))
 trees_more front t (Err refused) = refl
-
-trees_none : (v : Result (List TypedTree) Refused) → v ≡ with_trees [] v
-trees_none (Ok more) = refl
-trees_none (Err refused) = refl
 
 -- the typed tree of a task, from what its modules come to
 pub one_checked : (script : ScriptData) (task : ScriptTask) (file : ℕ) (reads : List ReadModule) (own : Modules) (names : List (List ℕ)) (signals : List SignalRow) (arm : Bool) (found : Checked TypedTree)
@@ -72,13 +68,6 @@ pub record Checking (script : ScriptData) (all : List ReadModule) (k file : ℕ)
   pub few : file ≤ 1 + 16 * k
   pub goes_on : typed_tasks script script.tasks 1 all ≡ with_trees (map view_tree trees) (typed_tasks script (drop k script.tasks) file (reads_in rest))
 
-pub checking_begins : (script : ScriptData) (all : List ReadModule) (rest : Modules) → ArePaired rest → reads_in rest ≡ all → Checking script all 0 1 [] rest
-checking_begins script all rest paired is = record {
-  paired = paired;
-  few = omega arith;
-  goes_on = trees_none (typed_tasks script script.tasks 1 all) ∙ ap (λ (rs : List ReadModule). with_trees [] (typed_tasks script script.tasks 1 rs)) (sym is);
-}
-
 -- what this task and those behind it come to
 here_goes : (script : ScriptData) (all : List ReadModule) (k file : ℕ) (trees : List Tree) (rest : Modules) (task : ScriptTask) (found : Result TypedTree Refused) → k < length script.tasks
     → task ≡ get_or script.tasks k task → Checking script all k file trees rest → typed_task script task file (take (length task.modules) (reads_in rest)) ≡ found
@@ -104,21 +93,6 @@ checking_more script all k file then trees tree rest later task lt is p here pai
       ∙ ap (λ (rs : List ReadModule). with_trees (map view_tree (trees ++ tree ∷ [])) (typed_tasks script (drop (k + 1) script.tasks) (file + length task.modules) rs)) (sym behind)
       ∙ ap (λ (n : ℕ). with_trees (map view_tree (trees ++ tree ∷ [])) (typed_tasks script (drop (k + 1) script.tasks) n (reads_in later))) (sym next);
 }
-
--- a task is refused
-pub checking_fails : (script : ScriptData) (all : List ReadModule) (k file : ℕ) (trees : List Tree) (rest : Modules) (task : ScriptTask) (refused : Refused) → k < length script.tasks
-    → task ≡ get_or script.tasks k task → Checking script all k file trees rest
-    → Gives view_tree (typed_task script task file (take (length task.modules) (reads_in rest))) (Err refused) → (refused ≡ Memory) ⊎ (typed_tasks script script.tasks 1 all ≡ Err refused)
-checking_fails script all k file trees rest task refused lt is p (inl memory) = inl memory
-checking_fails script all k file trees rest task refused lt is p (inr here) = inr (here_goes script all k file trees rest task (Err refused) lt is p here)
-
--- all tasks are checked
-pub checking_ends : (script : ScriptData) (all : List ReadModule) (k file : ℕ) (trees : List Tree) (rest : Modules) → length script.tasks ≤ k → Checking script all k file trees rest
-    → typed_tasks script script.tasks 1 all ≡ Ok (map view_tree trees)
-checking_ends script all k file trees rest past p =
-    p.goes_on
-    ∙ ap (λ (ts : List ScriptTask). with_trees (map view_tree trees) (typed_tasks script ts file (reads_in rest))) (drop-past script.tasks k past)
-    ∙ ap Ok (append-nil (map view_tree trees))
 
 -- each task has few modules
 pub few_each : (tasks : List ScriptTask) (k : ℕ) (task : ScriptTask) → IsTrue (list_all is_task tasks) → k < length tasks → task ≡ get_or tasks k task → length task.modules ≤ 16

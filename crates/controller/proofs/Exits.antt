@@ -10,7 +10,7 @@ use Rattle.rapid_model.specs.CellData.{CellData}
 use Rattle.rapid_model.specs.ScriptData.{ScriptData, cell_of, module_names}
 use Rattle.rapid_model.specs.declared.tree.Tree.{Tree}
 use Rattle.controller.specs.declared.command.Action.{Action}
-use Rattle.controller.specs.declared.command.Action.TheVariants.{Check, Round}
+use Rattle.controller.specs.declared.command.Action.TheVariants.{Check}
 use Rattle.controller.specs.declared.mention.Mention as declared_mention
 use Rattle.controller.specs.declared.report.Report.{Report}
 use Rattle.controller.specs.declared.refused.Refused.{Refused}
@@ -183,18 +183,6 @@ all_accepted names action script reads report out err is none a =
       subst (λ (o : Option Refused). CheckedDecides (Some action) names script reads o (accepts names)) (sym none)
           (subst (λ (x : Action). ActionDecides (Some x) names script reads (accepts names)) (sym is) refl),
       accepted_answers names report out err a,
-    )
-
--- all is accepted, and what is built is run
-pub built_answers : (names : List (List ℕ)) (action : Action) (script : ScriptData) (reads : List ReadModule) (report : Report) (out err : Sunk) → action ≡ Round → checked script reads ≡ None
-    → AnswersBuilt names script reads report out err → AnswersReads (Some action) names script reads report out err
-built_answers names action script reads report out err is none (inl memory) = inl memory
-built_answers names action script reads report out err is none (inr answers) =
-    inr (
-      answers.0,
-      subst (λ (o : Option Refused). CheckedDecides (Some action) names script reads o answers.0) (sym none)
-          (subst (λ (x : Action). ActionDecides (Some x) names script reads answers.0) (sym is) answers.1),
-      answers.2,
     )
 
 -- something is not built

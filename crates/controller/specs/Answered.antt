@@ -106,10 +106,6 @@ IsOutOfMemory report out err = IsRefused [] Memory report out err
 abbrev pub RunsOrMemory : CellData → List Tree → Report → Sunk → Sunk → Type 0
 RunsOrMemory cell trees report out err = IsOutOfMemory report out err ⊎ AnswersRun cell trees report out err
 
--- a verdict, want of memory aside
-abbrev pub AnswersOrMemory : Verdict → Report → Sunk → Sunk → Type 0
-AnswersOrMemory verdict report out err = IsOutOfMemory report out err ⊎ Answers verdict report out err
-
 -- it answers a verdict of which this holds, want of memory aside
 abbrev pub AnswersSome : (Verdict → Type 0) → Report → Sunk → Sunk → Type 0
 AnswersSome P report out err = IsOutOfMemory report out err ⊎ ((verdict : Verdict) × P verdict × Answers verdict report out err)

@@ -30,7 +30,7 @@ const ANY_LAYOUT: &[u8] =
 static REFUSED: [(&[u8], &[u8]); 19] = [
     (ASSIGNS, b"3:1 NoName\n"),
     (
-        b"MODULE M\nPROC main()\nMoveAbsJ [[0,0,0,0,0,0],[9E9,9E9,9E9,9E9,9E9,9E9]]\\NoEOffs, v5, fine, tool0;\n! no move\n  Stop;\nENDPROC\nENDMODULE\n",
+        b"MODULE M\nPROC main()\nMoveAbsJ [[0,0,0,0,0,0],[9E9,9E9,9E9,9E9,9E9,9E9]]\\NoEOffs, v5, fine, tool0;\n! no move\n  TPErase;\nENDPROC\nENDMODULE\n",
         b"5:3 NotBuilt\n",
     ),
     (b"\nMODULE M\nENDMODULE\n", b"1:1 NoMain\n"),
