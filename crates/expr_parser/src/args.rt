@@ -88,7 +88,7 @@ fn some_args<'a>(
     ensures { Gives p.now.tokens view_args result (args_read (expr_of_read (inside_read left)) (rest_from p.now.tokens at)) }
 {
     let (first, after) = arg(p, at, left)?;
-    let mut list = Vec::new(p.alloc);
+    let mut list = Vec::with_capacity(p.alloc, 1)?;
     list.push(first)?;
     let mut next = after;
     while p.tokens.sees(next, &[Sign::Comma, Sign::Backslash]) {

@@ -1,8 +1,9 @@
 //! Chains of operators.
 
-ghost use Rattle.std.specs.Prelude.{map};
+ghost use Rattle.std.specs.Prelude.{◌≡◌, ◌++◌, ◌∷◌, [], map, OnOk, IfErr};
 ghost use Rattle.rapid_forms.specs.Forms.{place};
 ghost use Rattle.raw_trees.specs.Views.{view_expr, view_step};
+ghost use Rattle.rapid_forms.specs.declared.fault.SyntaxFault.TheVariants.{Memory};
 ghost use Rattle.rapid_forms.specs.Reading.{Gives, Makes, many_read, rest_from};
 ghost use Rattle.expr_parser.specs.Grammar.{chain_tree, comparisons};
 ghost use Rattle.expr_parser.specs.Reads.{expr_of_read, first_read, inside_read, level_read, negated_read, operand_read, operators_of, relation_read, signed_read, step_read, sum_read};
@@ -117,10 +118,25 @@ fn steps<'a>(
     let mut next = at;
     while p.tokens.sees(next, level.operators()) {
         let (step, after) = step(p, next, left, level)?;
-        list.push(step)?;
+        push_step(&mut list, step)?;
         next = after;
     }
     Ok((list, next))
+}
+
+/// One more step; the first takes the room of one.
+fn push_step<'a>(
+    list: &mut Vec<(Operator, RawExpr<'a>)>,
+    step: (Operator, RawExpr<'a>),
+) -> Result<(), SyntaxFault>
+    ensures ok { OnOk result (list.new.items ≡ list.old.items ++ step.entry ∷ []) }
+    ensures err { IfErr result (λ fault. fault ≡ Memory) }
+{
+    if list.is_empty() {
+        list.reserve_exact(1)?;
+    }
+    list.push(step)?;
+    Ok(())
 }
 
 /// An operator of a level and the operand behind it.
@@ -188,7 +204,7 @@ fn relation<'a>(
         return Ok((first, next));
     }
     let (step, end) = comparison(p, next, left)?;
-    let mut rest = Vec::new(p.alloc);
+    let mut rest = Vec::with_capacity(p.alloc, 1)?;
     rest.push(step)?;
     let chain = RawExpr::chain(p.alloc, p.tokens.place(at), first, rest)?;
     Ok((chain, end))

@@ -69,7 +69,7 @@ fn arms<'a>(
     requires { left ≤ 64 }
     ensures { Gives p.now.tokens (λ v. map view_arm v.items) result (then_read (arms_read (inside_read left) (list_read left) (rest_from p.now.tokens at)) λ xs rest. Ok (view_arm first.entry ∷ xs, rest)) }
 {
-    let mut list = Vec::new(p.alloc);
+    let mut list = Vec::with_capacity(p.alloc, 1)?;
     list.push(first)?;
     let mut next = at;
     while p.tokens.sees(next, &[Sign::ElseIf]) {

@@ -56,7 +56,7 @@ pub(crate) fn items<'a>(
     requires { left ≤ 64 }
     ensures { Gives p.now.tokens view_list result (items_read left (rest_from p.now.tokens at)) }
 {
-    let mut list = Vec::new(p.alloc);
+    let mut list = Vec::with_capacity(p.alloc, 1)?;
     let mut next = at;
     while p.tokens.sees(next, &STMT_SIGNS) {
         let (stmt, after) = stmt(p, next, left)?;

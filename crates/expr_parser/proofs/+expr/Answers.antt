@@ -9,7 +9,7 @@ use Rattle.expr_parser.proofs.+expr.Goals as goal
 
 pub levels::exprs-loop-list-init : goal.levels::exprs-loop-list-init
 unfolding exprs_read
-levels::exprs-loop-list-init t c = rw (c.in_ok-push.ensures.items, c.new-list.ensures.items) (loop_first _ _ _ _ _ c.in_ok-first.ensures)
+levels::exprs-loop-list-init t c = rw (c.in_ok-push.ensures.items, c.in_ok-list.ensures.items) (loop_first _ _ _ _ _ c.in_ok-first.ensures)
 
 pub levels::exprs-returns-in_err-value : goal.levels::exprs-returns-in_err-value
 levels::exprs-returns-in_err-value t c =
@@ -29,7 +29,7 @@ levels::exprs-returns t c = sym c.loop-list.invariant ∙ loop_done _ _ (map vie
 
 pub args::some_args-loop-list-init : goal.args::some_args-loop-list-init
 unfolding args_read
-args::some_args-loop-list-init t c = rw (c.in_ok-push.ensures.items, c.new-list.ensures.items) (loop_first _ _ _ _ _ c.in_ok-first.ensures)
+args::some_args-loop-list-init t c = rw (c.in_ok-push.ensures.items, c.in_ok-list.ensures.items) (loop_first _ _ _ _ _ c.in_ok-first.ensures)
 
 pub args::some_args-returns-in_err-more : goal.args::some_args-returns-in_err-more
 args::some_args-returns-in_err-more t c =
@@ -60,7 +60,7 @@ chains::steps-loop-level-smaller t c = loop_smaller (step_takes c.args.left c.ar
 
 pub chains::steps-loop-level-preserved : goal.chains::steps-loop-level-preserved
 chains::steps-loop-level-preserved t c =
-    rw c.in_ok-push.ensures.items
+    rw c.in_ok-push_step.ensures.ok
     (loop_pushes (step_takes c.args.left c.args.level) view_step _ c.loop-level.list.items (rest_from c.args.p.now.tokens c.loop-level.next) c.in_ok-step.step _ (rw c.operators.ensures at (sym c.sees.ensures ∙ c.loop-level-test.true)) c.in_ok-step.ensures ∙ c.loop-level.invariant)
 
 pub chains::steps-returns : goal.chains::steps-returns

@@ -9,11 +9,11 @@ use Rattle.stmt_parser.proofs.+stmt.Goals as goal
 
 pub list::items-loop-list-init : goal.list::items-loop-list-init
 unfolding items_read
-list::items-loop-list-init t c = rw c.new-list.ensures.items (front_none _)
+list::items-loop-list-init t c = rw c.in_ok-list.ensures.items (front_none _)
 
 pub list::items-returns-in_err-stmt : goal.list::items-returns-in_err-stmt
 list::items-returns-in_err-stmt t c =
-    let p = err_from_is_err_and c.from_residual.result c.from_residual.ensures.1 in
+    let p = err_from_is_err_and c.from_residual-in_err-stmt.result c.from_residual-in_err-stmt.ensures.1 in
     rw (p.1, p.2) (loop_fails (stmt_takes c.args.left) _ (view_list c.loop-list.list) c.args.p.now.tokens _ c.loop-list.next _ (sym c.sees.ensures ∙ c.loop-list-test.true) c.loop-list.invariant c.in_err-stmt.ensures)
 
 pub list::items-loop-list-smaller : goal.list::items-loop-list-smaller
@@ -29,7 +29,7 @@ list::items-returns t c = sym c.loop-list.invariant ∙ loop_done _ _ (view_list
 
 pub blocks::arms-loop-list-init : goal.blocks::arms-loop-list-init
 unfolding arms_read with_front
-blocks::arms-loop-list-init t c = rw (c.in_ok-push.ensures.items, c.new-list.ensures.items)
+blocks::arms-loop-list-init t c = rw (c.in_ok-push.ensures.items, c.in_ok-list.ensures.items)
 
 pub blocks::arms-returns-in_err-arm : goal.blocks::arms-returns-in_err-arm
 blocks::arms-returns-in_err-arm t c =
