@@ -16,7 +16,7 @@ use Rattle.data_scopes.specs.declared.meant.Meant.TheVariants as meants
 use Rattle.data_scopes.specs.Called.{kind_of, params_of, places_of, result_of}
 use Rattle.data_scopes.specs.Declarations.{Checked, ◌>>=◌}
 use Rattle.data_scopes.specs.Scopes.{Names}
-use Rattle.data_scopes.specs.Sorts.{has_values}
+use Rattle.rapid_model.specs.Sorts.{has_values}
 use Rattle.named_data.specs.declared.named.Source.{Source}
 use Rattle.named_data.specs.declared.named.Source.TheVariants as sources
 use Rattle.named_data.specs.declared.wanted.Wanted.TheVariants.{Any, Is, Same, Fits}

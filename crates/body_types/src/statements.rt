@@ -131,7 +131,7 @@ fn stmts<'b>(
 ) -> Result<TypedList, TypeFault>
     ensures { Gives view_typed_list result (Bodies.stmts (view_body body.now) (raw_stmts_of (view_raw_list list.now)) (view_around around.now) next) }
 {
-    let mut done = Vec::new(body.alloc);
+    let mut done = Vec::with_capacity(body.alloc, list.len())?;
     let mut number = next;
     for raw in list {
         let one = stmt(raw, body, around, number)?;
@@ -177,10 +177,11 @@ fn branches<'b>(
 ) -> Result<TypedArms, TypeFault>
     ensures { Gives view_typed_arms result (Bodies.branches (view_body body.now) (arms_in (view_raw_stmt raw.now)) (view_site site.now) (view_around around.now) next) }
 {
-    let mut done = Vec::new(body.alloc);
     let RawForm::If { arms, .. } = &raw.form else {
-        return Ok(TypedArms { arms: done, next });
+        let none = Vec::new(body.alloc);
+        return Ok(TypedArms { arms: none, next });
     };
+    let mut done = Vec::with_capacity(body.alloc, arms.len())?;
     let mut number = next;
     for (test, list) in arms {
         let value = typed(site, test, Wanted::Is(Sort::Bool))?;
@@ -206,10 +207,11 @@ fn choices<'b>(
 ) -> Result<TypedCases, TypeFault>
     ensures { Gives view_typed_cases result (Bodies.choices (view_body body.now) (cases_in (view_raw_stmt raw.now)) (view_site site.now) sort (view_around around.now) next) }
 {
-    let mut done = Vec::new(body.alloc);
     let RawForm::Test { cases, .. } = &raw.form else {
-        return Ok(TypedCases { cases: done, next });
+        let none = Vec::new(body.alloc);
+        return Ok(TypedCases { cases: none, next });
     };
+    let mut done = Vec::with_capacity(body.alloc, cases.len())?;
     let mut number = next;
     for (values, list) in cases {
         let values = case_values(site, sort, values)?;

@@ -9,9 +9,10 @@ ghost use Rattle.named_data.specs.Views.{view_site};
 ghost use Rattle.expr_types.specs.Views.{view_part};
 ghost use Rattle.body_types.specs.Bodies;
 
-use data_scopes::{Meant, TypeFault, TypeRule, has_values};
+use data_scopes::{Meant, TypeFault, TypeRule};
 use expr_types::{PlacePart, is_fixed, place, typed};
 use named_data::{Site, Source, Wanted, fault, must};
+use rapid_model::has_values;
 use raw_trees::{RawExpr, RawName, RawPlace};
 use typed_trees::{Stmt, TreePlace};
 

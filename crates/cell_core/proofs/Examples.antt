@@ -1,6 +1,6 @@
 -- The definitions on a worked example: one task whose arm starts with all six axes at 0, and at most one counted event.
 use Rattle.std.proofs.Common.{◌≡◌, [], ◌∷◌, ◌++◌, Some, None, true, refl, replicate}
-use Rattle.std.specs.Prelude.{ℤ, pos}
+use Rattle.std.specs.Prelude.{ℤ, pos, codes}
 use Rattle.rapid_num.specs.Reach.{absent_axes}
 use Rattle.rapid_num.specs.declared.joints.Joints.{Joints}
 use Rattle.rapid_model.specs.CellData.{CellData}
@@ -17,7 +17,7 @@ abbrev joints_at : ℤ → Joints
 joints_at angle = record { axis = angle ∷ replicate 5 (pos 0) ++ absent_axes }
 
 abbrev cell_of_one : CellData
-cell_of_one = record { steps = 1; tasks = record { name = []; arm = Some (joints_at (pos 0)) } ∷ [] }
+cell_of_one = record { steps = 1; tasks = record { name = codes "A"; arm = Some (joints_at (pos 0)) } ∷ []; signals = []; pers = []; meetings = []; zones = []; inputs = [] }
 
 abbrev moved_to_one : Event
 moved_to_one = record { actor = 0; request = Setpoint (joints_at (pos 1000)); answer = answers.Given }

@@ -6,7 +6,9 @@ use Rattle.std.specs.List.{list_all}
 use Rattle.std.proofs.lemmas.Bool.{false≢true}
 use Rattle.rapid_num.specs.declared.joints.Joints.{Joints}
 use Rattle.rapid_num.specs.Reach.{is_position}
-use Rattle.rapid_model.specs.CellData.{CellData, IsCell, is_start, starts_well}
+use Rattle.rapid_model.specs.CellData.{CellData, IsCell, starts_well}
+use Rattle.rapid_model.specs.Limits.{is_start}
+use Rattle.rapid_model.specs.Names.{is_name}
 use Rattle.rapid_model.specs.Requests.{part_of, may_ask, row_allows, fits_request}
 use Rattle.rapid_model.specs.declared.answer.Answer.{Answer}
 use Rattle.rapid_model.specs.declared.answer.Answer.TheVariants as answers
@@ -78,7 +80,7 @@ starts_at [] k row h e = absurd (let no_row : ⊥ = cc in no_row)
 starts_at (r ∷ rows) zero row h e =
     let same : r ≡ row = cc in
     let P : TaskRow → Type 0 = λ s. is_start s.arm ≡ true in
-    subst P same (both_true (starts_well r) (list_all starts_well rows) h).0
+    subst P same (both_true (is_name r.name) (is_start r.arm) (both_true (starts_well r) (list_all starts_well rows) h).0).1
 starts_at (r ∷ rows) (suc k) row h e = starts_at rows k row (both_true (starts_well r) (list_all starts_well rows) h).1 e
 
 -- the answer where the arm is that started so

@@ -1,4 +1,4 @@
-ghost use Rattle.std.specs.Prelude.{◌≡◌, ◌≤◌, IsTrue, IfSome, pos};
+ghost use Rattle.std.specs.Prelude.{◌≡◌, ◌≤◌, IsTrue, IfSome, pos, codes};
 ghost use Rattle.rapid_num.specs.Reach.{is_position};
 
 use crate::served::Served;
@@ -32,6 +32,15 @@ fn number(thousandths: u64) -> Num
     }
 }
 
+// The name A.
+fn name() -> NameText
+    ensures { result ≡ codes "A" }
+{
+    let mut name = NameText::new();
+    name.push(b'A');
+    name
+}
+
 // One task, whose arm is at 0.
 fn cell_of_one(alloc: Global, steps: u32) -> Result<Cell, AllocError>
     requires some { 1 ≤ steps }
@@ -39,12 +48,17 @@ fn cell_of_one(alloc: Global, steps: u32) -> Result<Cell, AllocError>
 {
     let mut rows = Vec::new(alloc);
     rows.push(TaskRow {
-        name: NameText::new(),
+        name: name(),
         arm: Some(position(false)),
     })?;
     Ok(Cell {
         steps,
         tasks: Sequence::from_vec(rows),
+        signals: Sequence::from_vec(Vec::new(alloc)),
+        pers: Sequence::from_vec(Vec::new(alloc)),
+        meetings: Sequence::from_vec(Vec::new(alloc)),
+        zones: Sequence::from_vec(Vec::new(alloc)),
+        inputs: Sequence::from_vec(Vec::new(alloc)),
     })
 }
 

@@ -1,4 +1,4 @@
-ghost use Rattle.std.specs.Prelude.{◌≡◌, ◌≤◌, IsTrue, IfOk, is_some};
+ghost use Rattle.std.specs.Prelude.{◌≡◌, ◌≤◌, [], ◌∷◌, IsTrue, IfOk, is_some};
 ghost use Rattle.rapid_model.specs.CellData.{starts_well};
 ghost use Rattle.rapid_num.specs.Reach.{is_position};
 ghost use Rattle.cell_crew.specs.Crew.{IsCrew, IsFresh};
@@ -51,13 +51,18 @@ fn machine(alloc: Global) -> Result<Machine, AllocError>
     }))
 }
 
-// A task whose arm starts at 0.
-fn row() -> TaskRow
+// A task whose name is this letter, a capital, and whose arm starts at 0.
+fn row(letter: u8) -> TaskRow
+    requires low { 65 ≤ letter }
+    requires high { letter ≤ 90 }
+    ensures name { result.name ≡ letter ∷ [] }
     ensures arm { IsTrue (is_some result.arm) }
     ensures start { IsTrue (starts_well result) }
 {
+    let mut name = NameText::new();
+    name.push(letter);
     TaskRow {
-        name: NameText::new(),
+        name,
         arm: Some(home()),
     }
 }
@@ -68,11 +73,20 @@ fn one_task(alloc: Global, steps: u32) -> Result<(Cell, Vec<Machine>), AllocErro
     ensures { IfOk result (λ made. IsCrew made.1.items made.0) }
 {
     let mut rows = Vec::new(alloc);
-    rows.push(row())?;
+    rows.push(row(b'A'))?;
     let mut machines = Vec::new(alloc);
     machines.push(machine(alloc)?)?;
     let tasks = Sequence::from_vec(rows);
-    Ok((Cell { steps, tasks }, machines))
+    let cell = Cell {
+        steps,
+        tasks,
+        signals: Sequence::from_vec(Vec::new(alloc)),
+        pers: Sequence::from_vec(Vec::new(alloc)),
+        meetings: Sequence::from_vec(Vec::new(alloc)),
+        zones: Sequence::from_vec(Vec::new(alloc)),
+        inputs: Sequence::from_vec(Vec::new(alloc)),
+    };
+    Ok((cell, machines))
 }
 
 fn two_tasks(alloc: Global, steps: u32) -> Result<(Cell, Vec<Machine>), AllocError>
@@ -81,13 +95,22 @@ fn two_tasks(alloc: Global, steps: u32) -> Result<(Cell, Vec<Machine>), AllocErr
     ensures { IfOk result (λ made. IsCrew made.1.items made.0) }
 {
     let mut rows = Vec::new(alloc);
-    rows.push(row())?;
-    rows.push(row())?;
+    rows.push(row(b'A'))?;
+    rows.push(row(b'B'))?;
     let mut machines = Vec::new(alloc);
     machines.push(machine(alloc)?)?;
     machines.push(machine(alloc)?)?;
     let tasks = Sequence::from_vec(rows);
-    Ok((Cell { steps, tasks }, machines))
+    let cell = Cell {
+        steps,
+        tasks,
+        signals: Sequence::from_vec(Vec::new(alloc)),
+        pers: Sequence::from_vec(Vec::new(alloc)),
+        meetings: Sequence::from_vec(Vec::new(alloc)),
+        zones: Sequence::from_vec(Vec::new(alloc)),
+        inputs: Sequence::from_vec(Vec::new(alloc)),
+    };
+    Ok((cell, machines))
 }
 
 // The history and the fates. No core: for want of memory.

@@ -8,6 +8,7 @@ use Rattle.rapid_model.specs.declared.script_rule.ScriptRule.{ScriptRule}
 use Rattle.rapid_model.specs.declared.script_rule.ScriptRule.TheVariants.{Kind, Range, Twice}
 use Rattle.named_data.specs.Wants.{same_sort}
 use Rattle.typed_trees.specs.Plain.{TypedPers}
+use Rattle.rapid_model.specs.Sorts.{width}
 use Rattle.cell_numbers.specs.declared.pers_info.PersInfo.{PersInfo}
 use Rattle.cell_numbers.specs.Cells
 use Rattle.cell_numbers.specs.Cells.{Making, Clash}
@@ -32,7 +33,7 @@ must_holds true number rule next e = refl
 must_holds false number rule next e = cc
 
 pub told_there : (infos : List PersInfo) (number k : ℕ) (row : PersValue) (old new : PersInfo) → k < length infos → old ≡ get_or infos k old
-    → Cells.has_sort old.sort row.value && Cells.fits_index old.len row.index ≡ true → Cells.element row.index + 1 ≤ Cells.width old.len
+    → Cells.has_sort old.sort row.value && Cells.fits_index old.len row.index ≡ true → Cells.element row.index + 1 ≤ width old.len
     → Cells.is_told (slice_get old.told.items (Cells.element row.index)) ≡ false → view_info new ≡ Cells.with_told (view_info old) (Cells.element row.index) row.value
     → Cells.tell_to (map view_info infos) number row k (slice_get (map view_info infos) k) ≡ Ok (map view_info (set infos k new))
 told_there infos number k row old new within is suits in_range untold told =
@@ -40,7 +41,7 @@ told_there infos number k row old new within is suits in_range untold told =
     let place = Cells.element row.index in
     ap (Cells.tell_to ps number row k) (info_there infos k old within is)
     ∙ must_holds (Cells.has_sort old.sort row.value && Cells.fits_index old.len row.index) number Kind _ suits
-    ∙ must_holds (nat_le (place + 1) (Cells.width old.len)) number Range _ (le-leb (place + 1) (Cells.width old.len) in_range)
+    ∙ must_holds (nat_le (place + 1) (width old.len)) number Range _ (le-leb (place + 1) (width old.len) in_range)
     ∙ must_holds (not (Cells.is_told (slice_get old.told.items place))) number Twice _ (ap not untold)
     ∙ ap (λ p. let made : Making (List Cells.PersInfo) = Ok (set ps k p) in made) (sym told)
     ∙ ap (λ qs. let made : Making (List Cells.PersInfo) = Ok qs in made) (sym (map-set view_info infos k new))

@@ -10,6 +10,7 @@ use Rattle.rapid_model.specs.declared.sort.Sort.{Sort}
 use Rattle.rapid_model.specs.declared.sort.Sort.TheVariants as sorts
 use Rattle.rapid_model.specs.declared.value.Value.{Value}
 use Rattle.rapid_model.specs.declared.value.Value.TheVariants as values
+use Rattle.rapid_model.specs.Sorts.{width}
 use Rattle.typed_trees.specs.Plain.{TypedPers, TypedTree}
 use Rattle.cell_script.specs.Break.{element_of}
 use Rattle.named_data.specs.Wants.{same_sort}
@@ -37,11 +38,6 @@ pub record PersInfo : Type 0 where
   pub len : Option ℕ
   pub declared : Option (List Value)
   pub told : List (Option Value)
-
--- how many elements it has
-abbrev pub width : Option ℕ → ℕ
-width None = 1
-width (Some n) = n
 
 abbrev pub same_len : Option ℕ → Option ℕ → Bool
 same_len None None = true

@@ -1,3 +1,4 @@
 pub mod Cells
+pub mod Made
 pub mod Parts
 pub mod Views

@@ -1,11 +1,14 @@
 -- How contracts see the persistents and meetings of a cell.
-use Rattle.std.specs.Prelude.{◌≡◌, map, option_map, Result, Ok, Err}
+use Rattle.std.specs.Prelude.{◌≡◌, List, map, option_map, Result, Ok, Err}
+use Rattle.rapid_model.specs.CellData.{CellData}
+use Rattle.typed_trees.specs.Plain.{TypedTree}
 use Rattle.cell_numbers.specs.declared.cell_fault.CellFault.{CellFault}
 use Rattle.cell_numbers.specs.declared.cell_fault.CellFault.TheVariants as faults
 use Rattle.cell_numbers.specs.declared.tables.CellTables.{CellTables}
 use Rattle.cell_numbers.specs.declared.pers_info.PersInfo.{PersInfo}
 use Rattle.cell_numbers.specs.Cells
 use Rattle.cell_numbers.specs.Cells.{Making, Clash, InScript}
+use Rattle.cell_numbers.specs.Made.{MadeCell}
 
 abbrev pub view_info : PersInfo → Cells.PersInfo
 view_info p = record { name = p.name; owner = p.owner; sort = p.sort; len = p.len; declared = option_map (λ v. v.items) p.declared; told = p.told.items }
@@ -17,6 +20,10 @@ view_tables t = record {
   meetings = t.meetings.items;
   meeting_of = map (λ v. v.items) t.meeting_of.items;
 }
+
+-- a cell, with the trees that have their numbers
+abbrev pub view_made : List TypedTree → CellData → MadeCell
+view_made trees cell = record { cell = cell; trees = trees }
 
 -- what is refused; want of memory says nothing
 abbrev pub Fails : {A : Type 0} → CellFault → Making A → Type 0

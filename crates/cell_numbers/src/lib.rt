@@ -1,6 +1,7 @@
-//! Which persistents and meetings of a cell's tasks are one, and what the script says of persistents.
+//! Which persistents and meetings of a cell's tasks are one, what the script says of persistents, and the cell itself.
 #![tactic(auto)]
 
+mod cell;
 mod cell_fault;
 mod global;
 mod make;
@@ -10,12 +11,16 @@ mod met;
 mod number;
 mod numbered;
 mod one_pers;
+mod own_numbers;
+mod pers_cells;
 mod pers_info;
 mod pers_tables;
+mod rows;
 mod tables;
 mod telling;
 mod trees;
 
+pub use cell::make_cell;
 pub use cell_fault::CellFault;
 pub use make::cell_tables;
 pub use pers_info::PersInfo;

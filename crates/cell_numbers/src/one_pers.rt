@@ -13,19 +13,9 @@ use crate::global::global_number;
 use crate::numbered::{Numbered, added};
 use crate::pers_info::PersInfo;
 use named_data::same_sort;
-use rapid_model::Value;
+use rapid_model::{Value, width};
 use std::alloc::Global;
 use typed_trees::PersRow;
-
-/// How many elements a persistent of this length has.
-pub(crate) fn width(len: Option<u16>) -> usize
-    ensures { result ≡ Cells.width len }
-{
-    match len {
-        Some(len) => len as usize,
-        None => 1,
-    }
-}
 
 fn same_len(a: Option<u16>, b: Option<u16>) -> bool
     ensures { result ≡ Cells.same_len a b }
@@ -38,7 +28,7 @@ fn same_len(a: Option<u16>, b: Option<u16>) -> bool
 }
 
 /// Equal values.
-fn copy_values(alloc: Global, values: &[Value]) -> Result<Vec<Value>, CellFault>
+pub(crate) fn copy_values(alloc: Global, values: &[Value]) -> Result<Vec<Value>, CellFault>
     ensures { Gives (λ copy. copy.items) result (Ok values.now) }
 {
     let mut copy = Vec::new(alloc);

@@ -10,10 +10,9 @@ ghost use Rattle.cell_numbers.specs.Views.{Gives, view_info};
 
 use crate::cell_fault::CellFault;
 use crate::global::global_number;
-use crate::one_pers::width;
 use crate::pers_info::PersInfo;
 use itoa::Buffer;
-use rapid_model::{PersValue, ScriptRule, Sort, Text, Value};
+use rapid_model::{PersValue, ScriptRule, Sort, Text, Value, width};
 
 /// Whether a script's value is of the type.
 fn has_sort(sort: Sort, value: &Value) -> bool

@@ -1,7 +1,17 @@
 //! Cells made by hand.
 
-use super::{CellFault, PersInfo, cell_tables};
-use rapid_model::{NameText, PersValue, Sort, Value};
+ghost use Rattle.std.specs.Prelude.{◌≡◌, ◌==◌, ◌&&◌, length, map, IsTrue, IfOk};
+ghost use Rattle.std.specs.List.{list_all};
+ghost use Rattle.rapid_model.specs.Limits.{is_within, holds_where_there};
+ghost use Rattle.rapid_model.specs.Sorts.{is_value_of, width};
+ghost use Rattle.rapid_model.specs.declared.sort.Sort.TheVariants as sorts;
+ghost use Rattle.typed_trees.specs.Sound.{is_sound, has_sound_pers};
+ghost use Rattle.typed_trees.specs.Views.{view_pers, view_tree};
+ghost use Rattle.cell_numbers.specs.Parts.{view_values};
+
+use super::{CellFault, PersInfo, cell_tables, make_cell};
+use cell_script::read_script;
+use rapid_model::{NameText, PersCell, PersValue, Sort, Value};
 use rapid_num::Num;
 use std::alloc::{AllocError, Global};
 use std::test::*;
@@ -15,15 +25,18 @@ fn name(text: &[u8]) -> NameText {
     name
 }
 
-fn number(thousandths: i64) -> Value {
-    match Num::new(thousandths) {
-        Some(number) => Value::Num(number),
-        None => Value::Bool(false),
-    }
+fn number(thousandths: i64) -> Value
+    ensures { IsTrue (is_value_of sorts.Num result) }
+{
+    Value::Num(Num::new(thousandths).unwrap_or(Num::new(0).unwrap()))
 }
 
 // A PERS num of module 3.
-fn pers(text: &[u8], own: bool, at: usize, len: Option<u16>, first: Option<Vec<Value>>) -> PersRow {
+fn pers(text: &[u8], own: bool, at: usize, len: Option<u16>, first: Option<Vec<Value>>) -> PersRow
+    requires len { IsTrue (holds_where_there (is_within 1 1_000) len) }
+    requires first { IsTrue (holds_where_there (λ values. length values == width len && list_all (is_value_of sorts.Num) values) (view_values first)) }
+    ensures { IsTrue (is_sound (view_pers result)) }
+{
     PersRow {
         name: name(text),
         module: 3,
@@ -35,7 +48,10 @@ fn pers(text: &[u8], own: bool, at: usize, len: Option<u16>, first: Option<Vec<V
     }
 }
 
-fn tree(alloc: Global, pers: Vec<PersRow>, meetings: Vec<NameText>) -> Tree {
+fn tree(alloc: Global, pers: Vec<PersRow>, meetings: Vec<NameText>) -> Tree
+    requires { IsTrue (list_all is_sound (map view_pers pers.items)) }
+    ensures { IsTrue (has_sound_pers (view_tree result)) }
+{
     Tree {
         modules: 4,
         tasks: Vec::new(alloc),
@@ -50,7 +66,9 @@ fn tree(alloc: Global, pers: Vec<PersRow>, meetings: Vec<NameText>) -> Tree {
 }
 
 // TASK PERS num counts{2} and PERS num Counts{2}; and in the second task PERS num COUNTS{2} := [1, 2].
-fn shared(alloc: Global) -> Result<Vec<Tree>, AllocError> {
+fn shared(alloc: Global) -> Result<Vec<Tree>, AllocError>
+    ensures { IfOk result (λ trees. IsTrue (list_all has_sound_pers (map view_tree trees.items))) }
+{
     let own = pers(b"counts", true, 10, Some(2), None);
     let global = pers(b"Counts", false, 20, Some(2), None);
     let values = vec![in alloc; number(1_000), number(2_000)]?;
@@ -117,8 +135,53 @@ fn one_persistent_of_two_trees(rt: HostRuntime) -> Result<(), Fail> {
     Ok(())
 }
 
+/// Two tasks, and a value of the shared persistent.
+const SCRIPT: &str =
+    "version = 1\n[[task]]\nname = \"ONE\"\nmodules = [\"one.mod\"]\n[[task]]\nname = \"TWO\"\nmodules = [\"two.mod\"]\n[[pers]]\nname = \"cOUNTS\"\nindex = 2\nnum = \"7\"\n";
+
+fn begins_with(pers: &PersCell, one: i64, two: i64) -> bool {
+    let [first, second] = pers.first.as_slice() else {
+        return false;
+    };
+    *first == number(one) && *second == number(two)
+}
+
+fn is_numbered(tree: &Tree, pers: &[u32], meetings: &[u32]) -> bool {
+    tree.pers_of.as_slice() == pers && tree.meeting_of.as_slice() == meetings
+}
+
+#[test]
+fn a_cell_of_two_trees(rt: HostRuntime) -> Result<(), Fail> {
+    let alloc = rt.alloc();
+    let script = read_script(alloc, SCRIPT.as_bytes())
+        .ok()
+        .ok_or("a script of two tasks")?;
+    let Ok(mut trees) = shared(alloc) else {
+        return Err("trees are made".into());
+    };
+    if trees.len() != script.tasks().len() {
+        return Err("one tree each".into());
+    }
+    let Ok(cell) = make_cell(alloc, &script, &mut trees) else {
+        return Err("a cell is made".into());
+    };
+    let [own, shared] = cell.pers().as_slice() else {
+        return Err("there are two persistents".into());
+    };
+    assert!(rt; begins_with(own, 0, 0));
+    assert!(rt; begins_with(shared, 1_000, 7_000));
+    let [one, two] = trees.as_slice() else {
+        return Err("there are two trees".into());
+    };
+    assert!(rt; is_numbered(one, &[0, 1], &[0]));
+    assert!(rt; is_numbered(two, &[1], &[1, 0]));
+    Ok(())
+}
+
 // PERS num a, and in the second task PERS num A{2}.
-fn clashing(alloc: Global) -> Result<Vec<Tree>, AllocError> {
+fn clashing(alloc: Global) -> Result<Vec<Tree>, AllocError>
+    ensures { IfOk result (λ trees. IsTrue (list_all has_sound_pers (map view_tree trees.items))) }
+{
     let one = pers(b"a", false, 10, None, None);
     let two = pers(b"A", false, 57, Some(2), None);
     let first = tree(alloc, vec![in alloc; one]?, Vec::new(alloc));
@@ -129,10 +192,21 @@ fn clashing(alloc: Global) -> Result<Vec<Tree>, AllocError> {
 #[test]
 fn a_clash_of_lengths(rt: HostRuntime) -> Result<(), Fail> {
     let alloc = rt.alloc();
-    let trees = clashing(alloc).map_err(|_| "trees are made")?;
-    let Err(CellFault::Clash { task, module, at }) = cell_tables(alloc, &[], &trees) else {
+    let script = read_script(alloc, SCRIPT.as_bytes())
+        .ok()
+        .ok_or("a script of two tasks")?;
+    let Ok(mut trees) = clashing(alloc) else {
+        return Err("trees are made".into());
+    };
+    if trees.len() != script.tasks().len() {
+        return Err("one tree each".into());
+    }
+    let Err(CellFault::Clash { task, module, at }) = make_cell(alloc, &script, &mut trees) else {
         return Err("the lengths differ".into());
     };
     assert_eq!(rt; (task, module, at), (1, 3, 57));
+    for tree in &trees {
+        assert!(rt; is_numbered(tree, &[], &[]));
+    }
     Ok(())
 }

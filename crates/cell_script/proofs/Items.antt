@@ -4,7 +4,7 @@ use Rattle.std.proofs.lemmas.List.{at_drop_more, at_drop_all, append-nil}
 use Rattle.toml.specs.Data.{Data, Items, as_array}
 use Rattle.toml.specs.View.{view, items_view}
 use Rattle.toml.specs.declared.value.Value.{Value}
-use Rattle.rapid_model.specs.ScriptData.{is_within}
+use Rattle.rapid_model.specs.Limits.{is_within}
 use Rattle.rapid_model.specs.declared.script_rule.ScriptRule.TheVariants.{Kind, Range}
 use Rattle.cell_script.specs.Break.{◌>>=◌, broken, must, found_or}
 use Rattle.cell_script.specs.Keys.{items_list, each_as, front_of, list_at, rows_at}

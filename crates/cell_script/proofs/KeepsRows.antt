@@ -6,7 +6,7 @@ use Rattle.std.proofs.lemmas.List.{map-append, length-append}
 use Rattle.std.proofs.lemmas.List.Folds.{list_all-append}
 use Rattle.toml.specs.Data.{Data, as_array}
 use Rattle.rapid_model.specs.Names.{differ}
-use Rattle.rapid_model.specs.ScriptData.{is_within}
+use Rattle.rapid_model.specs.Limits.{is_within}
 use Rattle.rapid_model.specs.declared.script_rule.ScriptRule.TheVariants.{Kind, Range}
 use Rattle.cell_script.specs.Break.{Read, must, found_or}
 use Rattle.cell_script.specs.Keys.{items_list, rows_at, each_row}

@@ -1,5 +1,4 @@
 pub mod Arms
-pub mod Cells
 pub mod Examples
 pub mod Faults
 pub mod Items

@@ -7,9 +7,9 @@ use Rattle.std.proofs.lemmas.Bool.{and_parts, and_from, eqb-true}
 use Rattle.toml.specs.Data.{Data, as_str, as_integer, as_bool}
 use Rattle.rapid_num.specs.Reach.{is_in_reach, is_absent, absent_axes, is_position}
 use Rattle.rapid_num.specs.declared.joints.Joints.{Joints}
-use Rattle.rapid_model.specs.CellData.{is_start}
+use Rattle.rapid_model.specs.Limits.{is_within, holds_where_there, is_start, is_signal}
 use Rattle.rapid_model.specs.Names.{is_name}
-use Rattle.rapid_model.specs.ScriptData.{is_within, holds_where_there, is_signal, is_file_name, is_task, is_given_value, is_pers_value}
+use Rattle.rapid_model.specs.ScriptData.{is_file_name, is_task, is_given_value, is_pers_value}
 use Rattle.rapid_model.specs.declared.pers_value.PersValue.{PersValue}
 use Rattle.rapid_model.specs.declared.script_rule.ScriptRule.TheVariants.{Kind, Range}
 use Rattle.rapid_model.specs.declared.script_task.ScriptTask.{ScriptTask}

@@ -2,7 +2,7 @@
 use Rattle.std.proofs.Common.{◌≡◌, ℕ, Bool, true, ◌&&◌, nat_le, nat_lt, List, [], ◌∷◌, length, map, codes, Option, Some, None, Ok, Err, refl}
 use Rattle.std.proofs.lemmas.Bool.{and_parts, and_from}
 use Rattle.toml.specs.Data.{Data}
-use Rattle.rapid_model.specs.ScriptData.{is_within, holds_where_there, is_input_signal, is_input}
+use Rattle.rapid_model.specs.Limits.{is_within, holds_where_there, is_input_signal, is_input}
 use Rattle.rapid_model.specs.declared.input_row.InputRow.{InputRow}
 use Rattle.rapid_model.specs.declared.script_rule.ScriptRule.TheVariants.{NoSuch}
 use Rattle.rapid_model.specs.declared.script_task.ScriptTask.{ScriptTask}
@@ -40,10 +40,10 @@ any_keeps : {A : Type 0} (read : Read A) → Keeps Any read
 any_keeps (Ok x) = tt
 any_keeps (Err b) = tt
 
-pub input_keeps : (signals : List SignalRow) (tasks : List ScriptTask) (before : List InputRow) (d : Data) → Keeps (IsAt (is_input signals tasks)) (input_of signals tasks before d)
+pub input_keeps : (signals : List SignalRow) (tasks : List ScriptTask) (before : List InputRow) (d : Data) → Keeps (IsAt (is_input signals (length tasks))) (input_of signals tasks before d)
 unfolding input_of
 input_keeps signals tasks before d =
-    let Q : InputRow → Type 0 = IsAt (is_input signals tasks) in
+    let Q : InputRow → Type 0 = IsAt (is_input signals (length tasks)) in
     let I : ℕ → Type 0 = λ n. is_input_signal signals n ≡ true in
     let when_test : ℕ × Bool → Bool = λ w. nat_lt w.0 (length signals) in
     let given_test : ℕ × ℕ → Bool = λ g. nat_lt g.0 (length tasks) && nat_le g.1 1_000_000 in

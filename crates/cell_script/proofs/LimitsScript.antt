@@ -1,9 +1,10 @@
 -- A script that is read is within its limits.
-use Rattle.std.proofs.Common.{◌≡◌, ℕ, Bool, true, nat_le, List, [], map, codes, Option, Ok, Err, refl, arith}
+use Rattle.std.proofs.Common.{◌≡◌, ℕ, Bool, true, nat_le, List, [], length, map, codes, Option, Ok, Err, refl, arith}
 use Rattle.std.proofs.lemmas.Bool.{and_parts, leb-true}
 use Rattle.toml.specs.Data.{Data}
+use Rattle.rapid_model.specs.Limits.{is_within, is_signal, is_zone, is_input}
 use Rattle.rapid_model.specs.Names.{differ}
-use Rattle.rapid_model.specs.ScriptData.{IsScript, is_within, is_signal, is_task, is_pers_value, is_zone, is_input}
+use Rattle.rapid_model.specs.ScriptData.{IsScript, is_task, is_pers_value}
 use Rattle.rapid_model.specs.declared.input_row.InputRow.{InputRow}
 use Rattle.rapid_model.specs.declared.pers_value.PersValue.{PersValue}
 use Rattle.rapid_model.specs.declared.script_task.ScriptTask.{ScriptTask}
@@ -85,8 +86,9 @@ IsScript-from keys steps signals tasks pers zones inputs s1 s2 s3 s4 s5 s6 =
     let are_signals = signals_are (at keys (codes "signal")) (value_of keys (codes "signal")) signals s2 in
     let are_tasks = tasks_are keys tasks s3 in
     let are_pers = kept (SoMany is_pers_value 0 1_000) _ pers (optional_rows is_pers_value (at keys (codes "pers")) 1_000 pers_of (value_of keys (codes "pers")) pers_keeps) s4 in
-    let are_zones = kept (SoMany (is_zone signals tasks) 0 16) _ zones (optional_rows (is_zone signals tasks) (at keys (codes "zone")) 16 (zone_of signals tasks) (value_of keys (codes "zone")) (zone_keeps signals tasks)) s5 in
-    let are_inputs = kept (SoMany (is_input signals tasks) 0 10_000) _ inputs (optional_rows (is_input signals tasks) (at keys (codes "input")) 10_000 (input_of signals tasks) (value_of keys (codes "input")) (input_keeps signals tasks)) s6 in
+    let arms = map (λ task. task.arm) tasks in
+    let are_zones = kept (SoMany (is_zone signals arms) 0 16) _ zones (optional_rows (is_zone signals arms) (at keys (codes "zone")) 16 (zone_of signals tasks) (value_of keys (codes "zone")) (zone_keeps signals tasks)) s5 in
+    let are_inputs = kept (SoMany (is_input signals (length tasks)) 0 10_000) _ inputs (optional_rows (is_input signals (length tasks)) (at keys (codes "input")) 10_000 (input_of signals tasks) (value_of keys (codes "input")) (input_keeps signals tasks)) s6 in
     record {
       some_steps = leb-true 1 steps parts.0;
       few_steps = leb-true steps 1_000_000 parts.1;

@@ -7,8 +7,8 @@ use Rattle.std.proofs.lemmas.List.Folds.{list_any_at}
 use Rattle.toml.specs.Data.{Data, as_integer}
 use Rattle.rapid_num.specs.Reach.{is_in_reach}
 use Rattle.rapid_num.specs.declared.shape.Bound.{Bound}
+use Rattle.rapid_model.specs.Limits.{holds_where_there, is_bounded, is_zone_shape, has_arm, is_zone}
 use Rattle.rapid_model.specs.Names.{is_name}
-use Rattle.rapid_model.specs.ScriptData.{holds_where_there, is_bounded, is_zone_shape, has_arm, is_zone}
 use Rattle.rapid_model.specs.declared.script_rule.ScriptRule.TheVariants.{NoSuch, Range}
 use Rattle.rapid_model.specs.declared.script_task.ScriptTask.{ScriptTask}
 use Rattle.rapid_model.specs.declared.signal_row.SignalRow.{SignalRow}
@@ -20,10 +20,11 @@ use Rattle.cell_script.proofs.Keeps.{Keeps, Keeps-then, Keeps-any, Keeps-must, K
 use Rattle.cell_script.proofs.KeepsNames.{IsName, IsOf, name_keeps, number_keeps}
 use Rattle.cell_script.proofs.KeepsRows.{IsAt}
 
-task_is_armed : (key : List ℕ) (tasks : List ScriptTask) (d : Data) → Keeps (λ n. has_arm tasks n ≡ true) (armed_task_at key tasks d)
+task_is_armed : (key : List ℕ) (tasks : List ScriptTask) (d : Data) → Keeps (λ n. has_arm (map (λ task. task.arm) tasks) n ≡ true) (armed_task_at key tasks d)
 task_is_armed key tasks d =
-    let Q : ℕ → Type 0 = λ n. has_arm tasks n ≡ true in
-    Keeps-any Q (number_at key (map (λ task. task.name) tasks) d) _ (λ n. Keeps-must Q (has_arm tasks n) key NoSuch (Ok n) (λ e. e))
+    let arms = map (λ task. task.arm) tasks in
+    let Q : ℕ → Type 0 = λ n. has_arm arms n ≡ true in
+    Keeps-any Q (number_at key (map (λ task. task.name) tasks) d) _ (λ n. Keeps-must Q (has_arm arms n) key NoSuch (Ok n) (λ e. e))
 
 -- one or more axes
 record AreAxes (axes : List ℤ) : Type 0 where
@@ -112,11 +113,12 @@ shape_keeps inside axes lows highs are low high =
     (and_from (list_any is_some (f 1 ∷ f 2 ∷ f 3 ∷ f 4 ∷ f 5 ∷ f 6 ∷ [])) (list_all (holds_where_there is_bounded) (f 1 ∷ f 2 ∷ f 3 ∷ f 4 ∷ f 5 ∷ f 6 ∷ []))
     (some_bound axes lows highs are low.count_is high.count_is) (six_all f (λ n. bounded n axes lows highs low.reach high.reach high.below))) refl
 
-pub zone_keeps : (signals : List SignalRow) (tasks : List ScriptTask) (before : List ZoneRow) (d : Data) → Keeps (IsAt (is_zone signals tasks)) (zone_of signals tasks before d)
+pub zone_keeps : (signals : List SignalRow) (tasks : List ScriptTask) (before : List ZoneRow) (d : Data) → Keeps (IsAt (is_zone signals (map (λ task. task.arm) tasks))) (zone_of signals tasks before d)
 unfolding zone_of
 zone_keeps signals tasks before d =
-    let Q : ZoneRow → Type 0 = IsAt (is_zone signals tasks) in
-    let T : ℕ → Type 0 = λ n. has_arm tasks n ≡ true in
+    let arms = map (λ task. task.arm) tasks in
+    let Q : ZoneRow → Type 0 = IsAt (is_zone signals arms) in
+    let T : ℕ → Type 0 = λ n. has_arm arms n ≡ true in
     Keeps-any Q (table_at (codes "zone") (length before) d) _ (λ keys.
     Keeps-then IsName Q (needed keys (codes "name") >>= name_at (at keys (codes "name"))) _
     (Keeps-any IsName (needed keys (codes "name")) _ (λ n. name_keeps (at keys (codes "name")) n)) (λ name form.
@@ -134,6 +136,6 @@ zone_keeps signals tasks before d =
     Keeps-any Q (needed keys (codes "value") >>= bit_at (at keys (codes "value"))) _ (λ value.
     Keeps-only Q keys (codes "name" ∷ codes "task" ∷ codes "kind" ∷ codes "axes" ∷ codes "low" ∷ codes "high" ∷ codes "signal" ∷ codes "value" ∷ [])
     (Ok (record { name = name; task = task; shape = shape_of inside axes lows highs; signal = signal; value = value }))
-    (and_from ((is_name name && has_arm tasks task) && is_zone_shape (shape_of inside axes lows highs)) (nat_lt signal (length signals))
-    (and_from (is_name name && has_arm tasks task) (is_zone_shape (shape_of inside axes lows highs)) (and_from (is_name name) (has_arm tasks task) form armed)
+    (and_from ((is_name name && has_arm arms task) && is_zone_shape (shape_of inside axes lows highs)) (nat_lt signal (length signals))
+    (and_from (is_name name && has_arm arms task) (is_zone_shape (shape_of inside axes lows highs)) (and_from (is_name name) (has_arm arms task) form armed)
     (shape_keeps inside axes lows highs are low high)) of))))))))))

@@ -10,9 +10,10 @@ use Rattle.rapid_num.specs.declared.joints.Joints.{Joints}
 use Rattle.rapid_num.specs.declared.shape.Bound.{Bound}
 use Rattle.rapid_num.specs.declared.shape.Shape.{Shape}
 use Rattle.rapid_builtins.specs.Names.{is_predefined}
+use Rattle.rapid_model.specs.Limits.{is_within, has_arm, is_input_signal}
 use Rattle.rapid_model.specs.Names.{is_among}
 use Rattle.rapid_model.specs.Printable.{is_printable}
-use Rattle.rapid_model.specs.ScriptData.{is_within, is_file_name, has_arm, is_input_signal}
+use Rattle.rapid_model.specs.ScriptData.{is_file_name}
 use Rattle.rapid_model.specs.declared.input_row.InputRow.{InputRow}
 use Rattle.rapid_model.specs.declared.pers_value.PersValue.{PersValue}
 use Rattle.rapid_model.specs.declared.script_rule.ScriptRule.TheVariants.{Kind, Range, Name, Twice, NoSuch, Pair}
@@ -106,7 +107,7 @@ pers_of before d = do
 abbrev pub armed_task_at : List ℕ → List ScriptTask → Data → Read ℕ
 armed_task_at key tasks d = do
   task ← number_at key (map (λ task. task.name) tasks) d
-  must (has_arm tasks task) key NoSuch (Ok task)
+  must (has_arm (map (λ task. task.arm) tasks) task) key NoSuch (Ok task)
 
 -- an axis from 1 to 6
 abbrev pub is_axis : ℤ → Bool

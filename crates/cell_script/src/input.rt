@@ -2,7 +2,7 @@
 
 ghost use Rattle.std.specs.Prelude.{◌≡◌, ◌≤◌, [], codes, map, length};
 ghost use Rattle.toml.specs.View.{view};
-ghost use Rattle.rapid_model.specs.ScriptData.{is_input_signal};
+ghost use Rattle.rapid_model.specs.Limits.{is_input_signal};
 ghost use Rattle.cell_script.specs.Keys.{at, optional, value_of, number_at, bit_at, whole_at, pair_at, each_row};
 ghost use Rattle.cell_script.specs.Rows.{input_signal_at, input_of};
 ghost use Rattle.cell_script.specs.Parts.{rows_in, where_there};

@@ -2,7 +2,6 @@
 #![tactic(auto)]
 
 mod angle;
-mod cell;
 mod fault;
 mod input;
 mod keys;
@@ -17,7 +16,6 @@ mod signal;
 mod task;
 mod zone;
 
-pub use cell::make_cell;
 pub use fault::ScriptFault;
 pub use script::read_script;
 

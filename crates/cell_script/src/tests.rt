@@ -1,4 +1,4 @@
-use super::{ScriptFault, make_cell, read_script};
+use super::{ScriptFault, read_script};
 use rapid_model::{
     FileName, InputRow, PersValue, ScriptRule as Rule, ScriptTask, SignalRow, Value, ZoneRow,
 };
@@ -21,9 +21,6 @@ fn whole_script(rt: HostRuntime) -> Result<(), Fail> {
     assert!(rt; are_values(script.pers().as_slice()));
     assert!(rt; are_zones(script.zones().as_slice()));
     assert!(rt; are_inputs(script.inputs().as_slice()));
-    let cell = make_cell(rt.alloc(), &script).ok().ok_or("ample memory")?;
-    assert_eq!(rt; cell.steps(), 5000);
-    assert_eq!(rt; cell.tasks().len(), 2);
     Ok(())
 }
 

@@ -3,7 +3,7 @@
 ghost use Rattle.std.specs.Prelude.{◌≡◌, ◌≤◌, [], codes, map, length};
 ghost use Rattle.std.specs.List.{list_all};
 ghost use Rattle.toml.specs.View.{view};
-ghost use Rattle.rapid_model.specs.ScriptData.{has_arm};
+ghost use Rattle.rapid_model.specs.Limits.{has_arm};
 ghost use Rattle.cell_script.specs.Keys.{at, optional, value_of, each_row};
 ghost use Rattle.cell_script.specs.Rows.{armed_task_at, is_axis, are_axes, axes_at, bounds_at, each_below, high_bounds_at, zone_of};
 ghost use Rattle.cell_script.specs.Parts.{rows_in};
@@ -112,7 +112,7 @@ fn armed_task_at(
 }
 
 fn has_arm(tasks: &[ScriptTask], number: u32) -> bool
-    ensures { result ≡ has_arm tasks.now number }
+    ensures { result ≡ has_arm (map (λ task. task.arm) tasks.now) number }
 {
     match tasks.get(number as usize) {
         Some(task) => task.arm.is_some(),

@@ -1,14 +1,16 @@
 -- Checking one task after another.
 use Rattle.std.proofs.Common.{◌≡◌, ℕ, zero, suc, ◌+◌, ◌*◌, ◌<◌, ◌≤◌, min, List, [], ◌∷◌, ◌++◌, length, take, drop, get_or, map, refl, ap, sym, ◌∙◌, subst, ◌⊎◌, inl, inr, arith, append_assoc, Bool}
 use Rattle.std.proofs.lemmas.List.{map-append}
-use Rattle.std.specs.Prelude.{Option, Some, Result, Ok, Err, IsTrue, IfSome, is_some}
+use Rattle.std.specs.Prelude.{Option, Some, Result, Ok, Err, IsTrue, IfSome, IfErr, is_some}
 use Rattle.std.specs.List.{list_all}
+use Rattle.rapid_model.specs.CellData.{CellData}
 use Rattle.rapid_model.specs.ScriptData.{ScriptData, is_task}
 use Rattle.rapid_model.specs.declared.script_task.ScriptTask.{ScriptTask}
 use Rattle.typed_trees.specs.Plain.{TypedTree}
 use Rattle.typed_trees.specs.Views.{view_tree}
 use Rattle.typed_trees.specs.declared.tree.Tree.{Tree}
-use Rattle.cell_numbers.specs.Cells.{Clash, InScript, Making, CellTables, cell_tables}
+use Rattle.cell_numbers.specs.Cells.{Clash, InScript, Making}
+use Rattle.cell_numbers.specs.Made.{MadeCell, make_cell}
 use Rattle.raw_trees.specs.Plain.{PlainModule}
 use Rattle.raw_trees.specs.Views.{view_module}
 use Rattle.rapid_model.specs.declared.signal_row.SignalRow.{SignalRow}
@@ -21,7 +23,7 @@ use Rattle.stmt_types.specs.Task.{task_of}
 use Rattle.controller.specs.declared.refused.Refused.{Refused}
 use Rattle.controller.specs.declared.refused.Refused.TheVariants.{Memory}
 use Rattle.controller.specs.declared.modules.Modules.{Modules}
-use Rattle.controller.specs.Accepted.{ReadModule, rule_refusal, or_refused, names_in, typed_task, with_tree, then_trees, typed_tasks, first_file, cell_checked, trees_checked, checked}
+use Rattle.controller.specs.Accepted.{ReadModule, rule_refusal, or_refused, names_in, typed_task, with_tree, then_trees, typed_tasks, first_file, cell_or_refused, cell_from, checked}
 use Rattle.controller.specs.Files.{IsDoneFault}
 use Rattle.controller.specs.Loaded.{reads_in, ArePaired, IsRuleRefusal}
 use Rattle.controller.proofs.Lists.{drop-element}
@@ -168,22 +170,24 @@ in_tasks old new script (task ∷ tasks) file reads refused is =
     (task_of (map (λ read. read.raw) (take (length task.modules) reads)) (names_in script.tasks) script.signals (is_some task.arm)) r e)
     (λ r e. in_tasks old new script tasks (file + length task.modules) (drop (length task.modules) reads) r e) is
 
-in_cell : (old new : ℕ) (script : ScriptData) (reads : List ReadModule) (making : Making CellTables) → IfSome (cell_checked script reads making) (IsDoneFault old new)
-in_cell old new script reads (Ok tables) = tt
+in_cell : (old new : ℕ) (script : ScriptData) (reads : List ReadModule) (making : Making MadeCell) → IfErr (cell_or_refused script reads making) (IsDoneFault old new)
+in_cell old new script reads (Ok made) = tt
 in_cell old new script reads (Err (Clash task number at)) = tt
 in_cell old new script reads (Err (InScript key rule)) = tt
 
 in_trees : (old new : ℕ) (script : ScriptData) (reads : List ReadModule) (trees : Result (List TypedTree) Refused) → ((r : Refused) → trees ≡ Err r → IsDoneFault old new r)
-    → IfSome (trees_checked script reads trees) (IsDoneFault old new)
-in_trees old new script reads (Ok trees) told = in_cell old new script reads (cell_tables script.pers trees)
+    → IfErr (cell_from script reads trees) (IsDoneFault old new)
+in_trees old new script reads (Ok trees) told = in_cell old new script reads (make_cell script trees)
 in_trees old new script reads (Err refused) told = told refused refl
 
-pub checked_fault : (old new : ℕ) (script : ScriptData) (reads : List ReadModule) → IfSome (checked script reads) (IsDoneFault old new)
+checked_fault : (old new : ℕ) (script : ScriptData) (reads : List ReadModule) → IfErr (checked script reads) (IsDoneFault old new)
 checked_fault old new script reads =
     in_trees old new script reads (typed_tasks script script.tasks 1 reads) (λ r e. in_tasks old new script script.tasks 1 reads r e)
 
 -- what the check is refused for
-pub checks_told : (old new : ℕ) (script : ScriptData) (reads : List ReadModule) (told : Option Refused) (refused : Refused) → (refused ≡ Memory) ⊎ (checked script reads ≡ Some refused) → told ≡ Some refused
+pub checks_told : (old new : ℕ) (script : ScriptData) (reads : List ReadModule) (told : Option Refused) (refused : Refused) → (refused ≡ Memory) ⊎ (checked script reads ≡ Err refused) → told ≡ Some refused
     → IfSome told (IsDoneFault old new)
 checks_told old new script reads told refused (inl memory) is = subst (λ (o : Option Refused). IfSome o (IsDoneFault old new)) (sym (is ∙ ap Some memory)) tt
-checks_told old new script reads told refused (inr found) is = subst (λ (o : Option Refused). IfSome o (IsDoneFault old new)) (found ∙ sym is) (checked_fault old new script reads)
+checks_told old new script reads told refused (inr found) is =
+    subst (λ (o : Option Refused). IfSome o (IsDoneFault old new)) (sym is)
+    (subst (λ (r : Result CellData Refused). IfErr r (IsDoneFault old new)) found (checked_fault old new script reads))

@@ -7,7 +7,7 @@ use Rattle.outside.specs.Count.{Rose}
 use Rattle.outside.specs.Told.{Told, found, after_reads}
 use Rattle.outside.proofs.Counting.{after_reads-zero}
 use Rattle.rapid_model.specs.CellData.{CellData}
-use Rattle.rapid_model.specs.ScriptData.{ScriptData, cell_of, module_names}
+use Rattle.rapid_model.specs.ScriptData.{ScriptData, module_names}
 use Rattle.rapid_model.specs.declared.tree.Tree.{Tree}
 use Rattle.controller.specs.declared.command.Action.{Action}
 use Rattle.controller.specs.declared.command.Action.TheVariants.{Check}
@@ -161,12 +161,12 @@ parsed_here texts here seen trees shown failed same equal alike d =
 
 -- a rule is broken
 pub check_refused : (names : List (List ℕ)) (action : Option Action) (script : ScriptData) (reads : List ReadModule) (refused : Refused) (report : Report) (out err : Sunk)
-    → (refused ≡ Memory) ⊎ (checked script reads ≡ Some refused) → IsRefused names refused report out err → AnswersReads action names script reads report out err
+    → (refused ≡ Memory) ⊎ (checked script reads ≡ Err refused) → IsRefused names refused report out err → AnswersReads action names script reads report out err
 check_refused names action script reads refused report out err (inl memory) r = inl (out_of_memory names refused report out err memory r)
 check_refused names action script reads refused report out err (inr found) r =
     inr (
       refuses names refused,
-      subst (λ (o : Option Refused). CheckedDecides action names script reads o (refuses names refused)) (sym found) refl,
+      subst (λ (made : Result CellData Refused). CheckedDecides action names script reads made (refuses names refused)) (sym found) refl,
       r,
     )
 
@@ -175,23 +175,23 @@ accepted_answers names report out err (inl a) = inl a
 accepted_answers names report out err (inr a) = inr a.0
 
 -- all is accepted
-pub all_accepted : (names : List (List ℕ)) (action : Action) (script : ScriptData) (reads : List ReadModule) (report : Report) (out err : Sunk) → action ≡ Check → checked script reads ≡ None
+pub all_accepted : (names : List (List ℕ)) (action : Action) (script : ScriptData) (reads : List ReadModule) (cell : CellData) (report : Report) (out err : Sunk) → action ≡ Check → checked script reads ≡ Ok cell
     → AnswersAccepted report out err → AnswersReads (Some action) names script reads report out err
-all_accepted names action script reads report out err is none a =
+all_accepted names action script reads cell report out err is made a =
     inr (
       accepts names,
-      subst (λ (o : Option Refused). CheckedDecides (Some action) names script reads o (accepts names)) (sym none)
-          (subst (λ (x : Action). ActionDecides (Some x) names script reads (accepts names)) (sym is) refl),
+      subst (λ (found : Result CellData Refused). CheckedDecides (Some action) names script reads found (accepts names)) (sym made)
+          (subst (λ (x : Action). ActionDecides (Some x) names script reads cell (accepts names)) (sym is) refl),
       accepted_answers names report out err a,
     )
 
 -- something is not built
-pub not_built_refused : (names : List (List ℕ)) (script : ScriptData) (reads : List ReadModule) (builds : List Build) (refused : Refused) (report : Report) (out err : Sunk)
-    → AreBuilds (mentions script.tasks) reads builds → not_built script builds ≡ Some refused → IsRefused names refused report out err → AnswersBuilt names script reads report out err
-not_built_refused names script reads builds refused report out err built is r =
+pub not_built_refused : (names : List (List ℕ)) (script : ScriptData) (reads : List ReadModule) (cell : CellData) (builds : List Build) (refused : Refused) (report : Report) (out err : Sunk)
+    → AreBuilds (mentions script.tasks) reads builds → not_built script builds ≡ Some refused → IsRefused names refused report out err → AnswersBuilt names script reads cell report out err
+not_built_refused names script reads cell builds refused report out err built is r =
     inr (
       refuses names refused,
-      (builds, built, ap (λ (o : Option Refused). unless_refused names o (runs names (cell_of script) (trees_of builds))) (sym is)),
+      (builds, built, ap (λ (o : Option Refused). unless_refused names o (runs names cell (trees_of builds))) (sym is)),
       r,
     )
 
@@ -200,22 +200,22 @@ cut_with_names : (names : List (List ℕ)) (cell : CellData) (trees : List Tree)
 cut_with_names names cell trees report out err c = record { run = c.run; refused_is = c.refused_is; status = c.status; printed = c.printed; calls = c.calls; told = c.told }
 
 -- the task is run
-pub task_run : (names : List (List ℕ)) (script : ScriptData) (reads : List ReadModule) (builds : List Build) (tree : Tree) (report : Report) (out err : Sunk) → AreBuilds (mentions script.tasks) reads builds
-    → not_built script builds ≡ None → builds ≡ Ok tree ∷ [] → RunsOrMemory (cell_of script) (tree ∷ []) report out err → AnswersBuilt names script reads report out err
-task_run names script reads builds tree report out err built none one (inl memory) = inl memory
-task_run names script reads builds tree report out err built none one (inr run) =
+pub task_run : (names : List (List ℕ)) (script : ScriptData) (reads : List ReadModule) (cell : CellData) (builds : List Build) (tree : Tree) (report : Report) (out err : Sunk) → AreBuilds (mentions script.tasks) reads builds
+    → not_built script builds ≡ None → builds ≡ Ok tree ∷ [] → RunsOrMemory cell (tree ∷ []) report out err → AnswersBuilt names script reads cell report out err
+task_run names script reads cell builds tree report out err built none one (inl memory) = inl memory
+task_run names script reads cell builds tree report out err built none one (inr run) =
     inr (
-      runs names (cell_of script) (tree ∷ []),
+      runs names cell (tree ∷ []),
       (
         builds,
         built,
-        ap (λ (bs : List Build). runs names (cell_of script) (trees_of bs)) (sym one)
-            ∙ ap (λ (o : Option Refused). unless_refused names o (runs names (cell_of script) (trees_of builds))) (sym none),
+        ap (λ (bs : List Build). runs names cell (trees_of bs)) (sym one)
+            ∙ ap (λ (o : Option Refused). unless_refused names o (runs names cell (trees_of builds))) (sym none),
       ),
       answers run,
     )
   where
-    answers : (IsPrinted (cell_of script) (tree ∷ []) report out err) ⊎ (IsCutShort [] (cell_of script) (tree ∷ []) report out err × Rose out.old.faults out.new.faults)
-        → Answers (runs names (cell_of script) (tree ∷ [])) report out err
+    answers : (IsPrinted cell (tree ∷ []) report out err) ⊎ (IsCutShort [] cell (tree ∷ []) report out err × Rose out.old.faults out.new.faults)
+        → Answers (runs names cell (tree ∷ [])) report out err
     answers (inl p) = inl p
-    answers (inr c) = inr (cut_with_names names (cell_of script) (tree ∷ []) report out err c.0)
+    answers (inr c) = inr (cut_with_names names cell (tree ∷ []) report out err c.0)

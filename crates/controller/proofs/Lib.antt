@@ -7,6 +7,7 @@ pub mod Loads
 pub mod ReadModules
 pub mod Parsing
 pub mod Checking
+pub mod Made
 pub mod Building
 pub mod OneArm
 pub mod OneTree

@@ -6,9 +6,11 @@ use Rattle.std.specs.List.{list_all}
 use Rattle.std.proofs.lemmas.Bool.Decides.{nat_tests}
 use Rattle.std.proofs.lemmas.List.{length-map}
 use Rattle.rapid_model.specs.Requests.{or_else}
-use Rattle.rapid_model.specs.ScriptData.{ScriptData, IsScript, is_task, row_of, cell_of}
+use Rattle.rapid_model.specs.CellData.{CellData}
+use Rattle.rapid_model.specs.ScriptData.{ScriptData, IsScript, is_task, row_of}
 use Rattle.rapid_model.specs.declared.script_task.ScriptTask.{ScriptTask}
 use Rattle.rapid_model.specs.declared.script_rule.ScriptRule.TheVariants as rules
+use Rattle.rapid_model.specs.declared.task_row.TaskRow.{TaskRow}
 use Rattle.rapid_model.specs.declared.tree.Stmt.{Stmt}
 use Rattle.rapid_model.specs.declared.tree.Tree.{Tree}
 use Rattle.controller.specs.declared.build.Build as declared_build
@@ -114,53 +116,53 @@ armed_rows tasks task one armed =
 pub seen_refusal : (script : ScriptData) (seen builds : List declared_build.Build) (o : Option Refused) → seen ≡ builds → o ≡ not_built script (map build_of seen) → not_built script (map build_of builds) ≡ o
 seen_refusal script seen builds o same is = sym (is ∙ ap (λ (bs : List declared_build.Build). not_built script (map build_of bs)) same)
 
--- one module that is built
-pub record OneTree (script : ScriptData) (builds : List Build) : Type 0 where
+-- one module that is built, in a cell
+pub record OneTree (cell : CellData) (builds : List Build) : Type 0 where
   pub tree : Tree
   pub one : builds ≡ Ok tree ∷ []
-  pub suits : SuitsOne (cell_of script) tree
+  pub suits : SuitsOne cell tree
 
-of_task : (script : ScriptData) (task : ScriptTask) (names : List (List ℕ)) (builds : List Build) → script.tasks ≡ task ∷ [] → 1 ≤ length names → AreSuited (mentions_of (is_some task.arm) names ++ []) builds
-    → unbuilt_module 1 builds ≡ None → OneTree script builds
-of_task script task [] builds one some p none = absurd (omega arith)
-of_task script task (name ∷ names) [] one some p none = absurd p
-of_task script task (name ∷ names) (Err place ∷ builds) one some p none = cc
-of_task script task (name ∷ names) (Ok tree ∷ builds) one some p none = record {
+of_task : (cell : CellData) (tasks : List ScriptTask) (task : ScriptTask) (names : List (List ℕ)) (builds : List Build) → cell.tasks ≡ map row_of tasks → tasks ≡ task ∷ [] → 1 ≤ length names
+    → AreSuited (mentions_of (is_some task.arm) names ++ []) builds → unbuilt_module 1 builds ≡ None → OneTree cell builds
+of_task cell tasks task [] builds rows one some p none = absurd (omega arith)
+of_task cell tasks task (name ∷ names) [] rows one some p none = absurd p
+of_task cell tasks task (name ∷ names) (Err place ∷ builds) rows one some p none = cc
+of_task cell tasks task (name ∷ names) (Ok tree ∷ builds) rows one some p none = record {
   tree = tree;
   one = ap (λ (bs : List Build). let b : Build = Ok tree in b ∷ bs) (no_second (is_some task.arm) names builds 2 p.1 none);
   suits = record {
-    one = length-map script.tasks row_of ∙ ap length one;
+    one = ap length rows ∙ length-map tasks row_of ∙ ap length one;
     arms = arms_of (suits (is_some task.arm) tree tree.list refl p.0.1);
   };
 }
   where
-    arms_of : IsTrue (is_some task.arm) ⊎ (tree.list ≡ []) → IsTrue (list_all (λ row. is_some row.arm) (cell_of script).tasks) ⊎ (tree.list ≡ [])
-    arms_of (inl armed) = inl (armed_rows script.tasks task one armed)
+    arms_of : IsTrue (is_some task.arm) ⊎ (tree.list ≡ []) → IsTrue (list_all (λ row. is_some row.arm) cell.tasks) ⊎ (tree.list ≡ [])
+    arms_of (inl armed) = inl (subst (λ (rs : List TaskRow). IsTrue (list_all (λ row. is_some row.arm) rs)) (sym rows) (armed_rows tasks task one armed))
     arms_of (inr nothing) = inr nothing
 
-of_tasks : (script : ScriptData) (tasks : List ScriptTask) (builds : List Build) → script.tasks ≡ tasks → 1 ≤ length tasks → length tasks ≤ 1 → IsTrue (list_all is_task tasks) → AreSuited (mentions tasks) builds
-    → unbuilt_module 1 builds ≡ None → OneTree script builds
-of_tasks script [] builds is some few all p none = absurd (omega arith)
-of_tasks script (task ∷ []) builds is some few all p none =
-    of_task script task task.modules builds is (task_modules task (first_of_all (is_task task) true all)).some p none
-of_tasks script (task ∷ other ∷ tasks) builds is some few all p none = absurd (omega arith)
+of_tasks : (cell : CellData) (tasks : List ScriptTask) (builds : List Build) → cell.tasks ≡ map row_of tasks → 1 ≤ length tasks → length tasks ≤ 1 → IsTrue (list_all is_task tasks) → AreSuited (mentions tasks) builds
+    → unbuilt_module 1 builds ≡ None → OneTree cell builds
+of_tasks cell [] builds rows some few all p none = absurd (omega arith)
+of_tasks cell (task ∷ []) builds rows some few all p none =
+    of_task cell (task ∷ []) task task.modules builds rows refl (task_modules task (first_of_all (is_task task) true all)).some p none
+of_tasks cell (task ∷ other ∷ tasks) builds rows some few all p none = absurd (omega arith)
 
 -- where nothing is refused
-pub one_tree : (script : ScriptData) (ms : List declared_mention.Mention) (reads : List ReadModule) (builds : List Build) → IsScript script → map mention_of ms ≡ mentions script.tasks
-    → AreBuilds (map mention_of ms) reads builds → not_built script builds ≡ None → OneTree script builds
-one_tree script ms reads builds limits is built none =
+pub one_tree : (script : ScriptData) (cell : CellData) (ms : List declared_mention.Mention) (reads : List ReadModule) (builds : List Build) → IsScript script → cell.tasks ≡ map row_of script.tasks
+    → map mention_of ms ≡ mentions script.tasks → AreBuilds (map mention_of ms) reads builds → not_built script builds ≡ None → OneTree cell builds
+one_tree script cell ms reads builds limits rows is built none =
     let key : Option Refused = option_map (λ key. Script key rules.NotBuilt) (unbuilt_key script) in
     let no_key : unbuilt_key script ≡ None = none_mapped (λ key. Script key rules.NotBuilt) (unbuilt_key script) (none_first key (unbuilt_module 1 builds) none) in
     let no_module : unbuilt_module 1 builds ≡ None = none_then key (unbuilt_module 1 builds) none in
-    of_tasks script script.tasks builds refl limits.some_tasks (few_tasks script no_key) limits.tasks
+    of_tasks cell script.tasks builds rows limits.some_tasks (few_tasks script no_key) limits.tasks
     (suited (mentions script.tasks) reads builds (subst (λ (xs : List Mention). AreBuilds xs reads builds) is built)) no_module
 
 -- the tree of the one module
-pub suits_only : (script : ScriptData) (builds : List Build) (tree : Tree) → OneTree script builds → builds ≡ Ok tree ∷ [] → SuitsOne (cell_of script) tree
-suits_only script builds tree o is =
+pub suits_only : (cell : CellData) (builds : List Build) (tree : Tree) → OneTree cell builds → builds ≡ Ok tree ∷ [] → SuitsOne cell tree
+suits_only cell builds tree o is =
     let e : Ok o.tree ∷ [] ≡ Ok tree ∷ [] = sym o.one ∙ is in
     let same : o.tree ≡ tree = cc in
-    subst (λ (t : Tree). SuitsOne (cell_of script) t) same o.suits
+    subst (λ (t : Tree). SuitsOne cell t) same o.suits
 
 -- what is not built is no fault of a write
 key_fault : (old new : ℕ) (o : Option (List ℕ)) (rest : Option Refused) → IfSome rest (IsDoneFault old new) → IfSome (or_else (option_map (λ key. Script key rules.NotBuilt) o) rest) (IsDoneFault old new)

@@ -2,7 +2,8 @@
 use Rattle.std.proofs.Common.{◌≡◌, ℕ, ◌+◌, List, [], ◌∷◌, refl, Option, Some, None, Result, Ok, Err, ap, sym, ◌∙◌, subst, inl, inr}
 use Rattle.outside.specs.Told.{Told}
 use Rattle.toml.specs.Data.{Members}
-use Rattle.rapid_model.specs.ScriptData.{ScriptData, cell_of, module_names}
+use Rattle.rapid_model.specs.CellData.{CellData}
+use Rattle.rapid_model.specs.ScriptData.{ScriptData, module_names}
 use Rattle.cell_script.specs.Break.{Break, Read}
 use Rattle.cell_script.specs.ScriptOf.{script_of, IsTable, IsNoToml, ScriptOf}
 use Rattle.raw_trees.specs.Plain.{PlainModule}
@@ -111,16 +112,17 @@ modules_one one told file (n ∷ ns) (Err x) (Err y) (inr p) (inl q) =
 modules_one one told file (n ∷ ns) (Err x) (Err y) (inr p) (inr q) = modules_one one told (file + 1) ns (Err x) (Err y) p.2 q.2
 
 -- what is accepted is done in one way
-action_one : (action : Option Action) (names : List (List ℕ)) (script : ScriptData) (reads : List ReadModule) (v w : Verdict) → ActionDecides action names script reads v → ActionDecides action names script reads w → v ≡ w
-action_one (Some Round) names script reads v w p q =
-    p.2 ∙ ap (λ (bs : List Build). unless_refused names (not_built script bs) (runs names (cell_of script) (trees_of bs))) (builds_one (mentions script.tasks) reads p.0 q.0 p.1 q.1) ∙ sym q.2
-action_one (Some Check) names script reads v w p q = p ∙ sym q
-action_one None names script reads v w p q = p ∙ sym q
+action_one : (action : Option Action) (names : List (List ℕ)) (script : ScriptData) (reads : List ReadModule) (cell : CellData) (v w : Verdict) → ActionDecides action names script reads cell v
+    → ActionDecides action names script reads cell w → v ≡ w
+action_one (Some Round) names script reads cell v w p q =
+    p.2 ∙ ap (λ (bs : List Build). unless_refused names (not_built script bs) (runs names cell (trees_of bs))) (builds_one (mentions script.tasks) reads p.0 q.0 p.1 q.1) ∙ sym q.2
+action_one (Some Check) names script reads cell v w p q = p ∙ sym q
+action_one None names script reads cell v w p q = p ∙ sym q
 
-checked_one : (action : Option Action) (names : List (List ℕ)) (script : ScriptData) (reads : List ReadModule) (found : Option Refused) (v w : Verdict) → CheckedDecides action names script reads found v
+checked_one : (action : Option Action) (names : List (List ℕ)) (script : ScriptData) (reads : List ReadModule) (found : Result CellData Refused) (v w : Verdict) → CheckedDecides action names script reads found v
     → CheckedDecides action names script reads found w → v ≡ w
-checked_one action names script reads (Some refused) v w p q = p ∙ sym q
-checked_one action names script reads None v w p q = action_one action names script reads v w p q
+checked_one action names script reads (Err refused) v w p q = p ∙ sym q
+checked_one action names script reads (Ok cell) v w p q = action_one action names script reads cell v w p q
 
 modules_decide_one : (action : Option Action) (names : List (List ℕ)) (script : ScriptData) (modules : Result (List ReadModule) Refused) (v w : Verdict) → ModulesDecide action names script modules v
     → ModulesDecide action names script modules w → v ≡ w

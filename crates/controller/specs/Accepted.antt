@@ -4,7 +4,7 @@ use Rattle.std.specs.Option.{option_map}
 use Rattle.outside.specs.Told.{Told, found, after_reads}
 use Rattle.rapid_model.specs.CellData.{CellData}
 use Rattle.rapid_model.specs.Requests.{or_else}
-use Rattle.rapid_model.specs.ScriptData.{ScriptData, cell_of, module_names}
+use Rattle.rapid_model.specs.ScriptData.{ScriptData, module_names}
 use Rattle.rapid_model.specs.declared.script_rule.ScriptRule.TheVariants as rules
 use Rattle.rapid_model.specs.declared.script_task.ScriptTask.{ScriptTask}
 use Rattle.rapid_model.specs.declared.tree.Stmt.{Stmt}
@@ -19,7 +19,8 @@ use Rattle.data_scopes.specs.declared.fault.TypeRule.{TypeRule}
 use Rattle.data_scopes.specs.declared.fault.TypeRule.TheVariants.{PersType}
 use Rattle.data_scopes.specs.Declarations.{Checked}
 use Rattle.stmt_types.specs.Task.{task_of}
-use Rattle.cell_numbers.specs.Cells.{CellBreak, Clash, InScript, Making, CellTables, cell_tables}
+use Rattle.cell_numbers.specs.Cells.{CellBreak, Clash, InScript, Making}
+use Rattle.cell_numbers.specs.Made.{MadeCell, make_cell}
 use Rattle.rapid_forms.specs.declared.fault.SyntaxFault.{SyntaxFault}
 use Rattle.rapid_forms.specs.declared.fault.SyntaxFault.TheVariants as faults
 use Rattle.module_parser.specs.Modules.{ModuleText}
@@ -178,18 +179,18 @@ abbrev pub cell_refusal : ScriptData → List ReadModule → CellBreak → Refus
 cell_refusal script reads (Clash task number at) = rule_refusal 1 reads ((first_file script.tasks task - 1) + number) at PersType
 cell_refusal script reads (InScript key rule) = Script key rule
 
-abbrev pub cell_checked : ScriptData → List ReadModule → Making CellTables → Option Refused
-cell_checked script reads (Ok tables) = None
-cell_checked script reads (Err broken) = Some (cell_refusal script reads broken)
+abbrev pub cell_or_refused : ScriptData → List ReadModule → Making MadeCell → Result CellData Refused
+cell_or_refused script reads (Ok made) = Ok made.cell
+cell_or_refused script reads (Err broken) = Err (cell_refusal script reads broken)
 
-abbrev pub trees_checked : ScriptData → List ReadModule → Result (List TypedTree) Refused → Option Refused
-trees_checked script reads (Err refused) = Some refused
-trees_checked script reads (Ok trees) = cell_checked script reads (cell_tables script.pers trees)
+abbrev pub cell_from : ScriptData → List ReadModule → Result (List TypedTree) Refused → Result CellData Refused
+cell_from script reads (Ok trees) = cell_or_refused script reads (make_cell script trees)
+cell_from script reads (Err refused) = Err refused
 
--- the first refusal of the modules of a script: by names and types, task by task; then by what the tasks share; then by the
--- script's values of persistents
-abbrev pub checked : ScriptData → List ReadModule → Option Refused
-checked script reads = trees_checked script reads (typed_tasks script script.tasks 1 reads)
+-- The cell of a script and of its modules; or the first refusal of these: by names and types, task by task; then by what the
+-- tasks share; then by the script's values of persistents.
+abbrev pub checked : ScriptData → List ReadModule → Result CellData Refused
+checked script reads = cell_from script reads (typed_tasks script script.tasks 1 reads)
 
 -- the first key of the script that is there and not built
 abbrev pub unbuilt_key : ScriptData → Option (List ℕ)
@@ -225,16 +226,16 @@ abbrev pub unless_refused : List (List ℕ) → Option Refused → Verdict → V
 unless_refused names (Some refused) verdict = refuses names refused
 unless_refused names None verdict = verdict
 
--- what the action comes to where all is accepted: a run needs what is built
-abbrev pub ActionDecides : Option Action → List (List ℕ) → ScriptData → List ReadModule → Verdict → Type 0
-ActionDecides (Some Round) names script reads verdict =
+-- what the action comes to where all is accepted and this is the cell: a run needs what is built
+abbrev pub ActionDecides : Option Action → List (List ℕ) → ScriptData → List ReadModule → CellData → Verdict → Type 0
+ActionDecides (Some Round) names script reads cell verdict =
     (builds : List Build) × AreBuilds (mentions script.tasks) reads builds
-    × (verdict ≡ unless_refused names (not_built script builds) (runs names (cell_of script) (trees_of builds)))
-ActionDecides _ names script reads verdict = verdict ≡ accepts names
+    × (verdict ≡ unless_refused names (not_built script builds) (runs names cell (trees_of builds)))
+ActionDecides _ names script reads cell verdict = verdict ≡ accepts names
 
-abbrev pub CheckedDecides : Option Action → List (List ℕ) → ScriptData → List ReadModule → Option Refused → Verdict → Type 0
-CheckedDecides action names script reads (Some refused) verdict = verdict ≡ refuses names refused
-CheckedDecides action names script reads None verdict = ActionDecides action names script reads verdict
+abbrev pub CheckedDecides : Option Action → List (List ℕ) → ScriptData → List ReadModule → Result CellData Refused → Verdict → Type 0
+CheckedDecides action names script reads (Err refused) verdict = verdict ≡ refuses names refused
+CheckedDecides action names script reads (Ok cell) verdict = ActionDecides action names script reads cell verdict
 
 -- with the script read, its modules and its cell
 abbrev pub ModulesDecide : Option Action → List (List ℕ) → ScriptData → Result (List ReadModule) Refused → Verdict → Type 0

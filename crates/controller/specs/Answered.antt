@@ -115,9 +115,9 @@ abbrev pub AnswersReads : Option Action → List (List ℕ) → ScriptData → L
 AnswersReads action names script reads report out err =
     AnswersSome (CheckedDecides action names script reads (checked script reads)) report out err
 
--- with all modules accepted, where they are to run
-abbrev pub AnswersBuilt : List (List ℕ) → ScriptData → List ReadModule → Report → Sunk → Sunk → Type 0
-AnswersBuilt names script reads report out err = AnswersSome (ActionDecides (Some Round) names script reads) report out err
+-- with all modules accepted and this cell, where they are to run
+abbrev pub AnswersBuilt : List (List ℕ) → ScriptData → List ReadModule → CellData → Report → Sunk → Sunk → Type 0
+AnswersBuilt names script reads cell report out err = AnswersSome (ActionDecides (Some Round) names script reads cell) report out err
 
 -- The report answers what the words and the files come to, where the shelf tells its files; else it answers as for some
 -- files. Want of memory aside.

@@ -103,11 +103,6 @@ IsCellRefusal script reads (cells.Clash task number at) refused = (refused ≡ M
 IsCellRefusal script reads (cells.Script key rule) refused = refused ≡ Script key rule
 IsCellRefusal script reads cells.Memory refused = refused ≡ Memory
 
--- nothing is refused, or just this, want of memory aside
-abbrev pub Checks : {A : Type 0} → Option Refused → Result A Refused → Type 0
-Checks found (Ok x) = found ≡ None
-Checks found (Err refused) = (refused ≡ Memory) ⊎ (found ≡ Some refused)
-
 -- what the module of a mention is built to, as a byte of its text where it is not, want of memory aside
 abbrev pub IsBuiltFor : Mention → PlainModule → Result Tree BuildFault → Type 0
 IsBuiltFor m raw (Ok tree) = BuiltAs m raw (Ok tree)

@@ -1,32 +1,33 @@
 ghost use Rattle.std.specs.Prelude.{◌≡◌, ◌+◌, ◌-◌, ◌*◌, ◌≤◌, ◌<◌, ◌^◌, ◌⊎◌, IfOk, map, length, take, is_some};
+ghost use Rattle.rapid_model.specs.CellData.{CellData};
 ghost use Rattle.typed_trees.specs.Views.{view_tree};
 ghost use Rattle.controller.specs.Accepted.{rule_refusal, names_in, typed_task, typed_tasks, first_file, cell_refusal, checked};
 ghost use Rattle.controller.specs.Files.{Gives};
-ghost use Rattle.controller.specs.Loaded.{reads_in, ArePaired, IsRuleRefusal, IsCellRefusal, Checks};
+ghost use Rattle.controller.specs.Loaded.{reads_in, ArePaired, IsRuleRefusal, IsCellRefusal};
 
 use crate::module_text::place_in;
 use crate::modules::{Modules, first_modules, later_modules, text_at};
 use crate::refused::{ModuleRule, Refused};
-use cell_numbers::{CellFault, cell_tables};
+use cell_numbers::{CellFault, make_cell};
 use data_scopes::{Known, TypeFault, TypeRule};
-use rapid_model::{NameText, Script, ScriptTask};
+use rapid_model::{Cell, NameText, Script, ScriptTask};
 use std::alloc::{AllocError, Global};
 use stmt_types::check_task;
 use typed_trees::Tree;
 
-/// Checks the modules of a script by names and types, task by task; then what the tasks share; then the script's values of
-/// persistents.
+/// The cell of a script and of its modules. These are checked by names and types, task by task; then by what the tasks share;
+/// then by the script's values of persistents.
 pub(crate) fn check_modules(
     alloc: Global,
     script: &Script,
     modules: &Modules<'_, '_>,
-) -> Result<(), Refused>
+) -> Result<Cell, Refused>
     requires { ArePaired modules.now }
-    ensures { Checks (checked script.now (reads_in modules.now)) result }
+    ensures { Gives (λ (cell : CellData). cell) (checked script.now (reads_in modules.now)) result }
 {
-    let trees = check_tasks(alloc, script, modules)?;
-    match cell_tables(alloc, script.pers().as_slice(), trees.as_slice()) {
-        Ok(_) => Ok(()),
+    let mut trees = check_tasks(alloc, script, modules)?;
+    match make_cell(alloc, script, &mut trees) {
+        Ok(cell) => Ok(cell),
         Err(fault) => Err(cell_refusal(script, modules, fault)),
     }
 }

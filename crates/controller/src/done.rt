@@ -1,4 +1,5 @@
 ghost use Rattle.std.specs.Prelude.{◌≡◌, ◌∷◌, [], Ok, Some, IfSome, map, length};
+ghost use Rattle.rapid_model.specs.ScriptData.{row_of};
 ghost use Rattle.rapid_model.specs.declared.tree.Tree.{Tree};
 ghost use Rattle.controller.specs.Accepted.{mentions};
 ghost use Rattle.controller.specs.Loaded.{mention_of, build_of, file_names, reads_in, ArePaired};
@@ -19,7 +20,7 @@ use crate::report::Report;
 use crate::run_report::run_tree;
 use crate::write::write_all;
 use outside::Sink;
-use rapid_model::{Script, Tree};
+use rapid_model::{Cell, Script, Tree};
 use std::alloc::Global;
 
 /// Does the action with a script whose modules are all read, unless they break a rule.
@@ -39,28 +40,42 @@ pub(crate) fn do_action<O: Sink, E: Sink>(
     ensures causes { IfSome result.refused (IsDoneFault (O.faults out.old) (O.faults out.new)) }
 {
     match check_modules(alloc, script, modules) {
-        Ok(()) => match command.action {
+        Ok(cell) => match command.action {
             Action::Check => report_accepted(alloc, out, err),
-            Action::Round => run_built(alloc, command.script, script, files, modules, out, err),
+            Action::Round => {
+                run_built(
+                    alloc,
+                    command.script,
+                    script,
+                    files,
+                    modules,
+                    cell,
+                    out,
+                    err,
+                )
+            }
         },
         Err(refused) => refuse_file(alloc, err, command.script, files, refused),
     }
 }
 
-/// Runs a script whose modules are accepted, unless something of it is not built. `name` is the name of the script's file.
+/// Runs the cell of a script whose modules are accepted, unless something of it is not built. `name` is the name of the
+/// script's file.
 fn run_built<O: Sink, E: Sink>(
     alloc: Global,
     name: &str,
     script: &Script,
     files: &[Mention<'_>],
     modules: &Modules<'_, '_>,
+    cell: Cell,
     out: &mut O,
     err: &mut E,
 ) -> Report
     requires mentions { map mention_of files.now ≡ mentions script.now.tasks }
     requires paired { ArePaired modules.now }
     requires whole { length modules.now.trees.now ≡ length files.now }
-    ensures answers { AnswersBuilt (file_names name.now files.now) script.now (reads_in modules.now) result (sunk O.told O.calls O.faults out.old out.new) (sunk E.told E.calls E.faults err.old err.new) }
+    requires tasks { cell.tasks ≡ map row_of script.now.tasks }
+    ensures answers { AnswersBuilt (file_names name.now files.now) script.now (reads_in modules.now) cell result (sunk O.told O.calls O.faults out.old out.new) (sunk E.told E.calls E.faults err.old err.new) }
     ensures causes { IfSome result.refused (IsDoneFault (O.faults out.old) (O.faults out.new)) }
 {
     let _steps = script.steps();
@@ -70,7 +85,7 @@ fn run_built<O: Sink, E: Sink>(
     };
     match not_built(script, builds.as_slice()) {
         Some(refused) => refuse_file(alloc, err, name, files, refused),
-        None => run_tree(alloc, script, only_tree(builds), out, err),
+        None => run_tree(alloc, cell, only_tree(builds), out, err),
     }
 }
 

@@ -1,5 +1,4 @@
 ghost use Rattle.std.specs.Prelude.{◌≡◌, List, [], ◌∷◌, length};
-ghost use Rattle.rapid_model.specs.ScriptData.{cell_of};
 ghost use Rattle.rapid_model.specs.declared.tree.Tree.{Tree};
 ghost use Rattle.rapid_meaning.specs.Runs.{tree_asks};
 ghost use Rattle.rapid_meaning.specs.Turns.{IsByTurns};
@@ -15,27 +14,23 @@ use crate::run::run_task;
 use crate::status::status_of_run;
 use crate::telling::tell_refusal;
 use cell_core::Core;
-use cell_script::make_cell;
 use outside::Sink;
-use rapid_model::{Script, Tree};
+use rapid_model::{Cell, Tree};
 use std::alloc::Global;
 
-/// Runs the task of a script whose module has this tree, and reports it.
+/// Runs the one task of a cell, whose module has this tree, and reports it.
 pub(crate) fn run_tree<O: Sink, E: Sink>(
     alloc: Global,
-    script: &Script,
+    cell: Cell,
     tree: Tree,
     out: &mut O,
     err: &mut E,
 ) -> Report
-    requires { SuitsOne (cell_of script.now) tree }
-    ensures { RunsOrMemory (cell_of script.now) (tree ∷ []) result (sunk O.told O.calls O.faults out.old out.new) (sunk E.told E.calls E.faults err.old err.new) }
+    requires { SuitsOne cell tree }
+    ensures { RunsOrMemory cell (tree ∷ []) result (sunk O.told O.calls O.faults out.old out.new) (sunk E.told E.calls E.faults err.old err.new) }
 {
-    match make_cell(alloc, script) {
-        Ok(cell) => match run_task(alloc, cell, tree) {
-            Ok(core) => report_run(core, out, err),
-            Err(_) => refuse(alloc, err, "", Refused::Memory),
-        },
+    match run_task(alloc, cell, tree) {
+        Ok(core) => report_run(core, out, err),
         Err(_) => refuse(alloc, err, "", Refused::Memory),
     }
 }

@@ -1,3 +1,4 @@
+pub mod All
 pub mod Begins
 pub mod Below
 pub mod Entries

@@ -1,6 +1,8 @@
--- Each VAR, PERS and routine that the walk counts has its row, and the type of a CONST is that of its row.
-use Rattle.std.proofs.Common.{◌≡◌, ℕ, ◌+◌, ◌<◌, replicate, Bool, true, false, not, ◌&&◌, ◌||◌, List, [], ◌∷◌, ◌++◌, length, map, Option, Some, None, is_some, is_none, refl, sym, ap, subst, ◌∙◌, if◌then◌else◌, length-append, append_assoc, Ok, Err, arith}
+-- Each VAR, PERS and routine that the walk counts has its row, the type of a CONST is that of its row, and that of a PERS has values.
+use Rattle.std.proofs.Common.{◌≡◌, ℕ, ◌+◌, ◌<◌, replicate, Bool, true, false, not, ◌&&◌, ◌||◌, List, [], ◌∷◌, ◌++◌, length, map, Option, Some, None, is_some, is_none, refl, sym, ap, subst, ◌∙◌, if◌then◌else◌, length-append, append_assoc, Ok, arith}
 use Rattle.std.proofs.lemmas.List.{append-nil, length-map, length-replicate, map-append}
+use Rattle.std.proofs.Math.Bool.{or-false}
+use Rattle.std.specs.List.{list_all}
 use Rattle.rapid_model.specs.declared.sort.Sort.{Sort}
 use Rattle.rapid_model.specs.declared.value.Value.{Value}
 use Rattle.rapid_model.specs.Names.{is_among}
@@ -8,6 +10,7 @@ use Rattle.raw_trees.specs.Plain.{PlainExpr, PlainDatum, PlainRoutine, PlainItem
 use Rattle.data_scopes.specs.declared.counts.Counts.{Counts}
 use Rattle.data_scopes.specs.declared.data_row.DatumRow.{DatumRow}
 use Rattle.data_scopes.specs.declared.data_row.Since.{Since}
+use Rattle.data_scopes.specs.declared.fault.TypeRule.{TypeRule}
 use Rattle.data_scopes.specs.declared.fault.TypeRule.TheVariants.{NameTwice, TypeClash, PersKind}
 use Rattle.data_scopes.specs.declared.meant.Meant.TheVariants as meants
 use Rattle.data_scopes.specs.Declarations.{Checked, ◌>>=◌, is_own, must, spot_of, sort_at, with_const, datum_sort, item_name_rules, datum_rules, result_rules, params_rules, local_rules, locals_rules, routine_rules, item_rules, items_rules, module_rules, modules_rules}
@@ -20,23 +23,23 @@ use Rattle.data_scopes.specs.Naming.{names_of}
 use Rattle.data_scopes.specs.Scopes.{Tables, Names, RoutineRow, Rows, list_at, meant_in, meaning}
 use Rattle.data_scopes.specs.Numbered.{HasRow}
 use Rattle.data_scopes.proofs.Within.{Fits, IsWithin, tables_within, meant_within}
-use Rattle.data_scopes.specs.Sorts.{has_values}
+use Rattle.rapid_model.specs.Sorts.{has_values}
 use Rattle.data_scopes.proofs.Below.{after_by, after_modules, const_below}
-use Rattle.data_scopes.proofs.Typed.{ok_same, names_kept}
-
-module _ {A B : Type 0} (P : Type 0) (y : B) where
-  behind : (x : Checked A) (f : A → Checked B) → (x >>= f) ≡ Ok y → ((a : A) → x ≡ Ok a → f a ≡ Ok y → P) → P
-  behind (Ok a) f e next = next a refl e
-  behind (Err b) f e next = absurd (cc)
+use Rattle.data_scopes.proofs.All.{all_more}
+use Rattle.data_scopes.proofs.Typed.{behind, ok_same, names_kept}
 
 abbrev pub sorts_in : List DatumRow → List Sort
 sorts_in rows = map (λ row. row.sort) rows
+
+abbrev pub has_valued_sort : DatumRow → Bool
+has_valued_sort row = has_values row.sort
 
 record AreRowed (c : Counts) (sorts : List Sort) (rows : Rows) : Type 0 where
   pub types : sorts ≡ sorts_in rows.consts
   pub slots : c.slots ≡ length rows.slots
   pub pers : c.pers ≡ length rows.pers
   pub routines : c.routines ≡ length rows.routines
+  pub valued : list_all has_valued_sort rows.pers ≡ true
 
 abbrev rows_by : Rows → Bool → Bool → DatumRow → Rows
 rows_by rows scalar pers row =
@@ -44,24 +47,27 @@ rows_by rows scalar pers row =
     else if pers then record { consts = rows.consts; slots = rows.slots; pers = rows.pers ++ row ∷ []; routines = rows.routines }
     else record { consts = rows.consts; slots = rows.slots ++ row ∷ []; pers = rows.pers; routines = rows.routines }
 
-rowed_by : (c : Counts) (sorts : List Sort) (rows : Rows) (scalar pers : Bool) (row : DatumRow) → AreRowed c sorts rows → AreRowed (after_by c scalar pers) (if scalar then sorts ++ row.sort ∷ [] else sorts) (rows_by rows scalar pers row)
-rowed_by c sorts rows true pers row h = record {
+rowed_by : (c : Counts) (sorts : List Sort) (rows : Rows) (scalar pers : Bool) (row : DatumRow) → (has_valued_sort row || not pers) ≡ true → AreRowed c sorts rows → AreRowed (after_by c scalar pers) (if scalar then sorts ++ row.sort ∷ [] else sorts) (rows_by rows scalar pers row)
+rowed_by c sorts rows true pers row fine h = record {
   types = ap (λ l. l ++ row.sort ∷ []) h.types ∙ sym (map-append (λ r. r.sort) rows.consts (row ∷ []));
   slots = h.slots;
   pers = h.pers;
   routines = h.routines;
+  valued = h.valued;
 }
-rowed_by c sorts rows false true row h = record {
+rowed_by c sorts rows false true row fine h = record {
   types = h.types;
   slots = h.slots;
   routines = h.routines;
   pers = omega (arith, h.pers, length-append rows.pers (row ∷ []));
+  valued = all_more has_valued_sort rows.pers row h.valued (sym (or-false (has_valued_sort row)) ∙ fine);
 }
-rowed_by c sorts rows false false row h = record {
+rowed_by c sorts rows false false row fine h = record {
   types = h.types;
   pers = h.pers;
   routines = h.routines;
   slots = omega (arith, h.slots, length-append rows.slots (row ∷ []));
+  valued = h.valued;
 }
 
 scalar_if : (since array : Bool) (row : DatumRow) (a b : List DatumRow) → (if since then (if array then a ++ b else row ∷ (a ++ b)) else a ++ b) ≡ (if since then (if array then a else row ∷ a) else a) ++ b
@@ -100,6 +106,10 @@ one_more_scalar number d sort front sorts rows h =
     ∙ ap (λ l. front ++ l) (sym (map-append (λ row. row.sort) (scalar_rows rows) (scalar_rows (row_of number d sort ∷ []))))
     ∙ ap (λ l. front ++ sorts_in l) (sym (scalar_append rows (row_of number d sort ∷ [])))
 
+it_holds : (holds : Bool) (spot : Spot) (rule : TypeRule) (u : Unit {0}) → must holds spot rule ≡ Ok u → holds ≡ true
+it_holds true spot rule u e = refl
+it_holds false spot rule u e = absurd (cc)
+
 module _ (tables : Tables) (number : ℕ) where
   abbrev type_of_datum : Option ℕ → PlainDatum → Checked Sort
   type_of_datum routine d = sort_at tables (spot_of number routine d.sort) d.sort
@@ -112,6 +122,16 @@ module _ (tables : Tables) (number : ℕ) where
       behind P sort (type_of_datum routine d) _ e (λ s is rest.
       behind P sort (must (has_values s || not (is_const d.kind)) spot TypeClash) _ rest (λ u fine last.
       behind P sort (must (has_values s || not (is_pers d.kind)) spot PersKind) _ last (λ v good done. is ∙ done)))
+
+  -- a PERS has a type with values
+  sort_fits : (routine : Option ℕ) (d : PlainDatum) (sort : Sort) → datum_sort tables number routine d ≡ Ok sort → (has_values sort || not (is_pers d.kind)) ≡ true
+  sort_fits routine d sort e =
+      let P : Type 0 = (has_values sort || not (is_pers d.kind)) ≡ true in
+      let spot = spot_of number routine d.sort in
+      behind P sort (type_of_datum routine d) _ e (λ s is rest.
+      behind P sort (must (has_values s || not (is_const d.kind)) spot TypeClash) _ rest (λ u fine last.
+      behind P sort (must (has_values s || not (is_pers d.kind)) spot PersKind) _ last (λ v good done.
+      subst (λ s. (has_values s || not (is_pers d.kind)) ≡ true) (ok_same _ _ done) (it_holds (has_values s || not (is_pers d.kind)) spot PersKind v good))))
 
   row_found : (routine : Option ℕ) (d : PlainDatum) (sort : Sort) (row : DatumRow) → datum_sort tables number routine d ≡ Ok sort → datum_row tables number routine d ≡ Ok row → row ≡ row_of number d sort
   row_found routine d sort row e r =
@@ -140,8 +160,10 @@ module _ (tables : Tables) (number : ℕ) where
       let P : Type 0 = AreRowed (after_datum c d) more (with_datum rows d row) in
       behind P more (datum_sort tables number None d) _ e (λ sort is named.
       behind P more (item_name_rules tables (spot_of number None d.name) local (datum_meant c d) d.name) _ named (λ u fine done.
-      let same : with_const sorts d row.sort ≡ more = ap (λ x. with_const sorts d x.sort) (row_found None d sort row is r) ∙ ok_same _ _ done in
-      subst (λ m. AreRowed (after_datum c d) m (with_datum rows d row)) same (rowed_by c sorts rows (is_scalar_const d) (is_pers d.kind) row h)))
+      let made : row ≡ row_of number d sort = row_found None d sort row is r in
+      let same : with_const sorts d row.sort ≡ more = ap (λ x. with_const sorts d x.sort) made ∙ ok_same _ _ done in
+      let fine : (has_valued_sort row || not (is_pers d.kind)) ≡ true = subst (λ x. (has_valued_sort x || not (is_pers d.kind)) ≡ true) (sym made) (sort_fits None d sort is) in
+      subst (λ m. AreRowed (after_datum c d) m (with_datum rows d row)) same (rowed_by c sorts rows (is_scalar_const d) (is_pers d.kind) row fine h)))
 
   routine_rowed : (c : Counts) (r : PlainRoutine) (sorts more : List Sort) (rows : Rows) (row : RoutineRow) → routine_rules tables number c r sorts ≡ Ok more → routine_row tables number (length rows.routines) r ≡ Ok row → AreRowed c sorts rows → AreRowed (after_routine c r) more (with_routine rows row)
   routine_rowed c r sorts more rows row e found h =
@@ -162,6 +184,7 @@ module _ (tables : Tables) (number : ℕ) where
         slots = h.slots;
         pers = h.pers;
         routines = omega (arith, h.routines, length-append rows.routines (row ∷ []));
+        valued = h.valued;
       }))))))
 
   item_rowed : (c : Counts) (item : PlainItem) (sorts more : List Sort) (rows got : Rows) → item_rules tables number c item sorts ≡ Ok more → item_rows tables number item rows ≡ Ok got → AreRowed c sorts rows → AreRowed (after_item c item) more got
@@ -216,19 +239,21 @@ has_row rows (meants.Predefined k) within const = tt
 pub record AreNumbered (names : Names) : Type 0 where
   pub types : names.sorts ≡ sorts_in names.rows.consts
   pub rows : (spot : Spot) (name : List ℕ) (meant : Meant) → meaning names.tables spot name ≡ Some meant → HasRow names.rows meant
+  pub valued : list_all has_valued_sort names.rows.pers ≡ true
 
 pub are_numbered : (modules : List PlainModule) (signals : List SignalRow) (arm : Bool) (names : Names) → names_of modules signals arm ≡ Ok names → AreNumbered names
 are_numbered modules signals arm names e =
     let tables = tables_of modules signals in
     behind (AreNumbered names) names (modules_rules tables 0 [] no_counts modules []) _ e (λ sorts is rest.
     behind (AreNumbered names) names (modules_rows tables 0 modules no_rows) _ rest (λ rows found done.
-    let rowed = modules_rowed tables 0 [] no_counts modules [] sorts no_rows rows is found (record { types = refl; slots = refl; pers = refl; routines = refl }) in
+    let rowed = modules_rowed tables 0 [] no_counts modules [] sorts no_rows rows is found (record { types = refl; slots = refl; pers = refl; routines = refl; valued = refl }) in
     let fits : Fits (after_modules no_counts modules) (rows_counts rows) = record { slots = omega (arith, rowed.slots); pers = omega (arith, rowed.pers); routines = omega (arith, rowed.routines) } in
     let within = tables_within (rows_counts rows) modules signals fits in
     let kept = names_kept modules signals tables sorts (length sorts) (no_values sorts) refl is refl refl in
     let as_many : length (no_values sorts) ≡ length rows.consts = length-replicate (length sorts) None ∙ ap length rowed.types ∙ length-map rows.consts (λ row. row.sort) in
     subst AreNumbered (ok_same _ _ done) (record {
       types = rowed.types;
+      valued = rowed.valued;
       rows = λ spot name meant means. has_row rows meant (meant_within (rows_counts rows) tables spot name meant within means)
           (λ k const. subst (λ n. k < n) as_many (const_below (length (no_values sorts)) tables spot name k kept.below (means ∙ ap Some const)));
     })))

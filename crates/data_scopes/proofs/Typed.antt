@@ -12,13 +12,13 @@ use Rattle.data_scopes.specs.declared.meant.Meant.TheVariants as meants
 use Rattle.data_scopes.specs.Kept.{AreKept, AreOfTypes, TablesBelow}
 use Rattle.data_scopes.specs.Declarations.{Checked, ◌>>=◌, is_own, must, spot_of, with_const, datum_sort, item_name_rules, datum_rules, result_rules, params_rules, local_rules, locals_rules, routine_rules, item_rules, items_rules, module_rules, modules_rules}
 use Rattle.data_scopes.specs.Numbers.{no_counts, tables_of, datum_meant, local_meant, is_pers, is_scalar_const, scalar_consts, after_item, after_items}
-use Rattle.data_scopes.specs.Sorts.{is_value_of}
+use Rattle.rapid_model.specs.Sorts.{is_value_of}
 use Rattle.data_scopes.specs.Scopes.{Tables, list_at, meant_in}
 use Rattle.data_scopes.proofs.Below.{after_by, after_modules, tables_below}
 
 -- where a step and what follows it answer, each does
 module _ {A B : Type 0} (P : Type 0) (y : B) where
-  behind : (x : Checked A) (f : A → Checked B) → (x >>= f) ≡ Ok y → ((a : A) → x ≡ Ok a → f a ≡ Ok y → P) → P
+  pub behind : (x : Checked A) (f : A → Checked B) → (x >>= f) ≡ Ok y → ((a : A) → x ≡ Ok a → f a ≡ Ok y → P) → P
   behind (Ok a) f e next = next a refl e
   behind (Err b) f e next = absurd (cc)
 

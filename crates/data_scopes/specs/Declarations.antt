@@ -14,7 +14,8 @@ use Rattle.data_scopes.specs.declared.meant.Meant.TheVariants as meants
 use Rattle.data_scopes.specs.declared.spot.Spot.{Spot}
 use Rattle.data_scopes.specs.Numbers.{is_const, is_pers, is_scalar_const, datum_meant, after_item, after_items, param_meant, local_meant}
 use Rattle.data_scopes.specs.Scopes.{Scope, Tables, list_at, meant_in, meant_outside, meaning}
-use Rattle.data_scopes.specs.Sorts.{sort_of, has_values}
+use Rattle.rapid_model.specs.Sorts.{has_values}
+use Rattle.data_scopes.specs.Sorts.{sort_of}
 
 -- a rule that is broken, and where
 pub record Break : Type 0 where

@@ -5,7 +5,7 @@ use Rattle.rapid_model.specs.declared.value.Value.{Value}
 use Rattle.data_scopes.specs.declared.meant.Meant.{Meant}
 use Rattle.data_scopes.specs.declared.meant.Meant.TheVariants as meants
 use Rattle.data_scopes.specs.Scopes.{Scope, Tables, Names}
-use Rattle.data_scopes.specs.Sorts.{is_value_of}
+use Rattle.rapid_model.specs.Sorts.{is_value_of}
 
 -- the names, with one more value kept
 abbrev pub with_kept : Names → ℕ → Value → Names

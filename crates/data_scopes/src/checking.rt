@@ -11,10 +11,10 @@ use crate::fault::{TypeFault, TypeRule};
 use crate::meant::Meant;
 use crate::numbers::{is_const, is_pers, is_scalar_const};
 use crate::own::is_own;
-use crate::sorts::{has_values, sort_of};
+use crate::sorts::sort_of;
 use crate::spot::Spot;
 use crate::tables::NameTables;
-use rapid_model::Sort;
+use rapid_model::{Sort, has_values};
 use raw_trees::{RawDatum, RawName};
 
 /// The rule holds, or it is broken at the spot.

@@ -34,7 +34,6 @@ pub use laws::{kept_by_number, numbers_have_rows};
 pub use meant::Meant;
 pub use numbers::{is_const, is_pers, is_scalar_const};
 pub use scopes::Scopes;
-pub use sorts::{has_values, is_value_of};
 pub use spot::Spot;
 
 #[cfg(test)]

@@ -6,7 +6,7 @@ ghost use Rattle.data_scopes.specs.Rows.{outputs_of};
 ghost use Rattle.data_scopes.specs.Gives.{Gives};
 ghost use Rattle.data_scopes.specs.Kept.{with_kept};
 ghost use Rattle.data_scopes.specs.Scopes.{meaning};
-ghost use Rattle.data_scopes.specs.Sorts.{is_value_of};
+ghost use Rattle.rapid_model.specs.Sorts.{is_value_of};
 
 use crate::data_row::{DatumRow, ParamRow};
 use crate::fault::TypeFault;

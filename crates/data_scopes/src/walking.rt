@@ -16,9 +16,8 @@ use crate::numbers::{
     after_item, after_items, after_local, datum_meant, local_meant, next, param_meant,
 };
 use crate::own::is_own;
-use crate::sorts::has_values;
 use crate::tables::NameTables;
-use rapid_model::Sort;
+use rapid_model::{Sort, has_values};
 use raw_trees::{Mode, RawDatum, RawItem, RawModule, RawName, RawParam, RawRoutine};
 use std::alloc::Global;
 

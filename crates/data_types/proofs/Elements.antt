@@ -2,7 +2,6 @@
 use Rattle.std.proofs.Common.{◌≡◌, ℕ, ◌+◌, ◌<◌, ◌≤◌, Bool, true, false, ◌&&◌, List, [], ◌∷◌, ◌++◌, length, get_or, map, drop, Ok, Err, refl, sym, ap, ◌∙◌}
 use Rattle.std.specs.List.{list_all}
 use Rattle.std.proofs.lemmas.List.{at_drop_all, at_drop_more, append-nil}
-use Rattle.std.proofs.lemmas.List.Folds.{list_all-append}
 use Rattle.std.proofs.Math.Bool.{and-false}
 use Rattle.raw_trees.specs.declared.raw_expr.RawExpr.{RawExpr}
 use Rattle.raw_trees.specs.Plain.{exprs_of as raw_exprs_of}
@@ -17,10 +16,11 @@ use Rattle.constant_meaning.specs.declared.outcome.Outcome.TheVariants as outcom
 use Rattle.constant_meaning.proofs.Lists.{behind}
 use Rattle.data_scopes.specs.declared.fault.TypeFault.{TypeFault}
 use Rattle.data_scopes.specs.declared.fault.TypeFault.TheVariants.{Rule, Memory}
+use Rattle.data_scopes.specs.declared.fault.TypeRule.{TypeRule}
 use Rattle.data_scopes.specs.declared.fault.TypeRule.TheVariants.{ConstFault}
 use Rattle.data_scopes.specs.Declarations.{Break, Checked, ◌>>=◌}
 use Rattle.data_scopes.specs.Gives.{Fails}
-use Rattle.data_scopes.specs.Sorts.{is_value_of}
+use Rattle.rapid_model.specs.Sorts.{is_value_of}
 use Rattle.named_data.specs.declared.wanted.Wanted.TheVariants.{Is}
 use Rattle.named_data.specs.Rules.{Site, fail, must}
 use Rattle.expr_types.specs.Typing.{typed}
@@ -71,23 +71,19 @@ pub record IsFound (sort : Sort) (v : Value) (outcome : Outcome) : Type 0 where
   pub is : outcome ≡ outcomes.Value v
   pub fits : is_value_of sort v ≡ true
 
-found_if : (site : Site) (at : ℕ) (fits : Bool) (w v : Value) → (must site fits at ConstFault >>= (λ _. Ok w)) ≡ Ok v → (w ≡ v) × (fits ≡ true)
-found_if site at true w v is = (cc, refl)
-found_if site at false w v is = absurd cc
+-- where a rule and what follows it answer, the rule holds
+pub held_if : {A : Type 0} (site : Site) (at : ℕ) (rule : TypeRule) (holds : Bool) (w v : A) → (must site holds at rule >>= (λ _. Ok w)) ≡ Ok v → (w ≡ v) × (holds ≡ true)
+held_if site at rule true w v is = (cc, refl)
+held_if site at rule false w v is = absurd cc
 
 pub found : (site : Site) (at : ℕ) (sort : Sort) (v : Value) (outcome : Outcome) → value_or_fault site at sort outcome ≡ Ok v → IsFound sort v outcome
 found site at sort v (outcomes.Value w) is =
-    let both = found_if site at (is_value_of sort w) w v is in
+    let both = held_if site at ConstFault (is_value_of sort w) w v is in
     record { is = ap outcomes.Value both.0; fits = ap (is_value_of sort) (sym both.0) ∙ both.1 }
 found site at sort v (outcomes.Raises n) is = absurd cc
 found site at sort v outcomes.OutOfRange is = absurd cc
 found site at sort v outcomes.OutOfArray is = absurd cc
 found site at sort v outcomes.NotKnown is = absurd cc
-
-pub all_fit : (sort : Sort) (front : List Value) (v : Value) → list_all (is_value_of sort) front ≡ true → is_value_of sort v ≡ true →
-    list_all (is_value_of sort) (front ++ v ∷ []) ≡ true
-all_fit sort front v fit fits =
-    list_all-append (is_value_of sort) front (v ∷ []) ∙ ap (λ b. b && (is_value_of sort v && true)) fit ∙ ap (λ b. b && true) fits
 
 pub all_found : (site : Site) (at : ℕ) (sort : Sort) (front : List Value) → list_all (is_value_of sort) front ≡ true →
     values_or_fault site at sort (behind front (all [])) ≡ Ok front

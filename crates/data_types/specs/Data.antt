@@ -13,7 +13,8 @@ use Rattle.data_scopes.specs.Declarations.{Checked, ◌>>=◌}
 use Rattle.data_scopes.specs.Kept.{with_kept}
 use Rattle.data_scopes.specs.Numbers.{is_const, is_pers, is_scalar_const}
 use Rattle.data_scopes.specs.Scopes.{Names}
-use Rattle.data_types.specs.Values.{Initial, initial, first_data, width}
+use Rattle.rapid_model.specs.Sorts.{width}
+use Rattle.data_types.specs.Values.{Initial, initial, first_data}
 
 -- The data so far: the names with the values of the CONSTs, and how many of these there are; the elements of the CONST arrays
 -- by their slots; the rows of VARs and CONST arrays, of PERSs, and of each routine's data; and how many values the modules' data

@@ -19,7 +19,7 @@ use Rattle.data_scopes.specs.Declarations.{Checked, ◌>>=◌}
 use Rattle.data_scopes.specs.Numbers.{is_const}
 use Rattle.data_scopes.specs.Rows.{begin_of}
 use Rattle.data_scopes.specs.Scopes.{Names}
-use Rattle.data_scopes.specs.Sorts.{has_values, is_value_of}
+use Rattle.rapid_model.specs.Sorts.{has_values, is_value_of, width}
 use Rattle.named_data.specs.declared.wanted.Wanted.TheVariants.{Is, Nothing}
 use Rattle.named_data.specs.Rules.{Site, fail, must}
 use Rattle.expr_types.specs.Typing.{typed}
@@ -136,11 +136,6 @@ plain_or_mark sort None = without_value sort
 
 abbrev pub start_datum : Sort → Datum
 start_datum sort = plain_or_mark sort (start_value sort)
-
--- how many elements a datum has
-abbrev pub width : Option ℕ → ℕ
-width None = 1
-width (Some n) = n
 
 abbrev pub first_data : Sort → Option ℕ → Option (List Value) → List Datum
 first_data sort len (Some vs) = map held.Plain vs

@@ -9,7 +9,7 @@ ghost use Rattle.data_types.specs.Parts.{pers_row, slot_row, view_initial};
 ghost use Rattle.data_types.specs.Values;
 ghost use Rattle.data_types.specs.Views.{view_progress};
 
-use crate::first_data::{first_data, width};
+use crate::first_data::first_data;
 use crate::initial::{Initial, initial_of};
 use crate::known::{keeping, known_elements};
 use crate::names::name_text;
@@ -18,7 +18,7 @@ use crate::progress::Progress;
 use crate::sites::site_at;
 use constant_meaning::Arrays;
 use data_scopes::{DatumRow, TypeFault, is_const, is_pers, is_scalar_const};
-use rapid_model::Sort;
+use rapid_model::{Sort, width};
 use raw_trees::RawDatum;
 use std::alloc::Global;
 use typed_trees::{PersRow, SlotRow};

@@ -6,7 +6,7 @@ ghost use Rattle.data_scopes.specs.Gives.{Gives};
 ghost use Rattle.data_types.specs.Values;
 
 use data_scopes::TypeFault;
-use rapid_model::{Sort, Value};
+use rapid_model::{Sort, Value, width};
 use rapid_values::start_value;
 use std::alloc::Global;
 use typed_trees::Datum;
@@ -35,16 +35,6 @@ fn start_datum(sort: Sort) -> Datum
     ensures { result ≡ Values.start_datum sort }
 {
     plain_or_mark(sort, start_value(sort))
-}
-
-/// How many elements a datum has.
-pub(crate) fn width(len: Option<u16>) -> usize
-    ensures { result ≡ Values.width len }
-{
-    match len {
-        None => 1,
-        Some(len) => usize::from(len),
-    }
 }
 
 /// These values as data.

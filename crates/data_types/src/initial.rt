@@ -13,10 +13,10 @@ use crate::lengths::length_at;
 use crate::single::single_value;
 use crate::sites::value_site;
 use constant_meaning::Arrays;
-use data_scopes::{TypeFault, TypeRule, begin_of, has_values, is_const};
+use data_scopes::{TypeFault, TypeRule, begin_of, is_const};
 use expr_types::typed;
 use named_data::{Site, Wanted, fault, must};
-use rapid_model::{Sort, Value};
+use rapid_model::{Sort, Value, has_values};
 use raw_trees::{RawDatum, RawExpr};
 
 /// The length of a datum that is an array, and the values that its declaration gives, one for each element.

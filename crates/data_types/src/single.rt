@@ -8,10 +8,10 @@ ghost use Rattle.named_data.specs.Views.{view_site};
 ghost use Rattle.data_types.specs.Values;
 
 use constant_meaning::{Arrays, Outcome, constant_value, is_constant};
-use data_scopes::{TypeFault, TypeRule, begin_of, is_value_of};
+use data_scopes::{TypeFault, TypeRule, begin_of};
 use expr_types::typed;
 use named_data::{Site, Wanted, fault, must};
-use rapid_model::{Sort, Value};
+use rapid_model::{Sort, Value, is_value_of};
 use raw_trees::RawExpr;
 
 /// What an initial value comes to is a value of the type.

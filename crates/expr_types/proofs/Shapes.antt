@@ -27,7 +27,7 @@ use Rattle.data_scopes.specs.declared.fault.TypeRule.TheVariants.{TypeClash, Bad
 use Rattle.data_scopes.specs.Declarations.{Break, Checked, ◌>>=◌}
 use Rattle.data_scopes.specs.Gives.{Fails, Gives}
 use Rattle.data_scopes.specs.Rows.{begin_of}
-use Rattle.data_scopes.specs.Sorts.{has_values}
+use Rattle.rapid_model.specs.Sorts.{has_values}
 use Rattle.named_data.specs.declared.wanted.Wanted.{Wanted}
 use Rattle.named_data.specs.declared.wanted.Wanted.TheVariants.{Any, Nothing, Reference}
 use Rattle.named_data.specs.Data.{NamedPart, given, named, is_none}

@@ -21,7 +21,7 @@ use Rattle.named_data.specs.declared.wanted.Wanted.{Wanted}
 use Rattle.named_data.specs.declared.wanted.Wanted.TheVariants.{Any, Is, Same}
 use Rattle.named_data.specs.Rules.{Site, must}
 use Rattle.named_data.specs.Wants.{fits, clash, untyped, inside, hands_on, needed_components, needed_sort, of_component, first_operand, suits, comes_to}
-use Rattle.data_scopes.specs.Sorts.{has_values}
+use Rattle.rapid_model.specs.Sorts.{has_values}
 use Rattle.named_data.specs.Data.{NamedPart, given, place_value, value_from, is_none}
 use Rattle.expr_types.specs.Arguments.{is_held}
 use Rattle.expr_types.specs.Calls.{Called, Signature, Taking, taking, function_at, call_rules, needed, plain_option, valued_option, after}

@@ -11,9 +11,9 @@ ghost use Rattle.expr_types.specs.Views.{view_held, view_part};
 
 use crate::place_part::PlacePart;
 use builtin_calls::Need;
-use data_scopes::{TypeFault, TypeRule, has_values};
+use data_scopes::{TypeFault, TypeRule};
 use named_data::{Access, Site, Source, fault, must, same_sort};
-use rapid_model::Sort;
+use rapid_model::{Sort, has_values};
 use typed_trees::{Arg, TreePlace, TreeRoot};
 
 /// Whether a place is lent in this way.

@@ -108,7 +108,7 @@ fn steps(
 ) -> Result<TypedChain, TypeFault>
     ensures { Gives view_chain result (Typing.steps (view_site site.now) (raw_steps_of (map view_raw_step raw.now.items)) at left) }
 {
-    let mut steps = Vec::new(site.alloc);
+    let mut steps = Vec::with_capacity(site.alloc, raw.len())?;
     let mut sort = left;
     for (operator, operand) in raw {
         must(site, suits(*operator, sort), at, TypeRule::TypeClash)?;
@@ -187,7 +187,7 @@ pub(crate) fn arguments(
     ensures { Gives (λ v. args_of (map view_arg v.items)) result (Typing.arguments (view_site site.now) (raw_args_of (map view_raw_arg raw.now.items)) (Calls.taking (view_signature signature.now))) }
 {
     let mut left = nothing_taken(site.alloc, signature);
-    let mut done = Vec::new(site.alloc);
+    let mut done = Vec::with_capacity(site.alloc, raw.len())?;
     for arg in raw {
         let value = one_argument(site, arg, &left)?;
         done.push(value)?;

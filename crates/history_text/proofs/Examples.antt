@@ -49,7 +49,7 @@ fault : fate_line (codes "A") (fates.Fault JointRange) ≡ codes "E A Fault Join
 fault = refl
 
 cell : CellData
-cell = record { steps = 10; tasks = tasks }
+cell = record { steps = 10; tasks = tasks; signals = []; pers = []; meetings = []; zones = []; inputs = [] }
 
 -- the lines of the events, and then that of the task
 lines : lines_of cell (asked Look (answers.Go 3) ∷ asked (Setpoint turned) answers.Given ∷ []) (fates.Done ∷ []) ≡ [] ∷ codes "S A 0.833 0.000 0.000 0.000 0.000 0.000\n" ∷ codes "E A Done\n" ∷ []

@@ -26,7 +26,7 @@ use Rattle.data_scopes.specs.declared.spot.Spot.{Spot}
 use Rattle.data_scopes.specs.Called.{local_of, param_of, places_of}
 use Rattle.data_scopes.specs.Declarations.{Checked, ◌>>=◌}
 use Rattle.data_scopes.specs.Scopes.{meaning}
-use Rattle.data_scopes.specs.Sorts.{has_values}
+use Rattle.rapid_model.specs.Sorts.{has_values}
 use Rattle.named_data.specs.declared.component.Part.{Part}
 use Rattle.named_data.specs.declared.named.Access.{Access}
 use Rattle.named_data.specs.declared.named.Access.TheVariants as accesses

@@ -1,7 +1,8 @@
 //! A whole task.
 
-ghost use Rattle.std.specs.Prelude.{◌≡◌, Ok, map};
+ghost use Rattle.std.specs.Prelude.{◌≡◌, Ok, IfOk, IsTrue, map};
 ghost use Rattle.raw_trees.specs.Views.{view_module};
+ghost use Rattle.typed_trees.specs.Sound.{has_sound_pers};
 ghost use Rattle.typed_trees.specs.Views.{view_routine, view_tree};
 ghost use Rattle.data_scopes.specs.Gives.{Gives};
 ghost use Rattle.named_data.specs.Views.{view_site};
@@ -78,11 +79,21 @@ fn tree_of(
 /// 5. `DataRange`, where the modules' data have more than 20,000 values, an array one for each element, at the same byte.
 ///
 /// The error is also want of memory, as where a name has more than 32 letters.
+///
+/// Each persistent of the tree has a type with values and, where it is an array, 1 to 1000 elements; where its declaration
+/// gives values, there is one of its type for each element.
 pub fn check_task(
     alloc: Global,
     modules: &[RawModule<'_>],
     known: &Known<'_>,
 ) -> Result<Tree, TypeFault>
+    ensures gives { Gives view_tree result (task_of (map view_module modules.now) known.now.tasks.now known.now.signals.now known.now.arm) }
+    ensures sound { IfOk result (λ tree. IsTrue (has_sound_pers (view_tree tree))) }
+{
+    task_tree(alloc, modules, known)
+}
+
+fn task_tree(alloc: Global, modules: &[RawModule<'_>], known: &Known<'_>) -> Result<Tree, TypeFault>
     ensures { Gives view_tree result (task_of (map view_module modules.now) known.now.tasks.now known.now.signals.now known.now.arm) }
 {
     let scopes = Scopes::new(alloc, modules, known)?;

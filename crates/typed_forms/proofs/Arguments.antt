@@ -19,7 +19,7 @@ use Rattle.data_scopes.specs.declared.meant.Meant.{Meant}
 use Rattle.data_scopes.specs.declared.meant.Meant.TheVariants as meants
 use Rattle.data_scopes.specs.Declarations.{Checked, ◌>>=◌}
 use Rattle.data_scopes.specs.Rows.{begin_of}
-use Rattle.data_scopes.specs.Sorts.{has_values}
+use Rattle.rapid_model.specs.Sorts.{has_values}
 use Rattle.named_data.specs.declared.named.Access.{Access}
 use Rattle.named_data.specs.declared.named.Access.TheVariants as accesses
 use Rattle.named_data.specs.declared.named.Source.{Source}

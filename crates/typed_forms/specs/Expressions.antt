@@ -9,7 +9,7 @@ use Rattle.rapid_values.specs.Components.{Component}
 use Rattle.builtin_calls.specs.Calls.{option_named}
 use Rattle.typed_trees.specs.Plain
 use Rattle.typed_trees.specs.Plain.{TypedExpr, TypedExprs, TypedSteps, TypedHeld, TypedArg, TypedArgs}
-use Rattle.data_scopes.specs.Sorts.{has_values}
+use Rattle.rapid_model.specs.Sorts.{has_values}
 use Rattle.named_data.specs.declared.wanted.Wanted.{Wanted}
 use Rattle.named_data.specs.declared.wanted.Wanted.TheVariants.{Is, Same}
 use Rattle.named_data.specs.Rules.{Site}

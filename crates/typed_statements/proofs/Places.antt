@@ -8,7 +8,7 @@ use Rattle.typed_trees.specs.Plain.{TypedPlace}
 use Rattle.typed_trees.specs.declared.expr.TreeRoot.{TreeRoot}
 use Rattle.data_scopes.specs.declared.fault.TypeRule.TheVariants.{NotThis, TypeClash, ReadOnly}
 use Rattle.data_scopes.specs.Declarations.{Checked}
-use Rattle.data_scopes.specs.Sorts.{has_values}
+use Rattle.rapid_model.specs.Sorts.{has_values}
 use Rattle.named_data.specs.declared.named.Access.{Access}
 use Rattle.named_data.specs.declared.named.Source.{Source}
 use Rattle.named_data.specs.declared.named.Source.TheVariants as sources

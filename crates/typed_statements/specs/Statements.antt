@@ -12,7 +12,7 @@ use Rattle.typed_trees.specs.declared.expr.TreeRoot.{TreeRoot}
 use Rattle.data_scopes.specs.declared.meant.Meant.{Meant}
 use Rattle.data_scopes.specs.declared.meant.Meant.TheVariants as meants
 use Rattle.data_scopes.specs.Called.{kind_of, params_of, result_of}
-use Rattle.data_scopes.specs.Sorts.{has_values}
+use Rattle.rapid_model.specs.Sorts.{has_values}
 use Rattle.named_data.specs.declared.named.Access.{Access}
 use Rattle.named_data.specs.declared.wanted.Wanted.TheVariants.{Is, Same, Fits}
 use Rattle.named_data.specs.Data.{NamedPart, named}

@@ -10,7 +10,7 @@ use Rattle.data_scopes.specs.declared.spot.Spot.{Spot}
 use Rattle.data_scopes.specs.Declarations.{spot_of, type_of, or_not_this, sort_meant, sort_at, is_own, item_scope, item_name_rules, datum_sort, with_const, takes_sort, param_rules, params_rules, locals_rules, result_rules, item_rules, items_rules, module_rules, modules_rules, must}
 use Rattle.data_scopes.specs.Numbers.{Tally, is_const, is_pers, datum_meant, after_item, after_items, param_meant, local_meant}
 use Rattle.data_scopes.specs.Scopes.{Tables, list_at, meant_in, meant_outside, meaning}
-use Rattle.data_scopes.specs.Sorts.{has_values}
+use Rattle.rapid_model.specs.Sorts.{has_values}
 use Rattle.typed_forms.proofs.Steps.{in_words, neither, done, never, then}
 use Rattle.typed_tasks.specs.Names.{IsSort, IsDatumSort, IsItemName, IsParam, AreParams, AreLocals, IsResult, IsItem, AreItems, AreModules}
 use Rattle.typed_tasks.proofs.Steps.{regrouped, where_they_hold, it_holds, it_fails}

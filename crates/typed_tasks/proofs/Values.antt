@@ -17,7 +17,7 @@ use Rattle.data_scopes.specs.Declarations.{Checked, ◌>>=◌}
 use Rattle.data_scopes.specs.Numbers.{is_const}
 use Rattle.data_scopes.specs.Rows.{begin_of}
 use Rattle.data_scopes.specs.Scopes.{Names}
-use Rattle.data_scopes.specs.Sorts.{has_values, is_value_of}
+use Rattle.rapid_model.specs.Sorts.{has_values, is_value_of}
 use Rattle.named_data.specs.declared.wanted.Wanted.TheVariants.{Is, Nothing}
 use Rattle.named_data.specs.Rules.{Site}
 use Rattle.expr_types.specs.Typing.{typed}

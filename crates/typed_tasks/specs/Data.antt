@@ -13,7 +13,7 @@ use Rattle.constant_meaning.specs.declared.outcome.Outcome.TheVariants as outcom
 use Rattle.data_scopes.specs.Called.{local_of}
 use Rattle.data_scopes.specs.Numbers.{is_const, is_pers, is_scalar_const}
 use Rattle.data_scopes.specs.Scopes.{Names}
-use Rattle.data_scopes.specs.Sorts.{has_values, is_value_of}
+use Rattle.rapid_model.specs.Sorts.{has_values, is_value_of}
 use Rattle.named_data.specs.declared.wanted.Wanted.TheVariants.{Is}
 use Rattle.named_data.specs.Rules.{Site}
 use Rattle.data_types.specs.Values.{Initial, longest_array, site_of}

@@ -13,7 +13,7 @@ use Rattle.data_scopes.specs.Declarations.{spot_of, type_of, is_own, item_scope,
 use Rattle.data_scopes.specs.Numbers.{Tally, no_counts, is_const, is_pers, is_scalar_const, datum_meant, after_item, after_items, param_meant, local_meant, tables_of}
 use Rattle.data_scopes.specs.Rows.{since_of, no_rows, with_datum, with_routine, outputs_of}
 use Rattle.data_scopes.specs.Scopes.{Tables, Names, RoutineRow, Rows, list_at, meant_in, meant_outside, meaning}
-use Rattle.data_scopes.specs.Sorts.{has_values}
+use Rattle.rapid_model.specs.Sorts.{has_values}
 
 -- the name of a type
 abbrev pub IsSort : Tables → Spot → PlainName → Sort → Type 0

@@ -37,7 +37,7 @@ stmts-returns-in_err-one t c =
     let number = c.loop-raw.number in
     let front = c.loop-raw.done.items in
     let whole = c.loop-raw.invariant ∙ ap (λ ss. stmts body (raw_stmts_of (map view_raw_stmt ss)) around c.args.next) c.deref-raw-items.ensures.value in
-    exits view_typed_list c.from_residual.result c.in_err-one.field-0.0 _ c.from_residual.ensures.1
+    exits view_typed_list c.from_residual-in_err-one.result c.in_err-one.field-0.0 _ c.from_residual-in_err-one.ensures.1
     (stops_at more_stmts (map view_stmt front) (stmts body (raw_stmts_of (map view_raw_stmt (drop i list))) around number) (stmt body (view_raw_stmt c.raw-item.result) around number)
     (λ x. then_more more_stmts x.tree (stmts body (raw_stmts_of (map view_raw_stmt (drop (i + 1) list))) around x.next)) _ c.in_err-one.field-0.0 whole
     (stmts_more body around list i number c.raw-item.result c.loop-raw-test.true c.raw-item.is) c.in_err-one.ensures)
@@ -72,7 +72,7 @@ branches-returns-in_default t c =
     let around = view_around c.args.around.now in
     let raw = c.args.raw.now in
     ap (λ arms. branches body arms (view_site c.args.site.now) around c.args.next) (no_arms raw.at raw.form c.in_default.not-If)
-    ∙ ap (λ arms. Ok (record { tree = Plain.arms_of (map view_arm arms); next = c.args.next })) (sym c.new-done.ensures.items)
+    ∙ ap (λ arms. Ok (record { tree = Plain.arms_of (map view_arm arms); next = c.args.next })) (sym c.new-none.ensures.items)
 
 pub branches-returns-in_err-value : goal.branches-returns-in_err-value
 branches-returns-in_err-value t c =
@@ -89,7 +89,7 @@ branches-returns-in_err-value t c =
     let more = arms_more body around site list i number item c.loop-test-test.true c.loop-test-item.is in
     let whole = c.loop-test.invariant ∙ ap (λ arms. branches body (raw_arms_of (map view_raw_arm arms)) site around c.args.next) c.deref-test-items.ensures.value
     ∙ ap (λ arms. branches body arms site around c.args.next) (sym (if_arms c.args.raw.now c.in-If.arms c.in-If.other c.in-If.is)) in
-    exits view_typed_arms c.from_residual.result c.in_err-value.field-0.0 _ c.from_residual.ensures.1
+    exits view_typed_arms c.from_residual-in_err-value.result c.in_err-value.field-0.0 _ c.from_residual-in_err-value.ensures.1
     (stops_at more_arms (map arm_front front) here (typed site (view_raw item.0) (Is sorts.Bool)) (λ t. inside body around item.1 number >>= then_arms rest t) _ c.in_err-value.field-0.0 whole more c.in_err-value.ensures)
 
 pub branches-returns-in_err-inside : goal.branches-returns-in_err-inside
@@ -148,7 +148,7 @@ choices-returns-in_default t c =
     let around = view_around c.args.around.now in
     let raw = c.args.raw.now in
     ap (λ cases. choices body cases (view_site c.args.site.now) c.args.sort around c.args.next) (no_cases raw.at raw.form c.in_default.not-Test)
-    ∙ ap (λ cases. Ok (record { tree = Plain.cases_of (map view_case cases); next = c.args.next })) (sym c.new-done.ensures.items)
+    ∙ ap (λ cases. Ok (record { tree = Plain.cases_of (map view_case cases); next = c.args.next })) (sym c.new-none.ensures.items)
 
 pub choices-returns-in_err-values : goal.choices-returns-in_err-values
 choices-returns-in_err-values t c =
@@ -168,7 +168,7 @@ choices-returns-in_err-values t c =
     ∙ ap (λ es. case_values site sort (map view_raw es) >>= then_list) (sym c.deref.ensures.value) in
     let whole = c.loop-values.invariant ∙ ap (λ cs. choices body (raw_cases_of (map view_raw_case cs)) site sort around c.args.next) c.deref-values-items.ensures.value
     ∙ ap (λ cs. choices body cs site sort around c.args.next) (sym (test_cases c.args.raw.now c.in-Test.value c.in-Test.cases c.in-Test.other c.in-Test.is)) in
-    exits view_typed_cases c.from_residual.result c.in_err-values.field-0.0 _ c.from_residual.ensures.1
+    exits view_typed_cases c.from_residual-in_err-values.result c.in_err-values.field-0.0 _ c.from_residual-in_err-values.ensures.1
     (stops_at more_cases (map case_front front) here (case_values site sort (map view_raw c.deref.result.now)) then_list _ c.in_err-values.field-0.0 whole more c.in_err-values.ensures)
 
 pub choices-returns-in_err-inside : goal.choices-returns-in_err-inside

@@ -3,11 +3,15 @@ use Rattle.controller.specs.Loaded.{file_names, reads_in}
 use Rattle.controller.proofs.Checking.{checks_told}
 use Rattle.controller.proofs.Exits.{check_refused, all_accepted}
 use Rattle.controller.proofs.Gains.{gained_none}
+use Rattle.controller.proofs.Made.{checked_rows}
 use Rattle.controller.proofs.done.do_action.Goals as goal
+
+pub run_built-requires-clause-tasks : goal.run_built-requires-clause-tasks
+run_built-requires-clause-tasks g c = checked_rows c.args.script.now (reads_in c.args.modules.now) c.in-Ok.cell c.in-Ok.ensures
 
 pub returns-in-Check-clause-answers : goal.returns-in-Check-clause-answers
 returns-in-Check-clause-answers g c =
-    all_accepted (file_names c.args.command.now.script.now c.args.files.now) c.args.command.now.action c.args.script.now (reads_in c.args.modules.now) _ _ _ c.in-Check.is c.in-Ok.ensures c.report_accepted.ensures
+    all_accepted (file_names c.args.command.now.script.now c.args.files.now) c.args.command.now.action c.args.script.now (reads_in c.args.modules.now) c.in-Ok.cell _ _ _ c.in-Check.is c.in-Ok.ensures c.report_accepted.ensures
 
 pub returns-in-Err-clause-answers : goal.returns-in-Err-clause-answers
 returns-in-Err-clause-answers g c =

@@ -6,10 +6,11 @@ use Rattle.typed_trees.specs.Views.{view_expr}
 use Rattle.constant_meaning.specs.Constants.{and_more, constant_values, elements_of}
 use Rattle.constant_meaning.proofs.Lists.{behind, kept, values_end, values_more}
 use Rattle.data_scopes.specs.Gives.{Fails}
-use Rattle.data_scopes.specs.Sorts.{is_value_of}
+use Rattle.data_scopes.proofs.All.{all_more}
+use Rattle.rapid_model.specs.Sorts.{is_value_of}
 use Rattle.named_data.specs.Views.{view_site}
 use Rattle.data_types.specs.Values.{values_or_fault}
-use Rattle.data_types.proofs.Elements.{all_fit, all_found, found, stops_at}
+use Rattle.data_types.proofs.Elements.{all_found, found, stops_at}
 use Rattle.data_types.proofs.arrays.values_or_fault.Goals as goal
 
 pub returns-in_err-value : goal.returns-in_err-value
@@ -34,7 +35,7 @@ loop-element-preserved c =
     let more = constant_values known (exprs_of (map view_expr (drop (c.loop-element.element-index + 1) c.args.elements.now))) in
     let one = found site c.args.at c.args.sort c.in_ok-value.value c.constant_value.result c.in_ok-value.ensures in
     record {
-      fit = ap (list_all (is_value_of c.args.sort)) c.in_ok-push.ensures.items ∙ all_fit c.args.sort front c.in_ok-value.value c.loop-element.invariant.fit one.fits;
+      fit = ap (list_all (is_value_of c.args.sort)) c.in_ok-push.ensures.items ∙ all_more (is_value_of c.args.sort) front c.in_ok-value.value c.loop-element.invariant.fit one.fits;
       rest = ap (λ vs. values_or_fault site c.args.at c.args.sort (behind vs more)) c.in_ok-push.ensures.items
           ∙ ap (values_or_fault site c.args.at c.args.sort) (sym (kept front c.in_ok-value.value more))
           ∙ ap (λ o. values_or_fault site c.args.at c.args.sort (behind front (and_more o more))) (sym one.is ∙ c.constant_value.ensures)

@@ -4,7 +4,7 @@ use Rattle.typed_trees.specs.Plain.{exprs_of}
 use Rattle.typed_trees.specs.Views.{view_expr}
 use Rattle.constant_meaning.specs.Constants.{constant_values, elements_of}
 use Rattle.constant_meaning.proofs.Lists.{behind}
-use Rattle.data_scopes.specs.Sorts.{is_value_of}
+use Rattle.rapid_model.specs.Sorts.{is_value_of}
 use Rattle.named_data.specs.Views.{view_site}
 use Rattle.data_types.specs.Values.{values_or_fault}
 use Rattle.data_types.proofs.arrays.values_or_fault.Given as goal

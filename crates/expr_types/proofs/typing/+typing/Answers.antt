@@ -208,7 +208,7 @@ steps-returns-in_err-must t c =
     let front = c.loop-operator.steps.items in
     let holds = ap (λ fits. must site fits at TypeClash) (sym c.suits.ensures) in
     let whole = c.loop-operator.invariant ∙ ap (λ ss. steps site (raw_steps_of (map view_raw_step ss)) at c.args.left) c.deref-operator-items.ensures.value in
-    exits view_chain c.from_residual.result c.in_err-must.field-0.0 _ c.from_residual.ensures.1
+    exits view_chain c.from_residual-in_err-must.result c.in_err-must.field-0.0 _ c.from_residual-in_err-must.ensures.1
     (steps_clash site list at left i item front c.in_err-must.field-0.0 _ c.loop-operator-test.true c.loop-operator-item.is whole
     (subst (λ (r : Checked (Unit {0})). Fails c.in_err-must.field-0.0 r) (sym holds) c.in_err-must.ensures))
 
@@ -257,7 +257,7 @@ arguments-returns-in_err-value t c =
     let front = c.loop-arg.done.items in
     let start = taking (view_signature c.args.signature.now) in
     let whole = c.loop-arg.invariant ∙ ap (λ args. arguments site (raw_args_of (map view_raw_arg args)) start) c.deref-arg-items.ensures.value in
-    exits _ c.from_residual.result c.in_err-value.field-0.0 _ c.from_residual.ensures.1
+    exits _ c.from_residual-in_err-value.result c.in_err-value.field-0.0 _ c.from_residual-in_err-value.ensures.1
     (arguments_stop site list left i item front c.in_err-value.field-0.0 _ c.loop-arg-test.true c.arg-item.is whole c.in_err-value.ensures)
 
 pub arguments-loop-arg-preserved : goal.arguments-loop-arg-preserved

@@ -1,6 +1,6 @@
 use Rattle.std.proofs.Common.{◌<◌, length, slice_get, IfSome, IsTrue, refl, sym, subst}
 use Rattle.data_scopes.specs.Scopes.{Names}
-use Rattle.data_scopes.specs.Sorts.{is_value_of}
+use Rattle.rapid_model.specs.Sorts.{is_value_of}
 use Rattle.data_scopes.proofs.Typed.{one_more_kept}
 use Rattle.data_scopes.proofs.scopes.Scopes.keep.Goals as goal
 

@@ -1,0 +1,32 @@
+-- The values of the types of data.
+use Rattle.std.specs.Prelude.{ℕ, Bool, true, false, Option, Some, None}
+use Rattle.rapid_model.specs.declared.sort.Sort.{Sort}
+use Rattle.rapid_model.specs.declared.sort.Sort.TheVariants as sorts
+use Rattle.rapid_model.specs.declared.value.Value.{Value}
+use Rattle.rapid_model.specs.declared.value.Value.TheVariants as values
+
+-- data of the type have values in expressions
+abbrev pub has_values : Sort → Bool
+has_values sorts.IntNum = false
+has_values sorts.SyncIdent = false
+has_values sorts.ShapeData = false
+has_values sorts.WzTemporary = false
+has_values sorts.WzStationary = false
+has_values _ = true
+
+-- a value of the type; the value of a tasks is the text of its one component
+abbrev pub is_value_of : Sort → Value → Bool
+is_value_of sorts.Num (values.Num n) = true
+is_value_of sorts.Bool (values.Bool b) = true
+is_value_of sorts.Text (values.Text t) = true
+is_value_of sorts.Tasks (values.Text t) = true
+is_value_of sorts.RobJoint (values.Rob axes) = true
+is_value_of sorts.ExtJoint (values.Ext axes) = true
+is_value_of sorts.JointTarget (values.Target joints) = true
+is_value_of sorts.SpeedData (values.Speed parts) = true
+is_value_of _ _ = false
+
+-- how many elements a datum has: one, or as many as its length says
+abbrev pub width : Option ℕ → ℕ
+width None = 1
+width (Some n) = n
