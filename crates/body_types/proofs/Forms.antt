@@ -3,7 +3,9 @@ use Rattle.std.proofs.Common.{◌≡◌, ℕ, ◌+◌, ◌≤◌, List, [], ◌+
 use Rattle.std.proofs.Math.ListN.{drop_of_length-le}
 use Rattle.std.proofs.lemmas.List.{append-nil}
 use Rattle.std.specs.declared.alloc.Global.{Global}
+use Rattle.std.specs.declared.boxed.Box.{Box}
 use Rattle.std.specs.declared.vec.Vec.{Vec}
+use Rattle.raw_trees.specs.declared.raw_bounds.RawBounds.{RawBounds}
 use Rattle.raw_trees.specs.declared.raw_expr.Operator.TheVariants as operators
 use Rattle.raw_trees.specs.declared.raw_expr.RawExpr.{RawExpr}
 use Rattle.raw_trees.specs.declared.raw_name.RawName.{RawName}
@@ -11,7 +13,7 @@ use Rattle.raw_trees.specs.declared.raw_stmt.RawStmt.{RawStmt}
 use Rattle.raw_trees.specs.declared.raw_stmt.RawForm.{RawForm, If, If', For, While, Test, Test', roll-RawForm, roll-out-RawForm}
 use Rattle.raw_trees.specs.declared.raw_stmt.RawForm.TheVariants.{outs-If', rolls-If, outs-Test', rolls-Test}
 use Rattle.raw_trees.specs.Plain.{PlainName, NoArms, NoCases, arms_of as raw_arms_of, cases_of as raw_cases_of, else_of as raw_else_of, stmts_of as raw_stmts_of}
-use Rattle.raw_trees.specs.Views.{view_arm as view_raw_arm, view_case as view_raw_case, view_expr as view_raw, view_list as view_raw_list, view_name, view_stmt as view_raw_stmt, view_stmt_form as view_raw_form}
+use Rattle.raw_trees.specs.Views.{view_arm as view_raw_arm, view_case as view_raw_case, view_expr as view_raw, view_list as view_raw_list, view_stmt as view_raw_stmt, view_stmt_form as view_raw_form}
 use Rattle.raw_trees.proofs.Rows.{choice_view, for_view, test_view, while_view}
 use Rattle.rapid_model.specs.declared.sort.Sort.TheVariants as sorts
 use Rattle.typed_trees.specs.Plain
@@ -80,12 +82,12 @@ module _ (body : Body) (s : RawStmt) (around : Around) (next : ℕ) where
   test_given value cases other list is some =
       ap (λ e. otherwise body (else_in e) around next) (ap (view_raw_form s.at) is ∙ test_view s.at value cases other) ∙ else_given body around next list other some
 
-  pub stmt_for : (name : RawName) (first last : RawExpr) (step : Option RawExpr) (list : Vec RawStmt Global) → s.form ≡ For name first last step list →
+  pub stmt_for : (name : RawName) (raw : Box RawBounds Global) (list : Vec RawStmt Global) → s.form ≡ For name raw list →
       stmt body (view_raw_stmt s) around next
-      ≡ (bounds (site body around s.at) (view_raw first) (view_raw last) (option_map view_raw step) >>= (λ b.
+      ≡ (bounds (site body around s.at) (view_raw raw.value.first) (view_raw raw.value.last) (option_map view_raw raw.value.step) >>= (λ b.
       inside body (record around { within = Some next }) list (next + 1) >>= as_for body s.at next b))
   unfolding stmt
-  stmt_for name first last step list is = ap (λ p. stmt body p around next) (ap (view_raw_form s.at) is ∙ for_view s.at name first last step list)
+  stmt_for name raw list is = ap (λ p. stmt body p around next) (ap (view_raw_form s.at) is ∙ for_view s.at name raw list)
 
   pub stmt_while : (test : RawExpr) (list : Vec RawStmt Global) → s.form ≡ While test list →
       stmt body (view_raw_stmt s) around next ≡ (typed (site body around s.at) (view_raw test) (Is sorts.Bool) >>= (λ t. inside body around list next >>= as_while s.at t))
@@ -130,8 +132,8 @@ module _ (s : RawStmt) (before done : List PlainName) where
       ∙ then_else before done (labels_in_cases (raw_cases_of (map view_raw_case items))) rest (ap (λ xs. done ++ labels_in_cases (raw_cases_of (map view_raw_case xs))) (sym none) ∙ inv)
 
 module _ (s : RawStmt) where
-  pub for_labels : (name : RawName) (first last : RawExpr) (step : Option RawExpr) (list : Vec RawStmt Global) → s.form ≡ For name first last step list → labels_of (view_raw_stmt s) ≡ labels_in (raw_stmts_of (view_raw_list list))
-  for_labels name first last step list is = ap labels_of (ap (view_raw_form s.at) is ∙ for_view s.at name first last step list)
+  pub for_labels : (name : RawName) (raw : Box RawBounds Global) (list : Vec RawStmt Global) → s.form ≡ For name raw list → labels_of (view_raw_stmt s) ≡ labels_in (raw_stmts_of (view_raw_list list))
+  for_labels name raw list is = ap labels_of (ap (view_raw_form s.at) is ∙ for_view s.at name raw list)
 
   pub while_labels : (test : RawExpr) (list : Vec RawStmt Global) → s.form ≡ While test list → labels_of (view_raw_stmt s) ≡ labels_in (raw_stmts_of (view_raw_list list))
   while_labels test list is = ap labels_of (ap (view_raw_form s.at) is ∙ while_view s.at test list)

@@ -2,11 +2,11 @@
 use Rattle.std.specs.Prelude.{map, option_map}
 use Rattle.raw_trees.specs.Views.{view_name}
 use Rattle.typed_trees.specs.Plain
+use Rattle.typed_trees.specs.declared.bounds.Bounds.{Bounds}
 use Rattle.typed_trees.specs.Plain.{arms_of, cases_of, else_of, stmts_of}
 use Rattle.typed_trees.specs.Views.{view_arm, view_case, view_expr, view_list, view_stmt}
 use Rattle.body_types.specs.declared.around.Around.{Around}
 use Rattle.body_types.specs.declared.body.Body.{Body}
-use Rattle.body_types.specs.declared.bounds.Bounds.{Bounds}
 use Rattle.body_types.specs.declared.typed_rows.TypedArms.{TypedArms}
 use Rattle.body_types.specs.declared.typed_rows.TypedCases.{TypedCases}
 use Rattle.body_types.specs.declared.typed_rows.TypedElse.{TypedElse}

@@ -15,7 +15,7 @@ ghost use Rattle.body_types.specs.Views.{view_around, view_body, view_typed_arms
 
 use crate::around::{Around, site_at};
 use crate::body::Body;
-use crate::bounds::{bounds_of, counted};
+use crate::bounds::bounds_of;
 use crate::calls::{called, connected};
 use crate::case_values::case_values;
 use crate::jumps::{jumped, labelled};
@@ -94,17 +94,12 @@ fn stmt<'b>(
             let tree = Stmt::branch_one(body.alloc, at, test, then.stmt)?;
             Ok(with_next(then.next, tree))
         }
-        RawForm::For {
-            first,
-            last,
-            step,
-            list,
-            ..
-        } => {
-            let bounds = bounds_of(&site, first, last, step)?;
+        RawForm::For { bounds, list, .. } => {
+            let bounds = bounds_of(&site, bounds)?;
             let local = counter_place(body, next)?;
             let list = inner(list, body, &around.in_loop(next), after(next)?)?;
-            Ok(with_next(list.next, counted(at, local, bounds, list.list)))
+            let tree = Stmt::count(body.alloc, at, local, bounds, list.list)?;
+            Ok(with_next(list.next, tree))
         }
         RawForm::While { test, list } => {
             let test = typed(&site, test, Wanted::Is(Sort::Bool))?;

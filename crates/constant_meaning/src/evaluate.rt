@@ -11,7 +11,7 @@ use crate::components::{blanks, keep};
 use crate::elements::{array_of, element_at};
 use crate::operands::{decides, on_right, opposite, value_or_not_known, with_sign};
 use crate::outcome::Outcome;
-use rapid_model::Sort;
+use rapid_model::{Sort, Value};
 use rapid_values::record_of;
 use raw_trees::Operator;
 use typed_trees::{Expr, ExprForm, TreePlace};
@@ -25,6 +25,7 @@ pub fn constant_value(arrays: &Arrays<'_>, expr: &Expr) -> Outcome
     ensures { result ≡ constant_value (elements_of arrays.now) (view_expr expr.now) }
 {
     match &expr.form {
+        ExprForm::Number(number) => Outcome::Value(Value::Num(*number)),
         ExprForm::Const(value) => Outcome::Value(value.copy()),
         ExprForm::Place(place) => at_place(arrays, place),
         ExprForm::Group(inner) => constant_value(arrays, inner),
@@ -103,7 +104,7 @@ pub fn is_constant(arrays: &Arrays<'_>, expr: &Expr) -> bool
     ensures { result ≡ is_constant (elements_of arrays.now) (view_expr expr.now) }
 {
     match &expr.form {
-        ExprForm::Const(_) => true,
+        ExprForm::Number(_) | ExprForm::Const(_) => true,
         ExprForm::Place(place) => is_constant_place(arrays, place),
         ExprForm::Group(inner) => is_constant(arrays, inner),
         ExprForm::Aggregate(components) => are_constant(arrays, components),

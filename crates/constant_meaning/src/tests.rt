@@ -13,19 +13,25 @@ fn whole(count: i32) -> Num {
     Num::new(i64::from(count) * 1_000).unwrap()
 }
 
-fn num(count: i32) -> Expr {
-    Expr::constant(0, Sort::Num, Value::Num(whole(count)))
+fn num(alloc: Global, count: i32) -> Result<Expr, AllocError> {
+    Expr::constant(alloc, 0, Sort::Num, Value::Num(whole(count)))
 }
 
 // Two operators of one level.
-fn chain(alloc: Global, first: Expr, operator: Operator) -> Result<Expr, AllocError> {
-    let rest = vec![in alloc; (operator, num(3)), (operator, num(2))]?;
-    Expr::chain(alloc, 0, Sort::Num, first, rest)
+fn chain(alloc: Global, first: i32, operator: Operator) -> Result<Expr, AllocError> {
+    let rest = vec![in alloc; (operator, num(alloc, 3)?), (operator, num(alloc, 2)?)]?;
+    Expr::chain(alloc, 0, Sort::Num, num(alloc, first)?, rest)
 }
 
 fn element(alloc: Global, slot: u32, index: i32) -> Result<Expr, AllocError> {
     let root = TreeRoot::Slot(slot);
-    let place = TreePlace::new(alloc, root, Some(num(index)), PartName::Whole, Sort::Num)?;
+    let place = TreePlace::new(
+        alloc,
+        root,
+        Some(num(alloc, index)?),
+        PartName::Whole,
+        Sort::Num,
+    )?;
     Ok(Expr::place(0, Sort::Num, place))
 }
 
@@ -33,7 +39,7 @@ fn element(alloc: Global, slot: u32, index: i32) -> Result<Expr, AllocError> {
 fn robjoint(alloc: Global, count: i32) -> Result<Expr, AllocError> {
     let mut components = Vec::new(alloc);
     for number in 1..=count {
-        components.push(num(number))?;
+        components.push(num(alloc, number)?)?;
     }
     Ok(Expr::aggregate(0, Sort::RobJoint, components))
 }
@@ -56,7 +62,7 @@ fn expressions_come_to(rt: HostRuntime) -> Result<(), Fail> {
     let table = [
         // 10 - 3 - 2
         (
-            chain(alloc, num(10), Operator::Sub),
+            chain(alloc, 10, Operator::Sub),
             true,
             Some(Value::Num(whole(5))),
         ),

@@ -5,7 +5,9 @@ use Rattle.std.proofs.lemmas.List.{append-nil}
 use Rattle.std.proofs.lemmas.Option.{slice_get_read}
 use Rattle.std.specs.Str.{str_to_ascii_lowercase}
 use Rattle.std.specs.declared.alloc.Global.{Global}
+use Rattle.std.specs.declared.boxed.Box.{Box}
 use Rattle.std.specs.declared.vec.Vec.{Vec}
+use Rattle.raw_trees.specs.declared.raw_bounds.RawBounds.{RawBounds}
 use Rattle.raw_trees.specs.declared.raw_name.RawName.{RawName}
 use Rattle.raw_trees.specs.declared.raw_expr.RawExpr.{RawExpr}
 use Rattle.raw_trees.specs.declared.raw_stmt.RawStmt.{RawStmt}
@@ -54,15 +56,15 @@ module _ (s : RawStmt) (outer : Option ℕ) (rows done : List Loop) where
       let seen : view_stmt s ≡ view_stmt_form s.at (While test list) = ap (view_stmt_form s.at) is in
       ap (λ p. rows ++ loops_of outer (length rows) p) (sym (seen ∙ while_view s.at test list))
 
-  pub for_rows : (name : RawName) (first last : RawExpr) (step : Option RawExpr) (list : Vec RawStmt Global) (row : Loop) (number : ℕ) → s.form ≡ For name first last step list → number ≡ length rows → done ≡ rows ++ row ∷ [] → row ≡ record { name = str_to_ascii_lowercase name.text.now; outer = outer }
+  pub for_rows : (name : RawName) (bounds : Box RawBounds Global) (list : Vec RawStmt Global) (row : Loop) (number : ℕ) → s.form ≡ For name bounds list → number ≡ length rows → done ≡ rows ++ row ∷ [] → row ≡ record { name = str_to_ascii_lowercase name.text.now; outer = outer }
       → done ++ loops_in (Some number) (length done) (stmts_of (view_list list)) ≡ rows ++ loops_of outer (length rows) (view_stmt s)
-  for_rows name first last step list row number is counted pushed named =
-      let seen : view_stmt s ≡ view_stmt_form s.at (For name first last step list) = ap (view_stmt_form s.at) is in
+  for_rows name bounds list row number is counted pushed named =
+      let seen : view_stmt s ≡ view_stmt_form s.at (For name bounds list) = ap (view_stmt_form s.at) is in
       ap (λ xs. xs ++ loops_in (Some number) (length xs) (stmts_of (view_list list))) pushed
       ∙ joined rows (row ∷ []) (λ n. loops_in (Some number) n (stmts_of (view_list list)))
       ∙ ap (λ r. rows ++ (r ∷ loops_in (Some number) (length rows + 1) (stmts_of (view_list list)))) named
       ∙ ap (λ n. rows ++ (record { name = str_to_ascii_lowercase name.text.now; outer = outer } ∷ loops_in (Some n) (length rows + 1) (stmts_of (view_list list)))) counted
-      ∙ ap (λ p. rows ++ loops_of outer (length rows) p) (sym (seen ∙ for_view s.at name first last step list))
+      ∙ ap (λ p. rows ++ loops_of outer (length rows) p) (sym (seen ∙ for_view s.at name bounds list))
 
 outward : (steps : ℕ) (key : List ℕ) (loops : List Loop) (k : ℕ) → 0 < steps → loop_named steps key loops (Some k) ≡ named_or key k (slice_get loops k) (loop_named (steps - 1) key loops)
 outward zero key loops k more = absurd (omega arith)

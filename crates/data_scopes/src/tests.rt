@@ -3,8 +3,8 @@
 use super::{DatumRow, Known, Meant, ParamRow, Scopes, Since, Spot, TypeFault, TypeRule};
 use rapid_model::{Instruction, NameText, SignalRow, Sort, Value};
 use raw_trees::{
-    DatumKind, Mode, RawDatum, RawExpr, RawItem, RawModule, RawName, RawParam, RawRoutine, RawStmt,
-    RoutineKind,
+    DatumKind, Mode, RawBounds, RawDatum, RawExpr, RawItem, RawModule, RawName, RawParam,
+    RawRoutine, RawStmt, RoutineKind,
 };
 use std::alloc::{AllocError, Global};
 use std::test::*;
@@ -110,15 +110,22 @@ fn declare(parts: &mut Parts, row: Row, at: usize) -> Result<(), AllocError> {
 
 // FOR k, and in its list FOR i.
 fn loops(alloc: Global) -> Result<Vec<RawStmt<'static>>, AllocError> {
-    let one = RawExpr::number(80, b"1");
-    let two = RawExpr::number(81, b"2");
+    let bounds = RawBounds {
+        first: RawExpr::number(80, b"1"),
+        last: RawExpr::number(81, b"2"),
+        step: None,
+    };
     let name = RawName { text: b"i", at: 82 };
-    let inner = RawStmt::for_loop(82, name, one, two, None, Vec::new(alloc));
+    let inner = RawStmt::for_loop(alloc, 82, name, bounds, Vec::new(alloc))?;
     let list = vec![in alloc; inner]?;
-    let one = RawExpr::number(83, b"1");
-    let two = RawExpr::number(84, b"2");
+    let bounds = RawBounds {
+        first: RawExpr::number(83, b"1"),
+        last: RawExpr::number(84, b"2"),
+        step: None,
+    };
     let name = RawName { text: b"k", at: 85 };
-    Ok(vec![in alloc; RawStmt::for_loop(85, name, one, two, None, list)]?)
+    let outer = RawStmt::for_loop(alloc, 85, name, bounds, list)?;
+    Ok(vec![in alloc; outer]?)
 }
 
 fn unit(

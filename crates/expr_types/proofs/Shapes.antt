@@ -16,7 +16,7 @@ use Rattle.rapid_model.specs.declared.sort.Sort.{Sort}
 use Rattle.rapid_model.specs.declared.sort.Sort.TheVariants as sorts
 use Rattle.builtin_calls.specs.declared.need.Need.{Need}
 use Rattle.builtin_calls.specs.declared.need.Need.TheVariants as needs
-use Rattle.typed_trees.specs.declared.expr.ExprForm.{ExprForm, Const, Errno, Signal as SignalForm, Place as StoredForm, Group', Aggregate', Builtin', Call', Not', Signed', Chain'}
+use Rattle.typed_trees.specs.declared.expr.ExprForm.{ExprForm, Number as NumberForm, Const, Errno, Signal as SignalForm, Place as StoredForm, Group', Aggregate', Builtin', Call', Not', Signed', Chain'}
 use Rattle.typed_trees.specs.Views.{view_form as view_typed_form}
 use Rattle.typed_trees.specs.Plain
 use Rattle.typed_trees.specs.Plain.{TypedArg, TypedExpr, TypedHeld, Given}
@@ -215,6 +215,7 @@ valued_argument site t at name e = valued_by site t at (option_named name t.opti
 
 -- the type of a tree is that of its form
 pub sort_view : (at : ℕ) (sort : Sort) (form : ExprForm) → sort_of (view_typed_form at sort form) ≡ sort
+sort_view at sort (NumberForm number) = refl
 sort_view at sort (Const value) = refl
 sort_view at sort Errno = refl
 sort_view at sort (SignalForm signal) = refl

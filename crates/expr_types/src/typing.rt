@@ -44,15 +44,15 @@ pub fn typed(site: &Site<'_>, raw: &RawExpr<'_>, want: Wanted) -> Result<Expr, T
     let at = raw.at;
     match &raw.form {
         RawExprForm::Number(text) => {
-            let tree = Expr::constant(at, Sort::Num, Value::Num(number_of(text)));
+            let tree = Expr::constant(site.alloc, at, Sort::Num, Value::Num(number_of(text)))?;
             given(site, want, at, Sort::Num, tree)
         }
         RawExprForm::Text(text) => {
-            let tree = Expr::constant(at, Sort::Text, Value::Text(text_of(text)));
+            let tree = Expr::constant(site.alloc, at, Sort::Text, Value::Text(text_of(text)))?;
             given(site, want, at, Sort::Text, tree)
         }
         RawExprForm::Bool(value) => {
-            let tree = Expr::constant(at, Sort::Bool, Value::Bool(*value));
+            let tree = Expr::constant(site.alloc, at, Sort::Bool, Value::Bool(*value))?;
             given(site, want, at, Sort::Bool, tree)
         }
         RawExprForm::Group(inner) => group(site, want, at, typed(site, inner, inside(want))?),

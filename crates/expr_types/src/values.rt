@@ -189,7 +189,10 @@ fn value_from(site: &Site<'_>, at: usize, place: PlacePart) -> Result<Expr, Type
             let place = TreePlace::new(site.alloc, root, index, part, sort)?;
             Ok(Expr::place(at, sort, place))
         }
-        Source::Value(value) => Ok(Expr::constant(at, sort, part_or_whole(value, part))),
+        Source::Value(value) => {
+            let value = part_or_whole(value, part);
+            Ok(Expr::constant(site.alloc, at, sort, value)?)
+        }
         Source::Errno => Ok(Expr::errno(at, sort)),
         Source::Signal(number) => Ok(Expr::signal(at, sort, number)),
     }

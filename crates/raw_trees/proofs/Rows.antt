@@ -4,6 +4,7 @@ use Rattle.std.proofs.Common.{ap}
 use Rattle.std.specs.declared.alloc.Global.{Global}
 use Rattle.std.specs.declared.boxed.Box.{Box}
 use Rattle.std.specs.declared.vec.Vec.{Vec}
+use Rattle.raw_trees.specs.declared.raw_bounds.RawBounds.{RawBounds}
 use Rattle.raw_trees.specs.declared.raw_name.RawName.{RawName}
 use Rattle.raw_trees.specs.declared.raw_expr.Operator.{Operator}
 use Rattle.raw_trees.specs.declared.raw_expr.RawArg.{RawArg}
@@ -94,10 +95,11 @@ test_view at value cases other =
       held_else other,
     )
 
-pub for_view : (at : ℕ) (name : RawName) (first last : RawExpr) (step : Option RawExpr) (list : Vec RawStmt Global) →
-    view_stmt_form at (For name first last step list)
-    ≡ Plain.For at (view_name name) (view_expr first) (view_expr last) (option_map view_expr step) (stmts_of (view_list list))
-for_view at name first last step list = rw (hidden_stmts list)
+pub for_view : (at : ℕ) (name : RawName) (bounds : Box RawBounds Global) (list : Vec RawStmt Global) →
+    let b = bounds.value in
+    view_stmt_form at (For name bounds list)
+    ≡ Plain.For at (view_name name) (view_expr b.first) (view_expr b.last) (option_map view_expr b.step) (stmts_of (view_list list))
+for_view at name bounds list = rw (hidden_stmts list)
 
 pub while_view : (at : ℕ) (test : RawExpr) (list : Vec RawStmt Global) →
     view_stmt_form at (While test list) ≡ Plain.While at (view_expr test) (stmts_of (view_list list))

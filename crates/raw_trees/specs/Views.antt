@@ -85,7 +85,7 @@ abbrev mutual
   view_stmt_form at (Connect place trap) = Plain.Connect at (view_place place) (view_name trap)
   view_stmt_form at (If' shape row other) = Plain.If at (view_arms row) (view_else other)
   view_stmt_form at (IfOne' test pointer begin form) = Plain.IfOne at (view_expr test) (view_stmt_form begin form)
-  view_stmt_form at (For' name first last step shape row) = Plain.For at (view_name name) (view_expr first) (view_expr last) (option_map view_expr step) (view_stmts row)
+  view_stmt_form at (For' name bounds shape row) = Plain.For at (view_name name) (view_expr bounds.value.first) (view_expr bounds.value.last) (option_map view_expr bounds.value.step) (view_stmts row)
   view_stmt_form at (While' test shape row) = Plain.While at (view_expr test) (view_stmts row)
   view_stmt_form at (Test' value shape row other) = Plain.Test at (view_expr value) (view_cases row) (view_else other)
 

@@ -2,6 +2,7 @@
 //! the byte at which each form begins.
 #![tactic(auto)]
 
+mod raw_bounds;
 mod raw_datum;
 mod raw_expr;
 mod raw_module;
@@ -9,6 +10,7 @@ mod raw_name;
 mod raw_routine;
 mod raw_stmt;
 
+pub use raw_bounds::RawBounds;
 pub use raw_datum::{DatumKind, RawDatum};
 pub use raw_expr::{Operator, RawArg, RawExpr, RawExprForm, RawPlace};
 pub use raw_module::{Attribute, RawItem, RawModule};

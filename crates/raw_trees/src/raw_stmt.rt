@@ -5,6 +5,7 @@ ghost use Rattle.raw_trees.specs.Plain;
 ghost use Rattle.raw_trees.specs.Plain.{args_of, arms_of, cases_of, else_of, stmts_of};
 ghost use Rattle.raw_trees.specs.Views.{view_arg, view_arm, view_case, view_expr, view_list, view_name, view_place, view_stmt};
 
+use crate::raw_bounds::RawBounds;
 use crate::raw_expr::{RawArg, RawExpr, RawPlace};
 use crate::raw_name::RawName;
 use std::alloc::{AllocError, Global};
@@ -148,27 +149,21 @@ impl<'a> RawStmt<'a> {
         })
     }
 
-    /// FOR, from the first value to the last, by a step or none.
+    /// FOR, whose variable goes through these bounds. Its error says that memory was refused.
     pub fn for_loop(
+        alloc: Global,
         at: usize,
         name: RawName<'a>,
-        first: RawExpr<'a>,
-        last: RawExpr<'a>,
-        step: Option<RawExpr<'a>>,
+        bounds: RawBounds<'a>,
         list: Vec<RawStmt<'a>>,
-    ) -> RawStmt<'a>
-        ensures { view_stmt result ≡ Plain.For at (view_name name.entry) (view_expr first.entry) (view_expr last.entry) (option_map view_expr step.entry) (stmts_of (view_list list.entry)) }
+    ) -> Result<RawStmt<'a>, AllocError>
+        ensures { IfOk result (λ s. let b = bounds.entry in view_stmt s ≡ Plain.For at (view_name name.entry) (view_expr b.first) (view_expr b.last) (option_map view_expr b.step) (stmts_of (view_list list.entry))) }
     {
-        RawStmt {
+        let bounds = Box::new(alloc, bounds)?;
+        Ok(RawStmt {
             at,
-            form: RawForm::For {
-                name,
-                first,
-                last,
-                step,
-                list,
-            },
-        }
+            form: RawForm::For { name, bounds, list },
+        })
     }
 
     /// WHILE with its list.
@@ -237,9 +232,7 @@ pub enum RawForm<'a> {
     },
     For {
         name: RawName<'a>,
-        first: RawExpr<'a>,
-        last: RawExpr<'a>,
-        step: Option<RawExpr<'a>>,
+        bounds: Box<RawBounds<'a>>,
         list: Vec<RawStmt<'a>>,
     },
     While {

@@ -13,7 +13,7 @@ use crate::list::list;
 use crate::simple::simple;
 use rapid_forms::{Parser, Sign, SyntaxFault};
 use rapid_lexer::Token;
-use raw_trees::{RawExpr, RawStmt};
+use raw_trees::{RawBounds, RawExpr, RawStmt};
 
 /// IF with lists, or with one statement.
 #[cycle(stmt)]
@@ -147,12 +147,11 @@ pub(crate) fn for_loop<'a>(
     let (first, to) = expr_behind(p, from, left, Sign::From)?;
     let (last, by) = expr_behind(p, to, left, Sign::To)?;
     let (step, body) = step_if_any(p, by, left)?;
+    let bounds = RawBounds { first, last, step };
     let (list, close) = list_behind(p, body, left, Sign::Do)?;
     let (_end, end) = p.tokens.take(close, &[Sign::EndFor])?;
-    Ok((
-        RawStmt::for_loop(word.at, name, first, last, step, list),
-        end,
-    ))
+    let stmt = RawStmt::for_loop(p.alloc, word.at, name, bounds, list)?;
+    Ok((stmt, end))
 }
 
 /// The step of a FOR, if it has one.

@@ -7,6 +7,7 @@ use Rattle.std.specs.declared.vec.Vec.{Vec}
 use Rattle.raw_trees.specs.declared.raw_expr.Operator.{Operator}
 use Rattle.rapid_model.specs.declared.function.Function.{Function}
 use Rattle.rapid_model.specs.declared.sort.Sort.{Sort}
+use Rattle.typed_trees.specs.declared.bounds.Bounds.{Bounds}
 use Rattle.typed_trees.specs.declared.expr.Arg.{Arg}
 use Rattle.typed_trees.specs.declared.expr.Arg.TheBlock.{hidden-the_row-Expr-0, hidden-the_row-Arg-1, hidden-the_row-ExprForm-Chain-1-2-2}
 use Rattle.typed_trees.specs.declared.expr.Expr.{Expr}
@@ -100,10 +101,11 @@ test_view at value cases other =
       held_else other,
     )
 
-pub for_view : (at : ℕ) (local : ℕ) (first last : Expr) (step : Option Expr) (list : Vec Stmt Global) →
-    view_stmt_form at (For local first last step list)
-    ≡ Plain.For at local (view_expr first) (view_expr last) (option_map view_expr step) (stmts_of (view_list list))
-for_view at local first last step list = rw (hidden_stmts list)
+pub for_view : (at : ℕ) (local : ℕ) (bounds : Box Bounds Global) (list : Vec Stmt Global) →
+    let b = bounds.value in
+    view_stmt_form at (For local bounds list)
+    ≡ Plain.For at local (view_expr b.first) (view_expr b.last) (option_map view_expr b.step) (stmts_of (view_list list))
+for_view at local bounds list = rw (hidden_stmts list)
 
 pub while_view : (at : ℕ) (test : Expr) (list : Vec Stmt Global) →
     view_stmt_form at (While test list) ≡ Plain.While at (view_expr test) (stmts_of (view_list list))

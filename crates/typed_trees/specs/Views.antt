@@ -3,9 +3,10 @@ use Rattle.std.specs.Prelude.{ℕ, List, map, option_map}
 use Rattle.std.specs.declared.alloc.Global.{Global}
 use Rattle.std.specs.declared.vec.Vec.{Vec}
 use Rattle.rapid_model.specs.declared.sort.Sort.{Sort}
+use Rattle.rapid_model.specs.declared.value.Value.TheVariants.{Num}
 use Rattle.raw_trees.specs.declared.raw_expr.Operator.{Operator}
 use Rattle.typed_trees.specs.declared.expr.Expr.{Expr}
-use Rattle.typed_trees.specs.declared.expr.ExprForm.{ExprForm, Const, Errno, Signal, Place, Group', Aggregate', Builtin', Call', Not', Signed', Chain', Row_of-Expr, end_of-Expr, more_of-Expr, Row_of-Arg, end_of-Arg, more_of-Arg, Row_of-ExprForm-Chain-1-2, end_of-ExprForm-Chain-1-2, more_of-ExprForm-Chain-1-2}
+use Rattle.typed_trees.specs.declared.expr.ExprForm.{ExprForm, Number, Const, Errno, Signal, Place, Group', Aggregate', Builtin', Call', Not', Signed', Chain', Row_of-Expr, end_of-Expr, more_of-Expr, Row_of-Arg, end_of-Arg, more_of-Arg, Row_of-ExprForm-Chain-1-2, end_of-ExprForm-Chain-1-2, more_of-ExprForm-Chain-1-2}
 use Rattle.typed_trees.specs.declared.expr.Arg.{Arg, Value', Place as Lent', Signal as OfSignal', Meeting, Known, Option', Held-Arg-Option-1, Arg-Option-1-None', Arg-Option-1-Some'}
 use Rattle.typed_trees.specs.declared.expr.TreePlace.{TreePlace, TreePlace', Held-TreePlace-index, TreePlace-index-None', TreePlace-index-Some'}
 use Rattle.typed_trees.specs.declared.stmt.Stmt.{Stmt}
@@ -22,7 +23,8 @@ use Rattle.typed_trees.specs.Plain.{TypedExpr, TypedExprs, TypedSteps, TypedHeld
 abbrev mutual
   -- the expression of a form, at a byte and of a type
   pub view_form : ℕ → Sort → ExprForm → TypedExpr
-  view_form at sort (Const value) = Plain.Known at sort value
+  view_form at sort (Number number) = Plain.Known at sort (Num number)
+  view_form at sort (Const value) = Plain.Known at sort value.value
   view_form at sort Errno = Plain.ErrorNumber at sort
   view_form at sort (Signal signal) = Plain.SignalValue at sort signal
   view_form at sort (Place place) = Plain.Stored at sort (view_place place)
@@ -88,7 +90,7 @@ abbrev mutual
   view_stmt_form at (Connect place trap) = Plain.Connect at (view_place place) trap
   view_stmt_form at (If' shape row other) = Plain.If at (view_arms row) (view_else other)
   view_stmt_form at (IfOne' test pointer begin form) = Plain.IfOne at (view_expr test) (view_stmt_form begin form)
-  view_stmt_form at (For' local first last step shape row) = Plain.For at local (view_expr first) (view_expr last) (option_map view_expr step) (view_stmts row)
+  view_stmt_form at (For' local bounds shape row) = Plain.For at local (view_expr bounds.value.first) (view_expr bounds.value.last) (option_map view_expr bounds.value.step) (view_stmts row)
   view_stmt_form at (While' test shape row) = Plain.While at (view_expr test) (view_stmts row)
   view_stmt_form at (Test' value shape row other) = Plain.Test at (view_expr value) (view_cases row) (view_else other)
 

@@ -6,6 +6,7 @@ ghost use Rattle.typed_trees.specs.Plain.{args_of, exprs_of, held_of, steps_of};
 ghost use Rattle.typed_trees.specs.Views.{view_arg, view_expr, view_place, view_step};
 
 use rapid_model::{Function, NameText, Predefined, Sort, Value};
+use rapid_num::Num;
 use rapid_values::PartName;
 use raw_trees::Operator;
 use std::alloc::{AllocError, Global};
@@ -23,8 +24,11 @@ pub struct Expr {
 #[derive(Drop)]
 #[cycle(typed_expr)]
 pub enum ExprForm {
-    /// A literal, a constant that is no array, or a predefined datum; of the latter two the part that is named.
-    Const(Value),
+    /// A num that is known before the run.
+    Number(Num),
+    /// Another value that is known before the run: a literal, a constant that is no array, or a predefined datum; of the
+    /// latter two the part that is named.
+    Const(Box<Value>),
     /// ERRNO.
     Errno,
     /// The value, 0 or 1, of a signal, by its number in the script.
@@ -99,12 +103,15 @@ pub struct TreePlace {
 }
 
 impl Expr {
-    /// A value that is known before the run.
-    pub fn constant(at: usize, sort: Sort, value: Value) -> Expr
-        ensures { view_expr result ≡ Plain.Known at sort value }
+    /// A value that is known before the run. Its error says that memory was refused.
+    pub fn constant(alloc: Global, at: usize, sort: Sort, value: Value) -> Result<Expr, AllocError>
+        ensures { IfOk result (λ e. view_expr e ≡ Plain.Known at sort value) }
     {
-        let form = ExprForm::Const(value);
-        Expr { at, sort, form }
+        let form = match value {
+            Value::Num(number) => ExprForm::Number(number),
+            other => ExprForm::Const(Box::new(alloc, other)?),
+        };
+        Ok(Expr { at, sort, form })
     }
 
     /// The number of the last error of the task.

@@ -2,6 +2,7 @@
 //! begins.
 #![tactic(auto)]
 
+mod bounds;
 mod data_rows;
 mod datum;
 mod expr;
@@ -9,6 +10,7 @@ mod routine;
 mod stmt;
 mod tree;
 
+pub use bounds::Bounds;
 pub use data_rows::{PersRow, SlotRow};
 pub use datum::{Datum, Lvalue, Root};
 pub use expr::{Arg, Expr, ExprForm, TreePlace, TreeRoot};

@@ -5,6 +5,7 @@ ghost use Rattle.typed_trees.specs.Plain;
 ghost use Rattle.typed_trees.specs.Plain.{args_of, arms_of, cases_of, else_of, stmts_of};
 ghost use Rattle.typed_trees.specs.Views.{view_arg, view_arm, view_case, view_expr, view_list, view_place, view_stmt};
 
+use crate::bounds::Bounds;
 use crate::expr::{Arg, Expr, TreePlace};
 use rapid_model::Instruction;
 use std::alloc::{AllocError, Global};
@@ -57,9 +58,7 @@ pub enum Form {
     },
     For {
         local: u32,
-        first: Expr,
-        last: Expr,
-        step: Option<Expr>,
+        bounds: Box<Bounds>,
         list: Vec<Stmt>,
     },
     While {
@@ -188,25 +187,23 @@ impl Stmt {
         Stmt { at, form }
     }
 
-    /// FOR, whose variable is this place of the routine; the step is none where STEP is left out.
+    /// FOR, whose variable is this place of the routine. Its error says that memory was refused.
     pub fn count(
+        alloc: Global,
         at: usize,
         local: u32,
-        first: Expr,
-        last: Expr,
-        step: Option<Expr>,
+        bounds: Bounds,
         list: Vec<Stmt>,
-    ) -> Stmt
-        ensures { view_stmt result ≡ Plain.For at local (view_expr first) (view_expr last) (option_map view_expr step) (stmts_of (view_list list)) }
+    ) -> Result<Stmt, AllocError>
+        ensures { IfOk result (λ s. let b = bounds in view_stmt s ≡ Plain.For at local (view_expr b.first) (view_expr b.last) (option_map view_expr b.step) (stmts_of (view_list list))) }
     {
+        let bounds = Box::new(alloc, bounds)?;
         let form = Form::For {
             local,
-            first,
-            last,
-            step,
+            bounds,
             list,
         };
-        Stmt { at, form }
+        Ok(Stmt { at, form })
     }
 
     /// TEST with its CASEs and DEFAULT.

@@ -1,4 +1,4 @@
-use Rattle.std.proofs.Common.{◌≡◌, ◌∙◌, ◌++◌, Ok, ap, map, option_map, sym}
+use Rattle.std.proofs.Common.{◌∙◌, ◌++◌, Ok, ap, map, option_map}
 use Rattle.std.proofs.lemmas.List.{append-nil}
 use Rattle.raw_trees.specs.Plain.{else_of}
 use Rattle.raw_trees.specs.Views.{view_list, view_name}
@@ -23,7 +23,7 @@ with_stmt-returns-in-None t c =
 
 pub with_stmt-returns-in-For : goal.with_stmt-returns-in-For
 with_stmt-returns-in-For t c =
-    along _ c.with_list-in-For.result _ _ (ap (λ xs. Ok (map view_name c.args.labels.items ++ xs)) (for_labels c.args.raw.now c.in-For.name c.in-For.first c.in-For.last c.in-For.step c.in-For.list c.in-For.is)) c.with_list-in-For.ensures
+    along _ c.with_list-in-For.result _ _ (ap (λ xs. Ok (map view_name c.args.labels.items ++ xs)) (for_labels c.args.raw.now c.in-For.name c.in-For.bounds c.in-For.list c.in-For.is)) c.with_list-in-For.ensures
 
 pub with_stmt-returns-in-While : goal.with_stmt-returns-in-While
 with_stmt-returns-in-While t c =

@@ -1,4 +1,4 @@
-use Rattle.std.proofs.Common.{◌≡◌, ◌∙◌, ◌+◌, List, [], ◌∷◌, ◌++◌, ap, drop, map, subst, sym}
+use Rattle.std.proofs.Common.{◌≡◌, ◌∙◌, ◌+◌, List, ap, drop, map, subst, sym}
 use Rattle.std.proofs.lemmas.List.{map_push}
 use Rattle.raw_trees.specs.Views.{view_expr as view_raw}
 use Rattle.typed_trees.specs.declared.expr.Expr.{Expr}

@@ -1,10 +1,8 @@
-use Rattle.std.proofs.Common.{◌≡◌, ◌∙◌, ℕ, ◌+◌, List, [], ◌∷◌, ◌++◌, Ok, Some, ap, drop, map, option_map, refl, subst, sym}
+use Rattle.std.proofs.Common.{◌≡◌, ◌∙◌, ℕ, ◌+◌, List, Ok, Some, ap, drop, map, option_map, refl, subst, sym}
 use Rattle.std.proofs.lemmas.List.{map_push}
 use Rattle.std.specs.declared.alloc.Global.{Global}
 use Rattle.std.specs.declared.vec.Vec.{Vec}
 use Rattle.raw_trees.specs.declared.raw_expr.Operator.TheVariants as operators
-use Rattle.raw_trees.specs.declared.raw_expr.RawExpr.{RawExpr}
-use Rattle.raw_trees.specs.declared.raw_stmt.RawStmt.{RawStmt}
 use Rattle.raw_trees.specs.Plain.{arms_of as raw_arms_of, cases_of as raw_cases_of, stmts_of as raw_stmts_of}
 use Rattle.raw_trees.specs.Views.{view_arm as view_raw_arm, view_case as view_raw_case, view_expr as view_raw, view_stmt as view_raw_stmt}
 use Rattle.rapid_model.specs.declared.sort.Sort.TheVariants as sorts
@@ -14,12 +12,11 @@ use Rattle.typed_trees.specs.Plain
 use Rattle.typed_trees.specs.Plain.{TypedExpr, stmts_of}
 use Rattle.typed_trees.specs.Views.{view_arm, view_case, view_expr, view_list, view_stmt}
 use Rattle.data_scopes.specs.Declarations.{Checked, ◌>>=◌}
-use Rattle.data_scopes.specs.Gives.{Fails}
 use Rattle.named_data.specs.declared.wanted.Wanted.TheVariants.{Is, Fits}
 use Rattle.named_data.specs.Views.{view_site}
 use Rattle.expr_types.specs.Typing.{typed, sort_of}
-use Rattle.body_types.specs.Bodies.{Bounds, Typed, bounds, branches, case_values, choices, counter_place, otherwise, site, stmt, stmts, with_next}
-use Rattle.body_types.specs.Parts.{arms_in, cases_in, else_in}
+use Rattle.body_types.specs.Bodies.{Bounds, Typed, bounds, branches, case_values, choices, counter_place, otherwise, stmt, stmts, with_next}
+use Rattle.body_types.specs.Parts.{cases_in, else_in}
 use Rattle.body_types.specs.Views.{view_around, view_body, view_bounds, view_typed_arms, view_typed_cases, view_typed_else, view_typed_list, view_typed_one}
 use Rattle.expr_types.proofs.Loops.{behind, stops, then_more}
 use Rattle.expr_types.proofs.Shapes.{exits, sort_view}
@@ -235,16 +232,16 @@ stmt-returns-in_err-list-in-For t c =
     let list = c.in-For.list in
     let b = view_bounds c.in_ok-bounds-in-For.bounds in
     let behind_number : next + 1 ≡ c.in_ok-after-in-For.field-0 = cc c.in_ok-after-in-For.ensures in
-    let found = stmt_for body s around next c.in-For.name c.in-For.first c.in-For.last c.in-For.step list c.in-For.is
-    ∙ ap (λ there. bounds there (view_raw c.in-For.first) (view_raw c.in-For.last) (option_map view_raw c.in-For.step) >>= (λ b. inside body (record around { within = Some next }) list (next + 1) >>= as_for body s.at next b)) (sym c.site_at-site.ensures)
+    let found = stmt_for body s around next c.in-For.name c.in-For.bounds list c.in-For.is
+    ∙ ap (λ there. bounds there (view_raw c.in-For.bounds.value.first) (view_raw c.in-For.bounds.value.last) (option_map view_raw c.in-For.bounds.value.step) >>= (λ b. inside body (record around { within = Some next }) list (next + 1) >>= as_for body s.at next b)) (sym c.site_at-site.ensures)
     ∙ ap (λ (r : Checked Bounds). r >>= (λ b. inside body (record around { within = Some next }) list (next + 1) >>= as_for body s.at next b)) c.in_ok-bounds-in-For.ensures
     ∙ ap (λ n. inside body (record around { within = Some next }) list n >>= as_for body s.at next b) behind_number
     ∙ ap (λ a. inside body a list c.in_ok-after-in-For.field-0 >>= as_for body s.at next b) (sym c.in_loop.ensures) in
     exits view_typed_one c.from_residual-in_err-list-in-For.result c.in_err-list-in-For.field-0.0 _ c.from_residual-in_err-list-in-For.ensures.1
     (stops (λ (r : Checked (Typed Plain.TypedStmts)). r >>= as_for body s.at next b) (λ b. refl) c.in_err-list-in-For.field-0.0 (inside body (view_around c.in_loop.result) list c.in_ok-after-in-For.field-0) _ found c.in_err-list-in-For.ensures)
 
-pub stmt-returns-in_ok-list-in-For : goal.stmt-returns-in_ok-list-in-For
-stmt-returns-in_ok-list-in-For t c =
+pub stmt-returns-in_ok-tree-in-For : goal.stmt-returns-in_ok-tree-in-For
+stmt-returns-in_ok-tree-in-For t c =
     let body = view_body c.args.body.now in
     let around = view_around c.args.around.now in
     let s = c.args.raw.now in
@@ -252,8 +249,8 @@ stmt-returns-in_ok-list-in-For t c =
     let list = c.in-For.list in
     let b = view_bounds c.in_ok-bounds-in-For.bounds in
     let behind_number : next + 1 ≡ c.in_ok-after-in-For.field-0 = cc c.in_ok-after-in-For.ensures in
-    let found = stmt_for body s around next c.in-For.name c.in-For.first c.in-For.last c.in-For.step list c.in-For.is
-    ∙ ap (λ there. bounds there (view_raw c.in-For.first) (view_raw c.in-For.last) (option_map view_raw c.in-For.step) >>= (λ b. inside body (record around { within = Some next }) list (next + 1) >>= as_for body s.at next b)) (sym c.site_at-site.ensures)
+    let found = stmt_for body s around next c.in-For.name c.in-For.bounds list c.in-For.is
+    ∙ ap (λ there. bounds there (view_raw c.in-For.bounds.value.first) (view_raw c.in-For.bounds.value.last) (option_map view_raw c.in-For.bounds.value.step) >>= (λ b. inside body (record around { within = Some next }) list (next + 1) >>= as_for body s.at next b)) (sym c.site_at-site.ensures)
     ∙ ap (λ (r : Checked Bounds). r >>= (λ b. inside body (record around { within = Some next }) list (next + 1) >>= as_for body s.at next b)) c.in_ok-bounds-in-For.ensures
     ∙ ap (λ n. inside body (record around { within = Some next }) list n >>= as_for body s.at next b) behind_number
     ∙ ap (λ a. inside body a list c.in_ok-after-in-For.field-0 >>= as_for body s.at next b) (sym c.in_loop.ensures) in
@@ -261,7 +258,7 @@ stmt-returns-in_ok-list-in-For t c =
     let place : counter_place body next ≡ c.in_ok-local-in-For.local = cc c.in_ok-local-in-For.ensures in
     found ∙ ap (λ (r : Checked (Typed Plain.TypedStmts)). r >>= as_for body s.at next b) c.in_ok-list-in-For.ensures
     ∙ ap (λ p. Ok (with_next typed_list.next (Plain.For s.at p b.first b.last b.step (stmts_of (view_list typed_list.list))))) place
-    ∙ ap (λ tree. Ok (with_next typed_list.next tree)) (sym c.counted.ensures) ∙ ap Ok (sym c.with_next-in-For.ensures)
+    ∙ ap (λ tree. Ok (with_next typed_list.next tree)) (sym c.in_ok-tree-in-For.ensures) ∙ ap Ok (sym c.with_next-in-For.ensures)
 
 pub stmt-returns-in_err-list-in-While : goal.stmt-returns-in_err-list-in-While
 stmt-returns-in_err-list-in-While t c =

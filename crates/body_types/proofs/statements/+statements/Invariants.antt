@@ -1,7 +1,6 @@
 use Rattle.std.proofs.Common.{◌≡◌, map, drop}
 use Rattle.raw_trees.specs.Plain.{arms_of as raw_arms_of, cases_of as raw_cases_of, stmts_of as raw_stmts_of}
 use Rattle.raw_trees.specs.Views.{view_arm as view_raw_arm, view_case as view_raw_case, view_stmt as view_raw_stmt}
-use Rattle.typed_trees.specs.Plain.{stmts_of}
 use Rattle.typed_trees.specs.Views.{view_stmt}
 use Rattle.named_data.specs.Views.{view_site}
 use Rattle.body_types.specs.Bodies.{branches, choices, stmts}

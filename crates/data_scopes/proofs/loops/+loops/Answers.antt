@@ -10,7 +10,7 @@ use Rattle.data_scopes.proofs.loops.+loops.Goals as goal
 pub push_loops-returns-in_ok-push-in-For-clause-ok : goal.push_loops-returns-in_ok-push-in-For-clause-ok
 push_loops-returns-in_ok-push-in-For-clause-ok t c =
     let counted : c.in-Ok.number ≡ length c.args.rows.now.items = omega (arith, c.in-Ok.ensures.1, c.len.ensures, c.args.rows.now.ok) in
-    let done = for_rows c.args.stmt.now c.args.outer c.args.rows.now.items c.push.new.self.items c.in-For.name c.in-For.first c.in-For.last c.in-For.step c.in-For.list c.in_ok-new-in-For.field-0 c.in-Ok.number c.in-For.is counted c.in_ok-push-in-For.ensures.items c.in_ok-new-in-For.ensures.ok in
+    let done = for_rows c.args.stmt.now c.args.outer c.args.rows.now.items c.push.new.self.items c.in-For.name c.in-For.bounds c.in-For.list c.in_ok-new-in-For.field-0 c.in-Ok.number c.in-For.is counted c.in_ok-push-in-For.ensures.items c.in_ok-new-in-For.ensures.ok in
     on_ok_weaker c.push_list.result (λ is. is ∙ done) c.push_list.ensures.ok
 
 pub push_loops-returns-in-Some-clause-ok : goal.push_loops-returns-in-Some-clause-ok
