@@ -1,5 +1,5 @@
 -- What a grammar sees of a token: its sign.
-use Rattle.std.specs.Prelude.{ℕ, Bool, false, List, [], ◌∷◌, codes, ◌==◌, if◌then◌else◌}
+use Rattle.std.specs.Prelude.{ℕ, Bool, false, Option, None, Some, List, [], ◌∷◌, codes, ◌==◌, if◌then◌else◌}
 use Rattle.std.specs.List.{list_any}
 use Rattle.std.specs.Str.{str_eq_ignore_ascii_case}
 use Rattle.rapid_lexer.specs.declared.kind.Kind.{Kind}
@@ -144,7 +144,16 @@ code Xor = 84
 unfoldable pub has : List Sign → Sign → Bool
 has signs sign = list_any (λ s. code s == code sign) signs
 
+-- the sign of the first of some tokens, if there is one
+abbrev pub first_sign : List Lexeme → Option Sign
+first_sign [] = None
+first_sign (t ∷ ts) = Some (sign_of t)
+
+-- there is a sign, and it is one of these
+abbrev pub is_seen : List Sign → Option Sign → Bool
+is_seen signs None = false
+is_seen signs (Some sign) = has signs sign
+
 -- the first of some tokens has one of these signs
 unfoldable pub begins_with : List Sign → List Lexeme → Bool
-begins_with signs [] = false
-begins_with signs (t ∷ ts) = has signs (sign_of t)
+begins_with signs ts = is_seen signs (first_sign ts)

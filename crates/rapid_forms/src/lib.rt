@@ -14,7 +14,7 @@ pub use fault::{SyntaxFault, SyntaxRule};
 pub use parser::Parser;
 pub use sign::Sign;
 pub use signs::sign_of;
-pub use tokens::Tokens;
+pub use tokens::{Tokens, is_seen};
 
 #[cfg(test)]
 mod tests;

@@ -1,8 +1,8 @@
 //! The steps of a parser over tokens.
 
-ghost use Rattle.std.specs.Prelude.{◌≡◌, if◌then◌else◌};
+ghost use Rattle.std.specs.Prelude.{◌≡◌, ◌∷◌, [], if◌then◌else◌};
 ghost use Rattle.rapid_lexer.specs.Tokens.{view};
-ghost use Rattle.rapid_forms.specs.Signs.{begins_with, has};
+ghost use Rattle.rapid_forms.specs.Signs.{begins_with, first_sign, has, is_seen};
 ghost use Rattle.rapid_forms.specs.Forms.{place};
 ghost use Rattle.rapid_forms.specs.Parsed.{depth_fault, place_or, syntax_fault};
 ghost use Rattle.rapid_forms.specs.Reading.{Gives, one_read, rest_from};
@@ -30,7 +30,27 @@ fn is_one_of(sign: Sign, signs: &[Sign]) -> bool
     false
 }
 
+/// Whether there is a sign, and it is this one.
+pub fn is_seen(seen: Option<Sign>, sign: Sign) -> bool
+    ensures { result ≡ is_seen (sign ∷ []) seen }
+{
+    match seen {
+        Some(other) => is_one_of(other, &[sign]),
+        None => false,
+    }
+}
+
 impl<'t, 'a> Tokens<'t, 'a> {
+    /// The sign of token `at`, if it is there.
+    pub fn sign(&self, at: usize) -> Option<Sign>
+        ensures { result ≡ first_sign (rest_from self.now at) }
+    {
+        match self.list.get(at) {
+            Some(token) => Some(sign_of(token)),
+            None => None,
+        }
+    }
+
     /// Whether token `at` is there and has one of these signs.
     pub fn sees(&self, at: usize, signs: &[Sign]) -> bool
         ensures { result ≡ begins_with signs.now (rest_from self.now at) }

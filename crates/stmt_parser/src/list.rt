@@ -8,7 +8,7 @@ ghost use Rattle.stmt_parser.specs.Reads.{items_read, list_read, stmt_read};
 use crate::blocks::{choice, choice_or_one, for_loop, while_loop};
 use crate::named::named;
 use crate::simple::worded;
-use rapid_forms::{Parser, Sign, SyntaxFault};
+use rapid_forms::{Parser, Sign, SyntaxFault, is_seen};
 use raw_trees::RawStmt;
 
 static STMT_SIGNS: [Sign; 12] = [
@@ -68,24 +68,25 @@ pub(crate) fn items<'a>(
 
 /// A statement.
 #[cycle(stmt)]
-#[tactic(auto, unfolding(crate::specs::Reads::stmt_read, crate::specs::Reads::stmt_of_read, rapid_forms::specs::Reading::either_read))]
+#[tactic(auto, unfolding(crate::specs::Reads::stmt_read, crate::specs::Reads::stmt_of_read, rapid_forms::specs::Reading::either_read, rapid_forms::specs::Signs::begins_with))]
 fn stmt<'a>(p: &Parser<'_, 'a>, at: usize, left: u32) -> Result<(RawStmt<'a>, usize), SyntaxFault>
     requires { left ≤ 64 }
     ensures { Gives p.now.tokens view_stmt result (stmt_read left (rest_from p.now.tokens at)) }
 {
-    if p.tokens.sees(at, &[Sign::Name]) {
+    let sign = p.tokens.sign(at);
+    if is_seen(sign, Sign::Name) {
         return named(p, at, left);
     }
-    if p.tokens.sees(at, &[Sign::If]) {
+    if is_seen(sign, Sign::If) {
         return choice_or_one(p, at, left);
     }
-    if p.tokens.sees(at, &[Sign::For]) {
+    if is_seen(sign, Sign::For) {
         return for_loop(p, at, left);
     }
-    if p.tokens.sees(at, &[Sign::While]) {
+    if is_seen(sign, Sign::While) {
         return while_loop(p, at, left);
     }
-    if p.tokens.sees(at, &[Sign::Test]) {
+    if is_seen(sign, Sign::Test) {
         return choice(p, at, left);
     }
     worded(p, at, left)

@@ -8,7 +8,7 @@ ghost use Rattle.stmt_parser.specs.Reads.{connect_read, exit_read, goto_read, ra
 
 use crate::exprs::{expr, name, parts};
 use crate::named::named_simple;
-use rapid_forms::{Parser, Sign, SyntaxFault};
+use rapid_forms::{Parser, Sign, SyntaxFault, is_seen};
 use raw_trees::{RawExpr, RawPlace, RawStmt};
 
 /// A statement that has no list and is no label.
@@ -28,7 +28,7 @@ pub(crate) fn simple<'a>(
 }
 
 /// A statement without lists that begins with a reserved word.
-#[tactic(auto, unfolding(crate::specs::Reads::worded_read, rapid_forms::specs::Reading::either_read))]
+#[tactic(auto, unfolding(crate::specs::Reads::worded_read, rapid_forms::specs::Reading::either_read, rapid_forms::specs::Signs::begins_with))]
 pub(crate) fn worded<'a>(
     p: &Parser<'_, 'a>,
     at: usize,
@@ -37,22 +37,23 @@ pub(crate) fn worded<'a>(
     requires { left ≤ 64 }
     ensures { Gives p.now.tokens view_stmt result (worded_read (inside_read left) (rest_from p.now.tokens at)) }
 {
-    if p.tokens.sees(at, &[Sign::Goto]) {
+    let sign = p.tokens.sign(at);
+    if is_seen(sign, Sign::Goto) {
         return goto(p, at);
     }
-    if p.tokens.sees(at, &[Sign::Return]) {
+    if is_seen(sign, Sign::Return) {
         return returns(p, at, left);
     }
-    if p.tokens.sees(at, &[Sign::Exit]) {
+    if is_seen(sign, Sign::Exit) {
         return exit(p, at);
     }
-    if p.tokens.sees(at, &[Sign::Raise]) {
+    if is_seen(sign, Sign::Raise) {
         return raise(p, at, left);
     }
-    if p.tokens.sees(at, &[Sign::Retry]) {
+    if is_seen(sign, Sign::Retry) {
         return retry(p, at);
     }
-    if p.tokens.sees(at, &[Sign::TryNext]) {
+    if is_seen(sign, Sign::TryNext) {
         return try_next(p, at);
     }
     connect(p, at, left)
