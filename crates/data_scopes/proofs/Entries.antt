@@ -34,6 +34,11 @@ too_long name inside scope is short long =
 pub found : (name : List ℕ) (key : ArrayVec ℕ) (es : List (ArrayVec ℕ × Meant)) (scope : Scope) → map entry_of es ≡ scope → key.items ≡ str_to_ascii_lowercase name → lookup (is_key key) es ≡ meant_in name scope
 found name key es scope is folded = found_by key es ∙ ap (λ k. meant_by k (map entry_of es)) folded ∙ ap (meant_in name) is
 
+-- a scope without names tells nothing
+pub nowhere : (name : List ℕ) (es : List (ArrayVec ℕ × Meant)) (scope : Scope) → map entry_of es ≡ scope → length es ≡ 0 → None ≡ meant_in name scope
+nowhere name [] scope is none = ap (meant_in name) is
+nowhere name (e ∷ es) scope is none = absurd (omega (arith, none))
+
 pub present : (name : List ℕ) (meant : Meant) (key : ArrayVec ℕ) (es : List (ArrayVec ℕ × Meant)) (scope : Scope) → map entry_of es ≡ scope → key.items ≡ str_to_ascii_lowercase name → true ≡ is_some (lookup (is_key key) es) → scope ≡ declare name meant scope
 present name meant key es scope is folded there =
     let here : true ≡ is_some (meant_in name scope) = there ∙ ap is_some (found name key es scope is folded) in

@@ -42,6 +42,9 @@ impl Table {
         ensures { result ≡ meant_in name.now self.now }
     {
         let entries = &self.entries;
+        if entries.is_empty() {
+            return None;
+        }
         let key = key_of(name)?;
         entries.get(&key).copied()
     }

@@ -1,6 +1,9 @@
 use Rattle.std.proofs.Common.{sym, ◌∙◌}
-use Rattle.data_scopes.proofs.Entries.{found, too_long}
+use Rattle.data_scopes.proofs.Entries.{found, nowhere, too_long}
 use Rattle.data_scopes.proofs.table.Table.find.Goals as goal
+
+pub returns-then-is_empty : goal.returns-then-is_empty
+returns-then-is_empty c = nowhere _ c.self.inside.entries.entries _ c.self.view_is (c.is_empty.ensures.0 c.if-is_empty.true)
 
 pub returns-in_err-key : goal.returns-in_err-key
 returns-in_err-key c = c.from_residual.ensures ∙ sym (too_long _ _ _ c.self.view_is c.self.invariant c.in_err-key.ensures)
