@@ -17,15 +17,14 @@ mod items;
 mod known;
 mod lengths;
 mod locals;
-mod names;
 mod numbers;
 mod progress;
 mod single;
 mod sites;
 
 use crate::items::items;
-use crate::numbers::next;
 use data_scopes::{Scopes, TypeFault};
+use named_data::next;
 pub use progress::Progress;
 use raw_trees::RawModule;
 use std::alloc::Global;

@@ -1,31 +1,9 @@
-//! The numbers of data, and how many values they have.
+//! How many values data have.
 
 ghost use Rattle.std.specs.Prelude.{◌≡◌, ◌+◌, IfOk, IfErr};
 ghost use Rattle.data_scopes.specs.declared.fault.TypeFault.TheVariants.{Memory};
 
 use data_scopes::TypeFault;
-
-/// The number behind this one.
-pub(crate) fn next(number: u32) -> Result<u32, TypeFault>
-    ensures ok { IfOk result (λ n. n ≡ number + 1) }
-    ensures err { IfErr result (λ e. e ≡ Memory) }
-{
-    match number.checked_add(1) {
-        Some(n) => Ok(n),
-        None => Err(TypeFault::Memory),
-    }
-}
-
-/// How many there are, which is the number of the one behind them.
-pub(crate) fn number_of(count: usize) -> Result<u32, TypeFault>
-    ensures ok { IfOk result (λ n. n ≡ count) }
-    ensures err { IfErr result (λ e. e ≡ Memory) }
-{
-    match u32::try_from(count) {
-        Ok(number) => Ok(number),
-        Err(_) => Err(TypeFault::Memory),
-    }
-}
 
 /// So many values more.
 pub(crate) fn more_values(values: usize, more: usize) -> Result<usize, TypeFault>

@@ -12,11 +12,10 @@ ghost use Rattle.named_data.specs.Views.{view_site};
 ghost use Rattle.expr_types.specs.Calls;
 ghost use Rattle.expr_types.specs.Views.{view_taking};
 
-use crate::literals::name_text;
 use crate::taking::{Taking, is_excluded};
 use builtin_calls::{InstructionOption, Need};
 use data_scopes::{TypeFault, TypeRule};
-use named_data::{Site, fault, must};
+use named_data::{Site, fault, must, name_text};
 use typed_trees::Arg;
 
 /// An option without a value, whose backslash is at this byte.

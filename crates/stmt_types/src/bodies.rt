@@ -8,11 +8,11 @@ ghost use Rattle.data_scopes.specs.Gives.{Gives};
 ghost use Rattle.stmt_types.specs.Task;
 ghost use Rattle.stmt_types.specs.Views.{view_routines, HasLeft};
 
-use crate::numbers::{next, number_of};
 use crate::routine::typed_routine;
 use crate::routine_data::RoutineData;
 use crate::routine_list::RoutineList;
 use data_scopes::{Scopes, TypeFault};
+use named_data::{next, number_of};
 use raw_trees::{RawItem, RawModule};
 use std::alloc::Global;
 use typed_trees::{LocalRow, Routine};

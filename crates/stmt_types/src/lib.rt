@@ -6,7 +6,6 @@ mod check;
 mod main_routine;
 mod meetings;
 mod names;
-mod numbers;
 mod params;
 mod routine;
 mod routine_data;

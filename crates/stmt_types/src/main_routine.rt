@@ -6,9 +6,8 @@ ghost use Rattle.named_data.specs.Views.{view_site};
 ghost use Rattle.data_scopes.specs.Gives.{Gives};
 ghost use Rattle.stmt_types.specs.Task;
 
-use crate::numbers::next;
 use data_scopes::{TypeFault, TypeRule};
-use named_data::{Site, fault};
+use named_data::{Site, fault, next};
 use raw_trees::{RawItem, RawModule, RawRoutine, RoutineKind};
 
 /// Whether a routine of the kind is a procedure.

@@ -6,8 +6,8 @@ ghost use Rattle.typed_trees.specs.Views.{view_param};
 ghost use Rattle.data_scopes.specs.Gives.{Gives};
 ghost use Rattle.stmt_types.specs.Task;
 
-use crate::names::name_text;
 use data_scopes::{ParamRow, TypeFault};
+use named_data::name_text;
 use raw_trees::RawParam;
 use std::alloc::Global;
 use typed_trees::Param;

@@ -9,10 +9,10 @@ ghost use Rattle.data_scopes.specs.Scopes.{list_at};
 ghost use Rattle.body_types.specs.Views.{view_body};
 ghost use Rattle.stmt_types.specs.Task;
 
-use crate::names::name_text;
 use crate::params::typed_params;
 use body_types::{Body, labels_of, typed_list};
 use data_scopes::{Scopes, TypeFault};
+use named_data::name_text;
 use raw_trees::{RawRoutine, RawStmt};
 use std::alloc::Global;
 use typed_trees::{LocalRow, Routine, Stmt};

@@ -1,5 +1,5 @@
 use Rattle.std.proofs.Common.{◌≡◌, take}
-use Rattle.data_types.proofs.names.name_text.Given as goal
+use Rattle.named_data.proofs.names.name_text.Given as goal
 
 abbrev pub invariant-loop-byte : goal.invariant-loop-byte
 invariant-loop-byte l = l.name ≡ take l.byte-index l.text

@@ -1,12 +1,12 @@
-//! Numbers of modules and routines, from 0.
+//! Numbers of what is declared, from 0.
 
 ghost use Rattle.std.specs.Prelude.{◌≡◌, ◌+◌, IfOk, IfErr};
 ghost use Rattle.data_scopes.specs.declared.fault.TypeFault.TheVariants.{Memory};
 
 use data_scopes::TypeFault;
 
-/// The number behind this one.
-pub(crate) fn next(number: u32) -> Result<u32, TypeFault>
+/// The number behind this one. Its error is want of memory, also for a number past 32 bits.
+pub fn next(number: u32) -> Result<u32, TypeFault>
     ensures ok { IfOk result (λ n. n ≡ number + 1) }
     ensures err { IfErr result (λ e. e ≡ Memory) }
 {
@@ -16,8 +16,8 @@ pub(crate) fn next(number: u32) -> Result<u32, TypeFault>
     }
 }
 
-/// The number of what comes behind so many.
-pub(crate) fn number_of(count: usize) -> Result<u32, TypeFault>
+/// The number of what comes behind so many. Its error is want of memory, also for a number past 32 bits.
+pub fn number_of(count: usize) -> Result<u32, TypeFault>
     ensures ok { IfOk result (λ n. n ≡ count) }
     ensures err { IfErr result (λ e. e ≡ Memory) }
 {

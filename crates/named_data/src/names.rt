@@ -1,13 +1,14 @@
-//! The names of data.
+//! Names of typed trees.
 
-ghost use Rattle.std.specs.Prelude.{◌≡◌};
+ghost use Rattle.std.specs.Prelude.{Ok};
 ghost use Rattle.data_scopes.specs.Gives.{Gives};
 
 use data_scopes::TypeFault;
 use rapid_model::NameText;
 
-/// The name as it is spelled. Its error is want of memory, also where the name has more than 32 letters.
-pub(crate) fn name_text(text: &[u8]) -> Result<NameText, TypeFault>
+/// The name as it is spelled. Its error is want of memory, also where the name has more than 32 bytes or others than printable
+/// ones.
+pub fn name_text(text: &[u8]) -> Result<NameText, TypeFault>
     ensures { Gives (λ name. name) result (Ok text.now) }
 {
     let mut name = NameText::new();
