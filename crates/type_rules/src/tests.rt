@@ -9,289 +9,129 @@ use std::alloc::Global;
 use std::process::Abort;
 use std::test::Fail;
 
-/// Rows of one rule.
-fn walk(
-    rt: &impl Abort,
+/// Walks rows of one frame.
+#[derive(Clone, Copy)]
+struct Walk<'a, R: Abort> {
+    rt: &'a R,
     alloc: Global,
     frame: Frame,
-    rule: TypeRule,
-    rows: &[Row],
-) -> Result<(), Fail> {
-    for (k, (first, second)) in rows.iter().enumerate() {
-        let told = row_is_told(alloc, frame, first, second, rule)?;
-        assert!(rt; told, "{rule:?}, row {k} from 0");
-    }
-    Ok(())
 }
 
-/// Rows that name their rules.
-fn walk_ruled(rt: &impl Abort, alloc: Global, frame: Frame, rows: &[Ruled]) -> Result<(), Fail> {
-    for (k, (first, second, rule)) in rows.iter().enumerate() {
-        let told = row_is_told(alloc, frame, first, second, *rule)?;
-        assert!(rt; told, "{rule:?}, row {k} from 0");
+impl<'a, R: Abort> Walk<'a, R> {
+    fn new(rt: &'a R, alloc: Global, frame: Frame) -> Walk<'a, R> {
+        Walk { rt, alloc, frame }
     }
-    Ok(())
+
+    /// Rows of one rule.
+    fn all(&self, rule: TypeRule, rows: &[Row]) -> Result<(), Fail> {
+        let rt = self.rt;
+        for (k, (first, second)) in rows.iter().enumerate() {
+            let told = row_is_told(self.alloc, self.frame, first, second, rule)?;
+            assert!(rt; told, "{rule:?}, row {k} from 0");
+        }
+        Ok(())
+    }
+
+    /// Rows that name their rules.
+    fn ruled(&self, rows: &[Ruled]) -> Result<(), Fail> {
+        let rt = self.rt;
+        for (k, (first, second, rule)) in rows.iter().enumerate() {
+            let told = row_is_told(self.alloc, self.frame, first, second, *rule)?;
+            assert!(rt; told, "{rule:?}, row {k} from 0");
+        }
+        Ok(())
+    }
 }
 
 #[test]
 fn rules_of_names(rt: HostRuntime) -> Result<(), Fail> {
-    let alloc = rt.alloc();
-    walk(
-        &rt,
-        alloc,
-        Frame::Arm,
-        TypeRule::NameTwice,
-        &names::NAME_TWICE,
-    )?;
-    walk(
-        &rt,
-        alloc,
-        Frame::Arm,
-        TypeRule::NameTaken,
-        &names::NAME_TAKEN,
-    )?;
-    walk(&rt, alloc, Frame::Arm, TypeRule::NoName, &names::NO_NAME)?;
-    walk(
-        &rt,
-        alloc,
-        Frame::Modules,
-        TypeRule::NoName,
-        &names::LOCAL_NAMES,
-    )?;
-    walk(
-        &rt,
-        alloc,
-        Frame::Modules,
-        TypeRule::NameTwice,
-        &names::TASK_NAMES,
-    )?;
-    walk(&rt, alloc, Frame::Arm, TypeRule::NotThis, &names::NOT_THIS)?;
-    walk(
-        &rt,
-        alloc,
-        Frame::Arm,
-        TypeRule::ConstOrder,
-        &names::CONST_ORDER,
-    )?;
-    walk(
-        &rt,
-        alloc,
-        Frame::Modules,
-        TypeRule::ConstOrder,
-        &names::MODULE_CONSTS,
-    )?;
+    let arm = Walk::new(&rt, rt.alloc(), Frame::Arm);
+    let modules = Walk::new(&rt, rt.alloc(), Frame::Modules);
+    arm.all(TypeRule::NameTwice, &names::NAME_TWICE)?;
+    arm.all(TypeRule::NameTaken, &names::NAME_TAKEN)?;
+    arm.all(TypeRule::NoName, &names::NO_NAME)?;
+    modules.all(TypeRule::NoName, &names::LOCAL_NAMES)?;
+    modules.all(TypeRule::NameTwice, &names::TASK_NAMES)?;
+    arm.all(TypeRule::NotThis, &names::NOT_THIS)?;
+    arm.all(TypeRule::ConstOrder, &names::CONST_ORDER)?;
+    modules.all(TypeRule::ConstOrder, &names::MODULE_CONSTS)?;
     Ok(())
 }
 
 #[test]
 fn rules_of_data(rt: HostRuntime) -> Result<(), Fail> {
-    let alloc = rt.alloc();
-    walk(&rt, alloc, Frame::Arm, TypeRule::NoInit, &data::NO_INIT)?;
-    walk(&rt, alloc, Frame::Arm, TypeRule::PersKind, &data::PERS_KIND)?;
-    walk(&rt, alloc, Frame::Arm, TypeRule::TypeClash, &data::TYPES)?;
-    walk(&rt, alloc, Frame::Arm, TypeRule::NotConst, &data::NOT_CONST)?;
-    walk(
-        &rt,
-        alloc,
-        Frame::Arm,
-        TypeRule::ConstFault,
-        &data::CONST_FAULT,
-    )?;
-    walk(&rt, alloc, Frame::Arm, TypeRule::DimRange, &data::DIM_RANGE)?;
-    walk(&rt, alloc, Frame::Arm, TypeRule::TypeClash, &data::VALUES)?;
-    walk(
-        &rt,
-        alloc,
-        Frame::Arm,
-        TypeRule::WholeArray,
-        &data::WHOLE_VALUES,
-    )?;
+    let arm = Walk::new(&rt, rt.alloc(), Frame::Arm);
+    arm.all(TypeRule::NoInit, &data::NO_INIT)?;
+    arm.all(TypeRule::PersKind, &data::PERS_KIND)?;
+    arm.all(TypeRule::TypeClash, &data::TYPES)?;
+    arm.all(TypeRule::NotConst, &data::NOT_CONST)?;
+    arm.all(TypeRule::ConstFault, &data::CONST_FAULT)?;
+    arm.all(TypeRule::DimRange, &data::DIM_RANGE)?;
+    arm.all(TypeRule::TypeClash, &data::VALUES)?;
+    arm.all(TypeRule::WholeArray, &data::WHOLE_VALUES)?;
     Ok(())
 }
 
 #[test]
 fn rules_of_values(rt: HostRuntime) -> Result<(), Fail> {
-    let alloc = rt.alloc();
-    walk(
-        &rt,
-        alloc,
-        Frame::Arm,
-        TypeRule::TypeClash,
-        &values::OPERATORS,
-    )?;
-    walk(&rt, alloc, Frame::Arm, TypeRule::TypeClash, &values::WANTED)?;
-    walk(
-        &rt,
-        alloc,
-        Frame::Arm,
-        TypeRule::TypeClash,
-        &values::INDICES,
-    )?;
-    walk(
-        &rt,
-        alloc,
-        Frame::Arm,
-        TypeRule::WholeArray,
-        &values::WHOLE_ARRAY,
-    )?;
+    let arm = Walk::new(&rt, rt.alloc(), Frame::Arm);
+    arm.all(TypeRule::TypeClash, &values::OPERATORS)?;
+    arm.all(TypeRule::TypeClash, &values::WANTED)?;
+    arm.all(TypeRule::TypeClash, &values::INDICES)?;
+    arm.all(TypeRule::WholeArray, &values::WHOLE_ARRAY)?;
     Ok(())
 }
 
 #[test]
 fn rules_of_arguments(rt: HostRuntime) -> Result<(), Fail> {
-    let alloc = rt.alloc();
-    walk(
-        &rt,
-        alloc,
-        Frame::Arm,
-        TypeRule::ReadOnly,
-        &arguments::READ_ONLY,
-    )?;
-    walk(
-        &rt,
-        alloc,
-        Frame::Arm,
-        TypeRule::BadRef,
-        &arguments::BAD_REF,
-    )?;
-    walk(
-        &rt,
-        alloc,
-        Frame::Arm,
-        TypeRule::TypeClash,
-        &arguments::SIGNALS,
-    )?;
-    walk(
-        &rt,
-        alloc,
-        Frame::Arm,
-        TypeRule::ArgCount,
-        &arguments::ARG_COUNT,
-    )?;
-    walk(
-        &rt,
-        alloc,
-        Frame::Arm,
-        TypeRule::ArgName,
-        &arguments::ARG_NAME,
-    )?;
-    walk(
-        &rt,
-        alloc,
-        Frame::Arm,
-        TypeRule::CornerZone,
-        &arguments::CORNER_ZONE,
-    )?;
-    walk(
-        &rt,
-        alloc,
-        Frame::Arm,
-        TypeRule::ToolOnly,
-        &arguments::TOOL_ONLY,
-    )?;
-    walk(
-        &rt,
-        alloc,
-        Frame::Arm,
-        TypeRule::SyncName,
-        &arguments::SYNC_NAME,
-    )?;
-    walk(
-        &rt,
-        alloc,
-        Frame::NoArm,
-        TypeRule::NoArm,
-        &arguments::NO_ARM,
-    )?;
-    walk(
-        &rt,
-        alloc,
-        Frame::Arm,
-        TypeRule::NoArm,
-        &arguments::WITH_ARM,
-    )?;
+    let arm = Walk::new(&rt, rt.alloc(), Frame::Arm);
+    let bare = Walk::new(&rt, rt.alloc(), Frame::NoArm);
+    arm.all(TypeRule::ReadOnly, &arguments::READ_ONLY)?;
+    arm.all(TypeRule::BadRef, &arguments::BAD_REF)?;
+    arm.all(TypeRule::TypeClash, &arguments::SIGNALS)?;
+    arm.all(TypeRule::ArgCount, &arguments::ARG_COUNT)?;
+    arm.all(TypeRule::ArgName, &arguments::ARG_NAME)?;
+    arm.all(TypeRule::CornerZone, &arguments::CORNER_ZONE)?;
+    arm.all(TypeRule::ToolOnly, &arguments::TOOL_ONLY)?;
+    arm.all(TypeRule::SyncName, &arguments::SYNC_NAME)?;
+    bare.all(TypeRule::NoArm, &arguments::NO_ARM)?;
+    arm.all(TypeRule::NoArm, &arguments::WITH_ARM)?;
     Ok(())
 }
 
 #[test]
 fn rules_of_statements(rt: HostRuntime) -> Result<(), Fail> {
-    let alloc = rt.alloc();
-    walk(
-        &rt,
-        alloc,
-        Frame::Arm,
-        TypeRule::NoLabel,
-        &statements::NO_LABEL,
-    )?;
-    walk(
-        &rt,
-        alloc,
-        Frame::Arm,
-        TypeRule::LabelTwice,
-        &statements::LABEL_TWICE,
-    )?;
-    walk(
-        &rt,
-        alloc,
-        Frame::Arm,
-        TypeRule::HandlerOnly,
-        &statements::HANDLER_ONLY,
-    )?;
-    walk(
-        &rt,
-        alloc,
-        Frame::Arm,
-        TypeRule::ReturnKind,
-        &statements::RETURN_KIND,
-    )?;
-    walk(
-        &rt,
-        alloc,
-        Frame::Arm,
-        TypeRule::TypeClash,
-        &statements::CONDITIONS,
-    )?;
+    let arm = Walk::new(&rt, rt.alloc(), Frame::Arm);
+    arm.all(TypeRule::NoLabel, &statements::NO_LABEL)?;
+    arm.all(TypeRule::LabelTwice, &statements::LABEL_TWICE)?;
+    arm.all(TypeRule::HandlerOnly, &statements::HANDLER_ONLY)?;
+    arm.all(TypeRule::ReturnKind, &statements::RETURN_KIND)?;
+    arm.all(TypeRule::TypeClash, &statements::CONDITIONS)?;
     Ok(())
 }
 
 #[test]
 fn rules_of_order(rt: HostRuntime) -> Result<(), Fail> {
-    let alloc = rt.alloc();
-    walk_ruled(&rt, alloc, Frame::Arm, &order::PHASES)?;
-    walk_ruled(&rt, alloc, Frame::Arm, &order::DECLARATIONS)?;
-    walk_ruled(&rt, alloc, Frame::Arm, &order::NAMES_FIRST)?;
-    walk_ruled(&rt, alloc, Frame::Arm, &order::ARGUMENTS)?;
-    walk_ruled(&rt, alloc, Frame::NoArm, &order::WITHOUT_ARM)?;
-    walk_ruled(&rt, alloc, Frame::Arm, &order::STATEMENTS)?;
-    walk(
-        &rt,
-        alloc,
-        Frame::Modules,
-        TypeRule::NoMain,
-        &order::NO_MAIN,
-    )?;
-    walk(
-        &rt,
-        alloc,
-        Frame::Modules,
-        TypeRule::DataRange,
-        &order::DATA_RANGE,
-    )?;
-    walk_ruled(&rt, alloc, Frame::Modules, &order::MODULES)?;
+    let arm = Walk::new(&rt, rt.alloc(), Frame::Arm);
+    let bare = Walk::new(&rt, rt.alloc(), Frame::NoArm);
+    let modules = Walk::new(&rt, rt.alloc(), Frame::Modules);
+    arm.ruled(&order::PHASES)?;
+    arm.ruled(&order::DECLARATIONS)?;
+    arm.ruled(&order::NAMES_FIRST)?;
+    arm.ruled(&order::ARGUMENTS)?;
+    bare.ruled(&order::WITHOUT_ARM)?;
+    arm.ruled(&order::STATEMENTS)?;
+    modules.all(TypeRule::NoMain, &order::NO_MAIN)?;
+    modules.all(TypeRule::DataRange, &order::DATA_RANGE)?;
+    modules.ruled(&order::MODULES)?;
     Ok(())
 }
 
 #[test]
 fn rules_of_cells(rt: HostRuntime) -> Result<(), Fail> {
-    let alloc = rt.alloc();
-    walk(
-        &rt,
-        alloc,
-        Frame::Tasks,
-        TypeRule::PersType,
-        &cells::PERS_TYPE,
-    )?;
-    walk_ruled(&rt, alloc, Frame::Tasks, &cells::TASKS)?;
+    let tasks = Walk::new(&rt, rt.alloc(), Frame::Tasks);
+    tasks.all(TypeRule::PersType, &cells::PERS_TYPE)?;
+    tasks.ruled(&cells::TASKS)?;
     Ok(())
 }
 
