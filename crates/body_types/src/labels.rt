@@ -7,8 +7,7 @@ ghost use Rattle.data_scopes.specs.Gives.{Gives};
 ghost use Rattle.named_data.specs.Data.{is_none};
 ghost use Rattle.body_types.specs.Labels;
 
-use crate::numbers::after;
-use data_scopes::TypeFault;
+use data_scopes::{TypeFault, number_after};
 use raw_trees::{RawForm, RawName, RawStmt};
 use std::alloc::Global;
 
@@ -28,7 +27,7 @@ pub(crate) fn label_number(text: &[u8], labels: &[RawName<'_>]) -> Result<u32, T
         if names_label(text, label) {
             return Ok(number);
         }
-        number = after(number)?;
+        number = number_after(number)?;
     }
     Ok(number)
 }

@@ -18,13 +18,13 @@ use crate::body::Body;
 use crate::bounds::bounds_of;
 use crate::calls::{called, connected};
 use crate::case_values::case_values;
+use crate::counter_place::counter_place;
 use crate::jumps::{jumped, labelled};
 use crate::labels::{has_labels, labels_within};
-use crate::numbers::{after, counter_place};
 use crate::returns::{in_handler, raised, returned};
 use crate::targets::assigned;
 use crate::typed_rows::{TypedArms, TypedCases, TypedElse, TypedList, TypedOne};
-use data_scopes::TypeFault;
+use data_scopes::{TypeFault, number_after};
 use expr_types::typed;
 use named_data::{Site, Wanted};
 use rapid_model::Sort;
@@ -97,7 +97,7 @@ fn stmt<'b>(
         RawForm::For { bounds, list, .. } => {
             let bounds = bounds_of(&site, bounds)?;
             let local = counter_place(body, next)?;
-            let list = inner(list, body, &around.in_loop(next), after(next)?)?;
+            let list = inner(list, body, &around.in_loop(next), number_after(next)?)?;
             let tree = Stmt::count(body.alloc, at, local, bounds, list.list)?;
             Ok(with_next(list.next, tree))
         }

@@ -1,11 +1,11 @@
 pub mod All
 pub mod Begins
-pub mod Below
 pub mod Entries
 mod Examples
 pub mod Keeping
 pub mod ListAt
 pub mod LoopRows
+pub mod Meanings
 pub mod Rowed
 pub mod Typed
 pub mod Within

@@ -22,11 +22,10 @@ use Rattle.data_scopes.specs.declared.spot.Spot.{Spot}
 use Rattle.data_scopes.specs.Naming.{names_of}
 use Rattle.data_scopes.specs.Scopes.{Tables, Names, RoutineRow, Rows, list_at, meant_in, meaning}
 use Rattle.data_scopes.specs.Numbered.{HasRow}
-use Rattle.data_scopes.proofs.Within.{Fits, IsWithin, tables_within, meant_within}
+use Rattle.data_scopes.proofs.Within.{after_by, after_modules, Fits, IsWithin, tables_within, meant_within}
 use Rattle.rapid_model.specs.Sorts.{has_values}
-use Rattle.data_scopes.proofs.Below.{after_by, after_modules, const_below}
 use Rattle.data_scopes.proofs.All.{all_more}
-use Rattle.data_scopes.proofs.Typed.{behind, ok_same, names_kept}
+use Rattle.data_scopes.proofs.Typed.{behind, ok_same, modules_types}
 
 abbrev pub sorts_in : List DatumRow → List Sort
 sorts_in rows = map (λ row. row.sort) rows
@@ -217,23 +216,19 @@ modules_rowed tables number before c (m ∷ ms) sorts more rows got e r h =
 abbrev rows_counts : Rows → Counts
 rows_counts rows = record { slots = length rows.slots; pers = length rows.pers; consts = length rows.consts; routines = length rows.routines }
 
--- no value is kept at first
-abbrev no_values : List Sort → List (Option Value)
-no_values sorts = replicate (length sorts) None
-
--- what is within so many has its row, where a CONST is one of so many types
-has_row : (rows : Rows) (meant : Meant) → IsWithin (rows_counts rows) meant → ((k : ℕ) → meant ≡ meants.Const k → k < length rows.consts) → HasRow rows meant
-has_row rows (meants.Slot k) within const = within
-has_row rows (meants.Pers k) within const = within
-has_row rows (meants.Routine k) within const = within
-has_row rows (meants.Const k) within const = const k refl
-has_row rows (meants.Local k) within const = tt
-has_row rows (meants.Ref k) within const = tt
-has_row rows (meants.For k) within const = tt
-has_row rows (meants.Signal k) within const = tt
-has_row rows (meants.Instruction k) within const = tt
-has_row rows (meants.Function k) within const = tt
-has_row rows (meants.Predefined k) within const = tt
+-- what is within so many has its row
+has_row : (rows : Rows) (meant : Meant) → IsWithin (rows_counts rows) meant → HasRow rows meant
+has_row rows (meants.Slot k) within = within
+has_row rows (meants.Pers k) within = within
+has_row rows (meants.Routine k) within = within
+has_row rows (meants.Const k) within = within
+has_row rows (meants.Local k) within = tt
+has_row rows (meants.Ref k) within = tt
+has_row rows (meants.For k) within = tt
+has_row rows (meants.Signal k) within = tt
+has_row rows (meants.Instruction k) within = tt
+has_row rows (meants.Function k) within = tt
+has_row rows (meants.Predefined k) within = tt
 
 -- what is known of the names of a task's modules
 pub record AreNumbered (names : Names) : Type 0 where
@@ -247,13 +242,13 @@ are_numbered modules signals arm names e =
     behind (AreNumbered names) names (modules_rules tables 0 [] no_counts modules []) _ e (λ sorts is rest.
     behind (AreNumbered names) names (modules_rows tables 0 modules no_rows) _ rest (λ rows found done.
     let rowed = modules_rowed tables 0 [] no_counts modules [] sorts no_rows rows is found (record { types = refl; slots = refl; pers = refl; routines = refl; valued = refl }) in
-    let fits : Fits (after_modules no_counts modules) (rows_counts rows) = record { slots = omega (arith, rowed.slots); pers = omega (arith, rowed.pers); routines = omega (arith, rowed.routines) } in
+    let as_many : (after_modules no_counts modules).consts ≡ length rows.consts =
+    modules_types tables 0 [] no_counts modules [] sorts refl is ∙ ap length rowed.types ∙ length-map rows.consts (λ row. row.sort) in
+    let fits : Fits (after_modules no_counts modules) (rows_counts rows) =
+    record { slots = omega (arith, rowed.slots); pers = omega (arith, rowed.pers); consts = omega (arith, as_many); routines = omega (arith, rowed.routines) } in
     let within = tables_within (rows_counts rows) modules signals fits in
-    let kept = names_kept modules signals tables sorts (length sorts) (no_values sorts) refl is refl refl in
-    let as_many : length (no_values sorts) ≡ length rows.consts = length-replicate (length sorts) None ∙ ap length rowed.types ∙ length-map rows.consts (λ row. row.sort) in
     subst AreNumbered (ok_same _ _ done) (record {
       types = rowed.types;
       valued = rowed.valued;
-      rows = λ spot name meant means. has_row rows meant (meant_within (rows_counts rows) tables spot name meant within means)
-          (λ k const. subst (λ n. k < n) as_many (const_below (length (no_values sorts)) tables spot name k kept.below (means ∙ ap Some const)));
+      rows = λ spot name meant means. has_row rows meant (meant_within (rows_counts rows) tables spot name meant within means);
     })))

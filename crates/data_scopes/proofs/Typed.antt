@@ -9,12 +9,12 @@ use Rattle.raw_trees.specs.Plain.{PlainDatum, PlainRoutine, PlainItem, PlainModu
 use Rattle.data_scopes.specs.declared.counts.Counts.{Counts}
 use Rattle.data_scopes.specs.declared.fault.TypeRule.TheVariants.{NameTwice}
 use Rattle.data_scopes.specs.declared.meant.Meant.TheVariants as meants
-use Rattle.data_scopes.specs.Kept.{AreKept, AreOfTypes, TablesBelow}
+use Rattle.data_scopes.specs.Kept.{IsBelow, AreKept, AreOfTypes, TablesMean}
 use Rattle.data_scopes.specs.Declarations.{Checked, ◌>>=◌, is_own, must, spot_of, with_const, datum_sort, item_name_rules, datum_rules, result_rules, params_rules, local_rules, locals_rules, routine_rules, item_rules, items_rules, module_rules, modules_rules}
 use Rattle.data_scopes.specs.Numbers.{no_counts, tables_of, datum_meant, local_meant, is_pers, is_scalar_const, scalar_consts, after_item, after_items}
 use Rattle.rapid_model.specs.Sorts.{is_value_of}
 use Rattle.data_scopes.specs.Scopes.{Tables, list_at, meant_in}
-use Rattle.data_scopes.proofs.Below.{after_by, after_modules, tables_below}
+use Rattle.data_scopes.proofs.Within.{after_by, after_modules, tables_below}
 
 -- where a step and what follows it answer, each does
 module _ {A B : Type 0} (P : Type 0) (y : B) where
@@ -81,7 +81,7 @@ module _ (tables : Tables) (number : ℕ) where
       behind ((after_items c m.items).consts ≡ length more) more (must (not (is_among m.name.text before)) (spot_of number None m.name) NameTwice) _ e (λ u fine rest.
       items_types c m.items sorts more as_many rest)
 
-modules_types : (tables : Tables) (number : ℕ) (before : List (List ℕ)) (c : Counts) (ms : List PlainModule) (sorts more : List Sort) → c.consts ≡ length sorts → modules_rules tables number before c ms sorts ≡ Ok more → (after_modules c ms).consts ≡ length more
+pub modules_types : (tables : Tables) (number : ℕ) (before : List (List ℕ)) (c : Counts) (ms : List PlainModule) (sorts more : List Sort) → c.consts ≡ length sorts → modules_rules tables number before c ms sorts ≡ Ok more → (after_modules c ms).consts ≡ length more
 modules_types tables number before c [] sorts more as_many e = as_many ∙ ap length (ok_same _ _ e)
 modules_types tables number before c (m ∷ ms) sorts more as_many e =
     behind ((after_modules (after_items c m.items) ms).consts ≡ length more) more (module_rules tables number before c m sorts) _ e (λ mid is rest.
@@ -104,7 +104,7 @@ names_kept ms signals tables sorts count kept filled fine counts none =
     let all : no_values (length sorts) ≡ kept = ap no_values (sym counts) ∙ none in
     let fits : (after_modules no_counts ms).consts ≤ length kept = omega (arith, as_many, ap length all, length-no_values (length sorts)) in
     record {
-      below = subst (TablesBelow (length kept)) (sym filled) (tables_below (length kept) ms signals fits);
+      below = subst (TablesMean (IsBelow (length kept))) (sym filled) (tables_below (length kept) ms signals fits);
       types = subst (AreOfTypes sorts) all (none_typed sorts);
     }
 
@@ -120,7 +120,7 @@ pub one_more_kept : (tables : Tables) (sorts : List Sort) (kept more : List (Opt
 one_more_kept tables sorts kept more constant value within typed is all =
     let as_long : length kept ≡ length more = sym (length-set kept constant (Some value)) ∙ ap length (sym is) in
     record {
-      below = subst (λ n. TablesBelow n tables) as_long all.below;
+      below = subst (λ n. TablesMean (IsBelow n) tables) as_long all.below;
       types = subst (AreOfTypes sorts) (sym is) (kept_typed sorts kept constant value within typed all.types);
     }
 

@@ -23,20 +23,21 @@ abbrev pub IsBelow : ℕ → Meant → Type 0
 IsBelow n (meants.Const constant) = constant < n
 IsBelow n _ = Unit {0}
 
-abbrev pub AreBelow : ℕ → Scope → Type 0
-AreBelow n [] = Unit {0}
-AreBelow n (entry ∷ entries) = IsBelow n entry.1 × AreBelow n entries
+-- what each name of a scope means is such
+abbrev pub Mean : (Meant → Type 0) → Scope → Type 0
+Mean P [] = Unit {0}
+Mean P (entry ∷ entries) = P entry.1 × Mean P entries
 
-abbrev pub AllBelow : ℕ → List Scope → Type 0
-AllBelow n [] = Unit {0}
-AllBelow n (scope ∷ scopes) = AreBelow n scope × AllBelow n scopes
+abbrev pub AllMean : (Meant → Type 0) → List Scope → Type 0
+AllMean P [] = Unit {0}
+AllMean P (scope ∷ scopes) = Mean P scope × AllMean P scopes
 
--- each CONST that a name means is one of so many
-pub record TablesBelow (n : ℕ) (tables : Tables) : Type 0 where
-  pub task : AreBelow n tables.task
-  pub own : AllBelow n tables.own
-  pub inner : AllBelow n tables.inner
-  pub signals : AreBelow n tables.signals
+-- what each name that is declared means is such
+pub record TablesMean (P : Meant → Type 0) (tables : Tables) : Type 0 where
+  pub task : Mean P tables.task
+  pub own : AllMean P tables.own
+  pub inner : AllMean P tables.inner
+  pub signals : Mean P tables.signals
 
 -- a kept value is of its CONST's type
 abbrev pub IsOfType : Sort → Option Value → Type 0
@@ -50,5 +51,5 @@ AreOfTypes (sort ∷ sorts) (kept ∷ more) = IsOfType sort kept × AreOfTypes s
 AreOfTypes _ _ = ⊥
 
 pub record AreKept (tables : Tables) (sorts : List Sort) (kept : List (Option Value)) : Type 0 where
-  pub below : TablesBelow (length kept) tables
+  pub below : TablesMean (IsBelow (length kept)) tables
   pub types : AreOfTypes sorts kept

@@ -12,7 +12,7 @@ use crate::loop_row::LoopRow;
 use crate::loops::loops_in_routine;
 use crate::meant::Meant;
 use crate::numbers::{
-    after_item, after_items, after_local, datum_meant, local_meant, next, param_meant,
+    after_item, after_items, after_local, datum_meant, local_meant, number_after, param_meant,
 };
 use crate::table::Table;
 use crate::tables::NameTables;
@@ -29,7 +29,7 @@ fn declare_params(params: &[RawParam<'_>], scope: &mut Table) -> Result<u32, Typ
     let mut place = 0;
     for param in params {
         scope.add(param.name.text, param_meant(place, param.mode))?;
-        place = next(place)?;
+        place = number_after(place)?;
     }
     Ok(place)
 }
@@ -48,7 +48,7 @@ fn declare_locals(
     let mut consts = before;
     for datum in locals {
         scope.add(datum.name.text, local_meant(place, consts, datum))?;
-        place = next(place)?;
+        place = number_after(place)?;
         consts = after_local(consts, datum)?;
     }
     Ok(())
@@ -222,7 +222,7 @@ fn signal_scope(alloc: Global, signals: &[SignalRow]) -> Result<Table, TypeFault
     let mut number = 0;
     for row in signals {
         scope.add(row.name.bytes(), Meant::Signal(number))?;
-        number = next(number)?;
+        number = number_after(number)?;
     }
     Ok(scope)
 }

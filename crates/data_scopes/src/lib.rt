@@ -32,7 +32,7 @@ pub use fault::{TypeFault, TypeRule};
 pub use known::Known;
 pub use laws::{kept_by_number, numbers_have_rows};
 pub use meant::Meant;
-pub use numbers::{is_const, is_pers, is_scalar_const};
+pub use numbers::{is_const, is_pers, is_scalar_const, number_after};
 pub use scopes::Scopes;
 pub use spot::Spot;
 

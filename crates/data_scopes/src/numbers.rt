@@ -10,8 +10,8 @@ use crate::fault::TypeFault;
 use crate::meant::Meant;
 use raw_trees::{DatumKind, Mode, RawDatum, RawItem, RawRoutine};
 
-/// The number behind this one.
-pub(crate) fn next(number: u32) -> Result<u32, TypeFault>
+/// The number behind this one. Its error is want of memory, also for a number past 32 bits.
+pub fn number_after(number: u32) -> Result<u32, TypeFault>
     ensures ok { IfOk result (λ n. n ≡ number + 1) }
     ensures err { IfErr result (λ e. e ≡ Memory) }
 {
@@ -71,7 +71,7 @@ pub(crate) fn after_datum(counts: Counts, datum: &RawDatum<'_>) -> Result<Counts
     ensures err { IfErr result (λ e. e ≡ Memory) }
 {
     if is_scalar_const(datum) {
-        let consts = next(counts.consts)?;
+        let consts = number_after(counts.consts)?;
         return Ok(Counts {
             slots: counts.slots,
             pers: counts.pers,
@@ -80,7 +80,7 @@ pub(crate) fn after_datum(counts: Counts, datum: &RawDatum<'_>) -> Result<Counts
         });
     }
     if is_pers(datum.kind) {
-        let pers = next(counts.pers)?;
+        let pers = number_after(counts.pers)?;
         return Ok(Counts {
             slots: counts.slots,
             pers,
@@ -88,7 +88,7 @@ pub(crate) fn after_datum(counts: Counts, datum: &RawDatum<'_>) -> Result<Counts
             routines: counts.routines,
         });
     }
-    let slots = next(counts.slots)?;
+    let slots = number_after(counts.slots)?;
     Ok(Counts {
         slots,
         pers: counts.pers,
@@ -103,7 +103,7 @@ pub(crate) fn after_local(consts: u32, datum: &RawDatum<'_>) -> Result<u32, Type
     ensures err { IfErr result (λ e. e ≡ Memory) }
 {
     if is_scalar_const(datum) {
-        return next(consts);
+        return number_after(consts);
     }
     Ok(consts)
 }
@@ -126,7 +126,7 @@ pub(crate) fn after_routine(counts: Counts, routine: &RawRoutine<'_>) -> Result<
     ensures err { IfErr result (λ e. e ≡ Memory) }
 {
     let consts = after_locals(counts.consts, &routine.locals)?;
-    let routines = next(counts.routines)?;
+    let routines = number_after(counts.routines)?;
     Ok(Counts {
         slots: counts.slots,
         pers: counts.pers,

@@ -8,7 +8,7 @@ ghost use Rattle.data_scopes.specs.declared.fault.TypeFault.TheVariants.{Memory}
 
 use crate::datum_rows::{datum_row, with_datum};
 use crate::fault::TypeFault;
-use crate::numbers::next;
+use crate::numbers::number_after;
 use crate::routine_rows::{routine_row, with_routine};
 use crate::row_tables::RowTables;
 use crate::tables::NameTables;
@@ -90,7 +90,7 @@ pub(crate) fn modules_rows(
     let mut rows = no_rows(alloc);
     for unit in modules {
         rows = items_rows(alloc, tables, number, &unit.items, rows)?;
-        number = next(number)?;
+        number = number_after(number)?;
     }
     Ok(rows)
 }

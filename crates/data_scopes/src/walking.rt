@@ -13,7 +13,7 @@ use crate::counts::Counts;
 use crate::fault::{TypeFault, TypeRule};
 use crate::meant::Meant;
 use crate::numbers::{
-    after_item, after_items, after_local, datum_meant, local_meant, next, param_meant,
+    after_item, after_items, after_local, datum_meant, local_meant, number_after, param_meant,
 };
 use crate::own::is_own;
 use crate::tables::NameTables;
@@ -84,7 +84,7 @@ fn params_rules(
     let mut place = 0;
     for param in params {
         param_rules(tables, number, routine, place, param)?;
-        place = next(place)?;
+        place = number_after(place)?;
     }
     Ok(place)
 }
@@ -129,7 +129,7 @@ fn locals_rules(
     let mut more = sorts;
     for datum in locals {
         more = local_rules(tables, number, routine, place, consts, datum, more)?;
-        place = next(place)?;
+        place = number_after(place)?;
         consts = after_local(consts, datum)?;
     }
     Ok(more)
@@ -269,7 +269,7 @@ pub(crate) fn modules_rules(
     let mut sorts = Vec::new(alloc);
     for (index, unit) in modules.iter().enumerate() {
         sorts = module_rules(unit, tables, number, &modules[..index], counts, sorts)?;
-        number = next(number)?;
+        number = number_after(number)?;
         counts = after_items(counts, &unit.items)?;
     }
     Ok(sorts)

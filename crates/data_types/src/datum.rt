@@ -16,8 +16,8 @@ use crate::numbers::more_values;
 use crate::progress::Progress;
 use crate::sites::site_at;
 use constant_meaning::Arrays;
-use data_scopes::{DatumRow, TypeFault, is_const, is_pers, is_scalar_const};
-use named_data::{name_text, next, number_of};
+use data_scopes::{DatumRow, TypeFault, is_const, is_pers, is_scalar_const, number_after};
+use named_data::{name_text, number_of};
 use rapid_model::{Sort, width};
 use raw_trees::RawDatum;
 use std::alloc::Global;
@@ -65,7 +65,7 @@ fn with_const(progress: Progress, initial: Initial) -> Result<Progress, TypeFaul
         values,
     } = progress;
     let scopes = keeping(scopes, consts, &initial.values)?;
-    let consts = next(consts)?;
+    let consts = number_after(consts)?;
     let values = more_values(values, 1)?;
     Ok(Progress {
         scopes,

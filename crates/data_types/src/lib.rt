@@ -23,8 +23,7 @@ mod single;
 mod sites;
 
 use crate::items::items;
-use data_scopes::{Scopes, TypeFault};
-use named_data::next;
+use data_scopes::{Scopes, TypeFault, number_after};
 pub use progress::Progress;
 use raw_trees::RawModule;
 use std::alloc::Global;
@@ -56,7 +55,7 @@ pub fn data_of(
     let mut progress = beginning(alloc, scopes);
     for unit in modules {
         progress = items(alloc, number, &unit.items, progress)?;
-        number = next(number)?;
+        number = number_after(number)?;
     }
     Ok(progress)
 }

@@ -20,8 +20,8 @@ use crate::known::{keeping, known_elements};
 use crate::progress::Progress;
 use crate::sites::site_at;
 use constant_meaning::Arrays;
-use data_scopes::{Scopes, TypeFault, is_const, is_scalar_const};
-use named_data::{name_text, next, number_of};
+use data_scopes::{Scopes, TypeFault, is_const, is_scalar_const, number_after};
+use named_data::{name_text, number_of};
 use rapid_model::{Sort, Value};
 use raw_trees::{RawDatum, RawRoutine};
 use std::alloc::Global;
@@ -51,7 +51,7 @@ fn inner_row(
 fn with_inner_const(inner: Inner, values: &Option<Vec<Value>>) -> Result<Inner, TypeFault>
     ensures { Gives view_inner result (Ok (with_inner_const (view_inner inner) (items_of values.now))) }
 {
-    let consts = next(inner.consts)?;
+    let consts = number_after(inner.consts)?;
     let Inner {
         scopes,
         consts: constant,

@@ -18,7 +18,7 @@ pub use component::{Part, part_at};
 pub use data::datum_at;
 pub use named::{Access, NamedDatum, Source};
 pub use names::name_text;
-pub use numbers::{next, number_of};
+pub use numbers::number_of;
 pub use rules::{fault, must};
 pub use site::Site;
 pub use wanted::Wanted;

@@ -1,20 +1,9 @@
 //! Numbers of what is declared, from 0.
 
-ghost use Rattle.std.specs.Prelude.{◌≡◌, ◌+◌, IfOk, IfErr};
+ghost use Rattle.std.specs.Prelude.{◌≡◌, IfOk, IfErr};
 ghost use Rattle.data_scopes.specs.declared.fault.TypeFault.TheVariants.{Memory};
 
 use data_scopes::TypeFault;
-
-/// The number behind this one. Its error is want of memory, also for a number past 32 bits.
-pub fn next(number: u32) -> Result<u32, TypeFault>
-    ensures ok { IfOk result (λ n. n ≡ number + 1) }
-    ensures err { IfErr result (λ e. e ≡ Memory) }
-{
-    match number.checked_add(1) {
-        Some(n) => Ok(n),
-        None => Err(TypeFault::Memory),
-    }
-}
 
 /// The number of what comes behind so many. Its error is want of memory, also for a number past 32 bits.
 pub fn number_of(count: usize) -> Result<u32, TypeFault>

@@ -11,8 +11,8 @@ ghost use Rattle.stmt_types.specs.Views.{view_routines, HasLeft};
 use crate::routine::typed_routine;
 use crate::routine_data::RoutineData;
 use crate::routine_list::RoutineList;
-use data_scopes::{Scopes, TypeFault};
-use named_data::{next, number_of};
+use data_scopes::{Scopes, TypeFault, number_after};
+use named_data::number_of;
 use raw_trees::{RawItem, RawModule};
 use std::alloc::Global;
 use typed_trees::{LocalRow, Routine};
@@ -78,7 +78,7 @@ fn modules_bodies(
     let mut more = routines;
     for unit in modules {
         more = items_bodies(alloc, scopes, number, &unit.items, more)?;
-        number = next(number)?;
+        number = number_after(number)?;
     }
     Ok(more)
 }

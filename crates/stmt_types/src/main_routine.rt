@@ -6,8 +6,8 @@ ghost use Rattle.named_data.specs.Views.{view_site};
 ghost use Rattle.data_scopes.specs.Gives.{Gives};
 ghost use Rattle.stmt_types.specs.Task;
 
-use data_scopes::{TypeFault, TypeRule};
-use named_data::{Site, fault, next};
+use data_scopes::{TypeFault, TypeRule, number_after};
+use named_data::{Site, fault};
 use raw_trees::{RawItem, RawModule, RawRoutine, RoutineKind};
 
 /// Whether a routine of the kind is a procedure.
@@ -41,7 +41,7 @@ fn main_in(items: &[RawItem<'_>], first: u32) -> Result<Option<u32>, TypeFault>
             if is_main(routine) {
                 return Ok(Some(number));
             }
-            number = next(number)?;
+            number = number_after(number)?;
         }
     }
     Ok(None)
@@ -54,7 +54,7 @@ fn behind(items: &[RawItem<'_>], first: u32) -> Result<u32, TypeFault>
     let mut number = first;
     for item in items {
         if let RawItem::Routine(_) = item {
-            number = next(number)?;
+            number = number_after(number)?;
         }
     }
     Ok(number)

@@ -231,14 +231,14 @@ stmt-returns-in_err-list-in-For t c =
     let next = c.args.next in
     let list = c.in-For.list in
     let b = view_bounds c.in_ok-bounds-in-For.bounds in
-    let behind_number : next + 1 ≡ c.in_ok-after-in-For.field-0 = cc c.in_ok-after-in-For.ensures in
+    let behind_number : next + 1 ≡ c.in_ok-number_after-in-For.field-0 = sym c.in_ok-number_after-in-For.ensures.ok in
     let found = stmt_for body s around next c.in-For.name c.in-For.bounds list c.in-For.is
     ∙ ap (λ there. bounds there (view_raw c.in-For.bounds.value.first) (view_raw c.in-For.bounds.value.last) (option_map view_raw c.in-For.bounds.value.step) >>= (λ b. inside body (record around { within = Some next }) list (next + 1) >>= as_for body s.at next b)) (sym c.site_at-site.ensures)
     ∙ ap (λ (r : Checked Bounds). r >>= (λ b. inside body (record around { within = Some next }) list (next + 1) >>= as_for body s.at next b)) c.in_ok-bounds-in-For.ensures
     ∙ ap (λ n. inside body (record around { within = Some next }) list n >>= as_for body s.at next b) behind_number
-    ∙ ap (λ a. inside body a list c.in_ok-after-in-For.field-0 >>= as_for body s.at next b) (sym c.in_loop.ensures) in
+    ∙ ap (λ a. inside body a list c.in_ok-number_after-in-For.field-0 >>= as_for body s.at next b) (sym c.in_loop.ensures) in
     exits view_typed_one c.from_residual-in_err-list-in-For.result c.in_err-list-in-For.field-0.0 _ c.from_residual-in_err-list-in-For.ensures.1
-    (stops (λ (r : Checked (Typed Plain.TypedStmts)). r >>= as_for body s.at next b) (λ b. refl) c.in_err-list-in-For.field-0.0 (inside body (view_around c.in_loop.result) list c.in_ok-after-in-For.field-0) _ found c.in_err-list-in-For.ensures)
+    (stops (λ (r : Checked (Typed Plain.TypedStmts)). r >>= as_for body s.at next b) (λ b. refl) c.in_err-list-in-For.field-0.0 (inside body (view_around c.in_loop.result) list c.in_ok-number_after-in-For.field-0) _ found c.in_err-list-in-For.ensures)
 
 pub stmt-returns-in_ok-tree-in-For : goal.stmt-returns-in_ok-tree-in-For
 stmt-returns-in_ok-tree-in-For t c =
@@ -248,12 +248,12 @@ stmt-returns-in_ok-tree-in-For t c =
     let next = c.args.next in
     let list = c.in-For.list in
     let b = view_bounds c.in_ok-bounds-in-For.bounds in
-    let behind_number : next + 1 ≡ c.in_ok-after-in-For.field-0 = cc c.in_ok-after-in-For.ensures in
+    let behind_number : next + 1 ≡ c.in_ok-number_after-in-For.field-0 = sym c.in_ok-number_after-in-For.ensures.ok in
     let found = stmt_for body s around next c.in-For.name c.in-For.bounds list c.in-For.is
     ∙ ap (λ there. bounds there (view_raw c.in-For.bounds.value.first) (view_raw c.in-For.bounds.value.last) (option_map view_raw c.in-For.bounds.value.step) >>= (λ b. inside body (record around { within = Some next }) list (next + 1) >>= as_for body s.at next b)) (sym c.site_at-site.ensures)
     ∙ ap (λ (r : Checked Bounds). r >>= (λ b. inside body (record around { within = Some next }) list (next + 1) >>= as_for body s.at next b)) c.in_ok-bounds-in-For.ensures
     ∙ ap (λ n. inside body (record around { within = Some next }) list n >>= as_for body s.at next b) behind_number
-    ∙ ap (λ a. inside body a list c.in_ok-after-in-For.field-0 >>= as_for body s.at next b) (sym c.in_loop.ensures) in
+    ∙ ap (λ a. inside body a list c.in_ok-number_after-in-For.field-0 >>= as_for body s.at next b) (sym c.in_loop.ensures) in
     let typed_list = c.in_ok-list-in-For.list in
     let place : counter_place body next ≡ c.in_ok-local-in-For.local = cc c.in_ok-local-in-For.ensures in
     found ∙ ap (λ (r : Checked (Typed Plain.TypedStmts)). r >>= as_for body s.at next b) c.in_ok-list-in-For.ensures

@@ -1,6 +1,6 @@
 use Rattle.std.proofs.Common.{◌∙◌, sym, subst, ◌<◌, length}
 use Rattle.data_scopes.specs.Scopes.{Names}
-use Rattle.data_scopes.proofs.Below.{const_below}
+use Rattle.data_scopes.proofs.Within.{const_below}
 use Rattle.data_scopes.proofs.scopes.Scopes.find.Goals as goal
 
 pub returns-clause-known : goal.returns-clause-known

@@ -1,22 +1,12 @@
-//! Numbers of labels, of FORs and of places.
+//! Places of the variables of FORs.
 
-ghost use Rattle.std.specs.Prelude.{◌+◌, Ok};
+ghost use Rattle.std.specs.Prelude.{Ok};
 ghost use Rattle.data_scopes.specs.Gives.{Gives};
 ghost use Rattle.body_types.specs.Bodies;
 ghost use Rattle.body_types.specs.Views.{view_body};
 
 use crate::body::Body;
 use data_scopes::TypeFault;
-
-/// The number behind this one. Its error is want of memory, also for a number past 32 bits.
-pub(crate) fn after(number: u32) -> Result<u32, TypeFault>
-    ensures { Gives (λ n. n) result (Ok (number + 1)) }
-{
-    match number.checked_add(1) {
-        Some(next) => Ok(next),
-        None => Err(TypeFault::Memory),
-    }
-}
 
 /// The place of the variable of the FOR of this number, behind the parameters and data of its routine. Its error is want of
 /// memory, also for a number past 32 bits.
