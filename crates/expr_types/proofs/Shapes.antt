@@ -29,11 +29,11 @@ use Rattle.data_scopes.specs.Gives.{Fails, Gives}
 use Rattle.data_scopes.specs.Rows.{begin_of}
 use Rattle.rapid_model.specs.Sorts.{has_values}
 use Rattle.named_data.specs.declared.wanted.Wanted.{Wanted}
-use Rattle.named_data.specs.declared.wanted.Wanted.TheVariants.{Any, Nothing, Reference}
+use Rattle.named_data.specs.declared.wanted.Wanted.TheVariants.{Any, Nothing}
 use Rattle.named_data.specs.Data.{NamedPart, given, named, is_none}
 use Rattle.named_data.specs.Rules.{Site, fail}
 use Rattle.named_data.specs.Wants.{first_operand, needed_components, same_sort}
-use Rattle.expr_types.specs.Arguments.{any_place, argument, bare, is_held, is_whole, lent, lent_as, lent_of, lent_whole, meeting, meeting_meant, pers_name, reference, signal, signal_meant, whole_array}
+use Rattle.expr_types.specs.Arguments.{any_place, argument, bare, is_held, is_whole, lent, lent_as, lent_of, lent_whole, meeting, meeting_meant, pers_name, reference, referred, signal, signal_meant, whole_array}
 use Rattle.expr_types.specs.Calls.{Taking, first_need, function_at, needed, needed_by, option_with, taking, valued_option}
 use Rattle.builtin_calls.specs.Calls.{OptionRow, option_named}
 use Rattle.expr_types.specs.Places
@@ -73,10 +73,10 @@ never (Ok x) b f = refl
 never (Err c) b f = refl
 
 pub reference_in : (site : Site) (need : Need) (e : PlainExpr) →
-    reference site need e (typed site e) (index_in site e) ≡ (place_in site false Reference BadRef e >>= (λ p. lent_as site need (begin_of e) p))
+    reference site need e (typed site e) (index_in site e) ≡ (place_in site false (referred need) BadRef e >>= (λ p. lent_as site need (begin_of e) p))
 unfolding index_in
 reference_in site need (Place at (PlaceOf name held components)) = refl
-reference_in site need e = never (typed site e Reference) (record { «module» = site.spot.«module»; at = begin_of e; rule = BadRef }) (λ p. lent_as site need (begin_of e) p)
+reference_in site need e = never (typed site e (referred need)) (record { «module» = site.spot.«module»; at = begin_of e; rule = BadRef }) (λ p. lent_as site need (begin_of e) p)
 
 pub any_place_in : (site : Site) (sort : Sort) (e : PlainExpr) →
     any_place site sort e (typed site e) (index_in site e) ≡ (place_in site false Nothing TypeClash e >>= (λ p. lent_of site sort (begin_of e) p))
@@ -165,7 +165,7 @@ by_reference site need e value i (inr (inr (inr (inl p)))) = subst (λ n. argume
 by_reference site need e value i (inr (inr (inr (inr is)))) = subst (λ n. argument site n e value i ≡ reference site n e value i) (sym is) refl
 
 pub argument_by_reference : (site : Site) (need : Need) (e : PlainExpr) → ByReference need →
-    argument site need e (typed site e) (index_in site e) ≡ (place_in site false Reference BadRef e >>= (λ p. lent_as site need (begin_of e) p))
+    argument site need e (typed site e) (index_in site e) ≡ (place_in site false (referred need) BadRef e >>= (λ p. lent_as site need (begin_of e) p))
 argument_by_reference site need e by = by_reference site need e (typed site e) (index_in site e) by ∙ reference_in site need e
 
 pub argument_of_sort : (site : Site) (need : Need) (sort : Sort) (e : PlainExpr) → need ≡ needs.Place sort →

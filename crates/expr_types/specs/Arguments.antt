@@ -1,6 +1,6 @@
 -- Arguments, each by what its callee needs. Where a value may stand, value is what the argument comes to as one, by what is
 -- wanted of it; index is what the index in it comes to.
-use Rattle.std.specs.Prelude.{ℕ, ◌+◌, ℤ, pos, Bool, true, false, not, ◌&&◌, ◌||◌, zero, suc, List, [], ◌∷◌, codes, Option, Some, None, is_some, slice_get, Ok, if◌then◌else◌}
+use Rattle.std.specs.Prelude.{ℕ, ◌+◌, ℤ, pos, Bool, true, false, not, ◌&&◌, ◌||◌, zero, suc, List, [], ◌∷◌, codes, Option, Some, None, is_some, slice_get, Ok, Err, if◌then◌else◌}
 use Rattle.std.specs.Ordering.{int_eq}
 use Rattle.std.specs.Str.{str_eq_ignore_ascii_case}
 use Rattle.rapid_num.specs.Literal.{literal_value}
@@ -26,10 +26,11 @@ use Rattle.data_scopes.specs.Rows.{begin_of}
 use Rattle.rapid_model.specs.Sorts.{has_values}
 use Rattle.named_data.specs.declared.named.Access.{Access}
 use Rattle.named_data.specs.declared.named.Access.TheVariants as accesses
+use Rattle.named_data.specs.declared.named.NamedDatum.{NamedDatum}
 use Rattle.named_data.specs.declared.named.Source.{Source}
 use Rattle.named_data.specs.declared.named.Source.TheVariants as sources
 use Rattle.named_data.specs.declared.wanted.Wanted.{Wanted}
-use Rattle.named_data.specs.declared.wanted.Wanted.TheVariants.{Is, Nothing, Reference, Meeting}
+use Rattle.named_data.specs.declared.wanted.Wanted.TheVariants.{Is, Nothing, Reference, ReferenceTo, Meeting}
 use Rattle.named_data.specs.Rules.{Site, fail, must}
 use Rattle.named_data.specs.Wants.{same_sort}
 use Rattle.named_data.specs.Data.{NamedPart, named, datum_at, place, part_at, whole_of, is_none}
@@ -120,13 +121,21 @@ array_fits _ sort = has_values sort
 abbrev pub lent_whole : Site → Need → ℕ → Bool → NamedPart → Checked TypedArg
 lent_whole site need at bare p = lent site (p.array && bare && array_fits need p.sort) at TypeClash p p.source
 
+-- what is wanted of a reference that is no place: nothing fits, and brackets are of the type that is needed
+abbrev pub referred : Need → Wanted
+referred (needs.Var sort) = ReferenceTo sort
+referred (needs.Pers sort) = ReferenceTo sort
+referred (needs.VarOrPers sort) = ReferenceTo sort
+referred (needs.Written sort) = ReferenceTo sort
+referred _ = Reference
+
 -- a place that the callee reads and writes
 abbrev pub reference : Site → Need → PlainExpr → (Wanted → Checked TypedExpr) → Checked TypedHeld → Checked TypedArg
 reference site need (Place at (PlaceOf name held components)) value index =
     place site false name (is_held held) index components >>= (λ p.
     must site (not (is_written need && is_fixed p.source)) at ReadOnly >>= (λ _.
     lent site (lends need (access_in p.source) && takes need p.sort) at BadRef p p.source))
-reference site need e value index = value Reference >>= (λ t. fail site (begin_of e) BadRef)
+reference site need e value index = value (referred need) >>= (λ t. fail site (begin_of e) BadRef)
 
 -- a place of a type, of whatever kind
 abbrev pub any_place : Site → Sort → PlainExpr → (Wanted → Checked TypedExpr) → Checked TypedHeld → Checked TypedArg
@@ -187,11 +196,17 @@ meeting_meant site at (Some (meants.Slot number)) =
     must site (is_meeting (slice_get site.names.rows.slots number)) at SyncName >>= (λ _. Ok (OfMeeting (meetings_before number site.names.rows.slots)))
 meeting_meant site at (Some _) = fail site at SyncName
 
+-- the components behind a name are those of the datum that it means, where it means one here
+abbrev pub parts_known : Site → Checked NamedDatum → List PlainName → Checked (Unit {0})
+parts_known site (Ok d) components = part_at site (whole_of d.sort) components >>= (λ c. Ok tt)
+parts_known site (Err fault) components = Ok tt
+
 -- the name of a module's VAR syncident
 abbrev pub meeting : Site → PlainExpr → (Wanted → Checked TypedExpr) → Checked TypedHeld → Checked TypedArg
 meeting site (Place at (PlaceOf name NotHeld [])) value index = meeting_meant site at (named site name)
 meeting site (Place at (PlaceOf name held components)) value index =
-    must site (is_some (named site name)) at NoName >>= (λ _. index >>= (λ i. fail site at SyncName))
+    must site (is_some (named site name)) at NoName >>= (λ _. index >>= (λ i.
+    parts_known site (datum_at site name) components >>= (λ _. fail site at SyncName)))
 meeting site e value index = value Meeting >>= (λ t. fail site (begin_of e) SyncName)
 
 abbrev pub whole_pers : Site → Bool → ℕ → Sort → Source → Checked TypedArg

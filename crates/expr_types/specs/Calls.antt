@@ -115,6 +115,10 @@ are_chosen choices.JustOne args = not (all_in args == needed_in args)
 are_chosen _ args = true
 
 -- the rules of a call, after those of its arguments
+-- as many arguments as are needed, and such options
+abbrev pub count_rules : Site → ℕ → Signature → PlainArgs → Checked (Unit {0})
+count_rules site at s args = must site (are_counted args (length s.needs)) at ArgCount >>= (λ _. must site (are_chosen s.choice args) at ArgName)
+
 abbrev pub call_rules : Site → ℕ → Signature → PlainArgs → Checked (Unit {0})
 call_rules site at s args =
     must site (are_counted args (length s.needs)) at ArgCount >>= (λ _.

@@ -16,7 +16,7 @@ use Rattle.named_data.specs.declared.named.Source.{Source}
 use Rattle.named_data.specs.declared.named.Source.TheVariants as sources
 use Rattle.named_data.specs.Rules.{Site, fail, must}
 use Rattle.named_data.specs.Wants.{same_sort}
-use Rattle.expr_types.specs.Arguments.{is_held, whole_pers}
+use Rattle.expr_types.specs.Arguments.{is_held, parts_known, whole_pers}
 use Rattle.expr_types.specs.Typing.{index, typed}
 
 abbrev pub index_of : PlainPlace → PlainHeld
@@ -47,10 +47,15 @@ lent_of site sort at p = lent_from site sort at p p.source
 abbrev pub lent_place : Site → ℕ → Sort → PlainPlace → Checked TypedPlace
 lent_place site at sort written = place site false written >>= (λ p. lent_of site sort at p)
 
+-- the components of a place are those of the datum that its name means, where it means one here
+abbrev pub known_parts : Site → PlainPlace → Checked (Unit {0})
+known_parts site (PlaceOf name held components) = parts_known site (datum_at site name) components
+
 -- what is broken in an expression that is no name and stands for a meeting
 abbrev pub no_meeting : Site → PlainExpr → Checked TypedArg
 no_meeting site (Place at (PlaceOf name held components)) =
-    must site (is_some (named site name)) at NoName >>= (λ _. index site held >>= (λ i. fail site at SyncName))
+    must site (is_some (named site name)) at NoName >>= (λ _. index site held >>= (λ i.
+    parts_known site (datum_at site name) components >>= (λ _. fail site at SyncName)))
 no_meeting site e = typed site e Meeting >>= (λ t. fail site (begin_of e) SyncName)
 
 -- the name of a declared PERS, as an argument that begins at this byte

@@ -1,6 +1,6 @@
 -- The typed form of an expression, or the first rule that is broken in it: from the left to the right, the parts before the
 -- whole (RAPID Overview, expressions; RAPID Kernel, expressions).
-use Rattle.std.specs.Prelude.{ℕ, suc, ℤ, pos, List, [], ◌==◌, not, length, drop, Option, Some, None, Ok}
+use Rattle.std.specs.Prelude.{ℕ, suc, ℤ, pos, Bool, true, false, List, [], ◌==◌, not, length, drop, Option, Some, None, Ok, if◌then◌else◌}
 use Rattle.rapid_num.specs.Literal.{literal_value}
 use Rattle.string_texts.specs.Spelled.{text_in}
 use Rattle.raw_trees.specs.Plain.{PlainExpr, PlainExprs, PlainSteps, PlainHeld, PlainArg, PlainArgs, Number, Quoted, Truth, Group, Aggregate, Invoke, Place, Not, Signed, Chain, NoExprs, MoreExprs, NoSteps, MoreSteps, NotHeld, Held, PlaceOf, Needed, Optional, NoArgs, MoreArgs}
@@ -11,20 +11,20 @@ use Rattle.rapid_values.specs.Components.{Component}
 use Rattle.builtin_calls.specs.Calls.{option_named}
 use Rattle.typed_trees.specs.Plain
 use Rattle.typed_trees.specs.Plain.{TypedExpr, TypedExprs, TypedSteps, TypedHeld, TypedArg, TypedArgs}
-use Rattle.data_scopes.specs.declared.fault.TypeRule.TheVariants.{TypeClash, DimRange}
+use Rattle.data_scopes.specs.declared.fault.TypeRule.TheVariants.{TypeClash, DimRange, SyncName}
 use Rattle.data_scopes.specs.Declarations.{Checked, ◌>>=◌}
 use Rattle.expr_types.specs.declared.callee.Callee.{Callee}
 use Rattle.expr_types.specs.declared.callee.Callee.TheVariants as callees
 use Rattle.expr_types.specs.declared.want.Want.{Want}
 use Rattle.expr_types.specs.declared.want.Want.TheVariants as asked
 use Rattle.named_data.specs.declared.wanted.Wanted.{Wanted}
-use Rattle.named_data.specs.declared.wanted.Wanted.TheVariants.{Any, Is, Same}
-use Rattle.named_data.specs.Rules.{Site, must}
+use Rattle.named_data.specs.declared.wanted.Wanted.TheVariants.{Any, Is, Same, Meeting}
+use Rattle.named_data.specs.Rules.{Site, fail, must}
 use Rattle.named_data.specs.Wants.{fits, clash, untyped, inside, hands_on, needed_components, needed_sort, of_component, first_operand, suits, comes_to}
 use Rattle.rapid_model.specs.Sorts.{has_values}
 use Rattle.named_data.specs.Data.{NamedPart, given, place_value, value_from, is_none}
 use Rattle.expr_types.specs.Arguments.{is_held}
-use Rattle.expr_types.specs.Calls.{Called, Signature, Taking, taking, function_at, call_rules, needed, plain_option, valued_option, after}
+use Rattle.expr_types.specs.Calls.{Called, Signature, Taking, taking, function_at, count_rules, call_rules, needed, plain_option, valued_option, after}
 
 abbrev pub or_zero : Option ℤ → ℤ
 or_zero (Some n) = n
@@ -76,10 +76,16 @@ abbrev pub invoked : ℕ → Sort → Callee → TypedArgs → TypedExpr
 invoked at sort (callees.Builtin f) args = Plain.Builtin at sort f args
 invoked at sort (callees.Routine routine) args = Plain.Invoke at sort routine args
 
--- a call, after its arguments
+-- the place takes the name of a meeting
+abbrev pub names_meeting : Wanted → Bool
+names_meeting Meeting = true
+names_meeting want = false
+
+-- a call, after its arguments; where the name of a meeting stands, its first rules come before that it is none
 abbrev pub call : Site → Wanted → ℕ → Called → PlainArgs → TypedArgs → Checked TypedExpr
 call site want at called args ts =
-    must site (fits want called.sort) at (clash want) >>= (λ _.
+    if names_meeting want then count_rules site at called.signature args >>= (λ _. fail site at SyncName)
+    else must site (fits want called.sort) at (clash want) >>= (λ _.
     call_rules site at called.signature args >>= (λ _. Ok (invoked at called.sort called.callee ts)))
 
 abbrev pub group : Site → Wanted → ℕ → TypedExpr → Checked TypedExpr

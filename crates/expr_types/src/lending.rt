@@ -12,7 +12,7 @@ ghost use Rattle.expr_types.specs.Views.{view_held, view_part};
 use crate::place_part::PlacePart;
 use builtin_calls::Need;
 use data_scopes::{TypeFault, TypeRule};
-use named_data::{Access, Site, Source, fault, must, same_sort};
+use named_data::{Access, Site, Source, Wanted, fault, must, same_sort};
 use rapid_model::{Sort, has_values};
 use typed_trees::{Arg, TreePlace, TreeRoot};
 
@@ -39,6 +39,17 @@ fn takes(need: Need, sort: Sort) -> bool
             same_sort(sort, Sort::WzTemporary) || same_sort(sort, Sort::WzStationary)
         }
         _ => false,
+    }
+}
+
+/// What is wanted of a reference that is no place: nothing fits, and brackets are of the type that is needed.
+pub(crate) fn referred(need: Need) -> Wanted
+    ensures { result ≡ Arguments.referred need }
+{
+    match need {
+        Need::Var(sort) | Need::Pers(sort) | Need::VarOrPers(sort) | Need::Written(sort) =>
+            Wanted::ReferenceTo(sort),
+        _ => Wanted::Reference,
     }
 }
 

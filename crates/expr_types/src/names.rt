@@ -2,13 +2,14 @@
 
 ghost use Rattle.std.specs.Prelude.{◌≡◌, option_map};
 ghost use Rattle.raw_trees.specs.Views.{view_expr as view_raw, view_name, view_place};
+ghost use Rattle.data_scopes.specs.Gives.{Gives};
 ghost use Rattle.named_data.specs.Data;
 ghost use Rattle.named_data.specs.Views.{view_site};
 ghost use Rattle.expr_types.specs.Arguments;
 ghost use Rattle.expr_types.specs.Places;
 
-use data_scopes::Meant;
-use named_data::Site;
+use data_scopes::{Meant, TypeFault};
+use named_data::{Site, datum_at, part_at};
 use raw_trees::{RawExpr, RawExprForm, RawName, RawPlace};
 
 /// What the innermost declaration of the name means that is visible (RAPID Kernel, scope rules).
@@ -16,6 +17,20 @@ pub(crate) fn named(site: &Site<'_>, name: &RawName<'_>) -> Option<Meant>
     ensures { result ≡ Data.named (view_site site.now) (view_name name.now) }
 {
     site.scopes.find(site.spot, name.text)
+}
+
+/// The components behind a name are those of the datum that it means, where it means one here.
+pub(crate) fn known_parts(site: &Site<'_>, raw: &RawPlace<'_>) -> Result<(), TypeFault>
+    ensures { Gives (λ u. u) result (Places.known_parts (view_site site.now) (view_place raw.now)) }
+{
+    match datum_at(site, &raw.name) {
+        Ok(datum) => {
+            part_at(site, datum.sort, &raw.parts)?;
+            Ok(())
+        }
+        Err(TypeFault::Rule { .. }) => Ok(()),
+        Err(TypeFault::Memory) => Err(TypeFault::Memory),
+    }
 }
 
 /// Whether an expression is a place with neither an index nor components.

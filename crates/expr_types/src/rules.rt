@@ -61,6 +61,22 @@ fn are_counted(args: &[RawArg<'_>], count: usize) -> bool
     needed_in(args) == count && all_in(args) <= MOST_ARGUMENTS
 }
 
+/// The first rules of a call that begins at this byte: the number of its arguments, its options (RAPID Kernel, procedure calls
+/// and function calls).
+pub(crate) fn count_rules(
+    site: &Site<'_>,
+    at: usize,
+    signature: &Signature<'_>,
+    args: &[RawArg<'_>],
+) -> Result<(), TypeFault>
+    ensures { Gives (λ u. u) result (Calls.count_rules (view_site site.now) at (view_signature signature.now) (args_of (map view_raw_arg args.now))) }
+{
+    let holds = are_counted(args, signature.needs.count());
+    must(site, holds, at, TypeRule::ArgCount)?;
+    let holds = are_chosen(signature.choice, args);
+    must(site, holds, at, TypeRule::ArgName)
+}
+
 /// The rules of a call that begins at this byte: the number of its arguments, its options, its arm (RAPID Kernel, procedure
 /// calls and function calls).
 pub(crate) fn call_rules(

@@ -16,9 +16,9 @@ ghost use Rattle.expr_types.specs.Typing;
 ghost use Rattle.expr_types.specs.Views.{view_chain, view_held, view_part, view_signature, view_taking};
 
 use crate::called::function_at;
-use crate::lending::{lent_as, lent_of, lent_whole};
+use crate::lending::{lent_as, lent_of, lent_whole, referred};
 use crate::literals::{number_of, text_of};
-use crate::names::{bare_name, is_datum, is_whole, named};
+use crate::names::{bare_name, is_datum, is_whole, known_parts, named};
 use crate::options::{needed_by, option_with, plain_option};
 use crate::place_part::PlacePart;
 use crate::signals::{itself, meeting_meant, signal_meant, whole_pers};
@@ -244,7 +244,7 @@ fn argument(site: &Site<'_>, raw: &RawExpr<'_>, need: Need) -> Result<Arg, TypeF
         Need::One => Ok(Arg::Value(typed(site, raw, one_dimension(raw))?)),
         Need::Signal { output } => signal(site, raw, output),
         Need::Var(_) | Need::Pers(_) | Need::VarOrPers(_) | Need::Written(_) | Need::WorldZone => {
-            let place = place_in(site, raw, false, Wanted::Reference, TypeRule::BadRef)?;
+            let place = place_in(site, raw, false, referred(need), TypeRule::BadRef)?;
             lent_as(site, need, at, place)
         }
         Need::Place(sort) => {
@@ -298,6 +298,7 @@ fn no_meeting(site: &Site<'_>, raw: &RawExpr<'_>) -> Result<Arg, TypeFault>
             let holds = named(site, &written.name).is_some();
             must(site, holds, begin_of(raw), TypeRule::NoName)?;
             index_of(site, written)?;
+            known_parts(site, written)?;
             Err(fault(site, begin_of(raw), TypeRule::SyncName))
         }
         _ => {

@@ -18,9 +18,9 @@ ghost use Rattle.expr_types.specs.Views.{view_called, view_part};
 use crate::called::Called;
 use crate::callee::Callee;
 use crate::place_part::PlacePart;
-use crate::rules::call_rules;
+use crate::rules::{call_rules, count_rules};
 use data_scopes::{TypeFault, TypeRule};
-use named_data::{Site, Source, Wanted, clash, fits, hands_on, must, untyped};
+use named_data::{Site, Source, Wanted, clash, fault, fits, hands_on, must, untyped};
 use rapid_model::{Sort, Value, has_values};
 use rapid_num::read_literal;
 use rapid_values::{PartName, component_sorts, part};
@@ -98,7 +98,9 @@ fn needed_sorts(want: Wanted) -> &'static [Sort]
     ensures { result.now ≡ map (λ (c : Component). c.sort) (Wants.needed_components want) }
 {
     match want {
-        Wanted::Is(sort) => component_sorts(sort),
+        Wanted::Is(sort) | Wanted::Brackets(sort) | Wanted::ReferenceTo(sort) => component_sorts(
+            sort,
+        ),
         _ => &[],
     }
 }
@@ -108,7 +110,7 @@ fn needed_sort(want: Wanted) -> Sort
     ensures { result ≡ Wants.needed_sort want }
 {
     match want {
-        Wanted::Is(sort) => sort,
+        Wanted::Is(sort) | Wanted::Brackets(sort) | Wanted::ReferenceTo(sort) => sort,
         _ => Sort::Num,
     }
 }
@@ -133,7 +135,15 @@ pub(crate) fn first_operand(rest: &[(Operator, RawExpr<'_>)]) -> Wanted
     }
 }
 
-/// A call that begins at this byte, after its arguments.
+/// Whether the place takes the name of a meeting.
+fn names_meeting(want: Wanted) -> bool
+    ensures { result ≡ Typing.names_meeting want }
+{
+    matches!(want, Wanted::Meeting)
+}
+
+/// A call that begins at this byte, after its arguments; where the name of a meeting stands, its first rules come before that
+/// it is none.
 pub(crate) fn call(
     site: &Site<'_>,
     want: Wanted,
@@ -144,6 +154,10 @@ pub(crate) fn call(
 ) -> Result<Expr, TypeFault>
     ensures { Gives view_expr result (Typing.call (view_site site.now) want at (view_called called.now) (raw_args_of (map view_raw_arg raw.now)) (args_of (map view_arg args.items))) }
 {
+    if names_meeting(want) {
+        count_rules(site, at, &called.signature, raw)?;
+        return Err(fault(site, at, TypeRule::SyncName));
+    }
     must(site, fits(want, called.sort), at, clash(want))?;
     call_rules(site, at, &called.signature, raw)?;
     Ok(invoked(at, called.sort, called.callee, args))

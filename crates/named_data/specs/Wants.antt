@@ -9,7 +9,7 @@ use Rattle.rapid_values.specs.Components.{Component, components}
 use Rattle.data_scopes.specs.declared.fault.TypeRule.{TypeRule}
 use Rattle.data_scopes.specs.declared.fault.TypeRule.TheVariants.{TypeClash, BadRef, SyncName}
 use Rattle.named_data.specs.declared.wanted.Wanted.{Wanted}
-use Rattle.named_data.specs.declared.wanted.Wanted.TheVariants.{Any, Is, Same, Fits, Nothing, Reference, Meeting}
+use Rattle.named_data.specs.declared.wanted.Wanted.TheVariants.{Any, Brackets, Is, Same, Fits, Nothing, Reference, ReferenceTo, Meeting}
 
 abbrev pub same_sort : Sort → Sort → Bool
 same_sort sorts.Num sorts.Num = true
@@ -61,16 +61,19 @@ comes_to _ sort = sorts.Bool
 -- a type is what is wanted
 abbrev pub fits : Wanted → Sort → Bool
 fits Any sort = true
+fits (Brackets taken) sort = true
 fits (Is wanted) sort = same_sort sort wanted
 fits (Same wanted) sort = same_sort sort wanted
 fits (Fits operator) sort = suits operator sort
 fits Nothing sort = false
 fits Reference sort = false
+fits (ReferenceTo wanted) sort = false
 fits Meeting sort = false
 
 -- the rule that a value breaks whose type is not what is wanted
 abbrev pub clash : Wanted → TypeRule
 clash Reference = BadRef
+clash (ReferenceTo sort) = BadRef
 clash Meeting = SyncName
 clash _ = TypeClash
 
@@ -82,23 +85,29 @@ untyped _ = TypeClash
 -- what is wanted of what parentheses hold: they hand on the type
 abbrev pub inside : Wanted → Wanted
 inside Reference = Any
+inside (ReferenceTo sort) = Brackets sort
 inside Meeting = Any
 inside wanted = wanted
 
 -- an expression in parentheses may stand there, if what they hold may
 abbrev pub hands_on : Wanted → Bool
 hands_on Reference = false
+hands_on (ReferenceTo sort) = false
 hands_on Meeting = false
 hands_on _ = true
 
 -- the components that brackets are to have: those of the type that is needed. An operand hands its type to no brackets.
 abbrev pub needed_components : Wanted → List Component
 needed_components (Is sort) = components sort
+needed_components (Brackets sort) = components sort
+needed_components (ReferenceTo sort) = components sort
 needed_components _ = []
 
 -- the type of brackets
 abbrev pub needed_sort : Wanted → Sort
 needed_sort (Is sort) = sort
+needed_sort (Brackets sort) = sort
+needed_sort (ReferenceTo sort) = sort
 needed_sort _ = sorts.Num
 
 -- what is wanted of the next element

@@ -6,6 +6,8 @@ use raw_trees::Operator;
 pub enum Wanted {
     /// A value of any type; brackets have none there.
     Any,
+    /// A value of any type; brackets are of this one.
+    Brackets(Sort),
     /// A value of the type, which brackets take.
     Is(Sort),
     /// An operand of the type; brackets have none there.
@@ -16,6 +18,8 @@ pub enum Wanted {
     Nothing,
     /// No value: the place takes a reference.
     Reference,
+    /// No value: the place takes a reference to a datum of the type, which brackets take.
+    ReferenceTo(Sort),
     /// No value: the place takes the name of a meeting.
     Meeting,
 }

@@ -76,10 +76,10 @@ pub fn fits(want: Wanted, sort: Sort) -> bool
     ensures { result ≡ Wants.fits want sort }
 {
     match want {
-        Wanted::Any => true,
+        Wanted::Any | Wanted::Brackets(_) => true,
         Wanted::Is(wanted) | Wanted::Same(wanted) => same_sort(sort, wanted),
         Wanted::Fits(operator) => suits(operator, sort),
-        Wanted::Nothing | Wanted::Reference | Wanted::Meeting => false,
+        Wanted::Nothing | Wanted::Reference | Wanted::ReferenceTo(_) | Wanted::Meeting => false,
     }
 }
 
@@ -88,7 +88,7 @@ pub fn clash(want: Wanted) -> TypeRule
     ensures { result ≡ Wants.clash want }
 {
     match want {
-        Wanted::Reference => TypeRule::BadRef,
+        Wanted::Reference | Wanted::ReferenceTo(_) => TypeRule::BadRef,
         Wanted::Meeting => TypeRule::SyncName,
         _ => TypeRule::TypeClash,
     }
@@ -110,6 +110,7 @@ pub fn inside(want: Wanted) -> Wanted
 {
     match want {
         Wanted::Reference | Wanted::Meeting => Wanted::Any,
+        Wanted::ReferenceTo(sort) => Wanted::Brackets(sort),
         other => other,
     }
 }
@@ -118,5 +119,8 @@ pub fn inside(want: Wanted) -> Wanted
 pub fn hands_on(want: Wanted) -> bool
     ensures { result ≡ Wants.hands_on want }
 {
-    !matches!(want, Wanted::Reference | Wanted::Meeting)
+    !matches!(
+        want,
+        Wanted::Reference | Wanted::ReferenceTo(_) | Wanted::Meeting
+    )
 }

@@ -29,7 +29,7 @@ use Rattle.named_data.specs.declared.wanted.Wanted.TheVariants.{Is, Nothing, Ref
 use Rattle.named_data.specs.Rules.{Site, must}
 use Rattle.named_data.specs.Wants.{same_sort}
 use Rattle.named_data.specs.Data.{NamedPart, named, datum_at, part_at, whole_of, place, is_none}
-use Rattle.expr_types.specs.Arguments.{is_held, is_bare, lends, takes, is_written, is_fixed, access_in, lent, reference, any_place, whole_array, one_dimension, itself, has_direction, signal_meant, signal, is_meeting, meetings_before, meeting_meant, meeting, whole_pers, pers_name, argument}
+use Rattle.expr_types.specs.Arguments.{is_held, is_bare, lends, takes, is_written, is_fixed, access_in, lent, referred, reference, any_place, whole_array, one_dimension, itself, has_direction, signal_meant, signal, is_meeting, meetings_before, meeting_meant, parts_known, meeting, whole_pers, pers_name, argument}
 use Rattle.typed_forms.specs.Calls.{Values, Indexes, Stands, IsLent, IsPlaceArg, IsReference, IsWhole, IsSignal, IsMeeting, IsPersName, IsValueArg, IsItself, IsArgument}
 use Rattle.typed_forms.proofs.Steps.{in_words, neither, done, never, then, never_after, where_it_holds}
 use Rattle.typed_forms.proofs.Names.{datum_law, at_place}
@@ -93,7 +93,7 @@ reference_law {index} s need (Place at (PlaceOf name held components)) arg law =
     (where_it_holds s (not (is_written need && is_fixed p.source)) at ReadOnly _ arg (lent_law s at BadRef (fits_need need) p arg))
     (λ (free, is). is)
     (λ h. (writable need p.source h.root h.access h.stands (and_parts (lends need h.access) (takes need p.sort) h.fitting).0, h)))
-reference_law {value} s need e arg law = never_after (value Reference) _ arg (λ t. never _ arg)
+reference_law {value} s need e arg law = never_after (value (referred need)) _ arg (λ t. never _ arg)
 
 any_place_law : {value : Wanted → Checked TypedExpr} {index : Checked TypedHeld} {IsValue : Values} {IsIndexed : Indexes} (s : Site) (sort : Sort) (e : PlainExpr) (arg : TypedArg)
     → PartsAre e value index IsValue IsIndexed → (any_place s sort e value index ≡ Ok arg) ↔ IsPlaceArg s false (λ access p. same_sort p.sort sort) e IsIndexed arg
@@ -158,7 +158,8 @@ meeting_meant_law s at (Some _) arg = neither (never _ arg) (λ (n, meant, held,
 meeting_law : (value : Wanted → Checked TypedExpr) (index : Checked TypedHeld) (s : Site) (e : PlainExpr) (arg : TypedArg) → (meeting s e value index ≡ Ok arg) ↔ IsMeeting s e arg
 meeting_law value index s (Place at (PlaceOf name NotHeld [])) arg = meeting_meant_law s at (named s name) arg
 meeting_law value index s (Place at (PlaceOf name held components)) arg =
-    neither (never_after (must s _ at NoName) _ arg (λ u. never_after index _ arg (λ i. never _ arg))) (λ (n, none, held, is). none)
+    neither (never_after (must s _ at NoName) _ arg (λ u. never_after index _ arg (λ i. never_after (parts_known s (datum_at s name) components) _ arg (λ known. never _ arg))))
+    (λ (n, none, held, is). none)
 meeting_law value index s e arg = neither (never_after (value Meeting) _ arg (λ t. never _ arg)) (λ (n, none, held, is). none)
 
 whole_pers_law : (s : Site) (at : ℕ) (sort : Sort) (source : Source) (arg : TypedArg)

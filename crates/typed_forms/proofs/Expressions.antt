@@ -14,17 +14,17 @@ use Rattle.data_scopes.specs.declared.fault.TypeRule.TheVariants.{TypeClash, Dim
 use Rattle.data_scopes.specs.Declarations.{Checked, ◌>>=◌}
 use Rattle.rapid_model.specs.Sorts.{has_values}
 use Rattle.named_data.specs.declared.wanted.Wanted.{Wanted}
-use Rattle.named_data.specs.declared.wanted.Wanted.TheVariants.{Is, Same}
+use Rattle.named_data.specs.declared.wanted.Wanted.TheVariants.{Any, Brackets, Is, Same, Fits, Nothing, Reference, ReferenceTo, Meeting}
 use Rattle.named_data.specs.Rules.{Site, must}
 use Rattle.named_data.specs.Wants.{fits, clash, untyped, inside, hands_on, needed_components, needed_sort, of_component, first_operand, suits, comes_to}
 use Rattle.named_data.specs.Data.{NamedPart, given, place_value, value_from, is_none}
 use Rattle.expr_types.specs.Arguments.{is_held}
-use Rattle.expr_types.specs.Calls.{Called, Taking, taking, function_at, call_rules, after}
+use Rattle.expr_types.specs.Calls.{Called, Taking, taking, function_at, count_rules, call_rules, after}
 use Rattle.expr_types.specs.Typing.{TypedRest, number_of, text_of, sort_of, count, aggregate, invoked, call, group, typed, elements, steps, index, index_in, arguments, one_argument}
 use Rattle.typed_forms.specs.Names.{IsPlace}
 use Rattle.typed_forms.specs.Calls.{IsCall, IsFunction}
 use Rattle.typed_forms.specs.Expressions.{IsPlaceValue, IsExpr, AreElements, AreSteps, IsIndex, IsIndexIn, AreArguments, IsOneArgument}
-use Rattle.typed_forms.proofs.Steps.{in_words, done, then, both, where_it_holds}
+use Rattle.typed_forms.proofs.Steps.{in_words, neither, done, never, then, never_after, both, where_it_holds}
 use Rattle.typed_forms.proofs.Names.{at_place}
 use Rattle.typed_forms.proofs.Arguments.{IndexIn}
 use Rattle.typed_forms.proofs.Calls.{function_law, call_law, needed_law, plain_option_law, valued_option_law}
@@ -61,6 +61,27 @@ aggregate_law s want at es parts t law =
     (λ (us, parts, (typed, (counted, is))). (us, parts, not-true untold typed, eqb-true (count es) wanted counted, is))
     (λ (us, parts, typed, counted, is). (us, parts, (not_from_false untold typed, (eq-eqb (count es) wanted counted, is))))
 
+-- a call where a value may stand, after its arguments
+valued_law : (s : Site) (want : Wanted) (at : ℕ) (called : Called) (args : PlainArgs) (us : TypedArgs) (t : TypedExpr)
+    → ((must s (fits want called.sort) at (clash want) >>= (λ _. call_rules s at called.signature args >>= (λ _. Ok (invoked at called.sort called.callee us)))) ≡ Ok t)
+    ↔ ((fits want called.sort ≡ true) × ((u : Unit {0}) × IsCall s called.signature args × (t ≡ invoked at called.sort called.callee us)))
+valued_law s want at called args us t =
+    where_it_holds s (fits want called.sort) at (clash want) _ t (
+    then (call_rules s at called.signature args) _ t (call_law s at called.signature args) (λ _. done (invoked at called.sort called.callee us) t))
+
+-- a call, after its arguments; none is the name of a meeting
+called_law : (s : Site) (want : Wanted) (at : ℕ) (called : Called) (args : PlainArgs) (us : TypedArgs) (t : TypedExpr)
+    → (call s want at called args us ≡ Ok t) ↔ ((fits want called.sort ≡ true) × ((u : Unit {0}) × IsCall s called.signature args × (t ≡ invoked at called.sort called.callee us)))
+called_law s Meeting at called args us t = neither (never_after (count_rules s at called.signature args) _ t (λ u. never _ t)) (λ (fit, _). cc)
+called_law s Any at called args us t = valued_law s Any at called args us t
+called_law s (Brackets sort) at called args us t = valued_law s (Brackets sort) at called args us t
+called_law s (Is sort) at called args us t = valued_law s (Is sort) at called args us t
+called_law s (Same sort) at called args us t = valued_law s (Same sort) at called args us t
+called_law s (Fits operator) at called args us t = valued_law s (Fits operator) at called args us t
+called_law s Nothing at called args us t = valued_law s Nothing at called args us t
+called_law s Reference at called args us t = valued_law s Reference at called args us t
+called_law s (ReferenceTo sort) at called args us t = valued_law s (ReferenceTo sort) at called args us t
+
 invoke_law : {AreParts : Taking → TypedArgs → Type 0} (s : Site) (want : Wanted) (at : ℕ) (name : PlainName) (args : PlainArgs) (parts : Taking → Checked TypedArgs) (t : TypedExpr)
     → ((taking : Taking) (us : TypedArgs) → (parts taking ≡ Ok us) ↔ AreParts taking us)
     → ((function_at s name >>= (λ called. parts (taking called.signature) >>= (λ us. call s want at called args us))) ≡ Ok t)
@@ -68,9 +89,7 @@ invoke_law : {AreParts : Taking → TypedArgs → Type 0} (s : Site) (want : Wan
 invoke_law s want at name args parts t law =
     in_words
     (then (function_at s name) _ t (function_law s name) (λ called.
-    then (parts (taking called.signature)) _ t (law (taking called.signature)) (λ us.
-    where_it_holds s (fits want called.sort) at (clash want) _ t (
-    then (call_rules s at called.signature args) _ t (call_law s at called.signature args) (λ _. done (invoked at called.sort called.callee us) t)))))
+    then (parts (taking called.signature)) _ t (law (taking called.signature)) (λ us. called_law s want at called args us t)))
     (λ (called, meant, (us, parts, (fit, (_, rules, is)))). (called, us, meant, parts, fit, rules, is))
     (λ (called, us, meant, parts, fit, rules, is). (called, meant, (us, parts, (fit, (tt, rules, is)))))
 

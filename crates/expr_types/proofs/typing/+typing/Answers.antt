@@ -11,7 +11,7 @@ use Rattle.typed_trees.specs.Views.{view_arg, view_expr, view_step}
 use Rattle.data_scopes.specs.declared.fault.TypeRule.TheVariants.{ArgName, BadRef, TypeClash}
 use Rattle.data_scopes.specs.Declarations.{Checked, ◌>>=◌}
 use Rattle.data_scopes.specs.Rows.{begin_of}
-use Rattle.named_data.specs.declared.wanted.Wanted.TheVariants.{Any, Nothing, Reference}
+use Rattle.named_data.specs.declared.wanted.Wanted.TheVariants.{Any, Nothing}
 use Rattle.named_data.specs.Data.{NamedPart, given, named}
 use Rattle.named_data.specs.Rules.{fail, must}
 use Rattle.named_data.specs.Views.{view_site}
@@ -30,13 +30,14 @@ argument-returns-in_err-place-in-Var t c =
     let site = view_site c.args.site.now in
     let e = view_raw c.args.raw.now in
     exits view_arg c.from_residual-in_err-place-in-Var.result c.in_err-place-in-Var.field-0.0 (argument site c.args.need e (typed site e) (index_in site e)) c.from_residual-in_err-place-in-Var.ensures.1
-    (stops (λ (r : Checked NamedPart). r >>= (λ p. lent_as site c.args.need (begin_of e) p)) (λ b. refl) c.in_err-place-in-Var.field-0.0 (place_in site false Reference BadRef e) (argument site c.args.need e (typed site e) (index_in site e)) (argument_by_reference site c.args.need e c.in-Var.is) c.in_err-place-in-Var.ensures)
+    (stops (λ (r : Checked NamedPart). r >>= (λ p. lent_as site c.args.need (begin_of e) p)) (λ b. refl) c.in_err-place-in-Var.field-0.0 (place_in site false c.referred.result BadRef e) (argument site c.args.need e (typed site e) (index_in site e))
+    (argument_by_reference site c.args.need e c.in-Var.is ∙ ap (λ want. place_in site false want BadRef e >>= (λ p. lent_as site c.args.need (begin_of e) p)) (sym c.referred.ensures)) c.in_err-place-in-Var.ensures)
 
 pub argument-returns-in_ok-place-in-Var : goal.argument-returns-in_ok-place-in-Var
 argument-returns-in_ok-place-in-Var t c =
     let site = view_site c.args.site.now in
     let e = view_raw c.args.raw.now in
-    along view_arg c.lent_as.result _ _ (argument_by_reference site c.args.need e c.in-Var.is ∙ ap (λ r. r >>= (λ p. lent_as site c.args.need (begin_of e) p)) c.in_ok-place-in-Var.ensures ∙ ap (λ at. lent_as site c.args.need at (view_part c.in_ok-place-in-Var.place)) (sym c.begin_of-at.ensures)) c.lent_as.ensures
+    along view_arg c.lent_as.result _ _ (argument_by_reference site c.args.need e c.in-Var.is ∙ ap (λ want. place_in site false want BadRef e >>= (λ p. lent_as site c.args.need (begin_of e) p)) (sym c.referred.ensures) ∙ ap (λ r. r >>= (λ p. lent_as site c.args.need (begin_of e) p)) c.in_ok-place-in-Var.ensures ∙ ap (λ at. lent_as site c.args.need at (view_part c.in_ok-place-in-Var.place)) (sym c.begin_of-at.ensures)) c.lent_as.ensures
 
 pub argument-returns-in_err-place-in-Place : goal.argument-returns-in_err-place-in-Place
 argument-returns-in_err-place-in-Place t c =
