@@ -1,16 +1,18 @@
 -- Elements of arrays, one after the other.
-use Rattle.std.proofs.Common.{◌≡◌, ℕ, ◌+◌, ◌<◌, ◌≤◌, Bool, true, false, ◌&&◌, List, [], ◌∷◌, ◌++◌, length, get_or, map, drop, Ok, Err, refl, sym, ap, ◌∙◌}
+use Rattle.std.proofs.Common.{◌≡◌, ℕ, ◌+◌, ◌<◌, ◌≤◌, suc, Bool, true, false, ◌&&◌, List, [], ◌∷◌, ◌++◌, length, get_or, map, drop, Ok, Err, refl, sym, ap, ◌∙◌}
 use Rattle.std.specs.List.{list_all}
-use Rattle.std.proofs.lemmas.List.{at_drop_all, at_drop_more, append-nil}
+use Rattle.std.proofs.lemmas.List.{at_drop_all, at_drop_more, append-nil, length-map}
 use Rattle.std.proofs.Math.Bool.{and-false}
 use Rattle.raw_trees.specs.declared.raw_expr.RawExpr.{RawExpr}
 use Rattle.raw_trees.specs.Plain.{exprs_of as raw_exprs_of}
 use Rattle.raw_trees.specs.Views.{view_expr as view_raw}
 use Rattle.rapid_model.specs.declared.sort.Sort.{Sort}
 use Rattle.rapid_model.specs.declared.value.Value.{Value}
+use Rattle.typed_trees.specs.declared.expr.Expr.{Expr}
 use Rattle.typed_trees.specs.Plain
 use Rattle.typed_trees.specs.Plain.{TypedExpr, TypedExprs, exprs_of}
-use Rattle.constant_meaning.specs.Constants.{Outcomes, all, stops, and_more}
+use Rattle.typed_trees.specs.Views.{view_expr}
+use Rattle.constant_meaning.specs.Constants.{Elements, Outcomes, all, stops, and_more, constant_value, constant_values}
 use Rattle.constant_meaning.specs.declared.outcome.Outcome.{Outcome}
 use Rattle.constant_meaning.specs.declared.outcome.Outcome.TheVariants as outcomes
 use Rattle.constant_meaning.proofs.Lists.{behind}
@@ -24,7 +26,7 @@ use Rattle.rapid_model.specs.Sorts.{is_value_of}
 use Rattle.named_data.specs.declared.wanted.Wanted.TheVariants.{Is}
 use Rattle.named_data.specs.Rules.{Site, fail, must}
 use Rattle.expr_types.specs.Typing.{typed}
-use Rattle.data_types.specs.Values.{array_elements, value_or_fault, values_or_fault}
+use Rattle.data_types.specs.Values.{array_elements, how_many, value_or_fault, values_or_fault}
 
 -- trees behind others
 abbrev pub in_front : List TypedExpr → TypedExprs → TypedExprs
@@ -65,6 +67,29 @@ elements_more site sort list i e lt is =
 pub elements_end : (site : Site) (sort : Sort) (list : List RawExpr) (i : ℕ) → length list ≤ i →
     array_elements site sort (raw_exprs_of (map view_raw (drop i list))) ≡ Ok Plain.NoExprs
 elements_end site sort list i le = at_drop_all (λ left. array_elements site sort (raw_exprs_of (map view_raw left))) list i le
+
+-- elements are as many as the trees that they are made of
+trees_counted : (es : List TypedExpr) → how_many (exprs_of es) ≡ length es
+trees_counted [] = refl
+trees_counted (e ∷ es) = ap (λ (n : ℕ). suc n) (trees_counted es)
+
+pub all_counted : (es : List Expr) → how_many (exprs_of (map view_expr es)) ≡ length es
+all_counted es = trees_counted (map view_expr es) ∙ length-map es view_expr
+
+-- where each element comes to a value, there are as many values
+one_more : (one : Outcome) (more : Outcomes) (n : ℕ) (vs : List Value) → ((ws : List Value) → more ≡ all ws → length ws ≡ n) → and_more one more ≡ all vs → length vs ≡ suc n
+one_more (outcomes.Value v) (all ws) n vs others is =
+    let same : vs ≡ v ∷ ws = cc in
+    ap length same ∙ ap (λ (n : ℕ). suc n) (others ws refl)
+one_more (outcomes.Value v) (stops other) n vs others is = absurd cc
+one_more other more n vs others is = absurd cc
+
+pub values_counted : (known : Elements) (ts : TypedExprs) (vs : List Value) → constant_values known ts ≡ all vs → length vs ≡ how_many ts
+unfolding constant_values
+values_counted known Plain.NoExprs vs is =
+    let none : vs ≡ [] = cc in
+    ap length none
+values_counted known (Plain.MoreExprs t ts) vs is = one_more (constant_value known t) (constant_values known ts) (how_many ts) vs (values_counted known ts) is
 
 -- a value that is found is of the type
 pub record IsFound (sort : Sort) (v : Value) (outcome : Outcome) : Type 0 where

@@ -1,8 +1,8 @@
 -- What checking of data takes is sound: lengths are within bounds, values are of their types, and so are the persistents.
-use Rattle.std.proofs.Common.{◌≡◌, ℕ, ℤ, pos, negsuc, zero, suc, ◌+◌, ◌/◌, ◌%◌, Bool, true, false, ◌&&◌, ◌||◌, ◌==◌, nat_le, List, [], ◌∷◌, ◌++◌, length, Option, Some, None, slice_get, Ok, refl, sym, ap, subst, ◌∙◌, if◌then◌else◌}
+use Rattle.std.proofs.Common.{◌≡◌, ℕ, ℤ, pos, negsuc, zero, suc, ◌+◌, ◌/◌, ◌%◌, Bool, true, false, ◌&&◌, ◌||◌, ◌==◌, nat_le, List, [], ◌∷◌, length, Option, Some, None, slice_get, Ok, refl, sym, ap, subst, ◌∙◌, if◌then◌else◌}
 use Rattle.std.specs.List.{list_all}
 use Rattle.std.proofs.lemmas.Bool.{and_from, and_parts}
-use Rattle.raw_trees.specs.Plain.{PlainDatum, PlainExpr, PlainItem, PlainModule, PlainRoutine, Datum, Routine}
+use Rattle.raw_trees.specs.Plain.{PlainDatum, PlainExpr, PlainItem, PlainModule, Datum, Routine}
 use Rattle.rapid_model.specs.Limits.{is_within, holds_where_there}
 use Rattle.rapid_model.specs.Sorts.{has_values, is_value_of, width}
 use Rattle.rapid_model.specs.declared.signal_row.SignalRow.{SignalRow}
@@ -17,7 +17,7 @@ use Rattle.constant_meaning.specs.declared.outcome.Outcome.TheVariants as outcom
 use Rattle.data_scopes.specs.declared.data_row.DatumRow.{DatumRow}
 use Rattle.data_scopes.specs.declared.fault.TypeRule.TheVariants.{NotConst, ConstFault, DimRange}
 use Rattle.data_scopes.specs.Called.{local_of}
-use Rattle.data_scopes.specs.Declarations.{Checked, ◌>>=◌}
+use Rattle.data_scopes.specs.Declarations.{Checked}
 use Rattle.data_scopes.specs.Naming.{names_of}
 use Rattle.data_scopes.specs.Numbers.{is_pers, is_scalar_const}
 use Rattle.data_scopes.specs.Rows.{begin_of}
@@ -30,7 +30,7 @@ use Rattle.named_data.specs.Rules.{Site, must}
 use Rattle.expr_types.specs.Typing.{typed}
 use Rattle.data_types.specs.Data.{Progress, Inner, beginning, sort_in, keeping, with_const, with_slot, with_pers, of_modules, datum_const, datum_pers, datum_slot, datum, with_local, local, locals, entered, left, routine, item, items, data_of}
 use Rattle.data_types.specs.Parts.{pers_row}
-use Rattle.data_types.specs.Values.{Initial, Brackets, longest_array, length_or_fault, whole_length, length_at, value_or_fault, single_value, brackets, values_or_fault, array_values, no_value, initial_values, site_of, values_at, len_of, init_rule, initial}
+use Rattle.data_types.specs.Values.{Initial, longest_array, length_or_fault, whole_length, length_at, value_or_fault, single_value, brackets, how_many, values_or_fault, array_values, no_value, initial_values, site_of, values_at, len_of, init_rule, initial}
 use Rattle.data_types.proofs.Elements.{found, held_if}
 
 -- a length is within bounds
@@ -96,11 +96,12 @@ array_fits s known sort len e vs is =
     let P : Type 0 = are_fit sort (Some len) vs ≡ true in
     let at : ℕ = begin_of e in
     behind P vs (brackets s sort e) _ is (λ b bracketed rest.
-    behind P vs (must s (are_constant known b.elements) at NotConst) _ rest (λ u constant more.
+    behind P vs (must s (b.at == at || how_many b.elements == len) b.at DimRange) _ rest (λ u fits others.
+    behind P vs (must s (are_constant known b.elements) at NotConst) _ others (λ w constant more.
     behind P vs (values_or_fault s at sort (constant_values known b.elements)) _ more (λ ws come_to counted.
     let both = held_if s b.at DimRange (length ws == len) ws vs counted in
     subst (λ l. are_fit sort (Some len) l ≡ true) both.0
-    (and_from (length ws == len) (list_all (is_value_of sort) ws) both.1 (values_fit s at sort (constant_values known b.elements) ws come_to)))))
+    (and_from (length ws == len) (list_all (is_value_of sort) ws) both.1 (values_fit s at sort (constant_values known b.elements) ws come_to))))))
 
 -- no value is given where the type has none
 where_valued : (P : Type 0) (has : Bool) (given : Checked (List Value)) (s : Site) (e : PlainExpr) (vs : List Value) → (if has then given else no_value s e) ≡ Ok vs → (given ≡ Ok vs → P) → P

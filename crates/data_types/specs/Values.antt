@@ -1,5 +1,5 @@
 -- Lengths and initial values of data: known before the run, and of the datum's type (RAPID Kernel, data declarations).
-use Rattle.std.specs.Prelude.{ℕ, not, ◌||◌, ◌==◌, List, [], ◌∷◌, length, replicate, map, Option, Some, None, is_some, Ok, if◌then◌else◌}
+use Rattle.std.specs.Prelude.{ℕ, suc, not, ◌||◌, ◌==◌, List, [], ◌∷◌, length, replicate, map, Option, Some, None, is_some, Ok, if◌then◌else◌}
 use Rattle.std.specs.List.{list_all}
 use Rattle.raw_trees.specs.Plain.{PlainDatum, PlainExpr, PlainExprs, Aggregate, Group, NoExprs, MoreExprs}
 use Rattle.rapid_model.specs.declared.sort.Sort.{Sort}
@@ -72,18 +72,25 @@ brackets site sort (Aggregate at es) = array_elements site sort es >>= (λ ts. O
 brackets site sort (Group at e) = brackets site sort e
 brackets site sort e = typed site e Nothing >>= (λ t. fail site (begin_of e) TypeClash)
 
+-- the number of elements
+abbrev pub how_many : TypedExprs → ℕ
+how_many Plain.NoExprs = 0
+how_many (Plain.MoreExprs e es) = suc (how_many es)
+
 -- what the elements of an array come to are values of its type
 abbrev pub values_or_fault : Site → ℕ → Sort → Outcomes → Checked (List Value)
 values_or_fault site at sort (all vs) = must site (list_all (is_value_of sort) vs) at ConstFault >>= (λ _. Ok vs)
 values_or_fault site at sort (stops other) = fail site at ConstFault
 
--- the initial value of an array of this length
+-- The initial value of an array of this length. Brackets in parentheses are a part of it: their number of elements is looked
+-- at before it is asked whether the whole is constant.
 abbrev pub array_values : Site → Elements → Sort → ℕ → PlainExpr → Checked (List Value)
 array_values site known sort len e =
     brackets site sort e >>= (λ b.
+    must site (b.at == begin_of e || how_many b.elements == len) b.at DimRange >>= (λ _.
     must site (are_constant known b.elements) (begin_of e) NotConst >>= (λ _.
     values_or_fault site (begin_of e) sort (constant_values known b.elements) >>= (λ vs.
-    must site (length vs == len) b.at DimRange >>= (λ _. Ok vs))))
+    must site (length vs == len) b.at DimRange >>= (λ _. Ok vs)))))
 
 -- data of the types without values have no initial value
 abbrev pub no_value : Site → PlainExpr → Checked (List Value)

@@ -1,15 +1,16 @@
 //! Initial values of arrays.
 
-ghost use Rattle.std.specs.Prelude.{◌≡◌, map};
+ghost use Rattle.std.specs.Prelude.{◌≡◌, ◌||◌, ◌==◌, map};
 ghost use Rattle.raw_trees.specs.Views.{view_expr as view_raw};
 ghost use Rattle.typed_trees.specs.Plain.{exprs_of};
 ghost use Rattle.typed_trees.specs.Views.{view_expr};
 ghost use Rattle.constant_meaning.specs.Constants.{constant_values, elements_of};
 ghost use Rattle.data_scopes.specs.Gives.{Gives};
 ghost use Rattle.named_data.specs.Views.{view_site};
+ghost use Rattle.data_types.specs.Parts.{view_brackets};
 ghost use Rattle.data_types.specs.Values;
 
-use crate::brackets::brackets_in;
+use crate::brackets::{Brackets, brackets_in};
 use crate::single::value_or_fault;
 use constant_meaning::{Arrays, are_constant, constant_value};
 use data_scopes::{TypeFault, TypeRule, begin_of};
@@ -36,6 +37,14 @@ fn values_or_fault(
     Ok(values)
 }
 
+/// Whether brackets are the whole value, or have as many elements as the array.
+#[tactic(auto, using(crate::proofs::Elements::all_counted))]
+fn is_whole_or_full(found: &Brackets, at: usize, len: u16) -> bool
+    ensures { result ≡ ((view_brackets found.now).at == at || Values.how_many (view_brackets found.now).elements == len) }
+{
+    found.at == at || found.elements.len() == usize::from(len)
+}
+
 /// The initial value of an array of this length.
 pub(crate) fn array_values(
     site: &Site<'_>,
@@ -48,6 +57,8 @@ pub(crate) fn array_values(
 {
     let found = brackets_in(site, sort, value)?;
     let at = begin_of(value);
+    let fits = is_whole_or_full(&found, at, len);
+    must(site, fits, found.at, TypeRule::DimRange)?;
     must(
         site,
         are_constant(known, &found.elements),

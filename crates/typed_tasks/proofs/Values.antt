@@ -1,6 +1,6 @@
 -- Lengths and initial values of data.
-use Rattle.std.proofs.Common.{◌≡◌, ◌↔◌, ℕ, ℤ, true, not, ◌||◌, ◌==◌, List, [], ◌∷◌, length, Option, Some, None, is_some, Ok, refl, sym, ap, subst, ◌∙◌}
-use Rattle.std.proofs.lemmas.Bool.{eqb-true, eq-eqb}
+use Rattle.std.proofs.Common.{◌≡◌, ◌↔◌, ℕ, ℤ, Bool, true, not, ◌||◌, ◌==◌, List, [], ◌∷◌, length, Option, Some, None, is_some, Ok, refl, sym, ap, subst, ◌∙◌}
+use Rattle.std.proofs.lemmas.Bool.{eqb-true, eq-eqb, or_right}
 use Rattle.std.specs.List.{list_all}
 use Rattle.raw_trees.specs.Plain.{PlainDatum, PlainExpr, PlainExprs, Aggregate, Group, NoExprs, MoreExprs}
 use Rattle.rapid_model.specs.declared.sort.Sort.{Sort}
@@ -21,7 +21,8 @@ use Rattle.rapid_model.specs.Sorts.{has_values, is_value_of}
 use Rattle.named_data.specs.declared.wanted.Wanted.TheVariants.{Is, Nothing}
 use Rattle.named_data.specs.Rules.{Site}
 use Rattle.expr_types.specs.Typing.{typed}
-use Rattle.data_types.specs.Values.{Initial, Brackets, longest_array, length_or_fault, whole_length, length_at, value_or_fault, single_value, array_elements, brackets, values_or_fault, array_values, no_value, initial_values, site_of, values_at, len_of, initial}
+use Rattle.data_types.specs.Values.{Initial, Brackets, longest_array, length_or_fault, whole_length, length_at, value_or_fault, single_value, array_elements, brackets, how_many, values_or_fault, array_values, no_value, initial_values, site_of, values_at, len_of, initial}
+use Rattle.data_types.proofs.Elements.{values_counted}
 use Rattle.typed_forms.proofs.Steps.{in_words, neither, done, never, then, both, never_after, where_it_holds}
 use Rattle.typed_forms.proofs.Expressions.{typed_law}
 use Rattle.typed_tasks.specs.Data.{IsLength, IsLen, IsSingle, AreArrayElements, AreBrackets, AreArrayValues, AreInitialValues, AreValues, IsInitial}
@@ -104,14 +105,23 @@ AreFound known sort len vs ts =
     (are_constant known ts ≡ true)
     × ((found : List Value) × ((constant_values known ts ≡ all found) × (list_all (is_value_of sort) found ≡ true)) × (((length found == len) ≡ true) × (vs ≡ found)))
 
+-- where the values are as many as wanted, so are the elements
+counted_before : (whole : Bool) (known : Elements) (sort : Sort) (len : ℕ) (vs : List Value) (ts : TypedExprs) → AreFound known sort len vs ts → (whole || how_many ts == len) ≡ true
+counted_before whole known sort len vs ts (constant, (found, (come_to, fit), (counted, same))) =
+    or_right whole (how_many ts == len) (ap (λ n. n == len) (sym (values_counted known ts found come_to)) ∙ counted)
+
 array_law : (s : Site) (known : Elements) (sort : Sort) (len : ℕ) (e : PlainExpr) (vs : List Value) → (array_values s known sort len e ≡ Ok vs) ↔ AreArrayValues s known sort len e vs
 array_law s known sort len e vs =
     let at : ℕ = begin_of e in
     in_words
     (at_brackets {Q = AreFound known sort len vs} s sort e _ vs (λ b.
+    in_words
+    (where_it_holds s (b.at == at || how_many b.elements == len) b.at DimRange _ vs (
     where_it_holds s (are_constant known b.elements) at NotConst _ vs (
     then (values_or_fault s at sort (constant_values known b.elements)) _ vs (values_law s at sort (constant_values known b.elements)) (λ found.
     where_it_holds s (length found == len) b.at DimRange _ vs (done found vs)))))
+    (λ (counted, found). found)
+    (λ found. (counted_before (b.at == at) known sort len vs b.elements found, found))))
     (λ (ts, are, (constant, (found, (come_to, fit), (counted, same)))).
     (ts, are, constant, subst (λ vs. constant_values known ts ≡ all vs) (sym same) come_to, subst (λ vs. list_all (is_value_of sort) vs ≡ true) (sym same) fit, ap length same ∙ eqb-true (length found) len counted))
     (λ (ts, are, constant, come_to, fit, counted). (ts, are, (constant, (vs, (come_to, fit), (eq-eqb (length vs) len counted, refl)))))
