@@ -1,7 +1,8 @@
 pub mod CellLimits
+pub mod Kept
 pub mod Holds
 pub mod Joined
 pub mod Keys
-pub mod Places
+pub mod NameTables
 pub mod SoundInfo
 pub mod SoundTables

@@ -1,5 +1,5 @@
 -- The persistents and meetings of sound trees are those of a cell.
-use Rattle.std.proofs.Common.{◌≡◌, ℕ, ◌+◌, ◌<◌, Bool, true, false, not, ◌&&◌, nat_le, List, [], ◌∷◌, length, map, slice_get, Option, None, Some, Ok, Err, refl, ◌∙◌, subst, arith}
+use Rattle.std.proofs.Common.{◌≡◌, ℕ, ◌+◌, ◌<◌, true, not, ◌&&◌, nat_le, List, [], ◌∷◌, length, map, slice_get, Option, None, Some, Ok, Err, refl, ◌∙◌, subst, arith}
 use Rattle.std.specs.List.{list_all, All}
 use Rattle.std.specs.Result.{IfOk}
 use Rattle.std.proofs.lemmas.Bool.{and_parts, lt-ltb}
@@ -12,15 +12,13 @@ use Rattle.std.proofs.lemmas.Result.{IfOk-at_ok}
 use Rattle.rapid_model.specs.CellData.{is_pers_cell}
 use Rattle.rapid_model.specs.Sorts.{width}
 use Rattle.rapid_model.specs.declared.pers_value.PersValue.{PersValue}
-use Rattle.rapid_model.specs.declared.script_rule.ScriptRule.{ScriptRule}
 use Rattle.rapid_model.specs.declared.script_rule.ScriptRule.TheVariants.{Kind, Range, Twice}
 use Rattle.named_data.specs.Wants.{same_sort}
 use Rattle.typed_trees.specs.Plain.{TypedPers, TypedTree}
 use Rattle.typed_trees.specs.Sound.{is_sound, has_sound_pers}
-use Rattle.cell_numbers.specs.Cells
-use Rattle.cell_numbers.specs.Cells.{Making, ◌>>=◌, PersInfo, Numbered, PersTables, CellTables, Meetings, MeetingTables, new_pers, added, joined, join, global_pers, one_pers, all_pers, with_list, trees_pers, global_number, same_len, has_sort, fits_index, element, is_told, with_declared, with_told, tell_to, tell_global, tell, tell_all, meet_all, meetings_with, trees_meetings, tables, cell_tables, Clash}
+use Rattle.cell_numbers.specs.Cells.{◌>>=◌, PersInfo, Numbered, PersTables, CellTables, MeetingTables, new_pers, added, joined, join, global_pers, one_pers, all_pers, with_list, trees_pers, global_number, same_len, has_sort, fits_index, element, is_told, with_declared, with_told, tell_to, tell_global, tell, tell_all, meet_all, meetings_with, trees_meetings, tables, cell_tables, Clash}
 use Rattle.cell_numbers.specs.Made.{pers_cell}
-use Rattle.cell_numbers.proofs.Holds.{then_holds, either_holds}
+use Rattle.cell_numbers.proofs.Holds.{then_holds, either_holds, must_hold}
 use Rattle.cell_numbers.proofs.SoundInfo.{IsSoundInfo, new_sound, declared_sound, told_sound, cell_sound}
 
 -- with so many tasks
@@ -71,10 +69,6 @@ trees_sound tasks t task (tree ∷ trees) count lists sound all =
     then_holds (λ (n : Numbered). AreSound tasks n.pers) (AreSoundPers tasks) (all_pers (record { pers = t.pers; numbers = [] }) task tree.pers) (λ n. trees_pers (with_list t n) (task + 1) trees)
     (all_sound tasks (record { pers = t.pers; numbers = [] }) task tree.pers (omega arith) here all)
     (λ n is. trees_sound tasks (with_list t n) (task + 1) trees (omega arith) (omega (arith, length-append t.lists (n.numbers ∷ []))) more is)
-
-must_hold : {A : Type 0} (Q : A → Type 0) (holds : Bool) (number : ℕ) (rule : ScriptRule) (next : Making A) → (holds ≡ true → IfOk next Q) → IfOk (Cells.must holds number rule next) Q
-must_hold Q true number rule next rest = rest refl
-must_hold Q false number rule next rest = tt
 
 tell_to_sound : (tasks : ℕ) (ps : List PersInfo) (number : ℕ) (row : PersValue) (k : ℕ) (found : Option PersInfo) → AreSound tasks ps → slice_get ps k ≡ found → IfOk (tell_to ps number row k found) (AreSound tasks)
 tell_to_sound tasks ps number row k None all at = tt

@@ -21,13 +21,13 @@ abbrev pub view_lists : Vec (Vec ℕ Global) Global → List (List ℕ)
 view_lists lists = map (λ v. v.items) lists.items
 
 abbrev pub view_numbered : Numbered → Cells.Numbered
-view_numbered n = record { pers = view_infos n.pers; numbers = n.numbers.items }
+view_numbered n = record { pers = n.pers; numbers = n.numbers.items }
 
 abbrev pub view_pers_tables : PersTables → Cells.PersTables
-view_pers_tables t = record { pers = view_infos t.pers; lists = view_lists t.lists }
+view_pers_tables t = record { pers = t.pers; lists = view_lists t.lists }
 
 abbrev pub view_meetings : Met → Cells.Meetings
-view_meetings m = record { names = m.names.items; numbers = m.numbers.items }
+view_meetings m = record { names = m.names; numbers = m.numbers.items }
 
 abbrev pub view_meeting_tables : MeetingTables → Cells.MeetingTables
-view_meeting_tables t = record { names = t.names.items; lists = view_lists t.lists }
+view_meeting_tables t = record { names = t.names; lists = view_lists t.lists }

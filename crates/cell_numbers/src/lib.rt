@@ -3,11 +3,13 @@
 
 mod cell;
 mod cell_fault;
-mod global;
+mod key;
 mod make;
+mod meeting_names;
 mod meeting_tables;
 mod meetings;
 mod met;
+mod name_table;
 mod number;
 mod numbered;
 mod one_pers;
@@ -15,6 +17,7 @@ mod own_numbers;
 mod pers_cells;
 mod pers_info;
 mod pers_tables;
+mod persistents;
 mod rows;
 mod tables;
 mod telling;

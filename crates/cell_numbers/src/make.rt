@@ -26,15 +26,15 @@ pub fn cell_tables(
         pers,
         lists: pers_of,
     } = trees_pers(alloc, trees)?;
-    let pers = tell_all(pers, values)?;
+    let pers = tell_all(pers, values)?.into_infos();
     let MeetingTables {
-        names: meetings,
+        names,
         lists: meeting_of,
     } = trees_meetings(alloc, trees)?;
     Ok(CellTables {
         pers,
         pers_of,
-        meetings,
+        meetings: names.into_names(),
         meeting_of,
     })
 }

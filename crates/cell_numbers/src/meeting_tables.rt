@@ -1,8 +1,8 @@
-use rapid_model::NameText;
+use crate::meeting_names::MeetingNames;
 
 /// The meetings of the cell, and for each tree the numbers of its own.
-#[derive(Debug, Drop)]
+#[derive(Drop)]
 pub(crate) struct MeetingTables {
-    pub(crate) names: Vec<NameText>,
+    pub(crate) names: MeetingNames,
     pub(crate) lists: Vec<Vec<u32>>,
 }

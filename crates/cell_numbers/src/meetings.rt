@@ -1,13 +1,13 @@
 //! The meetings of a cell, and for each tree the numbers of its own.
 
-ghost use Rattle.std.specs.Prelude.{◌≡◌, [], Ok, map, position};
-ghost use Rattle.std.specs.Str.{str_eq_ignore_ascii_case};
+ghost use Rattle.std.specs.Prelude.{[], Ok, map};
 ghost use Rattle.typed_trees.specs.Views.{view_tree};
 ghost use Rattle.cell_numbers.specs.Cells;
 ghost use Rattle.cell_numbers.specs.Parts.{view_lists, view_meetings, view_meeting_tables};
 ghost use Rattle.cell_numbers.specs.Views.{Gives};
 
 use crate::cell_fault::CellFault;
+use crate::meeting_names::MeetingNames;
 use crate::meeting_tables::MeetingTables;
 use crate::met::Met;
 use crate::number::number_of;
@@ -15,32 +15,11 @@ use rapid_model::NameText;
 use std::alloc::Global;
 use typed_trees::Tree;
 
-/// The place of the first meeting of this name, letters of either case being the same.
-fn meeting_place(name: &NameText, names: &[NameText]) -> Option<usize>
-    ensures { result ≡ position (str_eq_ignore_ascii_case name.now) names.now }
-{
-    names
-        .iter()
-        .position(|other| name.bytes().eq_ignore_ascii_case(other.bytes()))
-}
-
-/// The number of the first meeting of this name. Its error is want of memory.
-#[tactic(auto, using(crate::proofs::Places::meeting_number_at))]
-fn meeting_number(name: &NameText, names: &[NameText]) -> Result<Option<u32>, CellFault>
-    ensures { Gives (λ number. number) result (Ok (Cells.meeting_number name.now names.now)) }
-{
-    match meeting_place(name, names) {
-        Some(place) => Ok(Some(number_of(place)?)),
-        None => Ok(None),
-    }
-}
-
 /// One more name of a meeting, that of this number where there is one. Its error is want of memory.
 fn met(before: Met, name: &NameText, number: Option<u32>) -> Result<Met, CellFault>
     ensures { Gives view_meetings result (Ok (Cells.met (view_meetings before) name.now number)) }
 {
     let Met { names, numbers } = before;
-    let mut names = names;
     let mut numbers = numbers;
     match number {
         Some(number) => {
@@ -49,7 +28,7 @@ fn met(before: Met, name: &NameText, number: Option<u32>) -> Result<Met, CellFau
         }
         None => {
             numbers.push(number_of(names.len())?)?;
-            names.push(name.copy())?;
+            let names = names.with_name(name.copy())?;
             Ok(Met { names, numbers })
         }
     }
@@ -61,7 +40,7 @@ fn meet_all(before: Met, names: &[NameText]) -> Result<Met, CellFault>
 {
     let mut more = before;
     for name in names {
-        let number = meeting_number(name, &more.names)?;
+        let number = more.names.meeting_number(name);
         more = met(more, name, number)?;
     }
     Ok(more)
@@ -82,7 +61,7 @@ pub(crate) fn trees_meetings(alloc: Global, trees: &[Tree]) -> Result<MeetingTab
     ensures { Gives view_meeting_tables result (Ok (Cells.trees_meetings (record { names = []; lists = [] }) (map view_tree trees.now))) }
 {
     let mut tables = MeetingTables {
-        names: Vec::new(alloc),
+        names: MeetingNames::new(alloc),
         lists: Vec::new(alloc),
     };
     for tree in trees {

@@ -1,8 +1,8 @@
-use rapid_model::NameText;
+use crate::meeting_names::MeetingNames;
 
 /// The meetings of the cell so far, and the numbers of those of the tree at hand.
-#[derive(Debug, Drop)]
+#[derive(Drop)]
 pub(crate) struct Met {
-    pub(crate) names: Vec<NameText>,
+    pub(crate) names: MeetingNames,
     pub(crate) numbers: Vec<u32>,
 }

@@ -6,11 +6,12 @@ ghost use Rattle.cell_numbers.specs.Views.{Gives, view_info};
 use crate::cell_fault::CellFault;
 use crate::number::number_of;
 use crate::pers_info::PersInfo;
+use crate::persistents::Persistents;
 
 /// The persistents of the cell so far, and the numbers of those of the tree at hand.
-#[derive(Debug, Drop)]
+#[derive(Drop)]
 pub(crate) struct Numbered {
-    pub(crate) pers: Vec<PersInfo>,
+    pub(crate) pers: Persistents,
     pub(crate) numbers: Vec<u32>,
 }
 
@@ -19,9 +20,8 @@ pub(crate) fn added(before: Numbered, info: PersInfo) -> Result<Numbered, CellFa
     ensures { Gives view_numbered result (Ok (Cells.added (view_numbered before) (view_info info))) }
 {
     let Numbered { pers, numbers } = before;
-    let mut pers = pers;
     let mut numbers = numbers;
     numbers.push(number_of(pers.len())?)?;
-    pers.push(info)?;
+    let pers = pers.with_info(info)?;
     Ok(Numbered { pers, numbers })
 }

@@ -9,9 +9,9 @@ ghost use Rattle.cell_numbers.specs.Parts.{view_numbered, view_values};
 ghost use Rattle.cell_numbers.specs.Views.{Gives, view_info};
 
 use crate::cell_fault::CellFault;
-use crate::global::global_number;
 use crate::numbered::{Numbered, added};
 use crate::pers_info::PersInfo;
+use crate::persistents::Persistents;
 use named_data::same_sort;
 use rapid_model::{Value, width};
 use std::alloc::Global;
@@ -101,14 +101,15 @@ fn join(
 ) -> Result<Numbered, CellFault>
     ensures { let n = view_numbered before in Gives view_numbered result (Cells.join n task (view_pers row.now) number (slice_get n.pers number)) }
 {
-    let Numbered { pers, numbers } = before;
-    let mut pers = pers;
-    let mut numbers = numbers;
     let place = number as usize;
-    if place >= pers.len() {
-        return added(Numbered { pers, numbers }, new_pers(alloc, None, row)?);
+    if place >= before.pers.len() {
+        return added(before, new_pers(alloc, None, row)?);
     }
-    let info = &mut pers[place];
+    let Numbered { pers, numbers } = before;
+    let Persistents { infos, globals } = pers;
+    let mut infos = infos;
+    let mut numbers = numbers;
+    let info = &mut infos[place];
     if !is_alike(info, row) {
         return Err(CellFault::Clash {
             task,
@@ -118,6 +119,7 @@ fn join(
     }
     with_declared(alloc, info, row)?;
     numbers.push(number)?;
+    let pers = Persistents { infos, globals };
     Ok(Numbered { pers, numbers })
 }
 
@@ -149,7 +151,7 @@ fn one_pers(
     if row.own {
         return added(before, new_pers(alloc, Some(task), row)?);
     }
-    let number = global_number(&row.name, &before.pers)?;
+    let number = before.pers.global_number(&row.name);
     global_pers(alloc, before, task, row, number)
 }
 

@@ -1,8 +1,8 @@
-use crate::pers_info::PersInfo;
+use crate::persistents::Persistents;
 
 /// The persistents of the cell, and for each tree the numbers of its own.
-#[derive(Debug, Drop)]
+#[derive(Drop)]
 pub(crate) struct PersTables {
-    pub(crate) pers: Vec<PersInfo>,
+    pub(crate) pers: Persistents,
     pub(crate) lists: Vec<Vec<u32>>,
 }

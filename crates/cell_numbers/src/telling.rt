@@ -9,8 +9,8 @@ ghost use Rattle.cell_numbers.specs.Parts.{view_infos};
 ghost use Rattle.cell_numbers.specs.Views.{Gives, view_info};
 
 use crate::cell_fault::CellFault;
-use crate::global::global_number;
 use crate::pers_info::PersInfo;
+use crate::persistents::Persistents;
 use itoa::Buffer;
 use rapid_model::{PersValue, ScriptRule, Sort, Text, Value, width};
 
@@ -151,18 +151,20 @@ fn tell_global(
 }
 
 /// The value of this number in the script.
-fn tell(infos: Vec<PersInfo>, number: usize, row: &PersValue) -> Result<Vec<PersInfo>, CellFault>
-    ensures { Gives view_infos result (Cells.tell (view_infos infos) number row.now) }
+fn tell(pers: Persistents, number: usize, row: &PersValue) -> Result<Persistents, CellFault>
+    ensures { Gives (λ told. told) result (Cells.tell pers number row.now) }
 {
-    let k = global_number(&row.name, &infos)?;
-    tell_global(infos, number, row, k)
+    let k = pers.global_number(&row.name);
+    let Persistents { infos, globals } = pers;
+    let infos = tell_global(infos, number, row, k)?;
+    Ok(Persistents { infos, globals })
 }
 
 /// The values of the script, in order.
-pub(crate) fn tell_all(infos: Vec<PersInfo>, rows: &[PersValue]) -> Result<Vec<PersInfo>, CellFault>
-    ensures { Gives view_infos result (Cells.tell_all (view_infos infos) 0 rows.now) }
+pub(crate) fn tell_all(pers: Persistents, rows: &[PersValue]) -> Result<Persistents, CellFault>
+    ensures { Gives (λ told. told) result (Cells.tell_all pers 0 rows.now) }
 {
-    let mut told = infos;
+    let mut told = pers;
     for (number, row) in rows.iter().enumerate() {
         told = tell(told, number, row)?;
     }

@@ -135,6 +135,47 @@ fn one_persistent_of_two_trees(rt: HostRuntime) -> Result<(), Fail> {
     Ok(())
 }
 
+// TASK PERS num a, PERS num A and PERS num b; in the second task PERS num a; and in the third TASK PERS num A, PERS num B and
+// PERS num a.
+fn three(alloc: Global) -> Result<Vec<Tree>, AllocError> {
+    let own = pers(b"a", true, 10, None, None);
+    let one = pers(b"A", false, 20, None, None);
+    let other = pers(b"b", false, 30, None, None);
+    let again = pers(b"a", false, 10, None, None);
+    let third = pers(b"A", true, 10, None, None);
+    let last = pers(b"B", false, 20, None, None);
+    let more = pers(b"a", false, 30, None, None);
+    let first = tree(alloc, vec![in alloc; own, one, other]?, Vec::new(alloc));
+    let second = tree(alloc, vec![in alloc; again]?, Vec::new(alloc));
+    let last = tree(alloc, vec![in alloc; third, last, more]?, Vec::new(alloc));
+    Ok(vec![in alloc; first, second, last]?)
+}
+
+#[test]
+fn persistents_of_three_trees(rt: HostRuntime) -> Result<(), Fail> {
+    let alloc = rt.alloc();
+    let trees = three(alloc).map_err(|_| "trees are made")?;
+    let Ok(cell) = cell_tables(alloc, &[], &trees) else {
+        return Err("a cell is made".into());
+    };
+    let [own, one, other, third] = cell.pers.as_slice() else {
+        return Err("there are four persistents".into());
+    };
+    assert_eq!(rt; own.owner, Some(0));
+    assert_eq!(rt; one.owner, None);
+    assert_eq!(rt; other.owner, None);
+    assert_eq!(rt; third.owner, Some(2));
+    assert_eq!(rt; one.name.bytes(), b"A".as_slice());
+    assert_eq!(rt; other.name.bytes(), b"b".as_slice());
+    let [first, second, last] = cell.pers_of.as_slice() else {
+        return Err("there are three trees".into());
+    };
+    assert_eq!(rt; first.as_slice(), [0, 1, 2].as_slice());
+    assert_eq!(rt; second.as_slice(), [1].as_slice());
+    assert_eq!(rt; last.as_slice(), [3, 2, 1].as_slice());
+    Ok(())
+}
+
 /// Two tasks, and a value of the shared persistent.
 const SCRIPT: &str =
     "version = 1\n[[task]]\nname = \"ONE\"\nmodules = [\"one.mod\"]\n[[task]]\nname = \"TWO\"\nmodules = [\"two.mod\"]\n[[pers]]\nname = \"cOUNTS\"\nindex = 2\nnum = \"7\"\n";

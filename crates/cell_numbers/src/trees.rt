@@ -11,6 +11,7 @@ use crate::number::next;
 use crate::numbered::Numbered;
 use crate::one_pers::all_pers;
 use crate::pers_tables::PersTables;
+use crate::persistents::Persistents;
 use std::alloc::Global;
 use typed_trees::Tree;
 
@@ -29,7 +30,7 @@ pub(crate) fn trees_pers(alloc: Global, trees: &[Tree]) -> Result<PersTables, Ce
     ensures { Gives view_pers_tables result (Cells.trees_pers (record { pers = []; lists = [] }) 0 (map view_tree trees.now)) }
 {
     let mut tables = PersTables {
-        pers: Vec::new(alloc),
+        pers: Persistents::new(alloc),
         lists: Vec::new(alloc),
     };
     let mut task = 0;
