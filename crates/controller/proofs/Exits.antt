@@ -20,7 +20,7 @@ use Rattle.controller.specs.Files.{text_of}
 use Rattle.controller.specs.Loaded.{mention_of, names_in_turn, file_names, bytes_of, reads_of, IsScriptIn, AreTexts, TextsDecide}
 use Rattle.controller.specs.Accepted.{Verdict, refuses, accepts, runs, Accepted, Build, ReadModule, script_limit, file_text, mentions, ModulesOf, checked, AreBuilds, not_built, trees_of, unless_refused, ActionDecides, CheckedDecides, ModulesDecide, FileDecides, WordsDecide}
 use Rattle.controller.specs.Printed.{Sunk}
-use Rattle.controller.specs.Answered.{IsRefused, IsPrinted, IsCutShort, Answers, AnswersAccepted, AnswersReads, AnswersBuilt, IsOutOfMemory, RunsOrMemory, AnswersWords}
+use Rattle.controller.specs.Answered.{IsRefused, IsPrinted, IsCutShort, Answers, AnswersAccepted, AnswersReads, AnswersBuilt, IsOutOfMemory, RunsOrMemory, ForSomeTexts, AnswersWords}
 use Rattle.controller.proofs.Loads.{modules_from_texts}
 use Rattle.controller.proofs.Mentions.{names_are}
 
@@ -42,6 +42,7 @@ words_refused words told place report out err at r =
     inr (
       refuses [] (Words place),
       r,
+      tt,
       of_all told (λ files. Accepted words files (refuses [] (Words place)))
           (λ files. record { decides = subst (λ (o : Option ℕ). WordsDecide files words o (refuses [] (Words place))) (sym at) refl }),
     )
@@ -64,18 +65,19 @@ script_refused_in : (words : List (List ℕ)) (files : Told) (name : List ℕ) (
     → IsRefused (name ∷ []) refused report out err → IsScriptIn (text_of 0 script_limit (found files name)) (Err refused) → AnswersWords words (Some files) report out err
 script_refused_in words files name refused report out err taken is r (inl memory) = inl (out_of_memory (name ∷ []) refused report out err memory r)
 script_refused_in words files name refused report out err taken is r (inr (inl read)) =
-    inr (refuses (name ∷ []) refused, r, words_decide words files name (Err refused) (refuses (name ∷ []) refused) taken is read refl)
+    inr (refuses (name ∷ []) refused, r, tt, words_decide words files name (Err refused) (refuses (name ∷ []) refused) taken is read refl)
 script_refused_in words files name refused report out err taken is r (inr (inr rule)) =
     inr (
       refuses (name ∷ []) refused,
       r,
+      tt,
       words_decide words files name (Ok rule.0) (refuses (name ∷ []) refused) taken is rule.2 (Err rule.1, rule.3, ap (refuses (name ∷ [])) rule.4),
     )
 
 -- the script is refused
 pub script_refused : (words : List (List ℕ)) (told : Option Told) (name : List ℕ) (refused : Refused) (report : Report) (out err : Sunk) → refused_place words ≡ None → name ≡ script_name words
     → IsRefused (name ∷ []) refused report out err → IfSome told (λ files. IsScriptIn (text_of 0 script_limit (found files name)) (Err refused)) → AnswersWords words told report out err
-script_refused words None name refused report out err taken is r in_file = inr (refuses (name ∷ []) refused, r, tt)
+script_refused words None name refused report out err taken is r in_file = inr (refuses (name ∷ []) refused, r, tt, tt)
 script_refused words (Some files) name refused report out err taken is r in_file = script_refused_in words files name refused report out err taken is r in_file
 
 -- the words, the script and its modules, as they are read
@@ -111,14 +113,14 @@ module_refused_in : (words : List (List ℕ)) (files : Told) (later : Option Tol
     → (let all : Result (List ReadModule) Refused = Err refused in all ≡ Err Memory) ⊎ ModulesOf files 1 (names_in_turn ms) (Err refused) → AnswersWords words (Some files) report out err
 module_refused_in words files later name script ms refused report out err r t (inl memory) = let e : refused ≡ Memory = cc in inl (out_of_memory (file_names name ms) refused report out err e t)
 module_refused_in words files later name script ms refused report out err r t (inr d) =
-    inr (refuses (file_names name ms) refused, t, modules_decide words files later name script ms (Err refused) (refuses (file_names name ms) refused) r d refl)
+    inr (refuses (file_names name ms) refused, t, tt, modules_decide words files later name script ms (Err refused) (refuses (file_names name ms) refused) r d refl)
 
 -- a module is refused
 pub module_refused : (words : List (List ℕ)) (told later : Option Told) (name : List ℕ) (script : ScriptData) (ms : List declared_mention.Mention) (texts : List (List ℕ)) (failed : Option Refused) (refused : Refused)
     (report : Report) (out err : Sunk) → IsRead words told later name script ms → IsRefused (file_names name ms) refused report out err
     → ((files : Told) → later ≡ Some (after_reads 1 files) → AreTexts files 1 (names_in_turn ms) texts failed) → AreRefused texts failed refused → AnswersWords words told report out err
 module_refused words told later name script ms texts failed refused report out err r t read (inl memory) = inl (out_of_memory (file_names name ms) refused report out err memory t)
-module_refused words None later name script ms texts failed refused report out err r t read (inr d) = inr (refuses (file_names name ms) refused, t, tt)
+module_refused words None later name script ms texts failed refused report out err r t read (inr d) = inr (refuses (file_names name ms) refused, t, tt, tt)
 module_refused words (Some files) later name script ms texts failed refused report out err r t read (inr d) =
     module_refused_in words files later name script ms refused report out err r t
     (modules_from_texts files 1 (names_in_turn ms) texts failed (Err refused) (read files r.after) d)
@@ -140,6 +142,14 @@ read_whole words None later name action script ms texts failed reads verdict r a
 read_whole words (Some files) later name action script ms texts failed reads verdict r asked read d decides =
     read_whole_in words files later name action script ms reads verdict r asked (modules_from_texts files 1 (names_in_turn ms) texts failed (Ok reads) (read files r.after) d) decides
 
+some_texts : (words : List (List ℕ)) (action : Option Action) (names : List (List ℕ)) (script : ScriptData) (reads : List ReadModule) (verdict : Verdict) → first_action (plain_words words) ≡ action
+    → CheckedDecides action names script reads (checked script reads) verdict → ForSomeTexts (first_action (plain_words words)) verdict
+some_texts words action names script reads (refuses old refused) asked d = tt
+some_texts words action names script reads (accepts old) asked d =
+    (names, script, reads, subst (λ (a : Option Action). CheckedDecides a names script reads (checked script reads) (accepts old)) (sym asked) d)
+some_texts words action names script reads (runs old cell trees) asked d =
+    (names, script, reads, subst (λ (a : Option Action). CheckedDecides a names script reads (checked script reads) (runs old cell trees)) (sym asked) d)
+
 -- all is read
 pub all_read : (words : List (List ℕ)) (told later : Option Told) (name : List ℕ) (action : Option Action) (script : ScriptData) (ms : List declared_mention.Mention) (texts : List (List ℕ)) (failed : Option Refused)
     (reads : List ReadModule) (report : Report) (out err : Sunk) → IsRead words told later name script ms → first_action (plain_words words) ≡ action
@@ -147,7 +157,12 @@ pub all_read : (words : List (List ℕ)) (told later : Option Told) (name : List
     → AnswersReads action (file_names name ms) script reads report out err → AnswersWords words told report out err
 all_read words told later name action script ms texts failed reads report out err r asked read d (inl memory) = inl memory
 all_read words told later name action script ms texts failed reads report out err r asked read d (inr answers) =
-    inr (answers.0, answers.2, read_whole words told later name action script ms texts failed reads answers.0 r asked read d answers.1)
+    inr (
+      answers.0,
+      answers.2,
+      some_texts words action (file_names name ms) script reads answers.0 asked answers.1,
+      read_whole words told later name action script ms texts failed reads answers.0 r asked read d answers.1,
+    )
 
 -- the same as the program has them
 pub parsed_here : (texts here seen : List (Vec ℕ Global)) (trees shown : List RawModule) (failed : Option Refused) → here ≡ texts → seen ≡ texts → shown ≡ trees

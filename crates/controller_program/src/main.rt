@@ -6,13 +6,13 @@ use outside::{FileShelf, StreamSink};
 use std::process::ExitCode;
 use std::{env, io};
 
-/// The status where the command words could not be had for want of memory.
-const OUT_OF_MEMORY: u8 = 7;
+/// The status where the command words could not be had: for want of memory, or since one is no UTF-8.
+const NO_WORDS: u8 = 7;
 
 fn main(rt: HostRuntime) -> ExitCode {
     match run(&rt) {
         Ok(status) => ExitCode::from(status),
-        Err(_) => ExitCode::from(OUT_OF_MEMORY),
+        Err(_) => ExitCode::from(NO_WORDS),
     }
 }
 
