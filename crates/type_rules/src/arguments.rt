@@ -29,7 +29,22 @@ pub static READ_ONLY: [Row; 13] = [
 ];
 
 /// BadRef: reference arguments that are no place of the needed kind and type.
-pub static BAD_REF: [Row; 39] = [
+pub static BAD_REF: [Row; 45] = [
+    (
+        b"PROC p(INOUT robjoint x) ENDPROC",
+        b"p ^[1, 2, 3, 4, 5, 6];",
+    ),
+    (
+        b"PROC p(VAR robjoint x) ENDPROC",
+        b"p ^([1, 2, 3, 4, 5, 6]);",
+    ),
+    (
+        b"PROC p(PERS jointtarget x) ENDPROC",
+        b"p ^[[1, 2, 3, 4, 5, 6], [1, 2, 3, 4, 5, 6]];",
+    ),
+    (b"PROC p(INOUT tasks x) ENDPROC", b"p ^[\"A\"];"),
+    (b"PROC p(INOUT robjoint x) ENDPROC", b"p ^(1 + 2);"),
+    (b"PROC p(INOUT num x) ENDPROC", b"p ^Abs();"),
     (b"VAR bool b;", b"b := TestAndSet(^TRUE);"),
     (b"VAR bool b;", b"b := TestAndSet(^(b));"),
     (

@@ -109,7 +109,7 @@ pub static PHASES: [Ruled; 25] = [
 ];
 
 /// Within a declaration: the type, the name, the length, the value.
-pub static DECLARATIONS: [Ruled; 23] = [
+pub static DECLARATIONS: [Ruled; 29] = [
     (b"VAR ^foo Abs;", b"", TypeRule::NoName),
     (b"VAR num ^Abs; VAR foo x;", b"", TypeRule::NameTaken),
     (b"PERS ^shapedata di1;", b"", TypeRule::PersKind),
@@ -151,6 +151,28 @@ pub static DECLARATIONS: [Ruled; 23] = [
     (b"VAR num y; VAR num x{2} := ^[y];", b"", TypeRule::NotConst),
     (b"VAR num x{3} := ^[1 / 0];", b"", TypeRule::ConstFault),
     (b"VAR num x{3} := ^[1 * 0];", b"", TypeRule::DimRange),
+    (
+        b"VAR num y; VAR num x{2} := (^[y]);",
+        b"",
+        TypeRule::DimRange,
+    ),
+    (b"VAR num x{2} := (^[1 / 0]);", b"", TypeRule::DimRange),
+    (
+        b"VAR num y; VAR num x{1} := ^([y]);",
+        b"",
+        TypeRule::NotConst,
+    ),
+    (
+        b"VAR num y; VAR robjoint x := ^[y, 2];",
+        b"",
+        TypeRule::DimRange,
+    ),
+    (
+        b"VAR num y; VAR robjoint x := (^[y, 2]);",
+        b"",
+        TypeRule::DimRange,
+    ),
+    (b"VAR num x := ^Abs();", b"", TypeRule::ArgCount),
     (b"VAR intnum i{^0} := 1;", b"", TypeRule::DimRange),
     (b"VAR intnum i := ^y;", b"", TypeRule::NoName),
 ];
@@ -236,7 +258,7 @@ pub static NAMES_FIRST: [Ruled; 24] = [
 ];
 
 /// Arguments from left to right, then ArgCount, then a missing option, then NoArm.
-pub static ARGUMENTS: [Ruled; 27] = [
+pub static ARGUMENTS: [Ruled; 42] = [
     (b"", b"SetDO ^main, \"a\";", TypeRule::NotThis),
     (
         b"PROC p(num x, num y) ENDPROC",
@@ -302,6 +324,32 @@ pub static ARGUMENTS: [Ruled; 27] = [
         TypeRule::NoName,
     ),
     (b"VAR intnum i;", b"IPers ^i, y;", TypeRule::BadRef),
+    (b"VAR intnum i;", b"IPers ^[1], i;", TypeRule::TypeClash),
+    (
+        b"PROC p(INOUT robjoint x) ENDPROC",
+        b"p [1, 2, 3, 4, 5, ^\"a\"];",
+        TypeRule::TypeClash,
+    ),
+    (
+        b"PROC p(INOUT robjoint x) ENDPROC",
+        b"p ^[1, 2];",
+        TypeRule::DimRange,
+    ),
+    (
+        b"PROC p(INOUT robjoint x) ENDPROC",
+        b"p ([1, 2, 3, 4, 5, 6, ^y]);",
+        TypeRule::NoName,
+    ),
+    (
+        b"PROC p(INOUT num x) ENDPROC",
+        b"p ^[1];",
+        TypeRule::TypeClash,
+    ),
+    (
+        b"VAR bool b;",
+        b"WaitTestAndSet ^[TRUE];",
+        TypeRule::TypeClash,
+    ),
     (
         b"VAR jointtarget j; ",
         b"MoveAbsJ j, v10, ^z10, tool1;",
@@ -328,10 +376,36 @@ pub static ARGUMENTS: [Ruled; 27] = [
         TypeRule::ArgName,
     ),
     (b"", b"WaitSyncTask ^main, y;", TypeRule::SyncName),
+    (b"", b"WaitSyncTask ^Abs(), y;", TypeRule::ArgCount),
+    (b"", b"WaitSyncTask Abs(^z), y;", TypeRule::NoName),
+    (b"", b"WaitSyncTask ^Abs(1), y;", TypeRule::SyncName),
+    (b"", b"WaitSyncTask ^CJointT(), y;", TypeRule::SyncName),
+    (
+        b"VAR syncident s;",
+        b"WaitSyncTask s.^x, y;",
+        TypeRule::NoName,
+    ),
+    (
+        b"VAR syncident s{2};",
+        b"WaitSyncTask s{^z}.x, y;",
+        TypeRule::NoName,
+    ),
+    (
+        b"VAR jointtarget j; ",
+        b"WaitSyncTask j.^foo, y;",
+        TypeRule::NoName,
+    ),
+    (
+        b"VAR jointtarget j; ",
+        b"WaitSyncTask ^j.robax, y;",
+        TypeRule::SyncName,
+    ),
+    (b"", b"WaitSyncTask ^main.x, y;", TypeRule::SyncName),
 ];
 
 /// The same in a task without an arm.
-pub static WITHOUT_ARM: [Ruled; 10] = [
+pub static WITHOUT_ARM: [Ruled; 11] = [
+    (b"", b"WaitSyncTask ^CJointT(), y;", TypeRule::SyncName),
     (
         b"VAR jointtarget j; VAR shapedata s; VAR wztemporary z;",
         b"^MoveAbsJ j, v10, fine;",
