@@ -6,13 +6,13 @@ use Rattle.std.proofs.lemmas.Option.{slice_get-map, slice_get_read}
 use Rattle.rapid_model.specs.declared.pers_value.PersValue.{PersValue}
 use Rattle.rapid_model.specs.declared.script_rule.ScriptRule.{ScriptRule}
 use Rattle.rapid_model.specs.declared.script_rule.ScriptRule.TheVariants.{Kind, Range, Twice}
+use Rattle.name_tables.specs.Names.{NameList, Finds}
 use Rattle.named_data.specs.Wants.{same_sort}
 use Rattle.typed_trees.specs.Plain.{TypedPers}
 use Rattle.rapid_model.specs.Sorts.{width}
 use Rattle.cell_numbers.specs.declared.pers_info.PersInfo.{PersInfo}
 use Rattle.cell_numbers.specs.Cells
 use Rattle.cell_numbers.specs.Cells.{Making, Clash}
-use Rattle.cell_numbers.specs.NameTables.{Table, IsTableOf}
 use Rattle.cell_numbers.specs.Views.{view_info}
 use Rattle.cell_numbers.proofs.Kept.{number_kept}
 
@@ -43,8 +43,8 @@ clash_there pers ps numbers task k row old seen within is differ =
     ∙ ap (λ t. let made : Making Cells.Numbered = if t then Ok (Cells.joined n k (Cells.with_declared (view_info old) row)) else Err (Clash task row.«module» row.at) in made) differ
 
 -- the table of the persistents' names stays theirs
-pub table_joined : (table : Table) (pers : List PersInfo) (k : ℕ) (row : TypedPers) (old new : PersInfo) → k < length pers → old ≡ get_or pers k old → view_info new ≡ Cells.with_declared (view_info old) row
-    → IsTableOf table (λ name. Cells.global_number name (map view_info pers)) → IsTableOf table (λ name. Cells.global_number name (map view_info (set pers k new)))
+pub table_joined : (table : NameList ℕ) (pers : List PersInfo) (k : ℕ) (row : TypedPers) (old new : PersInfo) → k < length pers → old ≡ get_or pers k old → view_info new ≡ Cells.with_declared (view_info old) row
+    → Finds table (λ name. Cells.global_number name (map view_info pers)) → Finds table (λ name. Cells.global_number name (map view_info (set pers k new)))
 table_joined table pers k row old new within is declared found name =
     found name
     ∙ sym (number_kept name (map view_info pers) k (view_info old) (view_info new) (info_there pers k old within is) (ap (λ (p : Cells.PersInfo). p.name) declared) (ap (λ (p : Cells.PersInfo). p.owner) declared))

@@ -3,11 +3,11 @@ use Rattle.std.proofs.Common.{◌≡◌, ℕ, zero, suc, ◌+◌, not, ◌&&◌,
 use Rattle.std.specs.Result.{IfOk}
 use Rattle.std.specs.Str.{str_eq_ignore_ascii_case}
 use Rattle.std.proofs.lemmas.Result.{IfOk-at_ok}
+use Rattle.name_tables.specs.Names.{NameList, Finds}
 use Rattle.rapid_model.specs.Sorts.{width}
 use Rattle.rapid_model.specs.declared.pers_value.PersValue.{PersValue}
 use Rattle.rapid_model.specs.declared.script_rule.ScriptRule.TheVariants.{Kind, Range, Twice}
 use Rattle.cell_numbers.specs.Cells.{PersInfo, is_global, global_number, has_sort, fits_index, element, is_told, with_told, tell_to, tell_global}
-use Rattle.cell_numbers.specs.NameTables.{Table, IsTableOf}
 use Rattle.cell_numbers.proofs.Holds.{must_hold}
 
 same_number : (name : List ℕ) (ps : List PersInfo) (k : ℕ) (old new : PersInfo) → slice_get ps k ≡ Some old → is_global name new ≡ is_global name old → global_number name (set ps k new) ≡ global_number name ps
@@ -40,6 +40,6 @@ tell_global_keeps name ps number row None = tt
 tell_global_keeps name ps number row (Some k) = tell_to_keeps name ps number row k (slice_get ps k) refl
 
 -- the script's values change no name
-pub table_told : (table : Table) (ps qs : List PersInfo) (number : ℕ) (row : PersValue) (k : Option ℕ) → IsTableOf table (λ name. global_number name ps) → tell_global ps number row k ≡ Ok qs → IsTableOf table (λ name. global_number name qs)
+pub table_told : (table : NameList ℕ) (ps qs : List PersInfo) (number : ℕ) (row : PersValue) (k : Option ℕ) → Finds table (λ name. global_number name ps) → tell_global ps number row k ≡ Ok qs → Finds table (λ name. global_number name qs)
 table_told table ps qs number row k is told name =
     is name ∙ sym (IfOk-at_ok (λ qs. global_number name qs ≡ global_number name ps) told (tell_global_keeps name ps number row k))

@@ -1,5 +1,4 @@
 pub mod Cells
 pub mod Made
-pub mod NameTables
 pub mod Parts
 pub mod Views

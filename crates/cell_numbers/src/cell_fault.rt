@@ -1,6 +1,7 @@
 ghost use Rattle.std.specs.Prelude.{◌≡◌};
 ghost use Rattle.cell_numbers.specs.declared.cell_fault.CellFault.TheVariants.{Memory};
 
+use name_tables::NotEntered;
 use rapid_model::{ScriptRule, Text};
 use std::alloc::{AllocError, AllocFailed};
 
@@ -28,6 +29,14 @@ impl<T: Drop> From<AllocFailed<T>> for CellFault {
     ghost from_gives = { λ _ fault. fault ≡ Memory };
 
     fn from(_failed: AllocFailed<T>) -> CellFault {
+        CellFault::Memory
+    }
+}
+
+impl From<NotEntered> for CellFault {
+    ghost from_gives = { λ _ fault. fault ≡ Memory };
+
+    fn from(_not_entered: NotEntered) -> CellFault {
         CellFault::Memory
     }
 }

@@ -3,13 +3,11 @@
 
 mod cell;
 mod cell_fault;
-mod key;
 mod make;
 mod meeting_names;
 mod meeting_tables;
 mod meetings;
 mod met;
-mod name_table;
 mod number;
 mod numbered;
 mod one_pers;

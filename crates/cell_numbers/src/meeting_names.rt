@@ -3,9 +3,8 @@ ghost use Rattle.cell_numbers.specs.Cells;
 ghost use Rattle.cell_numbers.specs.Views.{Gives};
 
 use crate::cell_fault::CellFault;
-use crate::name_table::{NameTable, enter, number_named};
 use crate::number::number_of;
-use indexmap::IndexMap;
+use name_tables::NameTable;
 use rapid_model::NameText;
 use std::alloc::Global;
 use std::marker::Model;
@@ -14,20 +13,20 @@ use std::marker::Model;
 #[derive(Drop)]
 pub(crate) struct MeetingNames {
     names: Vec<NameText>,
-    numbers: NameTable,
+    numbers: NameTable<u32>,
 }
 
 impl Model for MeetingNames {
     ghost use Rattle.std.specs.Prelude.{ℕ, List};
+    ghost use Rattle.name_tables.specs.Names.{Finds};
     ghost use Rattle.cell_numbers.specs.Cells;
-    ghost use Rattle.cell_numbers.specs.NameTables.{IsTableOf};
 
     ghost Value = { List (List ℕ) };
 
     ghost view = { λ m. m.names.items };
 
     // The table finds the first meeting of each name.
-    ghost invariant = { λ m. IsTableOf m.numbers.entries (λ name. Cells.meeting_number name m.names.items) };
+    ghost invariant = { λ m. Finds m.numbers (λ name. Cells.meeting_number name m.names.items) };
 }
 
 impl MeetingNames {
@@ -37,7 +36,7 @@ impl MeetingNames {
     {
         MeetingNames {
             names: Vec::new(alloc),
-            numbers: IndexMap::new(alloc),
+            numbers: NameTable::new(alloc),
         }
     }
 
@@ -52,7 +51,7 @@ impl MeetingNames {
     pub(crate) fn meeting_number(&self, name: &NameText) -> Option<u32>
         ensures { result ≡ Cells.meeting_number name.now self.now }
     {
-        number_named(name, &self.numbers)
+        self.numbers.find(name.bytes())
     }
 
     /// One more meeting. Its error is want of memory.
@@ -63,7 +62,7 @@ impl MeetingNames {
         let mut names = names;
         let mut numbers = numbers;
         let number = number_of(names.len())?;
-        enter(&mut numbers, &name, number)?;
+        numbers.enter(name.bytes(), number)?;
         names.push(name)?;
         Ok(MeetingNames { names, numbers })
     }

@@ -1,14 +1,13 @@
 ghost use Rattle.std.specs.Prelude.{◌≡◌, [], ◌∷◌, ◌++◌, Ok, length, map, OnOk, IfErr};
+ghost use Rattle.name_tables.specs.Names.{Enters};
 ghost use Rattle.cell_numbers.specs.declared.cell_fault.CellFault.TheVariants.{Memory};
 ghost use Rattle.cell_numbers.specs.Cells;
-ghost use Rattle.cell_numbers.specs.NameTables.{Enters};
 ghost use Rattle.cell_numbers.specs.Views.{Gives, view_info};
 
 use crate::cell_fault::CellFault;
-use crate::name_table::{NameTable, enter, number_named};
 use crate::number::number_of;
 use crate::pers_info::PersInfo;
-use indexmap::IndexMap;
+use name_tables::NameTable;
 use rapid_model::NameText;
 use std::alloc::Global;
 use std::marker::Model;
@@ -17,13 +16,13 @@ use std::marker::Model;
 #[derive(Drop)]
 pub(crate) struct Persistents {
     pub(crate) infos: Vec<PersInfo>,
-    pub(crate) globals: NameTable,
+    pub(crate) globals: NameTable<u32>,
 }
 
 impl Model for Persistents {
     ghost use Rattle.std.specs.Prelude.{List, map};
+    ghost use Rattle.name_tables.specs.Names.{Finds};
     ghost use Rattle.cell_numbers.specs.Cells;
-    ghost use Rattle.cell_numbers.specs.NameTables.{IsTableOf};
     ghost use Rattle.cell_numbers.specs.Views.{view_info};
 
     ghost Value = { List Cells.PersInfo };
@@ -31,18 +30,18 @@ impl Model for Persistents {
     ghost view = { λ p. map view_info p.infos.items };
 
     // The table finds the first global persistent of each name.
-    ghost invariant = { λ p. IsTableOf p.globals.entries (λ name. Cells.global_number name (map view_info p.infos.items)) };
+    ghost invariant = { λ p. Finds p.globals (λ name. Cells.global_number name (map view_info p.infos.items)) };
 }
 
 /// Enters a persistent of this number where it is global and the first of its name. Its error is want of memory.
-fn enter_global(table: &mut NameTable, info: &PersInfo, number: u32) -> Result<(), CellFault>
-    ensures ok { OnOk result (Enters table.old.entries table.new.entries (λ name. Cells.is_global name (view_info info.now)) number) }
+fn enter_global(table: &mut NameTable<u32>, info: &PersInfo, number: u32) -> Result<(), CellFault>
+    ensures ok { OnOk result (Enters table.old table.new (λ name. Cells.is_global name (view_info info.now)) number) }
     ensures err { IfErr result (λ fault. fault ≡ Memory) }
 {
     if info.owner.is_some() {
         return Ok(());
     }
-    enter(table, &info.name, number)?;
+    table.enter(info.name.bytes(), number)?;
     Ok(())
 }
 
@@ -53,7 +52,7 @@ impl Persistents {
     {
         Persistents {
             infos: Vec::new(alloc),
-            globals: IndexMap::new(alloc),
+            globals: NameTable::new(alloc),
         }
     }
 
@@ -68,7 +67,7 @@ impl Persistents {
     pub(crate) fn global_number(&self, name: &NameText) -> Option<u32>
         ensures { result ≡ Cells.global_number name.now self.now }
     {
-        number_named(name, &self.globals)
+        self.globals.find(name.bytes())
     }
 
     /// One more persistent. Its error is want of memory.

@@ -1,6 +1,5 @@
 pub mod All
 pub mod Begins
-pub mod Entries
 mod Examples
 pub mod Keeping
 pub mod ListAt

@@ -6,11 +6,12 @@ use Rattle.rapid_model.specs.declared.function.Function.{Function}
 use Rattle.rapid_model.specs.declared.instruction.Instruction.{Instruction}
 use Rattle.rapid_model.specs.declared.predefined.Predefined.{Predefined}
 use Rattle.rapid_builtins.specs.Names.{instruction_of, function_of, predefined_of}
+use Rattle.name_tables.specs.Names.{found_by as entry_by}
 use Rattle.data_scopes.specs.declared.meant.Meant.{Meant}
 use Rattle.data_scopes.specs.declared.meant.Meant.TheVariants as meants
 use Rattle.data_scopes.specs.declared.spot.Spot.{Spot}
 use Rattle.data_scopes.specs.Kept.{Mean, AllMean, TablesMean}
-use Rattle.data_scopes.specs.Scopes.{Scope, Tables, declare, list_at, meant_by, meant_in, meant_in_routine, meant_predefined, meaning}
+use Rattle.data_scopes.specs.Scopes.{Scope, Tables, declare, list_at, meant_in, meant_in_routine, meant_predefined, meaning}
 
 -- what is such is such by a weaker test too
 module _ (P Q : Meant → Type 0) (weaker : (m : Meant) → P m → Q m) where
@@ -64,9 +65,9 @@ module _ (P : Meant → Type 0) (elsewhere : IsElsewhere P) where
   found_if a b true ha hb = ha
   found_if a b false ha hb = hb
 
-  found_by : (key : List ℕ) (scope : Scope) → Mean P scope → Found (meant_by key scope)
+  found_by : (key : List ℕ) (scope : Scope) → Mean P scope → Found (entry_by key scope)
   found_by key [] all = tt
-  found_by key (e ∷ es) all = found_if (Some e.1) (meant_by key es) (bytes_eq key e.0) all.0 (found_by key es all.1)
+  found_by key (e ∷ es) all = found_if (Some e.1) (entry_by key es) (bytes_eq key e.0) all.0 (found_by key es all.1)
 
   found_or : (a b : Option Meant) → Found a → Found b → Found (or_else a b)
   found_or None b ha hb = hb

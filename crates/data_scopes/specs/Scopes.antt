@@ -1,10 +1,10 @@
 -- What a name means at a spot: the innermost declaration of its name that is visible there.
-use Rattle.std.specs.Prelude.{◌≤◌, ℕ, Bool, zero, suc, List, [], ◌∷◌, ◌++◌, length, map, Option, Some, None, is_some, slice_get, if◌then◌else◌, bytes_eq}
+use Rattle.std.specs.Prelude.{ℕ, Bool, zero, suc, List, [], ◌∷◌, length, map, Option, Some, None, slice_get, if◌then◌else◌, bytes_eq}
 use Rattle.std.specs.Option.{option_map}
 use Rattle.std.specs.Str.{str_to_ascii_lowercase}
 use Rattle.std.specs.declared.alloc.Global.{Global}
 use Rattle.std.specs.declared.vec.Vec.{Vec}
-use Rattle.arrayvec.specs.ArrayVec.{ArrayVec}
+use Rattle.name_tables.specs.Names.{NameList, found_in, entered}
 use Rattle.rapid_model.specs.Requests.{or_else}
 use Rattle.rapid_model.specs.declared.sort.Sort.{Sort}
 use Rattle.rapid_model.specs.declared.value.Value.{Value}
@@ -18,28 +18,15 @@ use Rattle.data_scopes.specs.declared.spot.Spot.{Spot}
 
 -- The names of a scope, in small letters, and what they mean.
 abbrev pub Scope : Type 0
-Scope = List (List ℕ × Meant)
-
-abbrev pub meant_by : List ℕ → Scope → Option Meant
-meant_by key [] = None
-meant_by key (entry ∷ entries) = if bytes_eq key entry.0 then Some entry.1 else meant_by key entries
-
--- an entry of a table, whose key is a name in small letters
-abbrev pub entry_of : ArrayVec ℕ × Meant → List ℕ × Meant
-entry_of e = (e.0.items, e.1)
-
--- no name has more than 32 letters
-abbrev pub AreShort : Scope → Type 0
-AreShort [] = Unit {0}
-AreShort (entry ∷ entries) = (length entry.0 ≤ 32) × AreShort entries
+Scope = NameList Meant
 
 -- what a name means in a scope, letters of either case being the same
 abbrev pub meant_in : List ℕ → Scope → Option Meant
-meant_in name scope = meant_by (str_to_ascii_lowercase name) scope
+meant_in name scope = found_in name scope
 
 -- the scope with one more declaration; where two have one name the first stands
 abbrev pub declare : List ℕ → Meant → Scope → Scope
-declare name meant scope = if is_some (meant_in name scope) then scope else scope ++ ((str_to_ascii_lowercase name, meant) ∷ [])
+declare name meant scope = entered name meant scope
 
 -- a FOR: its variable in small letters, and the number of the FOR whose list it stands in, if it stands in one
 pub record Loop : Type 0 where

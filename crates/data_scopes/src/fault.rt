@@ -3,6 +3,7 @@
 ghost use Rattle.std.specs.Prelude.{◌≡◌};
 ghost use Rattle.data_scopes.specs.declared.fault.TypeFault.TheVariants.{Memory};
 
+use name_tables::NotEntered;
 use std::alloc::{AllocError, AllocFailed};
 
 /// The rules of names and types. Each stands at the first byte of the smallest form that it speaks of.
@@ -88,6 +89,14 @@ impl<T: Drop> From<AllocFailed<T>> for TypeFault {
     ghost from_gives = { λ _ e. e ≡ Memory };
 
     fn from(_e: AllocFailed<T>) -> TypeFault {
+        TypeFault::Memory
+    }
+}
+
+impl From<NotEntered> for TypeFault {
+    ghost from_gives = { λ _ e. e ≡ Memory };
+
+    fn from(_e: NotEntered) -> TypeFault {
         TypeFault::Memory
     }
 }

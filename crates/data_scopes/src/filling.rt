@@ -14,21 +14,21 @@ use crate::meant::Meant;
 use crate::numbers::{
     after_item, after_items, after_local, datum_meant, local_meant, number_after, param_meant,
 };
-use crate::table::Table;
 use crate::tables::NameTables;
+use name_tables::NameTable;
 use rapid_model::SignalRow;
 use raw_trees::{RawDatum, RawItem, RawModule, RawParam, RawRoutine};
 use std::alloc::Global;
 
 /// Declares the parameters of a routine, and answers how many there are.
-fn declare_params(params: &[RawParam<'_>], scope: &mut Table) -> Result<u32, TypeFault>
+fn declare_params(params: &[RawParam<'_>], scope: &mut NameTable<Meant>) -> Result<u32, TypeFault>
     ensures ok { OnOk result (scope.new ≡ Numbers.declare_params 0 (map view_param params.now) scope.old) }
     ensures count { IfOk result (λ n. n ≡ length params.now) }
     ensures err { IfErr result (λ e. e ≡ Memory) }
 {
     let mut place = 0;
     for param in params {
-        scope.add(param.name.text, param_meant(place, param.mode))?;
+        scope.enter(param.name.text, param_meant(place, param.mode))?;
         place = number_after(place)?;
     }
     Ok(place)
@@ -39,7 +39,7 @@ fn declare_locals(
     first: u32,
     before: u32,
     locals: &[RawDatum<'_>],
-    scope: &mut Table,
+    scope: &mut NameTable<Meant>,
 ) -> Result<(), TypeFault>
     ensures ok { OnOk result (scope.new ≡ Numbers.declare_locals first before (map view_datum locals.now) scope.old) }
     ensures err { IfErr result (λ e. e ≡ Memory) }
@@ -47,7 +47,7 @@ fn declare_locals(
     let mut place = first;
     let mut consts = before;
     for datum in locals {
-        scope.add(datum.name.text, local_meant(place, consts, datum))?;
+        scope.enter(datum.name.text, local_meant(place, consts, datum))?;
         place = number_after(place)?;
         consts = after_local(consts, datum)?;
     }
@@ -59,11 +59,11 @@ fn routine_scope(
     alloc: Global,
     counts: Counts,
     routine: &RawRoutine<'_>,
-) -> Result<Table, TypeFault>
+) -> Result<NameTable<Meant>, TypeFault>
     ensures ok { IfOk result (λ s. s ≡ Numbers.routine_scope counts (view_routine routine.now)) }
     ensures err { IfErr result (λ e. e ≡ Memory) }
 {
-    let mut scope = Table::new(alloc);
+    let mut scope = NameTable::new(alloc);
     let place = declare_params(&routine.params, &mut scope)?;
     declare_locals(place, counts.consts, &routine.locals, &mut scope)?;
     Ok(scope)
@@ -89,19 +89,20 @@ fn is_local(item: &RawItem<'_>) -> bool
 }
 
 /// Declares an item.
-fn declare_item(counts: Counts, item: &RawItem<'_>, scope: &mut Table) -> Result<(), TypeFault>
+fn declare_item(counts: Counts, item: &RawItem<'_>, scope: &mut NameTable<Meant>) -> Result<(), TypeFault>
     ensures ok { OnOk result (scope.new ≡ declare (Numbers.item_name (view_item item.now)).text (Numbers.item_meant counts (view_item item.now)) scope.old) }
     ensures err { IfErr result (λ e. e ≡ Memory) }
 {
     let meant = item_meant(counts, item);
     match item {
-        RawItem::Datum { datum, .. } => scope.add(datum.name.text, meant),
-        RawItem::Routine(routine) => scope.add(routine.name.text, meant),
+        RawItem::Datum { datum, .. } => scope.enter(datum.name.text, meant)?,
+        RawItem::Routine(routine) => scope.enter(routine.name.text, meant)?,
     }
+    Ok(())
 }
 
 /// Declares the item where it is LOCAL.
-fn declare_own(counts: Counts, item: &RawItem<'_>, scope: &mut Table) -> Result<(), TypeFault>
+fn declare_own(counts: Counts, item: &RawItem<'_>, scope: &mut NameTable<Meant>) -> Result<(), TypeFault>
     ensures ok { OnOk result (scope.new ≡ (let i = view_item item.now in if Numbers.is_local i then declare (Numbers.item_name i).text (Numbers.item_meant counts i) scope.old else scope.old)) }
     ensures err { IfErr result (λ e. e ≡ Memory) }
 {
@@ -112,7 +113,7 @@ fn declare_own(counts: Counts, item: &RawItem<'_>, scope: &mut Table) -> Result<
 }
 
 /// Declares the item where it is not LOCAL.
-fn declare_shared(counts: Counts, item: &RawItem<'_>, scope: &mut Table) -> Result<(), TypeFault>
+fn declare_shared(counts: Counts, item: &RawItem<'_>, scope: &mut NameTable<Meant>) -> Result<(), TypeFault>
     ensures ok { OnOk result (scope.new ≡ (let i = view_item item.now in if Numbers.is_local i then scope.old else declare (Numbers.item_name i).text (Numbers.item_meant counts i) scope.old)) }
     ensures err { IfErr result (λ e. e ≡ Memory) }
 {
@@ -123,11 +124,11 @@ fn declare_shared(counts: Counts, item: &RawItem<'_>, scope: &mut Table) -> Resu
 }
 
 /// The LOCAL items of a module.
-fn own_items(alloc: Global, before: Counts, items: &[RawItem<'_>]) -> Result<Table, TypeFault>
+fn own_items(alloc: Global, before: Counts, items: &[RawItem<'_>]) -> Result<NameTable<Meant>, TypeFault>
     ensures ok { IfOk result (λ s. s ≡ Numbers.own_items before (map view_item items.now) []) }
     ensures err { IfErr result (λ e. e ≡ Memory) }
 {
-    let mut scope = Table::new(alloc);
+    let mut scope = NameTable::new(alloc);
     let mut counts = before;
     for item in items {
         declare_own(counts, item, &mut scope)?;
@@ -137,7 +138,7 @@ fn own_items(alloc: Global, before: Counts, items: &[RawItem<'_>]) -> Result<Tab
 }
 
 /// Declares the items of a module that are not LOCAL.
-fn declare_items(before: Counts, items: &[RawItem<'_>], scope: &mut Table) -> Result<(), TypeFault>
+fn declare_items(before: Counts, items: &[RawItem<'_>], scope: &mut NameTable<Meant>) -> Result<(), TypeFault>
     ensures ok { OnOk result (scope.new ≡ Numbers.task_items before (map view_item items.now) scope.old) }
     ensures err { IfErr result (λ e. e ≡ Memory) }
 {
@@ -154,7 +155,7 @@ fn push_scope(
     alloc: Global,
     counts: Counts,
     item: &RawItem<'_>,
-    inner: &mut Vec<Table>,
+    inner: &mut Vec<NameTable<Meant>>,
 ) -> Result<(), TypeFault>
     ensures ok { OnOk result (inner.new.items ≡ inner.old.items ++ Numbers.item_scopes counts (view_item item.now)) }
     ensures err { IfErr result (λ e. e ≡ Memory) }
@@ -170,7 +171,7 @@ fn push_scopes(
     alloc: Global,
     before: Counts,
     items: &[RawItem<'_>],
-    inner: &mut Vec<Table>,
+    inner: &mut Vec<NameTable<Meant>>,
 ) -> Result<(), TypeFault>
     ensures ok { OnOk result (inner.new.items ≡ inner.old.items ++ Numbers.routine_scopes before (map view_item items.now)) }
     ensures err { IfErr result (λ e. e ≡ Memory) }
@@ -214,14 +215,14 @@ fn push_items_rows(
 }
 
 /// The signals.
-fn signal_scope(alloc: Global, signals: &[SignalRow]) -> Result<Table, TypeFault>
+fn signal_scope(alloc: Global, signals: &[SignalRow]) -> Result<NameTable<Meant>, TypeFault>
     ensures ok { IfOk result (λ s. s ≡ Numbers.signal_scope 0 signals.now []) }
     ensures err { IfErr result (λ e. e ≡ Memory) }
 {
-    let mut scope = Table::new(alloc);
+    let mut scope = NameTable::new(alloc);
     let mut number = 0;
     for row in signals {
-        scope.add(row.name.bytes(), Meant::Signal(number))?;
+        scope.enter(row.name.bytes(), Meant::Signal(number))?;
         number = number_after(number)?;
     }
     Ok(scope)
@@ -237,7 +238,7 @@ pub(crate) fn tables_of(
     ensures err { IfErr result (λ e. e ≡ Memory) }
 {
     let mut counts = Counts::new();
-    let mut task = Table::new(alloc);
+    let mut task = NameTable::new(alloc);
     let mut own = Vec::new(alloc);
     let mut inner = Vec::new(alloc);
     let mut loops = Vec::new(alloc);

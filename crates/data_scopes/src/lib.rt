@@ -7,7 +7,6 @@ mod data_row;
 mod datum_rows;
 mod fault;
 mod filling;
-mod key;
 mod known;
 mod laws;
 mod loop_row;
@@ -22,7 +21,6 @@ mod rows;
 mod scopes;
 mod sorts;
 mod spot;
-mod table;
 mod tables;
 mod walking;
 

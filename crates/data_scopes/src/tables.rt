@@ -6,7 +6,7 @@ use crate::loop_row::LoopRow;
 use crate::loops::loop_named;
 use crate::meant::Meant;
 use crate::spot::Spot;
-use crate::table::Table;
+use name_tables::NameTable;
 use rapid_builtins::{function, instruction, predefined};
 use std::marker::Model;
 
@@ -14,11 +14,11 @@ use std::marker::Model;
 /// each routine, and its FORs in text order; the signals.
 #[derive(Drop)]
 pub(crate) struct NameTables {
-    task: Table,
-    own: Vec<Table>,
-    inner: Vec<Table>,
+    task: NameTable<Meant>,
+    own: Vec<NameTable<Meant>>,
+    inner: Vec<NameTable<Meant>>,
     loops: Vec<Vec<LoopRow>>,
-    signals: Table,
+    signals: NameTable<Meant>,
 }
 
 impl Model for NameTables {
@@ -32,11 +32,11 @@ impl Model for NameTables {
 impl NameTables {
     /// The tables of these scopes.
     pub(crate) fn new(
-        task: Table,
-        own: Vec<Table>,
-        inner: Vec<Table>,
+        task: NameTable<Meant>,
+        own: Vec<NameTable<Meant>>,
+        inner: Vec<NameTable<Meant>>,
         loops: Vec<Vec<LoopRow>>,
-        signals: Table,
+        signals: NameTable<Meant>,
     ) -> NameTables
         ensures { result ≡ record { task = task; own = own.items; inner = inner.items; loops = loop_rows loops.items; signals = signals } }
     {
@@ -109,7 +109,7 @@ impl NameTables {
 }
 
 /// What the name means in the scope of this number.
-fn find_at(scopes: &[Table], number: u32, name: &[u8]) -> Option<Meant>
+fn find_at(scopes: &[NameTable<Meant>], number: u32, name: &[u8]) -> Option<Meant>
     ensures { result ≡ meant_in name.now (list_at scopes.now number) }
 {
     let scope = scopes.get(number as usize)?;

@@ -16,7 +16,7 @@ returns-then-not-is_alike c =
 pub invariant_of-pers : goal.invariant_of-pers
 invariant_of-pers c =
     let infos = c.pers.inside.infos.items in
-    table_joined c.pers.inside.globals.entries infos c.args.number (view_pers c.args.row.now) c.index_mut-info.result.now c.with_declared.new.info
+    table_joined c.pers.inside.globals infos c.args.number (view_pers c.args.row.now) c.index_mut-info.result.now c.with_declared.new.info
     (within_seen infos c.args.before.pers c.args.number c.pers.view_is (omega arith)) c.index_mut-info.ensures.value c.in_ok-with_declared.ensures.ok c.pers.invariant
 
 pub returns : goal.returns

@@ -6,4 +6,4 @@ use Rattle.cell_numbers.proofs.telling.tell.Goals as goal
 pub invariant_of-result : goal.invariant_of-result
 invariant_of-result c =
     let pers = c.pers.inside in
-    table_told pers.globals.entries (map view_info pers.infos.items) (map view_info c.in_ok-infos.infos.items) c.args.number c.args.row.now c.global_number-k.result c.pers.invariant c.in_ok-infos.ensures
+    table_told pers.globals (map view_info pers.infos.items) (map view_info c.in_ok-infos.infos.items) c.args.number c.args.row.now c.global_number-k.result c.pers.invariant c.in_ok-infos.ensures

@@ -1,0 +1,13 @@
+//! Tables by names, letters of either case being the same.
+#![tactic(auto)]
+
+mod key;
+mod not_entered;
+mod table;
+
+pub use key::{Key, key_of};
+pub use not_entered::NotEntered;
+pub use table::NameTable;
+
+#[cfg(test)]
+mod tests;

@@ -1,0 +1,68 @@
+ghost use Rattle.std.specs.Prelude.{◌≡◌, ◌≤◌, ◌<◌, ◌↔◌, [], length, OnOk, OnErr, IfErr};
+ghost use Rattle.name_tables.specs.Names.{found_in, entered};
+ghost use Rattle.name_tables.specs.declared.not_entered.NotEntered.TheVariants.{Long};
+
+use crate::key::{Key, key_of};
+use crate::not_entered::NotEntered;
+use indexmap::IndexMap;
+use std::alloc::Global;
+use std::marker::Model;
+
+/// What each name of a scope stands for; of names that differ only in the case of letters the first. Contracts see it as the
+/// list of the names, in small letters, with that.
+#[derive(Drop)]
+pub struct NameTable<V> {
+    entries: IndexMap<Key, V>,
+}
+
+impl<V> Model for NameTable<V> {
+    ghost use Rattle.std.specs.Prelude.{map};
+    ghost use Rattle.name_tables.specs.Names.{NameList, entry_of, AreShort};
+
+    ghost Value = { NameList V };
+
+    ghost view = { λ t. map entry_of t.entries.entries };
+
+    // No name has more than 32 bytes.
+    ghost invariant = { λ t. AreShort (map entry_of t.entries.entries) };
+}
+
+impl<V: Copy + Drop> NameTable<V> {
+    /// No names.
+    pub fn new(alloc: Global) -> NameTable<V>
+        ensures { result ≡ [] }
+    {
+        NameTable {
+            entries: IndexMap::new(alloc),
+        }
+    }
+
+    /// What the name stands for; `None` exactly where the table has no name that is the same but for the case of its letters.
+    pub fn find(&self, name: &[u8]) -> Option<V>
+        ensures { result ≡ found_in name.now self.now }
+    {
+        let entries = &self.entries;
+        if entries.is_empty() {
+            return None;
+        }
+        let key = key_of(name)?;
+        entries.get(&key).copied()
+    }
+
+    /// One more name; where the table has it already, that stands.
+    pub fn enter(&mut self, name: &[u8], value: V) -> Result<(), NotEntered>
+        ensures ok { OnOk result (self.new ≡ entered name.now value self.old) }
+        ensures short { OnOk result (length name.now ≤ 32) }
+        ensures err { IfErr result (λ e. (e ≡ Long) ↔ (32 < length name.now)) }
+        ensures unchanged { OnErr result (self.new ≡ self.old) }
+    {
+        let Some(key) = key_of(name) else {
+            return Err(NotEntered::Long);
+        };
+        if self.entries.contains_key(&key) {
+            return Ok(());
+        }
+        self.entries.insert(key, value)?;
+        Ok(())
+    }
+}
