@@ -1,5 +1,6 @@
 pub mod All
 pub mod Begins
+pub mod Counted
 mod Examples
 pub mod Keeping
 pub mod ListAt

@@ -1,10 +1,9 @@
 -- Each VAR, PERS and routine that the walk counts has its row, the type of a CONST is that of its row, and that of a PERS has values.
-use Rattle.std.proofs.Common.{◌≡◌, ℕ, ◌+◌, ◌<◌, replicate, Bool, true, false, not, ◌&&◌, ◌||◌, List, [], ◌∷◌, ◌++◌, length, map, Option, Some, None, is_some, is_none, refl, sym, ap, subst, ◌∙◌, if◌then◌else◌, length-append, append_assoc, Ok, arith}
-use Rattle.std.proofs.lemmas.List.{append-nil, length-map, length-replicate, map-append}
+use Rattle.std.proofs.Common.{◌≡◌, ℕ, ◌+◌, Bool, true, false, not, ◌&&◌, ◌||◌, List, [], ◌∷◌, ◌++◌, length, map, Option, Some, None, is_some, is_none, refl, sym, ap, subst, ◌∙◌, if◌then◌else◌, length-append, append_assoc, Ok, arith}
+use Rattle.std.proofs.lemmas.List.{append-nil, length-map, map-append}
 use Rattle.std.proofs.Math.Bool.{or-false}
 use Rattle.std.specs.List.{list_all}
 use Rattle.rapid_model.specs.declared.sort.Sort.{Sort}
-use Rattle.rapid_model.specs.declared.value.Value.{Value}
 use Rattle.rapid_model.specs.Names.{is_among}
 use Rattle.raw_trees.specs.Plain.{PlainExpr, PlainDatum, PlainRoutine, PlainItem, PlainModule, Datum, Routine}
 use Rattle.data_scopes.specs.declared.counts.Counts.{Counts}

@@ -1,6 +1,6 @@
 //! The rows of data, of modules and of routines.
 
-ghost use Rattle.std.specs.Prelude.{◌≡◌, option_map};
+ghost use Rattle.std.specs.Prelude.{◌≡◌, ◌++◌, ◌∷◌, [], Ok, option_map};
 ghost use Rattle.raw_trees.specs.Views.{view_datum, view_expr, view_name};
 ghost use Rattle.data_scopes.specs.Rows;
 ghost use Rattle.data_scopes.specs.Gives.{Gives};
@@ -79,6 +79,24 @@ pub(crate) fn with_datum(
         rows.pers.push(row)?;
         return Ok(rows);
     }
-    rows.slots.push(row)?;
-    Ok(rows)
+    with_slot(rows, row)
+}
+
+/// Behind these rows that of a VAR or of a CONST array of a module. Its error is want of memory.
+fn with_slot(rows: RowTables, row: DatumRow) -> Result<RowTables, TypeFault>
+    ensures { Gives (λ rows. rows) result (Ok (record { consts = rows.consts; slots = rows.slots ++ row ∷ []; pers = rows.pers; routines = rows.routines })) }
+{
+    let RowTables {
+        consts,
+        slots,
+        pers,
+        routines,
+    } = rows;
+    let slots = slots.with_row(row)?;
+    Ok(RowTables {
+        consts,
+        slots,
+        pers,
+        routines,
+    })
 }

@@ -89,7 +89,11 @@ fn is_local(item: &RawItem<'_>) -> bool
 }
 
 /// Declares an item.
-fn declare_item(counts: Counts, item: &RawItem<'_>, scope: &mut NameTable<Meant>) -> Result<(), TypeFault>
+fn declare_item(
+    counts: Counts,
+    item: &RawItem<'_>,
+    scope: &mut NameTable<Meant>,
+) -> Result<(), TypeFault>
     ensures ok { OnOk result (scope.new ≡ declare (Numbers.item_name (view_item item.now)).text (Numbers.item_meant counts (view_item item.now)) scope.old) }
     ensures err { IfErr result (λ e. e ≡ Memory) }
 {
@@ -102,7 +106,11 @@ fn declare_item(counts: Counts, item: &RawItem<'_>, scope: &mut NameTable<Meant>
 }
 
 /// Declares the item where it is LOCAL.
-fn declare_own(counts: Counts, item: &RawItem<'_>, scope: &mut NameTable<Meant>) -> Result<(), TypeFault>
+fn declare_own(
+    counts: Counts,
+    item: &RawItem<'_>,
+    scope: &mut NameTable<Meant>,
+) -> Result<(), TypeFault>
     ensures ok { OnOk result (scope.new ≡ (let i = view_item item.now in if Numbers.is_local i then declare (Numbers.item_name i).text (Numbers.item_meant counts i) scope.old else scope.old)) }
     ensures err { IfErr result (λ e. e ≡ Memory) }
 {
@@ -113,7 +121,11 @@ fn declare_own(counts: Counts, item: &RawItem<'_>, scope: &mut NameTable<Meant>)
 }
 
 /// Declares the item where it is not LOCAL.
-fn declare_shared(counts: Counts, item: &RawItem<'_>, scope: &mut NameTable<Meant>) -> Result<(), TypeFault>
+fn declare_shared(
+    counts: Counts,
+    item: &RawItem<'_>,
+    scope: &mut NameTable<Meant>,
+) -> Result<(), TypeFault>
     ensures ok { OnOk result (scope.new ≡ (let i = view_item item.now in if Numbers.is_local i then scope.old else declare (Numbers.item_name i).text (Numbers.item_meant counts i) scope.old)) }
     ensures err { IfErr result (λ e. e ≡ Memory) }
 {
@@ -124,7 +136,11 @@ fn declare_shared(counts: Counts, item: &RawItem<'_>, scope: &mut NameTable<Mean
 }
 
 /// The LOCAL items of a module.
-fn own_items(alloc: Global, before: Counts, items: &[RawItem<'_>]) -> Result<NameTable<Meant>, TypeFault>
+fn own_items(
+    alloc: Global,
+    before: Counts,
+    items: &[RawItem<'_>],
+) -> Result<NameTable<Meant>, TypeFault>
     ensures ok { IfOk result (λ s. s ≡ Numbers.own_items before (map view_item items.now) []) }
     ensures err { IfErr result (λ e. e ≡ Memory) }
 {
@@ -138,7 +154,11 @@ fn own_items(alloc: Global, before: Counts, items: &[RawItem<'_>]) -> Result<Nam
 }
 
 /// Declares the items of a module that are not LOCAL.
-fn declare_items(before: Counts, items: &[RawItem<'_>], scope: &mut NameTable<Meant>) -> Result<(), TypeFault>
+fn declare_items(
+    before: Counts,
+    items: &[RawItem<'_>],
+    scope: &mut NameTable<Meant>,
+) -> Result<(), TypeFault>
     ensures ok { OnOk result (scope.new ≡ Numbers.task_items before (map view_item items.now) scope.old) }
     ensures err { IfErr result (λ e. e ≡ Memory) }
 {

@@ -19,6 +19,7 @@ mod routine_rows;
 mod row_tables;
 mod rows;
 mod scopes;
+mod slots;
 mod sorts;
 mod spot;
 mod tables;
@@ -32,6 +33,8 @@ pub use laws::{kept_by_number, numbers_have_rows};
 pub use meant::Meant;
 pub use numbers::{is_const, is_pers, is_scalar_const, number_after};
 pub use scopes::Scopes;
+pub use slots::is_meeting;
+pub use sorts::same_sort;
 pub use spot::Spot;
 
 #[cfg(test)]

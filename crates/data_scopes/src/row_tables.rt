@@ -3,6 +3,7 @@ ghost use Rattle.data_scopes.specs.Called.{kind_of, local_of, param_of, params_o
 
 use crate::data_row::{DatumRow, ParamRow};
 use crate::routine_entry::RoutineEntry;
+use crate::slots::Slots;
 use rapid_model::Sort;
 use raw_trees::RoutineKind;
 use std::marker::Model;
@@ -12,7 +13,7 @@ use std::marker::Model;
 #[derive(Drop)]
 pub(crate) struct RowTables {
     pub(crate) consts: Vec<DatumRow>,
-    pub(crate) slots: Vec<DatumRow>,
+    pub(crate) slots: Slots,
     pub(crate) pers: Vec<DatumRow>,
     pub(crate) routines: Vec<RoutineEntry>,
 }
@@ -22,7 +23,7 @@ impl Model for RowTables {
 
     ghost Value = { Rows };
 
-    ghost view = { λ r. record { consts = r.consts.items; slots = r.slots.items; pers = r.pers.items; routines = r.routines.items } };
+    ghost view = { λ r. record { consts = r.consts.items; slots = r.slots; pers = r.pers.items; routines = r.routines.items } };
 }
 
 impl RowTables {

@@ -11,6 +11,7 @@ use crate::fault::TypeFault;
 use crate::numbers::number_after;
 use crate::routine_rows::{routine_row, with_routine};
 use crate::row_tables::RowTables;
+use crate::slots::Slots;
 use crate::tables::NameTables;
 use raw_trees::{RawItem, RawModule};
 use std::alloc::Global;
@@ -21,7 +22,7 @@ fn no_rows(alloc: Global) -> RowTables
 {
     RowTables {
         consts: Vec::new(alloc),
-        slots: Vec::new(alloc),
+        slots: Slots::new(alloc),
         pers: Vec::new(alloc),
         routines: Vec::new(alloc),
     }

@@ -5,6 +5,7 @@ ghost use Rattle.data_scopes.specs.Called.{kind_of, local_of, param_of, params_o
 ghost use Rattle.data_scopes.specs.Rows.{outputs_of};
 ghost use Rattle.data_scopes.specs.Gives.{Gives};
 ghost use Rattle.data_scopes.specs.Kept.{with_kept};
+ghost use Rattle.data_scopes.specs.Meetings.{meetings_before};
 ghost use Rattle.data_scopes.specs.Scopes.{meaning};
 ghost use Rattle.rapid_model.specs.Sorts.{is_value_of};
 
@@ -114,7 +115,15 @@ impl Scopes {
     pub fn slot(&self, number: u32) -> Option<DatumRow>
         ensures { result ≡ slice_get self.now.rows.slots number }
     {
-        row_at(&self.rows.slots, number)
+        self.rows.slots.row(number)
+    }
+
+    /// How many of the data of the modules before this one are meetings; past the last of them, how many there are in all. It
+    /// is the number of the meeting that a `Slot` means (RAPID Instructions, WaitSyncTask).
+    pub fn meetings_before(&self, number: u32) -> u32
+        ensures { result ≡ meetings_before number self.now.rows.slots }
+    {
+        self.rows.slots.meetings_before(number)
     }
 
     /// The PERS of this number.

@@ -1,9 +1,31 @@
-//! The types that predefined names are.
+//! Whether two types are one, and the types that predefined names are.
 
 ghost use Rattle.std.specs.Prelude.{◌≡◌};
 ghost use Rattle.data_scopes.specs.Sorts;
 
 use rapid_model::{Predefined, Sort};
+
+/// Whether two types are one.
+pub fn same_sort(a: Sort, b: Sort) -> bool
+    ensures { result ≡ Sorts.same_sort a b }
+{
+    matches!(
+        (a, b),
+        (Sort::Num, Sort::Num)
+            | (Sort::Bool, Sort::Bool)
+            | (Sort::Text, Sort::Text)
+            | (Sort::RobJoint, Sort::RobJoint)
+            | (Sort::ExtJoint, Sort::ExtJoint)
+            | (Sort::JointTarget, Sort::JointTarget)
+            | (Sort::SpeedData, Sort::SpeedData)
+            | (Sort::Tasks, Sort::Tasks)
+            | (Sort::IntNum, Sort::IntNum)
+            | (Sort::SyncIdent, Sort::SyncIdent)
+            | (Sort::ShapeData, Sort::ShapeData)
+            | (Sort::WzTemporary, Sort::WzTemporary)
+            | (Sort::WzStationary, Sort::WzStationary)
+    )
+}
 
 /// The type of data that a predefined name is; `None` exactly where it is none (RAPID Instructions, Functions and Data
 /// types; RAPID Kernel, alias data types, for errnum and dionum).

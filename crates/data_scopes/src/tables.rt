@@ -1,4 +1,4 @@
-ghost use Rattle.std.specs.Prelude.{◌≡◌, length, map};
+ghost use Rattle.std.specs.Prelude.{◌≡◌, length};
 ghost use Rattle.std.specs.Str.{str_to_ascii_lowercase};
 ghost use Rattle.data_scopes.specs.Scopes.{list_at, loop_named, loop_rows, meaning, meant_in, meant_in_routine, meant_outside, meant_predefined};
 

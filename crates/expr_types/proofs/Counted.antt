@@ -1,5 +1,5 @@
--- Arguments, needs and meetings, counted.
-use Rattle.std.proofs.Common.{◌≡◌, codes, ℕ, zero, suc, ◌+◌, ◌<◌, Bool, true, false, if◌then◌else◌, List, [], ◌∷◌, length, get_or, map, drop, Option, None, Some, slice_get, refl, sym, ap, ◌∙◌, add-one, arith}
+-- Arguments and needs, counted.
+use Rattle.std.proofs.Common.{◌≡◌, codes, ℕ, suc, ◌+◌, ◌<◌, Bool, true, false, if◌then◌else◌, List, [], ◌∷◌, length, get_or, map, drop, Option, None, Some, refl, sym, ap, ◌∙◌, arith}
 use Rattle.std.proofs.lemmas.List.{at_drop_more}
 use Rattle.std.specs.Str.{str_eq_ignore_ascii_case}
 use Rattle.rapid_model.specs.declared.sort.Sort.TheVariants as sorts
@@ -8,8 +8,6 @@ use Rattle.raw_trees.specs.declared.raw_expr.RawArg.{RawArg}
 use Rattle.raw_trees.specs.Views.{view_arg}
 use Rattle.builtin_calls.specs.declared.need.Need.{Need}
 use Rattle.builtin_calls.specs.declared.need.Need.TheVariants as needs
-use Rattle.data_scopes.specs.declared.data_row.DatumRow.{DatumRow}
-use Rattle.expr_types.specs.Arguments.{is_meeting, meetings_before}
 use Rattle.expr_types.specs.Calls.{all_in, zone_need, zone_told}
 use Rattle.expr_types.specs.Typing.{count}
 
@@ -20,16 +18,6 @@ all_counted (a ∷ args) = rw (← all_counted args) (omega arith)
 pub exprs_counted : (es : List PlainExpr) → count (exprs_of es) ≡ length es
 exprs_counted [] = refl
 exprs_counted (e ∷ es) = ap suc (exprs_counted es)
-
--- one more row of the modules' data
-meetings_suc : (count : ℕ) (rows : List DatumRow) → meetings_before (suc count) rows ≡ meetings_before count rows + (if is_meeting (slice_get rows count) then 1 else 0)
-meetings_suc zero [] = refl
-meetings_suc zero (row ∷ rows) = omega arith
-meetings_suc (suc count) [] = refl
-meetings_suc (suc count) (row ∷ rows) = omega (arith, meetings_suc count rows)
-
-pub meetings_more : (count : ℕ) (rows : List DatumRow) → meetings_before (count + 1) rows ≡ meetings_before count rows + (if is_meeting (slice_get rows count) then 1 else 0)
-meetings_more count rows = rw add-one (meetings_suc count rows)
 
 -- what one argument tells, else what those behind it do
 abbrev pub or_need : Option Need → Need → Need

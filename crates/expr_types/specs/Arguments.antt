@@ -1,6 +1,6 @@
 -- Arguments, each by what its callee needs. Where a value may stand, value is what the argument comes to as one, by what is
 -- wanted of it; index is what the index in it comes to.
-use Rattle.std.specs.Prelude.{ℕ, ◌+◌, ℤ, pos, Bool, true, false, not, ◌&&◌, ◌||◌, zero, suc, List, [], ◌∷◌, codes, Option, Some, None, is_some, slice_get, Ok, Err, if◌then◌else◌}
+use Rattle.std.specs.Prelude.{ℕ, ℤ, pos, Bool, true, false, not, ◌&&◌, ◌||◌, List, [], codes, Option, Some, None, is_some, slice_get, Ok, Err, if◌then◌else◌}
 use Rattle.std.specs.Ordering.{int_eq}
 use Rattle.std.specs.Str.{str_eq_ignore_ascii_case}
 use Rattle.rapid_num.specs.Literal.{literal_value}
@@ -16,12 +16,12 @@ use Rattle.typed_trees.specs.Plain
 use Rattle.typed_trees.specs.Plain.{TypedExpr, TypedHeld, TypedArg, Given, Lent, OfSignal, OfMeeting, Itself}
 use Rattle.typed_trees.specs.declared.expr.TreeRoot.{TreeRoot}
 use Rattle.typed_trees.specs.declared.expr.TreeRoot.TheVariants as roots
-use Rattle.data_scopes.specs.declared.data_row.DatumRow.{DatumRow}
 use Rattle.data_scopes.specs.declared.fault.TypeRule.{TypeRule}
 use Rattle.data_scopes.specs.declared.fault.TypeRule.TheVariants.{NoName, NotThis, TypeClash, ReadOnly, BadRef, CornerZone, ToolOnly, SyncName}
 use Rattle.data_scopes.specs.declared.meant.Meant.{Meant}
 use Rattle.data_scopes.specs.declared.meant.Meant.TheVariants as meants
 use Rattle.data_scopes.specs.Declarations.{Checked, ◌>>=◌}
+use Rattle.data_scopes.specs.Meetings.{is_meeting, meetings_before}
 use Rattle.data_scopes.specs.Rows.{begin_of}
 use Rattle.rapid_model.specs.Sorts.{has_values}
 use Rattle.named_data.specs.declared.named.Access.{Access}
@@ -179,16 +179,6 @@ signal_meant site output at (Some _) = fail site at NotThis
 abbrev pub signal : Site → Bool → PlainExpr → (Wanted → Checked TypedExpr) → Checked TypedArg
 signal site output (Place at (PlaceOf name NotHeld [])) value = signal_meant site output at (named site name)
 signal site output e value = value Nothing >>= (λ t. fail site (begin_of e) TypeClash)
-
-abbrev pub is_meeting : Option DatumRow → Bool
-is_meeting None = false
-is_meeting (Some row) = same_sort row.sort sorts.SyncIdent
-
--- how many of the first data of the modules are meetings: the number of the next one
-abbrev pub meetings_before : ℕ → List DatumRow → ℕ
-meetings_before zero rows = 0
-meetings_before (suc count) [] = 0
-meetings_before (suc count) (row ∷ rows) = (if is_meeting (Some row) then 1 else 0) + meetings_before count rows
 
 abbrev pub meeting_meant : Site → ℕ → Option Meant → Checked TypedArg
 meeting_meant site at None = fail site at NoName

@@ -18,7 +18,7 @@ use Rattle.builtin_calls.specs.declared.need.Need.TheVariants as needs
 use Rattle.builtin_calls.specs.declared.option_choice.Choice.{Choice}
 use Rattle.builtin_calls.specs.declared.option_choice.Choice.TheVariants as choices
 use Rattle.typed_trees.specs.Plain
-use Rattle.typed_trees.specs.Plain.{TypedExpr, TypedHeld, TypedArg, TypedArgs, Given, NoArgument, Argument}
+use Rattle.typed_trees.specs.Plain.{TypedExpr, TypedHeld, TypedArg, Given, NoArgument, Argument}
 use Rattle.data_scopes.specs.declared.data_row.ParamRow.{ParamRow}
 use Rattle.data_scopes.specs.declared.fault.TypeRule.TheVariants.{NoName, NotThis, ArgCount, ArgName, NoArm}
 use Rattle.data_scopes.specs.declared.meant.Meant.{Meant}

@@ -1,6 +1,6 @@
 //! Names of signals and of meetings as arguments, and names that stand for themselves.
 
-ghost use Rattle.std.specs.Prelude.{◌≡◌, ◌≤◌, if◌then◌else◌};
+ghost use Rattle.std.specs.Prelude.{◌≡◌};
 ghost use Rattle.raw_trees.specs.Views.{view_expr as view_raw};
 ghost use Rattle.typed_trees.specs.Views.{view_arg};
 ghost use Rattle.data_scopes.specs.Gives.{Gives};
@@ -8,8 +8,8 @@ ghost use Rattle.named_data.specs.Views.{view_site};
 ghost use Rattle.expr_types.specs.Arguments;
 
 use crate::names::is_bare;
-use data_scopes::{DatumRow, Meant, TypeFault, TypeRule, begin_of};
-use named_data::{Site, Source, fault, must, same_sort};
+use data_scopes::{Meant, TypeFault, TypeRule, begin_of, is_meeting};
+use named_data::{Site, Source, fault, must};
 use rapid_model::{Predefined, Sort};
 use rapid_values::PartName;
 use raw_trees::RawExpr;
@@ -59,35 +59,6 @@ pub(crate) fn signal_meant(
     }
 }
 
-/// Whether a datum of a module is a meeting.
-fn is_meeting(row: Option<DatumRow>) -> bool
-    ensures { result ≡ Arguments.is_meeting row }
-{
-    match row {
-        None => false,
-        Some(row) => same_sort(row.sort, Sort::SyncIdent),
-    }
-}
-
-/// How many meetings a datum of a module is: one or none.
-fn meeting_count(row: Option<DatumRow>) -> u32
-    ensures same { result ≡ (if Arguments.is_meeting row then 1 else 0) }
-    ensures bound { result ≤ 1 }
-{
-    if is_meeting(row) { 1 } else { 0 }
-}
-
-/// How many of the first data of the modules are meetings.
-fn meetings_before(site: &Site<'_>, count: u32) -> u32
-    ensures { result ≡ Arguments.meetings_before count (view_site site.now).names.rows.slots }
-{
-    let mut found = 0;
-    for number in 0..count {
-        found += meeting_count(site.scopes.slot(number));
-    }
-    found
-}
-
 /// The meeting that a name means at this byte.
 pub(crate) fn meeting_meant(
     site: &Site<'_>,
@@ -101,7 +72,7 @@ pub(crate) fn meeting_meant(
         Some(Meant::Slot(number)) => {
             let holds = is_meeting(site.scopes.slot(number));
             must(site, holds, at, TypeRule::SyncName)?;
-            Ok(Arg::Meeting(meetings_before(site, number)))
+            Ok(Arg::Meeting(site.scopes.meetings_before(number)))
         }
         Some(_) => Err(fault(site, at, TypeRule::SyncName)),
     }

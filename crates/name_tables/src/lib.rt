@@ -5,7 +5,6 @@ mod key;
 mod not_entered;
 mod table;
 
-pub use key::{Key, key_of};
 pub use not_entered::NotEntered;
 pub use table::NameTable;
 

@@ -8,24 +8,9 @@ use Rattle.rapid_model.specs.declared.sort.Sort.TheVariants as sorts
 use Rattle.rapid_values.specs.Components.{Component, components}
 use Rattle.data_scopes.specs.declared.fault.TypeRule.{TypeRule}
 use Rattle.data_scopes.specs.declared.fault.TypeRule.TheVariants.{TypeClash, BadRef, SyncName}
+pub use Rattle.data_scopes.specs.Sorts.{same_sort}
 use Rattle.named_data.specs.declared.wanted.Wanted.{Wanted}
 use Rattle.named_data.specs.declared.wanted.Wanted.TheVariants.{Any, Brackets, Is, Same, Fits, Nothing, Reference, ReferenceTo, Meeting}
-
-abbrev pub same_sort : Sort → Sort → Bool
-same_sort sorts.Num sorts.Num = true
-same_sort sorts.Bool sorts.Bool = true
-same_sort sorts.Text sorts.Text = true
-same_sort sorts.RobJoint sorts.RobJoint = true
-same_sort sorts.ExtJoint sorts.ExtJoint = true
-same_sort sorts.JointTarget sorts.JointTarget = true
-same_sort sorts.SpeedData sorts.SpeedData = true
-same_sort sorts.Tasks sorts.Tasks = true
-same_sort sorts.IntNum sorts.IntNum = true
-same_sort sorts.SyncIdent sorts.SyncIdent = true
-same_sort sorts.ShapeData sorts.ShapeData = true
-same_sort sorts.WzTemporary sorts.WzTemporary = true
-same_sort sorts.WzStationary sorts.WzStationary = true
-same_sort _ _ = false
 
 -- types whose values are compared
 abbrev pub is_compared : Sort → Bool

@@ -16,10 +16,11 @@ mod wants;
 
 pub use component::{Part, part_at};
 pub use data::datum_at;
+pub use data_scopes::same_sort;
 pub use named::{Access, NamedDatum, Source};
 pub use names::name_text;
 pub use numbers::number_of;
 pub use rules::{fault, must};
 pub use site::Site;
 pub use wanted::Wanted;
-pub use wants::{clash, comes_to, fits, hands_on, inside, same_sort, suits, untyped};
+pub use wants::{clash, comes_to, fits, hands_on, inside, suits, untyped};

@@ -5,31 +5,9 @@ ghost use Rattle.rapid_values.specs.Components.{components};
 ghost use Rattle.named_data.specs.Wants;
 
 use crate::wanted::Wanted;
-use data_scopes::TypeRule;
+use data_scopes::{TypeRule, same_sort};
 use rapid_model::Sort;
 use raw_trees::Operator;
-
-/// Whether two types are one.
-pub fn same_sort(a: Sort, b: Sort) -> bool
-    ensures { result ≡ Wants.same_sort a b }
-{
-    matches!(
-        (a, b),
-        (Sort::Num, Sort::Num)
-            | (Sort::Bool, Sort::Bool)
-            | (Sort::Text, Sort::Text)
-            | (Sort::RobJoint, Sort::RobJoint)
-            | (Sort::ExtJoint, Sort::ExtJoint)
-            | (Sort::JointTarget, Sort::JointTarget)
-            | (Sort::SpeedData, Sort::SpeedData)
-            | (Sort::Tasks, Sort::Tasks)
-            | (Sort::IntNum, Sort::IntNum)
-            | (Sort::SyncIdent, Sort::SyncIdent)
-            | (Sort::ShapeData, Sort::ShapeData)
-            | (Sort::WzTemporary, Sort::WzTemporary)
-            | (Sort::WzStationary, Sort::WzStationary)
-    )
-}
 
 /// Whether values of the type are compared by `=` and `<>` (RAPID Overview, expressions).
 fn is_compared(sort: Sort) -> bool

@@ -18,6 +18,7 @@ use Rattle.data_scopes.specs.declared.fault.TypeRule.TheVariants.{NoName, TypeCl
 use Rattle.data_scopes.specs.declared.meant.Meant.{Meant}
 use Rattle.data_scopes.specs.declared.meant.Meant.TheVariants as meants
 use Rattle.data_scopes.specs.Declarations.{Checked, ◌>>=◌}
+use Rattle.data_scopes.specs.Meetings.{is_meeting, meetings_before}
 use Rattle.data_scopes.specs.Rows.{begin_of}
 use Rattle.rapid_model.specs.Sorts.{has_values}
 use Rattle.named_data.specs.declared.named.Access.{Access}
@@ -29,7 +30,7 @@ use Rattle.named_data.specs.declared.wanted.Wanted.TheVariants.{Is, Nothing, Ref
 use Rattle.named_data.specs.Rules.{Site, must}
 use Rattle.named_data.specs.Wants.{same_sort}
 use Rattle.named_data.specs.Data.{NamedPart, named, datum_at, part_at, whole_of, place, is_none}
-use Rattle.expr_types.specs.Arguments.{is_held, is_bare, lends, takes, is_written, is_fixed, access_in, lent, referred, reference, any_place, whole_array, one_dimension, itself, has_direction, signal_meant, signal, is_meeting, meetings_before, meeting_meant, parts_known, meeting, whole_pers, pers_name, argument}
+use Rattle.expr_types.specs.Arguments.{is_held, is_bare, lends, takes, is_written, is_fixed, access_in, lent, referred, reference, any_place, whole_array, one_dimension, itself, has_direction, signal_meant, signal, meeting_meant, parts_known, meeting, whole_pers, pers_name, argument}
 use Rattle.typed_forms.specs.Calls.{Values, Indexes, Stands, IsLent, IsPlaceArg, IsReference, IsWhole, IsSignal, IsMeeting, IsPersName, IsValueArg, IsItself, IsArgument}
 use Rattle.typed_forms.proofs.Steps.{in_words, neither, done, never, then, never_after, where_it_holds}
 use Rattle.typed_forms.proofs.Names.{datum_law, at_place}

@@ -8,7 +8,7 @@ use Rattle.rapid_model.specs.declared.sort.Sort.{Sort}
 use Rattle.builtin_calls.specs.Calls.{OptionRow}
 use Rattle.builtin_calls.specs.declared.need.Need.{Need}
 use Rattle.typed_trees.specs.Plain
-use Rattle.typed_trees.specs.Plain.{TypedExpr, TypedHeld, TypedArg, TypedArgs, Given, NoArgument, Argument}
+use Rattle.typed_trees.specs.Plain.{TypedExpr, TypedHeld, TypedArg, NoArgument, Argument}
 use Rattle.data_scopes.specs.declared.fault.TypeRule.TheVariants.{ArgCount, ArgName, NoArm}
 use Rattle.data_scopes.specs.declared.meant.Meant.{Meant}
 use Rattle.data_scopes.specs.declared.meant.Meant.TheVariants as meants

@@ -19,6 +19,7 @@ use Rattle.typed_trees.specs.declared.expr.TreeRoot.TheVariants as roots
 use Rattle.data_scopes.specs.declared.meant.Meant.{Meant}
 use Rattle.data_scopes.specs.declared.meant.Meant.TheVariants as meants
 use Rattle.data_scopes.specs.Called.{kind_of, params_of, result_of}
+use Rattle.data_scopes.specs.Meetings.{is_meeting, meetings_before}
 use Rattle.rapid_model.specs.Sorts.{has_values}
 use Rattle.named_data.specs.declared.named.Access.{Access}
 use Rattle.named_data.specs.declared.named.NamedDatum.{NamedDatum}
@@ -30,7 +31,7 @@ use Rattle.named_data.specs.Data.{NamedPart, named}
 use Rattle.named_data.specs.Rules.{Site}
 use Rattle.named_data.specs.Wants.{same_sort}
 use Rattle.expr_types.specs.declared.callee.Callee.TheVariants as callees
-use Rattle.expr_types.specs.Arguments.{is_held, is_bare, lends, takes, has_direction, is_meeting, meetings_before, one_dimension}
+use Rattle.expr_types.specs.Arguments.{is_held, is_bare, lends, takes, has_direction, one_dimension}
 use Rattle.expr_types.specs.Calls.{Called, Signature, Taking, are_counted, are_chosen, routine_signature, function_signature, is_excluded}
 use Rattle.typed_forms.specs.Names.{IsDatum, IsPlace}
 
