@@ -1,3 +1,4 @@
 pub mod Behind
 pub mod Forms
+pub mod LabelPlaces
 pub mod Lists

@@ -1,5 +1,7 @@
 -- The labels of a routine (RAPID Kernel, GOTO and labels).
-use Rattle.std.specs.Prelude.{ℕ, ◌==◌, suc, Bool, false, List, [], ◌∷◌, ◌++◌, if◌then◌else◌}
+use Rattle.std.specs.Prelude.{ℕ, ◌==◌, suc, Bool, false, List, [], ◌∷◌, ◌++◌, Option, Some, None, if◌then◌else◌}
+use Rattle.std.specs.Borrow.{Bor}
+use Rattle.std.specs.Option.{option_map}
 use Rattle.std.specs.List.{list_any}
 use Rattle.std.specs.Str.{str_eq_ignore_ascii_case}
 use Rattle.raw_trees.specs.Plain.{PlainName, PlainStmt, PlainStmts, PlainArms, PlainCases, PlainElse, PlainRoutine, Label, If, IfOne, For, While, Test, NoStmts, MoreStmts, NoArms, MoreArms, NoCases, MoreCases, NoElse, Else, stmts_of, else_of}
@@ -58,3 +60,13 @@ is_first name (label ∷ labels) = if names_label name.text label then label.at 
 -- some label has this name
 abbrev pub is_visible : List ℕ → List PlainName → Bool
 is_visible text labels = list_any (names_label text) labels
+
+-- the place of the first label of this name, from 0
+abbrev pub label_place : List ℕ → List PlainName → Option ℕ
+label_place text [] = None
+label_place text (label ∷ labels) = if names_label text label then Some 0 else option_map suc (label_place text labels)
+
+-- the labels of lists, the innermost list first
+abbrev pub labels_around : List (Bor (List PlainName)) → List PlainName
+labels_around [] = []
+labels_around (level ∷ levels) = level.now ++ labels_around levels

@@ -1,6 +1,5 @@
 -- How contracts see what is typed, with the number of the next FOR, and what is around it.
 use Rattle.std.specs.Prelude.{map, option_map}
-use Rattle.raw_trees.specs.Views.{view_name}
 use Rattle.typed_trees.specs.Plain
 use Rattle.typed_trees.specs.declared.bounds.Bounds.{Bounds}
 use Rattle.typed_trees.specs.Plain.{arms_of, cases_of, else_of, stmts_of}
@@ -13,6 +12,7 @@ use Rattle.body_types.specs.declared.typed_rows.TypedElse.{TypedElse}
 use Rattle.body_types.specs.declared.typed_rows.TypedList.{TypedList}
 use Rattle.body_types.specs.declared.typed_rows.TypedOne.{TypedOne}
 use Rattle.body_types.specs.Bodies
+use Rattle.body_types.specs.Labels.{labels_around}
 
 abbrev pub view_body : Body → Bodies.Body
 view_body body = record {
@@ -20,11 +20,11 @@ view_body body = record {
   «module» = body.«module»;
   routine = body.routine;
   kind = body.kind;
-  labels = map view_name body.labels.now;
+  labels = body.labels.now;
 }
 
 abbrev pub view_around : Around → Bodies.Around
-view_around around = record { within = around.within; labels = map view_name around.labels.now; handler = around.handler }
+view_around around = record { within = around.within; labels = labels_around around.levels.now; handler = around.handler }
 
 abbrev pub view_bounds : Bounds → Bodies.Bounds
 view_bounds b = record { first = view_expr b.first; last = view_expr b.last; step = option_map view_expr b.step }

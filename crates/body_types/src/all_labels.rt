@@ -1,26 +1,23 @@
 //! All labels of a routine, in text order.
 
-ghost use Rattle.std.specs.Prelude.{◌++◌, map, Ok};
+ghost use Rattle.std.specs.Prelude.{◌++◌, Ok};
 ghost use Rattle.raw_trees.specs.Plain.{stmts_of};
-ghost use Rattle.raw_trees.specs.Views.{view_list, view_name, view_routine, view_stmt};
+ghost use Rattle.raw_trees.specs.Views.{view_list, view_routine, view_stmt};
 ghost use Rattle.data_scopes.specs.Gives.{Gives};
 ghost use Rattle.body_types.specs.Labels;
 
+use crate::label_list::LabelList;
 use data_scopes::TypeFault;
-use raw_trees::{RawForm, RawName, RawRoutine, RawStmt};
+use raw_trees::{RawForm, RawRoutine, RawStmt};
 use std::alloc::Global;
 
 /// Behind these labels those of a statement.
 #[cycle(labels)]
-fn with_stmt<'a>(raw: &RawStmt<'a>, labels: Vec<RawName<'a>>) -> Result<Vec<RawName<'a>>, TypeFault>
-    ensures { Gives (λ v. map view_name v.items) result (Ok (map view_name labels.entry.items ++ Labels.labels_of (view_stmt raw.now))) }
+fn with_stmt<'a>(raw: &RawStmt<'a>, labels: LabelList<'a>) -> Result<LabelList<'a>, TypeFault>
+    ensures { Gives (λ labels. labels) result (Ok (labels.entry ++ Labels.labels_of (view_stmt raw.now))) }
 {
     match &raw.form {
-        RawForm::Label(name) => {
-            let mut labels = labels;
-            labels.push(*name)?;
-            Ok(labels)
-        }
+        RawForm::Label(name) => labels.with_label(*name),
         RawForm::If { arms, other } => {
             let mut more = labels;
             for arm in arms {
@@ -50,11 +47,8 @@ fn with_stmt<'a>(raw: &RawStmt<'a>, labels: Vec<RawName<'a>>) -> Result<Vec<RawN
 
 /// Behind these labels those of a list.
 #[cycle(labels)]
-fn with_list<'a>(
-    list: &Vec<RawStmt<'a>>,
-    labels: Vec<RawName<'a>>,
-) -> Result<Vec<RawName<'a>>, TypeFault>
-    ensures { Gives (λ v. map view_name v.items) result (Ok (map view_name labels.entry.items ++ Labels.labels_in (stmts_of (view_list list.now)))) }
+fn with_list<'a>(list: &Vec<RawStmt<'a>>, labels: LabelList<'a>) -> Result<LabelList<'a>, TypeFault>
+    ensures { Gives (λ labels. labels) result (Ok (labels.entry ++ Labels.labels_in (stmts_of (view_list list.now)))) }
 {
     let mut more = labels;
     for stmt in list {
@@ -64,10 +58,10 @@ fn with_list<'a>(
 }
 
 /// All labels of a routine, in text order: those of its statements, then those of its ERROR part. Its error is want of memory.
-pub fn labels_of<'a>(alloc: Global, routine: &RawRoutine<'a>) -> Result<Vec<RawName<'a>>, TypeFault>
-    ensures { Gives (λ v. map view_name v.items) result (Ok (Labels.labels_in_routine (view_routine routine.now))) }
+pub fn labels_of<'a>(alloc: Global, routine: &RawRoutine<'a>) -> Result<LabelList<'a>, TypeFault>
+    ensures { Gives (λ labels. labels) result (Ok (Labels.labels_in_routine (view_routine routine.now))) }
 {
-    let labels = with_list(&routine.list, Vec::new(alloc))?;
+    let labels = with_list(&routine.list, LabelList::new(alloc))?;
     match &routine.handler {
         Some(list) => with_list(list, labels),
         None => Ok(labels),

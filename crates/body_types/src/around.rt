@@ -6,16 +6,16 @@ ghost use Rattle.body_types.specs.Views.{view_around, view_body};
 ghost use Rattle.named_data.specs.Views.{view_site};
 
 use crate::body::Body;
+use crate::label_list::LabelList;
 use data_scopes::Spot;
 use named_data::Site;
-use raw_trees::RawName;
 
 /// What is around a statement: the innermost FOR whose list it stands in, the labels of its own list and of those around it,
 /// and whether it stands in the ERROR part.
 #[derive(Clone, Copy)]
 pub(crate) struct Around<'a, 'b> {
     pub(crate) within: Option<u32>,
-    pub(crate) labels: &'a [RawName<'b>],
+    pub(crate) levels: &'a [&'a LabelList<'b>],
     pub(crate) handler: bool,
 }
 
@@ -26,7 +26,7 @@ impl<'a, 'b> Around<'a, 'b> {
     {
         Around {
             within: None,
-            labels: &[],
+            levels: &[],
             handler,
         }
     }
@@ -37,7 +37,7 @@ impl<'a, 'b> Around<'a, 'b> {
     {
         Around {
             within: Some(number),
-            labels: self.labels,
+            levels: self.levels,
             handler: self.handler,
         }
     }

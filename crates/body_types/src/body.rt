@@ -1,5 +1,6 @@
+use crate::label_list::LabelList;
 use data_scopes::Scopes;
-use raw_trees::{RawName, RoutineKind};
+use raw_trees::RoutineKind;
 use std::alloc::Global;
 
 /// A routine that is checked: the names of the task's modules, its module's number and its own, whether it is a procedure, a
@@ -11,5 +12,5 @@ pub struct Body<'a, 'b> {
     pub module: u32,
     pub routine: u32,
     pub kind: RoutineKind,
-    pub labels: &'a [RawName<'b>],
+    pub labels: &'a LabelList<'b>,
 }

@@ -9,7 +9,7 @@ ghost use Rattle.body_types.specs.Views.{view_around, view_body};
 
 use crate::around::Around;
 use crate::body::Body;
-use crate::labels::{is_first, is_visible, label_number};
+use crate::labels::is_visible;
 use data_scopes::{TypeFault, TypeRule};
 use named_data::{Site, must};
 use raw_trees::RawName;
@@ -24,9 +24,9 @@ pub(crate) fn labelled(
 ) -> Result<Stmt, TypeFault>
     ensures { Gives view_stmt result (Bodies.labelled (view_body body.now) (view_site site.now) at (view_name name.now)) }
 {
-    let holds = is_first(name, body.labels);
+    let holds = body.labels.is_first(name);
     must(site, holds, at, TypeRule::LabelTwice)?;
-    let number = label_number(name.text, body.labels)?;
+    let number = body.labels.number(name.text)?;
     Ok(Stmt::label(at, number))
 }
 
@@ -40,8 +40,8 @@ pub(crate) fn jumped(
 ) -> Result<Stmt, TypeFault>
     ensures { Gives view_stmt result (Bodies.jumped (view_body body.now) (view_around around.now) (view_site site.now) at (view_name name.now)) }
 {
-    let holds = is_visible(name.text, around.labels);
+    let holds = is_visible(name.text, around.levels);
     must(site, holds, at, TypeRule::NoLabel)?;
-    let number = label_number(name.text, body.labels)?;
+    let number = body.labels.number(name.text)?;
     Ok(Stmt::goto(at, number))
 }

@@ -9,6 +9,7 @@ mod calls;
 mod case_values;
 mod counter_place;
 mod jumps;
+mod label_list;
 mod labels;
 mod returns;
 mod statements;
@@ -17,5 +18,6 @@ mod typed_rows;
 
 pub use all_labels::labels_of;
 pub use body::Body;
+pub use label_list::LabelList;
 pub use statements::typed_list;
 pub use typed_rows::TypedList;

@@ -20,7 +20,7 @@ use crate::calls::{called, connected};
 use crate::case_values::case_values;
 use crate::counter_place::counter_place;
 use crate::jumps::{jumped, labelled};
-use crate::labels::{has_labels, labels_within};
+use crate::labels::{has_labels, levels_within, own_labels};
 use crate::returns::{in_handler, raised, returned};
 use crate::targets::assigned;
 use crate::typed_rows::{TypedArms, TypedCases, TypedElse, TypedList, TypedOne};
@@ -152,10 +152,11 @@ fn inner<'b>(
     if !has_labels(list) {
         return stmts(list, body, around, next);
     }
-    let labels = labels_within(body.alloc, list, around.labels)?;
+    let own = own_labels(body.alloc, list)?;
+    let levels = levels_within(body.alloc, &own, around.levels)?;
     let inside = Around {
         within: around.within,
-        labels: &labels,
+        levels: &levels,
         handler: around.handler,
     };
     stmts(list, body, &inside, next)

@@ -55,6 +55,8 @@ fn module_initial(
 fn with_const(progress: Progress, initial: Initial) -> Result<Progress, TypeFault>
     ensures { Gives view_progress result (Ok (Data.with_const (view_progress progress) (view_initial initial))) }
 {
+    let next = number_after(progress.consts)?;
+    let count = more_values(progress.values, 1)?;
     let Progress {
         scopes,
         consts,
@@ -62,19 +64,17 @@ fn with_const(progress: Progress, initial: Initial) -> Result<Progress, TypeFaul
         slots,
         pers,
         locals,
-        values,
+        ..
     } = progress;
     let scopes = keeping(scopes, consts, &initial.values)?;
-    let consts = number_after(consts)?;
-    let values = more_values(values, 1)?;
     Ok(Progress {
         scopes,
-        consts,
+        consts: next,
         known,
         slots,
         pers,
         locals,
-        values,
+        values: count,
     })
 }
 

@@ -1,7 +1,6 @@
-use Rattle.std.proofs.Common.{◌≡◌, map, drop}
-use Rattle.raw_trees.specs.Views.{view_name}
-use Rattle.body_types.specs.Labels.{is_visible}
+use Rattle.std.proofs.Common.{◌≡◌, drop}
+use Rattle.body_types.specs.Labels.{is_visible, labels_around}
 use Rattle.body_types.proofs.labels.is_visible.Given as goal
 
-abbrev pub invariant-loop-label : goal.invariant-loop-label
-invariant-loop-label l = is_visible l.text (map view_name (drop l.label-index l.labels)) ≡ is_visible l.text (map view_name l.labels)
+abbrev pub invariant-loop-level : goal.invariant-loop-level
+invariant-loop-level l = is_visible l.text (labels_around (drop l.level-index l.levels)) ≡ is_visible l.text (labels_around l.levels)
