@@ -9,8 +9,8 @@ use Rattle.rapid_model.specs.declared.script_task.ScriptTask.{ScriptTask}
 use Rattle.typed_trees.specs.Plain.{TypedTree}
 use Rattle.typed_trees.specs.Views.{view_tree}
 use Rattle.typed_trees.specs.declared.tree.Tree.{Tree}
-use Rattle.cell_numbers.specs.Cells.{Clash, InScript, Making}
-use Rattle.cell_numbers.specs.Made.{MadeCell, make_cell}
+use Rattle.cell_assembly.specs.Cells.{Clash, InScript, Making}
+use Rattle.cell_assembly.specs.Made.{MadeCell, make_cell}
 use Rattle.raw_trees.specs.Plain.{PlainModule}
 use Rattle.raw_trees.specs.Views.{view_module}
 use Rattle.rapid_model.specs.declared.signal_row.SignalRow.{SignalRow}

@@ -14,11 +14,11 @@ use Rattle.typed_trees.specs.declared.tree.Tree.{Tree}
 use Rattle.data_scopes.specs.Declarations.{Checked}
 use Rattle.stmt_types.proofs.Sound.{task_sound}
 use Rattle.stmt_types.specs.Task.{task_of}
-use Rattle.cell_numbers.specs.Cells.{Making, ◌>>=◌, CellTables, cell_tables}
-use Rattle.cell_numbers.specs.Made.{MadeCell, cell_of, numbered, make_cell}
-use Rattle.cell_numbers.specs.Views.{Fails}
-use Rattle.cell_numbers.specs.declared.cell_fault.CellFault.{CellFault}
-use Rattle.cell_numbers.specs.declared.cell_fault.CellFault.TheVariants as faults
+use Rattle.cell_assembly.specs.Cells.{Making, ◌>>=◌, CellTables, cell_tables}
+use Rattle.cell_assembly.specs.Made.{MadeCell, cell_of, numbered, make_cell}
+use Rattle.cell_assembly.specs.Views.{Fails}
+use Rattle.cell_assembly.specs.declared.cell_fault.CellFault.{CellFault}
+use Rattle.cell_assembly.specs.declared.cell_fault.CellFault.TheVariants as faults
 use Rattle.controller.specs.declared.refused.Refused.{Refused}
 use Rattle.controller.specs.declared.refused.Refused.TheVariants.{Memory}
 use Rattle.controller.specs.Accepted.{ReadModule, or_refused, names_in, typed_task, then_trees, typed_tasks, cell_or_refused, cell_from, checked}

@@ -19,8 +19,8 @@ use Rattle.data_scopes.specs.declared.fault.TypeRule.{TypeRule}
 use Rattle.data_scopes.specs.declared.fault.TypeRule.TheVariants.{PersType}
 use Rattle.data_scopes.specs.Declarations.{Checked}
 use Rattle.stmt_types.specs.Task.{task_of}
-use Rattle.cell_numbers.specs.Cells.{CellBreak, Clash, InScript, Making}
-use Rattle.cell_numbers.specs.Made.{MadeCell, make_cell}
+use Rattle.cell_assembly.specs.Cells.{CellBreak, Clash, InScript, Making}
+use Rattle.cell_assembly.specs.Made.{MadeCell, make_cell}
 use Rattle.rapid_forms.specs.declared.fault.SyntaxFault.{SyntaxFault}
 use Rattle.rapid_forms.specs.declared.fault.SyntaxFault.TheVariants as faults
 use Rattle.module_parser.specs.Modules.{ModuleText}

@@ -11,9 +11,9 @@ use Rattle.raw_trees.specs.Views.{view_module}
 use Rattle.raw_trees.specs.declared.raw_module.RawModule.{RawModule}
 use Rattle.data_scopes.specs.declared.fault.TypeFault.{TypeFault}
 use Rattle.data_scopes.specs.declared.fault.TypeFault.TheVariants as types
-use Rattle.cell_numbers.specs.Cells.{Clash}
-use Rattle.cell_numbers.specs.declared.cell_fault.CellFault.{CellFault}
-use Rattle.cell_numbers.specs.declared.cell_fault.CellFault.TheVariants as cells
+use Rattle.cell_assembly.specs.Cells.{Clash}
+use Rattle.cell_assembly.specs.declared.cell_fault.CellFault.{CellFault}
+use Rattle.cell_assembly.specs.declared.cell_fault.CellFault.TheVariants as cells
 use Rattle.built_forms.specs.declared.fault.BuildFault.{BuildFault}
 use Rattle.built_forms.specs.declared.fault.BuildFault.TheVariants as faults
 use Rattle.controller.specs.declared.build.Build as declared_build

@@ -8,7 +8,7 @@ ghost use Rattle.controller.specs.Loaded.{reads_in, ArePaired, IsRuleRefusal, Is
 use crate::module_text::place_in;
 use crate::modules::{Modules, first_modules, later_modules, text_at};
 use crate::refused::{ModuleRule, Refused};
-use cell_numbers::{CellFault, make_cell};
+use cell_assembly::{CellFault, make_cell};
 use data_scopes::{Known, TypeFault, TypeRule};
 use rapid_model::{Cell, NameText, Script, ScriptTask};
 use std::alloc::{AllocError, Global};

@@ -6,8 +6,8 @@ use Rattle.rapid_model.specs.declared.sort.Sort.TheVariants as sorts
 use Rattle.raw_trees.specs.Plain.{PlainArg, PlainArgs, Needed, Optional, MoreArgs, PlainExpr, args_of, exprs_of}
 use Rattle.raw_trees.specs.declared.raw_expr.RawArg.{RawArg}
 use Rattle.raw_trees.specs.Views.{view_arg}
-use Rattle.builtin_calls.specs.declared.need.Need.{Need}
-use Rattle.builtin_calls.specs.declared.need.Need.TheVariants as needs
+use Rattle.rapid_builtins.specs.declared.need.Need.{Need}
+use Rattle.rapid_builtins.specs.declared.need.Need.TheVariants as needs
 use Rattle.expr_types.specs.Calls.{all_in, zone_need, zone_told}
 use Rattle.expr_types.specs.Typing.{count}
 

@@ -14,8 +14,8 @@ use Rattle.raw_trees.specs.Views.{view_arg as view_raw_arg, view_expr as view_ra
 use Rattle.raw_trees.proofs.Rows.{aggregate_view, chain_view, invoke_view}
 use Rattle.rapid_model.specs.declared.sort.Sort.{Sort}
 use Rattle.rapid_model.specs.declared.sort.Sort.TheVariants as sorts
-use Rattle.builtin_calls.specs.declared.need.Need.{Need}
-use Rattle.builtin_calls.specs.declared.need.Need.TheVariants as needs
+use Rattle.rapid_builtins.specs.declared.need.Need.{Need}
+use Rattle.rapid_builtins.specs.declared.need.Need.TheVariants as needs
 use Rattle.typed_trees.specs.declared.expr.ExprForm.{ExprForm, Number as NumberForm, Const, Errno, Signal as SignalForm, Place as StoredForm, Group', Aggregate', Builtin', Call', Not', Signed', Chain'}
 use Rattle.typed_trees.specs.Views.{view_form as view_typed_form}
 use Rattle.typed_trees.specs.Plain
@@ -35,7 +35,7 @@ use Rattle.named_data.specs.Rules.{Site, fail}
 use Rattle.named_data.specs.Wants.{first_operand, needed_components, same_sort}
 use Rattle.expr_types.specs.Arguments.{any_place, argument, bare, is_held, is_whole, lent, lent_as, lent_of, lent_whole, meeting, meeting_meant, pers_name, reference, referred, signal, signal_meant, whole_array}
 use Rattle.expr_types.specs.Calls.{Taking, first_need, function_at, needed, needed_by, option_with, taking, valued_option}
-use Rattle.builtin_calls.specs.Calls.{OptionRow, option_named}
+use Rattle.rapid_builtins.specs.Calls.{OptionRow, option_named}
 use Rattle.expr_types.specs.Places
 use Rattle.expr_types.specs.Places.{no_meeting, place_in}
 use Rattle.expr_types.specs.Typing.{aggregate, arguments, call, elements, index_in, one_argument, sort_of, steps, typed}

@@ -10,8 +10,8 @@ use Rattle.rapid_model.specs.declared.predefined.Predefined.TheVariants as prede
 use Rattle.rapid_model.specs.declared.sort.Sort.{Sort}
 use Rattle.rapid_model.specs.declared.sort.Sort.TheVariants as sorts
 use Rattle.rapid_values.specs.declared.part_name.PartName.TheVariants as parts
-use Rattle.builtin_calls.specs.declared.need.Need.{Need}
-use Rattle.builtin_calls.specs.declared.need.Need.TheVariants as needs
+use Rattle.rapid_builtins.specs.declared.need.Need.{Need}
+use Rattle.rapid_builtins.specs.declared.need.Need.TheVariants as needs
 use Rattle.typed_trees.specs.Plain
 use Rattle.typed_trees.specs.Plain.{TypedExpr, TypedHeld, TypedArg, Given, Lent, OfSignal, OfMeeting, Itself}
 use Rattle.typed_trees.specs.declared.expr.TreeRoot.{TreeRoot}

@@ -12,11 +12,11 @@ use Rattle.rapid_model.specs.declared.instruction.Instruction.{Instruction}
 use Rattle.rapid_model.specs.declared.sort.Sort.{Sort}
 use Rattle.rapid_model.specs.declared.sort.Sort.TheVariants as sorts
 use Rattle.rapid_model.specs.Names.{is_among}
-use Rattle.builtin_calls.specs.Calls.{OptionRow, option_named, options, choice, instruction_needs, needs_arm, function_needs, function_result, function_needs_arm}
-use Rattle.builtin_calls.specs.declared.need.Need.{Need}
-use Rattle.builtin_calls.specs.declared.need.Need.TheVariants as needs
-use Rattle.builtin_calls.specs.declared.option_choice.Choice.{Choice}
-use Rattle.builtin_calls.specs.declared.option_choice.Choice.TheVariants as choices
+use Rattle.rapid_builtins.specs.Calls.{OptionRow, option_named, options, choice, instruction_needs, needs_arm, function_needs, function_result, function_needs_arm}
+use Rattle.rapid_builtins.specs.declared.need.Need.{Need}
+use Rattle.rapid_builtins.specs.declared.need.Need.TheVariants as needs
+use Rattle.rapid_builtins.specs.declared.option_choice.Choice.{Choice}
+use Rattle.rapid_builtins.specs.declared.option_choice.Choice.TheVariants as choices
 use Rattle.typed_trees.specs.Plain
 use Rattle.typed_trees.specs.Plain.{TypedExpr, TypedHeld, TypedArg, Given, NoArgument, Argument}
 use Rattle.data_scopes.specs.declared.data_row.ParamRow.{ParamRow}

@@ -8,7 +8,7 @@ use Rattle.rapid_model.specs.declared.sort.Sort.{Sort}
 use Rattle.rapid_model.specs.declared.sort.Sort.TheVariants as sorts
 use Rattle.rapid_model.specs.declared.value.Value.TheVariants as values
 use Rattle.rapid_values.specs.Components.{Component}
-use Rattle.builtin_calls.specs.Calls.{option_named}
+use Rattle.rapid_builtins.specs.Calls.{option_named}
 use Rattle.typed_trees.specs.Plain
 use Rattle.typed_trees.specs.Plain.{TypedExpr, TypedExprs, TypedSteps, TypedHeld, TypedArg, TypedArgs}
 use Rattle.data_scopes.specs.declared.fault.TypeRule.TheVariants.{TypeClash, DimRange, SyncName}

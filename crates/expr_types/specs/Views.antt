@@ -1,8 +1,8 @@
 -- How contracts see what the code has of calls and places.
 use Rattle.std.specs.Prelude.{List, map, Option, option_map}
-use Rattle.builtin_calls.specs.Calls.{row_of}
-use Rattle.builtin_calls.specs.declared.instruction_option.InstructionOption.{InstructionOption}
-use Rattle.builtin_calls.specs.declared.need.Need.{Need}
+use Rattle.rapid_builtins.specs.Calls.{row_of}
+use Rattle.rapid_builtins.specs.declared.instruction_option.InstructionOption.{InstructionOption}
+use Rattle.rapid_builtins.specs.declared.need.Need.{Need}
 use Rattle.typed_trees.specs.declared.expr.Expr.{Expr}
 use Rattle.typed_trees.specs.Plain.{TypedHeld, held_of, steps_of}
 use Rattle.typed_trees.specs.Views.{view_expr, view_step}

@@ -10,7 +10,7 @@ ghost use Rattle.expr_types.specs.Views.{view_called};
 use crate::callee::Callee;
 use crate::names::named;
 use crate::signature::{Signature, function_signature, routine_signature};
-use builtin_calls::function_result;
+use rapid_builtins::function_result;
 use data_scopes::{Meant, TypeFault, TypeRule};
 use named_data::{Site, fault};
 use rapid_model::Sort;

@@ -10,7 +10,7 @@ ghost use Rattle.expr_types.specs.Places;
 ghost use Rattle.expr_types.specs.Views.{view_held, view_part};
 
 use crate::place_part::PlacePart;
-use builtin_calls::Need;
+use rapid_builtins::Need;
 use data_scopes::{TypeFault, TypeRule};
 use named_data::{Access, Site, Source, Wanted, fault, must, same_sort};
 use rapid_model::{Sort, has_values};

@@ -4,7 +4,7 @@ ghost use Rattle.std.specs.Prelude.{◌≡◌, drop, length};
 ghost use Rattle.expr_types.specs.Calls;
 ghost use Rattle.expr_types.specs.Views.{view_needs};
 
-use builtin_calls::Need;
+use rapid_builtins::Need;
 use data_scopes::ParamRow;
 use rapid_model::Sort;
 use raw_trees::Mode;

@@ -3,8 +3,8 @@
 ghost use Rattle.std.specs.Prelude.{◌≡◌, ℕ, List, Ok};
 ghost use Rattle.std.specs.Borrow.{Bor};
 ghost use Rattle.std.specs.Option.{option_map};
-ghost use Rattle.builtin_calls.specs.Calls.{row_of};
-ghost use Rattle.builtin_calls.specs.declared.need.Need.{Need};
+ghost use Rattle.rapid_builtins.specs.Calls.{row_of};
+ghost use Rattle.rapid_builtins.specs.declared.need.Need.{Need};
 ghost use Rattle.typed_trees.specs.Plain.{Argument, NoArgument, Optional};
 ghost use Rattle.typed_trees.specs.Views.{view_arg};
 ghost use Rattle.data_scopes.specs.Gives.{Gives};
@@ -13,7 +13,7 @@ ghost use Rattle.expr_types.specs.Calls;
 ghost use Rattle.expr_types.specs.Views.{view_taking};
 
 use crate::taking::{Taking, is_excluded};
-use builtin_calls::{InstructionOption, Need};
+use rapid_builtins::{InstructionOption, Need};
 use data_scopes::{TypeFault, TypeRule};
 use named_data::{Site, fault, must, name_text};
 use typed_trees::Arg;

@@ -9,7 +9,7 @@ ghost use Rattle.expr_types.specs.Calls;
 ghost use Rattle.expr_types.specs.Views.{view_signature};
 
 use crate::signature::Signature;
-use builtin_calls::Choice;
+use rapid_builtins::Choice;
 use data_scopes::{TypeFault, TypeRule};
 use named_data::{Site, must};
 use raw_trees::RawArg;

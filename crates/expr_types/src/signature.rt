@@ -8,7 +8,7 @@ ghost use Rattle.expr_types.specs.Views.{view_signature};
 
 use crate::needs::Needs;
 use crate::zone::zone_need;
-use builtin_calls::{
+use rapid_builtins::{
     Choice, InstructionOption, Need, choice, function_needs, function_needs_arm, instruction_needs,
     needs_arm, options,
 };

@@ -3,8 +3,8 @@
 ghost use Rattle.std.specs.Prelude.{◌≡◌, map, option_map, Ok};
 ghost use Rattle.std.specs.Str.{str_eq_ignore_ascii_case};
 ghost use Rattle.rapid_model.specs.Names;
-ghost use Rattle.builtin_calls.specs.declared.instruction_option.InstructionOption.{InstructionOption};
-ghost use Rattle.builtin_calls.specs.Calls.{row_of};
+ghost use Rattle.rapid_builtins.specs.declared.instruction_option.InstructionOption.{InstructionOption};
+ghost use Rattle.rapid_builtins.specs.Calls.{row_of};
 ghost use Rattle.raw_trees.specs.Views.{view_arg as view_raw_arg};
 ghost use Rattle.data_scopes.specs.Gives.{Gives};
 ghost use Rattle.expr_types.specs.Calls;
@@ -12,7 +12,7 @@ ghost use Rattle.expr_types.specs.Views.{view_signature, view_taking};
 
 use crate::needs::Needs;
 use crate::signature::Signature;
-use builtin_calls::{Choice, InstructionOption, first_named};
+use rapid_builtins::{Choice, InstructionOption, first_named};
 use data_scopes::TypeFault;
 use raw_trees::RawArg;
 use std::alloc::Global;

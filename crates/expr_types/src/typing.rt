@@ -28,7 +28,7 @@ use crate::typed_chain::TypedChain;
 use crate::values::{
     aggregate, call, element_want, first_operand, given, group, one_dimension, place_value,
 };
-use builtin_calls::{Need, first_named};
+use rapid_builtins::{Need, first_named};
 use data_scopes::{TypeFault, TypeRule, begin_of};
 use named_data::{Site, Wanted, comes_to, datum_at, fault, inside, must, part_at, suits};
 use rapid_model::{Predefined, Sort, Value};

@@ -5,7 +5,7 @@ ghost use Rattle.raw_trees.specs.Plain.{args_of};
 ghost use Rattle.raw_trees.specs.Views.{view_arg as view_raw_arg};
 ghost use Rattle.expr_types.specs.Calls;
 
-use builtin_calls::Need;
+use rapid_builtins::Need;
 use rapid_model::Sort;
 use raw_trees::RawArg;
 

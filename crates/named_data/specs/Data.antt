@@ -12,7 +12,7 @@ use Rattle.rapid_values.specs.Components.{Component, components, component_of}
 use Rattle.rapid_values.specs.Values.{part_of}
 use Rattle.rapid_values.specs.declared.part_name.PartName.{PartName}
 use Rattle.rapid_values.specs.declared.part_name.PartName.TheVariants as parts
-use Rattle.builtin_calls.specs.Data.{predefined_datum}
+use Rattle.rapid_builtins.specs.Data.{predefined_datum}
 use Rattle.typed_trees.specs.Plain.{TypedExpr, TypedHeld, Known, ErrorNumber, SignalValue, Stored, PlaceOf}
 use Rattle.typed_trees.specs.declared.expr.TreeRoot.{TreeRoot}
 use Rattle.typed_trees.specs.declared.expr.TreeRoot.TheVariants as roots

@@ -9,7 +9,7 @@ use crate::access::is_before;
 use crate::named::{NamedDatum, Source};
 use crate::rules::{fault, must};
 use crate::site::Site;
-use builtin_calls::predefined_datum;
+use rapid_builtins::predefined_datum;
 use data_scopes::{DatumRow, TypeFault, TypeRule};
 use rapid_model::{Predefined, Sort, Value};
 

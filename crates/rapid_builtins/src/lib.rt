@@ -1,16 +1,37 @@
-//! RAPID's predefined names of this profile: its instructions, functions, types and data.
+//! RAPID's predefined names of this profile, and what they take: its instructions, functions, types and data, the arguments and
+//! options of calls, and whether they need an arm.
 #![tactic(auto)]
 
+mod arms;
+mod data;
+mod function_calls;
 mod functions;
+mod instruction_calls;
+mod instruction_option;
 mod instructions;
 mod laws;
+mod need;
+mod option_choice;
+mod option_laws;
+mod option_rows;
 mod table;
 mod types_and_data;
 
+pub use arms::{function_needs_arm, needs_arm};
+pub use data::predefined_datum;
+pub use function_calls::{function_needs, function_result};
 pub use functions::function;
+pub use instruction_calls::instruction_needs;
+pub use instruction_option::InstructionOption;
 pub use instructions::instruction;
 pub use laws::names_differ;
+pub use need::Need;
+pub use option_choice::Choice;
+pub use option_laws::options_differ;
+pub use option_rows::{choice, first_named, option_of, options};
 pub use types_and_data::{is_predefined, predefined};
 
+#[cfg(test)]
+mod call_tests;
 #[cfg(test)]
 mod tests;

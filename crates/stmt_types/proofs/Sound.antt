@@ -14,8 +14,8 @@ use Rattle.data_scopes.specs.Gives.{Gives}
 use Rattle.data_scopes.specs.Naming.{names_of}
 use Rattle.data_scopes.proofs.Typed.{behind, ok_same}
 use Rattle.named_data.specs.Rules.{must}
-use Rattle.data_types.specs.Data.{beginning, data_of}
-use Rattle.data_types.proofs.Sound.{pers_are_sound}
+use Rattle.decl_types.specs.Data.{beginning, data_of}
+use Rattle.decl_types.proofs.Sound.{pers_are_sound}
 use Rattle.stmt_types.specs.Task.{task_of, bodies, main_or, top, main_among, routines_of, most_values, tree_of}
 
 -- each persistent has a type with values, up to 1000 elements, and values that fit

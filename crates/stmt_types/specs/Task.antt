@@ -18,7 +18,7 @@ use Rattle.data_scopes.specs.Naming.{names_of}
 use Rattle.data_scopes.specs.Scopes.{Names, list_at}
 use Rattle.named_data.specs.Rules.{Site, fail, must}
 use Rattle.named_data.specs.Wants.{same_sort}
-use Rattle.data_types.specs.Data.{Progress, beginning, data_of}
+use Rattle.decl_types.specs.Data.{Progress, beginning, data_of}
 use Rattle.body_types.specs.Bodies.{Body, outside, stmts, into}
 use Rattle.body_types.specs.Labels.{labels_in_routine}
 

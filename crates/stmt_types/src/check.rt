@@ -6,7 +6,7 @@ ghost use Rattle.typed_trees.specs.Sound.{has_sound_pers};
 ghost use Rattle.typed_trees.specs.Views.{view_routine, view_tree};
 ghost use Rattle.data_scopes.specs.Gives.{Gives};
 ghost use Rattle.named_data.specs.Views.{view_site};
-ghost use Rattle.data_types.specs.Views.{view_progress};
+ghost use Rattle.decl_types.specs.Views.{view_progress};
 ghost use Rattle.stmt_types.specs.Task;
 ghost use Rattle.stmt_types.specs.Task.{task_of};
 
@@ -15,7 +15,7 @@ use crate::main_routine::{main_among, main_or};
 use crate::meetings::meeting_names;
 use crate::names::copied_names;
 use data_scopes::{Known, Scopes, Spot, TypeFault, TypeRule};
-use data_types::{Progress, data_of};
+use decl_types::{Progress, data_of};
 use named_data::{Site, must, number_of};
 use raw_trees::RawModule;
 use std::alloc::Global;

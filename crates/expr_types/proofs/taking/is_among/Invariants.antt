@@ -1,6 +1,6 @@
 use Rattle.std.proofs.Common.{◌≡◌, map, drop}
 use Rattle.rapid_model.specs.Names.{is_among}
-use Rattle.builtin_calls.specs.declared.instruction_option.InstructionOption.{InstructionOption}
+use Rattle.rapid_builtins.specs.declared.instruction_option.InstructionOption.{InstructionOption}
 use Rattle.expr_types.proofs.taking.is_among.Given as goal
 
 abbrev pub invariant-loop-option : goal.invariant-loop-option

@@ -1,5 +1,0 @@
-use Rattle.builtin_calls.proofs.OptionLaws.{names_differ, two_where_excluded}
-use Rattle.builtin_calls.proofs.laws.options_differ.Goals as goal
-
-pub returns : goal.returns
-returns c = record { differ = names_differ; two = two_where_excluded }

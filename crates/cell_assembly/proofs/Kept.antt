@@ -1,0 +1,45 @@
+-- A table of the numbers of global persistents, as persistents change.
+use Rattle.std.proofs.Common.{◌≡◌, ℕ, zero, suc, ◌+◌, not, ◌&&◌, nat_le, List, [], ◌∷◌, set, slice_get, Option, Some, None, is_none, option_map, Ok, if◌then◌else◌, refl, ap, sym, ◌∙◌}
+use Rattle.std.specs.Result.{IfOk}
+use Rattle.std.specs.Str.{str_eq_ignore_ascii_case}
+use Rattle.std.proofs.lemmas.Result.{IfOk-at_ok}
+use Rattle.name_tables.specs.Names.{NameList, Finds}
+use Rattle.rapid_model.specs.Sorts.{width}
+use Rattle.rapid_model.specs.declared.pers_value.PersValue.{PersValue}
+use Rattle.rapid_model.specs.declared.script_rule.ScriptRule.TheVariants.{Kind, Range, Twice}
+use Rattle.cell_assembly.specs.Cells.{PersInfo, is_global, global_number, has_sort, fits_index, element, is_told, with_told, tell_to, tell_global}
+use Rattle.cell_assembly.proofs.Holds.{must_hold}
+
+same_number : (name : List ℕ) (ps : List PersInfo) (k : ℕ) (old new : PersInfo) → slice_get ps k ≡ Some old → is_global name new ≡ is_global name old → global_number name (set ps k new) ≡ global_number name ps
+same_number name [] k old new at same = refl
+same_number name (p ∷ ps) zero old new at same =
+    let is : p ≡ old = cc at in
+    ap (λ t. if t then Some 0 else option_map suc (global_number name ps)) (same ∙ ap (is_global name) (sym is))
+same_number name (p ∷ ps) (suc k) old new at same = ap (λ o. if is_global name p then Some 0 else option_map suc o) (same_number name ps k old new at same)
+
+-- a persistent that keeps its name and its owner
+pub number_kept : (name : List ℕ) (ps : List PersInfo) (k : ℕ) (old new : PersInfo) → slice_get ps k ≡ Some old → new.name ≡ old.name → new.owner ≡ old.owner
+    → global_number name (set ps k new) ≡ global_number name ps
+number_kept name ps k old new at named owned =
+    same_number name ps k old new at
+    (ap (λ n. is_none new.owner && str_eq_ignore_ascii_case name n) named ∙ ap (λ o. is_none o && str_eq_ignore_ascii_case name old.name) owned)
+
+tell_to_keeps : (name : List ℕ) (ps : List PersInfo) (number : ℕ) (row : PersValue) (k : ℕ) (found : Option PersInfo) → slice_get ps k ≡ found
+    → IfOk (tell_to ps number row k found) (λ qs. global_number name qs ≡ global_number name ps)
+tell_to_keeps name ps number row k None at = tt
+tell_to_keeps name ps number row k (Some p) at =
+    let place = element row.index in
+    let Keeps : List PersInfo → Type 0 = λ qs. global_number name qs ≡ global_number name ps in
+    must_hold Keeps (has_sort p.sort row.value && fits_index p.len row.index) number Kind _ (λ suits.
+    must_hold Keeps (nat_le (place + 1) (width p.len)) number Range _ (λ there.
+    must_hold Keeps (not (is_told (slice_get p.told place))) number Twice _ (λ untold.
+    number_kept name ps k p (with_told p place row.value) at refl refl)))
+
+tell_global_keeps : (name : List ℕ) (ps : List PersInfo) (number : ℕ) (row : PersValue) (k : Option ℕ) → IfOk (tell_global ps number row k) (λ qs. global_number name qs ≡ global_number name ps)
+tell_global_keeps name ps number row None = tt
+tell_global_keeps name ps number row (Some k) = tell_to_keeps name ps number row k (slice_get ps k) refl
+
+-- the script's values change no name
+pub table_told : (table : NameList ℕ) (ps qs : List PersInfo) (number : ℕ) (row : PersValue) (k : Option ℕ) → Finds table (λ name. global_number name ps) → tell_global ps number row k ≡ Ok qs → Finds table (λ name. global_number name qs)
+table_told table ps qs number row k is told name =
+    is name ∙ sym (IfOk-at_ok (λ qs. global_number name qs ≡ global_number name ps) told (tell_global_keeps name ps number row k))

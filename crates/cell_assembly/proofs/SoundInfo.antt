@@ -1,0 +1,166 @@
+-- Persistents of sound declarations, and that they are persistents of a cell.
+use Rattle.std.proofs.Common.{◌≡◌, ℕ, suc, Bool, true, ◌&&◌, ◌==◌, nat_lt, List, [], ◌∷◌, length, replicate, set, Option, None, Some, refl, ap, ◌∙◌, arith}
+use Rattle.std.specs.List.{list_all}
+use Rattle.std.proofs.lemmas.Bool.{and_parts, and_from, eqb-true, eq-eqb}
+use Rattle.std.proofs.lemmas.List.{length-replicate, length-set}
+use Rattle.std.proofs.lemmas.List.Elements.{All-set, All-replicate}
+use Rattle.std.proofs.lemmas.List.Sums.{AllPass-from_list_all, list_all-from_AllPass}
+use Rattle.rapid_model.specs.CellData.{is_pers_cell}
+use Rattle.rapid_model.specs.Limits.{is_within, holds_where_there}
+use Rattle.rapid_model.specs.Sorts.{has_values, is_value_of, width}
+use Rattle.rapid_model.specs.declared.sort.Sort.{Sort}
+use Rattle.rapid_model.specs.declared.sort.Sort.TheVariants as sorts
+use Rattle.rapid_model.specs.declared.value.Value.{Value}
+use Rattle.rapid_model.specs.declared.value.Value.TheVariants as values
+use Rattle.named_data.specs.Wants.{same_sort}
+use Rattle.typed_trees.specs.Plain.{TypedPers}
+use Rattle.typed_trees.specs.Sound.{fits, is_sound}
+use Rattle.cell_assembly.specs.Cells.{PersInfo, new_pers, or_declared, with_declared, same_len, has_sort, with_told}
+use Rattle.cell_assembly.specs.Made.{start_of, declared_values, over, pers_cell}
+
+-- a value of the type for each element
+abbrev pub are_right : Sort → Option ℕ → List Value → Bool
+are_right sort len vs = length vs == width len && list_all (is_value_of sort) vs
+
+-- with so many tasks
+pub record IsSoundInfo (tasks : ℕ) (p : PersInfo) : Type 0 where
+  pub owner : holds_where_there (λ task. nat_lt task tasks) p.owner ≡ true
+  pub valued : has_values p.sort ≡ true
+  pub len : holds_where_there (is_within 1 1_000) p.len ≡ true
+  pub declared : holds_where_there (are_right p.sort p.len) p.declared ≡ true
+  pub as_many : length p.told ≡ width p.len
+  pub told : list_all (holds_where_there (is_value_of p.sort)) p.told ≡ true
+
+all_alike : {X : Type 0} (p : X → Bool) (n : ℕ) (x : X) → p x ≡ true → list_all p (replicate n x) ≡ true
+all_alike p n x e = list_all-from_AllPass p (replicate n x) (All-replicate (λ y. p y ≡ true) n x e)
+
+all_but_one : {X : Type 0} (p : X → Bool) (xs : List X) (place : ℕ) (x : X) → p x ≡ true → list_all p xs ≡ true → list_all p (set xs place x) ≡ true
+all_but_one p xs place x one all = list_all-from_AllPass p (set xs place x) (All-set (λ y. p y ≡ true) xs place x one (AllPass-from_list_all p xs all))
+
+pub new_sound : (tasks : ℕ) (owner : Option ℕ) (row : TypedPers) → holds_where_there (λ task. nat_lt task tasks) owner ≡ true → is_sound row ≡ true → IsSoundInfo tasks (new_pers owner row)
+new_sound tasks owner row is_task sound =
+    let (front, declared) = and_parts (has_values row.sort && holds_where_there (is_within 1 1_000) row.len) (holds_where_there (fits row) row.first) sound in
+    let (valued, len) = and_parts (has_values row.sort) (holds_where_there (is_within 1 1_000) row.len) front in
+    record {
+      owner = is_task;
+      valued = valued;
+      len = len;
+      declared = declared;
+      as_many = length-replicate (width row.len) None;
+      told = all_alike (holds_where_there (is_value_of row.sort)) (width row.len) None refl;
+    }
+
+same_sort_is : (a b : Sort) → same_sort a b ≡ true → a ≡ b
+same_sort_is sorts.Num sorts.Num e = refl
+same_sort_is sorts.Bool sorts.Bool e = refl
+same_sort_is sorts.Text sorts.Text e = refl
+same_sort_is sorts.RobJoint sorts.RobJoint e = refl
+same_sort_is sorts.ExtJoint sorts.ExtJoint e = refl
+same_sort_is sorts.JointTarget sorts.JointTarget e = refl
+same_sort_is sorts.SpeedData sorts.SpeedData e = refl
+same_sort_is sorts.Tasks sorts.Tasks e = refl
+same_sort_is sorts.IntNum sorts.IntNum e = refl
+same_sort_is sorts.SyncIdent sorts.SyncIdent e = refl
+same_sort_is sorts.ShapeData sorts.ShapeData e = refl
+same_sort_is sorts.WzTemporary sorts.WzTemporary e = refl
+same_sort_is sorts.WzStationary sorts.WzStationary e = refl
+same_sort_is _ _ e = cc
+
+same_len_is : (a b : Option ℕ) → same_len a b ≡ true → a ≡ b
+same_len_is None None e = refl
+same_len_is (Some m) (Some n) e = ap Some (eqb-true m n e)
+same_len_is _ _ e = cc
+
+either_declared : (test : List Value → Bool) (one more : Option (List Value)) → holds_where_there test one ≡ true → holds_where_there test more ≡ true → holds_where_there test (or_declared one more) ≡ true
+either_declared test (Some vs) more here there = here
+either_declared test None more here there = there
+
+-- what fits a declaration fits a persistent of its type and its length
+right_there : (sort other : Sort) (len long : Option ℕ) (first : Option (List Value)) → sort ≡ other → len ≡ long → holds_where_there (are_right other long) first ≡ true
+    → holds_where_there (are_right sort len) first ≡ true
+right_there sort other len long first same alike right =
+    ap (λ s. holds_where_there (are_right s len) first) same ∙ ap (λ l. holds_where_there (are_right other l) first) alike ∙ right
+
+-- one more declaration, with its type and its length
+pub declared_sound : (tasks : ℕ) (p : PersInfo) (row : TypedPers) → same_sort p.sort row.sort && same_len p.len row.len ≡ true → is_sound row ≡ true → IsSoundInfo tasks p → IsSoundInfo tasks (with_declared p row)
+declared_sound tasks p row alike sound is =
+    let (sort, len) = and_parts (same_sort p.sort row.sort) (same_len p.len row.len) alike in
+    let (_, first) = and_parts (has_values row.sort && holds_where_there (is_within 1 1_000) row.len) (holds_where_there (fits row) row.first) sound in
+    let right = right_there p.sort row.sort p.len row.len row.first (same_sort_is p.sort row.sort sort) (same_len_is p.len row.len len) first in
+    record {
+      owner = is.owner;
+      valued = is.valued;
+      len = is.len;
+      declared = either_declared (are_right p.sort p.len) p.declared row.first is.declared right;
+      as_many = is.as_many;
+      told = is.told;
+    }
+
+value_of_sort : (sort : Sort) (value : Value) → has_sort sort value ≡ true → is_value_of sort value ≡ true
+value_of_sort sorts.Num (values.Num n) e = refl
+value_of_sort sorts.Bool (values.Bool b) e = refl
+value_of_sort sorts.Text (values.Text t) e = refl
+value_of_sort _ _ e = cc
+
+-- a value that the script gives
+pub told_sound : (tasks : ℕ) (p : PersInfo) (place : ℕ) (value : Value) → has_sort p.sort value ≡ true → IsSoundInfo tasks p → IsSoundInfo tasks (with_told p place value)
+told_sound tasks p place value suits is =
+    record {
+      owner = is.owner;
+      valued = is.valued;
+      len = is.len;
+      declared = is.declared;
+      as_many = length-set p.told place (Some value) ∙ is.as_many;
+      told = all_but_one (holds_where_there (is_value_of p.sort)) p.told place (Some value) (value_of_sort p.sort value suits) is.told;
+    }
+
+start_is_right : (sort : Sort) → has_values sort ≡ true → is_value_of sort (start_of sort) ≡ true
+start_is_right sorts.Num e = refl
+start_is_right sorts.Bool e = refl
+start_is_right sorts.Text e = refl
+start_is_right sorts.Tasks e = refl
+start_is_right sorts.RobJoint e = refl
+start_is_right sorts.ExtJoint e = refl
+start_is_right sorts.JointTarget e = refl
+start_is_right sorts.SpeedData e = refl
+start_is_right _ e = cc
+
+declared_are_right : (p : PersInfo) (declared : Option (List Value)) → has_values p.sort ≡ true → holds_where_there (are_right p.sort p.len) declared ≡ true
+    → are_right p.sort p.len (declared_values (record p { declared = declared })) ≡ true
+declared_are_right p (Some vs) valued right = right
+declared_are_right p None valued right =
+    and_from (length (replicate (width p.len) (start_of p.sort)) == width p.len) (list_all (is_value_of p.sort) (replicate (width p.len) (start_of p.sort)))
+    (eq-eqb _ _ (length-replicate (width p.len) (start_of p.sort)))
+    (all_alike (is_value_of p.sort) (width p.len) (start_of p.sort) (start_is_right p.sort valued))
+
+over_as_many : (told : List (Option Value)) (vs : List Value) → length told ≡ length vs → length (over told vs) ≡ length vs
+over_as_many [] [] e = refl
+over_as_many [] (v ∷ vs) e = absurd (omega arith)
+over_as_many (t ∷ told) [] e = absurd (omega arith)
+over_as_many (Some t ∷ told) (v ∷ vs) e = ap suc (over_as_many told vs (omega arith))
+over_as_many (None ∷ told) (v ∷ vs) e = ap suc (over_as_many told vs (omega arith))
+
+over_right : (p : Value → Bool) (told : List (Option Value)) (vs : List Value) → list_all (holds_where_there p) told ≡ true → list_all p vs ≡ true → list_all p (over told vs) ≡ true
+over_right p [] vs e f = refl
+over_right p (Some t ∷ told) [] e f = refl
+over_right p (None ∷ told) [] e f = refl
+over_right p (Some t ∷ told) (v ∷ vs) e f =
+    let (here, more) = and_parts (p t) (list_all (holds_where_there p) told) e in
+    let (_, rest) = and_parts (p v) (list_all p vs) f in
+    and_from (p t) (list_all p (over told vs)) here (over_right p told vs more rest)
+over_right p (None ∷ told) (v ∷ vs) e f =
+    let (here, rest) = and_parts (p v) (list_all p vs) f in
+    and_from (p v) (list_all p (over told vs)) here (over_right p told vs e rest)
+
+pub cell_sound : (tasks : ℕ) (p : PersInfo) → IsSoundInfo tasks p → is_pers_cell tasks (pers_cell p) ≡ true
+cell_sound tasks p is =
+    let vs = declared_values p in
+    let first = over p.told vs in
+    let (many, right) = and_parts (length vs == width p.len) (list_all (is_value_of p.sort) vs) (declared_are_right p p.declared is.valued is.declared) in
+    let as_many : length p.told ≡ length vs = omega (arith, is.as_many, eqb-true (length vs) (width p.len) many) in
+    let owner = holds_where_there (λ task. nat_lt task tasks) p.owner in
+    let len = holds_where_there (is_within 1 1_000) p.len in
+    and_from (owner && len && length first == width p.len) (list_all (is_value_of p.sort) first)
+    (and_from (owner && len) (length first == width p.len) (and_from owner len is.owner is.len)
+    (eq-eqb _ _ (over_as_many p.told vs as_many ∙ eqb-true (length vs) (width p.len) many)))
+    (over_right (is_value_of p.sort) p.told vs is.told right)

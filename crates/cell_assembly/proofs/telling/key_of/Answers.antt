@@ -1,0 +1,8 @@
+use Rattle.std.proofs.Common.{◌∙◌, ap}
+use Rattle.std.specs.List.{list_all}
+use Rattle.rapid_model.specs.Printable.{is_printable}
+use Rattle.cell_assembly.proofs.Keys.{printable_decimal}
+use Rattle.cell_assembly.proofs.telling.key_of.Goals as goal
+
+pub show-requires-2-clause-printable : goal.show-requires-2-clause-printable
+show-requires-2-clause-printable c = ap (list_all is_printable) (c.as_bytes.ensures.value ∙ c.format.ensures.text) ∙ printable_decimal c.args.number (c.ranges.number.fits)

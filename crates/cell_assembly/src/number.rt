@@ -1,0 +1,28 @@
+//! The numbers of persistents, meetings and tasks.
+
+ghost use Rattle.std.specs.Prelude.{◌≡◌, ◌+◌, Ok, IfOk, IfErr};
+ghost use Rattle.cell_assembly.specs.declared.cell_fault.CellFault.TheVariants.{Memory};
+ghost use Rattle.cell_assembly.specs.Views.{Gives};
+
+use crate::cell_fault::CellFault;
+
+/// A place as a number. A place that is none is want of memory.
+pub(crate) fn number_of(place: usize) -> Result<u32, CellFault>
+    ensures { Gives (λ number. number) result (Ok place) }
+{
+    match u32::try_from(place) {
+        Ok(number) => Ok(number),
+        Err(_) => Err(CellFault::Memory),
+    }
+}
+
+/// The number of the task behind this one.
+pub(crate) fn next(task: u32) -> Result<u32, CellFault>
+    ensures ok { IfOk result (λ n. n ≡ task + 1) }
+    ensures err { IfErr result (λ fault. fault ≡ Memory) }
+{
+    match task.checked_add(1) {
+        Some(n) => Ok(n),
+        None => Err(CellFault::Memory),
+    }
+}

@@ -1,0 +1,91 @@
+//! The first values of persistents.
+
+ghost use Rattle.std.specs.Prelude.{◌≡◌, Ok, map, replicate, unwrap_or};
+ghost use Rattle.cell_assembly.specs.Made;
+ghost use Rattle.cell_assembly.specs.Views.{Gives, view_info};
+
+use crate::cell_fault::CellFault;
+use crate::one_pers::copy_values;
+use crate::pers_info::PersInfo;
+use rapid_model::{PersCell, Sequence, Sort, Value, width};
+use rapid_num::Num;
+use rapid_values::start_value;
+use std::alloc::Global;
+
+/// What an element begins with. Each persistent's type has values.
+fn start_of(sort: Sort) -> Value
+    ensures { result ≡ Made.start_of sort }
+{
+    match start_value(sort) {
+        Some(value) => value,
+        None => Value::Num(Num::new(0).unwrap()),
+    }
+}
+
+/// What so many elements begin with.
+fn start_values(alloc: Global, sort: Sort, width: usize) -> Result<Vec<Value>, CellFault>
+    ensures { Gives (λ values. values.items) result (Ok (replicate width (Made.start_of sort))) }
+{
+    let mut values = Vec::new(alloc);
+    for _element in 0..width {
+        values.push(start_of(sort))?;
+    }
+    Ok(values)
+}
+
+/// What a declaration gives the elements, else what they begin with.
+fn declared_values(alloc: Global, info: &PersInfo) -> Result<Vec<Value>, CellFault>
+    ensures { Gives (λ values. values.items) result (Ok (Made.declared_values (view_info info.now))) }
+{
+    match &info.declared {
+        Some(values) => copy_values(alloc, values),
+        None => start_values(alloc, info.sort, width(info.len)),
+    }
+}
+
+/// What the script gives an element, else this value.
+fn told_or(told: &Option<Value>, value: &Value) -> Value
+    ensures { result ≡ unwrap_or told.now value.now }
+{
+    match told {
+        Some(told) => told.copy(),
+        None => value.copy(),
+    }
+}
+
+/// What the script gives the elements, over these values.
+fn over(alloc: Global, told: &[Option<Value>], values: &[Value]) -> Result<Vec<Value>, CellFault>
+    ensures { Gives (λ first. first.items) result (Ok (Made.over told.now values.now)) }
+{
+    let mut first = Vec::new(alloc);
+    for (told, value) in told.iter().zip(values) {
+        first.push(told_or(told, value))?;
+    }
+    Ok(first)
+}
+
+/// A persistent with its first values. Its error is want of memory.
+fn pers_cell(alloc: Global, info: &PersInfo) -> Result<PersCell, CellFault>
+    ensures { Gives (λ cell. cell) result (Ok (Made.pers_cell (view_info info.now))) }
+{
+    let declared = declared_values(alloc, info)?;
+    let first = over(alloc, &info.told, &declared)?;
+    Ok(PersCell {
+        name: info.name.copy(),
+        owner: info.owner,
+        sort: info.sort,
+        len: info.len,
+        first: Sequence::from_vec(first),
+    })
+}
+
+/// Persistents with their first values. Its error is want of memory.
+pub(crate) fn pers_cells(alloc: Global, pers: &[PersInfo]) -> Result<Vec<PersCell>, CellFault>
+    ensures { Gives (λ cells. cells.items) result (Ok (map Made.pers_cell (map view_info pers.now))) }
+{
+    let mut cells = Vec::new(alloc);
+    for info in pers {
+        cells.push(pers_cell(alloc, info)?)?;
+    }
+    Ok(cells)
+}

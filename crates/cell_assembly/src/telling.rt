@@ -1,0 +1,172 @@
+//! What the script says of persistents.
+
+ghost use Rattle.std.specs.Prelude.{◌≡◌, ◌+◌, ◌≤◌, ◌++◌, ◌&&◌, IsTrue, length, map, slice_get};
+ghost use Rattle.std.specs.List.{list_all};
+ghost use Rattle.rapid_model.specs.Printable.{is_printable};
+ghost use Rattle.cell_assembly.specs.declared.cell_fault.CellFault.TheVariants.{Script};
+ghost use Rattle.cell_assembly.specs.Cells;
+ghost use Rattle.cell_assembly.specs.Parts.{view_infos};
+ghost use Rattle.cell_assembly.specs.Views.{Gives, view_info};
+
+use crate::cell_fault::CellFault;
+use crate::pers_info::PersInfo;
+use crate::persistents::Persistents;
+use itoa::Buffer;
+use rapid_model::{PersValue, ScriptRule, Sort, Text, Value, width};
+
+/// Whether a script's value is of the type.
+fn has_sort(sort: Sort, value: &Value) -> bool
+    ensures { result ≡ Cells.has_sort sort value.now }
+{
+    match (sort, value) {
+        (Sort::Num, Value::Num(_)) => true,
+        (Sort::Bool, Value::Bool(_)) => true,
+        (Sort::Text, Value::Text(_)) => true,
+        _ => false,
+    }
+}
+
+/// Whether what is named is an element of an array, or what is no array.
+fn fits_index(len: Option<u16>, index: Option<u16>) -> bool
+    ensures { result ≡ Cells.fits_index len index }
+{
+    if len.is_some() {
+        index.is_some()
+    } else {
+        index.is_none()
+    }
+}
+
+/// The place among the elements, from 0, that an index from 1 names.
+fn element(index: Option<u16>) -> usize
+    ensures { result ≡ Cells.element index }
+{
+    match index {
+        Some(index) => index.saturating_sub(1) as usize,
+        None => 0,
+    }
+}
+
+/// Appends bytes, for which there is room.
+fn show(text: &mut Text, bytes: &[u8])
+    requires room { length text.old + length bytes.now ≤ 80 }
+    requires printable { IsTrue (list_all is_printable bytes.now) }
+    ensures { text.new ≡ text.old ++ bytes.now }
+{
+    for byte in bytes {
+        text.push(*byte);
+    }
+}
+
+/// The key of the value of this number in the script.
+fn key_of(number: usize) -> Text
+    ensures { result ≡ Cells.key_of number }
+{
+    let mut text = Text::new();
+    let mut buffer = Buffer::new();
+    show(&mut text, b"pers[");
+    show(&mut text, buffer.format(number).as_bytes());
+    show(&mut text, b"]");
+    text
+}
+
+/// The value of this number in the script breaks a rule.
+fn in_script(number: usize, rule: ScriptRule) -> CellFault
+    ensures { result ≡ Script (Cells.key_of number) rule }
+{
+    CellFault::Script {
+        key: key_of(number),
+        rule,
+    }
+}
+
+/// Whether the script has given a value to the element at this place.
+fn is_told(told: &[Option<Value>], place: usize) -> bool
+    ensures { result ≡ Cells.is_told (slice_get told.now place) }
+{
+    match told.get(place) {
+        Some(value) => value.is_some(),
+        None => false,
+    }
+}
+
+/// The element at this place has this value; nothing changes where there is none.
+fn with_told(info: &mut PersInfo, place: usize, value: Value)
+    ensures { view_info info.new ≡ Cells.with_told (view_info info.old) place value }
+{
+    if place < info.told.len() {
+        info.told[place] = Some(value);
+    }
+}
+
+/// Whether a value of the script is of a persistent's type, and for an element where the persistent is an array.
+fn suits(info: &PersInfo, row: &PersValue) -> bool
+    ensures { result ≡ (Cells.has_sort info.now.sort row.now.value && Cells.fits_index info.now.len row.now.index) }
+{
+    has_sort(info.sort, &row.value) && fits_index(info.len, row.index)
+}
+
+/// A value of the script for the persistent of this number.
+fn tell_to(
+    infos: Vec<PersInfo>,
+    number: usize,
+    row: &PersValue,
+    k: u32,
+) -> Result<Vec<PersInfo>, CellFault>
+    ensures { let ps = view_infos infos in Gives view_infos result (Cells.tell_to ps number row.now k (slice_get ps k)) }
+{
+    let mut infos = infos;
+    let at = k as usize;
+    if at >= infos.len() {
+        return Err(in_script(number, ScriptRule::NoSuch));
+    }
+    let info = &mut infos[at];
+    if !suits(info, row) {
+        return Err(in_script(number, ScriptRule::Kind));
+    }
+    let place = element(row.index);
+    if place >= width(info.len) {
+        return Err(in_script(number, ScriptRule::Range));
+    }
+    if is_told(&info.told, place) {
+        return Err(in_script(number, ScriptRule::Twice));
+    }
+    with_told(info, place, row.value.copy());
+    Ok(infos)
+}
+
+/// A value of the script for the global persistent of this number, if there is one.
+fn tell_global(
+    infos: Vec<PersInfo>,
+    number: usize,
+    row: &PersValue,
+    k: Option<u32>,
+) -> Result<Vec<PersInfo>, CellFault>
+    ensures { Gives view_infos result (Cells.tell_global (view_infos infos) number row.now k) }
+{
+    match k {
+        Some(k) => tell_to(infos, number, row, k),
+        None => Err(in_script(number, ScriptRule::NoSuch)),
+    }
+}
+
+/// The value of this number in the script.
+fn tell(pers: Persistents, number: usize, row: &PersValue) -> Result<Persistents, CellFault>
+    ensures { Gives (λ told. told) result (Cells.tell pers number row.now) }
+{
+    let k = pers.global_number(&row.name);
+    let Persistents { infos, globals } = pers;
+    let infos = tell_global(infos, number, row, k)?;
+    Ok(Persistents { infos, globals })
+}
+
+/// The values of the script, in order.
+pub(crate) fn tell_all(pers: Persistents, rows: &[PersValue]) -> Result<Persistents, CellFault>
+    ensures { Gives (λ told. told) result (Cells.tell_all pers 0 rows.now) }
+{
+    let mut told = pers;
+    for (number, row) in rows.iter().enumerate() {
+        told = tell(told, number, row)?;
+    }
+    Ok(told)
+}

@@ -1,0 +1,75 @@
+//! What data hold at first.
+
+ghost use Rattle.std.specs.Prelude.{◌≡◌, map, replicate};
+ghost use Rattle.constant_meaning.specs.Constants.{items_of};
+ghost use Rattle.data_scopes.specs.Gives.{Gives};
+ghost use Rattle.decl_types.specs.Values;
+
+use data_scopes::TypeFault;
+use rapid_model::{Sort, Value, width};
+use rapid_values::start_value;
+use std::alloc::Global;
+use typed_trees::Datum;
+
+/// What a datum of a type without values holds at first.
+fn without_value(sort: Sort) -> Datum
+    ensures { result ≡ Values.without_value sort }
+{
+    match sort {
+        Sort::ShapeData => Datum::Shape(None),
+        _ => Datum::Mark(0),
+    }
+}
+
+fn plain_or_mark(sort: Sort, value: Option<Value>) -> Datum
+    ensures { result ≡ Values.plain_or_mark sort value }
+{
+    match value {
+        Some(value) => Datum::Plain(value),
+        None => without_value(sort),
+    }
+}
+
+/// What a datum of a type holds at first where its declaration says nothing.
+fn start_datum(sort: Sort) -> Datum
+    ensures { result ≡ Values.start_datum sort }
+{
+    plain_or_mark(sort, start_value(sort))
+}
+
+/// These values as data.
+fn plain_data(alloc: Global, values: &[Value]) -> Result<Vec<Datum>, TypeFault>
+    ensures { Gives (λ v. v.items) result (Ok (map Datum.Plain values.now)) }
+{
+    let mut held = Vec::new(alloc);
+    for value in values {
+        held.push(Datum::Plain(value.copy()))?;
+    }
+    Ok(held)
+}
+
+/// So many data of a type whose declaration says nothing.
+fn start_data(alloc: Global, sort: Sort, count: usize) -> Result<Vec<Datum>, TypeFault>
+    ensures { Gives (λ v. v.items) result (Ok (replicate count (Values.start_datum sort))) }
+{
+    let mut held = Vec::new(alloc);
+    for _element in 0..count {
+        held.push(start_datum(sort))?;
+    }
+    Ok(held)
+}
+
+/// What the elements of a datum hold at first.
+pub(crate) fn first_data(
+    alloc: Global,
+    sort: Sort,
+    len: Option<u16>,
+    values: &Option<Vec<Value>>,
+) -> Result<Vec<Datum>, TypeFault>
+    ensures { Gives (λ v. v.items) result (Ok (Values.first_data sort len (items_of values.now))) }
+{
+    match values {
+        Some(values) => plain_data(alloc, values),
+        None => start_data(alloc, sort, width(len)),
+    }
+}

@@ -1,0 +1,50 @@
+//! Items of modules, one behind the other.
+
+ghost use Rattle.std.specs.Prelude.{◌≡◌, map};
+ghost use Rattle.raw_trees.specs.Views.{view_item};
+ghost use Rattle.data_scopes.specs.Gives.{Gives};
+ghost use Rattle.decl_types.specs.Data;
+ghost use Rattle.decl_types.specs.Views.{view_progress};
+
+use crate::datum::datum;
+use crate::locals::routine;
+use crate::progress::Progress;
+use data_scopes::TypeFault;
+use raw_trees::RawItem;
+use std::alloc::Global;
+
+/// An item of the module, behind these data. A LOCAL or TASK PERS is the task's own.
+fn item(
+    alloc: Global,
+    number: u32,
+    declared: &RawItem<'_>,
+    progress: Progress,
+) -> Result<Progress, TypeFault>
+    ensures { Gives view_progress result (Data.item number (view_item declared.now) (view_progress progress)) }
+{
+    match declared {
+        RawItem::Datum {
+            local,
+            task,
+            datum: declared,
+            ..
+        } => datum(alloc, number, *local || *task, declared, progress),
+        RawItem::Routine(declared) => routine(alloc, number, declared, progress),
+    }
+}
+
+/// The items of the module, behind these data.
+pub(crate) fn items(
+    alloc: Global,
+    number: u32,
+    declared: &[RawItem<'_>],
+    before: Progress,
+) -> Result<Progress, TypeFault>
+    ensures { Gives view_progress result (Data.items number (map view_item declared.now) (view_progress before)) }
+{
+    let mut progress = before;
+    for one in declared {
+        progress = item(alloc, number, one, progress)?;
+    }
+    Ok(progress)
+}

@@ -1,0 +1,58 @@
+//! Values of CONSTs that are known to what stands behind them.
+
+ghost use Rattle.std.specs.Prelude.{◌≡◌, Some};
+ghost use Rattle.constant_meaning.specs.Constants.{items_of};
+ghost use Rattle.data_scopes.specs.Gives.{Gives};
+ghost use Rattle.data_scopes.specs.Kept.{with_kept};
+ghost use Rattle.decl_types.specs.Data;
+
+use data_scopes::{Scopes, TypeFault};
+use rapid_model::{Value, is_value_of};
+
+/// The names with the value of one more CONST. Its error is want of memory. A value that is no value of the type that the
+/// names have for the CONST is refused as such, though it never comes: that type is the type of the CONST's row, and each
+/// initial value is a value of its row's type.
+fn with_kept(scopes: Scopes, constant: u32, value: Value) -> Result<Scopes, TypeFault>
+    ensures { Gives (λ s. s) result (Ok (with_kept scopes constant value)) }
+{
+    let Some(sort) = scopes.sort(constant) else {
+        return Err(TypeFault::Memory);
+    };
+    if !is_value_of(sort, &value) {
+        return Err(TypeFault::Memory);
+    }
+    let mut scopes = scopes;
+    scopes.keep(constant, value);
+    Ok(scopes)
+}
+
+/// The names with the first of these values for one more CONST.
+fn keeping_first(scopes: Scopes, constant: u32, values: &[Value]) -> Result<Scopes, TypeFault>
+    ensures { Gives (λ s. s) result (Ok (Data.keeping scopes constant (Some values.now))) }
+{
+    match values {
+        [] => Ok(scopes),
+        [value, ..] => with_kept(scopes, constant, value.copy()),
+    }
+}
+
+/// The names with the value of one more CONST, where it has one.
+pub(crate) fn keeping(
+    scopes: Scopes,
+    constant: u32,
+    values: &Option<Vec<Value>>,
+) -> Result<Scopes, TypeFault>
+    ensures { Gives (λ s. s) result (Ok (Data.keeping scopes constant (items_of values.now))) }
+{
+    match values {
+        None => Ok(scopes),
+        Some(values) => keeping_first(scopes, constant, values),
+    }
+}
+
+/// The elements of an array that never change.
+pub(crate) fn known_elements(constant: bool, values: Option<Vec<Value>>) -> Option<Vec<Value>>
+    ensures { items_of result ≡ Data.known_elements constant (items_of values) }
+{
+    if constant { values } else { None }
+}

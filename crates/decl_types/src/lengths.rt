@@ -1,0 +1,82 @@
+//! Lengths of arrays (RAPID Kernel, variable declarations).
+
+ghost use Rattle.std.specs.Prelude.{◌≡◌};
+ghost use Rattle.raw_trees.specs.Views.{view_expr as view_raw};
+ghost use Rattle.constant_meaning.specs.Constants.{element_number, elements_of};
+ghost use Rattle.constant_meaning.specs.declared.outcome.Outcome.TheVariants as outcomes;
+ghost use Rattle.data_scopes.specs.Gives.{Gives};
+ghost use Rattle.named_data.specs.Views.{view_site};
+ghost use Rattle.decl_types.specs.Values;
+
+use constant_meaning::{Arrays, Outcome, constant_value, is_constant};
+use data_scopes::{TypeFault, TypeRule, begin_of};
+use expr_types::typed;
+use named_data::{Site, Wanted, fault, must};
+use rapid_model::{Sort, Value};
+use rapid_num::Num;
+use raw_trees::RawExpr;
+
+/// The greatest length of an array.
+const LONGEST_ARRAY: u16 = 1_000;
+
+/// The length that a num is: `None` where it is no whole number from 1 to the greatest length.
+fn length_of(number: Num) -> Option<u16>
+    ensures { result ≡ element_number Values.longest_array number }
+{
+    let Ok(count) = u64::try_from(number.thousandths()) else {
+        return None;
+    };
+    if count % 1_000 != 0 {
+        return None;
+    }
+    let Ok(length) = u16::try_from(count / 1_000) else {
+        return None;
+    };
+    if 1 <= length && length <= LONGEST_ARRAY {
+        return Some(length);
+    }
+    None
+}
+
+fn length_or_fault(site: &Site<'_>, at: usize, length: Option<u16>) -> Result<u16, TypeFault>
+    ensures { Gives (λ n. n) result (Values.length_or_fault (view_site site.now) at length) }
+{
+    match length {
+        Some(length) => Ok(length),
+        None => Err(fault(site, at, TypeRule::DimRange)),
+    }
+}
+
+/// A value that is a length is a whole number from 1 to the greatest length.
+fn length_by(site: &Site<'_>, at: usize, value: &Value) -> Result<u16, TypeFault>
+    ensures { Gives (λ n. n) result (Values.whole_length (view_site site.now) at (outcomes.Value value.now)) }
+{
+    match value {
+        Value::Num(number) => length_or_fault(site, at, length_of(*number)),
+        _ => Err(fault(site, at, TypeRule::DimRange)),
+    }
+}
+
+/// What a length comes to is a whole number from 1 to the greatest length.
+fn whole_length(site: &Site<'_>, at: usize, outcome: Outcome) -> Result<u16, TypeFault>
+    ensures { Gives (λ n. n) result (Values.whole_length (view_site site.now) at outcome) }
+{
+    match outcome {
+        Outcome::Value(value) => length_by(site, at, &value),
+        _ => Err(fault(site, at, TypeRule::DimRange)),
+    }
+}
+
+/// The length of an array.
+pub(crate) fn length_at(
+    site: &Site<'_>,
+    known: &Arrays<'_>,
+    value: &RawExpr<'_>,
+) -> Result<u16, TypeFault>
+    ensures { Gives (λ n. n) result (Values.length_at (view_site site.now) (elements_of known.now) (view_raw value.now)) }
+{
+    let tree = typed(site, value, Wanted::Is(Sort::Num))?;
+    let at = begin_of(value);
+    must(site, is_constant(known, &tree), at, TypeRule::NotConst)?;
+    whole_length(site, at, constant_value(known, &tree))
+}

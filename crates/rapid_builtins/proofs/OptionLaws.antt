@@ -1,0 +1,25 @@
+-- The options of each instruction.
+use Rattle.std.proofs.Common.{◌≡◌, true, map, length, refl}
+use Rattle.rapid_model.specs.Names.{differ}
+use Rattle.rapid_model.specs.declared.instruction.Instruction.{Instruction}
+use Rattle.rapid_model.specs.declared.instruction.Instruction.TheVariants as instructions
+use Rattle.rapid_builtins.specs.declared.option_choice.Choice.TheVariants as choices
+use Rattle.rapid_builtins.specs.Calls.{options, choice}
+
+pub names_differ : (i : Instruction) → differ (map (λ o. o.name) (options i)) ≡ true
+names_differ instructions.MoveAbsJ = refl
+names_differ instructions.TPWrite = refl
+names_differ instructions.ISignalDI = refl
+names_differ instructions.ISignalDO = refl
+names_differ instructions.IPers = refl
+names_differ instructions.WZLimJointDef = refl
+names_differ instructions.WZHomeJointDef = refl
+names_differ instructions.WZLimSup = refl
+names_differ _ = refl
+
+pub two_where_excluded : (i : Instruction) → ¬ (choice i ≡ choices.Any) → length (options i) ≡ 2
+two_where_excluded instructions.TPWrite h = refl
+two_where_excluded instructions.WZLimJointDef h = refl
+two_where_excluded instructions.WZHomeJointDef h = refl
+two_where_excluded instructions.WZLimSup h = refl
+two_where_excluded _ h = absurd (h refl)

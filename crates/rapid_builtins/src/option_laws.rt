@@ -1,0 +1,14 @@
+//! Laws of the options.
+
+ghost use Rattle.std.specs.Prelude.{◌≡◌, true, map, length};
+ghost use Rattle.rapid_model.specs.Names.{differ};
+ghost use Rattle.rapid_model.specs.declared.instruction.Instruction.{Instruction};
+ghost use Rattle.rapid_builtins.specs.declared.option_choice.Choice.{Choice};
+ghost use Rattle.rapid_builtins.specs.Calls.{options, choice};
+
+/// No two options of an instruction have the same name, so each name stands for one; and an instruction whose options exclude
+/// each other has two of them.
+pub fn options_differ()
+    ensures differ { (i : Instruction) → differ (map (λ o. o.name) (options i)) ≡ true }
+    ensures two { (i : Instruction) → ¬ (choice i ≡ Choice.Any) → length (options i) ≡ 2 }
+{}

@@ -1,5 +1,0 @@
-pub mod Steps
-pub mod Names
-pub mod Arguments
-pub mod Calls
-pub mod Expressions

@@ -1,7 +1,0 @@
-pub mod Sequences
-pub mod Places
-pub mod Connects
-pub mod Calls
-pub mod Returns
-pub mod Parts
-pub mod Statements

@@ -1,0 +1,64 @@
+-- The typed trees of a task's modules: each declared name is right, each datum has its length and first values, each statement its
+-- typed form; there is a main, and the modules' data are not too many.
+use Rattle.std.specs.Prelude.{◌≡◌, ℕ, ◌+◌, Bool, true, false, List, [], ◌∷◌, ◌++◌, length, Option, Some, None, nat_le}
+use Rattle.raw_trees.specs.Plain as Raw
+use Rattle.raw_trees.specs.Plain.{PlainRoutine, PlainItem, PlainModule, Datum, Routine, stmts_of}
+use Rattle.rapid_model.specs.declared.signal_row.SignalRow.{SignalRow}
+use Rattle.typed_trees.specs.Plain.{TypedStmt, TypedStmts, TypedLocal, TypedRoutine, TypedTree}
+use Rattle.data_scopes.specs.Called.{params_of, result_of}
+use Rattle.data_scopes.specs.Scopes.{Names, list_at}
+use Rattle.decl_types.specs.Data.{Progress, beginning}
+use Rattle.body_types.specs.Bodies.{Body, outside, into}
+use Rattle.stmt_types.specs.Task.{list_of, body_of, typed_params, main_among, routines_of, most_values, tree_of}
+use Rattle.typing_rules.specs.Statements.{AreStmts}
+use Rattle.typing_rules.specs.DeclaredNames.{AreNames}
+use Rattle.typing_rules.specs.Data.{AreModulesData}
+
+-- the ERROR part, whose first FOR has this number
+abbrev pub IsHandler : Body → Option (List Raw.PlainStmt) → ℕ → Option (List TypedStmt) → Type 0
+IsHandler body None next h = h ≡ None
+IsHandler body (Some list) next h =
+    (ts : TypedStmts) × (past : ℕ) × AreStmts body (stmts_of list) (into (outside true) (stmts_of list)) next ts past × (h ≡ Some (list_of ts))
+
+-- a routine of this number, with its data
+abbrev pub IsRoutine : Names → List (List TypedLocal) → ℕ → ℕ → PlainRoutine → TypedRoutine → Type 0
+IsRoutine names locals number routine r t =
+    (ts : TypedStmts) × (past : ℕ) × (h : Option (List TypedStmt))
+    × AreStmts (body_of names number routine r) (stmts_of r.list) (into (outside false) (stmts_of r.list)) 0 ts past
+    × IsHandler (body_of names number routine r) r.handler past h
+    × (t ≡ record {
+      name = r.name.text;
+      «module» = number;
+      kind = r.kind;
+      result = result_of names.rows routine;
+      params = typed_params r.params (params_of names.rows routine);
+      locals = list_at locals routine;
+      list = list_of ts;
+      handler = h;
+      at = r.at;
+    })
+
+abbrev pub AreItemRoutines : Names → List (List TypedLocal) → ℕ → List PlainItem → List TypedRoutine → List TypedRoutine → Type 0
+AreItemRoutines names locals number [] before past = past ≡ before
+AreItemRoutines names locals number (Datum local task d at ∷ is) before past = AreItemRoutines names locals number is before past
+AreItemRoutines names locals number (Routine r ∷ is) before past =
+    (t : TypedRoutine) × IsRoutine names locals number (length before) r t × AreItemRoutines names locals number is (before ++ t ∷ []) past
+
+-- the routines of modules, the first of which has this number
+abbrev pub AreRoutines : Names → List (List TypedLocal) → ℕ → List PlainModule → List TypedRoutine → List TypedRoutine → Type 0
+AreRoutines names locals number [] before past = past ≡ before
+AreRoutines names locals number (m ∷ ms) before past =
+    (middle : List TypedRoutine) × AreItemRoutines names locals number m.items before middle × AreRoutines names locals (number + 1) ms middle past
+
+-- the typed tree of a task's modules, among these tasks and signals, with an arm or without one
+pub record IsTyped (modules : List PlainModule) (tasks : List (List ℕ)) (signals : List SignalRow) (arm : Bool) (tree : TypedTree) : Type 0 where
+  pub names : Names
+  pub data_are : Progress
+  pub routines : List TypedRoutine
+  pub main : ℕ
+  pub are_names : AreNames modules signals arm names
+  pub are_data : AreModulesData 0 modules (beginning names) data_are
+  pub are_routines : AreRoutines data_are.names data_are.locals 0 modules [] routines
+  pub has_main : main_among (routines_of modules) ≡ Some main
+  pub few_values : nat_le data_are.values most_values ≡ true
+  pub is_tree : tree ≡ tree_of modules tasks data_are routines main

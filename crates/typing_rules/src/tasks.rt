@@ -1,0 +1,18 @@
+//! Which trees of a task's modules are right, and that they are just those that checking takes.
+
+ghost use Rattle.std.specs.Prelude.{◌≡◌, ℕ, Bool, List, Ok, ◌↔◌};
+ghost use Rattle.raw_trees.specs.Plain.{PlainModule};
+ghost use Rattle.rapid_model.specs.declared.signal_row.SignalRow.{SignalRow};
+ghost use Rattle.typed_trees.specs.Plain.{TypedTree};
+ghost use Rattle.stmt_types.specs.Task.{task_of};
+ghost use Rattle.typing_rules.specs.Tasks.{IsTyped};
+
+/// The modules of a task are checked to a tree exactly where it is their typed tree.
+pub fn tasks_are_typed()
+    ensures { (modules : List PlainModule) (tasks : List (List ℕ)) (signals : List SignalRow) (arm : Bool) (tree : TypedTree) → (task_of modules tasks signals arm ≡ Ok tree) ↔ IsTyped modules tasks signals arm tree }
+{}
+
+/// The modules of a task have at most one typed tree.
+pub fn tasks_have_one_tree()
+    ensures { (modules : List PlainModule) (tasks : List (List ℕ)) (signals : List SignalRow) (arm : Bool) (tree other : TypedTree) → IsTyped modules tasks signals arm tree → IsTyped modules tasks signals arm other → tree ≡ other }
+{}
