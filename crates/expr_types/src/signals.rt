@@ -10,8 +10,7 @@ ghost use Rattle.expr_types.specs.Arguments;
 use crate::names::is_bare;
 use data_scopes::{Meant, TypeFault, TypeRule, begin_of, is_meeting};
 use named_data::{Site, Source, fault, must};
-use rapid_model::{Predefined, Sort};
-use rapid_values::PartName;
+use rapid_model::{PartName, Predefined, Sort};
 use raw_trees::RawExpr;
 use typed_trees::{Arg, TreePlace, TreeRoot};
 
