@@ -1,13 +1,15 @@
+//! What one machine asks.
+
 ghost use Rattle.std.specs.Prelude.{◌≡◌, IsTrue, IfOk, IfSome, Some};
 ghost use Rattle.rapid_num.specs.Reach.{is_position};
 ghost use Rattle.task_machine.specs.MachineData.{fresh};
 ghost use Rattle.task_machine.specs.Standing.{fits_last};
 
-use super::*;
 use rapid_model::{Answer, Fate, Fault, Form, Request, Sequence, Stmt, Tree};
 use rapid_num::{Joints, Num};
 use std::alloc::{AllocError, Global};
 use std::test::Fail;
+use task_machine::Machine;
 
 // Axis 1 at this angle, the other five at 0, and no external axes.
 fn joints_at(angle: i32) -> Joints {

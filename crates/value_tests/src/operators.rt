@@ -1,8 +1,10 @@
-use super::*;
+//! Operators on values.
+
 use Wanted::{Gives, OutOfRange, Raises, Unfit};
 use Written::{Bool, Ext, Num, Rob, Speed, Target, Text};
 use rapid_model::Value;
 use rapid_num::Joints;
+use rapid_operators::{Applied, apply, negated, same_value, whole_index};
 use raw_trees::Operator;
 use raw_trees::Operator::{
     Add, And, Div, Equal, Greater, GreaterEqual, IntDiv, Less, LessEqual, Mod, Mul, NotEqual, Or,

@@ -1,5 +1,7 @@
-use super::*;
+//! Numbers worked by hand: their arithmetic, their literals and their texts.
+
 use arrayvec::ArrayString;
+use rapid_num::{BadLiteral, Num, read_literal, round_ratio, write_fixed, write_num};
 
 fn shortest(count: i64) -> Option<ArrayString<24>> {
     let mut text = ArrayString::new();

@@ -1,4 +1,6 @@
-use super::*;
+//! Whole cells, with what is printed of them.
+
+use controller::{Report, quiet};
 use outside::{MemoryShelf, MemorySink};
 use rapid_model::Fate;
 use std::alloc::{AllocError, Global};

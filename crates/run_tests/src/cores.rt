@@ -1,8 +1,9 @@
+//! What one shared cell answers.
+
 ghost use Rattle.std.specs.Prelude.{◌≡◌, ◌≤◌, IsTrue, IfSome, pos, codes};
 ghost use Rattle.rapid_num.specs.Reach.{is_position};
 
-use crate::served::Served;
-use crate::shared::Core;
+use cell_core::{Core, Served};
 use rapid_model::{Answer, Cell, Event, Fate, NameText, Request, Sequence, TaskRow};
 use rapid_num::{Joints, Num};
 use std::alloc::{AllocError, Global};

@@ -1,4 +1,6 @@
-use super::{function, instruction, is_predefined, predefined};
+//! Predefined names in small letters and in capitals, with what they stand for.
+
+use rapid_builtins::{function, instruction, is_predefined, predefined};
 use rapid_model::{Function, Instruction, Predefined};
 
 /// What a name stands for.

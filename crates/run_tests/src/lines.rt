@@ -1,5 +1,7 @@
-use super::*;
+//! Lines of a history.
+
 use arrayvec::ArrayString;
+use history_text::{write_event, write_fate};
 use rapid_model::{Answer, Event, Fate, Fault, NameText, Request, TaskRow};
 use rapid_num::{Joints, Num};
 

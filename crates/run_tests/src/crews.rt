@@ -1,11 +1,12 @@
+//! Tasks by turns.
+
 ghost use Rattle.std.specs.Prelude.{◌≡◌, ◌≤◌, [], ◌∷◌, IsTrue, IfOk, is_some};
 ghost use Rattle.rapid_model.specs.CellData.{starts_well};
 ghost use Rattle.rapid_num.specs.Reach.{is_position};
 ghost use Rattle.cell_crew.specs.Crew.{IsCrew, IsFresh};
 
-use crate::ran::Ran;
-use crate::round::run_round;
 use cell_core::Core;
+use cell_crew::{Ran, run_round};
 use rapid_model::{
     Answer, Cell, Event, Fate, Form, NameText, Request, Sequence, Stmt, TaskRow, Tree,
 };

@@ -1,6 +1,8 @@
-use super::{PartName, component, component_sorts, part, record_of, start_value, with_part};
+//! Components and parts of values.
+
 use rapid_model::{Sort, Text, Value};
 use rapid_num::{Joints, Num};
+use rapid_values::{PartName, component, component_sorts, part, record_of, start_value, with_part};
 use std::test::Fail;
 
 /// Types, a component's name in small letters and in mixed ones, its part and its type.

@@ -1,6 +1,6 @@
 //! Trees made by hand, and what they come to.
 
-use super::*;
+use constant_meaning::{Arrays, Outcome, constant_value, is_constant};
 use rapid_model::{Sort, Value};
 use rapid_num::Num;
 use rapid_values::PartName;

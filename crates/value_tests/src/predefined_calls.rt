@@ -1,4 +1,6 @@
-use super::{
+//! What some instructions and functions take, and some predefined data.
+
+use rapid_builtins::{
     Choice, Need, choice, function_needs, function_needs_arm, function_result, instruction_needs,
     needs_arm, option_of, options, predefined_datum,
 };
