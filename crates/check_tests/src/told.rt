@@ -2,6 +2,7 @@
 
 use super::rows::Frame;
 use super::scripts::{ARM, MODULES, NO_ARM, TASKS};
+use super::texts::unmarked;
 use controller::{ModuleRule, Refused, Report, quiet};
 use data_scopes::TypeRule;
 use outside::{MemoryShelf, MemorySink};
@@ -33,17 +34,6 @@ fn mark_of(text: &[u8]) -> Option<Place> {
         }
     }
     None
-}
-
-/// The text without its mark.
-fn unmarked(alloc: Global, text: &[u8]) -> Result<Vec<u8>, AllocError> {
-    let mut bytes = Vec::new(alloc);
-    for byte in text {
-        if *byte != b'^' {
-            bytes.push(*byte)?;
-        }
-    }
-    Ok(bytes)
 }
 
 /// A module with these items and a `main` of this body.

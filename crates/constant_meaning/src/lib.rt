@@ -7,8 +7,6 @@ mod elements;
 mod evaluate;
 mod operands;
 mod outcome;
-#[cfg(test)]
-mod tests;
 
 pub use arrays::Arrays;
 pub use evaluate::{are_constant, constant_value, is_constant};

@@ -36,6 +36,3 @@ pub use scopes::Scopes;
 pub use slots::is_meeting;
 pub use sorts::same_sort;
 pub use spot::Spot;
-
-#[cfg(test)]
-mod tests;
