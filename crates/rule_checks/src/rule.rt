@@ -1,12 +1,9 @@
-//! Why a task's modules are refused.
+//! The rules of names and types.
 
 ghost use Rattle.std.specs.Prelude.{◌≡◌};
-ghost use Rattle.data_scopes.specs.declared.fault.TypeFault.TheVariants.{Memory};
+ghost use Rattle.rule_checks.specs.Names.{type_rule_name};
 
-use name_tables::NotEntered;
-use std::alloc::{AllocError, AllocFailed};
-
-/// The rules of names and types. Each stands at the first byte of the smallest form that it speaks of.
+/// A rule of names and types. Each stands at the first byte of the smallest form that it speaks of.
 #[derive(Clone, Copy, Debug, PartialEq, Eq)]
 pub enum TypeRule {
     /// A second item, module or datum of the same name in one scope.
@@ -65,38 +62,39 @@ pub enum TypeRule {
     PersType,
 }
 
-/// Why a task's modules are refused: the rule, the module's number from 0 and the byte at which it stands; or memory was
-/// refused.
-#[derive(Debug, Drop)]
-pub enum TypeFault {
-    Rule {
-        module: u32,
-        at: usize,
-        rule: TypeRule,
-    },
-    Memory,
-}
-
-impl From<AllocError> for TypeFault {
-    ghost from_gives = { λ _ e. e ≡ Memory };
-
-    fn from(_e: AllocError) -> TypeFault {
-        TypeFault::Memory
-    }
-}
-
-impl<T: Drop> From<AllocFailed<T>> for TypeFault {
-    ghost from_gives = { λ _ e. e ≡ Memory };
-
-    fn from(_e: AllocFailed<T>) -> TypeFault {
-        TypeFault::Memory
-    }
-}
-
-impl From<NotEntered> for TypeFault {
-    ghost from_gives = { λ _ e. e ≡ Memory };
-
-    fn from(_e: NotEntered) -> TypeFault {
-        TypeFault::Memory
+impl TypeRule {
+    /// The name by which a refusal tells the rule.
+    pub fn name(self) -> &'static str
+        ensures { result.now ≡ type_rule_name self }
+    {
+        match self {
+            TypeRule::NameTwice => "NameTwice",
+            TypeRule::NameTaken => "NameTaken",
+            TypeRule::NoName => "NoName",
+            TypeRule::NotThis => "NotThis",
+            TypeRule::TypeClash => "TypeClash",
+            TypeRule::NoInit => "NoInit",
+            TypeRule::NotConst => "NotConst",
+            TypeRule::ConstOrder => "ConstOrder",
+            TypeRule::ConstFault => "ConstFault",
+            TypeRule::DimRange => "DimRange",
+            TypeRule::WholeArray => "WholeArray",
+            TypeRule::ReadOnly => "ReadOnly",
+            TypeRule::BadRef => "BadRef",
+            TypeRule::ArgCount => "ArgCount",
+            TypeRule::ArgName => "ArgName",
+            TypeRule::NoLabel => "NoLabel",
+            TypeRule::LabelTwice => "LabelTwice",
+            TypeRule::HandlerOnly => "HandlerOnly",
+            TypeRule::ReturnKind => "ReturnKind",
+            TypeRule::PersKind => "PersKind",
+            TypeRule::CornerZone => "CornerZone",
+            TypeRule::ToolOnly => "ToolOnly",
+            TypeRule::SyncName => "SyncName",
+            TypeRule::NoArm => "NoArm",
+            TypeRule::NoMain => "NoMain",
+            TypeRule::DataRange => "DataRange",
+            TypeRule::PersType => "PersType",
+        }
     }
 }
