@@ -13,7 +13,8 @@ use Rattle.typed_trees.specs.declared.expr.Expr.{Expr}
 use Rattle.typed_trees.specs.declared.stmt.Stmt.{Stmt}
 use Rattle.typed_trees.specs.Plain
 use Rattle.typed_trees.specs.Views.{view_arm, view_case, view_expr, view_list}
-use Rattle.data_scopes.specs.Declarations.{Checked, ◌>>=◌}
+use Rattle.rule_checks.specs.Checks.{◌>>=◌}
+use Rattle.rule_checks.specs.TypeChecks.{Checked}
 use Rattle.named_data.specs.Rules.{Site}
 use Rattle.named_data.specs.declared.wanted.Wanted.TheVariants.{Is, Same}
 use Rattle.expr_types.specs.Typing.{typed}

@@ -7,7 +7,7 @@ ghost use Rattle.named_data.specs.Views.{view_site};
 
 use crate::body::Body;
 use crate::label_list::LabelList;
-use data_scopes::Spot;
+use rule_checks::Spot;
 use named_data::Site;
 
 /// What is around a statement: the innermost FOR whose list it stands in, the labels of its own list and of those around it,

@@ -1,7 +1,7 @@
 //! Cells of two tasks, and the values that a script gives to persistents.
 
 use super::rows::{Row, Ruled, Suiting, Three, Valued};
-use data_scopes::TypeRule;
+use rule_checks::TypeRule;
 use rapid_model::ScriptRule;
 
 /// PersType: a global PERS of two tasks: the items of the one and of the other.

@@ -1,7 +1,7 @@
 //! The forms of rows. In the text of a module a `^` stands before the byte of the fault, and is left out when the cell is
 //! checked; a cell without one is accepted.
 
-use data_scopes::TypeRule;
+use rule_checks::TypeRule;
 use rapid_model::ScriptRule;
 
 /// Two texts, which a `Frame` makes a cell of.

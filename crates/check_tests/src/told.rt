@@ -3,7 +3,7 @@
 use super::rows::Frame;
 use super::scripts::{ARM, MODULES, NO_ARM, TASKS};
 use controller::{ModuleRule, Refused, Report, quiet};
-use data_scopes::TypeRule;
+use rule_checks::TypeRule;
 use outside::{MemoryShelf, MemorySink};
 use rapid_lexer::Place;
 use rapid_model::ScriptRule;
@@ -113,7 +113,7 @@ pub fn is_told(
                 Refused::Module {
                     file,
                     place,
-                    rule: ModuleRule::Typing(rule),
+                    rule: ModuleRule::Type(rule),
                 },
             ),
             Some((marked_file, mark)),

@@ -10,8 +10,7 @@ use Rattle.controller.specs.declared.refused.ModuleRule.TheVariants as modules
 use Rattle.rapid_lexer.specs.declared.place.Place.{Place}
 use Rattle.rapid_lexer.specs.declared.fault.LexRule.{LexRule}
 use Rattle.rapid_lexer.specs.declared.fault.LexRule.TheVariants as lexes
-use Rattle.data_scopes.specs.declared.fault.TypeRule.{TypeRule}
-use Rattle.data_scopes.specs.declared.fault.TypeRule.TheVariants as types
+use Rattle.rule_checks.specs.Names.{type_rule_name}
 use Rattle.rapid_forms.specs.declared.fault.SyntaxRule.{SyntaxRule}
 use Rattle.rapid_forms.specs.declared.fault.SyntaxRule.TheVariants as syntaxes
 
@@ -50,39 +49,10 @@ syntax_rule_name syntaxes.Syntax = codes "Syntax"
 syntax_rule_name syntaxes.LeftOut = codes "LeftOut"
 syntax_rule_name syntaxes.TooDeep = codes "TooDeep"
 
-abbrev pub type_rule_name : TypeRule → List ℕ
-type_rule_name types.NameTwice = codes "NameTwice"
-type_rule_name types.NameTaken = codes "NameTaken"
-type_rule_name types.NoName = codes "NoName"
-type_rule_name types.NotThis = codes "NotThis"
-type_rule_name types.TypeClash = codes "TypeClash"
-type_rule_name types.NoInit = codes "NoInit"
-type_rule_name types.NotConst = codes "NotConst"
-type_rule_name types.ConstOrder = codes "ConstOrder"
-type_rule_name types.ConstFault = codes "ConstFault"
-type_rule_name types.DimRange = codes "DimRange"
-type_rule_name types.WholeArray = codes "WholeArray"
-type_rule_name types.ReadOnly = codes "ReadOnly"
-type_rule_name types.BadRef = codes "BadRef"
-type_rule_name types.ArgCount = codes "ArgCount"
-type_rule_name types.ArgName = codes "ArgName"
-type_rule_name types.NoLabel = codes "NoLabel"
-type_rule_name types.LabelTwice = codes "LabelTwice"
-type_rule_name types.HandlerOnly = codes "HandlerOnly"
-type_rule_name types.ReturnKind = codes "ReturnKind"
-type_rule_name types.PersKind = codes "PersKind"
-type_rule_name types.CornerZone = codes "CornerZone"
-type_rule_name types.ToolOnly = codes "ToolOnly"
-type_rule_name types.SyncName = codes "SyncName"
-type_rule_name types.NoArm = codes "NoArm"
-type_rule_name types.NoMain = codes "NoMain"
-type_rule_name types.DataRange = codes "DataRange"
-type_rule_name types.PersType = codes "PersType"
-
 abbrev pub module_rule_name : ModuleRule → List ℕ
 module_rule_name (modules.Lex rule) = lex_rule_name rule
 module_rule_name (modules.Syntax rule) = syntax_rule_name rule
-module_rule_name (modules.Typing rule) = type_rule_name rule
+module_rule_name (modules.«Type» rule) = type_rule_name rule
 module_rule_name modules.NotBuilt = codes "NotBuilt"
 
 -- an empty key is shown as a minus

@@ -1,12 +1,11 @@
 ghost use Rattle.std.specs.Prelude.{◌++◌, ◌≡◌, ◌+◌, ◌≤◌, ◌∷◌, [], codes, decimal, length};
-ghost use Rattle.controller.specs.Refusals.{refusal_text, key_words, place_words, script_rule_name, module_rule_name, lex_rule_name, syntax_rule_name, type_rule_name};
+ghost use Rattle.controller.specs.Refusals.{refusal_text, key_words, place_words, script_rule_name, module_rule_name, lex_rule_name, syntax_rule_name};
 ghost use Rattle.controller.specs.Printed.{sunk, GainedUnlessFaults};
 ghost use Rattle.controller.specs.Written.{Writes, WritesPieces};
 
 use crate::refused::{ModuleRule, Refused};
 use crate::write::write_all;
 use arrayvec::ArrayString;
-use data_scopes::TypeRule;
 use itoa::Buffer;
 use outside::{Failed, Sink};
 use rapid_forms::SyntaxRule;
@@ -90,75 +89,43 @@ fn push_fault(place: &Place, rule: ModuleRule, line: &mut ArrayString<128>)
     push_number(place.line, line);
     line.push(':');
     push_number(place.column, line);
+    line.push(' ');
     line.push_str(module_rule(rule));
+    line.push('\n');
 }
 
 fn module_rule(rule: ModuleRule) -> &'static str
-    ensures { result.now ≡ 32 ∷ module_rule_name rule ++ codes "\n" }
+    ensures { result.now ≡ module_rule_name rule }
 {
     match rule {
         ModuleRule::Lex(rule) => lex_rule(rule),
         ModuleRule::Syntax(rule) => syntax_rule(rule),
-        ModuleRule::Typing(rule) => type_rule(rule),
-        ModuleRule::NotBuilt => " NotBuilt\n",
+        ModuleRule::Type(rule) => rule.name(),
+        ModuleRule::NotBuilt => "NotBuilt",
     }
 }
 
 fn lex_rule(rule: LexRule) -> &'static str
-    ensures { result.now ≡ 32 ∷ lex_rule_name rule ++ codes "\n" }
+    ensures { result.now ≡ lex_rule_name rule }
 {
     match rule {
-        LexRule::BadByte => " BadByte\n",
-        LexRule::OpenString => " OpenString\n",
-        LexRule::BadEscape => " BadEscape\n",
-        LexRule::LongString => " LongString\n",
-        LexRule::LongName => " LongName\n",
-        LexRule::BadLiteral => " BadLiteral\n",
-        LexRule::OpenHeader => " OpenHeader\n",
+        LexRule::BadByte => "BadByte",
+        LexRule::OpenString => "OpenString",
+        LexRule::BadEscape => "BadEscape",
+        LexRule::LongString => "LongString",
+        LexRule::LongName => "LongName",
+        LexRule::BadLiteral => "BadLiteral",
+        LexRule::OpenHeader => "OpenHeader",
     }
 }
 
 fn syntax_rule(rule: SyntaxRule) -> &'static str
-    ensures { result.now ≡ 32 ∷ syntax_rule_name rule ++ codes "\n" }
+    ensures { result.now ≡ syntax_rule_name rule }
 {
     match rule {
-        SyntaxRule::Syntax => " Syntax\n",
-        SyntaxRule::LeftOut => " LeftOut\n",
-        SyntaxRule::TooDeep => " TooDeep\n",
-    }
-}
-
-fn type_rule(rule: TypeRule) -> &'static str
-    ensures { result.now ≡ 32 ∷ type_rule_name rule ++ codes "\n" }
-{
-    match rule {
-        TypeRule::NameTwice => " NameTwice\n",
-        TypeRule::NameTaken => " NameTaken\n",
-        TypeRule::NoName => " NoName\n",
-        TypeRule::NotThis => " NotThis\n",
-        TypeRule::TypeClash => " TypeClash\n",
-        TypeRule::NoInit => " NoInit\n",
-        TypeRule::NotConst => " NotConst\n",
-        TypeRule::ConstOrder => " ConstOrder\n",
-        TypeRule::ConstFault => " ConstFault\n",
-        TypeRule::DimRange => " DimRange\n",
-        TypeRule::WholeArray => " WholeArray\n",
-        TypeRule::ReadOnly => " ReadOnly\n",
-        TypeRule::BadRef => " BadRef\n",
-        TypeRule::ArgCount => " ArgCount\n",
-        TypeRule::ArgName => " ArgName\n",
-        TypeRule::NoLabel => " NoLabel\n",
-        TypeRule::LabelTwice => " LabelTwice\n",
-        TypeRule::HandlerOnly => " HandlerOnly\n",
-        TypeRule::ReturnKind => " ReturnKind\n",
-        TypeRule::PersKind => " PersKind\n",
-        TypeRule::CornerZone => " CornerZone\n",
-        TypeRule::ToolOnly => " ToolOnly\n",
-        TypeRule::SyncName => " SyncName\n",
-        TypeRule::NoArm => " NoArm\n",
-        TypeRule::NoMain => " NoMain\n",
-        TypeRule::DataRange => " DataRange\n",
-        TypeRule::PersType => " PersType\n",
+        SyntaxRule::Syntax => "Syntax",
+        SyntaxRule::LeftOut => "LeftOut",
+        SyntaxRule::TooDeep => "TooDeep",
     }
 }
 

@@ -1,7 +1,6 @@
 -- What a name means is such as all that is declared, where what is predefined is such too.
 use Rattle.std.proofs.Common.{ℕ, zero, suc, Bool, true, false, List, [], ◌∷◌, ◌++◌, Option, Some, None, is_some, ◌≡◌, subst, if◌then◌else◌, bytes_eq}
-use Rattle.std.specs.Option.{option_map}
-use Rattle.rapid_model.specs.Requests.{or_else}
+use Rattle.std.specs.Option.{option_map, option_or}
 use Rattle.rapid_model.specs.declared.function.Function.{Function}
 use Rattle.rapid_model.specs.declared.instruction.Instruction.{Instruction}
 use Rattle.rapid_model.specs.declared.predefined.Predefined.{Predefined}
@@ -9,7 +8,7 @@ use Rattle.rapid_builtins.specs.Names.{instruction_of, function_of, predefined_o
 use Rattle.name_tables.specs.Names.{found_by as entry_by}
 use Rattle.data_scopes.specs.declared.meant.Meant.{Meant}
 use Rattle.data_scopes.specs.declared.meant.Meant.TheVariants as meants
-use Rattle.data_scopes.specs.declared.spot.Spot.{Spot}
+use Rattle.rule_checks.specs.declared.spot.Spot.{Spot}
 use Rattle.data_scopes.specs.Kept.{Mean, AllMean, TablesMean}
 use Rattle.data_scopes.specs.Scopes.{Scope, Tables, declare, list_at, meant_in, meant_in_routine, meant_predefined, meaning}
 
@@ -69,7 +68,7 @@ module _ (P : Meant → Type 0) (elsewhere : IsElsewhere P) where
   found_by key [] all = tt
   found_by key (e ∷ es) all = found_if (Some e.1) (entry_by key es) (bytes_eq key e.0) all.0 (found_by key es all.1)
 
-  found_or : (a b : Option Meant) → Found a → Found b → Found (or_else a b)
+  found_or : (a b : Option Meant) → Found a → Found b → Found (option_or a b)
   found_or None b ha hb = hb
   found_or (Some m) b ha hb = ha
 

@@ -1,11 +1,10 @@
 -- What a name means at a spot: the innermost declaration of its name that is visible there.
 use Rattle.std.specs.Prelude.{ℕ, Bool, zero, suc, List, [], ◌∷◌, length, map, Option, Some, None, slice_get, if◌then◌else◌, bytes_eq}
-use Rattle.std.specs.Option.{option_map}
+use Rattle.std.specs.Option.{option_map, option_or}
 use Rattle.std.specs.Str.{str_to_ascii_lowercase}
 use Rattle.std.specs.declared.alloc.Global.{Global}
 use Rattle.std.specs.declared.vec.Vec.{Vec}
 use Rattle.name_tables.specs.Names.{NameList, found_in, entered}
-use Rattle.rapid_model.specs.Requests.{or_else}
 use Rattle.rapid_model.specs.declared.sort.Sort.{Sort}
 use Rattle.rapid_model.specs.declared.value.Value.{Value}
 use Rattle.rapid_builtins.specs.Names.{instruction_of, function_of, predefined_of}
@@ -14,7 +13,7 @@ use Rattle.data_scopes.specs.declared.data_row.DatumRow.{DatumRow}
 use Rattle.data_scopes.specs.declared.data_row.ParamRow.{ParamRow}
 use Rattle.data_scopes.specs.declared.meant.Meant.{Meant}
 use Rattle.data_scopes.specs.declared.meant.Meant.TheVariants as meants
-use Rattle.data_scopes.specs.declared.spot.Spot.{Spot}
+use Rattle.rule_checks.specs.declared.spot.Spot.{Spot}
 
 -- The names of a scope, in small letters, and what they mean.
 abbrev pub Scope : Type 0
@@ -93,20 +92,20 @@ abbrev pub meant_in_routine : Tables → List ℕ → Option ℕ → Option ℕ 
 meant_in_routine tables name None within = None
 meant_in_routine tables name (Some routine) within =
     let loops = list_at tables.loops routine in
-    or_else (option_map meants.For (loop_named (length loops) (str_to_ascii_lowercase name) loops within)) (meant_in name (list_at tables.inner routine))
+    option_or (option_map meants.For (loop_named (length loops) (str_to_ascii_lowercase name) loops within)) (meant_in name (list_at tables.inner routine))
 
 -- a predefined name
 unfoldable pub meant_predefined : List ℕ → Option Meant
 meant_predefined name =
-    or_else (option_map meants.Instruction (instruction_of name))
-    (or_else (option_map meants.Function (function_of name)) (option_map meants.Predefined (predefined_of name)))
+    option_or (option_map meants.Instruction (instruction_of name))
+    (option_or (option_map meants.Function (function_of name)) (option_map meants.Predefined (predefined_of name)))
 
 -- a signal or a predefined name
 abbrev pub meant_outside : Tables → List ℕ → Option Meant
-meant_outside tables name = or_else (meant_in name tables.signals) (meant_predefined name)
+meant_outside tables name = option_or (meant_in name tables.signals) (meant_predefined name)
 
 -- what a name means at a spot
 abbrev pub meaning : Tables → Spot → List ℕ → Option Meant
 meaning tables spot name =
-    or_else (meant_in_routine tables name spot.routine spot.within)
-    (or_else (meant_in name (list_at tables.own spot.«module»)) (or_else (meant_in name tables.task) (meant_outside tables name)))
+    option_or (meant_in_routine tables name spot.routine spot.within)
+    (option_or (meant_in name (list_at tables.own spot.«module»)) (option_or (meant_in name tables.task) (meant_outside tables name)))

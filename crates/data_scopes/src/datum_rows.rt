@@ -3,11 +3,11 @@
 ghost use Rattle.std.specs.Prelude.{◌≡◌, ◌++◌, ◌∷◌, [], Ok, option_map};
 ghost use Rattle.raw_trees.specs.Views.{view_datum, view_expr, view_name};
 ghost use Rattle.data_scopes.specs.Rows;
-ghost use Rattle.data_scopes.specs.Gives.{Gives};
+ghost use Rattle.rule_checks.specs.TypeChecks.{Gives};
 
 use crate::checking::{sort_at, spot_of};
 use crate::data_row::{DatumRow, Since};
-use crate::fault::TypeFault;
+use rule_checks::TypeFault;
 use crate::numbers::{is_const, is_pers, is_scalar_const};
 use crate::row_tables::RowTables;
 use crate::tables::NameTables;

@@ -4,10 +4,10 @@ ghost use Rattle.std.specs.Prelude.{◌≡◌, ◌++◌, [], map, length, OnOk, 
 ghost use Rattle.raw_trees.specs.Views.{view_datum, view_item, view_module, view_param, view_routine};
 ghost use Rattle.data_scopes.specs.Numbers;
 ghost use Rattle.data_scopes.specs.Scopes.{declare, loop_rows};
-ghost use Rattle.data_scopes.specs.declared.fault.TypeFault.TheVariants.{Memory};
+ghost use Rattle.rule_checks.specs.declared.fault.TypeFault.TheVariants.{Memory};
 
 use crate::counts::Counts;
-use crate::fault::TypeFault;
+use rule_checks::TypeFault;
 use crate::loop_row::LoopRow;
 use crate::loops::loops_in_routine;
 use crate::meant::Meant;

@@ -1,8 +1,8 @@
 ghost use Rattle.std.specs.Prelude.{◌≡◌, bytes_eq, IfOk, IfErr};
 ghost use Rattle.std.specs.Str.{str_to_ascii_lowercase};
-ghost use Rattle.data_scopes.specs.declared.fault.TypeFault.TheVariants.{Memory};
+ghost use Rattle.rule_checks.specs.declared.fault.TypeFault.TheVariants.{Memory};
 
-use crate::fault::TypeFault;
+use rule_checks::TypeFault;
 use arrayvec::ArrayVec;
 use std::marker::Model;
 

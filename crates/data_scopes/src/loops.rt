@@ -6,9 +6,9 @@ ghost use Rattle.raw_trees.specs.Plain.{stmts_of};
 ghost use Rattle.raw_trees.specs.Views.{view_stmt, view_list, view_routine};
 ghost use Rattle.data_scopes.specs.Loops.{loops_of, loops_in, loops_in_routine};
 ghost use Rattle.data_scopes.specs.Scopes.{loop_named};
-ghost use Rattle.data_scopes.specs.declared.fault.TypeFault.TheVariants.{Memory};
+ghost use Rattle.rule_checks.specs.declared.fault.TypeFault.TheVariants.{Memory};
 
-use crate::fault::TypeFault;
+use rule_checks::TypeFault;
 use crate::loop_row::LoopRow;
 use raw_trees::{RawForm, RawRoutine, RawStmt};
 use std::alloc::Global;

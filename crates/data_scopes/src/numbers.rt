@@ -3,10 +3,10 @@
 ghost use Rattle.std.specs.Prelude.{◌≡◌, ◌+◌, map, IfOk, IfErr, if◌then◌else◌};
 ghost use Rattle.raw_trees.specs.Views.{view_datum, view_item, view_routine};
 ghost use Rattle.data_scopes.specs.Numbers;
-ghost use Rattle.data_scopes.specs.declared.fault.TypeFault.TheVariants.{Memory};
+ghost use Rattle.rule_checks.specs.declared.fault.TypeFault.TheVariants.{Memory};
 
 use crate::counts::Counts;
-use crate::fault::TypeFault;
+use rule_checks::TypeFault;
 use crate::meant::Meant;
 use raw_trees::{DatumKind, Mode, RawDatum, RawItem, RawRoutine};
 

@@ -5,7 +5,7 @@ ghost use Rattle.data_scopes.specs.Scopes.{list_at, loop_named, loop_rows, meani
 use crate::loop_row::LoopRow;
 use crate::loops::loop_named;
 use crate::meant::Meant;
-use crate::spot::Spot;
+use rule_checks::Spot;
 use name_tables::NameTable;
 use rapid_builtins::{function, instruction, predefined};
 use std::marker::Model;

@@ -16,15 +16,15 @@ use Rattle.constant_meaning.specs.Constants.{Elements, Outcomes, all, stops, and
 use Rattle.constant_meaning.specs.declared.outcome.Outcome.{Outcome}
 use Rattle.constant_meaning.specs.declared.outcome.Outcome.TheVariants as outcomes
 use Rattle.constant_meaning.proofs.Lists.{behind}
-use Rattle.data_scopes.specs.declared.fault.TypeFault.{TypeFault}
-use Rattle.data_scopes.specs.declared.fault.TypeFault.TheVariants.{Rule, Memory}
-use Rattle.data_scopes.specs.declared.fault.TypeRule.{TypeRule}
-use Rattle.data_scopes.specs.declared.fault.TypeRule.TheVariants.{ConstFault}
-use Rattle.data_scopes.specs.Declarations.{Break, Checked, ◌>>=◌}
-use Rattle.data_scopes.specs.Gives.{Fails}
+use Rattle.rule_checks.specs.declared.fault.TypeFault.{TypeFault}
+use Rattle.rule_checks.specs.declared.fault.TypeFault.TheVariants.{Rule, Memory}
+use Rattle.rule_checks.specs.declared.rule.TypeRule.{TypeRule}
+use Rattle.rule_checks.specs.declared.rule.TypeRule.TheVariants.{ConstFault}
+use Rattle.rule_checks.specs.Checks.{◌>>=◌, must}
+use Rattle.rule_checks.specs.TypeChecks.{TypeBreak, Checked, Fails}
 use Rattle.rapid_model.specs.Sorts.{is_value_of}
 use Rattle.named_data.specs.declared.wanted.Wanted.TheVariants.{Is}
-use Rattle.named_data.specs.Rules.{Site, fail, must}
+use Rattle.named_data.specs.Rules.{Site, fail, at_byte}
 use Rattle.expr_types.specs.Typing.{typed}
 use Rattle.decl_types.specs.Values.{array_elements, how_many, value_or_fault, values_or_fault}
 
@@ -97,7 +97,7 @@ pub record IsFound (sort : Sort) (v : Value) (outcome : Outcome) : Type 0 where
   pub fits : is_value_of sort v ≡ true
 
 -- where a rule and what follows it answer, the rule holds
-pub held_if : {A : Type 0} (site : Site) (at : ℕ) (rule : TypeRule) (holds : Bool) (w v : A) → (must site holds at rule >>= (λ _. Ok w)) ≡ Ok v → (w ≡ v) × (holds ≡ true)
+pub held_if : {A : Type 0} (site : Site) (at : ℕ) (rule : TypeRule) (holds : Bool) (w v : A) → (must holds (at_byte site at rule) >>= (λ _. Ok w)) ≡ Ok v → (w ≡ v) × (holds ≡ true)
 held_if site at rule true w v is = (cc, refl)
 held_if site at rule false w v is = absurd cc
 
@@ -114,20 +114,20 @@ pub all_found : (site : Site) (at : ℕ) (sort : Sort) (front : List Value) → 
     values_or_fault site at sort (behind front (all [])) ≡ Ok front
 all_found site at sort front fit =
     ap (λ vs. values_or_fault site at sort (all vs)) (append-nil front)
-    ∙ ap (λ b. must site b at ConstFault >>= (λ _. Ok front)) fit
+    ∙ ap (λ b. must b (at_byte site at ConstFault) >>= (λ _. Ok front)) fit
 
 -- one that is no value of the type
 unfit : (sort : Sort) (front : List Value) (v : Value) (vs : List Value) → is_value_of sort v ≡ false → list_all (is_value_of sort) (front ++ v ∷ vs) ≡ false
 unfit sort [] v vs fails = ap (λ b. b && list_all (is_value_of sort) vs) fails
 unfit sort (w ∷ front) v vs fails = ap (λ b. is_value_of sort w && b) (unfit sort front v vs fails) ∙ and-false (is_value_of sort w)
 
-stopped_if : (site : Site) (at : ℕ) (fits fit : Bool) (v : Value) (vs : List Value) (broken : Break) → (fits ≡ false → fit ≡ false) →
-    (must site fits at ConstFault >>= (λ _. Ok v)) ≡ Err broken → (must site fit at ConstFault >>= (λ _. Ok vs)) ≡ Err broken
+stopped_if : (site : Site) (at : ℕ) (fits fit : Bool) (v : Value) (vs : List Value) (broken : TypeBreak) → (fits ≡ false → fit ≡ false) →
+    (must fits (at_byte site at ConstFault) >>= (λ _. Ok v)) ≡ Err broken → (must fit (at_byte site at ConstFault) >>= (λ _. Ok vs)) ≡ Err broken
 stopped_if site at true fit v vs broken unless is = absurd cc
 stopped_if site at false fit v vs broken unless is =
-    ap (λ b. must site b at ConstFault >>= (λ _. Ok vs)) (unless refl) ∙ ap (λ checked. checked >>= (λ _. fail site at ConstFault)) is
+    ap (λ b. must b (at_byte site at ConstFault) >>= (λ _. Ok vs)) (unless refl) ∙ ap (λ checked. checked >>= (λ _. fail site at ConstFault)) is
 
-stopped : (site : Site) (at : ℕ) (sort : Sort) (front : List Value) (outcome : Outcome) (more : Outcomes) (broken : Break) →
+stopped : (site : Site) (at : ℕ) (sort : Sort) (front : List Value) (outcome : Outcome) (more : Outcomes) (broken : TypeBreak) →
     value_or_fault site at sort outcome ≡ Err broken → values_or_fault site at sort (behind front (and_more outcome more)) ≡ Err broken
 stopped site at sort front (outcomes.Value v) (all vs) broken is =
     stopped_if site at (is_value_of sort v) (list_all (is_value_of sort) (front ++ v ∷ vs)) v (front ++ v ∷ vs) broken (unfit sort front v vs) is

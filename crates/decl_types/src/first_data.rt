@@ -2,10 +2,10 @@
 
 ghost use Rattle.std.specs.Prelude.{◌≡◌, map, replicate};
 ghost use Rattle.constant_meaning.specs.Constants.{items_of};
-ghost use Rattle.data_scopes.specs.Gives.{Gives};
+ghost use Rattle.rule_checks.specs.TypeChecks.{Gives};
 ghost use Rattle.decl_types.specs.Values;
 
-use data_scopes::TypeFault;
+use rule_checks::TypeFault;
 use rapid_model::{Sort, Value, width};
 use rapid_values::start_value;
 use std::alloc::Global;

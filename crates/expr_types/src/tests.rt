@@ -1,7 +1,8 @@
 //! Small expressions by hand, among the data of one module: VAR num n, VAR num a{4}, VAR bool b.
 
 use super::{Want, check_expr};
-use data_scopes::{Known, Scopes, Spot, TypeFault, TypeRule};
+use data_scopes::{Known, Scopes};
+use rule_checks::{Spot, TypeFault, TypeRule};
 use rapid_model::Sort;
 use raw_trees::{
     DatumKind, Operator, RawArg, RawDatum, RawExpr, RawItem, RawModule, RawName, RawPlace,

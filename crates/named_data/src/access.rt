@@ -4,7 +4,8 @@ ghost use Rattle.std.specs.Prelude.{◌≡◌};
 ghost use Rattle.named_data.specs.Data;
 
 use crate::named::Access;
-use data_scopes::{Since, Spot};
+use data_scopes::Since;
+use rule_checks::Spot;
 use raw_trees::Mode;
 
 /// Whether what is declared there stands before the expression at the spot.

@@ -2,13 +2,13 @@
 
 ghost use Rattle.std.specs.Prelude.{◌≡◌, ◌∷◌, [], map};
 ghost use Rattle.raw_trees.specs.Views.{view_name};
-ghost use Rattle.data_scopes.specs.Gives.{Gives};
+ghost use Rattle.rule_checks.specs.TypeChecks.{Gives};
 ghost use Rattle.named_data.specs.Data;
 ghost use Rattle.named_data.specs.Views.{view_site};
 
 use crate::rules::fault;
 use crate::site::Site;
-use data_scopes::{TypeFault, TypeRule};
+use rule_checks::{TypeFault, TypeRule};
 use rapid_model::Sort;
 use rapid_values::{PartName, component};
 use raw_trees::RawName;

@@ -5,7 +5,8 @@ ghost use Rattle.rapid_values.specs.Components.{components};
 ghost use Rattle.named_data.specs.Wants;
 
 use crate::wanted::Wanted;
-use data_scopes::{TypeRule, same_sort};
+use data_scopes::same_sort;
+use rule_checks::TypeRule;
 use rapid_model::Sort;
 use raw_trees::Operator;
 

@@ -16,8 +16,8 @@ abbrev pub Checked : Type 0 → Type 0
 Checked A = Result A TypeBreak
 
 -- a rule that is broken at a spot
-abbrev pub break_at : Spot → TypeRule → TypeBreak
-break_at spot rule = record { «module» = spot.«module»; at = spot.at; rule = rule }
+abbrev pub at_spot : Spot → TypeRule → TypeBreak
+at_spot spot rule = record { «module» = spot.«module»; at = spot.at; rule = rule }
 
 -- the rule that a fault says to be broken; want of memory says none
 abbrev pub broken_rule : TypeFault → Option TypeBreak

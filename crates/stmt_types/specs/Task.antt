@@ -11,12 +11,13 @@ use Rattle.rapid_model.specs.declared.sort.Sort.TheVariants as sorts
 use Rattle.raw_trees.specs.Plain as Raw
 use Rattle.typed_trees.specs.Plain.{TypedStmt, TypedStmts, TypedParam, TypedLocal, TypedRoutine, TypedSlot, TypedTree, NoStmts, MoreStmts}
 use Rattle.data_scopes.specs.declared.data_row.ParamRow.{ParamRow}
-use Rattle.data_scopes.specs.declared.fault.TypeRule.TheVariants.{NoMain, DataRange}
+use Rattle.rule_checks.specs.declared.rule.TypeRule.TheVariants.{NoMain, DataRange}
 use Rattle.data_scopes.specs.Called.{params_of, result_of}
-use Rattle.data_scopes.specs.Declarations.{Checked, ◌>>=◌}
+use Rattle.rule_checks.specs.Checks.{◌>>=◌, must}
+use Rattle.rule_checks.specs.TypeChecks.{Checked}
 use Rattle.data_scopes.specs.Naming.{names_of}
 use Rattle.data_scopes.specs.Scopes.{Names, list_at}
-use Rattle.named_data.specs.Rules.{Site, fail, must}
+use Rattle.named_data.specs.Rules.{Site, fail, at_byte}
 use Rattle.named_data.specs.Wants.{same_sort}
 use Rattle.decl_types.specs.Data.{Progress, beginning, data_of}
 use Rattle.body_types.specs.Bodies.{Body, outside, stmts, into}
@@ -138,5 +139,5 @@ task_of modules tasks signals arm =
     data_of 0 modules (beginning names) >>= (λ p.
     bodies p.names p.locals 0 modules [] >>= (λ routines.
     main_or (top p.names) (main_among (routines_of modules)) >>= (λ main.
-    must (top p.names) (nat_le p.values most_values) 0 DataRange >>= (λ _.
+    must (nat_le p.values most_values) (at_byte (top p.names) 0 DataRange) >>= (λ _.
     Ok (tree_of modules tasks p routines main))))))

@@ -1,9 +1,9 @@
 //! Names of a typed tree.
 
 ghost use Rattle.std.specs.Prelude.{Ok};
-ghost use Rattle.data_scopes.specs.Gives.{Gives};
+ghost use Rattle.rule_checks.specs.TypeChecks.{Gives};
 
-use data_scopes::TypeFault;
+use rule_checks::TypeFault;
 use rapid_model::NameText;
 use std::alloc::Global;
 

@@ -4,14 +4,15 @@ ghost use Rattle.std.specs.Prelude.{◌≡◌, List, map, option_map};
 ghost use Rattle.raw_trees.specs.Views.{view_list as view_raw_list, view_routine as view_raw};
 ghost use Rattle.typed_trees.specs.Plain.{TypedLocal};
 ghost use Rattle.typed_trees.specs.Views.{view_list, view_local, view_routine};
-ghost use Rattle.data_scopes.specs.Gives.{Gives};
+ghost use Rattle.rule_checks.specs.TypeChecks.{Gives};
 ghost use Rattle.data_scopes.specs.Scopes.{list_at};
 ghost use Rattle.body_types.specs.Views.{view_body};
 ghost use Rattle.stmt_types.specs.Task;
 
 use crate::params::typed_params;
 use body_types::{Body, labels_of, typed_list};
-use data_scopes::{Scopes, TypeFault};
+use data_scopes::Scopes;
+use rule_checks::TypeFault;
 use named_data::name_text;
 use raw_trees::{RawRoutine, RawStmt};
 use std::alloc::Global;

@@ -4,7 +4,8 @@ use Rattle.raw_trees.specs.Views.{view_expr as view_raw}
 use Rattle.typed_trees.specs.declared.expr.Expr.{Expr}
 use Rattle.typed_trees.specs.Plain.{TypedExpr}
 use Rattle.typed_trees.specs.Views.{view_expr}
-use Rattle.data_scopes.specs.Declarations.{Checked, ◌>>=◌}
+use Rattle.rule_checks.specs.Checks.{◌>>=◌}
+use Rattle.rule_checks.specs.TypeChecks.{Checked}
 use Rattle.named_data.specs.Views.{view_site}
 use Rattle.body_types.specs.Bodies.{case_values}
 use Rattle.expr_types.proofs.Loops.{behind, then_more}

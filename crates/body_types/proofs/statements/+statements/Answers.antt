@@ -11,7 +11,8 @@ use Rattle.typed_trees.specs.declared.stmt.Stmt.{Stmt}
 use Rattle.typed_trees.specs.Plain
 use Rattle.typed_trees.specs.Plain.{TypedExpr, stmts_of}
 use Rattle.typed_trees.specs.Views.{view_arm, view_case, view_expr, view_list, view_stmt}
-use Rattle.data_scopes.specs.Declarations.{Checked, ◌>>=◌}
+use Rattle.rule_checks.specs.Checks.{◌>>=◌}
+use Rattle.rule_checks.specs.TypeChecks.{Checked}
 use Rattle.named_data.specs.declared.wanted.Wanted.TheVariants.{Is, Fits}
 use Rattle.named_data.specs.Views.{view_site}
 use Rattle.expr_types.specs.Typing.{typed, sort_of}

@@ -3,7 +3,7 @@ use Rattle.std.proofs.lemmas.List.{map-append}
 use Rattle.raw_trees.specs.Plain.{exprs_of}
 use Rattle.raw_trees.specs.Views.{view_expr as view_raw}
 use Rattle.typed_trees.specs.Views.{view_expr}
-use Rattle.data_scopes.specs.Declarations.{◌>>=◌}
+use Rattle.rule_checks.specs.Checks.{◌>>=◌}
 use Rattle.named_data.specs.Views.{view_site}
 use Rattle.decl_types.specs.Values.{array_elements}
 use Rattle.decl_types.proofs.Elements.{behind_one, elements_end, elements_more, with_front, with_front_all, with_front_more}
