@@ -4,7 +4,7 @@ use Rattle.raw_trees.specs.declared.raw_expr.Operator.{Operator}
 use Rattle.raw_trees.specs.declared.raw_expr.Operator.TheVariants as operators
 use Rattle.rapid_model.specs.declared.sort.Sort.TheVariants as sorts
 use Rattle.rapid_model.specs.declared.value.Value.TheVariants as values
-use Rattle.rapid_values.specs.declared.part_name.PartName.TheVariants as parts
+use Rattle.rapid_model.specs.declared.part_name.PartName.TheVariants as parts
 use Rattle.typed_trees.specs.declared.expr.TreeRoot.TheVariants as roots
 use Rattle.typed_trees.specs.Plain.{TypedExpr, Known, Stored, Aggregate, Not, Signed, Chain, NoExprs, MoreExprs, NoSteps, MoreSteps, NotHeld, Held, PlaceOf}
 use Rattle.constant_meaning.specs.declared.outcome.Outcome.TheVariants as outcomes

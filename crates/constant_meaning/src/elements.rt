@@ -7,9 +7,9 @@ ghost use Rattle.constant_meaning.specs.declared.outcome.Outcome.TheVariants as 
 use crate::arrays::Arrays;
 use crate::operands::value_or_not_known;
 use crate::outcome::Outcome;
-use rapid_model::Value;
+use rapid_model::{PartName, Value};
 use rapid_num::Num;
-use rapid_values::{PartName, part};
+use rapid_values::part;
 use typed_trees::TreeRoot;
 
 /// The elements of the constant array that a root names: None exactly where it is none whose elements are known.

@@ -1,9 +1,8 @@
 //! Trees made by hand, and what they come to.
 
 use super::*;
-use rapid_model::{Sort, Value};
+use rapid_model::{PartName, Sort, Value};
 use rapid_num::Num;
-use rapid_values::PartName;
 use raw_trees::Operator;
 use std::alloc::{AllocError, Global};
 use std::test::*;

@@ -9,7 +9,7 @@ use Rattle.rapid_model.specs.declared.predefined.Predefined.{Predefined}
 use Rattle.rapid_model.specs.declared.predefined.Predefined.TheVariants as predefineds
 use Rattle.rapid_model.specs.declared.sort.Sort.{Sort}
 use Rattle.rapid_model.specs.declared.sort.Sort.TheVariants as sorts
-use Rattle.rapid_values.specs.declared.part_name.PartName.TheVariants as parts
+use Rattle.rapid_model.specs.declared.part_name.PartName.TheVariants as parts
 use Rattle.rapid_builtins.specs.declared.need.Need.{Need}
 use Rattle.rapid_builtins.specs.declared.need.Need.TheVariants as needs
 use Rattle.typed_trees.specs.Plain

@@ -1,6 +1,5 @@
 use named_data::Source;
-use rapid_model::Sort;
-use rapid_values::PartName;
+use rapid_model::{PartName, Sort};
 use typed_trees::Expr;
 
 /// A part of what a name stands for, or of an element of it: where its value is, whether the name is an array's, the index of

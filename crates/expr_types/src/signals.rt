@@ -11,8 +11,7 @@ use crate::names::is_bare;
 use data_scopes::{Meant, begin_of, is_meeting};
 use rule_checks::{TypeFault, TypeRule};
 use named_data::{Site, Source, fault, must};
-use rapid_model::{Predefined, Sort};
-use rapid_values::PartName;
+use rapid_model::{PartName, Predefined, Sort};
 use raw_trees::RawExpr;
 use typed_trees::{Arg, TreePlace, TreeRoot};
 

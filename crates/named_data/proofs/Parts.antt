@@ -5,7 +5,7 @@ use Rattle.raw_trees.specs.Views.{view_name}
 use Rattle.raw_trees.specs.declared.raw_name.RawName.{RawName}
 use Rattle.rapid_model.specs.declared.sort.Sort.{Sort}
 use Rattle.rapid_values.specs.Components.{Component, components, component_of}
-use Rattle.rapid_values.specs.declared.part_name.PartName.{PartName}
+use Rattle.rapid_model.specs.declared.part_name.PartName.{PartName}
 use Rattle.rule_checks.specs.Checks.{◌>>=◌, found_or}
 use Rattle.rule_checks.specs.TypeChecks.{Checked, Fails}
 use Rattle.rule_checks.specs.declared.rule.TypeRule.TheVariants.{NoName}

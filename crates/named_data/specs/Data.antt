@@ -10,8 +10,8 @@ use Rattle.rapid_model.specs.declared.sort.Sort.TheVariants as sorts
 use Rattle.rapid_model.specs.declared.value.Value.{Value}
 use Rattle.rapid_values.specs.Components.{Component, components, component_of}
 use Rattle.rapid_values.specs.Values.{part_of}
-use Rattle.rapid_values.specs.declared.part_name.PartName.{PartName}
-use Rattle.rapid_values.specs.declared.part_name.PartName.TheVariants as parts
+use Rattle.rapid_model.specs.declared.part_name.PartName.{PartName}
+use Rattle.rapid_model.specs.declared.part_name.PartName.TheVariants as parts
 use Rattle.rapid_builtins.specs.Data.{predefined_datum}
 use Rattle.typed_trees.specs.Plain.{TypedExpr, TypedHeld, Known, ErrorNumber, SignalValue, Stored, PlaceOf}
 use Rattle.typed_trees.specs.declared.expr.TreeRoot.{TreeRoot}

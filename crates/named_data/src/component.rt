@@ -8,9 +8,9 @@ ghost use Rattle.named_data.specs.Views.{view_site};
 
 use crate::rules::fault;
 use crate::site::Site;
+use rapid_model::{PartName, Sort};
+use rapid_values::component;
 use rule_checks::{TypeFault, TypeRule};
-use rapid_model::Sort;
-use rapid_values::{PartName, component};
 use raw_trees::RawName;
 
 /// A part of a value, and the part's type.

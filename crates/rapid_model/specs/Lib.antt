@@ -1,7 +1,12 @@
 pub mod Printable
 pub mod Names
 pub mod Sorts
+pub mod Lengths
 pub mod Limits
 pub mod CellData
 pub mod ScriptData
+pub mod Paths
+pub mod Own
+pub mod Fits
 pub mod Requests
+pub mod RuleNames

@@ -1,66 +1,96 @@
--- Which answers a request may have, and who may ask it.
-use Rattle.std.specs.Prelude.{ℕ, Bool, true, false, not, ◌&&◌, List, [], ◌∷◌, Option, Some, None, is_some, slice_get, filter, map, ◌==◌}
+-- Who may ask what of a cell.
+use Rattle.std.specs.Prelude.{ℕ, ◌^◌, Bool, true, false, not, ◌&&◌, nat_lt, List, length, Option, Some, None, is_some, slice_get, ◌==◌}
 use Rattle.rapid_num.specs.Reach.{is_position}
 use Rattle.rapid_model.specs.CellData.{CellData}
-use Rattle.rapid_model.specs.declared.answer.Answer.{Answer}
-use Rattle.rapid_model.specs.declared.answer.Answer.TheVariants as answers
+use Rattle.rapid_model.specs.Own.{has_ended, is_held, is_rise, is_trapped}
+use Rattle.rapid_model.specs.Paths.{fits_part, has_path, part_sort}
 use Rattle.rapid_model.specs.declared.event.Event.{Event}
 use Rattle.rapid_model.specs.declared.fate.Fate.{Fate}
 use Rattle.rapid_model.specs.declared.fate.Fate.TheVariants as fates
+use Rattle.rapid_model.specs.declared.pers_cell.PersCell.{PersCell}
 use Rattle.rapid_model.specs.declared.request.Request.{Request}
-use Rattle.rapid_model.specs.declared.request.Request.TheVariants.{Look, Position, Setpoint, End}
+use Rattle.rapid_model.specs.declared.request.Request.TheVariants as requests
+use Rattle.rapid_model.specs.declared.sort.Sort.{Sort}
+use Rattle.rapid_model.specs.declared.sort.Sort.TheVariants as sorts
 use Rattle.rapid_model.specs.declared.task_row.TaskRow.{TaskRow}
+use Rattle.rapid_model.specs.declared.watched.Watched.{Watched}
+use Rattle.rapid_model.specs.declared.watched.Watched.TheVariants as watched
 
--- an answer of a form that the request has, within its limits
-abbrev pub fits_request : Request → Answer → Bool
-fits_request Look (answers.Go seen) = true
-fits_request Position (answers.At position) = is_position position
-fits_request (Setpoint to) answers.Given = true
-fits_request (End fate) answers.Ok = true
-fits_request _ _ = false
-
--- an actor's own events, in order
-abbrev pub part_of : ℕ → List Event → List Event
-part_of actor history = filter (λ e. e.actor == actor) history
-
--- the answers that an actor got, in order
-abbrev pub answers_of : ℕ → List Event → List Answer
-answers_of actor history = map (λ e. e.answer) (part_of actor history)
-
--- the fate that a request tells
-abbrev pub fate_told : Request → Option Fate
-fate_told (End fate) = Some fate
-fate_told Look = None
-fate_told Position = None
-fate_told (Setpoint to) = None
-
-abbrev pub or_else : {A : Type 0} → Option A → Option A → Option A
-or_else (Some x) other = Some x
-or_else None other = other
-
--- the fate that the first End of some events tells
-abbrev pub end_of : List Event → Option Fate
-end_of [] = None
-end_of (e ∷ es) = or_else (fate_told e.request) (end_of es)
-
-abbrev pub has_ended : List Event → Bool
-has_ended mine = is_some (end_of mine)
-
--- a task may tell of itself that it is done or has a fault
+-- a task may tell of itself that it is done, has left by EXIT, or has a fault
 abbrev pub may_tell : Fate → Bool
 may_tell fates.Done = true
+may_tell fates.Exit = true
 may_tell (fates.Fault f) = true
 may_tell fates.Held = false
 may_tell fates.Cut = false
 
--- what a task of this row may ask; only a task with an arm asks of an arm
-abbrev pub row_allows : Option TaskRow → Request → Bool
-row_allows None request = false
-row_allows (Some row) Look = true
-row_allows (Some row) Position = is_some row.arm
-row_allows (Some row) (Setpoint to) = is_some row.arm && is_position to
-row_allows (Some row) (End fate) = may_tell fate
+-- it holds of the persistent of this number, which is there
+abbrev pub of_pers : CellData → ℕ → (PersCell → Bool) → Bool
+of_pers cell pers test = holds (slice_get cell.pers pers)
+  where
+    holds : Option PersCell → Bool
+    holds None = false
+    holds (Some row) = test row
+
+abbrev pub is_bool : Option Sort → Bool
+is_bool (Some sorts.Bool) = true
+is_bool _ = false
+
+abbrev pub has_signal : CellData → ℕ → Bool
+has_signal cell signal = nat_lt signal (length cell.signals)
+
+abbrev pub can_watch : CellData → Watched → Bool
+can_watch cell (watched.Signal signal value) = has_signal cell signal
+can_watch cell (watched.Pers pers) = nat_lt pers (length cell.pers)
+
+-- What a task of this row may ask, with its own events so far: of what is there, of an arm only where it has one, and Leave only
+-- in a trap. The numbers of interrupts, traps and zones may be any.
+abbrev pub suits_task : CellData → TaskRow → List Event → Request → Bool
+suits_task cell row mine (requests.ReadP pers path) = of_pers cell pers (λ p. has_path p path)
+suits_task cell row mine (requests.WriteP pers path value) = of_pers cell pers (λ p. has_path p path && fits_part p.sort path.part value)
+suits_task cell row mine (requests.TestSet pers path) = of_pers cell pers (λ p. has_path p path && is_bool (part_sort p.sort path.part))
+suits_task cell row mine (requests.ReadS signal) = has_signal cell signal
+suits_task cell row mine (requests.WriteS signal value) = has_signal cell signal
+suits_task cell row mine requests.Position = is_some row.arm
+suits_task cell row mine (requests.Setpoint to) = is_some row.arm && is_position to
+suits_task cell row mine (requests.Order number on single) = can_watch cell on
+suits_task cell row mine requests.Leave = is_trapped mine
+suits_task cell row mine (requests.ZoneSet old temporary shape) = is_some row.arm
+suits_task cell row mine (requests.ZoneTie old temporary shape signal value) = is_some row.arm && has_signal cell signal
+suits_task cell row mine (requests.ZoneOn zone) = is_some row.arm
+suits_task cell row mine (requests.ZoneOff zone) = is_some row.arm
+suits_task cell row mine (requests.ZoneFree zone) = is_some row.arm
+suits_task cell row mine (requests.Arrive meeting tasks) = nat_lt meeting (length cell.meetings) && nat_lt tasks (2 ^ length cell.tasks)
+suits_task cell row mine (requests.Input index) = false
+suits_task cell row mine (requests.End fate) = may_tell fate
+suits_task cell row mine _ = true
+
+-- the input script asks its steps in order, and nothing else
+abbrev pub suits_inputs : CellData → List Event → Request → Bool
+suits_inputs cell mine (requests.Input index) = index == length mine && nat_lt index (length cell.inputs)
+suits_inputs cell mine _ = false
+
+-- a held task asks Rise, and any other does not
+abbrev pub goes_with : Bool → Bool → Bool
+goes_with true rise = rise
+goes_with false rise = not rise
+
+-- what an actor may ask: a task that has not ended, by its number in the cell, or the input script, whose number is the next
+abbrev pub suits_actor : CellData → ℕ → List Event → Request → Bool
+suits_actor cell actor mine request = suits (slice_get cell.tasks actor)
+  where
+    suits : Option TaskRow → Bool
+    suits (Some row) = not (has_ended mine) && goes_with (is_held mine) (is_rise request) && suits_task cell row mine request
+    suits None = actor == length cell.tasks && suits_inputs cell mine request
+
+-- the requests that a cell serves so far
+abbrev pub is_served : Request → Bool
+is_served requests.Look = true
+is_served requests.Position = true
+is_served (requests.Setpoint to) = true
+is_served (requests.End fate) = true
+is_served _ = false
 
 -- the actor, with its own events so far, may ask this of the cell
 abbrev pub may_ask : CellData → ℕ → List Event → Request → Bool
-may_ask cell actor mine request = not (has_ended mine) && row_allows (slice_get cell.tasks actor) request
+may_ask cell actor mine request = is_served request && suits_actor cell actor mine request

@@ -1,3 +1,6 @@
+ghost use Rattle.std.specs.Prelude.{◌≡◌, ◌≤◌, length};
+ghost use Rattle.rapid_model.specs.RuleNames.{rule_name};
+
 /// The rules of a cell script.
 #[derive(Clone, Copy, Debug, PartialEq, Eq)]
 pub enum ScriptRule {
@@ -21,4 +24,25 @@ pub enum ScriptRule {
     Pair,
     /// The key is not built yet.
     NotBuilt,
+}
+
+impl ScriptRule {
+    /// The name of the rule, as refusals print it: of at most 10 bytes.
+    pub fn name(self) -> &'static [u8]
+        ensures same { result.now ≡ rule_name self }
+        ensures short { length result.now ≤ 10 }
+    {
+        match self {
+            ScriptRule::NotToml => b"NotToml",
+            ScriptRule::NoKey => b"NoKey",
+            ScriptRule::Kind => b"Kind",
+            ScriptRule::UnknownKey => b"UnknownKey",
+            ScriptRule::Range => b"Range",
+            ScriptRule::Name => b"Name",
+            ScriptRule::Twice => b"Twice",
+            ScriptRule::NoSuch => b"NoSuch",
+            ScriptRule::Pair => b"Pair",
+            ScriptRule::NotBuilt => b"NotBuilt",
+        }
+    }
 }

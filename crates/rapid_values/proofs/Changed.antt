@@ -7,9 +7,9 @@ use Rattle.std.proofs.lemmas.Option.{slice_get-get_or, none-some}
 use Rattle.std.specs.Option.{unwrap_or}
 use Rattle.rapid_model.specs.declared.value.Value.{Value}
 use Rattle.rapid_model.specs.declared.value.Value.TheVariants as values
-use Rattle.rapid_values.specs.declared.part_name.PartName.{PartName}
-use Rattle.rapid_values.specs.declared.part_name.PartName.TheVariants as parts
-use Rattle.rapid_values.specs.Lengths.{is_full}
+use Rattle.rapid_model.specs.declared.part_name.PartName.{PartName}
+use Rattle.rapid_model.specs.declared.part_name.PartName.TheVariants as parts
+use Rattle.rapid_model.specs.Lengths.{is_full}
 use Rattle.rapid_values.specs.Values.{num_at, part_of, put_part, with_axes, with_num}
 
 pub some_same : {A : Type 0} {x y : A} → Some x ≡ Some y → x ≡ y
@@ -142,6 +142,26 @@ other_axes (values.Ext axes) w new j k ne is =
     let m = mapped (λ ns. values.Ext ns) (with_num axes (j - 6) new) w high.1 in
     ap (λ x. part_of x (parts.Axis k)) m.2 ∙ other_high axes m.0 new j k ne (ltb-false j 6 high.0) m.1
 other_axes _ w new j k ne is = absurd (none-some _ is)
+
+-- a robax leaves the external axes
+keeps_extax : (v w new : Value) → is_full new ≡ true → put_part v parts.Robax new ≡ Some w → part_of w parts.Extax ≡ part_of v parts.Extax
+keeps_extax (values.Target joints) w (values.Rob axes) full is =
+    let six : length axes ≡ 6 = eqb-true (length axes) 6 full in
+    let back : drop 6 (axes ++ drop 6 joints.axis) ≡ drop 6 joints.axis = subst (λ n. drop n (axes ++ drop 6 joints.axis) ≡ drop 6 joints.axis) six (drop-append_seam axes (drop 6 joints.axis)) in
+    sym (ap (λ x. part_of x parts.Extax) (some_same is)) ∙ ap (λ l. Some (values.Ext l)) back
+keeps_extax _ w _ full is = absurd (none-some _ is)
+
+-- an extax leaves the robot's axes
+keeps_robax : (v w new : Value) → is_full v ≡ true → put_part v parts.Extax new ≡ Some w → part_of w parts.Robax ≡ part_of v parts.Robax
+keeps_robax (values.Target joints) w (values.Ext axes) full is =
+    let twelve : length joints.axis ≡ 12 = eqb-true (length joints.axis) 12 full in
+    let six : length (take 6 joints.axis) ≡ 6 = rw (length-take 6 joints.axis, twelve) refl in
+    let front : take 6 (take 6 joints.axis ++ axes) ≡ take 6 joints.axis = subst (λ n. take n (take 6 joints.axis ++ axes) ≡ take 6 joints.axis) six (take-append_seam (take 6 joints.axis) axes) in
+    sym (ap (λ x. part_of x parts.Robax) (some_same is)) ∙ ap (λ l. Some (values.Rob l)) front
+keeps_robax _ w _ full is = absurd (none-some _ is)
+
+pub other_half : (v w new : Value) → is_full v ≡ true → is_full new ≡ true → (put_part v parts.Robax new ≡ Some w → part_of w parts.Extax ≡ part_of v parts.Extax) × (put_part v parts.Extax new ≡ Some w → part_of w parts.Robax ≡ part_of v parts.Robax)
+other_half v w new full_v full_new = (keeps_extax v w new full_new, keeps_robax v w new full_v)
 
 pub other_speeds : (v w new : Value) (j k : ℕ) → (j ≡ k → ⊥) → put_part v (parts.SpeedPart j) new ≡ Some w → part_of w (parts.SpeedPart k) ≡ part_of v (parts.SpeedPart k)
 other_speeds (values.Speed nums) w new j k ne is =

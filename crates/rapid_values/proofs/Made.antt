@@ -8,9 +8,9 @@ use Rattle.rapid_model.specs.declared.sort.Sort.{Sort}
 use Rattle.rapid_model.specs.declared.sort.Sort.TheVariants as sorts
 use Rattle.rapid_model.specs.declared.value.Value.{Value}
 use Rattle.rapid_model.specs.declared.value.Value.TheVariants as values
-use Rattle.rapid_values.specs.declared.part_name.PartName.TheVariants as parts
+use Rattle.rapid_model.specs.declared.part_name.PartName.TheVariants as parts
 use Rattle.rapid_values.specs.Components.{Component, components}
-use Rattle.rapid_values.specs.Lengths.{is_full}
+use Rattle.rapid_model.specs.Lengths.{is_full}
 use Rattle.rapid_values.specs.Values.{made_of, num_at, nums_of, part_of, so_many, with_axes}
 use Rattle.rapid_values.proofs.Changed.{mapped, some_same}
 

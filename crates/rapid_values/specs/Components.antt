@@ -4,8 +4,8 @@ use Rattle.std.specs.Prelude.{ℕ, List, [], ◌∷◌, codes, Option, None, Som
 use Rattle.std.specs.Str.{str_eq_ignore_ascii_case}
 use Rattle.rapid_model.specs.declared.sort.Sort.{Sort}
 use Rattle.rapid_model.specs.declared.sort.Sort.TheVariants as sorts
-use Rattle.rapid_values.specs.declared.part_name.PartName.{PartName}
-use Rattle.rapid_values.specs.declared.part_name.PartName.TheVariants as parts
+use Rattle.rapid_model.specs.declared.part_name.PartName.{PartName}
+use Rattle.rapid_model.specs.declared.part_name.PartName.TheVariants as parts
 
 -- a component: its name, the part of the value that it is, and its type
 pub record Component : Type 0 where

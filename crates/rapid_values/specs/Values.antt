@@ -5,8 +5,8 @@ use Rattle.rapid_model.specs.declared.sort.Sort.{Sort}
 use Rattle.rapid_model.specs.declared.sort.Sort.TheVariants as sorts
 use Rattle.rapid_model.specs.declared.value.Value.{Value}
 use Rattle.rapid_model.specs.declared.value.Value.TheVariants as values
-use Rattle.rapid_values.specs.declared.part_name.PartName.{PartName}
-use Rattle.rapid_values.specs.declared.part_name.PartName.TheVariants as parts
+use Rattle.rapid_model.specs.declared.part_name.PartName.{PartName}
+use Rattle.rapid_model.specs.declared.part_name.PartName.TheVariants as parts
 
 -- zero, FALSE or the empty text in every part; none for the types without values
 abbrev pub start_value : Sort → Option Value

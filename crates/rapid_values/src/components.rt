@@ -6,8 +6,7 @@ ghost use Rattle.std.specs.Option.{option_map};
 ghost use Rattle.std.specs.Str.{str_eq_ignore_ascii_case};
 ghost use Rattle.rapid_values.specs.Components.{component_of, components};
 
-use crate::part_name::PartName;
-use rapid_model::Sort;
+use rapid_model::{PartName, Sort};
 
 static ROB_JOINT: [(&[u8], PartName, Sort); 6] = [
     (b"rax_1", PartName::Axis(0), Sort::Num),

@@ -4,9 +4,9 @@ ghost use Rattle.std.specs.Prelude.{◌≡◌, ◌<◌, ◌≤◌, ℕ, true, Li
 ghost use Rattle.std.specs.List.{list_all};
 ghost use Rattle.rapid_model.specs.declared.sort.Sort.{Sort};
 ghost use Rattle.rapid_model.specs.declared.value.Value.{Value};
-ghost use Rattle.rapid_values.specs.declared.part_name.PartName.{PartName};
+ghost use Rattle.rapid_model.specs.declared.part_name.PartName.{PartName};
 ghost use Rattle.rapid_values.specs.Components.{Component, components};
-ghost use Rattle.rapid_values.specs.Lengths as lengths;
+ghost use Rattle.rapid_model.specs.Lengths as lengths;
 ghost use Rattle.rapid_values.specs.Values.{made_of, part_of, put_part};
 
 use rapid_model::Value;
@@ -30,12 +30,13 @@ fn is_long<const N: usize>(nums: &[Num; N])
     ensures { length nums.now ≡ N }
 {}
 
-/// What is put in is what the part is then, and the value is of as many nums as before; another axis, and another part of a
-/// speed, stays as it was (RAPID Kernel, assignment).
+/// What is put in is what the part is then, and the value is of as many nums as before; another axis, the
+/// other half of a jointtarget, and another part of a speed stay as they were (RAPID Kernel, assignment).
 pub fn put_parts()
     ensures there { (v w new : Value) (p : PartName) → lengths.is_full v ≡ true → lengths.is_full new ≡ true → put_part v p new ≡ Some w → part_of w p ≡ Some new }
     ensures full { (v w new : Value) (p : PartName) → lengths.is_full v ≡ true → lengths.is_full new ≡ true → put_part v p new ≡ Some w → lengths.is_full w ≡ true }
     ensures other_axes { (v w new : Value) (j k : ℕ) → (j ≡ k → ⊥) → put_part v (PartName.Axis j) new ≡ Some w → part_of w (PartName.Axis k) ≡ part_of v (PartName.Axis k) }
+    ensures other_half { (v w new : Value) → lengths.is_full v ≡ true → lengths.is_full new ≡ true → (put_part v PartName.Robax new ≡ Some w → part_of w PartName.Extax ≡ part_of v PartName.Extax) × (put_part v PartName.Extax new ≡ Some w → part_of w PartName.Robax ≡ part_of v PartName.Robax) }
     ensures other_speeds { (v w new : Value) (j k : ℕ) → (j ≡ k → ⊥) → put_part v (PartName.SpeedPart j) new ≡ Some w → part_of w (PartName.SpeedPart k) ≡ part_of v (PartName.SpeedPart k) }
 {}
 

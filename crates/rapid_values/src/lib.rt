@@ -4,7 +4,6 @@
 mod components;
 mod laws;
 mod nums;
-mod part_name;
 mod parts;
 mod put;
 mod record;
@@ -14,7 +13,6 @@ mod tests;
 
 pub use components::{component, component_sorts};
 pub use laws::{made_parts, put_parts, value_is_full};
-pub use part_name::PartName;
 pub use parts::part;
 pub use put::with_part;
 pub use record::record_of;

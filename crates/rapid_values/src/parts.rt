@@ -4,8 +4,7 @@ ghost use Rattle.std.specs.Prelude.{◌≡◌};
 ghost use Rattle.rapid_values.specs.Values.{part_of};
 
 use crate::nums::{num_at, six};
-use crate::part_name::PartName;
-use rapid_model::Value;
+use rapid_model::{PartName, Value};
 
 /// The part of a value; axes are numbered from 0, those of an extjoint from 6. None exactly where the value has no such part
 /// (RAPID Instructions, Functions and Data types: robjoint, extjoint, jointtarget, speeddata, tasks).

@@ -4,8 +4,7 @@ ghost use Rattle.std.specs.Prelude.{◌≡◌};
 ghost use Rattle.rapid_values.specs.Values.{put_part};
 
 use crate::nums::{joined, put_num};
-use crate::part_name::PartName;
-use rapid_model::Value;
+use rapid_model::{PartName, Value};
 
 /// The value with this part put in, and all other parts as they were; axes are numbered from 0, those of an extjoint from 6.
 /// None exactly where the value has no such part, or what is put in is none of the part's type; all of a value is any value,

@@ -1,5 +1,5 @@
-use super::{PartName, component, component_sorts, part, record_of, start_value, with_part};
-use rapid_model::{Sort, Text, Value};
+use super::{component, component_sorts, part, record_of, start_value, with_part};
+use rapid_model::{PartName, Sort, Text, Value};
 use rapid_num::{Joints, Num};
 use std::test::Fail;
 

@@ -1,3 +1,4 @@
+pub mod First
 pub mod Plain
 pub mod Views
 pub mod Sound

@@ -11,7 +11,7 @@ use Rattle.raw_trees.specs.declared.raw_routine.Mode.{Mode}
 use Rattle.raw_trees.specs.declared.raw_routine.RoutineKind.{RoutineKind}
 use Rattle.typed_trees.specs.declared.datum.Datum.{Datum}
 use Rattle.typed_trees.specs.declared.expr.TreeRoot.{TreeRoot}
-use Rattle.rapid_values.specs.declared.part_name.PartName.{PartName}
+use Rattle.rapid_model.specs.declared.part_name.PartName.{PartName}
 
 mutual
   pub data TypedExpr : Type 0 where
@@ -95,7 +95,7 @@ mutual
 
   pub data TypedCases : Type 0 where
     NoCases : TypedCases
-    MoreCases : List TypedExpr → TypedStmts → TypedCases → TypedCases
+    MoreCases : TypedExprs → TypedStmts → TypedCases → TypedCases
 
   pub data TypedElse : Type 0 where
     NoElse : TypedElse
@@ -106,7 +106,7 @@ pub record TypedParam : Type 0 where
   pub mode : Mode
   pub sort : Sort
 
--- a datum of a routine: whether it is a VAR, the length of an array, and its first values
+-- a datum of a routine: whether it is a VAR, the length of an array, and its first data
 pub record TypedLocal : Type 0 where
   pub name : List ℕ
   pub variable : Bool
@@ -114,7 +114,7 @@ pub record TypedLocal : Type 0 where
   pub len : Option ℕ
   pub first : List Datum
 
--- handler is its ERROR part
+-- handler is its ERROR part, loops the number of FORs in both
 pub record TypedRoutine : Type 0 where
   pub name : List ℕ
   pub «module» : ℕ
@@ -122,8 +122,9 @@ pub record TypedRoutine : Type 0 where
   pub result : Option Sort
   pub params : List TypedParam
   pub locals : List TypedLocal
-  pub list : List TypedStmt
-  pub handler : Option (List TypedStmt)
+  pub list : TypedStmts
+  pub handler : Option TypedStmts
+  pub loops : ℕ
   pub at : ℕ
 
 -- a VAR or an array CONST of a module
@@ -182,7 +183,7 @@ arms_of (a ∷ more) = MoreArms a.0 (stmts_of a.1) (arms_of more)
 
 abbrev pub cases_of : List (List TypedExpr × List TypedStmt) → TypedCases
 cases_of [] = NoCases
-cases_of (c ∷ cs) = MoreCases c.0 (stmts_of c.1) (cases_of cs)
+cases_of (c ∷ cs) = MoreCases (exprs_of c.0) (stmts_of c.1) (cases_of cs)
 
 abbrev pub else_of : Option (List TypedStmt) → TypedElse
 else_of None = NoElse

@@ -18,7 +18,7 @@ use Rattle.typed_trees.specs.declared.data_rows.PersRow.{PersRow}
 use Rattle.typed_trees.specs.declared.data_rows.SlotRow.{SlotRow}
 use Rattle.typed_trees.specs.declared.tree.Tree.{Tree}
 use Rattle.typed_trees.specs.Plain
-use Rattle.typed_trees.specs.Plain.{TypedExpr, TypedExprs, TypedSteps, TypedHeld, TypedPlace, TypedArg, TypedArgument, TypedArgs, TypedStmt, TypedStmts, TypedArms, TypedCases, TypedElse, TypedParam, TypedLocal, TypedRoutine, TypedSlot, TypedPers, TypedTree, args_of}
+use Rattle.typed_trees.specs.Plain.{TypedExpr, TypedExprs, TypedSteps, TypedHeld, TypedPlace, TypedArg, TypedArgument, TypedArgs, TypedStmt, TypedStmts, TypedArms, TypedCases, TypedElse, TypedParam, TypedLocal, TypedRoutine, TypedSlot, TypedPers, TypedTree, args_of, exprs_of, stmts_of}
 
 abbrev mutual
   -- the expression of a form, at a byte and of a type
@@ -104,7 +104,7 @@ abbrev mutual
 
   pub view_cases : {n : _} → Row_of-Form-Test-1-3 n → TypedCases
   view_cases end_of-Form-Test-1-3 = Plain.NoCases
-  view_cases (more_of-Form-Test-1-3 values shape list row) = Plain.MoreCases (map view_expr values.items) (view_stmts list) (view_cases row)
+  view_cases (more_of-Form-Test-1-3 values shape list row) = Plain.MoreCases (exprs_of (map view_expr values.items)) (view_stmts list) (view_cases row)
 
   pub view_else : Held-Form-If-1 → TypedElse
   view_else None' = Plain.NoElse
@@ -128,7 +128,7 @@ abbrev pub view_param : Param → TypedParam
 view_param p = record { name = p.name; mode = p.mode; sort = p.sort }
 
 abbrev pub view_local : LocalRow → TypedLocal
-view_local l = record { name = l.name; variable = l.variable; sort = l.sort; len = l.len; first = l.first.items }
+view_local l = record { name = l.name; variable = l.variable; sort = l.sort; len = l.len; first = l.first }
 
 abbrev pub view_routine : Routine → TypedRoutine
 view_routine r = record {
@@ -138,13 +138,14 @@ view_routine r = record {
   result = r.result;
   params = map view_param r.params.items;
   locals = map view_local r.locals.items;
-  list = view_list r.list;
-  handler = option_map view_list r.handler;
+  list = stmts_of (view_list r.list);
+  handler = option_map (λ list. stmts_of (view_list list)) r.handler;
+  loops = r.loops;
   at = r.at;
 }
 
 abbrev pub view_slot : SlotRow → TypedSlot
-view_slot s = record { name = s.name; variable = s.variable; sort = s.sort; len = s.len; first = s.first.items }
+view_slot s = record { name = s.name; variable = s.variable; sort = s.sort; len = s.len; first = s.first }
 
 abbrev pub view_pers : PersRow → TypedPers
 view_pers p = record {

@@ -1,17 +1,17 @@
 //! Data of a checked task's modules.
 
-use crate::datum::Datum;
+use crate::first_data::FirstData;
 use rapid_model::{NameText, Sort, Value};
 
 /// A VAR of a module, or a CONST array of one, as `variable` tells: its type, its length where it is an array, and its first
-/// values, one for each element.
+/// data, one for each element.
 #[derive(Debug, Drop)]
 pub struct SlotRow {
     pub name: NameText,
     pub variable: bool,
     pub sort: Sort,
     pub len: Option<u16>,
-    pub first: Vec<Datum>,
+    pub first: FirstData,
 }
 
 /// A PERS: the number of its module, the byte of its name, whether it is the task's own (TASK or LOCAL), its type, its length

@@ -1,8 +1,7 @@
 //! What the places of a task's data hold.
 
-use rapid_model::Value;
-use rapid_num::Shape;
-use rapid_values::PartName;
+use crate::boxed_shape::BoxedShape;
+use rapid_model::{PartName, Value};
 
 /// Where a datum begins: a place among a task's module data, a place among the data of a frame, or an element of a
 /// persistent, whose index is 0 where it is no array.
@@ -28,7 +27,7 @@ pub enum Datum {
     /// The number of an interrupt or of a zone; 0 where there is none.
     Mark(u8),
     /// A shape, once it was defined.
-    Shape(Option<Shape>),
+    Shape(Option<BoxedShape>),
     /// What a reference parameter stands for.
     Place(Lvalue),
 }

@@ -1,6 +1,6 @@
 //! Routines of a checked task.
 
-use crate::datum::Datum;
+use crate::first_data::FirstData;
 use crate::stmt::Stmt;
 use rapid_model::{NameText, Sort};
 use raw_trees::{Mode, RoutineKind};
@@ -21,10 +21,11 @@ pub struct LocalRow {
     pub variable: bool,
     pub sort: Sort,
     pub len: Option<u16>,
-    pub first: Vec<Datum>,
+    pub first: FirstData,
 }
 
-/// A routine: the number of its module, a function's type, its statements and its ERROR part. `at` is the byte of its first
+/// A routine: the number of its module, a function's type, its statements, its ERROR part, and how many
+/// FORs stand in both. `at` is the byte of its first
 /// word. Parameters come first among its places, then its data, an array as one, then its FORs in text order.
 #[derive(Drop)]
 pub struct Routine {
@@ -36,5 +37,6 @@ pub struct Routine {
     pub locals: Vec<LocalRow>,
     pub list: Vec<Stmt>,
     pub handler: Option<Vec<Stmt>>,
+    pub loops: u32,
     pub at: usize,
 }

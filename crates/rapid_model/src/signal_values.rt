@@ -1,0 +1,12 @@
+ghost use Rattle.std.specs.Prelude.{◌≡◌, ◌<◌, Bool, List, length, slice_index_or, false};
+
+/// The values of the cell's signals, for who only looks at them.
+pub trait SignalValues {
+    // The value of each signal, by its number in the cell.
+    ghost values: { Self → List Bool };
+
+    /// Whether the signal of this number is 1. The signal is there.
+    fn value(&self, signal: u32) -> bool
+        requires there { signal < length (values self.now) }
+        ensures { result ≡ slice_index_or (values self.now) signal false };
+}

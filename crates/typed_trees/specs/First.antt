@@ -1,0 +1,9 @@
+-- The list of a datum's first data.
+use Rattle.std.specs.Prelude.{List, replicate}
+use Rattle.typed_trees.specs.declared.datum.Datum.{Datum}
+use Rattle.typed_trees.specs.declared.first_data.Kept.{Kept}
+use Rattle.typed_trees.specs.declared.first_data.Kept.TheVariants.{Given, Alike}
+
+abbrev pub all_of : Kept → List Datum
+all_of (Given first) = first.items
+all_of (Alike datum count) = replicate count datum
