@@ -1,7 +1,8 @@
 //! Expressions among the data of one module: VAR num n, VAR num a{4}, VAR bool b.
 
 use super::texts::{mark_at, module_of, unmarked};
-use data_scopes::{Known, Scopes, Spot, TypeFault, TypeRule};
+use data_scopes::{Known, Scopes};
+use rule_checks::{Spot, TypeFault, TypeRule};
 use expr_types::{Want, check_expr};
 use rapid_model::Sort;
 use raw_trees::{RawExpr, RawItem, RawModule};

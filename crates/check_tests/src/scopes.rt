@@ -1,7 +1,8 @@
 //! What names mean at a spot of a task's modules, and the row of each declaration by its number.
 
 use super::texts::module_of;
-use data_scopes::{DatumRow, Known, Meant, ParamRow, Scopes, Since, Spot};
+use data_scopes::{DatumRow, Known, Meant, ParamRow, Scopes, Since};
+use rule_checks::Spot;
 use rapid_model::{Instruction, NameText, SignalRow, Sort, Value};
 use raw_trees::{Mode, RawModule, RoutineKind};
 use std::alloc::Global;
