@@ -1,6 +1,6 @@
 //! Names that differ in the case of their letters alone, names that are too long, and a name that is entered twice.
 
-use super::{NameTable, NotEntered};
+use name_tables::{NameTable, NotEntered};
 use std::test::*;
 
 #[test]
