@@ -2,11 +2,11 @@
 
 use super::{Want, check_expr};
 use data_scopes::{Known, Scopes};
-use rule_checks::{Spot, TypeFault, TypeRule};
 use rapid_model::Sort;
 use raw_trees::{
     DatumKind, Operator, RawArg, RawDatum, RawExpr, RawItem, RawModule, RawName, RawPlace,
 };
+use rule_checks::{Spot, TypeFault, TypeRule};
 use std::alloc::{AllocError, Global};
 use std::test::*;
 
