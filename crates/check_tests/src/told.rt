@@ -4,10 +4,10 @@ use super::rows::Frame;
 use super::scripts::{ARM, MODULES, NO_ARM, TASKS};
 use super::texts::unmarked;
 use controller::{ModuleRule, Refused, Report, quiet};
-use rule_checks::TypeRule;
 use outside::{MemoryShelf, MemorySink};
 use rapid_lexer::Place;
 use rapid_model::ScriptRule;
+use rule_checks::TypeRule;
 use std::alloc::{AllocError, Global};
 use std::test::Fail;
 

@@ -1,8 +1,7 @@
 -- The status and the line of a refusal.
 use Rattle.std.specs.Prelude.{ℕ, List, [], ◌∷◌, ◌++◌, Option, Some, None, codes, decimal, slice_get}
 use Rattle.std.specs.Option.{unwrap_or, option_map_or}
-use Rattle.rapid_model.specs.declared.script_rule.ScriptRule.{ScriptRule}
-use Rattle.rapid_model.specs.declared.script_rule.ScriptRule.TheVariants as rules
+use Rattle.rapid_model.specs.RuleNames.{rule_name}
 use Rattle.controller.specs.declared.refused.Refused.{Refused}
 use Rattle.controller.specs.declared.refused.Refused.TheVariants.{Words, Script, Module, Read, Write, Memory, TooLong}
 use Rattle.controller.specs.declared.refused.ModuleRule.{ModuleRule}
@@ -22,18 +21,6 @@ status_of (Read file) = 5
 status_of Write = 6
 status_of Memory = 7
 status_of (TooLong file) = 10
-
-abbrev pub script_rule_name : ScriptRule → List ℕ
-script_rule_name rules.NotToml = codes "NotToml"
-script_rule_name rules.NoKey = codes "NoKey"
-script_rule_name rules.Kind = codes "Kind"
-script_rule_name rules.UnknownKey = codes "UnknownKey"
-script_rule_name rules.Range = codes "Range"
-script_rule_name rules.Name = codes "Name"
-script_rule_name rules.Twice = codes "Twice"
-script_rule_name rules.NoSuch = codes "NoSuch"
-script_rule_name rules.Pair = codes "Pair"
-script_rule_name rules.NotBuilt = codes "NotBuilt"
 
 abbrev pub lex_rule_name : LexRule → List ℕ
 lex_rule_name lexes.BadByte = codes "BadByte"
@@ -80,7 +67,7 @@ file_of (TooLong file) = Some file
 -- the words behind `rapid_cell: `, with the name of the file that they speak of
 abbrev pub refusal_words : List ℕ → Refused → List ℕ
 refusal_words name (Words place) = codes "words " ++ decimal place
-refusal_words name (Script key rule) = codes "script " ++ (key_words key ++ (32 ∷ script_rule_name rule))
+refusal_words name (Script key rule) = codes "script " ++ (key_words key ++ (32 ∷ rule_name rule))
 refusal_words name (Module file place rule) = codes "module " ++ (name ++ (32 ∷ place_words place ++ (32 ∷ module_rule_name rule)))
 refusal_words name (Read file) = codes "read " ++ name
 refusal_words name Write = codes "write"

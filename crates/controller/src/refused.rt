@@ -1,7 +1,7 @@
-use rule_checks::TypeRule;
 use rapid_forms::SyntaxRule;
 use rapid_lexer::{LexRule, Place};
 use rapid_model::{ScriptRule, Text};
+use rule_checks::TypeRule;
 
 /// The rules of a module.
 #[derive(Clone, Copy, Debug, PartialEq, Eq)]

@@ -10,12 +10,12 @@ ghost use Rattle.expr_types.specs.Views.{view_called};
 use crate::callee::Callee;
 use crate::names::named;
 use crate::signature::{Signature, function_signature, routine_signature};
-use rapid_builtins::function_result;
 use data_scopes::Meant;
-use rule_checks::{TypeFault, TypeRule};
 use named_data::{Site, fault};
+use rapid_builtins::function_result;
 use rapid_model::Sort;
 use raw_trees::{RawName, RoutineKind};
+use rule_checks::{TypeFault, TypeRule};
 
 /// A function that is called, how, and the type of its answer (RAPID Kernel, function calls).
 #[derive(Clone, Copy)]

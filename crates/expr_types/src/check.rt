@@ -17,10 +17,10 @@ use crate::signature::Signature;
 use crate::typing::{arguments, place, typed};
 use crate::want::Want;
 use data_scopes::Scopes;
-use rule_checks::{Spot, TypeFault};
 use named_data::{Site, Wanted};
 use rapid_model::Sort;
 use raw_trees::{RawArg, RawExpr, RawPlace};
+use rule_checks::{Spot, TypeFault};
 use std::alloc::Global;
 use typed_trees::{Arg, Expr, TreePlace};
 

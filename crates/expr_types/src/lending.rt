@@ -10,10 +10,10 @@ ghost use Rattle.expr_types.specs.Places;
 ghost use Rattle.expr_types.specs.Views.{view_held, view_part};
 
 use crate::place_part::PlacePart;
-use rapid_builtins::Need;
-use rule_checks::{TypeFault, TypeRule};
 use named_data::{Access, Site, Source, Wanted, fault, must, same_sort};
+use rapid_builtins::Need;
 use rapid_model::{Sort, has_values};
+use rule_checks::{TypeFault, TypeRule};
 use typed_trees::{Arg, TreePlace, TreeRoot};
 
 /// Whether a place is lent in this way.

@@ -9,9 +9,9 @@ ghost use Rattle.expr_types.specs.Arguments;
 ghost use Rattle.expr_types.specs.Places;
 
 use data_scopes::Meant;
-use rule_checks::TypeFault;
 use named_data::{Site, datum_at, part_at};
 use raw_trees::{RawExpr, RawExprForm, RawName, RawPlace};
+use rule_checks::TypeFault;
 
 /// What the innermost declaration of the name means that is visible (RAPID Kernel, scope rules).
 pub(crate) fn named(site: &Site<'_>, name: &RawName<'_>) -> Option<Meant>

@@ -13,9 +13,9 @@ ghost use Rattle.expr_types.specs.Calls;
 ghost use Rattle.expr_types.specs.Views.{view_taking};
 
 use crate::taking::{Taking, is_excluded};
+use named_data::{Site, fault, must, name_text};
 use rapid_builtins::{InstructionOption, Need};
 use rule_checks::{TypeFault, TypeRule};
-use named_data::{Site, fault, must, name_text};
 use typed_trees::Arg;
 
 /// An option without a value, whose backslash is at this byte.

@@ -9,10 +9,10 @@ ghost use Rattle.expr_types.specs.Calls;
 ghost use Rattle.expr_types.specs.Views.{view_signature};
 
 use crate::signature::Signature;
-use rapid_builtins::Choice;
-use rule_checks::{TypeFault, TypeRule};
 use named_data::{Site, must};
+use rapid_builtins::Choice;
 use raw_trees::RawArg;
+use rule_checks::{TypeFault, TypeRule};
 
 /// The greatest number of arguments of a call, options with them (RAPID Kernel, procedure calls).
 const MOST_ARGUMENTS: usize = 32;

@@ -9,10 +9,10 @@ ghost use Rattle.expr_types.specs.Arguments;
 
 use crate::names::is_bare;
 use data_scopes::{Meant, begin_of, is_meeting};
-use rule_checks::{TypeFault, TypeRule};
 use named_data::{Site, Source, fault, must};
 use rapid_model::{PartName, Predefined, Sort};
 use raw_trees::RawExpr;
+use rule_checks::{TypeFault, TypeRule};
 use typed_trees::{Arg, TreePlace, TreeRoot};
 
 /// A predefined name that stands for itself, and is not looked up.

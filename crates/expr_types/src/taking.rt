@@ -13,8 +13,8 @@ ghost use Rattle.expr_types.specs.Views.{view_signature, view_taking};
 use crate::needs::Needs;
 use crate::signature::Signature;
 use rapid_builtins::{Choice, InstructionOption, first_named};
-use rule_checks::TypeFault;
 use raw_trees::RawArg;
+use rule_checks::TypeFault;
 use std::alloc::Global;
 
 /// The needs of the arguments that are left, and the options that stand before.

@@ -28,12 +28,12 @@ use crate::typed_chain::TypedChain;
 use crate::values::{
     aggregate, call, element_want, first_operand, given, group, one_dimension, place_value,
 };
-use rapid_builtins::{Need, first_named};
 use data_scopes::begin_of;
-use rule_checks::{TypeFault, TypeRule};
 use named_data::{Site, Wanted, comes_to, datum_at, fault, inside, must, part_at, suits};
+use rapid_builtins::{Need, first_named};
 use rapid_model::{Predefined, Sort, Value};
 use raw_trees::{Operator, RawArg, RawExpr, RawExprForm, RawPlace};
+use rule_checks::{TypeFault, TypeRule};
 use typed_trees::{Arg, Expr};
 
 /// The typed form of an expression where something is wanted of it.

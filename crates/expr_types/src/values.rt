@@ -19,12 +19,12 @@ use crate::called::Called;
 use crate::callee::Callee;
 use crate::place_part::PlacePart;
 use crate::rules::{call_rules, count_rules};
-use rule_checks::{TypeFault, TypeRule};
 use named_data::{Site, Source, Wanted, clash, fault, fits, hands_on, must, untyped};
 use rapid_model::{PartName, Sort, Value, has_values};
 use rapid_num::read_literal;
 use rapid_values::{component_sorts, part};
 use raw_trees::{Operator, RawArg, RawExpr, RawExprForm};
+use rule_checks::{TypeFault, TypeRule};
 use typed_trees::{Arg, Expr, TreePlace};
 
 /// An expression of this type stands where something is wanted.

@@ -5,8 +5,8 @@ ghost use Rattle.named_data.specs.Data;
 
 use crate::named::Access;
 use data_scopes::Since;
-use rule_checks::Spot;
 use raw_trees::Mode;
+use rule_checks::Spot;
 
 /// Whether what is declared there stands before the expression at the spot.
 pub(crate) fn is_before(spot: Spot, since: Option<Since>) -> bool

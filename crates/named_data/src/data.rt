@@ -12,9 +12,9 @@ use crate::rules::fault;
 use crate::site::Site;
 use crate::values::{constant, predefined};
 use data_scopes::Meant;
-use rule_checks::{TypeFault, TypeRule};
 use rapid_model::Sort;
 use raw_trees::RawName;
+use rule_checks::{TypeFault, TypeRule};
 use typed_trees::TreeRoot;
 
 /// The datum that a name means; the name of a signal stands for its value.

@@ -3,8 +3,8 @@
 ghost use Rattle.std.specs.Prelude.{Ok};
 ghost use Rattle.rule_checks.specs.TypeChecks.{Gives};
 
-use rule_checks::TypeFault;
 use rapid_model::NameText;
+use rule_checks::TypeFault;
 
 /// The name as it is spelled. Its error is want of memory, also where the name has more than 32 bytes or others than printable
 /// ones.

@@ -10,8 +10,8 @@ use crate::named::{Access, NamedDatum, Source};
 use crate::rules::{fault, must};
 use crate::site::Site;
 use data_scopes::{DatumRow, ParamRow};
-use rule_checks::{TypeFault, TypeRule};
 use rapid_model::Sort;
+use rule_checks::{TypeFault, TypeRule};
 use typed_trees::TreeRoot;
 
 /// A datum at a place of its own: ConstOrder where it is a CONST array that is declared later.

@@ -9,10 +9,10 @@ use crate::access::is_before;
 use crate::named::{NamedDatum, Source};
 use crate::rules::{fault, must};
 use crate::site::Site;
-use rapid_builtins::predefined_datum;
 use data_scopes::DatumRow;
-use rule_checks::{TypeFault, TypeRule};
+use rapid_builtins::predefined_datum;
 use rapid_model::{Predefined, Sort, Value};
+use rule_checks::{TypeFault, TypeRule};
 
 /// A CONST that is no array, by the value that is kept of it: ConstOrder where none is kept yet, or where it is declared later.
 pub(crate) fn constant(

@@ -6,9 +6,9 @@ ghost use Rattle.named_data.specs.Wants;
 
 use crate::wanted::Wanted;
 use data_scopes::same_sort;
-use rule_checks::TypeRule;
 use rapid_model::Sort;
 use raw_trees::Operator;
+use rule_checks::TypeRule;
 
 /// Whether values of the type are compared by `=` and `<>` (RAPID Overview, expressions).
 fn is_compared(sort: Sort) -> bool

@@ -1,6 +1,6 @@
 //! The rules of names and types.
 
-ghost use Rattle.std.specs.Prelude.{◌≡◌};
+ghost use Rattle.std.specs.Prelude.{◌≡◌, ◌≤◌, length};
 ghost use Rattle.rule_checks.specs.Names.{type_rule_name};
 
 /// A rule of names and types. Each stands at the first byte of the smallest form that it speaks of.
@@ -63,38 +63,39 @@ pub enum TypeRule {
 }
 
 impl TypeRule {
-    /// The name by which a refusal tells the rule.
-    pub fn name(self) -> &'static str
-        ensures { result.now ≡ type_rule_name self }
+    /// The name of the rule, as refusals print it: of at most 11 bytes.
+    pub fn name(self) -> &'static [u8]
+        ensures same { result.now ≡ type_rule_name self }
+        ensures short { length result.now ≤ 11 }
     {
         match self {
-            TypeRule::NameTwice => "NameTwice",
-            TypeRule::NameTaken => "NameTaken",
-            TypeRule::NoName => "NoName",
-            TypeRule::NotThis => "NotThis",
-            TypeRule::TypeClash => "TypeClash",
-            TypeRule::NoInit => "NoInit",
-            TypeRule::NotConst => "NotConst",
-            TypeRule::ConstOrder => "ConstOrder",
-            TypeRule::ConstFault => "ConstFault",
-            TypeRule::DimRange => "DimRange",
-            TypeRule::WholeArray => "WholeArray",
-            TypeRule::ReadOnly => "ReadOnly",
-            TypeRule::BadRef => "BadRef",
-            TypeRule::ArgCount => "ArgCount",
-            TypeRule::ArgName => "ArgName",
-            TypeRule::NoLabel => "NoLabel",
-            TypeRule::LabelTwice => "LabelTwice",
-            TypeRule::HandlerOnly => "HandlerOnly",
-            TypeRule::ReturnKind => "ReturnKind",
-            TypeRule::PersKind => "PersKind",
-            TypeRule::CornerZone => "CornerZone",
-            TypeRule::ToolOnly => "ToolOnly",
-            TypeRule::SyncName => "SyncName",
-            TypeRule::NoArm => "NoArm",
-            TypeRule::NoMain => "NoMain",
-            TypeRule::DataRange => "DataRange",
-            TypeRule::PersType => "PersType",
+            TypeRule::NameTwice => b"NameTwice",
+            TypeRule::NameTaken => b"NameTaken",
+            TypeRule::NoName => b"NoName",
+            TypeRule::NotThis => b"NotThis",
+            TypeRule::TypeClash => b"TypeClash",
+            TypeRule::NoInit => b"NoInit",
+            TypeRule::NotConst => b"NotConst",
+            TypeRule::ConstOrder => b"ConstOrder",
+            TypeRule::ConstFault => b"ConstFault",
+            TypeRule::DimRange => b"DimRange",
+            TypeRule::WholeArray => b"WholeArray",
+            TypeRule::ReadOnly => b"ReadOnly",
+            TypeRule::BadRef => b"BadRef",
+            TypeRule::ArgCount => b"ArgCount",
+            TypeRule::ArgName => b"ArgName",
+            TypeRule::NoLabel => b"NoLabel",
+            TypeRule::LabelTwice => b"LabelTwice",
+            TypeRule::HandlerOnly => b"HandlerOnly",
+            TypeRule::ReturnKind => b"ReturnKind",
+            TypeRule::PersKind => b"PersKind",
+            TypeRule::CornerZone => b"CornerZone",
+            TypeRule::ToolOnly => b"ToolOnly",
+            TypeRule::SyncName => b"SyncName",
+            TypeRule::NoArm => b"NoArm",
+            TypeRule::NoMain => b"NoMain",
+            TypeRule::DataRange => b"DataRange",
+            TypeRule::PersType => b"PersType",
         }
     }
 }
