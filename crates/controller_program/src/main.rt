@@ -38,7 +38,7 @@ fn script_name<'a>(words: &[&'a str]) -> &'a str {
     let mut name = "";
     for word in words {
         if *word != "--history" {
-            name = word;
+            name = *word;
         }
     }
     name

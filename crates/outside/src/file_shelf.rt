@@ -1,4 +1,4 @@
-ghost use Rattle.std.specs.Prelude.{◌≡◌, ℕ, ◌+◌, ◌≤◌, ◌<◌, List, ◌++◌, length, None, ◌≢◌, OnOk, IfOk, IfErr};
+ghost use Rattle.std.specs.Prelude.{◌≡◌, ℕ, ◌+◌, ◌≤◌, ◌<◌, List, ◌++◌, length, None, ◌≢◌, OnOk, IfOk};
 ghost use Rattle.std.specs.Io.{appended_bytes};
 ghost use Rattle.std.specs.Io.KnownBytes.{Consumes, IsAtEnd};
 ghost use Rattle.std.specs.Path.{path_buf_bytes};
@@ -8,7 +8,7 @@ ghost use Rattle.outside.specs.Reads.{Gains, Extends, faults_after_read};
 
 use super::memory_shelf::append;
 use super::{Shelf, ShelfFault};
-use std::alloc::Global;
+use std::alloc::{AllocError, Global};
 use std::fs;
 use std::io::Read;
 use std::marker::Model;
@@ -72,7 +72,7 @@ impl<'a, R: Files> Shelf for FileShelf<'a, R> {
         let start = into.len();
         let result = match path_from(alloc, self.script, name) {
             Ok(path) => read_path(self.runtime, path.as_path(), limit, into),
-            Err(fault) => Err(fault),
+            Err(_) => Err(ShelfFault::Memory),
         };
         if let Err(fault) = result
             && fault != ShelfFault::TooLong
@@ -87,15 +87,16 @@ impl<'a, R: Files> Shelf for FileShelf<'a, R> {
 }
 
 // The path of the file of this name.
-fn path_from(alloc: Global, script: &str, name: &str) -> Result<PathBuf, ShelfFault>
-    ensures place { IfOk result (λ path. path_buf_bytes path ≡ path_from script.now name.now) }
-    ensures only_memory { IfErr result (λ fault. fault ≡ ShelfFault.Memory) }
+fn path_from(alloc: Global, script: &str, name: &str) -> Result<PathBuf, AllocError>
+    ensures { IfOk result (λ path. path_buf_bytes path ≡ path_from script.now name.now) }
 {
-    let folder = match Path::new(script).parent() {
-        Some(folder) if name != script => folder,
-        _ => Path::new(""),
-    };
-    folder.join(alloc, name).map_err(|_| ShelfFault::Memory)
+    if name == script {
+        return PathBuf::from_str(alloc, name);
+    }
+    match Path::new(script).parent() {
+        Some(folder) => folder.join(alloc, name),
+        None => PathBuf::from_str(alloc, name),
+    }
 }
 
 // Appends the file's bytes, up to one more than the limit.
