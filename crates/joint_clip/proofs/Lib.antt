@@ -1,0 +1,7 @@
+pub mod Fractions
+pub mod Ways
+pub mod Parts
+pub mod Sides
+pub mod Axes
+pub mod Beyond
+pub mod Bounds
