@@ -25,12 +25,12 @@ not_named bounds axis a none named = cc
 within_more : (axes : ℕ) (bounds : List (Option Bound)) (point : ℕ → ℤ) (m : ℕ) (bound : Bound) → Names bounds axes bound → WithinFirst axes bounds point m → IsWithin bound (point axes) m → WithinFirst (axes + 1) bounds point m
 within_more axes bounds point m bound named below here =
     below_more (λ axis. (b : Bound) → Names bounds axis b → IsWithin b (point axis) m) axes below
-        (λ b other. subst (λ (x : Bound). IsWithin x (point axes) m) (same_bound bounds axes bound b named other) here)
+    (λ b other. subst (λ (x : Bound). IsWithin x (point axes) m) (same_bound bounds axes bound b named other) here)
 
 within_skip : (axes : ℕ) (bounds : List (Option Bound)) (point : ℕ → ℤ) (m : ℕ) → slice_get bounds axes ≡ Some None → WithinFirst axes bounds point m → WithinFirst (axes + 1) bounds point m
 within_skip axes bounds point m none below =
     below_more (λ axis. (b : Bound) → Names bounds axis b → IsWithin b (point axis) m) axes below
-        (λ b named. absurd (not_named bounds axes b none named))
+    (λ b named. absurd (not_named bounds axes b none named))
 
 within_less : (axes : ℕ) (bounds : List (Option Bound)) (point : ℕ → ℤ) (m : ℕ) → WithinFirst (axes + 1) bounds point m → WithinFirst axes bounds point m
 within_less axes bounds point m first axis below = first axis (omega arith)
@@ -54,26 +54,26 @@ pub cut_by_axis : (axes : ℕ) (bounds : List (Option Bound)) (p q : Joints) (bo
     → IsPartWhere left (λ k m. WithinFirst (axes + 1) bounds (point_at p q k m) m)
 cut_by_axis axes bounds p q bound from to part left named start end before cut =
     same_where left _ _
-        (λ k m some way h. within_more axes bounds (point_at p q k m) m bound named h.0 (rw (start, end) at h.1))
-        (λ k m some way h. (within_less axes bounds (point_at p q k m) m h, rw (start, end) (h axes (omega arith) bound named)))
-        (cut_twice part left _ _ before cut)
+    (λ k m some way h. within_more axes bounds (point_at p q k m) m bound named h.0 (rw (start, end) at h.1))
+    (λ k m some way h. (within_less axes bounds (point_at p q k m) m h, rw (start, end) (h axes (omega arith) bound named)))
+    (cut_twice part left _ _ before cut)
 
 pub skip_axis : (axes : ℕ) (bounds : List (Option Bound)) (p q : Joints) (part : Option Part) → slice_get bounds axes ≡ Some None
     → IsPartWhere part (λ k m. WithinFirst axes bounds (point_at p q k m) m) → IsPartWhere part (λ k m. WithinFirst (axes + 1) bounds (point_at p q k m) m)
 skip_axis axes bounds p q part none before =
     same_where part _ _
-        (λ k m some way h. within_skip axes bounds (point_at p q k m) m none h)
-        (λ k m some way h. within_less axes bounds (point_at p q k m) m h)
-        before
+    (λ k m some way h. within_skip axes bounds (point_at p q k m) m none h)
+    (λ k m some way h. within_less axes bounds (point_at p q k m) m h)
+    before
 
 -- after the last axis, and where nothing is left before it
 pub after_axes : (axes : ℕ) (bounds : List (Option Bound)) (p q : Joints) (part : Option Part) → length bounds ≤ axes
     → IsPartWhere part (λ k m. WithinFirst axes bounds (point_at p q k m) m) → IsPartWhere part (λ k m. LiesInside bounds (point_at p q k m) m)
 after_axes axes bounds p q part all cut =
     same_where part _ _
-        (λ k m some way h. inside-first axes bounds (point_at p q k m) m all h)
-        (λ k m some way h. first-inside axes bounds (point_at p q k m) m h)
-        cut
+    (λ k m some way h. inside-first axes bounds (point_at p q k m) m all h)
+    (λ k m some way h. first-inside axes bounds (point_at p q k m) m h)
+    cut
 
 pub nothing_left : (axes : ℕ) (bounds : List (Option Bound)) (p q : Joints)
     → IsPartWhere None (λ k m. WithinFirst axes bounds (point_at p q k m) m) → IsPartWhere None (λ k m. LiesInside bounds (point_at p q k m) m)

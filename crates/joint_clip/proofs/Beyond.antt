@@ -1,5 +1,5 @@
 -- An axis is past a bound on the way exactly where it is so at one of the ends.
-use Rattle.std.proofs.Common.{◌≡◌, ◌≤◌, ◌<◌, ◌+◌, ℕ, Bool, true, false, IsTrue, List, length, Option, Some, None, inl, inr, subst, refl, arith, ℤ, pos, ◌+ℤ◌, ◌*ℤ◌, ◌≤ℤ◌, ◌<ℤ◌}
+use Rattle.std.proofs.Common.{◌≡◌, ◌≤◌, ◌<◌, ◌+◌, ℕ, Bool, true, false, IsTrue, List, length, Option, Some, None, inl, inr, subst, refl, arith, ℤ, pos, ◌≤ℤ◌}
 use Rattle.std.specs.Prelude.{slice_get}
 use Rattle.std.specs.List.{slice_index_or}
 use Rattle.std.proofs.lemmas.Int.{ints, by_lt_z}
@@ -60,12 +60,12 @@ pub none_more : (axes : ℕ) (bounds : List (Option Bound)) (p q : Joints) (boun
     → NoneBeyond axes bounds p q → ¬ PassesBeyond bound from to → NoneBeyond (axes + 1) bounds p q
 none_more axes bounds p q bound from to named start end below here =
     below_more (λ axis. (b : Bound) → Names bounds axis b → ¬ SomeFraction (λ k m. IsBeyond b (point_at p q k m axis) m)) axes below
-        (λ b other passes. here (rw (start, end) (subst (λ (x : Bound). SomeFraction (λ k m. IsBeyond x (point_at p q k m axes) m)) (same_bound bounds axes b bound other named) passes)))
+    (λ b other passes. here (rw (start, end) (subst (λ (x : Bound). SomeFraction (λ k m. IsBeyond x (point_at p q k m axes) m)) (same_bound bounds axes b bound other named) passes)))
 
 pub none_skip : (axes : ℕ) (bounds : List (Option Bound)) (p q : Joints) → slice_get bounds axes ≡ Some None → NoneBeyond axes bounds p q → NoneBeyond (axes + 1) bounds p q
 none_skip axes bounds p q none below =
     below_more (λ axis. (b : Bound) → Names bounds axis b → ¬ SomeFraction (λ k m. IsBeyond b (point_at p q k m axis) m)) axes below
-        (λ b named passes. not_named bounds axes b none named)
+    (λ b named passes. not_named bounds axes b none named)
 
 pub found_beyond : (axis : ℕ) (bounds : List (Option Bound)) (p q : Joints) (bound : Bound) (from to : ℤ)
     → Names bounds axis bound → from ≡ slice_index_or p.axis axis (pos 0) → to ≡ slice_index_or q.axis axis (pos 0)
@@ -78,4 +78,4 @@ none_outside axes bounds p q all none passes =
     let out = passes.holds in
     let within : out.axis < length bounds = slice_get_within bounds out.axis (Some out.bound) out.named in
     none out.axis (omega arith) out.bound out.named
-        (record { k = passes.k; m = passes.m; whole = passes.whole; on_the_way = passes.on_the_way; holds = out.beyond })
+    (record { k = passes.k; m = passes.m; whole = passes.whole; on_the_way = passes.on_the_way; holds = out.beyond })

@@ -5,3 +5,4 @@ pub mod Sides
 pub mod Axes
 pub mod Beyond
 pub mod Bounds
+mod Examples

@@ -37,16 +37,16 @@ pub cut_from : (part : Part) (first : Fraction) (left : Option Part) → part.fi
 cut_from part first left after cut = record {
   kept = λ k m some way h. cut.kept k m some way (h.1, h.0.last);
   only = λ k m some way within.
-    let both = cut.only k m some way within in
-    (record { first = at_most-trans part.first.top part.first.bottom first.top first.bottom k m first.some (record { across = after }) both.0; last = both.1 }, both.0);
+      let both = cut.only k m some way within in
+      (record { first = at_most-trans part.first.top part.first.bottom first.top first.bottom k m first.some (record { across = after }) both.0; last = both.1 }, both.0);
 }
 
 pub cut_to : (part : Part) (last : Fraction) (left : Option Part) → last.top * part.last.bottom ≤ part.last.top * last.bottom → IsPartWhere left (Between part.first last) → IsPartWhere left (λ k m. IsIn part k m × IsAtMost k m last.top last.bottom)
 cut_to part last left before cut = record {
   kept = λ k m some way h. cut.kept k m some way (h.0.first, h.1);
   only = λ k m some way within.
-    let both = cut.only k m some way within in
-    (record { first = both.0; last = at_most-trans k m last.top last.bottom part.last.top part.last.bottom last.some both.1 (record { across = before }) }, both.1);
+      let both = cut.only k m some way within in
+      (record { first = both.0; last = at_most-trans k m last.top last.bottom part.last.top part.last.bottom last.some both.1 (record { across = before }) }, both.1);
 }
 
 -- another condition that holds at the same fractions
@@ -61,8 +61,8 @@ pub cut_twice : (part : Part) (left : Option Part) (P Q : ℕ → ℕ → Type 0
 cut_twice part left P Q one two = record {
   kept = λ k m some way h. two.kept k m some way (one.kept k m some way h.0, h.1);
   only = λ k m some way within.
-    let both = two.only k m some way within in
-    (one.only k m some way both.0, both.1);
+      let both = two.only k m some way within in
+      (one.only k m some way both.0, both.1);
 }
 
 -- what holds at no more fractions than what holds at none

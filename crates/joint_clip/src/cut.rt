@@ -15,14 +15,18 @@ impl Part {
     pub(crate) fn whole() -> Part
         ensures { (k m : ℕ) → k ≤ m → IsIn result k m }
     {
-        Part { first: Fraction::new(0, 1), last: Fraction::new(1, 1) }
+        Part {
+            first: Fraction::new(0, 1),
+            last: Fraction::new(1, 1),
+        }
     }
 
     /// The part where an axis that goes from `p` to `q` is within the bound: `None` exactly where it nowhere is.
     pub(crate) fn within(self, bound: Bound, p: Num, q: Num) -> Option<Part>
         ensures { IsPartWhere result (λ k m. IsIn self k m × IsWithin bound (way_at p q k m) m) }
     {
-        self.cut(Side::above(bound.low, p, q))?.cut(Side::below(bound.high, p, q))
+        self.cut(Side::above(bound.low, p, q))?
+            .cut(Side::below(bound.high, p, q))
     }
 
     /// The part on the inner side of a bound.

@@ -20,7 +20,10 @@ impl Side {
         ensures start { result.start ≡ p -ℤ low }
         ensures end { result.end ≡ q -ℤ low }
     {
-        Side { start: difference(p, low), end: difference(q, low) }
+        Side {
+            start: difference(p, low),
+            end: difference(q, low),
+        }
     }
 
     /// The inner side of a high bound, for an axis that goes from `p` to `q`.
@@ -28,7 +31,10 @@ impl Side {
         ensures start { result.start ≡ high -ℤ p }
         ensures end { result.end ≡ high -ℤ q }
     {
-        Side { start: difference(high, p), end: difference(high, q) }
+        Side {
+            start: difference(high, p),
+            end: difference(high, q),
+        }
     }
 
     /// Where a segment of which one end is beyond the bound crosses it.

@@ -1,4 +1,4 @@
-use Rattle.std.proofs.Common.{◌≡◌, ◌+◌, length, take, ap, ◌∙◌, arith, length-set}
+use Rattle.std.proofs.Common.{◌+◌, take, ap, ◌∙◌, arith, length-set}
 use Rattle.std.proofs.Math.ListN.{set}
 use Rattle.joint_clip.proofs.Bounds.{bounds_more, bounds_all}
 use Rattle.joint_clip.proofs.making.bounds_of.Goals as goal

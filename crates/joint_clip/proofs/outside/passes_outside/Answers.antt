@@ -1,4 +1,4 @@
-use Rattle.std.proofs.Common.{◌≡◌, ◌<◌, ◌≤◌, length, Some, pos, arith}
+use Rattle.std.proofs.Common.{◌<◌, ◌≤◌, length, pos, arith}
 use Rattle.std.proofs.lemmas.Bool.{false≢true}
 use Rattle.std.proofs.lemmas.List.{get_or_default}
 use Rattle.joint_clip.proofs.Axes.{element_at}
@@ -14,13 +14,15 @@ loop-axis-preserved c =
     let q = c.args.q.now in
     let inside : axis < length bounds = omega arith in
     elim c.match-bounds-axis.branch [
-      | in-Some+else-passes_beyond w ↦ record { so_far =
+      | in-Some+else-passes_beyond w ↦ record {
+        so_far =
             none_more axis bounds p q w.in-Some.bound _ _
-              (element_at bounds axis _ _ inside w.in-Some.is)
-              (get_or_default p.axis axis w.index-p-axis.result (pos 0) (omega arith))
-              (get_or_default q.axis axis w.index-q-axis.result (pos 0) (omega arith))
-              c.loop-axis.invariant.so_far
-              (λ passes. false≢true (w.if-passes_beyond.ensures.1 passes)) }
+            (element_at bounds axis _ _ inside w.in-Some.is)
+            (get_or_default p.axis axis w.index-p-axis.result (pos 0) (omega arith))
+            (get_or_default q.axis axis w.index-q-axis.result (pos 0) (omega arith))
+            c.loop-axis.invariant.so_far
+            (λ passes. false≢true (w.if-passes_beyond.ensures.1 passes));
+      }
       | in_default w ↦ record { so_far = none_skip axis bounds p q (element_at bounds axis _ _ inside w.in_default.is) c.loop-axis.invariant.so_far }
     ]
 

@@ -11,9 +11,9 @@ returns-then-side-lt0 c =
     let beyond : side.start <ℤ pos 0 = omega (arith, ints) in
     let here : pos 0 ≤ℤ side.end = omega (arith, ints) in
     same_where _ _ _
-        (λ k m some way h. (h.0, inner-from side _ k m crossing way beyond here h.1))
-        (λ k m some way h. (h.0, from-inner side _ k m crossing way beyond here h.1))
-        c.starting_at.ensures
+    (λ k m some way h. (h.0, inner-from side _ k m crossing way beyond here h.1))
+    (λ k m some way h. (h.0, from-inner side _ k m crossing way beyond here h.1))
+    c.starting_at.ensures
 
 pub returns-then-side-lt0-3 : goal.returns-then-side-lt0-3
 returns-then-side-lt0-3 c =
@@ -22,6 +22,6 @@ returns-then-side-lt0-3 c =
     let here : pos 0 ≤ℤ side.start = omega (arith, ints) in
     let beyond : side.end <ℤ pos 0 = omega (arith, ints) in
     same_where _ _ _
-        (λ k m some way h. (h.0, inner-to side _ k m crossing way here beyond h.1))
-        (λ k m some way h. (h.0, to-inner side _ k m crossing way here beyond h.1))
-        c.ending_at.ensures
+    (λ k m some way h. (h.0, inner-to side _ k m crossing way here beyond h.1))
+    (λ k m some way h. (h.0, to-inner side _ k m crossing way here beyond h.1))
+    c.ending_at.ensures
