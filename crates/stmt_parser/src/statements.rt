@@ -1,6 +1,5 @@
 //! Lists of statements.
 
-ghost use Rattle.std.specs.Prelude.{◌≤◌};
 ghost use Rattle.raw_trees.specs.Views.{view_list, view_stmt};
 ghost use Rattle.rapid_forms.specs.Reading.{Gives, rest_from};
 ghost use Rattle.stmt_parser.specs.Reads.{items_read, list_read, stmt_read};
@@ -26,15 +25,14 @@ static STMT_SIGNS: [Sign; 12] = [
     Sign::Connect,
 ];
 
-/// A list of statements, which opens a level where it has any.
+/// A list of statements, which opens one of `left` levels where it has any, and the number of the token behind it.
 #[cycle(stmt)]
 #[tactic(auto, using(crate::proofs::Lists::list_none, crate::proofs::Lists::list_opens), unfolding(crate::specs::Reads::list_read, rapid_forms::specs::Reading::made_read, rapid_forms::specs::Reading::optional_read, rapid_forms::specs::Reading::then_read, rapid_forms::specs::Reading::nothing_read))]
-pub(crate) fn list<'a>(
+pub fn list<'a>(
     p: &Parser<'_, 'a>,
     at: usize,
     left: u32,
 ) -> Result<(Vec<RawStmt<'a>>, usize), SyntaxFault>
-    requires { left ≤ 64 }
     ensures { Gives p.now.tokens view_list result (list_read left (rest_from p.now.tokens at)) }
 {
     if !p.tokens.sees(at, &STMT_SIGNS) {
@@ -53,7 +51,6 @@ pub(crate) fn items<'a>(
     at: usize,
     left: u32,
 ) -> Result<(Vec<RawStmt<'a>>, usize), SyntaxFault>
-    requires { left ≤ 64 }
     ensures { Gives p.now.tokens view_list result (items_read left (rest_from p.now.tokens at)) }
 {
     let mut list = Vec::with_capacity(p.alloc, 1)?;
@@ -70,7 +67,6 @@ pub(crate) fn items<'a>(
 #[cycle(stmt)]
 #[tactic(auto, unfolding(crate::specs::Reads::stmt_read, crate::specs::Reads::stmt_of_read, rapid_forms::specs::Reading::either_read, rapid_forms::specs::Signs::begins_with))]
 fn stmt<'a>(p: &Parser<'_, 'a>, at: usize, left: u32) -> Result<(RawStmt<'a>, usize), SyntaxFault>
-    requires { left ≤ 64 }
     ensures { Gives p.now.tokens view_stmt result (stmt_read left (rest_from p.now.tokens at)) }
 {
     let sign = p.tokens.sign(at);
