@@ -8,17 +8,18 @@ use Rattle.rapid_meaning.specs.Data.{At, seen_in, with_seen}
 use Rattle.rapid_meaning.specs.Doings.{Doing, Misfit, Asks, Reads, Does, ◌>>◌, change, fault, goes_to, tells}
 use Rattle.rapid_meaning.specs.Flows.{Flow, Part, Call, Where}
 
--- a trap runs on the spot, is left, and then the part begins with its Look again; an error that leaves the trap ends the task
+-- the trap has ended: it is left, and then the part begins with its Look again
+abbrev pub left : Part → Doing Flow
+left again = do
+  tells Leave
+  change (λ d. record d { trapped = false })
+  goes_to again
+
+-- a trap runs on the spot; an error that leaves it ends the task
 abbrev pub interrupted : Part → ℕ → Doing Flow
 interrupted again trap = do
   change (λ d. record d { trapped = true })
   Does (Call trap []) (λ _. left again) (λ error. fault (Unhandled error))
-  where
-    left : Part → Doing Flow
-    left part = do
-      tells Leave
-      change (λ d. record d { trapped = false })
-      goes_to part
 
 abbrev pub looked : Part → Doing Flow → Answer → Doing Flow
 looked again go (answers.Go seen) = do
