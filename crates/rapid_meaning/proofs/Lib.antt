@@ -1,3 +1,4 @@
 pub mod Trees
 pub mod Asked
 mod Rows
+mod Forms
