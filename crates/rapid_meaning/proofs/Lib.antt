@@ -2,3 +2,5 @@ pub mod Trees
 pub mod Asked
 mod Rows
 mod Forms
+pub mod Begins
+pub mod Fuel
