@@ -4,3 +4,5 @@ mod Rows
 mod Forms
 pub mod Begins
 pub mod Fuel
+pub mod Growth
+pub mod Composing

@@ -22,3 +22,4 @@ pub mod Lists
 pub mod Frames
 pub mod Calls
 pub mod Runs
+pub mod Constants
