@@ -6,3 +6,4 @@ pub mod Begins
 pub mod Fuel
 pub mod Growth
 pub mod Composing
+pub mod ConstantsAgree
