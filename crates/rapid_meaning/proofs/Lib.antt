@@ -7,3 +7,4 @@ pub mod Fuel
 pub mod Growth
 pub mod Composing
 pub mod ConstantsAgree
+pub mod Setpoints
