@@ -9,7 +9,7 @@ use Rattle.typed_trees.specs.Plain.{TypedRoutine, TypedStmt, TypedStmts, TypedTr
 use Rattle.typed_trees.specs.declared.datum.Datum.{Datum}
 use Rattle.rapid_meaning.specs.Calls.{body, called, part, result, within}
 use Rattle.rapid_meaning.specs.Data.{Data, Frame}
-use Rattle.rapid_meaning.specs.Doings.{Doing, Gives, Raises, Asks, Ends, Misfit, Reads, Writes, Does, Act, after, done, fault}
+use Rattle.rapid_meaning.specs.Doings.{Doing, Gives, Raises, Asks, Ends, Misfit, Reads, Writes, Does, after, done, fault}
 use Rattle.rapid_meaning.specs.Flows.{Flow, Normal, Jumps, Returns, Retries, Skips, Where, Part, Attempt, Turn, Rest, Call}
 use Rattle.rapid_meaning.specs.Frames.{enters, frame_of, has_room}
 use Rattle.rapid_meaning.specs.Lists.{ended, items, rest}
@@ -90,7 +90,7 @@ items_begin : (tree : TypedTree) (w : Where) (list : TypedStmts) → Begins IsNo
 items_begin tree w NoStmts = tt
 items_begin tree w (MoreStmts s more) =
     begins_after IsNormal IsNormal (stmt tree w s) (λ flow. and_then (items tree w more) flow) Raises (stmt_begins tree w s)
-      (and_then_begins (items tree w more) (items_begin tree w more)) (λ n. tt)
+    (and_then_begins (items tree w more) (items_begin tree w more)) (λ n. tt)
 
 rest_begins : (tree : TypedTree) (w : Where) (list more : TypedStmts) → Begins IsNormal (rest tree w list more)
 rest_begins tree w list more = begins_after IsNormal IsNormal (items tree w more) (ended w list) Raises (items_begin tree w more) behind (λ n. tt)
@@ -124,8 +124,8 @@ unfolding after
 called_begins tree args None = tt
 called_begins tree args (Some routine) =
     begins_after Anything Anything (enters (frame_of routine args)) _ Raises (enters_begins (frame_of routine args))
-      (λ _ _. begins_after IsNormal Anything (body tree routine) (result routine.kind) _ (rest_begins tree (within routine) routine.list routine.list)
-        (result_begins routine.kind) (λ n d. tt)) (λ n. tt)
+    (λ _ _. begins_after IsNormal Anything (body tree routine) (result routine.kind) _ (rest_begins tree (within routine) routine.list routine.list)
+    (result_begins routine.kind) (λ n d. tt)) (λ n. tt)
 
 pub part_begins : (tree : TypedTree) (p : Part) → Begins Anything (part tree p)
 part_begins tree (Attempt w s) = weaker IsNormal (stmt tree w s) (stmt_begins tree w s)

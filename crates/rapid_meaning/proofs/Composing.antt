@@ -1,5 +1,5 @@
 -- What one doing after another comes to.
-use Rattle.std.proofs.Common.{◌≡◌, refl, sym, ap, ◌∙◌, ℕ, Bool, true, false, List, [], ◌∷◌, if◌then◌else◌}
+use Rattle.std.proofs.Common.{◌≡◌, refl, ap, ◌∙◌, ℕ, Bool, true, false, List, [], ◌∷◌, if◌then◌else◌}
 use Rattle.rapid_model.specs.Fits.{Fitting, fits_request}
 use Rattle.rapid_model.specs.declared.answer.Answer.{Answer}
 use Rattle.rapid_model.specs.declared.fate.Fate.{Fate}
@@ -7,7 +7,6 @@ use Rattle.rapid_model.specs.declared.request.Request.TheVariants.{End}
 use Rattle.rapid_meaning.specs.Answering.{Outcome, Gave, Raised, Asking, Ended, Misfits, Unfit, NoFuel, Run, joined, told, performed}
 use Rattle.rapid_meaning.specs.Data.{Data}
 use Rattle.rapid_meaning.specs.Doings.{Doing, Gives, Raises, Asks, Ends, Misfit, Reads, Writes, Does, after}
-use Rattle.rapid_meaning.specs.Flows.{Flow}
 
 joined_joined : {A B C : Type 0} (o : Outcome A) (f : A → Data → List Answer → Outcome C) (h : ℕ → Data → List Answer → Outcome C)
     (g : A → Data → List Answer → Outcome B) (i : ℕ → Data → List Answer → Outcome B) (k : B → Data → List Answer → Outcome C) (l : ℕ → Data → List Answer → Outcome C)
@@ -33,23 +32,23 @@ told_joined {A} {B} by fate d (a ∷ left) f h = when_joined {A = A} {B = B} (fi
 
 pub performed_after : {A B : Type 0} (by : Bool → Fitting) (run : Run) (m : Doing A) (next : A → Doing B) (failed : ℕ → Doing B) (d : Data) (left : List Answer)
     → performed by run (after m next failed) d left
-      ≡ joined (performed by run m d left) (λ v e rest. performed by run (next v) e rest) (λ n e rest. performed by run (failed n) e rest)
+    ≡ joined (performed by run m d left) (λ v e rest. performed by run (next v) e rest) (λ n e rest. performed by run (failed n) e rest)
 unfolding performed after
 performed_after by run (Gives v) next failed d left = refl
 performed_after by run (Raises n) next failed d left = refl
 performed_after by run (Asks request k) next failed d [] = refl
 performed_after by run (Asks request k) next failed d (a ∷ left) =
     when_joined (fits_request (by d.trapped) request a) (performed by run (after (k a) next failed) d left) (performed by run (k a) d left)
-      (λ v e rest. performed by run (next v) e rest) (λ n e rest. performed by run (failed n) e rest) (performed_after by run (k a) next failed d left)
+    (λ v e rest. performed by run (next v) e rest) (λ n e rest. performed by run (failed n) e rest) (performed_after by run (k a) next failed d left)
 performed_after by run (Ends fate) next failed d left = told_joined by fate d left (λ v e rest. performed by run (next v) e rest) (λ n e rest. performed by run (failed n) e rest)
 performed_after by run Misfit next failed d left = refl
 performed_after by run (Reads k) next failed d left = performed_after by run (k d) next failed d left
 performed_after by run (Writes e m) next failed d left = performed_after by run m next failed e left
 performed_after by run (Does p k h) next failed d left =
     joined_joined (run p d left) (λ flow e rest. performed by run (after (k flow) next failed) e rest) (λ x e rest. performed by run (after (h x) next failed) e rest)
-      (λ flow e rest. performed by run (k flow) e rest) (λ x e rest. performed by run (h x) e rest)
-      (λ v e rest. performed by run (next v) e rest) (λ n e rest. performed by run (failed n) e rest)
-      (λ flow e rest. performed_after by run (k flow) next failed e rest) (λ x e rest. performed_after by run (h x) next failed e rest)
+    (λ flow e rest. performed by run (k flow) e rest) (λ x e rest. performed by run (h x) e rest)
+    (λ v e rest. performed by run (next v) e rest) (λ n e rest. performed by run (failed n) e rest)
+    (λ flow e rest. performed_after by run (k flow) next failed e rest) (λ x e rest. performed_after by run (h x) next failed e rest)
 
 -- it asks nothing, changes no data, and gives this
 abbrev pub Comes : {A : Type 0} → Doing A → Data → A → Type 0

@@ -1,9 +1,8 @@
 -- An expression that is known before the run comes to its constant value.
-use Rattle.std.proofs.Common.{◌≡◌, refl, sym, ap, ◌∙◌, subst, ℕ, ◌+◌, ◌-◌, Bool, true, false, ℤ, List, [], ◌∷◌, length, Option, Some, None, slice_get, if◌then◌else◌, arith}
+use Rattle.std.proofs.Common.{◌≡◌, refl, sym, ap, ◌∙◌, subst, ℕ, ◌+◌, ◌-◌, Bool, true, false, ℤ, List, [], ◌∷◌, length, Option, Some, None, slice_get, arith}
 use Rattle.std.specs.Prelude.{⊤}
 use Rattle.std.specs.Option.{option_and_then, option_map}
 use Rattle.rapid_model.specs.declared.part_name.PartName.{PartName}
-use Rattle.rapid_model.specs.declared.part_name.PartName.TheVariants as parts
 use Rattle.rapid_model.specs.declared.sort.Sort.{Sort}
 use Rattle.rapid_model.specs.declared.value.Value.{Value}
 use Rattle.rapid_model.specs.declared.value.Value.TheVariants as values
@@ -17,7 +16,7 @@ use Rattle.constant_meaning.specs.Constants as constants
 use Rattle.constant_meaning.specs.Constants.{Elements, Outcomes, all, stops, constant_value, constant_values, array_of, element_number}
 use Rattle.constant_meaning.specs.declared.outcome.Outcome.{Outcome}
 use Rattle.constant_meaning.specs.declared.outcome.Outcome.TheVariants as outcomes
-use Rattle.typed_trees.specs.Plain.{TypedExpr, TypedExprs, TypedPlace, TypedRoutine, TypedSteps, TypedTree, Known, ErrorNumber, SignalValue, Stored, Group, Aggregate, Builtin, Invoke, Not, Signed, Chain, NoExprs, MoreExprs, NoSteps, MoreSteps, NotHeld, Held, PlaceOf}
+use Rattle.typed_trees.specs.Plain.{TypedExpr, TypedExprs, TypedRoutine, TypedSteps, TypedTree, Known, ErrorNumber, SignalValue, Stored, Group, Aggregate, Builtin, Invoke, Not, Signed, Chain, NoExprs, MoreExprs, NoSteps, MoreSteps, NotHeld, Held, PlaceOf}
 use Rattle.typed_trees.specs.declared.datum.Datum.{Datum}
 use Rattle.typed_trees.specs.declared.datum.Datum.TheVariants as datums
 use Rattle.typed_trees.specs.declared.datum.Lvalue.{Lvalue}
@@ -26,9 +25,9 @@ use Rattle.typed_trees.specs.declared.datum.Root.TheVariants as roots
 use Rattle.typed_trees.specs.declared.expr.TreeRoot.{TreeRoot}
 use Rattle.typed_trees.specs.declared.expr.TreeRoot.TheVariants as tree_roots
 use Rattle.rapid_meaning.specs.Answering.{performed}
-use Rattle.rapid_meaning.specs.Constants.{Holds, HoldsArrays}
+use Rattle.rapid_meaning.specs.Constants.{HoldsArrays}
 use Rattle.rapid_meaning.specs.Data.{Data, Frame, datum_at}
-use Rattle.rapid_meaning.specs.Doings.{Doing, Gives, Raises, Misfit, Reads, after, or_misfit}
+use Rattle.rapid_meaning.specs.Doings.{Doing, Gives, Raises, after, or_misfit}
 use Rattle.rapid_meaning.specs.Expressions.{along, expr, exprs, place}
 use Rattle.rapid_meaning.specs.Layouts.{length_at, local_start, slot_start}
 use Rattle.rapid_meaning.specs.Places.{at_root, element_of, element_or_fault, element_root, indexed, load_from, own_place, part_at, part_in, read_value, rooted}
@@ -256,7 +255,7 @@ indexed_comes : (d : Data) (len : Option ℕ) (p : Lvalue) (count number : ℕ) 
 unfolding after
 indexed_comes d len p count number n is within =
     subst (λ (x : Option ℕ). Comes (indexed x p (values.Num n)) d (element_of p number)) (sym is)
-      (subst (λ (x : Option ℕ). Comes (element_or_fault p x) d (element_of p number)) (sym within) (gives d (element_of p number)))
+    (subst (λ (x : Option ℕ). Comes (element_or_fault p x) d (element_of p number)) (sym within) (gives d (element_of p number)))
 
 element_comes : (tree : TypedTree) (routine : TypedRoutine) (known : Elements) (d : Data) → HoldsArrays tree routine known d → (root : TreeRoot) (index : TypedExpr) (part : PartName)
     (kind : Sort) (v : Value) (e : IsElement (array_of known root) part (constant_value known index) v) → Comes (expr tree routine index) d (values.Num e.n)
@@ -265,16 +264,17 @@ element_comes tree routine known d held root index part kind v e comes =
     let r = is_rooted tree routine known d held root e.elements e.known in
     let p : Lvalue = record { root = element_root r.start e.number; part = part } in
     comes_after (place tree routine (PlaceOf root (Held index) part kind)) read_value Raises d p v
-      (comes_after (rooted tree routine root) (λ q. after (expr tree routine index) (λ w. after (indexed (length_at tree routine root) q w) (λ x. part_at part x) Raises) Raises) Raises
-        d (at_root r.start) p r.comes
-        (comes_after (expr tree routine index) (λ w. after (indexed (length_at tree routine root) (at_root r.start) w) (λ x. part_at part x) Raises) Raises d (values.Num e.n) p comes
-          (comes_after (indexed (length_at tree routine root) (at_root r.start) (values.Num e.n)) (λ x. part_at part x) Raises d (element_of (at_root r.start) e.number) p
-            (indexed_comes d (length_at tree routine root) (at_root r.start) (length e.elements) e.number e.n (held.lengths root e.elements e.known) e.within)
-            (gives d p))))
-      (read_comes d (element_root r.start e.number) part e.element v (r.holds e.number e.element e.there) e.of_it)
+    (comes_after (rooted tree routine root) (λ q. after (expr tree routine index) (λ w. after (indexed (length_at tree routine root) q w) (λ x. part_at part x) Raises) Raises) Raises
+    d (at_root r.start) p r.comes
+    (comes_after (expr tree routine index) (λ w. after (indexed (length_at tree routine root) (at_root r.start) w) (λ x. part_at part x) Raises) Raises d (values.Num e.n) p comes
+    (comes_after (indexed (length_at tree routine root) (at_root r.start) (values.Num e.n)) (λ x. part_at part x) Raises d (element_of (at_root r.start) e.number) p
+    (indexed_comes d (length_at tree routine root) (at_root r.start) (length e.elements) e.number e.n (held.lengths root e.elements e.known) e.within)
+    (gives d p))))
+    (read_comes d (element_root r.start e.number) part e.element v (r.holds e.number e.element e.there) e.of_it)
 
 mutual
   unfolding constant_value
+
   pub expr_comes : (tree : TypedTree) (routine : TypedRoutine) (known : Elements) (d : Data) → HoldsArrays tree routine known d → (e : TypedExpr) (v : Value)
       → constant_value known e ≡ outcomes.Value v → Comes (expr tree routine e) d v
   expr_comes tree routine known d held (Known at sort u) v is = gives_same d u v (one_value u v is)
@@ -306,7 +306,7 @@ mutual
   exprs_come tree routine known d held (MoreExprs e es) vs is =
       let b = both_values (constant_value known e) (constant_values known es) vs is in
       comes_after (expr tree routine e) (λ v. after (exprs tree routine es) (λ vs. Gives (v ∷ vs)) Raises) Raises d b.0 vs (expr_comes tree routine known d held e b.0 b.2)
-        (comes_after (exprs tree routine es) (λ vs. Gives (b.0 ∷ vs)) Raises d b.1 vs (exprs_come tree routine known d held es b.1 b.3) (gives_same d (b.0 ∷ b.1) vs b.4))
+      (comes_after (exprs tree routine es) (λ vs. Gives (b.0 ∷ vs)) Raises d b.1 vs (exprs_come tree routine known d held es b.1 b.3) (gives_same d (b.0 ∷ b.1) vs b.4))
 
   steps_come : (tree : TypedTree) (routine : TypedRoutine) (known : Elements) (d : Data) → HoldsArrays tree routine known d → (steps : TypedSteps) (o : Outcome) (v : Value)
       → constants.along known o steps ≡ outcomes.Value v → Through o (λ u. along tree routine steps u) d v

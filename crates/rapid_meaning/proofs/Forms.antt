@@ -1,9 +1,7 @@
 -- The forms, instructions and functions that the other examples leave out, each as its whole list of requests.
-use Rattle.std.proofs.Common.{◌≡◌, refl, ℕ, ◌*◌, Bool, true, false, ℤ, pos, negsuc, neg_ℤ, List, [], ◌∷◌, ◌++◌, Option, None, Some}
-use Rattle.std.specs.Prelude.{codes, map, replicate}
+use Rattle.std.proofs.Common.{◌≡◌, refl, ℕ, true, false, ℤ, pos, neg_ℤ, [], ◌∷◌, None, Some}
+use Rattle.std.specs.Prelude.{codes, replicate}
 use Rattle.std.specs.Fmt.{digits}
-use Rattle.rapid_num.specs.declared.joints.Joints.{Joints}
-use Rattle.rapid_num.specs.declared.shape.Bound.{Bound}
 use Rattle.rapid_num.specs.declared.shape.Shape.{Shape}
 use Rattle.rapid_model.specs.declared.answer.Answer.TheVariants as answers
 use Rattle.rapid_model.specs.declared.answer.Answer.TheVariants.{Go, Ok, At, Given as Let}
@@ -12,7 +10,6 @@ use Rattle.rapid_model.specs.declared.fate.Fate.TheVariants as fates
 use Rattle.rapid_model.specs.declared.function.Function.TheVariants as functions
 use Rattle.rapid_model.specs.declared.instruction.Instruction.TheVariants as instructions
 use Rattle.rapid_model.specs.declared.part_name.PartName.TheVariants as parts
-use Rattle.rapid_model.specs.declared.part_name.PartName.{PartName}
 use Rattle.rapid_model.specs.declared.path.Path.{Path}
 use Rattle.rapid_model.specs.declared.request.Request.TheVariants as requests
 use Rattle.rapid_model.specs.declared.request.Request.TheVariants.{Look, ReadP, WriteP, TestSet, ReadS, WriteS, Position, Setpoint, Order, Sleep, Leave, ZoneSet, Arrive, Hold, Rise, Say, End}
@@ -20,16 +17,14 @@ use Rattle.rapid_model.specs.declared.sort.Sort.TheVariants as sorts
 use Rattle.rapid_model.specs.declared.tail.Tail.TheVariants as tails
 use Rattle.rapid_model.specs.declared.value.Value.TheVariants as values
 use Rattle.rapid_model.specs.declared.watched.Watched.TheVariants as watched
-use Rattle.rapid_model.specs.declared.zone_name.ZoneName.TheVariants as zone_names
 use Rattle.raw_trees.specs.declared.raw_expr.Operator.TheVariants as operators
 use Rattle.raw_trees.specs.declared.raw_routine.Mode.TheVariants as modes
-use Rattle.typed_trees.specs.Plain.{TypedExpr, TypedTree, Assign, Known, ErrorNumber, SignalValue, Stored, Group, Builtin, Invoke, Not, Signed, Held, NotHeld, PlaceOf, Given, Lent, OfSignal, OfMeeting, Optional, NoArgument, Connect, Exit, For, Goto, If, IfOne, Label, Raise, Retry, Return, Test, TryNext, While, NoArgs, MoreArms, NoArms, MoreCases, NoCases, NoElse, Else, NoStmts, args_of, exprs_of, stmts_of}
+use Rattle.typed_trees.specs.Plain.{TypedExpr, TypedTree, Assign, Known, SignalValue, Group, Builtin, Invoke, Signed, NotHeld, PlaceOf, Given, Lent, OfSignal, OfMeeting, Optional, NoArgument, Connect, Exit, For, Goto, If, Label, Return, Test, TryNext, While, NoArgs, MoreArms, NoArms, MoreCases, NoCases, Else, NoStmts, args_of, exprs_of, stmts_of}
 use Rattle.typed_trees.specs.declared.datum.Datum.TheVariants as datums
 use Rattle.typed_trees.specs.declared.expr.TreeRoot.TheVariants as roots
-use Rattle.rapid_meaning.specs.Data.{At as AtPlace}
-use Rattle.rapid_meaning.specs.Runs.{Next, asks, ended, unfit, data_after}
+use Rattle.rapid_meaning.specs.Runs.{asks, unfit, data_after}
 use Rattle.rapid_meaning.proofs.Asked.{asked_along, all_of, done, fault, go, joints}
-use Rattle.rapid_meaning.proofs.Trees.{absent, assigns, between, bool, bool_row, calls, datum_row, does, element, first_at, first_bound, func, literal, mark_row, module_bool, module_num, module_place, moves, num, num_row, number, param, pers_row, proc, quoted, raises, says, says_bool, says_num, shape_row, stored, target, task_of, the_num, thousandths, trap, when, whole_of, with_handler, with_pers}
+use Rattle.rapid_meaning.proofs.Trees.{assigns, between, bool, bool_row, calls, datum_row, does, element, first_at, first_bound, func, literal, mark_row, module_bool, module_num, module_place, moves, num, num_row, number, param, pers_row, proc, quoted, raises, says, says_bool, says_num, shape_row, stored, task_of, the_num, thousandths, trap, whole_of, with_handler, with_pers}
 
 -- a loop by GOTO, TEST in it, an IF with ELSEIF and ELSE, and EXIT
 abbrev pub jumping : TypedTree
@@ -37,7 +32,7 @@ jumping = task_of (num_row 0 ∷ []) (proc (
     Label 0 0
     ∷ does instructions.Incr (Lent (module_num 0) ∷ [])
     ∷ Test 0 (the_num 0) (MoreCases (exprs_of (num 5 ∷ num 1 ∷ [])) (stmts_of (says (codes "one") ∷ Goto 0 0 ∷ []))
-        (MoreCases (exprs_of (num 2 ∷ [])) (stmts_of (does instructions.TPErase [] ∷ [])) NoCases)) (Else (stmts_of (says (codes "other") ∷ [])))
+    (MoreCases (exprs_of (num 2 ∷ [])) (stmts_of (does instructions.TPErase [] ∷ [])) NoCases)) (Else (stmts_of (says (codes "other") ∷ [])))
     ∷ If 0 (MoreArms (bool false) NoStmts (MoreArms (bool true) (stmts_of (Exit 0 ∷ [])) NoArms)) (Else (stmts_of (says (codes "else") ∷ []))) ∷ []) ∷ [])
 
 jumps_back : asked_along jumping [] (go ∷ go ∷ go ∷ Ok ∷ go ∷ go ∷ go ∷ go ∷ go ∷ go ∷ Ok ∷ [])

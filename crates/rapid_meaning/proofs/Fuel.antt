@@ -4,14 +4,13 @@ use Rattle.std.specs.Prelude.{⊤}
 use Rattle.rapid_model.specs.Fits.{Fitting, fits_request}
 use Rattle.rapid_model.specs.declared.answer.Answer.{Answer}
 use Rattle.rapid_model.specs.declared.fate.Fate.{Fate}
-use Rattle.rapid_model.specs.declared.fate.Fate.TheVariants as fates
 use Rattle.rapid_model.specs.declared.request.Request.TheVariants.{End}
 use Rattle.typed_trees.specs.Plain.{TypedTree}
 use Rattle.rapid_meaning.specs.Answering.{Outcome, Gave, Raised, Asking, Ended, Misfits, Unfit, NoFuel, Run, joined, told, fitting_of, performed}
 use Rattle.rapid_meaning.specs.Calls.{part}
 use Rattle.rapid_meaning.specs.Data.{Data}
 use Rattle.rapid_meaning.specs.Doings.{Doing, Gives, Raises, Asks, Ends, Misfit, Reads, Writes, Does}
-use Rattle.rapid_meaning.specs.Flows.{Flow, Part}
+use Rattle.rapid_meaning.specs.Flows.{Part}
 use Rattle.rapid_meaning.specs.Frames.{initial}
 use Rattle.rapid_meaning.specs.Runs.{deep, state_after, task}
 use Rattle.rapid_meaning.proofs.Begins.{Begins, Anything, part_begins}
@@ -59,7 +58,7 @@ below_performed by run n good (Reads k) d left few = below_performed by run n go
 below_performed by run n good (Writes e m) d left few = below_performed by run n good m e left few
 below_performed by run n good (Does p k h) d left few =
     below_joined n (run p d left) (λ flow e rest. performed by run (k flow) e rest) (λ x e rest. performed by run (h x) e rest) (good p d left few)
-      (λ flow e rest fewer. below_performed by run n good (k flow) e rest fewer) (λ x e rest fewer. below_performed by run n good (h x) e rest fewer)
+    (λ flow e rest fewer. below_performed by run n good (k flow) e rest fewer) (λ x e rest fewer. below_performed by run n good (h x) e rest fewer)
 
 below_more : {A : Type 0} (n : ℕ) (o : Outcome A) → Below n o → Below (suc n) o
 below_more n (Gave v d left) b = omega (arith, b)
@@ -79,7 +78,7 @@ below_begun by run n good (Raises e) d left begins few = few
 below_begun by run n good (Asks request k) d [] begins few = tt
 below_begun by run n good (Asks request k) d (a ∷ left) begins few =
     below_when (suc n) (fits_request (by d.trapped) request a) (performed by run (k a) d left)
-      (below_more n (performed by run (k a) d left) (below_performed by run n good (k a) d left (omega (arith, few))))
+    (below_more n (performed by run (k a) d left) (below_performed by run n good (k a) d left (omega (arith, few))))
 below_begun {A} by run n good (Ends fate) d left begins few = below_told A by (suc n) fate d left
 below_begun by run n good Misfit d left begins few = tt
 below_begun by run n good (Reads k) d left begins few = below_begun by run n good (k d) d left (begins d) few
@@ -153,8 +152,8 @@ agrees_performed by run more good (Reads k) d left = agrees_performed by run mor
 agrees_performed by run more good (Writes e m) d left = agrees_performed by run more good m e left
 agrees_performed by run more good (Does p k h) d left =
     agrees_joined (run p d left) (more p d left) (λ flow e rest. performed by run (k flow) e rest) (λ flow e rest. performed by more (k flow) e rest)
-      (λ x e rest. performed by run (h x) e rest) (λ x e rest. performed by more (h x) e rest) (good p d left)
-      (λ flow e rest. agrees_performed by run more good (k flow) e rest) (λ x e rest. agrees_performed by run more good (h x) e rest)
+    (λ x e rest. performed by run (h x) e rest) (λ x e rest. performed by more (h x) e rest) (good p d left)
+    (λ flow e rest. agrees_performed by run more good (k flow) e rest) (λ x e rest. agrees_performed by run more good (h x) e rest)
 
 agrees_deep : (tree : TypedTree) (n k : ℕ) → n ≤ k → AgreeRuns (deep tree n) (deep tree k)
 unfolding deep
@@ -177,4 +176,4 @@ pub more_fuel : (tree : TypedTree) (answers : List Answer) (n : ℕ) → length 
 unfolding state_after
 more_fuel tree answers n few =
     agrees_same (suc (length answers)) (state_after tree answers) (performed (fitting_of tree) (deep tree n) (task tree) (initial tree) answers) (below_state tree answers)
-      (agrees_performed (fitting_of tree) (deep tree (suc (length answers))) (deep tree n) (agrees_deep tree (suc (length answers)) n few) (task tree) (initial tree) answers)
+    (agrees_performed (fitting_of tree) (deep tree (suc (length answers))) (deep tree n) (agrees_deep tree (suc (length answers)) n few) (task tree) (initial tree) answers)

@@ -11,7 +11,7 @@ use Rattle.rapid_meaning.specs.Answering.{Outcome, Gave, Raised, Asking, Ended, 
 use Rattle.rapid_meaning.specs.Calls.{part}
 use Rattle.rapid_meaning.specs.Data.{Data}
 use Rattle.rapid_meaning.specs.Doings.{Doing, Gives, Raises, Asks, Ends, Misfit, Reads, Writes, Does}
-use Rattle.rapid_meaning.specs.Flows.{Flow, Part}
+use Rattle.rapid_meaning.specs.Flows.{Part}
 use Rattle.rapid_meaning.specs.Frames.{initial}
 use Rattle.rapid_meaning.specs.Runs.{deep, state_after, task}
 
@@ -56,7 +56,7 @@ went_performed by run good (Reads k) d = went_performed by run good (k d) d
 went_performed by run good (Writes e m) d = went_performed by run good m e
 went_performed by run good (Does p k h) d =
     went_joined (run p d []) (λ flow e rest. performed by run (k flow) e rest) (λ x e rest. performed by run (h x) e rest) (good p d)
-      (λ flow e. went_performed by run good (k flow) e) (λ x e. went_performed by run good (h x) e)
+    (λ flow e. went_performed by run good (k flow) e) (λ x e. went_performed by run good (h x) e)
 
 went_deep : (tree : TypedTree) (n : ℕ) → WentRun (deep tree n)
 unfolding deep
@@ -114,9 +114,9 @@ grows_performed by a run more good went (Reads k) d left = grows_performed by a 
 grows_performed by a run more good went (Writes e m) d left = grows_performed by a run more good went m e left
 grows_performed by a run more good went (Does p k h) d left =
     grows_joined by a (run p d left) (more p d (left ++ a ∷ [])) (λ flow e rest. performed by run (k flow) e rest) (λ flow e rest. performed by more (k flow) e rest)
-      (λ x e rest. performed by run (h x) e rest) (λ x e rest. performed by more (h x) e rest) (good p d left)
-      (λ flow e rest. grows_performed by a run more good went (k flow) e rest) (λ x e rest. grows_performed by a run more good went (h x) e rest)
-      (λ flow e. went_performed by more went (k flow) e) (λ x e. went_performed by more went (h x) e)
+    (λ x e rest. performed by run (h x) e rest) (λ x e rest. performed by more (h x) e rest) (good p d left)
+    (λ flow e rest. grows_performed by a run more good went (k flow) e rest) (λ x e rest. grows_performed by a run more good went (h x) e rest)
+    (λ flow e. went_performed by more went (k flow) e) (λ x e. went_performed by more went (h x) e)
 
 grows_deep : (tree : TypedTree) (a : Answer) (n : ℕ) → GrowRuns (fitting_of tree) a (deep tree n) (deep tree (suc n))
 unfolding deep
@@ -133,8 +133,8 @@ unfolding state_after state_with
 grows_state tree answers a =
     let longer : suc (length answers) ≡ length (answers ++ a ∷ []) = omega (arith, length-append answers (a ∷ [])) in
     subst (λ (n : ℕ). Grows (fitting_of tree) a (state_with tree answers (suc (length answers))) (state_with tree (answers ++ a ∷ []) (suc n))) longer
-      (grows_performed (fitting_of tree) a (deep tree (suc (length answers))) (deep tree (suc (suc (length answers)))) (grows_deep tree a (suc (length answers)))
-        (went_deep tree (suc (suc (length answers)))) (task tree) (initial tree) answers)
+    (grows_performed (fitting_of tree) a (deep tree (suc (length answers))) (deep tree (suc (suc (length answers)))) (grows_deep tree a (suc (length answers)))
+    (went_deep tree (suc (suc (length answers)))) (task tree) (initial tree) answers)
 
 when_true : (P Q : Type 0) (b : Bool) → b ≡ true → MatchBool b P Q → P
 when_true P Q true e h = h
@@ -151,14 +151,14 @@ pub goes_on : (tree : TypedTree) (before : List Answer) (a : Answer) (request : 
     → IsTrue (fits_request (fitting_of tree d.trapped) request a) → state_after tree (before ++ a ∷ []) ≡ Unfit → ⊥
 goes_on tree before a request d asks fits =
     went_fits (state_after tree (before ++ a ∷ []))
-      (when_true (Went (state_after tree (before ++ a ∷ []))) (state_after tree (before ++ a ∷ []) ≡ Unfit) (fits_request (fitting_of tree d.trapped) request a) fits
-        (subst (λ (x : Outcome ⊤). Grows (fitting_of tree) a x (state_after tree (before ++ a ∷ []))) asks (grows_state tree before a)))
+    (when_true (Went (state_after tree (before ++ a ∷ []))) (state_after tree (before ++ a ∷ []) ≡ Unfit) (fits_request (fitting_of tree d.trapped) request a) fits
+    (subst (λ (x : Outcome ⊤). Grows (fitting_of tree) a x (state_after tree (before ++ a ∷ []))) asks (grows_state tree before a)))
 
 pub refuses : (tree : TypedTree) (before : List Answer) (a : Answer) (request : Request) (d : Data) → state_after tree before ≡ Asking request d
     → IsFalse (fits_request (fitting_of tree d.trapped) request a) → state_after tree (before ++ a ∷ []) ≡ Unfit
 refuses tree before a request d asks fits =
     when_false (Went (state_after tree (before ++ a ∷ []))) (state_after tree (before ++ a ∷ []) ≡ Unfit) (fits_request (fitting_of tree d.trapped) request a) fits
-      (subst (λ (x : Outcome ⊤). Grows (fitting_of tree) a x (state_after tree (before ++ a ∷ []))) asks (grows_state tree before a))
+    (subst (λ (x : Outcome ⊤). Grows (fitting_of tree) a x (state_after tree (before ++ a ∷ []))) asks (grows_state tree before a))
 
 pub stays_ended : (tree : TypedTree) (before : List Answer) (a : Answer) (d : Data) → state_after tree before ≡ Ended d → state_after tree (before ++ a ∷ []) ≡ Ended d
 stays_ended tree before a d e = subst (λ (x : Outcome ⊤). Grows (fitting_of tree) a x (state_after tree (before ++ a ∷ []))) e (grows_state tree before a)

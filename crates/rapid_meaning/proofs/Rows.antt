@@ -1,17 +1,12 @@
 -- Small tasks, each as its whole list of requests for some answers: moves, errors, interrupts, waits, loops, calls.
-use Rattle.std.proofs.Common.{◌≡◌, refl, ℕ, ◌*◌, Bool, true, false, ℤ, pos, negsuc, neg_ℤ, List, [], ◌∷◌, ◌++◌, Option, None, Some}
-use Rattle.std.specs.Prelude.{codes, map, replicate}
-use Rattle.rapid_num.specs.declared.joints.Joints.{Joints}
-use Rattle.rapid_num.specs.declared.shape.Bound.{Bound}
+use Rattle.std.proofs.Common.{◌≡◌, refl, true, false, pos, neg_ℤ, [], ◌∷◌, ◌++◌, None, Some}
+use Rattle.std.specs.Prelude.{codes, replicate}
 use Rattle.rapid_num.specs.declared.shape.Shape.{Shape}
 use Rattle.rapid_model.specs.declared.answer.Answer.TheVariants as answers
 use Rattle.rapid_model.specs.declared.answer.Answer.TheVariants.{Go, Ok, At, Given as Let}
 use Rattle.rapid_model.specs.declared.fate.Fault.TheVariants as faults
-use Rattle.rapid_model.specs.declared.fate.Fate.TheVariants as fates
-use Rattle.rapid_model.specs.declared.function.Function.TheVariants as functions
 use Rattle.rapid_model.specs.declared.instruction.Instruction.TheVariants as instructions
 use Rattle.rapid_model.specs.declared.part_name.PartName.TheVariants as parts
-use Rattle.rapid_model.specs.declared.part_name.PartName.{PartName}
 use Rattle.rapid_model.specs.declared.path.Path.{Path}
 use Rattle.rapid_model.specs.declared.request.Request.TheVariants as requests
 use Rattle.rapid_model.specs.declared.request.Request.TheVariants.{Look, ReadP, WriteP, TestSet, ReadS, WriteS, Position, Setpoint, Order, Sleep, Leave, ZoneSet, Arrive, Hold, Rise, Say, End}
@@ -22,13 +17,12 @@ use Rattle.rapid_model.specs.declared.watched.Watched.TheVariants as watched
 use Rattle.rapid_model.specs.declared.zone_name.ZoneName.TheVariants as zone_names
 use Rattle.raw_trees.specs.declared.raw_expr.Operator.TheVariants as operators
 use Rattle.raw_trees.specs.declared.raw_routine.Mode.TheVariants as modes
-use Rattle.typed_trees.specs.Plain.{TypedExpr, TypedTree, ErrorNumber, SignalValue, Stored, Group, Builtin, Invoke, Not, Signed, Held, NotHeld, PlaceOf, Given, Lent, OfSignal, OfMeeting, Optional, NoArgument, Connect, Exit, For, Goto, If, IfOne, Label, Raise, Retry, Return, Test, TryNext, While, NoArgs, MoreArms, NoArms, MoreCases, NoCases, NoElse, Else, NoStmts, args_of, exprs_of, stmts_of}
+use Rattle.typed_trees.specs.Plain.{TypedTree, ErrorNumber, Stored, Invoke, Not, Signed, Given, Lent, OfSignal, OfMeeting, Optional, NoArgument, Connect, For, IfOne, Raise, Retry, TryNext, While, NoArgs, NoStmts, stmts_of}
 use Rattle.typed_trees.specs.declared.datum.Datum.TheVariants as datums
 use Rattle.typed_trees.specs.declared.expr.TreeRoot.TheVariants as roots
-use Rattle.rapid_meaning.specs.Data.{At as AtPlace}
-use Rattle.rapid_meaning.specs.Runs.{Next, asks, ended, data_after}
+use Rattle.rapid_meaning.specs.Runs.{asks}
 use Rattle.rapid_meaning.proofs.Asked.{asked_along, all_of, done, fault, go, joints}
-use Rattle.rapid_meaning.proofs.Trees.{absent, assigns, between, bool, bool_row, calls, datum_row, does, element, first_at, first_bound, func, literal, mark_row, module_bool, module_num, module_place, moves, num, num_row, number, param, pers_row, proc, quoted, raises, says, says_bool, says_num, shape_row, stored, target, task_of, the_num, thousandths, trap, when, whole_of, with_handler, with_pers}
+use Rattle.rapid_meaning.proofs.Trees.{assigns, between, bool, bool_row, calls, datum_row, does, first_at, first_bound, func, mark_row, module_bool, module_num, module_place, moves, num, num_row, number, param, pers_row, proc, raises, says, says_bool, says_num, shape_row, stored, task_of, the_num, trap, when, whole_of, with_handler, with_pers}
 
 -- a move of 2.5 degrees at a degree a setpoint
 abbrev pub moving : TypedTree

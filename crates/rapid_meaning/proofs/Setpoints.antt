@@ -1,11 +1,10 @@
 -- The setpoints that a move asks for are the planned ones.
-use Rattle.std.proofs.Common.{◌≡◌, refl, sym, ap, ◌∙◌, subst, ℕ, zero, suc, ◌+◌, ◌-◌, ◌<◌, ◌≤◌, Bool, true, false, not, ℤ, pos, int_lt, [], ◌∷◌, replicate, if◌then◌else◌, arith}
-use Rattle.std.specs.Prelude.{⊤, IsTrue}
+use Rattle.std.proofs.Common.{◌≡◌, refl, ap, ◌∙◌, ℕ, zero, suc, ◌+◌, ◌-◌, ◌<◌, ◌≤◌, Bool, true, false, not, ℤ, pos, int_lt, ◌∷◌, replicate, if◌then◌else◌, arith}
+use Rattle.std.specs.Prelude.{IsTrue}
 use Rattle.rapid_num.specs.Reach.{is_position, is_reachable}
 use Rattle.rapid_num.specs.declared.joints.Joints.{Joints}
 use Rattle.joint_planner.specs.Setpoints.{setpoint, setpoint_count}
 use Rattle.rapid_model.specs.Fits.{Fitting}
-use Rattle.rapid_model.specs.declared.answer.Answer.{Answer}
 use Rattle.rapid_model.specs.declared.answer.Answer.TheVariants.{At, Given}
 use Rattle.rapid_model.specs.declared.fate.Fault.TheVariants.{JointRange, Speed}
 use Rattle.rapid_model.specs.declared.request.Request.TheVariants.{Position, Setpoint}
@@ -43,7 +42,7 @@ when_at false o e = absurd cc
 pub moves : (by : Bool → Fitting) (run : Run) (start target : Joints) (speed : ℤ) (given : ℕ) (d : Data) → IsTrue (is_position start) → IsTrue (is_reachable target)
     → IsTrue (int_lt (pos 0) speed) → given < setpoint_count start target (cap_of speed)
     → performed by run (move target speed) d (At start ∷ replicate given Given)
-      ≡ Asking (Setpoint (setpoint start target (setpoint_count start target (cap_of speed)) (given + 1))) d
+    ≡ Asking (Setpoint (setpoint start target (setpoint_count start target (cap_of speed)) (given + 1))) d
 unfolding performed
 moves by run start target speed given d at reachable fast fewer =
     ap (λ (m : Act). performed by run m d (At start ∷ replicate given Given)) (asks_position (is_reachable target) (int_lt (pos 0) speed) (Asks Position (move_from target (cap_of speed))) reachable fast)

@@ -1,11 +1,8 @@
 -- Trees of small tasks, for the examples. Signals are numbered: 0 is an input, 1 and 2 are outputs.
-use Rattle.std.proofs.Common.{ℕ, ◌*◌, Bool, true, false, ℤ, pos, List, [], ◌∷◌, ◌++◌, Option, None, Some}
+use Rattle.std.proofs.Common.{ℕ, ◌*◌, Bool, true, false, pos, List, [], ◌∷◌, Option, None, Some}
 use Rattle.std.specs.Prelude.{codes, map, replicate}
-use Rattle.rapid_model.specs.declared.function.Function.{Function}
-use Rattle.rapid_model.specs.declared.function.Function.TheVariants as functions
 use Rattle.rapid_model.specs.declared.instruction.Instruction.{Instruction}
 use Rattle.rapid_model.specs.declared.instruction.Instruction.TheVariants as instructions
-use Rattle.rapid_model.specs.declared.part_name.PartName.{PartName}
 use Rattle.rapid_model.specs.declared.part_name.PartName.TheVariants as parts
 use Rattle.rapid_model.specs.declared.predefined.Predefined.TheVariants as predefineds
 use Rattle.rapid_model.specs.declared.sort.Sort.{Sort}
@@ -13,16 +10,14 @@ use Rattle.rapid_model.specs.declared.sort.Sort.TheVariants as sorts
 use Rattle.rapid_model.specs.declared.value.Value.{Value}
 use Rattle.rapid_model.specs.declared.value.Value.TheVariants as values
 use Rattle.raw_trees.specs.declared.raw_expr.Operator.{Operator}
-use Rattle.raw_trees.specs.declared.raw_expr.Operator.TheVariants as operators
 use Rattle.raw_trees.specs.declared.raw_routine.Mode.{Mode}
-use Rattle.raw_trees.specs.declared.raw_routine.Mode.TheVariants as modes
 use Rattle.raw_trees.specs.declared.raw_routine.RoutineKind.{RoutineKind}
 use Rattle.raw_trees.specs.declared.raw_routine.RoutineKind.TheVariants as kinds
 use Rattle.typed_trees.specs.declared.datum.Datum.{Datum}
 use Rattle.typed_trees.specs.declared.datum.Datum.TheVariants as datums
 use Rattle.typed_trees.specs.declared.expr.TreeRoot.{TreeRoot}
 use Rattle.typed_trees.specs.declared.expr.TreeRoot.TheVariants as roots
-use Rattle.typed_trees.specs.Plain.{TypedArg, TypedArgs, TypedExpr, TypedExprs, TypedLocal, TypedParam, TypedPers, TypedPlace, TypedRoutine, TypedSlot, TypedStmt, TypedStmts, TypedTree, Known, ErrorNumber, SignalValue, Stored, Group, Aggregate, Builtin, Invoke, Not, Signed, Chain, NoSteps, MoreSteps, NotHeld, Held, PlaceOf, Given, Lent, OfSignal, OfMeeting, Itself, Optional, NoArgument, Argument, Assign, Instruct, Call, Label, Goto, Return, Exit, Raise, Retry, TryNext, Connect, If, IfOne, For, While, Test, NoArms, MoreArms, NoCases, MoreCases, NoElse, Else, args_of, exprs_of, stmts_of}
+use Rattle.typed_trees.specs.Plain.{TypedArg, TypedExpr, TypedParam, TypedPers, TypedPlace, TypedRoutine, TypedSlot, TypedStmt, TypedTree, Known, Stored, Aggregate, Chain, NoSteps, MoreSteps, NotHeld, Held, PlaceOf, Given, Itself, Optional, NoArgument, Argument, Assign, Instruct, Call, Raise, If, NoArms, MoreArms, NoElse, args_of, exprs_of, stmts_of}
 
 -- values
 
@@ -54,7 +49,7 @@ absent = number 9_000_000_000
 -- six axes and no external ones, as brackets
 abbrev pub target : List Value → TypedExpr
 target axes = Aggregate 0 sorts.JointTarget (exprs_of
-  (Aggregate 0 sorts.RobJoint (exprs_of (map literal axes)) ∷ Aggregate 0 sorts.ExtJoint (exprs_of (replicate 6 (literal absent))) ∷ []))
+    (Aggregate 0 sorts.RobJoint (exprs_of (map literal axes)) ∷ Aggregate 0 sorts.ExtJoint (exprs_of (replicate 6 (literal absent))) ∷ []))
 
 -- the first axis at so many thousandths of a degree; the others at 0, or without a bound
 abbrev pub first_at : ℕ → TypedExpr

@@ -1,5 +1,5 @@
 -- Constant arrays among the data of a task, which expressions that are known before the run read.
-use Rattle.std.specs.Prelude.{◌≡◌, ℕ, ◌+◌, List, length, Option, Some, slice_get}
+use Rattle.std.specs.Prelude.{◌≡◌, ℕ, ◌+◌, List, length, Some, slice_get}
 use Rattle.rapid_model.specs.declared.value.Value.{Value}
 use Rattle.constant_meaning.specs.Constants.{Elements, array_of}
 use Rattle.typed_trees.specs.Plain.{TypedRoutine, TypedTree}
