@@ -11,15 +11,19 @@ use Rattle.rapid_model.specs.declared.fate.Fault.{Fault}
 use Rattle.rapid_model.specs.declared.request.Request.{Request}
 use Rattle.rapid_model.specs.declared.request.Request.TheVariants.{End}
 use Rattle.typed_trees.specs.Plain.{TypedTree}
-use Rattle.rapid_meaning.specs.Answering.{performed}
+use Rattle.rapid_meaning.specs.Answering.{performed, sort_of_pers}
+use Rattle.rapid_meaning.specs.Data.{frame_at, with_frame}
 use Rattle.rapid_meaning.specs.Doings.{after}
+use Rattle.rapid_meaning.specs.Functions.{last_digits}
+use Rattle.rapid_meaning.specs.Instructions.{has}
 use Rattle.rapid_meaning.specs.Meetings.{with_tasks}
 use Rattle.rapid_meaning.specs.Moves.{setpoints}
+use Rattle.rapid_meaning.specs.Zones.{on_axes}
 use Rattle.rapid_meaning.specs.Runs.{Next, asks, ended, asked_after, data_after, deep, state_after}
 
 -- what a task asks before the first of some answers, before the second, and so on, and behind the last
 unfoldable pub asked_along : TypedTree → List Answer → List Answer → List Next
-unfolding asked_after data_after state_after deep performed after setpoints with_tasks greatest_change step_of
+unfolding asked_after data_after state_after deep performed after frame_at with_frame sort_of_pers last_digits on_axes has setpoints with_tasks greatest_change step_of
 asked_along tree before [] = asked_after tree before ∷ []
 asked_along tree before (a ∷ more) = asked_after tree before ∷ asked_along tree (before ++ a ∷ []) more
 

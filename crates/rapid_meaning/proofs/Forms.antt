@@ -309,3 +309,49 @@ placed = task_of (num_row 0 ∷ []) (proc (Assign 17 (module_num 0) (num 2) ∷ 
 place_at_look : data_after placed (go ∷ []) ≡ Some (record { slots = datums.Plain (number 2) ∷ []; frames = record { values = []; seen = 0 } ∷ []; errno = 0; trapped = false; place = Some (record { «module» = 0; byte = 25 }) })
 unfolding asked_along
 place_at_look = refl
+
+-- an interrupt that sleeps: the output is set, and the task waits
+abbrev pub dozing : TypedTree
+dozing = task_of (mark_row sorts.IntNum ∷ num_row 0 ∷ []) (proc (
+    Connect 0 (module_place 0 sorts.IntNum) 1
+    ∷ does instructions.ISignalDI (OfSignal 0 ∷ Given (num 1) ∷ Lent (module_place 0 sorts.IntNum) ∷ [])
+    ∷ does instructions.ISleep (Lent (module_place 0 sorts.IntNum) ∷ [])
+    ∷ does instructions.SetDO (OfSignal 1 ∷ Given (num 1) ∷ [])
+    ∷ does instructions.WaitUntil (Given (between (the_num 1) operators.Equal (num 2)) ∷ []) ∷ [])
+    ∷ trap (assigns (module_num 1) (between (the_num 1) operators.Add (num 1)) ∷ []) ∷ [])
+
+dozes : asked_along dozing [] (go ∷ answers.Number 1 ∷ go ∷ Ok ∷ go ∷ Ok ∷ go ∷ Ok ∷ Go 3 ∷ Ok ∷ [])
+    ≡ asks Look ∷ asks (requests.Connect 0 1) ∷ asks Look ∷ asks (Order 1 (watched.Signal 0 true) false) ∷ asks Look ∷ asks (Sleep 1) ∷ asks Look ∷ asks (WriteS 1 true)
+    ∷ asks Look ∷ asks (Hold 3) ∷ asks Rise ∷ []
+unfolding asked_along
+dozes = refl
+
+-- what the cell refuses: an eleventh zone, a zone that is there, an output that a zone sets, more than 64 interrupts
+abbrev pub supervising : TypedTree
+supervising = task_of (shape_row ∷ mark_row sorts.WzTemporary ∷ []) (proc (
+    does instructions.WZLimJointDef (Optional (codes "Inside") NoArgument ∷ Lent (module_place 0 sorts.ShapeData) ∷ Given (first_bound 1_000) ∷ Given (first_bound 2_000) ∷ [])
+    ∷ does instructions.WZLimSup (Optional (codes "Temp") NoArgument ∷ Lent (module_place 1 sorts.WzTemporary) ∷ Lent (module_place 0 sorts.ShapeData) ∷ []) ∷ []) ∷ [])
+
+abbrev low_zone : Shape
+low_zone = record { inside = true; bounds = Some (record { low = pos 1_000; high = pos 2_000 }) ∷ replicate 11 None }
+
+has_ten_zones : asked_along supervising [] (go ∷ go ∷ answers.ZoneFull ∷ Ok ∷ []) ≡ all_of (Look ∷ Look ∷ ZoneSet 0 true low_zone ∷ fault faults.ZoneFull ∷ [])
+unfolding asked_along
+has_ten_zones = refl
+
+has_the_zone : asked_along supervising [] (go ∷ go ∷ answers.ZoneUsed ∷ Ok ∷ []) ≡ all_of (Look ∷ Look ∷ ZoneSet 0 true low_zone ∷ fault faults.ZoneUsed ∷ [])
+unfolding asked_along
+has_the_zone = refl
+
+is_tied : asked_along signalling [] (go ∷ answers.Tied ∷ Ok ∷ []) ≡ all_of (Look ∷ WriteS 1 true ∷ fault faults.TiedOutput ∷ [])
+unfolding asked_along
+is_tied = refl
+
+has_no_more_interrupts : asked_along ordering [] (go ∷ answers.NoMore ∷ Ok ∷ []) ≡ all_of (Look ∷ requests.Connect 0 1 ∷ fault (faults.Unhandled 105) ∷ [])
+unfolding asked_along
+has_no_more_interrupts = refl
+
+has_its_order : asked_along ordering [] (go ∷ answers.Number 2 ∷ go ∷ answers.Already ∷ Ok ∷ [])
+    ≡ all_of (Look ∷ requests.Connect 0 1 ∷ Look ∷ Order 2 (watched.Signal 1 false) true ∷ fault (faults.Unhandled 103) ∷ [])
+unfolding asked_along
+has_its_order = refl

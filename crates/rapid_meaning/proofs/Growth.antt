@@ -1,5 +1,5 @@
 -- One more answer: what stands before it stays, and the run goes on with it where it fits.
-use Rattle.std.proofs.Common.{◌≡◌, refl, sym, ap, subst, ℕ, zero, suc, Bool, true, false, List, [], ◌∷◌, ◌++◌, length, if◌then◌else◌, MatchBool, arith, length-append}
+use Rattle.std.proofs.Common.{◌≡◌, ◌⊎◌, inl, inr, refl, sym, ap, subst, ℕ, zero, suc, Bool, true, false, List, [], ◌∷◌, ◌++◌, length, if◌then◌else◌, MatchBool, arith, length-append}
 use Rattle.std.specs.Prelude.{⊤, IsTrue, IsFalse}
 use Rattle.rapid_model.specs.Fits.{Fitting, fits_request}
 use Rattle.rapid_model.specs.declared.answer.Answer.{Answer}
@@ -13,7 +13,7 @@ use Rattle.rapid_meaning.specs.Data.{Data}
 use Rattle.rapid_meaning.specs.Doings.{Doing, Gives, Raises, Asks, Ends, Misfit, Reads, Writes, Does}
 use Rattle.rapid_meaning.specs.Flows.{Part}
 use Rattle.rapid_meaning.specs.Frames.{initial}
-use Rattle.rapid_meaning.specs.Runs.{deep, state_after, task}
+use Rattle.rapid_meaning.specs.Runs.{FitsNext, FitsSteps, deep, state_after, task}
 
 -- what an outcome is that used all answers up, and whose last one fitted
 abbrev Went : {A : Type 0} → Outcome A → Type 0
@@ -165,3 +165,23 @@ stays_ended tree before a d e = subst (λ (x : Outcome ⊤). Grows (fitting_of t
 
 pub stays_unfit : (tree : TypedTree) (before : List Answer) (a : Answer) → state_after tree before ≡ Unfit → state_after tree (before ++ a ∷ []) ≡ Unfit
 stays_unfit tree before a e = subst (λ (x : Outcome ⊤). Grows (fitting_of tree) a x (state_after tree (before ++ a ∷ []))) e (grows_state tree before a)
+
+went_state : (tree : TypedTree) → Went (state_after tree [])
+unfolding state_after
+went_state tree = went_performed (fitting_of tree) (deep tree 1) (went_deep tree 1) (task tree) (initial tree)
+
+-- a list is empty, or has a last element
+ends_with : (answers : List Answer) → (answers ≡ []) ⊎ ((before : List Answer) × (a : Answer) × (answers ≡ before ++ a ∷ []))
+ends_with [] = inl refl
+ends_with (b ∷ more) = elim (ends_with more) [
+  | inl e ↦ inr ([], b, ap (λ (x : List Answer). b ∷ x) e)
+  | inr w ↦ inr (b ∷ w.0, w.1, ap (λ (x : List Answer). b ∷ x) w.2)
+]
+
+pub fit_runs : (tree : TypedTree) (answers : List Answer) → FitsSteps tree answers → state_after tree answers ≡ Unfit → ⊥
+fit_runs tree answers fits unfit = elim (ends_with answers) [
+  | inl e ↦ went_fits (state_after tree []) (went_state tree) (subst (λ (x : List Answer). state_after tree x ≡ Unfit) e unfit)
+  | inr w ↦
+      let last : FitsNext tree w.0 w.1 = fits.at w.0 [] w.1 w.2 in
+      goes_on tree w.0 w.1 last.request last.«data» last.asked last.fits (subst (λ (x : List Answer). state_after tree x ≡ Unfit) w.2 unfit)
+]

@@ -40,7 +40,7 @@ joined Unfit next failed = Unfit
 joined NoFuel next failed = NoFuel
 
 -- the type of the first persistent that has this number in the cell
-abbrev pub sort_of_pers : List ℕ → List TypedPers → ℕ → Option Sort
+unfoldable pub sort_of_pers : List ℕ → List TypedPers → ℕ → Option Sort
 sort_of_pers (number ∷ numbers) (row ∷ rows) pers = if number == pers then Some row.sort else sort_of_pers numbers rows pers
 sort_of_pers _ _ pers = None
 

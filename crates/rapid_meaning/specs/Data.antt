@@ -26,12 +26,12 @@ pub record Data : Type 0 where
   pub place : Option At
 
 -- the frame with so many below it
-abbrev pub frame_at : List Frame → ℕ → Option Frame
+unfoldable pub frame_at : List Frame → ℕ → Option Frame
 frame_at [] number = None
 frame_at (frame ∷ below) number = if length below == number then Some frame else frame_at below number
 
 -- the frames with another in its place
-abbrev pub with_frame : List Frame → ℕ → Frame → List Frame
+unfoldable pub with_frame : List Frame → ℕ → Frame → List Frame
 with_frame [] number new = []
 with_frame (frame ∷ below) number new = if length below == number then new ∷ below else frame ∷ with_frame below number new
 

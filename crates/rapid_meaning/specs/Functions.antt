@@ -14,7 +14,7 @@ use Rattle.rapid_meaning.specs.Places.{test_and_set}
 use Rattle.rapid_meaning.specs.Values.{num_in, text_in, whole, of_bit}
 
 -- the last digits of a number, so many
-abbrev pub last_digits : ℕ → ℕ → List ℕ
+unfoldable pub last_digits : ℕ → ℕ → List ℕ
 last_digits zero n = []
 last_digits (suc count) n = last_digits count (n / 10) ++ (48 + n % 10) ∷ []
 

@@ -33,7 +33,7 @@ options NoArgs = []
 options (MoreArgs (Optional name value) more) = Optional name value ∷ options more
 options (MoreArgs arg more) = options more
 
-abbrev pub has : List ℕ → List TypedArg → Bool
+unfoldable pub has : List ℕ → List TypedArg → Bool
 has name [] = false
 has name (Optional other value ∷ more) = bytes_eq other name || has name more
 has name (arg ∷ more) = has name more

@@ -37,7 +37,7 @@ abbrev pub home_high : ℤ → ℤ → Option ℤ
 home_high middle delta = if no_limit middle || no_limit delta then Some unlimited else sum_of middle delta
 
 -- of each axis, where all are in range
-abbrev pub on_axes : (ℤ → ℤ → Option ℤ) → List ℤ → List ℤ → Option (List ℤ)
+unfoldable pub on_axes : (ℤ → ℤ → Option ℤ) → List ℤ → List ℤ → Option (List ℤ)
 on_axes bound (m ∷ ms) (d ∷ ds) = option_and_then (λ b. option_map (λ bs. b ∷ bs) (on_axes bound ms ds)) (bound m d)
 on_axes bound _ _ = Some []
 

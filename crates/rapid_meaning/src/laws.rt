@@ -17,7 +17,7 @@ ghost use Rattle.rapid_meaning.specs.Data.{Data};
 ghost use Rattle.rapid_meaning.specs.Expressions.{expr};
 ghost use Rattle.rapid_meaning.specs.Frames.{initial};
 ghost use Rattle.rapid_meaning.specs.Moves.{cap_of, move};
-ghost use Rattle.rapid_meaning.specs.Runs.{deep, state_after, task};
+ghost use Rattle.rapid_meaning.specs.Runs.{FitsSteps, deep, state_after, task};
 
 /// A law: the parts of a program that are done one in another are no more than answers, and with more fuel a task stands as
 /// it does.
@@ -31,6 +31,7 @@ pub fn fuel_is_enough()
 pub fn runs_go_on()
     ensures goes_on { (tree : TypedTree) (before : List Answer) (a : Answer) (request : Request) (d : Data) → state_after tree before ≡ Asking request d → IsTrue (fits_request (fitting_of tree d.trapped) request a) → state_after tree (before ++ a ∷ []) ≢ Unfit }
     ensures refuses { (tree : TypedTree) (before : List Answer) (a : Answer) (request : Request) (d : Data) → state_after tree before ≡ Asking request d → IsFalse (fits_request (fitting_of tree d.trapped) request a) → state_after tree (before ++ a ∷ []) ≡ Unfit }
+    ensures stays_fit { (tree : TypedTree) (answers : List Answer) → FitsSteps tree answers → state_after tree answers ≢ Unfit }
     ensures stays_ended { (tree : TypedTree) (before : List Answer) (a : Answer) (d : Data) → state_after tree before ≡ Ended d → state_after tree (before ++ a ∷ []) ≡ Ended d }
     ensures stays_unfit { (tree : TypedTree) (before : List Answer) (a : Answer) → state_after tree before ≡ Unfit → state_after tree (before ++ a ∷ []) ≡ Unfit }
 {}

@@ -12,3 +12,6 @@ returns-clause-stays_ended c = λ tree before a d e. growth.stays_ended tree bef
 
 pub returns-clause-stays_unfit : goal.returns-clause-stays_unfit
 returns-clause-stays_unfit c = λ tree before a e. growth.stays_unfit tree before a e
+
+pub returns-clause-stays_fit : goal.returns-clause-stays_fit
+returns-clause-stays_fit c = λ tree answers fits. growth.fit_runs tree answers fits
