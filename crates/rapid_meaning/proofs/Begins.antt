@@ -71,7 +71,7 @@ stmt_begins tree w (trees.TryNext at) = λ d. tt
 stmt_begins tree w (trees.Connect at p trap) = λ d. tt
 stmt_begins tree w (trees.If at arms other) = λ d. tt
 stmt_begins tree w (trees.IfOne at e one) = λ d. tt
-stmt_begins tree w (trees.For at row first last step list) = λ d. tt
+stmt_begins tree w (trees.For at local first last step list) = λ d. tt
 stmt_begins tree w (trees.While at e list) = λ d. tt
 stmt_begins tree w (trees.Test at e cases other) = λ d. tt
 

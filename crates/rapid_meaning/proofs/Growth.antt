@@ -183,5 +183,5 @@ fit_runs tree answers fits unfit = elim (ends_with answers) [
   | inl e ↦ went_fits (state_after tree []) (went_state tree) (subst (λ (x : List Answer). state_after tree x ≡ Unfit) e unfit)
   | inr w ↦
       let last : FitsNext tree w.0 w.1 = fits.at w.0 [] w.1 w.2 in
-      goes_on tree w.0 w.1 last.request last.«data» last.asked last.fits (subst (λ (x : List Answer). state_after tree x ≡ Unfit) w.2 unfit)
+      goes_on tree w.0 w.1 last.request last.standing last.asked last.fits (subst (λ (x : List Answer). state_after tree x ≡ Unfit) w.2 unfit)
 ]

@@ -1,6 +1,6 @@
 pub mod Trees
 pub mod Asked
-mod Rows
+mod SmallTasks
 mod Forms
 pub mod Begins
 pub mod Fuel

@@ -14,17 +14,17 @@ use Rattle.rapid_meaning.specs.Values.{num_in}
 
 -- the place of one of the three data of a FOR, from 0
 abbrev pub counter_place : TypedRoutine → ℕ → ℕ → Doing Lvalue
-counter_place routine row which = Reads (λ d. or_misfit (own_place (local_start routine row + which) d.frames))
+counter_place routine local which = Reads (λ d. or_misfit (own_place (local_start routine local + which) d.frames))
 
 abbrev pub counter : TypedRoutine → ℕ → ℕ → Doing ℤ
-counter routine row which = do
-  p ← counter_place routine row which
+counter routine local which = do
+  p ← counter_place routine local which
   v ← read_value p
   num_in v
 
 abbrev pub set_counter : TypedRoutine → ℕ → ℕ → ℤ → Act
-set_counter routine row which n = do
-  p ← counter_place routine row which
+set_counter routine local which n = do
+  p ← counter_place routine local which
   write_value p (values.Num n)
 
 -- the step: where none is given, 1, or -1 where the first value is the greater
@@ -34,13 +34,13 @@ step_of tree routine first last (Some e) = num tree routine e
 
 -- the bounds and the step, all evaluated before any is stored
 abbrev pub bounds : TypedTree → TypedRoutine → ℕ → TypedExpr → TypedExpr → Option TypedExpr → Act
-bounds tree routine row first last step = do
+bounds tree routine local first last step = do
   from ← num tree routine first
   to ← num tree routine last
   by ← step_of tree routine from to step
-  set_counter routine row 2 by
-  set_counter routine row 1 to
-  set_counter routine row 0 from
+  set_counter routine local 2 by
+  set_counter routine local 1 to
+  set_counter routine local 0 from
 
 -- the variable has passed the last value; a step of zero counts up
 abbrev pub has_passed : ℤ → ℤ → ℤ → Bool
@@ -48,22 +48,22 @@ has_passed variable last step = if int_lt step (pos 0) then int_lt variable last
 
 -- the next turn, which begins with its Look, while the variable has not passed the last value
 abbrev pub turn_due : Where → TypedStmt → ℕ → Doing Flow
-turn_due w s row = do
-  variable ← counter w.routine row 0
-  last ← counter w.routine row 1
-  step ← counter w.routine row 2
+turn_due w s local = do
+  variable ← counter w.routine local 0
+  last ← counter w.routine local 1
+  step ← counter w.routine local 2
   if has_passed variable last step then Gives Normal else goes_to (Turn w s)
 
 -- past the range of num the loop ends
 abbrev pub counted : Where → TypedStmt → ℕ → Option ℤ → Doing Flow
-counted w s row None = Gives Normal
-counted w s row (Some n) = do
-  set_counter w.routine row 0 n
-  turn_due w s row
+counted w s local None = Gives Normal
+counted w s local (Some n) = do
+  set_counter w.routine local 0 n
+  turn_due w s local
 
 -- the variable goes on by the step
 abbrev pub counts_on : Where → TypedStmt → ℕ → Doing Flow
-counts_on w s row = do
-  variable ← counter w.routine row 0
-  step ← counter w.routine row 2
-  counted w s row (sum_of variable step)
+counts_on w s local = do
+  variable ← counter w.routine local 0
+  step ← counter w.routine local 2
+  counted w s local (sum_of variable step)

@@ -57,9 +57,9 @@ data_after tree answers = data_in (state_after tree answers)
 -- an answer that fits the request which the task asks after these answers
 pub record FitsNext (tree : TypedTree) (before : List Answer) (a : Answer) : Type 0 where
   pub request : Request
-  pub «data» : Data
-  pub asked : state_after tree before ≡ Asking request «data»
-  pub fits : IsTrue (fits_request (fitting_of tree «data».trapped) request a)
+  pub standing : Data
+  pub asked : state_after tree before ≡ Asking request standing
+  pub fits : IsTrue (fits_request (fitting_of tree standing.trapped) request a)
 
 -- each answer fits the request that stands after those before it, and none follows the end
 pub record FitsSteps (tree : TypedTree) (answers : List Answer) : Type 0 where

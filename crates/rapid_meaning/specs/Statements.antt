@@ -111,7 +111,7 @@ follows tree w s (trees.TryNext at) = Gives Skips
 follows tree w s (trees.Connect at p trap) = header w s (connects tree w.routine p trap) goes_on
 follows tree w s (trees.If at arms other) = header w s (chosen tree w.routine arms other) (inner_or_not w)
 follows tree w s (trees.IfOne at e one) = header w s (truth tree w.routine e) (λ b. if b then goes_to (Attempt w one) else Gives Normal)
-follows tree w s (trees.For at row first last step list) = header w s (bounds tree w.routine row first last step) (λ _. turn_due w s row)
+follows tree w s (trees.For at local first last step list) = header w s (bounds tree w.routine local first last step) (λ _. turn_due w s local)
 follows tree w s (trees.While at e list) = header w s (truth tree w.routine e) (λ b. if b then again_behind w s list else Gives Normal)
 follows tree w s (trees.Test at e cases other) = header w s (expr tree w.routine e >>= λ v. selected tree w.routine v cases other) (inner_or_not w)
 
@@ -130,7 +130,7 @@ byte_of (trees.TryNext at) = at
 byte_of (trees.Connect at p trap) = at
 byte_of (trees.If at arms other) = at
 byte_of (trees.IfOne at e one) = at
-byte_of (trees.For at row first last step list) = at
+byte_of (trees.For at local first last step list) = at
 byte_of (trees.While at e list) = at
 byte_of (trees.Test at e cases other) = at
 
@@ -141,7 +141,7 @@ stmt tree w s = look w (byte_of s) (Attempt w s) (follows tree w s s)
 
 -- what follows the Look of a turn of a FOR: its list, and then the next turn
 abbrev pub turned : Where → TypedStmt → TypedStmt → Doing Flow
-turned w s (trees.For at row first last step list) = inner w list >>= and_then (counts_on w s row)
+turned w s (trees.For at local first last step list) = inner w list >>= and_then (counts_on w s local)
 turned w s _ = Misfit
 
 -- a turn of a FOR, from its Look on
