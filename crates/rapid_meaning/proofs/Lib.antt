@@ -7,4 +7,5 @@ pub mod Fuel
 pub mod Growth
 pub mod Composing
 pub mod ConstantsAgree
+mod ConstantArrays
 pub mod Setpoints
