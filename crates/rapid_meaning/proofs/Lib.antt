@@ -1,6 +1,11 @@
-mod Examples
-pub mod Lists
-pub mod ByTurns
-pub mod Grows
-pub mod Suits
-pub mod MoreEvents
+pub mod Trees
+pub mod Asked
+mod SmallTasks
+mod Forms
+pub mod Begins
+pub mod Fuel
+pub mod Growth
+pub mod Composing
+pub mod ConstantsAgree
+mod ConstantArrays
+pub mod Setpoints

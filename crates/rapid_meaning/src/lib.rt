@@ -1,6 +1,6 @@
-//! What trees and cells mean: the definitions that the run theorem cites, and the laws on whole histories.
+//! What a task does: the meaning of the whole language, as definitions that contracts cite, and laws on them.
 #![tactic(auto)]
 
 mod laws;
 
-pub use laws::{run_by_turns_is_legal_and_whole, run_by_turns_is_one, tree_suits_task};
+pub use laws::{constants_come_to_their_values, fuel_is_enough, moves_are_planned, runs_go_on};
