@@ -40,7 +40,7 @@ abbrev suits_by : CellData → ℕ → List Event → Request → Option TaskRow
 suits_by cell actor mine request (Some row) = not (has_ended mine) && goes_with (is_held mine) (is_rise request) && suits_task cell row mine request
 suits_by cell actor mine request None = actor == length cell.tasks && suits_inputs cell mine request
 
-no_input : (cell : CellData) (mine : List Event) (request : Request) → IsTrue (is_served request) → suits_inputs cell mine request ≡ false
+pub no_input : (cell : CellData) (mine : List Event) (request : Request) → IsTrue (is_served request) → suits_inputs cell mine request ≡ false
 no_input cell mine = served_case (λ r. suits_inputs cell mine r ≡ false) refl refl (λ to. refl) (λ fate. refl)
 
 not_true : (b : Bool) → not b ≡ true → b ≡ false
