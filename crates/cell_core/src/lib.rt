@@ -6,8 +6,6 @@ mod boards;
 mod fits;
 mod served;
 mod shared;
-#[cfg(test)]
-mod tests;
 
 pub use served::Served;
 pub use shared::Core;

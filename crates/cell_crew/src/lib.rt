@@ -4,8 +4,6 @@
 mod asking;
 mod ran;
 mod round;
-#[cfg(test)]
-mod tests;
 
 pub use ran::Ran;
 pub use round::run_round;

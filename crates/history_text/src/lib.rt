@@ -5,8 +5,6 @@ mod axes;
 mod event_line;
 mod fate_line;
 mod name;
-#[cfg(test)]
-mod tests;
 
 pub use event_line::write_event;
 pub use fate_line::write_fate;

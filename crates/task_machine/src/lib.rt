@@ -5,8 +5,6 @@ mod advance;
 mod departure;
 mod machine;
 mod stage;
-#[cfg(test)]
-mod tests;
 
 pub use machine::Machine;
 pub use stage::Stage;
