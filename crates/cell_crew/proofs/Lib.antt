@@ -1,6 +1,6 @@
 mod Examples
 pub mod Amid
-pub mod Asking
+pub mod TreesAsk
 pub mod Crews
 pub mod Rounds
 pub mod Armed

@@ -1,6 +1,6 @@
 -- The relation of asking of some trees is the one that their machines ask by.
-use Rattle.std.proofs.Common.{◌≡◌, ℕ, List, Option, Some, sym, subst}
-use Rattle.std.specs.Prelude.{IsSomeAnd, slice_get}
+use Rattle.std.proofs.Common.{◌≡◌, List, Option, sym, subst}
+use Rattle.std.specs.Prelude.{IsSomeAnd}
 use Rattle.rapid_model.specs.declared.tree.Tree.{Tree}
 use Rattle.move_meaning.specs.Runs as runs
 use Rattle.move_meaning.specs.Runs.{asked_after, tree_asks}
