@@ -8,7 +8,7 @@ use Rattle.rapid_model.specs.declared.answer.Answer.TheVariants as answers
 use Rattle.rapid_model.specs.declared.event.Event.{Event}
 use Rattle.rapid_model.specs.declared.fate.Fate.TheVariants as fates
 use Rattle.rapid_model.specs.declared.request.Request.TheVariants.{Look, Position, Setpoint, End}
-use Rattle.cell_core.specs.Boards.{arm_with, end_with, count_with, standing}
+use Rattle.cell_core.specs.Boards.{arm_with, end_with, count_with, boards_of, boards_with, standing}
 use Rattle.cell_core.specs.Serving.{served}
 use Rattle.cell_core.specs.declared.served.Served.TheVariants.{Answered, Spent}
 
@@ -54,3 +54,6 @@ told_stands = refl
 
 untold_is_cut : standing true None ≡ fates.Cut
 untold_is_cut = refl
+
+boards_move : boards_with (boards_of cell_of_one.tasks) moved_to_one ≡ record { arms = Some (joints_at (pos 1000)) ∷ []; ends = None ∷ []; counted = 1 }
+boards_move = refl

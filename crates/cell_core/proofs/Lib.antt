@@ -1,6 +1,5 @@
 mod Examples
-pub mod Asked
 pub mod Starting
-pub mod Positions
+pub mod Sounding
 pub mod Growing
 pub mod Reading

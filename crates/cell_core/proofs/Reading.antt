@@ -7,10 +7,10 @@ use Rattle.std.proofs.Math.Bool.{and-true}
 use Rattle.std.proofs.lemmas.List.{map-append}
 use Rattle.std.proofs.lemmas.List.Folds.{list_all-append}
 use Rattle.rapid_model.specs.CellData.{CellData}
-use Rattle.rapid_model.specs.Requests.{part_of, end_of, has_ended}
+use Rattle.rapid_model.specs.Own.{part_of, end_of, has_ended}
 use Rattle.rapid_model.specs.declared.event.Event.{Event}
 use Rattle.rapid_model.specs.declared.fate.Fate.{Fate}
-use Rattle.rapid_meaning.specs.Histories.{all_ended, is_spent, fate_after, fates_after}
+use Rattle.cell_meaning.specs.Histories.{all_ended, is_spent, fate_after, fates_after}
 use Rattle.cell_core.specs.Boards.{standing}
 
 -- the first n ends are those that the history tells

@@ -1,16 +1,17 @@
 -- What a core keeps before the first event.
-use Rattle.std.proofs.Common.{◌≡◌, ℕ, zero, suc, ◌+◌, ◌<◌, cond, List, [], ◌∷◌, ◌++◌, length, map, get_or, Option, Some, None, refl, sym, ◌∙◌, ap, arith}
+use Rattle.std.proofs.Common.{◌≡◌, ℕ, zero, suc, ◌<◌, cond, List, [], ◌∷◌, length, map, get_or, Option, Some, None, refl, sym, subst, arith}
 use Rattle.std.specs.Prelude.{is_some, count_by, slice_get}
 use Rattle.std.specs.Option.{option_and_then}
 use Rattle.std.proofs.lemmas.List.{length-map}
 use Rattle.std.proofs.lemmas.List.Sums.{sum_by-cons}
 use Rattle.rapid_num.specs.declared.joints.Joints.{Joints}
 use Rattle.rapid_model.specs.CellData.{CellData, IsCell}
-use Rattle.rapid_model.specs.declared.event.Event.{Event}
 use Rattle.rapid_model.specs.declared.fate.Fate.{Fate}
 use Rattle.rapid_model.specs.declared.task_row.TaskRow.{TaskRow}
+use Rattle.cell_meaning.proofs.Lists.{cut_none}
+use Rattle.cell_core.specs.Boards.{BoardData, boards_of}
 use Rattle.cell_core.specs.Keeping.{Keeps}
-use Rattle.cell_core.specs.Soundness.{IsSound}
+use Rattle.cell_core.specs.Soundness.{IsServed}
 
 abbrev arms_of : List TaskRow → List (Option Joints)
 arms_of rows = map (λ row. row.arm) rows
@@ -36,24 +37,16 @@ none_told : (rows : List TaskRow) → count_by is_some (no_ends rows) ≡ 0
 none_told [] = refl
 none_told (row ∷ rows) = omega (arith, sum_by-cons (λ (told : Option Fate). cond (is_some told) 1 0) None (no_ends rows), none_told rows)
 
-no_event : (before after : List Event) (e : Event) → [] ≡ before ++ e ∷ after → ⊥
-no_event [] after e h = cc
-no_event (b ∷ before) after e h = cc
-
-IsSound-none : (cell : CellData) → IsSound cell []
-IsSound-none cell = record { at = λ before after e h. absurd (no_event before after e h) }
-
-pub Keeps-none : (cell : CellData) (arms : List (Option Joints)) (ends : List (Option Fate)) (steps served : ℕ) → IsCell cell
-    → arms ≡ map (λ row. row.arm) cell.tasks → ends ≡ map (λ row. None) cell.tasks → steps ≡ cell.steps → served ≡ 0 → Keeps cell [] arms ends steps served
-Keeps-none cell arms ends steps served limits arms_are ends_are steps_are none = record {
+pub Keeps-none : (cell : CellData) (boards : BoardData) (steps : ℕ) → IsCell cell → boards ≡ boards_of cell.tasks → steps ≡ cell.steps → Keeps cell [] boards steps
+Keeps-none cell boards steps limits are steps_are = subst (λ (b : BoardData). Keeps cell [] b steps) (sym are) (record {
   limits = limits;
-  sound = IsSound-none cell;
-  arm_count = ap length arms_are ∙ length-map cell.tasks (λ (row : TaskRow). row.arm);
-  end_count = ap length ends_are ∙ length-map cell.tasks (λ (row : TaskRow). let end : Option Fate = None in end);
-  arm_at = λ k d h. ap (λ (xs : List (Option Joints)). get_or xs k d) arms_are ∙ arm_at_start cell.tasks k d h;
-  end_at = λ k d h. ap (λ (xs : List (Option Fate)). get_or xs k d) ends_are ∙ no_end_at_start cell.tasks k d h;
+  sound = record { at = cut_none (λ before e. IsServed cell before e) };
+  arm_count = length-map cell.tasks (λ (row : TaskRow). row.arm);
+  end_count = length-map cell.tasks (λ (row : TaskRow). let end : Option Fate = None in end);
+  arm_at = arm_at_start cell.tasks;
+  end_at = no_end_at_start cell.tasks;
   steps_same = steps_are;
-  counted_same = none;
+  counted_same = refl;
   within = omega arith;
-  events = sym (ap (λ (n : ℕ). n + count_by is_some ends) none ∙ omega (arith, ap (λ (xs : List (Option Fate)). count_by is_some xs) ends_are, none_told cell.tasks));
-}
+  events = omega (arith, none_told cell.tasks);
+})

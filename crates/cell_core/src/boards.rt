@@ -1,42 +1,47 @@
-ghost use Rattle.std.specs.Prelude.{◌≡◌, ◌<◌, ◌^◌, ◌+◌, map, length, None, IfOk, is_some, slice_set, slice_index_or};
+ghost use Rattle.std.specs.Prelude.{◌≡◌, ◌<◌, ◌^◌, map, length, None, IfOk, is_some, slice_index_or};
 ghost use Rattle.std.specs.List.{list_all};
-ghost use Rattle.cell_core.specs.Boards.{arm_with, end_with, count_with};
+ghost use Rattle.cell_core.specs.Boards.{arm_with, end_with, count_with, boards_of, boards_with};
 
 use rapid_model::{Answer, Event, Fate, Request, TaskRow};
 use rapid_num::Joints;
 use std::alloc::{AllocError, Global};
+use std::marker::Model;
 
 /// What the history has come to so far: where each task's arm is, the fate that each task has told, and how many events
 /// are counted. Tasks in script order.
 #[derive(Debug, Drop)]
 pub struct Boards {
-    pub arms: Vec<Option<Joints>>,
-    pub ends: Vec<Option<Fate>>,
-    pub counted: u32,
+    arms: Vec<Option<Joints>>,
+    ends: Vec<Option<Fate>>,
+    counted: u32,
+}
+
+impl Model for Boards {
+    ghost use Rattle.cell_core.specs.Boards.{BoardData};
+
+    ghost Value = { BoardData };
+
+    ghost view = { λ b. record { arms = b.arms.items; ends = b.ends.items; counted = b.counted } };
 }
 
 impl Boards {
     /// The boards before the first event.
     pub fn new(alloc: Global, rows: &[TaskRow]) -> Result<Boards, AllocError>
-        ensures arms { IfOk result (λ boards. boards.arms.items ≡ map (λ row. row.arm) rows.now) }
-        ensures ends { IfOk result (λ boards. boards.ends.items ≡ map (λ row. None) rows.now) }
-        ensures counted { IfOk result (λ boards. boards.counted ≡ 0) }
+        ensures { IfOk result (λ boards. boards ≡ boards_of rows.now) }
     {
         Ok(Boards {
             arms: starts_of(alloc, rows)?,
-            ends: rows.iter().map(|_| None).collect(alloc)?,
+            ends: no_ends(alloc, rows)?,
             counted: 0,
         })
     }
 
     /// The boards after one more event.
     pub fn add(&mut self, event: &Event)
-        requires arm { event.now.actor < length self.old.arms.items }
-        requires end { event.now.actor < length self.old.ends.items }
+        requires arm { event.now.actor < length self.old.arms }
+        requires end { event.now.actor < length self.old.ends }
         requires few { self.old.counted < 2 ^ 31 }
-        ensures arms { self.new.arms.items ≡ slice_set self.old.arms.items event.now.actor (arm_with (slice_index_or self.old.arms.items event.now.actor None) event.now) }
-        ensures ends { self.new.ends.items ≡ slice_set self.old.ends.items event.now.actor (end_with (slice_index_or self.old.ends.items event.now.actor None) event.now) }
-        ensures counted { self.new.counted ≡ count_with self.old.counted event.now.request }
+        ensures { self.new ≡ boards_with self.old event.now }
     {
         let task = event.actor as usize;
         self.arms[task] = arm_after_event(self.arms[task], event);
@@ -44,9 +49,39 @@ impl Boards {
         self.counted = count_after(self.counted, &event.request);
     }
 
+    /// Where the arm of a task is, if it has one.
+    pub fn arm(&self, task: u32) -> Option<Joints>
+        requires { task < length self.now.arms }
+        ensures { result ≡ slice_index_or self.now.arms task None }
+    {
+        self.arms[task as usize]
+    }
+
+    /// The fate that a task has told, if it has told one.
+    pub fn end(&self, task: u32) -> Option<Fate>
+        requires { task < length self.now.ends }
+        ensures { result ≡ slice_index_or self.now.ends task None }
+    {
+        self.ends[task as usize]
+    }
+
+    /// The fates that the tasks have told, in script order.
+    pub fn ends(&self) -> &[Option<Fate>]
+        ensures { result.now ≡ self.now.ends }
+    {
+        self.ends.as_slice()
+    }
+
+    /// How many events are counted.
+    pub fn counted(&self) -> u32
+        ensures { result ≡ self.now.counted }
+    {
+        self.counted
+    }
+
     /// Whether every task has told its fate.
     pub fn all_ended(&self) -> bool
-        ensures { result ≡ list_all is_some self.now.ends.items }
+        ensures { result ≡ list_all is_some self.now.ends }
     {
         self.ends.iter().all(|end| end.is_some())
     }
@@ -56,6 +91,12 @@ fn starts_of(alloc: Global, rows: &[TaskRow]) -> Result<Vec<Option<Joints>>, All
     ensures { IfOk result (λ arms. arms.items ≡ map (λ row. row.arm) rows.now) }
 {
     rows.iter().map(|row| row.arm).collect(alloc)
+}
+
+fn no_ends(alloc: Global, rows: &[TaskRow]) -> Result<Vec<Option<Fate>>, AllocError>
+    ensures { IfOk result (λ ends. ends.items ≡ map (λ row. None) rows.now) }
+{
+    rows.iter().map(|_| None).collect(alloc)
 }
 
 fn arm_after_event(arm: Option<Joints>, event: &Event) -> Option<Joints>
@@ -81,7 +122,7 @@ fn count_after(counted: u32, request: &Request) -> u32
     ensures { result ≡ count_with counted request.now }
 {
     match request {
-        Request::End { .. } => counted,
-        Request::Look | Request::Position | Request::Setpoint { .. } => counted + 1,
+        Request::Input { .. } | Request::End { .. } => counted,
+        _ => counted + 1,
     }
 }

@@ -1,17 +1,20 @@
-ghost use Rattle.std.specs.Prelude.{◌≡◌, Some};
-ghost use Rattle.rapid_model.specs.Requests.{may_tell, row_allows};
+ghost use Rattle.std.specs.Prelude.{◌≡◌, ◌&&◌, List};
+ghost use Rattle.rapid_model.specs.CellData.{CellData};
+ghost use Rattle.rapid_model.specs.Requests.{is_served, may_tell, suits_task};
+ghost use Rattle.rapid_model.specs.declared.event.Event.{Event};
 
 use rapid_model::{Fate, Request, TaskRow};
 
-/// Whether a task of this row may ask this.
+/// Whether the request is served, and a task of this row may ask it.
 pub fn allows(row: &TaskRow, request: &Request) -> bool
-    ensures { result ≡ row_allows (Some row.now) request.now }
+    ensures { (cell : CellData) (mine : List Event) → result ≡ (is_served request.now && suits_task cell row.now mine request.now) }
 {
     match request {
         Request::Look => true,
         Request::Position => row.arm.is_some(),
         Request::Setpoint { to } => row.arm.is_some() && to.is_position(),
         Request::End { fate } => may_be_told(*fate),
+        _ => false,
     }
 }
 
@@ -19,7 +22,7 @@ fn may_be_told(fate: Fate) -> bool
     ensures { result ≡ may_tell fate }
 {
     match fate {
-        Fate::Done | Fate::Fault(_) => true,
+        Fate::Done | Fate::Exit | Fate::Fault(_) => true,
         Fate::Held | Fate::Cut => false,
     }
 }

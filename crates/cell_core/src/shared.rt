@@ -1,10 +1,12 @@
 ghost use Rattle.std.specs.Prelude.{◌≡◌, ◌≤◌, ◌<◌, ◌+◌, List, [], ◌∷◌, ◌++◌, length, IfOk, IfErr, IsTrue, not, Some, slice_get, map};
 ghost use Rattle.std.specs.Vec.{vec_capacity};
 ghost use Rattle.rapid_model.specs.CellData.{CellData};
-ghost use Rattle.rapid_model.specs.Requests.{part_of, may_ask, has_ended, fits_request};
-ghost use Rattle.rapid_meaning.specs.Answers.{answer_after, can_be_served, position_of};
-ghost use Rattle.rapid_meaning.specs.Histories.{all_ended, is_spent, fate_after, fates_after};
-ghost use Rattle.cell_core.specs.Serving.{served, history_with};
+ghost use Rattle.rapid_model.specs.Fits.{fits_request, fitting_in};
+ghost use Rattle.rapid_model.specs.Own.{part_of, has_ended};
+ghost use Rattle.rapid_model.specs.Requests.{may_ask};
+ghost use Rattle.cell_meaning.specs.Answers.{answer_after, can_be_served, position_of};
+ghost use Rattle.cell_meaning.specs.Histories.{all_ended, is_spent, fate_after, fates_after};
+ghost use Rattle.cell_core.specs.Serving.{served, history_with, IfAnswered};
 ghost use Rattle.cell_core.specs.Soundness.{IsSound, IsServed};
 ghost use Rattle.cell_core.specs.Boards.{standing};
 
@@ -36,7 +38,7 @@ impl Model for Core {
 
     ghost view = { λ c. record { cell = c.cell; history = c.events.items } };
 
-    ghost invariant = { λ c. Keeps c.cell c.events.items c.boards.arms.items c.boards.ends.items c.steps c.boards.counted × HasRoom c.cell (vec_capacity c.events) (vec_capacity c.fates) × (c.fates.items ≡ []) };
+    ghost invariant = { λ c. Keeps c.cell c.events.items c.boards c.steps × HasRoom c.cell (vec_capacity c.events) (vec_capacity c.fates) × (c.fates.items ≡ []) };
 }
 
 impl Core {
@@ -73,6 +75,7 @@ impl Core {
         ensures cell { self.new.cell ≡ self.old.cell }
         ensures served { result ≡ served self.old.cell self.old.history actor request }
         ensures history { self.new.history ≡ history_with self.old.history actor request result }
+        ensures fits { IfAnswered result (λ answer. IsTrue (fits_request (fitting_in self.old.cell (part_of actor self.old.history)) request answer)) }
     {
         if self.is_used_up(&request) {
             return Served::Spent;
@@ -90,10 +93,10 @@ impl Core {
     fn is_used_up(&self, request: &Request) -> bool
         ensures { can_be_served self.now.cell self.now.history request.now ≡ not result }
     {
-        let counted = self.boards.counted;
+        let counted = self.boards.counted();
         match request {
-            Request::End { .. } => false,
-            Request::Look | Request::Position | Request::Setpoint { .. } => self.steps <= counted,
+            Request::Input { .. } | Request::End { .. } => false,
+            _ => self.steps <= counted,
         }
     }
 
@@ -101,14 +104,13 @@ impl Core {
     fn answer(&self, actor: u32, request: &Request) -> Answer
         requires { IsTrue (may_ask self.now.cell actor (part_of actor self.now.history) request.now) }
         ensures answer { result ≡ answer_after self.now.cell self.now.history actor request.now }
-        ensures fits { IsTrue (fits_request request.now result) }
+        ensures fits { IsTrue (fits_request (fitting_in self.now.cell (part_of actor self.now.history)) request.now result) }
     {
-        let boards = &self.boards;
         match request {
             Request::Look => Answer::Go { seen: 0 },
-            Request::Position => place(boards.arms[actor as usize]),
+            Request::Position => place(self.boards.arm(actor)),
             Request::Setpoint { .. } => Answer::Given,
-            Request::End { .. } => Answer::Ok,
+            _ => Answer::Ok,
         }
     }
 
@@ -137,7 +139,7 @@ impl Core {
         requires { task < length self.now.cell.tasks }
         ensures { result ≡ has_ended (part_of task self.now.history) }
     {
-        self.boards.ends[task as usize].is_some()
+        self.boards.end(task).is_some()
     }
 
     /// Whether every task has ended.
@@ -151,7 +153,7 @@ impl Core {
     pub fn spent(&self) -> bool
         ensures { result ≡ is_spent self.now.cell self.now.history }
     {
-        !self.all_ended() && self.steps <= self.boards.counted
+        !self.all_ended() && self.steps <= self.boards.counted()
     }
 
     /// How a task stands: the fate that it told, else cut where the steps are spent, else held.
@@ -159,7 +161,7 @@ impl Core {
         requires { task < length self.now.cell.tasks }
         ensures { result ≡ fate_after self.now.cell self.now.history task }
     {
-        stands(self.boards.ends[task as usize], self.spent())
+        stands(self.boards.end(task), self.spent())
     }
 
     /// How many events there are.
@@ -199,7 +201,7 @@ impl Core {
             boards,
             mut fates,
         } = self;
-        tell(boards.ends.as_slice(), spent, &mut fates);
+        tell(boards.ends(), spent, &mut fates);
         (events, fates)
     }
 }

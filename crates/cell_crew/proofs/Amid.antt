@@ -1,20 +1,21 @@
 -- A machine amid a run: what an event of its own task makes of it.
-use Rattle.std.proofs.Common.{◌≡◌, Bool, true, false, cond, List, [], ◌∷◌, ◌++◌, Option, Some, None, refl, ap, sym, ◌∙◌, subst, inl, inr}
+use Rattle.std.proofs.Common.{◌≡◌, Bool, true, false, cond, List, [], ◌∷◌, ◌++◌, Option, Some, None, refl, ap, sym, ◌∙◌, subst}
 use Rattle.std.specs.Prelude.{IsTrue, IsSomeAnd, is_some, is_none}
+use Rattle.std.specs.Option.{option_or}
 use Rattle.std.proofs.lemmas.List.{append-nil}
 use Rattle.std.proofs.lemmas.List.Elements.{filter-append}
-use Rattle.rapid_model.specs.Requests.{fate_told, or_else, end_of, has_ended, fits_request}
+use Rattle.rapid_model.specs.Own.{fate_told, end_of, has_ended}
 use Rattle.rapid_model.specs.declared.answer.Answer.{Answer}
 use Rattle.rapid_model.specs.declared.event.Event.{Event}
 use Rattle.rapid_model.specs.declared.fate.Fate.{Fate}
 use Rattle.rapid_model.specs.declared.request.Request.{Request}
-use Rattle.rapid_model.specs.declared.request.Request.TheVariants.{Look, Position, Setpoint, End}
+use Rattle.rapid_model.specs.declared.request.Request.TheVariants.{End}
 use Rattle.rapid_model.specs.declared.tree.Tree.{Tree}
-use Rattle.rapid_meaning.specs.Runs.{asks, ended, asked_after}
-use Rattle.rapid_meaning.specs.Traces.{answers_in, IsTrace}
-use Rattle.rapid_meaning.proofs.Lists.{last_or_before}
-use Rattle.rapid_meaning.proofs.Suits.{end_is_last}
-use Rattle.rapid_meaning.proofs.MoreEvents.{end_of-more}
+use Rattle.move_meaning.specs.Runs.{asks, ended, asked_after}
+use Rattle.move_meaning.specs.Traces.{answers_in, fits_move, IsTrace}
+use Rattle.cell_meaning.proofs.Lists.{cut_none, cut_more}
+use Rattle.move_meaning.proofs.Suits.{end_is_last}
+use Rattle.cell_meaning.proofs.MoreEvents.{end_of-more}
 use Rattle.task_machine.specs.MachineData.{MachineData, request_of}
 use Rattle.task_machine.specs.Standing.{StandsFor, fits_last}
 use Rattle.cell_crew.specs.Crew.{before_end}
@@ -22,40 +23,24 @@ use Rattle.cell_crew.specs.UnderWay.{HasAsked, IsDue, UnderWay}
 
 pub no_trace : (tree : Tree) → IsTrace tree []
 no_trace tree = record {
-  asked = λ before after e p. asked before after e p;
-  fits = λ before after e p. fits before after e p;
+  asked = cut_none (λ before e. asked_after tree (answers_in before) ≡ asks e.request);
+  fits = cut_none (λ before e. IsTrue (fits_move e.request e.answer));
 }
-  where
-    asked : (before after : List Event) (e : Event) → [] ≡ before ++ e ∷ after → asked_after tree (answers_in before) ≡ asks e.request
-    asked [] after e p = cc
-    asked (b ∷ before) after e p = cc
-
-    fits : (before after : List Event) (e : Event) → [] ≡ before ++ e ∷ after → IsTrue (fits_request e.request e.answer)
-    fits [] after e p = cc
-    fits (b ∷ before) after e p = cc
 
 answers_in-more : (mine : List Event) (e : Event) → answers_in (mine ++ e ∷ []) ≡ answers_in mine ++ e.answer ∷ []
 answers_in-more [] e = refl
 answers_in-more (f ∷ mine) e = ap (λ (xs : List Answer). f.answer ∷ xs) (answers_in-more mine e)
 
 -- one more event that the tree asks, with an answer that fits
-pub trace_more : (tree : Tree) (mine : List Event) (e : Event) → IsTrace tree mine → asked_after tree (answers_in mine) ≡ asks e.request → IsTrue (fits_request e.request e.answer)
+pub trace_more : (tree : Tree) (mine : List Event) (e : Event) → IsTrace tree mine → asked_after tree (answers_in mine) ≡ asks e.request → IsTrue (fits_move e.request e.answer)
     → IsTrace tree (mine ++ e ∷ [])
 trace_more tree mine e trace due fit = record {
-  asked = λ before after x p.
-      elim (last_or_before mine before after e x p) [
-        | inl w ↦ ap (λ (es : List Event). asked_after tree (answers_in es)) w.0 ∙ due ∙ ap (λ (y : Event). asks y.request) (sym w.1)
-        | inr w ↦ trace.asked before w.0 x w.1
-      ];
-  fits = λ before after x p.
-      elim (last_or_before mine before after e x p) [
-        | inl w ↦ subst (λ (y : Event). IsTrue (fits_request y.request y.answer)) (sym w.1) fit
-        | inr w ↦ trace.fits before w.0 x w.1
-      ];
+  asked = cut_more (λ before x. asked_after tree (answers_in before) ≡ asks x.request) mine e trace.asked due;
+  fits = cut_more (λ before x. IsTrue (fits_move x.request x.answer)) mine e trace.fits fit;
 }
 
 -- the events before the End are all, where none is an End
-not_told : {A : Type 0} (told later : Option A) → is_some (or_else told later) ≡ false → (told ≡ None) × (is_some later ≡ false)
+not_told : {A : Type 0} (told later : Option A) → is_some (option_or told later) ≡ false → (told ≡ None) × (is_some later ≡ false)
 not_told (Some x) later p = cc
 not_told None later p = (refl, p)
 
@@ -75,7 +60,7 @@ before_end_told mine e fate told =
 pub ended_more : (mine : List Event) (e : Event) → has_ended mine ≡ false → has_ended (mine ++ e ∷ []) ≡ is_some (fate_told e.request)
 ended_more mine e p = ap (λ (o : Option Fate). is_some o) (end_of-more mine e) ∙ by (end_of mine) (fate_told e.request) p
   where
-    by : (a b : Option Fate) → is_some a ≡ false → is_some (or_else a b) ≡ is_some b
+    by : (a b : Option Fate) → is_some a ≡ false → is_some (option_or a b) ≡ is_some b
     by None b q = refl
     by (Some x) b q = cc
 
@@ -99,28 +84,22 @@ pub due_of : (m : MachineData) (mine : List Event) (request : Request) → Under
 due_of m mine request way going last = same_request m mine request (asked_of m mine way going) last
 
 told_end : (request : Request) → is_some (fate_told request) ≡ true → (fate : Fate) × (request ≡ End fate)
-told_end Look p = cc
-told_end Position p = cc
-told_end (Setpoint to) p = cc
 told_end (End fate) p = (fate, refl)
+told_end _ p = cc
 
 untold : (request : Request) → is_some (fate_told request) ≡ false → fate_told request ≡ None
-untold Look p = refl
-untold Position p = refl
-untold (Setpoint to) p = refl
 untold (End fate) p = cc
+untold _ p = refl
 
-fit_of : (o : Option Request) (request : Request) (answer : Answer) → o ≡ Some request → IsSomeAnd o (λ r. IsTrue (fits_request r answer)) → IsTrue (fits_request request answer)
-fit_of o request answer last fit = subst (λ (x : Option Request). IsSomeAnd x (λ r. IsTrue (fits_request r answer))) last fit
+fit_of : (o : Option Request) (request : Request) (answer : Answer) → o ≡ Some request → IsSomeAnd o (λ r. IsTrue (fits_move r answer)) → IsTrue (fits_move request answer)
+fit_of o request answer last fit = subst (λ (x : Option Request). IsSomeAnd x (λ r. IsTrue (fits_move r answer))) last fit
 
-fits_last_of : (request : Request) (answer : Answer) → is_some (fate_told request) ≡ false → IsTrue (fits_request request answer) → IsTrue (fits_last (Some request) answer)
-fits_last_of Look answer p fit = fit
-fits_last_of Position answer p fit = fit
-fits_last_of (Setpoint to) answer p fit = fit
+fits_last_of : (request : Request) (answer : Answer) → is_some (fate_told request) ≡ false → IsTrue (fits_move request answer) → IsTrue (fits_last (Some request) answer)
 fits_last_of (End fate) answer p fit = cc
+fits_last_of _ answer p fit = fit
 
 -- an answer that fits the last request, which is no End, may be handed on
-pub may_hand_on : (m : MachineData) (asked : Request) (answer : Answer) → request_of m ≡ Some asked → is_some (fate_told asked) ≡ false → IsSomeAnd (request_of m) (λ r. IsTrue (fits_request r answer))
+pub may_hand_on : (m : MachineData) (asked : Request) (answer : Answer) → request_of m ≡ Some asked → is_some (fate_told asked) ≡ false → IsSomeAnd (request_of m) (λ r. IsTrue (fits_move r answer))
     → IsTrue (fits_last (request_of m) answer)
 may_hand_on m asked answer last going fit =
     subst (λ (o : Option Request). IsTrue (fits_last o answer)) (sym last) (fits_last_of asked answer going (fit_of (request_of m) asked answer last fit))
@@ -128,11 +107,11 @@ may_hand_on m asked answer last going fit =
 same_last : (m : MachineData) (asked request : Request) → request_of m ≡ Some asked → request_of m ≡ Some request → asked ≡ request
 same_last m asked request last other = let both : Some asked ≡ Some request = sym last ∙ other in cc
 
-fit_event : (m : MachineData) (e : Event) (answer : Answer) → request_of m ≡ Some e.request → e.answer ≡ answer → IsSomeAnd (request_of m) (λ r. IsTrue (fits_request r answer)) → IsTrue (fits_request e.request e.answer)
-fit_event m e answer last given fit = subst (λ (a : Answer). IsTrue (fits_request e.request a)) (sym given) (fit_of (request_of m) e.request answer last fit)
+fit_event : (m : MachineData) (e : Event) (answer : Answer) → request_of m ≡ Some e.request → e.answer ≡ answer → IsSomeAnd (request_of m) (λ r. IsTrue (fits_move r answer)) → IsTrue (fits_move e.request e.answer)
+fit_event m e answer last given fit = subst (λ (a : Answer). IsTrue (fits_move e.request a)) (sym given) (fit_of (request_of m) e.request answer last fit)
 
 -- after the answer to its End a machine is left as it is
-pub left_as_is : (m : MachineData) (asked : Request) (answer : Answer) → request_of m ≡ Some asked → is_some (fate_told asked) ≡ true → IsSomeAnd (request_of m) (λ r. IsTrue (fits_request r answer))
+pub left_as_is : (m : MachineData) (asked : Request) (answer : Answer) → request_of m ≡ Some asked → is_some (fate_told asked) ≡ true → IsSomeAnd (request_of m) (λ r. IsTrue (fits_move r answer))
     → (mine : List Event) (e : Event) → UnderWay m mine → has_ended mine ≡ false → request_of m ≡ Some e.request → e.answer ≡ answer → UnderWay m (mine ++ e ∷ [])
 left_as_is m asked answer asked_last is_end fits mine e way going last given =
     let end = told_end asked is_end in
@@ -149,7 +128,7 @@ left_as_is m asked answer asked_last is_end fits mine e way going last given =
     }
 
 -- after another answer it has asked the next request
-pub handed_on : (m later : MachineData) (asked request : Request) (answer : Answer) → request_of m ≡ Some asked → is_some (fate_told asked) ≡ false → IsSomeAnd (request_of m) (λ r. IsTrue (fits_request r answer))
+pub handed_on : (m later : MachineData) (asked request : Request) (answer : Answer) → request_of m ≡ Some asked → is_some (fate_told asked) ≡ false → IsSomeAnd (request_of m) (λ r. IsTrue (fits_move r answer))
     → later.tree ≡ m.tree → request_of later ≡ Some request
     → ((answers : List Answer) → StandsFor m answers → asked_after later.tree (answers ++ answer ∷ []) ≡ asks request)
     → ((answers : List Answer) → StandsFor m answers → StandsFor later (answers ++ answer ∷ []))

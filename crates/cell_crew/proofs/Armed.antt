@@ -5,8 +5,8 @@ use Rattle.std.specs.List.{list_all, AllByRecursion}
 use Rattle.rapid_model.specs.CellData.{CellData}
 use Rattle.rapid_model.specs.declared.task_row.TaskRow.{TaskRow}
 use Rattle.rapid_model.specs.declared.tree.Tree.{Tree}
-use Rattle.rapid_meaning.specs.Traces.{SuitsTask}
-use Rattle.rapid_meaning.proofs.Suits.{tree_suits}
+use Rattle.move_meaning.specs.Traces.{SuitsTask}
+use Rattle.move_meaning.proofs.Suits.{tree_suits}
 use Rattle.task_machine.specs.MachineData.{MachineData}
 use Rattle.cell_crew.specs.Crew.{trees_of, IsFresh, IsCrew}
 
@@ -32,7 +32,7 @@ pub crew_of : (machines fresh : List MachineData) (cell : CellData) (rows : List
 crew_of machines fresh cell rows is has same all armed =
     let count : length fresh ≡ length cell.tasks = same ∙ ap length (sym has) in
     let arms : IsTrue (list_all (λ row. is_some row.arm) cell.tasks) = subst (λ (rs : List TaskRow). IsTrue (list_all (λ row. is_some row.arm) rs)) (sym has) armed in
-    let crew : IsCrew fresh cell = record { one_each = count; fresh = all; suit = suits_armed fresh cell count arms } in
+    let crew : IsCrew fresh cell = record { one_each = count; fresh = all; suit = record { each = suits_armed fresh cell count arms } } in
     subst (λ (ms : List MachineData). IsCrew ms cell) (sym is) crew
 
 -- what pushes made of an empty list

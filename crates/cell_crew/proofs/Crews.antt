@@ -4,12 +4,12 @@ use Rattle.std.specs.Prelude.{slice_get, slice_set}
 use Rattle.std.specs.List.{AllByRecursion}
 use Rattle.std.proofs.lemmas.Bool.{cases_lt}
 use Rattle.rapid_model.specs.CellData.{CellData}
-use Rattle.rapid_model.specs.Requests.{part_of}
+use Rattle.rapid_model.specs.Own.{part_of}
 use Rattle.rapid_model.specs.declared.event.Event.{Event}
 use Rattle.rapid_model.specs.declared.tree.Tree.{Tree}
-use Rattle.rapid_meaning.specs.Histories.{Asking}
-use Rattle.rapid_meaning.specs.Turns.{TakesTurn}
-use Rattle.rapid_meaning.proofs.MoreEvents.{part_of-other}
+use Rattle.cell_meaning.specs.Asking.{Asking}
+use Rattle.cell_meaning.specs.Turns.{TakesTurn}
+use Rattle.cell_meaning.proofs.MoreEvents.{part_of-other}
 use Rattle.task_machine.specs.MachineData.{MachineData}
 use Rattle.cell_crew.specs.Crew.{trees_of, IsFresh}
 use Rattle.cell_crew.specs.UnderWay.{UnderWay, AreUnderWay}

@@ -5,8 +5,8 @@ use Rattle.rapid_model.specs.declared.event.Event.{Event}
 use Rattle.rapid_model.specs.declared.fate.Fate.TheVariants as fates
 use Rattle.rapid_model.specs.declared.request.Request.TheVariants.{Look, End}
 use Rattle.rapid_model.specs.declared.tree.Tree.{Tree}
-use Rattle.rapid_meaning.specs.Statements.{perform_list}
-use Rattle.rapid_meaning.specs.Runs.{asked_after}
+use Rattle.move_meaning.specs.Statements.{perform_list}
+use Rattle.move_meaning.specs.Runs.{asked_after}
 use Rattle.task_machine.specs.MachineData.{MachineData, fresh}
 use Rattle.task_machine.specs.declared.stage.Stage.TheVariants.{Ending}
 use Rattle.cell_crew.specs.Crew.{trees_of, IsFresh, before_end}

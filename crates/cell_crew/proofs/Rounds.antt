@@ -4,17 +4,16 @@ use Rattle.std.proofs.Common.{Some}
 use Rattle.std.proofs.lemmas.Bool.{ltb-false}
 use Rattle.std.specs.Prelude.{slice_get, slice_set, nat_lt, false}
 use Rattle.rapid_model.specs.CellData.{CellData}
-use Rattle.rapid_model.specs.Requests.{part_of}
+use Rattle.rapid_model.specs.Own.{part_of}
 use Rattle.rapid_model.specs.declared.tree.Tree.{Tree}
-use Rattle.rapid_meaning.specs.Runs.{tree_asks}
-use Rattle.rapid_meaning.specs.Traces.{SuitsTask}
+use Rattle.move_meaning.specs.Traces.{SuitsTask, SuitTasks}
 use Rattle.task_machine.specs.MachineData.{MachineData}
-use Rattle.cell_crew.specs.Crew.{trees_of}
-use Rattle.cell_crew.specs.UnderWay.{UnderWay, AreUnderWay, AreSuited}
+use Rattle.cell_crew.specs.Crew.{trees_of, AsksAs, AskAsTrees}
+use Rattle.cell_crew.specs.UnderWay.{UnderWay, AreUnderWay}
 use Rattle.cell_crew.proofs.Crews.{trees_set, tree_at, under_way_turn}
 use Rattle.rapid_model.specs.declared.event.Event.{Event}
-use Rattle.rapid_meaning.specs.Histories.{Asking}
-use Rattle.rapid_meaning.specs.Turns.{TakesTurn, TakeTurns, IsRound, AfterRounds}
+use Rattle.cell_meaning.specs.Asking.{Asking}
+use Rattle.cell_meaning.specs.Turns.{TakesTurn, TakeTurns, IsRound, AfterRounds}
 
 pub no_turns : (asking : Asking) (cell : CellData) (history : List Event) → TakeTurns asking cell 0 0 history history
 unfolding TakeTurns
@@ -77,31 +76,34 @@ unfolding AfterRounds
 rounds_more asking cell before after past round = record { rounds = suc past.rounds; made = (before, past.made, round) }
 
 -- the tasks before this one have taken their turns
-pub record HaveTurned (start machines : List MachineData) (first cell : CellData) (before history : List Event) (k : ℕ) : Type 0 where
+pub record HaveTurned (asking : Asking) (start machines : List MachineData) (first cell : CellData) (before history : List Event) (k : ℕ) : Type 0 where
   pub same_cell : cell ≡ first
   pub trees : trees_of machines ≡ trees_of start
   pub ways : AreUnderWay machines history
-  pub turns : TakeTurns (tree_asks (trees_of start)) first 0 k before history
+  pub turns : TakeTurns asking first 0 k before history
 
-pub none_turned : (machines : List MachineData) (cell : CellData) (history : List Event) → AreUnderWay machines history → HaveTurned machines machines cell cell history history 0
-none_turned machines cell history ways = record { same_cell = refl; trees = refl; ways = ways; turns = no_turns (tree_asks (trees_of machines)) cell history }
+pub none_turned : (asking : Asking) (machines : List MachineData) (cell : CellData) (history : List Event) → AreUnderWay machines history → HaveTurned asking machines machines cell cell history history 0
+none_turned asking machines cell history ways = record { same_cell = refl; trees = refl; ways = ways; turns = no_turns asking cell history }
 
 start_tree : (start machines : List MachineData) (k : ℕ) (m : MachineData) → trees_of machines ≡ trees_of start → slice_get machines k ≡ Some m → slice_get (trees_of start) k ≡ Some m.tree
 start_tree start machines k m trees at = ap (λ (ts : List Tree). slice_get ts k) (sym trees) ∙ tree_at machines k m at
 
-pub suited_at : (start machines : List MachineData) (first cell : CellData) (before history : List Event) (k : ℕ) (m : MachineData) → AreSuited start first → HaveTurned start machines first cell before history k
-    → slice_get machines k ≡ Some m → SuitsTask m.tree cell k
-suited_at start machines first cell before history k m suited turned at =
+pub suited_at : (asking : Asking) (start machines : List MachineData) (first cell : CellData) (before history : List Event) (k : ℕ) (m : MachineData) → SuitTasks (trees_of start) first
+    → HaveTurned asking start machines first cell before history k → slice_get machines k ≡ Some m → SuitsTask m.tree cell k
+suited_at asking start machines first cell before history k m suited turned at =
     subst (λ (c : CellData). SuitsTask m.tree c k) (sym turned.same_cell) (suited.each k m.tree (start_tree start machines k m turned.trees at))
 
-pub more_turned : (start machines : List MachineData) (first cell later_cell : CellData) (before history after : List Event) (k : ℕ) (m later : MachineData) → HaveTurned start machines first cell before history k
+pub asks_at : (asking : Asking) (start machines : List MachineData) (first cell : CellData) (before history : List Event) (k : ℕ) (m : MachineData) → AskAsTrees asking (trees_of start)
+    → HaveTurned asking start machines first cell before history k → slice_get machines k ≡ Some m → AsksAs asking k m.tree
+asks_at asking start machines first cell before history k m asks turned at = asks.each k m.tree (start_tree start machines k m turned.trees at)
+
+pub more_turned : (asking : Asking) (start machines : List MachineData) (first cell later_cell : CellData) (before history after : List Event) (k : ℕ) (m later : MachineData)
+    → HaveTurned asking start machines first cell before history k
     → slice_get machines k ≡ Some m → later_cell ≡ cell → later.tree ≡ m.tree → UnderWay later (part_of k after)
-    → ((trees : List Tree) → slice_get trees k ≡ Some m.tree → TakesTurn (tree_asks trees) cell k history after)
-    → HaveTurned start (slice_set machines k later) first later_cell before after (k + 1)
-more_turned start machines first cell later_cell before history after k m later turned at same tree way turn =
-    let asking : Asking = tree_asks (trees_of start) in
-    let taken : TakesTurn asking first k history after =
-    subst (λ (c : CellData). TakesTurn asking c k history after) turned.same_cell (turn (trees_of start) (start_tree start machines k m turned.trees at)) in
+    → TakesTurn asking cell k history after
+    → HaveTurned asking start (slice_set machines k later) first later_cell before after (k + 1)
+more_turned asking start machines first cell later_cell before history after k m later turned at same tree way turn =
+    let taken : TakesTurn asking first k history after = subst (λ (c : CellData). TakesTurn asking c k history after) turned.same_cell turn in
     record {
       same_cell = same ∙ turned.same_cell;
       trees = trees_set machines k m later at tree ∙ turned.trees;
@@ -110,37 +112,42 @@ more_turned start machines first cell later_cell before history after k m later 
     }
 
 -- where all turns left the history no longer than it was, it is the same
-pub all_turned_same : (start machines : List MachineData) (first cell : CellData) (before history : List Event) (k : ℕ) → HaveTurned start machines first cell before history k → length history ≤ length before → history ≡ before
-all_turned_same start machines first cell before history k turned short = turns_same (tree_asks (trees_of start)) first 0 k before history turned.turns short
+pub all_turned_same : (asking : Asking) (start machines : List MachineData) (first cell : CellData) (before history : List Event) (k : ℕ) → HaveTurned asking start machines first cell before history k
+    → length history ≤ length before → history ≡ before
+all_turned_same asking start machines first cell before history k turned short = turns_same asking first 0 k before history turned.turns short
 
 -- a crew after some rounds
-pub record AmidRounds (start machines : List MachineData) (first cell : CellData) (history : List Event) : Type 0 where
+pub record AmidRounds (asking : Asking) (start machines : List MachineData) (first cell : CellData) (history : List Event) : Type 0 where
   pub same_cell : cell ≡ first
   pub trees : trees_of machines ≡ trees_of start
   pub ways : AreUnderWay machines history
-  pub past : AreRounds (tree_asks (trees_of start)) first history
+  pub past : AreRounds asking first history
 
-pub before_rounds : (start machines : List MachineData) (cell : CellData) (history : List Event) → trees_of machines ≡ trees_of start → AreUnderWay machines [] → history ≡ [] → AmidRounds start machines cell cell history
-before_rounds start machines cell history trees ways none = record {
+pub before_rounds : (asking : Asking) (start machines : List MachineData) (cell : CellData) (history : List Event) → trees_of machines ≡ trees_of start → AreUnderWay machines [] → history ≡ []
+    → AmidRounds asking start machines cell cell history
+before_rounds asking start machines cell history trees ways none = record {
   same_cell = refl;
   trees = trees;
   ways = subst (λ (h : List Event). AreUnderWay machines h) (sym none) ways;
-  past = no_rounds (tree_asks (trees_of start)) cell history none;
+  past = no_rounds asking cell history none;
 }
 
-round_at : (start machines : List MachineData) (first cell : CellData) (history after : List Event) → AmidRounds start machines first cell history → IsRound (tree_asks (trees_of machines)) cell history after
-    → IsRound (tree_asks (trees_of start)) first history after
-round_at start machines first cell history after amid round =
-    subst (λ (c : CellData). IsRound (tree_asks (trees_of start)) c history after) amid.same_cell
-    (subst (λ (ts : List Tree). IsRound (tree_asks ts) cell history after) amid.trees round)
+pub suit_amid : (asking : Asking) (start machines : List MachineData) (first cell : CellData) (history : List Event) → AmidRounds asking start machines first cell history → SuitTasks (trees_of start) first
+    → SuitTasks (trees_of machines) cell
+suit_amid asking start machines first cell history amid suit =
+    subst (λ (c : CellData). SuitTasks (trees_of machines) c) (sym amid.same_cell) (subst (λ (ts : List Tree). SuitTasks ts first) (sym amid.trees) suit)
 
-pub one_more_round : (start machines later : List MachineData) (first cell later_cell : CellData) (history after : List Event) → AmidRounds start machines first cell history
-    → later_cell ≡ cell → trees_of later ≡ trees_of machines → AreUnderWay later after → IsRound (tree_asks (trees_of machines)) cell history after → AmidRounds start later first later_cell after
-one_more_round start machines later first cell later_cell history after amid same trees ways round = record {
+pub ask_amid : (asking : Asking) (start machines : List MachineData) (first cell : CellData) (history : List Event) → AmidRounds asking start machines first cell history → AskAsTrees asking (trees_of start)
+    → AskAsTrees asking (trees_of machines)
+ask_amid asking start machines first cell history amid asks = subst (λ (ts : List Tree). AskAsTrees asking ts) (sym amid.trees) asks
+
+pub one_more_round : (asking : Asking) (start machines later : List MachineData) (first cell later_cell : CellData) (history after : List Event) → AmidRounds asking start machines first cell history
+    → later_cell ≡ cell → trees_of later ≡ trees_of machines → AreUnderWay later after → IsRound asking cell history after → AmidRounds asking start later first later_cell after
+one_more_round asking start machines later first cell later_cell history after amid same trees ways round = record {
   same_cell = same ∙ amid.same_cell;
   trees = trees ∙ amid.trees;
   ways = ways;
-  past = rounds_more (tree_asks (trees_of start)) first history after amid.past (round_at start machines first cell history after amid round);
+  past = rounds_more asking first history after amid.past (subst (λ (c : CellData). IsRound asking c history after) amid.same_cell round);
 }
 
 pub no_longer : (n m a b : ℕ) → n ≡ a → m ≡ b → nat_lt n m ≡ false → b ≤ a

@@ -4,7 +4,7 @@ use Rattle.rapid_model.specs.CellData.{CellData}
 use Rattle.rapid_model.specs.declared.answer.Answer.{Answer}
 use Rattle.rapid_model.specs.declared.event.Event.{Event}
 use Rattle.rapid_model.specs.declared.request.Request.{Request}
-use Rattle.rapid_meaning.specs.Answers.{can_be_served}
+use Rattle.cell_meaning.specs.Answers.{can_be_served}
 use Rattle.cell_core.specs.Soundness.{IsServed}
 
 abbrev pub event_of : ℕ → Request → Answer → Event

@@ -1,15 +1,13 @@
 -- Machines amid a run: each has asked what its task asks next.
 use Rattle.std.specs.Prelude.{◌≡◌, ℕ, Bool, true, false, List, Some, slice_get}
-use Rattle.rapid_model.specs.CellData.{CellData}
-use Rattle.rapid_model.specs.Requests.{part_of, has_ended}
+use Rattle.rapid_model.specs.Own.{part_of, has_ended}
 use Rattle.rapid_model.specs.declared.event.Event.{Event}
 use Rattle.rapid_model.specs.declared.request.Request.{Request}
-use Rattle.rapid_model.specs.declared.tree.Tree.{Tree}
-use Rattle.rapid_meaning.specs.Runs.{asks, ended, asked_after}
-use Rattle.rapid_meaning.specs.Traces.{answers_in, IsTrace, SuitsTask}
+use Rattle.move_meaning.specs.Runs.{asks, ended, asked_after}
+use Rattle.move_meaning.specs.Traces.{answers_in, IsTrace}
 use Rattle.task_machine.specs.MachineData.{MachineData, request_of}
 use Rattle.task_machine.specs.Standing.{StandsFor}
-use Rattle.cell_crew.specs.Crew.{trees_of, before_end}
+use Rattle.cell_crew.specs.Crew.{before_end}
 
 -- the request that the machine asked last is the one that its tree asks after the task's own events
 pub record HasAsked (m : MachineData) (mine : List Event) : Type 0 where
@@ -31,7 +29,3 @@ pub record UnderWay (m : MachineData) (mine : List Event) : Type 0 where
 -- each machine is that of its task after the history
 pub record AreUnderWay (machines : List MachineData) (history : List Event) : Type 0 where
   pub each : (task : ℕ) (m : MachineData) → slice_get machines task ≡ Some m → UnderWay m (part_of task history)
-
--- the tree of each machine suits its task
-pub record AreSuited (machines : List MachineData) (cell : CellData) : Type 0 where
-  pub each : (task : ℕ) (tree : Tree) → slice_get (trees_of machines) task ≡ Some tree → SuitsTask tree cell task

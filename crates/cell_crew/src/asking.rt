@@ -1,8 +1,10 @@
 //! What passes between a machine and the core.
 ghost use Rattle.std.specs.Prelude.{◌≡◌, ◌∷◌, ◌++◌, List, [], false, IsTrue, IsSomeAnd, Some, is_some};
 ghost use Rattle.std.specs.List.{AllByRecursion};
-ghost use Rattle.rapid_model.specs.Requests.{part_of, may_ask, has_ended, fate_told, fits_request};
+ghost use Rattle.rapid_model.specs.Own.{part_of, has_ended, fate_told};
+ghost use Rattle.rapid_model.specs.Requests.{may_ask};
 ghost use Rattle.rapid_model.specs.declared.event.Event.{Event};
+ghost use Rattle.move_meaning.specs.Traces.{fits_move};
 ghost use Rattle.task_machine.specs.MachineData.{request_of};
 ghost use Rattle.cell_crew.specs.Crew.{IsFresh, trees_of};
 ghost use Rattle.cell_crew.specs.UnderWay.{UnderWay, AreUnderWay};
@@ -41,7 +43,7 @@ pub fn ask(core: &mut Core, task: u32, request: Request) -> Option<Answer>
 
 /// Hands the answer to its last request to a machine, which asks the next one; after its End it asks nothing.
 pub fn hand_on(machine: &mut Machine, answer: Answer)
-    requires { IsSomeAnd (request_of machine.old) (λ request. IsTrue (fits_request request answer)) }
+    requires { IsSomeAnd (request_of machine.old) (λ request. IsTrue (fits_move request answer)) }
     ensures tree { machine.new.tree ≡ machine.old.tree }
     ensures under_way { (mine : List Event) (e : Event) → UnderWay machine.old mine → has_ended mine ≡ false → request_of machine.old ≡ Some e.request → e.answer ≡ answer → UnderWay machine.new (mine ++ e ∷ []) }
 {

@@ -6,12 +6,14 @@ use Rattle.rapid_num.specs.declared.joints.Joints.{Joints}
 use Rattle.joint_planner.specs.Setpoints.{PlanData, greatest_change, step_of}
 use Rattle.rapid_model.specs.declared.answer.Answer.TheVariants as answers
 use Rattle.rapid_model.specs.declared.fate.Fate.TheVariants as fates
+use Rattle.rapid_model.specs.declared.fate.Fault.TheVariants.{TrapFlood, ZoneStop}
 use Rattle.rapid_model.specs.declared.request.Request.TheVariants.{Look, Position, Setpoint, End}
 use Rattle.rapid_model.specs.declared.tree.Tree.{Tree}
 use Rattle.rapid_model.specs.declared.tree.Form.TheVariants.{Move}
-use Rattle.rapid_meaning.specs.Outcomes.{ask, and_then}
-use Rattle.rapid_meaning.specs.Statements.{setpoints, move_from, perform, attempt, perform_list, when_given, when_let}
-use Rattle.rapid_meaning.specs.Runs.{asks, ended, unfit, asked_after}
+use Rattle.rapid_model.specs.declared.zone_name.ZoneName.TheVariants as zones
+use Rattle.move_meaning.specs.Outcomes.{ask, and_then}
+use Rattle.move_meaning.specs.Statements.{setpoints, move_from, perform, attempt, perform_list, when_given, when_let}
+use Rattle.move_meaning.specs.Runs.{asks, ended, unfit, asked_after}
 use Rattle.task_machine.specs.Left.{left_to_ask, left_at}
 use Rattle.task_machine.specs.MachineData.{fresh, request_at}
 use Rattle.task_machine.specs.Stages.{starts_in_reach, count_of}
@@ -78,3 +80,14 @@ fits = refl
 
 nothing_fits_the_end : fits_last (Some (End fates.Done)) answers.Ok ≡ false
 nothing_fits_the_end = refl
+
+flooded : left_at (moves_to (pos 2500)) 0 Looking (answers.Flood ∷ []) ≡ asks (End (fates.Fault TrapFlood))
+unfolding ask and_then attempt perform_list when_let
+flooded = refl
+
+stopped : left_at (moves_to (pos 2500)) 0 (Moving thirds 1) (answers.Stopped (zones.Cell 0) ∷ []) ≡ asks (End (fates.Fault ZoneStop))
+unfolding ask and_then setpoints when_given
+stopped = refl
+
+no_trap_fits : fits_last (Some Look) (answers.Trap 1 0) ≡ false
+no_trap_fits = refl

@@ -8,17 +8,18 @@ use Rattle.joint_planner.specs.Setpoints.{setpoint}
 use Rattle.rapid_model.specs.declared.answer.Answer.{Answer}
 use Rattle.rapid_model.specs.declared.answer.Answer.TheVariants as answers
 use Rattle.rapid_model.specs.declared.fate.Fate.TheVariants as fates
-use Rattle.rapid_model.specs.declared.fate.Fault.TheVariants.{JointRange}
+use Rattle.rapid_model.specs.declared.fate.Fault.TheVariants.{JointRange, TrapFlood, ZoneStop}
 use Rattle.rapid_model.specs.declared.request.Request.{Request}
 use Rattle.rapid_model.specs.declared.request.Request.TheVariants.{Look, Position, Setpoint, End}
 use Rattle.rapid_model.specs.declared.tree.Tree.{Tree}
 use Rattle.rapid_model.specs.declared.tree.Stmt.{Stmt}
 use Rattle.rapid_model.specs.declared.tree.Form.{Form}
 use Rattle.rapid_model.specs.declared.tree.Form.TheVariants.{Move}
-use Rattle.rapid_meaning.specs.Outcomes.{asks, ends, Doing, ask, and_then}
-use Rattle.rapid_meaning.specs.Runs as runs
-use Rattle.rapid_meaning.specs.Runs.{next_of, told, asked_after}
-use Rattle.rapid_meaning.specs.Statements.{setpoints, when_given, move_from, perform, when_let, attempt, perform_list}
+use Rattle.move_meaning.specs.Outcomes.{asks, ends, Doing, ask, and_then}
+use Rattle.move_meaning.specs.Runs as runs
+use Rattle.move_meaning.specs.Runs.{next_of, told, asked_after}
+use Rattle.rapid_model.specs.declared.zone_name.ZoneName.{ZoneName}
+use Rattle.move_meaning.specs.Statements.{setpoints, when_given, move_from, perform, when_let, attempt, perform_list}
 use Rattle.task_machine.specs.Left.{rest_located, list_located, left_at}
 use Rattle.task_machine.specs.MachineData.{request_at}
 use Rattle.task_machine.specs.Stages.{target_of, count_of, starts_in_reach, KeepsStage}
@@ -70,6 +71,12 @@ pub given_one : (start target : Joints) (n left : ℕ) (next : Doing) (more : Li
 unfolding and_then setpoints ask when_given
 given_one start target n left next more = refl
 
+-- a zone that stops the move ends the task
+stopped : (start target : Joints) (n left : ℕ) (next : Doing) (zone : ZoneName) (more : List Answer)
+    → next_of (and_then (setpoints start target n (suc left)) next (answers.Stopped zone ∷ more)) ≡ told (fates.Fault ZoneStop) more
+unfolding and_then setpoints ask when_given
+stopped start target n left next zone more = refl
+
 -- the last one leaves what comes after
 pub given_all : (start target : Joints) (n : ℕ) (next : Doing) (more : List Answer) → and_then (setpoints start target n 0) next more ≡ next more
 unfolding and_then setpoints
@@ -103,6 +110,15 @@ pub left-looked_out_of_reach : (list : List Stmt) (begun : ℕ) (s : Stmt) (seen
     → next_of (perform_list (drop begun list) (answers.Go seen ∷ more)) ≡ told (fates.Fault JointRange) more
 left-looked_out_of_reach list begun s seen more first out = rw first (looked_out_of_reach s (drop (begun + 1) list) seen more out)
 
+-- too many waiting interrupts end the task
+pub left-flooded : (list : List Stmt) (begun : ℕ) (more : List Answer) → begun < length list
+    → next_of (perform_list (drop begun list) (answers.Flood ∷ more)) ≡ told (fates.Fault TrapFlood) more
+unfolding perform_list and_then attempt ask when_let
+left-flooded [] zero more below = absurd (omega arith)
+left-flooded [] (suc begun) more below = absurd (omega arith)
+left-flooded (s ∷ ss) zero more below = refl
+left-flooded (s ∷ ss) (suc begun) more below = left-flooded ss begun more (omega arith)
+
 pub left-located : (list : List Stmt) (begun : ℕ) (s : Stmt) (start : Joints) (more : List Answer) → drop begun list ≡ s ∷ drop (begun + 1) list
     → IsTrue (is_position start)
     → next_of (list_located (drop begun list) (answers.At start ∷ more))
@@ -120,6 +136,12 @@ pub left-given_all : (start target : Joints) (n given : ℕ) (next : Doing) (mor
 left-given_all start target n given next more last =
     let one : n - given ≡ suc 0 = omega arith in
     rw one (ap next_of (given_one start target n 0 next more ∙ given_all start target n next more))
+
+pub left-stopped : (start target : Joints) (n given : ℕ) (next : Doing) (zone : ZoneName) (more : List Answer) → given < n
+    → next_of (and_then (setpoints start target n (n - given)) next (answers.Stopped zone ∷ more)) ≡ told (fates.Fault ZoneStop) more
+left-stopped start target n given next zone more below =
+    let one : n - given ≡ suc (n - (given + 1)) = omega arith in
+    rw one (stopped start target n (n - (given + 1)) next zone more)
 
 pub left-setpoint_asked : (start target : Joints) (n given : ℕ) (next : Doing) → given < n
     → next_of (and_then (setpoints start target n (n - given)) next []) ≡ runs.asks (Setpoint (setpoint start target n (given + 1)))

@@ -6,9 +6,9 @@ use Rattle.rapid_model.specs.declared.tree.Tree.{Tree}
 use Rattle.rapid_model.specs.declared.tree.Stmt.{Stmt}
 use Rattle.rapid_model.specs.declared.tree.Form.{Form}
 use Rattle.rapid_model.specs.declared.tree.Form.TheVariants.{Move}
-use Rattle.rapid_meaning.specs.Outcomes.{Doing, ask, and_then, unfit}
-use Rattle.rapid_meaning.specs.Statements.{cap_of, setpoints, move_from, perform_list}
-use Rattle.rapid_meaning.specs.Runs.{Next, next_of, told, asked_after}
+use Rattle.move_meaning.specs.Outcomes.{Doing, ask, and_then, unfit}
+use Rattle.move_meaning.specs.Statements.{cap_of, setpoints, move_from, perform_list}
+use Rattle.move_meaning.specs.Runs.{Next, next_of, told, asked_after}
 use Rattle.task_machine.specs.MachineData.{MachineData}
 use Rattle.task_machine.specs.declared.stage.Stage.{Stage}
 use Rattle.task_machine.specs.declared.stage.Stage.TheVariants.{Fresh, Looking, Locating, Moving, Ending}

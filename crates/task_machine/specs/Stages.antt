@@ -3,7 +3,7 @@ use Rattle.std.specs.Prelude.{ℕ, ◌<◌, Bool, false, IsTrue, List, [], ◌�
 use Rattle.rapid_num.specs.Reach.{is_reachable}
 use Rattle.rapid_num.specs.declared.joints.Joints.{Joints}
 use Rattle.joint_planner.specs.Setpoints.{setpoint_count}
-use Rattle.rapid_meaning.specs.Statements.{cap_of}
+use Rattle.move_meaning.specs.Statements.{cap_of}
 use Rattle.rapid_model.specs.Requests.{may_tell}
 use Rattle.rapid_model.specs.declared.tree.Stmt.{Stmt}
 use Rattle.rapid_model.specs.declared.tree.Form.{Form}

@@ -1,10 +1,10 @@
 -- Which answers a machine stands for.
 use Rattle.std.specs.Prelude.{◌≡◌, List, ◌++◌, Option, Some, None, Bool, false}
-use Rattle.rapid_model.specs.Requests.{fits_request}
 use Rattle.rapid_model.specs.declared.answer.Answer.{Answer}
 use Rattle.rapid_model.specs.declared.request.Request.{Request}
-use Rattle.rapid_model.specs.declared.request.Request.TheVariants.{Look, Position, Setpoint, End}
-use Rattle.rapid_meaning.specs.Runs.{asked_after}
+use Rattle.rapid_model.specs.declared.request.Request.TheVariants.{End}
+use Rattle.move_meaning.specs.Runs.{asked_after}
+use Rattle.move_meaning.specs.Traces.{fits_move}
 use Rattle.task_machine.specs.MachineData.{MachineData}
 use Rattle.task_machine.specs.Left.{left_to_ask}
 
@@ -16,6 +16,4 @@ pub record StandsFor (m : MachineData) (answers : List Answer) : Type 0 where
 abbrev pub fits_last : Option Request → Answer → Bool
 fits_last None answer = false
 fits_last (Some (End fate)) answer = false
-fits_last (Some Look) answer = fits_request Look answer
-fits_last (Some Position) answer = fits_request Position answer
-fits_last (Some (Setpoint to)) answer = fits_request (Setpoint to) answer
+fits_last (Some request) answer = fits_move request answer

@@ -1,8 +1,8 @@
 ghost use Rattle.std.specs.Prelude.{◌≡◌, ◌<◌, ◌≤◌, ◌+◌, ℕ, List, ◌∷◌, length, drop, IsTrue, IsSome};
 ghost use Rattle.rapid_num.specs.Reach.{is_position};
 ghost use Rattle.rapid_model.specs.declared.answer.Answer.TheVariants as answers;
-ghost use Rattle.rapid_meaning.specs.Runs.{next_of};
-ghost use Rattle.rapid_meaning.specs.Statements.{perform_list};
+ghost use Rattle.move_meaning.specs.Runs.{next_of};
+ghost use Rattle.move_meaning.specs.Statements.{perform_list};
 ghost use Rattle.task_machine.specs.MachineData.{request_at};
 ghost use Rattle.task_machine.specs.Left.{left_at};
 ghost use Rattle.task_machine.specs.Stages.{KeepsStage, target_of};
@@ -25,9 +25,9 @@ pub(crate) fn advance(tree: &Tree, begun: usize, stage: Stage, answer: Answer) -
 {
     match stage {
         Stage::Fresh | Stage::Ending { .. } => unreachable!(),
-        Stage::Looking => (begun, after_look(tree, begun)),
+        Stage::Looking => (begun, after_look(tree, begun, answer)),
         Stage::Locating => (begun, after_answer(tree, begun, answer)),
-        Stage::Moving { plan, given } => after_setpoint(tree, begun, plan, given),
+        Stage::Moving { plan, given } => after_setpoint(tree, begun, plan, given, answer),
     }
 }
 
@@ -61,8 +61,25 @@ fn target_of(form: &Form) -> &Joints
     }
 }
 
+/// The cell told whether the statement may begin; too many waiting interrupts end the task.
+fn after_look(tree: &Tree, begun: usize, answer: Answer) -> Stage
+    requires some { begun < length tree.now.list }
+    requires fits { IsTrue (fits_last (request_at stages.Looking) answer) }
+    ensures kept { KeepsStage tree.now.list begun result }
+    ensures some { IsSome (request_at result) }
+    ensures left { (more : List Answer) → left_at tree.now begun stages.Looking (answer ∷ more) ≡ left_at tree.now begun result more }
+{
+    match answer {
+        Answer::Go { .. } => after_leave(tree, begun),
+        Answer::Flood => Stage::Ending {
+            fate: Fate::Fault(Fault::TrapFlood),
+        },
+        _ => unreachable!(),
+    }
+}
+
 /// The statement may begin: where its target is out of reach the task ends with a fault.
-fn after_look(tree: &Tree, begun: usize) -> Stage
+fn after_leave(tree: &Tree, begun: usize) -> Stage
     requires { begun < length tree.now.list }
     ensures kept { KeepsStage tree.now.list begun result }
     ensures some { IsSome (request_at result) }
@@ -87,7 +104,7 @@ fn after_answer(tree: &Tree, begun: usize, answer: Answer) -> Stage
 {
     match answer {
         Answer::At(start) => after_position(tree, begun, &start),
-        Answer::Ok | Answer::Go { .. } | Answer::Given => unreachable!(),
+        _ => unreachable!(),
     }
 }
 
@@ -103,8 +120,34 @@ fn after_position(tree: &Tree, begun: usize, start: &Joints) -> Stage
     Stage::Moving { plan, given: 0 }
 }
 
+/// The cell gave the setpoint, or a zone stopped the move, which ends the task.
+fn after_setpoint(
+    tree: &Tree,
+    begun: usize,
+    plan: Plan,
+    given: u32,
+    answer: Answer,
+) -> (usize, Stage)
+    requires kept { KeepsStage tree.now.list begun (stages.Moving plan given) }
+    requires fits { IsTrue (fits_last (request_at (stages.Moving plan given)) answer) }
+    ensures kept { KeepsStage tree.now.list result.0 result.1 }
+    ensures some { IsSome (request_at result.1) }
+    ensures left { (more : List Answer) → left_at tree.now begun (stages.Moving plan given) (answer ∷ more) ≡ left_at tree.now result.0 result.1 more }
+{
+    match answer {
+        Answer::Given => after_given(tree, begun, plan, given),
+        Answer::Stopped(_) => (
+            begun,
+            Stage::Ending {
+                fate: Fate::Fault(Fault::ZoneStop),
+            },
+        ),
+        _ => unreachable!(),
+    }
+}
+
 /// A setpoint was given: another follows, or the next statement.
-fn after_setpoint(tree: &Tree, begun: usize, plan: Plan, given: u32) -> (usize, Stage)
+fn after_given(tree: &Tree, begun: usize, plan: Plan, given: u32) -> (usize, Stage)
     requires { KeepsStage tree.now.list begun (stages.Moving plan given) }
     ensures kept { KeepsStage tree.now.list result.0 result.1 }
     ensures some { IsSome (request_at result.1) }

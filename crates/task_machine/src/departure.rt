@@ -1,5 +1,5 @@
 ghost use Rattle.std.specs.Prelude.{◌≡◌, IsTrue, pos};
-ghost use Rattle.rapid_meaning.specs.Statements.{cap_of};
+ghost use Rattle.move_meaning.specs.Statements.{cap_of};
 ghost use Rattle.rapid_num.specs.Reach.{is_reachable};
 ghost use Rattle.task_machine.specs.Stages.{target_of, count_of};
 

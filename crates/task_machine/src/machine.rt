@@ -1,7 +1,7 @@
 ghost use Rattle.std.specs.Prelude.{◌≡◌, List, [], ◌∷◌, ◌++◌, IsTrue, Some, IsSome};
 ghost use Rattle.rapid_model.specs.declared.answer.Answer.{Answer};
-ghost use Rattle.rapid_meaning.specs.Runs as runs;
-ghost use Rattle.rapid_meaning.specs.Runs.{asked_after};
+ghost use Rattle.move_meaning.specs.Runs as runs;
+ghost use Rattle.move_meaning.specs.Runs.{asked_after};
 ghost use Rattle.task_machine.specs.MachineData.{fresh, request_of};
 ghost use Rattle.task_machine.specs.Standing.{StandsFor, fits_last};
 

@@ -6,15 +6,14 @@ pub append-requires : goal.append-requires
 append-requires c =
     let core = c.self.inside in
     let served = rw (← c.self.view_is) at c.requires in
-    let room = room_for_event core.cell core.events.items core.boards.arms.items core.boards.ends.items core.steps core.boards.counted c.args.event c.self.invariant.0 served in
+    let room = room_for_event core.cell core.events.items core.boards core.steps c.args.event c.self.invariant.0 served in
     omega (arith, core.events.ok.0, room, c.self.invariant.1.events)
 
 pub invariant_of-self : goal.invariant_of-self
 invariant_of-self c =
     let core = c.self.inside in
     let served = rw (← c.self.view_is) at c.requires in (
-      rw (c.append.ensures.items, c.add.ensures.arms, c.add.ensures.ends, c.add.ensures.counted)
-          (Keeps-more core.cell core.events.items core.boards.arms.items core.boards.ends.items core.steps core.boards.counted c.args.event c.self.invariant.0 served),
+      rw (c.append.ensures.items, c.add.ensures) (Keeps-more core.cell core.events.items core.boards core.steps c.args.event c.self.invariant.0 served),
       rw c.append.ensures.capacity c.self.invariant.1,
       c.self.invariant.2,
     )

@@ -1,0 +1,172 @@
+-- A run by turns is legal and whole, and there is one at most.
+use Rattle.std.proofs.Common.{◌≡◌, ℕ, zero, suc, ◌+◌, ◌-◌, ◌≤◌, ◌<◌, List, [], ◌∷◌, ◌++◌, length, ap, inl, inr, sym, ◌∙◌, subst, arith, length-append, zero-add}
+use Rattle.std.specs.Prelude.{IsTrue}
+use Rattle.std.proofs.lemmas.Bool.{cases_lt}
+use Rattle.rapid_model.specs.CellData.{CellData, IsCell}
+use Rattle.rapid_model.specs.Fits.{fits_request, fitting_in}
+use Rattle.rapid_model.specs.Own.{part_of}
+use Rattle.rapid_model.specs.declared.answer.Answer.{Answer}
+use Rattle.rapid_model.specs.declared.event.Event.{Event}
+use Rattle.rapid_model.specs.declared.request.Request.{Request}
+use Rattle.cell_meaning.specs.Answers.{answer_after}
+use Rattle.cell_meaning.specs.Asking.{Asking}
+use Rattle.cell_meaning.specs.Histories.{Follows, is_fit, IsLegal, IsWhole}
+use Rattle.cell_meaning.specs.Premises.{OnlyTasksAsk, AsksOne, AsksWhatItMay, AllMightAsk}
+use Rattle.cell_meaning.specs.Turns.{TakesTurn, TakeTurns, IsRound, AfterRounds, IsByTurns}
+use Rattle.cell_meaning.proofs.Lists.{cut_none, cut_more, cut_before}
+use Rattle.cell_meaning.proofs.Positions.{answer_fits}
+
+-- each actor might ask what it asked
+pub legal_asked : (asks : Asking) (cell : CellData) (history : List Event) → AsksWhatItMay asks cell → IsLegal asks cell history → AllMightAsk cell history
+legal_asked asks cell history may legal = record {
+  might = λ before after e p. may.may before e.actor e.request (legal_before asks cell history before (e ∷ after) p legal) (legal.at before after e p).asked;
+}
+  where
+    legal_before : (asks : Asking) (cell : CellData) (history front back : List Event) → history ≡ front ++ back → IsLegal asks cell history → IsLegal asks cell front
+    legal_before asks cell history front back p legal = record {
+      at = cut_before (λ before e. Follows asks cell before e) history front back p legal.at;
+      fits = cut_before (λ before e. IsTrue (is_fit cell before e)) history front back p legal.fits;
+    }
+
+pub legal_none : (asks : Asking) (cell : CellData) → IsLegal asks cell []
+legal_none asks cell = record { at = cut_none (λ before e. Follows asks cell before e); fits = cut_none (λ before e. IsTrue (is_fit cell before e)) }
+
+-- what those who ask have to keep for a run to be legal
+record Keeping (asks : Asking) (cell : CellData) : Type 0 where
+  limits : IsCell cell
+  may : AsksWhatItMay asks cell
+
+-- one more event that follows
+legal_more : (asks : Asking) (cell : CellData) (history : List Event) (e : Event) → Keeping asks cell → IsLegal asks cell history → Follows asks cell history e
+    → IsLegal asks cell (history ++ e ∷ [])
+legal_more asks cell history e keeping legal follows =
+    let may = keeping.may.may history e.actor e.request legal follows.asked in
+    let fits = answer_fits cell history e.actor e.request keeping.limits (legal_asked asks cell history keeping.may legal) may in
+    let fit : IsTrue (is_fit cell history e) = subst (λ (a : Answer). IsTrue (fits_request (fitting_in cell (part_of e.actor history)) e.request a)) (sym follows.answered) fits in
+    record {
+      at = cut_more (λ before x. Follows asks cell before x) history e legal.at follows;
+      fits = cut_more (λ before x. IsTrue (is_fit cell before x)) history e legal.fits fit;
+    }
+
+legal_turn : (asks : Asking) (cell : CellData) (actor : ℕ) (before after : List Event) → Keeping asks cell → IsLegal asks cell before → TakesTurn asks cell actor before after → IsLegal asks cell after
+legal_turn asks cell actor before after keeping legal (inl s) =
+    subst (λ (h : List Event). IsLegal asks cell h) (sym s.added) (legal_more asks cell before s.event keeping legal s.follows)
+legal_turn asks cell actor before after keeping legal (inr r) = subst (λ (h : List Event). IsLegal asks cell h) (sym r.same) legal
+
+legal_turns : (asks : Asking) (cell : CellData) (actor left : ℕ) (before after : List Event) → Keeping asks cell → IsLegal asks cell before → TakeTurns asks cell actor left before after
+    → IsLegal asks cell after
+unfolding TakeTurns
+legal_turns asks cell actor zero before after keeping legal same = subst (λ (h : List Event). IsLegal asks cell h) (sym same) legal
+legal_turns asks cell actor (suc left) before after keeping legal t =
+    legal_turns asks cell (actor + 1) left t.0 after keeping (legal_turn asks cell actor before t.0 keeping legal t.1) t.2
+
+legal_rounds : (asks : Asking) (cell : CellData) (rounds : ℕ) (history : List Event) → Keeping asks cell → AfterRounds asks cell rounds history → IsLegal asks cell history
+unfolding AfterRounds
+legal_rounds asks cell zero history keeping none = subst (λ (h : List Event). IsLegal asks cell h) (sym none) (legal_none asks cell)
+legal_rounds asks cell (suc rounds) history keeping made =
+    legal_turns asks cell 0 (length cell.tasks) made.0 history keeping (legal_rounds asks cell rounds made.0 keeping made.1) made.2
+
+pub by_turns_legal : (asks : Asking) (cell : CellData) (history : List Event) → IsCell cell → AsksWhatItMay asks cell → IsByTurns asks cell history → IsLegal asks cell history
+by_turns_legal asks cell history limits may run = legal_rounds asks cell run.rounds history (record { limits = limits; may = may }) run.made
+
+-- a turn makes no history shorter
+turn_grows : (asks : Asking) (cell : CellData) (actor : ℕ) (before after : List Event) → TakesTurn asks cell actor before after → length before ≤ length after
+turn_grows asks cell actor before after (inl s) = subst (λ (h : List Event). length before ≤ length h) (sym s.added) (omega (arith, length-append before (s.event ∷ [])))
+turn_grows asks cell actor before after (inr r) = subst (λ (h : List Event). length before ≤ length h) (sym r.same) (omega arith)
+
+turns_grow : (asks : Asking) (cell : CellData) (actor left : ℕ) (before after : List Event) → TakeTurns asks cell actor left before after → length before ≤ length after
+unfolding TakeTurns
+turns_grow asks cell actor zero before after same = let e : length after ≡ length before = ap length same in omega (arith, e)
+turns_grow asks cell actor (suc left) before after t =
+    omega (arith, turn_grows asks cell actor before t.0 t.1, turns_grow asks cell (actor + 1) left t.0 after t.2)
+
+-- where a turn adds nothing, no event of its actor follows; and if none follows of later ones either, none does at all
+still_rests : (asks : Asking) (cell : CellData) (actor : ℕ) (before between : List Event) → TakesTurn asks cell actor before between → length between ≤ length before
+    → (e : Event) → actor ≤ e.actor → Follows asks cell before e → (actor < e.actor → Follows asks cell between e → ⊥) → ⊥
+still_rests asks cell actor before between (inl s) short e low follows later =
+    let grown : length between ≡ length before + 1 = ap length s.added ∙ length-append before (s.event ∷ []) in
+    absurd (omega (arith, grown))
+still_rests asks cell actor before between (inr r) short e low follows later =
+    elim (cases_lt actor e.actor) [
+      | inl lt ↦ later lt (subst (λ (h : List Event). Follows asks cell h e) (sym r.same) follows)
+      | inr ge ↦ let same : e.actor ≡ actor = omega arith in r.none e same follows
+    ]
+
+-- where turns leave the history as long as it was, no event of their actors follows
+turns_rest : (asks : Asking) (cell : CellData) (actor left : ℕ) (before after : List Event) → TakeTurns asks cell actor left before after → length after ≤ length before
+    → (e : Event) → actor ≤ e.actor → e.actor < actor + left → Follows asks cell before e → ⊥
+unfolding TakeTurns
+turns_rest asks cell actor zero before after same short e low high follows = absurd (omega arith)
+turns_rest asks cell actor (suc left) before after t short e low high follows =
+    let later_grow : length t.0 ≤ length after = turns_grow asks cell (actor + 1) left t.0 after t.2 in
+    let first_grow : length before ≤ length t.0 = turn_grows asks cell actor before t.0 t.1 in
+    still_rests asks cell actor before t.0 t.1 (omega arith) e low follows
+    (λ lt f. turns_rest asks cell (actor + 1) left t.0 after t.2 (omega arith) e (omega arith) (omega arith) f)
+
+pub by_turns_whole : (asks : Asking) (cell : CellData) (history : List Event) → OnlyTasksAsk asks cell → IsByTurns asks cell history → IsWhole asks cell history
+by_turns_whole asks cell history only run = record {
+  over = λ e follows.
+      turns_rest asks cell 0 (length cell.tasks) history history run.over (omega arith) e (omega arith)
+      (let within : e.actor < length cell.tasks = only.within e.actor _ e.request follows.asked in omega arith) follows;
+}
+
+-- so one event at most follows of each actor
+one_follows : (asks : Asking) (cell : CellData) (before : List Event) (actor : ℕ) (r r' : Request) (x x' : Answer) → AsksOne asks
+    → Follows asks cell before (record { actor = actor; request = r; answer = x }) → Follows asks cell before (record { actor = actor; request = r'; answer = x' })
+    → (r ≡ r') × (x ≡ x')
+one_follows asks cell before actor r r' x x' ones f f' =
+    let same : r ≡ r' = ones.one actor _ r r' f.asked f'.asked in
+    (same, f.answered ∙ ap (λ (q : Request). answer_after cell before actor q) same ∙ sym f'.answered)
+
+one_event : (asks : Asking) (cell : CellData) (before : List Event) (e e' : Event) → AsksOne asks → e'.actor ≡ e.actor → Follows asks cell before e → Follows asks cell before e' → e ≡ e'
+one_event asks cell before e e' ones by f f' =
+    let moved : Event = record { actor = e.actor; request = e'.request; answer = e'.answer } in
+    let is : e' ≡ moved = ap (λ (a : ℕ). let x : Event = record { actor = a; request = e'.request; answer = e'.answer } in x) by in
+    let both = one_follows asks cell before e.actor e.request e'.request e.answer e'.answer ones f (subst (λ (x : Event). Follows asks cell before x) is f') in
+    ap (λ (r : Request). let x : Event = record { actor = e.actor; request = r; answer = e.answer } in x) both.0
+    ∙ ap (λ (a : Answer). let x : Event = record { actor = e.actor; request = e'.request; answer = a } in x) both.1
+    ∙ sym is
+
+one_turn : (asks : Asking) (cell : CellData) (actor : ℕ) (before after other : List Event) → AsksOne asks → TakesTurn asks cell actor before after → TakesTurn asks cell actor before other → after ≡ other
+one_turn asks cell actor before after other ones (inl s) (inl t) =
+    s.added ∙ ap (λ (e : Event). before ++ e ∷ []) (one_event asks cell before s.event t.event ones (t.by ∙ sym s.by) s.follows t.follows) ∙ sym t.added
+one_turn asks cell actor before after other ones (inl s) (inr r) = absurd (r.none s.event s.by s.follows)
+one_turn asks cell actor before after other ones (inr r) (inl s) = absurd (r.none s.event s.by s.follows)
+one_turn asks cell actor before after other ones (inr r) (inr q) = r.same ∙ sym q.same
+
+one_turns : (asks : Asking) (cell : CellData) (actor left : ℕ) (before after other : List Event) → AsksOne asks → TakeTurns asks cell actor left before after → TakeTurns asks cell actor left before other → after ≡ other
+unfolding TakeTurns
+one_turns asks cell actor zero before after other ones t u = t ∙ sym u
+one_turns asks cell actor (suc left) before after other ones t u =
+    let same : t.0 ≡ u.0 = one_turn asks cell actor before t.0 u.0 ones t.1 u.1 in
+    one_turns asks cell (actor + 1) left t.0 after other ones t.2 (subst (λ (h : List Event). TakeTurns asks cell (actor + 1) left h other) (sym same) u.2)
+
+one_after : (asks : Asking) (cell : CellData) (rounds : ℕ) (history other : List Event) → AsksOne asks → AfterRounds asks cell rounds history → AfterRounds asks cell rounds other → history ≡ other
+unfolding AfterRounds
+one_after asks cell zero history other ones t u = t ∙ sym u
+one_after asks cell (suc rounds) history other ones t u =
+    let same : t.0 ≡ u.0 = one_after asks cell rounds t.0 u.0 ones t.1 u.1 in
+    one_turns asks cell 0 (length cell.tasks) t.0 history other ones t.2 (subst (λ (h : List Event). IsRound asks cell h other) (sym same) u.2)
+
+-- after a round that adds nothing, more rounds change nothing
+stays : (asks : Asking) (cell : CellData) (more rounds : ℕ) (history later : List Event) → AsksOne asks → AfterRounds asks cell rounds history → IsRound asks cell history history
+    → AfterRounds asks cell (more + rounds) later → later ≡ history
+unfolding AfterRounds
+stays asks cell zero rounds history later ones made over other = one_after asks cell rounds later history ones (subst (λ (n : ℕ). AfterRounds asks cell n later) (zero-add rounds) other) made
+stays asks cell (suc more) rounds history later ones made over other =
+    let count : suc more + rounds ≡ suc (more + rounds) = omega arith in
+    let goes : AfterRounds asks cell (suc (more + rounds)) later = subst (λ (n : ℕ). AfterRounds asks cell n later) count other in
+    let before : goes.0 ≡ history = stays asks cell more rounds history goes.0 ones made over goes.1 in
+    one_turns asks cell 0 (length cell.tasks) history later history ones (subst (λ (h : List Event). IsRound asks cell h later) before goes.2) over
+
+at_most_as_long : (asks : Asking) (cell : CellData) (history other : List Event) → AsksOne asks → (run : IsByTurns asks cell history) (that : IsByTurns asks cell other) → run.rounds ≤ that.rounds → other ≡ history
+at_most_as_long asks cell history other ones run that le =
+    stays asks cell (that.rounds - run.rounds) run.rounds history other ones run.made run.over
+    (let n : that.rounds ≡ (that.rounds - run.rounds) + run.rounds = omega arith in subst (λ (k : ℕ). AfterRounds asks cell k other) n that.made)
+
+pub by_turns_one : (asks : Asking) (cell : CellData) (history other : List Event) → AsksOne asks → IsByTurns asks cell history → IsByTurns asks cell other → history ≡ other
+by_turns_one asks cell history other ones run that =
+    elim (cases_lt run.rounds that.rounds) [
+      | inl lt ↦ sym (at_most_as_long asks cell history other ones run that (omega arith))
+      | inr ge ↦ at_most_as_long asks cell other history ones that run ge
+    ]

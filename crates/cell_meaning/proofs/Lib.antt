@@ -1,0 +1,8 @@
+pub mod Lists
+pub mod Served
+pub mod MoreEvents
+pub mod NoChanges
+pub mod Positions
+pub mod ByTurns
+pub mod Ending
+mod Examples

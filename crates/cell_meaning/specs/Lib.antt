@@ -1,0 +1,10 @@
+pub mod Motion
+pub mod Stored
+pub mod Meetings
+pub mod Changes
+pub mod Answers
+pub mod Asking
+pub mod Histories
+pub mod Premises
+pub mod Over
+pub mod Turns

@@ -1,0 +1,32 @@
+-- What the laws on whole histories take of those who ask.
+use Rattle.std.specs.Prelude.{◌≡◌, ℕ, ◌<◌, false, List, ◌∷◌, ◌++◌, length, IsTrue}
+use Rattle.rapid_model.specs.CellData.{CellData}
+use Rattle.rapid_model.specs.Own.{part_of, answers_of, has_ended}
+use Rattle.rapid_model.specs.Requests.{may_ask}
+use Rattle.rapid_model.specs.declared.answer.Answer.{Answer}
+use Rattle.rapid_model.specs.declared.event.Event.{Event}
+use Rattle.rapid_model.specs.declared.request.Request.{Request}
+use Rattle.cell_meaning.specs.Asking.{Asking}
+use Rattle.cell_meaning.specs.Histories.{IsLegal}
+
+-- none but tasks of the cell ask
+pub record OnlyTasksAsk (asks : Asking) (cell : CellData) : Type 0 where
+  pub within : (actor : ℕ) (answers : List Answer) (request : Request) → asks actor answers request → actor < length cell.tasks
+
+-- after given answers an actor asks one request at most
+pub record AsksOne (asks : Asking) : Type 0 where
+  pub one : (actor : ℕ) (answers : List Answer) (r r' : Request) → asks actor answers r → asks actor answers r' → r ≡ r'
+
+-- after what the cell answered so far, an actor asks only what it may
+pub record AsksWhatItMay (asks : Asking) (cell : CellData) : Type 0 where
+  pub may : (history : List Event) (actor : ℕ) (request : Request) → IsLegal asks cell history → asks actor (answers_of actor history) request
+      → IsTrue (may_ask cell actor (part_of actor history) request)
+
+-- after what the cell answered so far, a task that has not ended asks something
+pub record AsksUntilItsEnd (asks : Asking) (cell : CellData) : Type 0 where
+  pub goes_on : (history : List Event) (task : ℕ) → task < length cell.tasks → IsLegal asks cell history → has_ended (part_of task history) ≡ false
+      → (request : Request) × asks task (answers_of task history) request
+
+-- each actor might ask what it asked
+pub record AllMightAsk (cell : CellData) (history : List Event) : Type 0 where
+  pub might : (before after : List Event) (e : Event) → history ≡ before ++ e ∷ after → IsTrue (may_ask cell e.actor (part_of e.actor before) e.request)

@@ -1,0 +1,60 @@
+-- The values of signals and persistents after a history.
+use Rattle.std.specs.Prelude.{ℕ, ◌-◌, Bool, true, false, List, [], map, Option, Some, None, slice_get, slice_set, slice_index_or}
+use Rattle.std.specs.List.{fold}
+use Rattle.std.specs.Option.{unwrap_or}
+use Rattle.rapid_model.specs.CellData.{CellData}
+use Rattle.rapid_model.specs.declared.answer.Answer.{Answer}
+use Rattle.rapid_model.specs.declared.answer.Answer.TheVariants as answers
+use Rattle.rapid_model.specs.declared.event.Event.{Event}
+use Rattle.rapid_model.specs.declared.input_row.InputRow.{InputRow}
+use Rattle.rapid_model.specs.declared.path.Path.{Path}
+use Rattle.rapid_model.specs.declared.request.Request.{Request}
+use Rattle.rapid_model.specs.declared.request.Request.TheVariants.{WriteP, TestSet, WriteS, Input}
+use Rattle.rapid_model.specs.declared.value.Value.{Value}
+use Rattle.rapid_model.specs.declared.value.Value.TheVariants as values
+use Rattle.rapid_values.specs.Values.{put_part}
+
+abbrev pub with_input : List Bool → Option InputRow → List Bool
+with_input signals (Some row) = slice_set signals row.signal row.value
+with_input signals None = signals
+
+-- the values of the signals after an event, where these were their values before it
+abbrev pub signals_with : CellData → List Bool → Request → Answer → List Bool
+signals_with cell signals (WriteS signal value) answers.Ok = slice_set signals signal value
+signals_with cell signals (Input index) answer = with_input signals (slice_get cell.inputs index)
+signals_with cell signals _ _ = signals
+
+abbrev pub signals_after : CellData → List Event → List Bool
+signals_after cell history = fold (λ signals e. signals_with cell signals e.request e.answer) (map (λ row. row.start) cell.signals) history
+
+-- the value of the signal of this number
+abbrev pub signal_after : CellData → List Event → ℕ → Bool
+signal_after cell history signal = slice_index_or (signals_after cell history) signal false
+
+-- the element that a path names, from 0: what is no array has one
+abbrev pub element_of : Path → ℕ
+element_of path = path.index - 1
+
+abbrev pub part_put : List Value → Path → Value → Option Value → List Value
+part_put elements path new None = elements
+part_put elements path new (Some old) = slice_set elements (element_of path) (unwrap_or (put_part old path.part new) old)
+
+-- the elements of a persistent with this value put in at a path
+abbrev pub with_part : List Value → Path → Value → List Value
+with_part elements path new = part_put elements path new (slice_get elements (element_of path))
+
+abbrev pub put_at : List (List Value) → ℕ → Path → Value → List (List Value)
+put_at rows pers path new = slice_set rows pers (with_part (slice_index_or rows pers []) path new)
+
+-- the elements of each persistent after an event, where these were its elements before it
+abbrev pub persistents_with : List (List Value) → Request → Answer → List (List Value)
+persistents_with rows (WriteP pers path value) answers.Ok = put_at rows pers path value
+persistents_with rows (TestSet pers path) (answers.Yes true) = put_at rows pers path (values.Bool true)
+persistents_with rows _ _ = rows
+
+abbrev pub persistents_after : CellData → List Event → List (List Value)
+persistents_after cell history = fold (λ rows e. persistents_with rows e.request e.answer) (map (λ row. row.first) cell.pers) history
+
+-- the elements of the persistent of this number
+abbrev pub persistent_after : CellData → List Event → ℕ → List Value
+persistent_after cell history pers = slice_index_or (persistents_after cell history) pers []

@@ -1,0 +1,4 @@
+pub mod Grows
+pub mod Suits
+pub mod Asking
+mod Examples

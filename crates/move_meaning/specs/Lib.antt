@@ -1,0 +1,4 @@
+pub mod Outcomes
+pub mod Statements
+pub mod Runs
+pub mod Traces
