@@ -1,4 +1,6 @@
-use super::*;
+//! The texts that strings spell.
+
+use string_texts::text_of;
 
 /// Tokens, with the texts that they spell.
 static SPELLED: [(&[u8], &[u8]); 8] = [
@@ -34,7 +36,7 @@ fn spells(quoted: &[u8], expected: &[u8]) -> bool {
 }
 
 #[test]
-fn tokens(rt: HostRuntime) {
+fn characters(rt: HostRuntime) {
     for (quoted, expected) in &SPELLED {
         assert!(rt; spells(quoted, expected));
     }
