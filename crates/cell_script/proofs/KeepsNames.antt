@@ -8,7 +8,7 @@ use Rattle.std.proofs.lemmas.Bool.Decides.{same_from_decides}
 use Rattle.std.proofs.lemmas.List.{length-map}
 use Rattle.std.proofs.lemmas.Slice.Eq.{bytes_eq-Decides}
 use Rattle.toml.specs.Data.{Data}
-use Rattle.rapid_lexer.specs.Reading.{is_reserved}
+use Rattle.rapid_lexer.specs.Words.{is_reserved}
 use Rattle.rapid_builtins.specs.Names.{is_predefined}
 use Rattle.rapid_model.specs.Names.{is_name, is_among, differ}
 use Rattle.rapid_model.specs.declared.script_rule.ScriptRule.TheVariants.{Name, Twice, NoSuch}

@@ -4,7 +4,7 @@ use Rattle.std.specs.List.{list_any, position, prefix_len}
 use Rattle.std.proofs.lemmas.List.{length-map}
 use Rattle.std.specs.Str.{str_eq_ignore_ascii_case}
 use Rattle.toml.specs.Data.{Data}
-use Rattle.rapid_lexer.specs.Reading.{is_reserved}
+use Rattle.rapid_lexer.specs.Words.{is_reserved}
 use Rattle.rapid_model.specs.Names.{is_name, is_among}
 use Rattle.rapid_model.specs.declared.script_rule.ScriptRule.TheVariants.{Name, NoSuch, Twice}
 use Rattle.rule_checks.specs.Checks.{◌>>◌, must, found_or}

@@ -3,7 +3,7 @@ use Rattle.std.specs.Prelude.{ℕ, Bool, not, ◌&&◌, ◌||◌, ℤ, pos, negs
 use Rattle.std.specs.List.{list_any}
 use Rattle.std.specs.Str.{str_eq_ignore_ascii_case}
 use Rattle.toml.specs.Data.{Data, Items, no_items, item, Members, no_members, member, get_member, as_str, as_integer, as_array, as_table}
-use Rattle.rapid_lexer.specs.Reading.{is_reserved}
+use Rattle.rapid_lexer.specs.Words.{is_reserved}
 use Rattle.rapid_model.specs.Names.{is_name}
 use Rattle.rapid_model.specs.Limits.{is_within}
 use Rattle.rapid_model.specs.declared.script_rule.ScriptRule.TheVariants.{NoKey, Kind, UnknownKey, Range, Name, NoSuch, Pair}

@@ -1,7 +1,9 @@
-use crate::parse_module;
+//! Modules: those that are read, the faults of others, and the fields of a tree.
+
 use crate::refused::{
     ASSIGNMENTS, BODIES, CALLS, CHOICES, DATA, HEADS, LOOPS, MODULES, Row, TESTS, WORDS,
 };
+use module_parser::parse_module;
 use rapid_forms::{SyntaxFault, SyntaxRule};
 use rapid_lexer::{LexFault, LexRule};
 use raw_trees::{

@@ -1,27 +1,15 @@
-//! Names, and the parts that the layers below read.
+//! Parts of declarations that stand there or not.
 
 ghost use Rattle.std.specs.Prelude.{option_map, ◌∷◌, []};
-ghost use Rattle.raw_trees.specs.Views.{view_expr, view_list, view_name};
+ghost use Rattle.raw_trees.specs.Views.{view_expr, view_list};
 ghost use Rattle.rapid_forms.specs.Reading.{Gives, optional_read, rest_from};
-ghost use Rattle.expr_parser.specs.Reads.{expr_of_read, inside_read, name_read, value_read};
+ghost use Rattle.expr_parser.specs.Reads.{expr_of_read, inside_read, value_read};
 ghost use Rattle.stmt_parser.specs.Reads.{if_read, list_read};
 
-use expr_parser::{parse_expr, parse_index};
+use expr_parser::{expr, index};
 use rapid_forms::{Parser, Sign, SyntaxFault};
-use raw_trees::{RawExpr, RawName, RawStmt};
-use stmt_parser::parse_list;
-
-#[tactic(auto, unfolding(expr_parser::specs::Reads::name_read, rapid_forms::specs::Reading::made_read, rapid_forms::specs::Reading::then_read))]
-pub(crate) fn name<'a>(p: &Parser<'_, 'a>, at: usize) -> Result<(RawName<'a>, usize), SyntaxFault>
-    ensures { Gives p.now.tokens view_name result (name_read (rest_from p.now.tokens at)) }
-{
-    let (token, next) = p.tokens.take(at, &[Sign::Name])?;
-    let name = RawName {
-        text: token.text,
-        at: p.tokens.place(at),
-    };
-    Ok((name, next))
-}
+use raw_trees::{RawExpr, RawStmt};
+use stmt_parser::list;
 
 /// The length of an array, if it is there.
 #[tactic(auto, unfolding(rapid_forms::specs::Reading::optional_read, rapid_forms::specs::Reading::then_read))]
@@ -34,15 +22,8 @@ pub(crate) fn length_if_any<'a>(
     if !p.tokens.sees(at, &[Sign::OpenBrace]) {
         return Ok((None, at));
     }
-    let (len, next) = index(p, at)?;
+    let (len, next) = index(p, at, 64)?;
     Ok((Some(len), next))
-}
-
-fn index<'a>(p: &Parser<'_, 'a>, at: usize) -> Result<(RawExpr<'a>, usize), SyntaxFault>
-    ensures { Gives p.now.tokens view_expr result ((inside_read 64).index (rest_from p.now.tokens at)) }
-{
-    let first = at.min(p.tokens.list.len());
-    parse_index(p.alloc, p.tokens.list, first, 0, p.tokens.end)
 }
 
 /// The initial value of a datum, if it is there.
@@ -66,25 +47,7 @@ fn value<'a>(p: &Parser<'_, 'a>, at: usize) -> Result<(RawExpr<'a>, usize), Synt
     ensures { Gives p.now.tokens view_expr result (value_read (expr_of_read (inside_read 64)) (rest_from p.now.tokens at)) }
 {
     let (_assign, next) = p.tokens.take(at, &[Sign::Assign])?;
-    expr(p, next)
-}
-
-fn expr<'a>(p: &Parser<'_, 'a>, at: usize) -> Result<(RawExpr<'a>, usize), SyntaxFault>
-    ensures { Gives p.now.tokens view_expr result (expr_of_read (inside_read 64) (rest_from p.now.tokens at)) }
-{
-    let first = at.min(p.tokens.list.len());
-    parse_expr(p.alloc, p.tokens.list, first, 0, p.tokens.end)
-}
-
-/// A list of statements.
-pub(crate) fn list<'a>(
-    p: &Parser<'_, 'a>,
-    at: usize,
-) -> Result<(Vec<RawStmt<'a>>, usize), SyntaxFault>
-    ensures { Gives p.now.tokens view_list result (list_read 64 (rest_from p.now.tokens at)) }
-{
-    let first = at.min(p.tokens.list.len());
-    parse_list(p.alloc, p.tokens.list, first, 1, p.tokens.end)
+    expr(p, next, 64)
 }
 
 /// An ERROR part, if it is there.
@@ -99,6 +62,6 @@ pub(crate) fn handler_if_any<'a>(
         return Ok((None, at));
     }
     let (_word, next) = p.tokens.take(at, &[Sign::Error])?;
-    let (list, end) = list(p, next)?;
+    let (list, end) = list(p, next, 64)?;
     Ok((Some(list), end))
 }
