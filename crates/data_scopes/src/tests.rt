@@ -1,11 +1,12 @@
 //! Modules made by hand: the first rule that they break, and what their names mean.
 
-use super::{DatumRow, Known, Meant, ParamRow, Scopes, Since, Spot, TypeFault, TypeRule};
+use super::{DatumRow, Known, Meant, ParamRow, Scopes, Since};
 use rapid_model::{Instruction, NameText, SignalRow, Sort, Value};
 use raw_trees::{
     DatumKind, Mode, RawBounds, RawDatum, RawExpr, RawItem, RawModule, RawName, RawParam,
     RawRoutine, RawStmt, RoutineKind,
 };
+use rule_checks::{Spot, TypeFault, TypeRule};
 use std::alloc::{AllocError, Global};
 use std::test::*;
 

@@ -10,6 +10,7 @@ use crate::rules::fault;
 use crate::site::Site;
 use rapid_model::{PartName, Sort};
 use rapid_values::component;
+use rule_checks::{TypeFault, TypeRule};
 use raw_trees::RawName;
 use rule_checks::{TypeFault, TypeRule};
 
