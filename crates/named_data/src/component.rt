@@ -12,7 +12,6 @@ use rapid_model::{PartName, Sort};
 use rapid_values::component;
 use rule_checks::{TypeFault, TypeRule};
 use raw_trees::RawName;
-use rule_checks::{TypeFault, TypeRule};
 
 /// A part of a value, and the part's type.
 #[derive(Clone, Copy, Debug, PartialEq, Eq)]
