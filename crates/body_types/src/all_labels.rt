@@ -7,8 +7,8 @@ ghost use Rattle.rule_checks.specs.TypeChecks.{Gives};
 ghost use Rattle.body_types.specs.Labels;
 
 use crate::label_list::LabelList;
-use rule_checks::TypeFault;
 use raw_trees::{RawForm, RawRoutine, RawStmt};
+use rule_checks::TypeFault;
 use std::alloc::Global;
 
 /// Behind these labels those of a statement.

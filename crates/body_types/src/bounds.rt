@@ -8,11 +8,11 @@ ghost use Rattle.named_data.specs.Views.{view_site};
 ghost use Rattle.body_types.specs.Bodies;
 ghost use Rattle.body_types.specs.Views.{view_bounds};
 
-use rule_checks::TypeFault;
 use expr_types::typed;
 use named_data::{Site, Wanted};
 use rapid_model::Sort;
 use raw_trees::{RawBounds, RawExpr};
+use rule_checks::TypeFault;
 use typed_trees::{Bounds, Expr};
 
 fn step_of(site: &Site<'_>, step: &Option<RawExpr<'_>>) -> Result<Option<Expr>, TypeFault>

@@ -10,11 +10,11 @@ ghost use Rattle.body_types.specs.Bodies;
 
 use crate::targets::{named, no_signal};
 use data_scopes::Meant;
-use rule_checks::{TypeFault, TypeRule};
 use expr_types::{call_arguments, instruction_signature, lent_place, routine_signature};
 use named_data::{Site, fault};
 use rapid_model::{Instruction, Sort};
 use raw_trees::{RawArg, RawName, RawPlace, RoutineKind};
+use rule_checks::{TypeFault, TypeRule};
 use typed_trees::Stmt;
 
 /// An instruction of the profile (RAPID Instructions, Functions and Data types, arguments).

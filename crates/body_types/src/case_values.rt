@@ -8,11 +8,11 @@ ghost use Rattle.rule_checks.specs.TypeChecks.{Gives};
 ghost use Rattle.named_data.specs.Views.{view_site};
 ghost use Rattle.body_types.specs.Bodies;
 
-use rule_checks::TypeFault;
 use expr_types::typed;
 use named_data::{Site, Wanted};
 use rapid_model::Sort;
 use raw_trees::RawExpr;
+use rule_checks::TypeFault;
 use typed_trees::Expr;
 
 /// The values of a CASE, of the type of the tested one (RAPID Kernel, TEST).

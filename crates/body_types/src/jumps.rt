@@ -10,9 +10,9 @@ ghost use Rattle.body_types.specs.Views.{view_around, view_body};
 use crate::around::Around;
 use crate::body::Body;
 use crate::labels::is_visible;
-use rule_checks::{TypeFault, TypeRule};
 use named_data::{Site, must};
 use raw_trees::RawName;
+use rule_checks::{TypeFault, TypeRule};
 use typed_trees::Stmt;
 
 /// A label, the only one of its name in the routine.

@@ -9,8 +9,8 @@ ghost use Rattle.body_types.specs.Labels;
 ghost use Rattle.body_types.specs.Labels.{labels_around};
 
 use crate::label_list::LabelList;
-use rule_checks::TypeFault;
 use raw_trees::{RawForm, RawStmt};
+use rule_checks::TypeFault;
 use std::alloc::Global;
 
 /// Whether some label of these lists has this name.

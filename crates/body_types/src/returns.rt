@@ -10,11 +10,11 @@ ghost use Rattle.body_types.specs.Views.{view_around, view_body};
 
 use crate::around::Around;
 use crate::body::Body;
-use rule_checks::{TypeFault, TypeRule};
 use expr_types::typed;
 use named_data::{Site, Wanted, fault, must};
 use rapid_model::Sort;
 use raw_trees::{RawExpr, RoutineKind};
+use rule_checks::{TypeFault, TypeRule};
 use typed_trees::Stmt;
 
 /// RETURN with a value, in a routine of this kind and this type of results: a function returns a value of its type, nothing

@@ -25,11 +25,11 @@ use crate::returns::{in_handler, raised, returned};
 use crate::targets::assigned;
 use crate::typed_rows::{TypedArms, TypedCases, TypedElse, TypedList, TypedOne};
 use data_scopes::number_after;
-use rule_checks::TypeFault;
 use expr_types::typed;
 use named_data::{Site, Wanted};
 use rapid_model::Sort;
 use raw_trees::{Operator, RawForm, RawStmt};
+use rule_checks::TypeFault;
 use typed_trees::Stmt;
 
 /// A statement that holds no list, and the number of the next FOR.

@@ -10,11 +10,11 @@ ghost use Rattle.expr_types.specs.Views.{view_part};
 ghost use Rattle.body_types.specs.Bodies;
 
 use data_scopes::Meant;
-use rule_checks::{TypeFault, TypeRule};
 use expr_types::{PlacePart, is_fixed, place, typed};
 use named_data::{Site, Source, Wanted, fault, must};
 use rapid_model::has_values;
 use raw_trees::{RawExpr, RawName, RawPlace};
+use rule_checks::{TypeFault, TypeRule};
 use typed_trees::{Stmt, TreePlace};
 
 /// What the innermost declaration of the name means that is visible (RAPID Kernel, scope rules).

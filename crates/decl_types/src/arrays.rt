@@ -14,10 +14,10 @@ use crate::brackets::{Brackets, brackets_in};
 use crate::single::value_or_fault;
 use constant_meaning::{Arrays, are_constant, constant_value};
 use data_scopes::begin_of;
-use rule_checks::{TypeFault, TypeRule};
 use named_data::{Site, must};
 use rapid_model::{Sort, Value};
 use raw_trees::RawExpr;
+use rule_checks::{TypeFault, TypeRule};
 use typed_trees::Expr;
 
 /// What the elements of an array come to are values of its type.

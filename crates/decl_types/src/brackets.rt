@@ -12,11 +12,11 @@ ghost use Rattle.decl_types.specs.Parts.{view_brackets};
 ghost use Rattle.decl_types.specs.Values;
 
 use data_scopes::begin_of;
-use rule_checks::{TypeFault, TypeRule};
 use expr_types::typed;
 use named_data::{Site, Wanted, fault};
 use rapid_model::Sort;
 use raw_trees::{RawExpr, RawExprForm};
+use rule_checks::{TypeFault, TypeRule};
 use typed_trees::Expr;
 
 /// The brackets of an array: where they stand, and the elements.

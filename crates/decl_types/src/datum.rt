@@ -17,10 +17,10 @@ use crate::progress::Progress;
 use crate::sites::site_at;
 use constant_meaning::Arrays;
 use data_scopes::{DatumRow, is_const, is_pers, is_scalar_const, number_after};
-use rule_checks::TypeFault;
 use named_data::{name_text, number_of};
 use rapid_model::{Sort, width};
 use raw_trees::RawDatum;
+use rule_checks::TypeFault;
 use std::alloc::Global;
 use typed_trees::{PersRow, SlotRow};
 

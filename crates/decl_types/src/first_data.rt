@@ -5,9 +5,9 @@ ghost use Rattle.constant_meaning.specs.Constants.{items_of};
 ghost use Rattle.rule_checks.specs.TypeChecks.{Gives};
 ghost use Rattle.decl_types.specs.Values;
 
-use rule_checks::TypeFault;
 use rapid_model::{Sort, Value, width};
 use rapid_values::start_value;
+use rule_checks::TypeFault;
 use std::alloc::Global;
 use typed_trees::{Datum, FirstData};
 

@@ -14,11 +14,11 @@ use crate::single::single_value;
 use crate::sites::value_site;
 use constant_meaning::Arrays;
 use data_scopes::{begin_of, is_const};
-use rule_checks::{TypeFault, TypeRule};
 use expr_types::typed;
 use named_data::{Site, Wanted, fault, must};
 use rapid_model::{Sort, Value, has_values};
 use raw_trees::{RawDatum, RawExpr};
+use rule_checks::{TypeFault, TypeRule};
 
 /// The length of a datum that is an array, and the values that its declaration gives, one for each element.
 #[derive(Drop)]

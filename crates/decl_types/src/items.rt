@@ -9,8 +9,8 @@ ghost use Rattle.decl_types.specs.Views.{view_progress};
 use crate::datum::datum;
 use crate::locals::routine;
 use crate::progress::Progress;
-use rule_checks::TypeFault;
 use raw_trees::RawItem;
+use rule_checks::TypeFault;
 use std::alloc::Global;
 
 /// An item of the module, behind these data. A LOCAL or TASK PERS is the task's own.

@@ -7,8 +7,8 @@ ghost use Rattle.data_scopes.specs.Kept.{with_kept};
 ghost use Rattle.decl_types.specs.Data;
 
 use data_scopes::Scopes;
-use rule_checks::TypeFault;
 use rapid_model::{Value, is_value_of};
+use rule_checks::TypeFault;
 
 /// The names with the value of one more CONST. Its error is want of memory. A value that is no value of the type that the
 /// names have for the CONST is refused as such, though it never comes: that type is the type of the CONST's row, and each

@@ -10,12 +10,12 @@ ghost use Rattle.decl_types.specs.Values;
 
 use constant_meaning::{Arrays, Outcome, constant_value, element_number, is_constant};
 use data_scopes::begin_of;
-use rule_checks::{TypeFault, TypeRule};
 use expr_types::typed;
 use named_data::{Site, Wanted, fault, must};
 use rapid_model::{Sort, Value};
 use rapid_num::Num;
 use raw_trees::RawExpr;
+use rule_checks::{TypeFault, TypeRule};
 
 /// The greatest length of an array.
 const LONGEST_ARRAY: usize = 1_000;

@@ -24,9 +24,9 @@ mod sites;
 
 use crate::items::items;
 use data_scopes::{Scopes, number_after};
-use rule_checks::TypeFault;
 pub use progress::Progress;
 use raw_trees::RawModule;
+use rule_checks::TypeFault;
 use std::alloc::Global;
 
 /// No data yet.

@@ -21,10 +21,10 @@ use crate::progress::Progress;
 use crate::sites::site_at;
 use constant_meaning::Arrays;
 use data_scopes::{Scopes, is_const, is_scalar_const, number_after};
-use rule_checks::TypeFault;
 use named_data::{name_text, number_of};
 use rapid_model::{Sort, Value};
 use raw_trees::{RawDatum, RawRoutine};
+use rule_checks::TypeFault;
 use std::alloc::Global;
 use typed_trees::LocalRow;
 

@@ -9,11 +9,11 @@ ghost use Rattle.decl_types.specs.Values;
 
 use constant_meaning::{Arrays, Outcome, constant_value, is_constant};
 use data_scopes::begin_of;
-use rule_checks::{TypeFault, TypeRule};
 use expr_types::typed;
 use named_data::{Site, Wanted, fault, must};
 use rapid_model::{Sort, Value, is_value_of};
 use raw_trees::RawExpr;
+use rule_checks::{TypeFault, TypeRule};
 
 /// What an initial value comes to is a value of the type.
 pub(crate) fn value_or_fault(

@@ -12,9 +12,9 @@ use crate::routine::typed_routine;
 use crate::routine_data::RoutineData;
 use crate::routine_list::RoutineList;
 use data_scopes::{Scopes, number_after};
-use rule_checks::TypeFault;
 use named_data::number_of;
 use raw_trees::{RawItem, RawModule};
+use rule_checks::TypeFault;
 use std::alloc::Global;
 use typed_trees::{LocalRow, Routine};
 

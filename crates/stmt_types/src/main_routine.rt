@@ -7,9 +7,9 @@ ghost use Rattle.rule_checks.specs.TypeChecks.{Gives};
 ghost use Rattle.stmt_types.specs.Task;
 
 use data_scopes::number_after;
-use rule_checks::{TypeFault, TypeRule};
 use named_data::{Site, fault};
 use raw_trees::{RawItem, RawModule, RawRoutine, RoutineKind};
+use rule_checks::{TypeFault, TypeRule};
 
 /// Whether a routine of the kind is a procedure.
 fn is_procedure(kind: RoutineKind) -> bool

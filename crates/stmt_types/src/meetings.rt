@@ -5,9 +5,9 @@ ghost use Rattle.typed_trees.specs.Views.{view_slot};
 ghost use Rattle.rule_checks.specs.TypeChecks.{Gives};
 ghost use Rattle.stmt_types.specs.Task;
 
-use rule_checks::TypeFault;
 use named_data::same_sort;
 use rapid_model::{NameText, Sort};
+use rule_checks::TypeFault;
 use std::alloc::Global;
 use typed_trees::SlotRow;
 

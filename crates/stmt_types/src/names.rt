@@ -3,8 +3,8 @@
 ghost use Rattle.std.specs.Prelude.{Ok};
 ghost use Rattle.rule_checks.specs.TypeChecks.{Gives};
 
-use rule_checks::TypeFault;
 use rapid_model::NameText;
+use rule_checks::TypeFault;
 use std::alloc::Global;
 
 /// The names once more. Its error is want of memory.

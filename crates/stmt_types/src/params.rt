@@ -7,9 +7,9 @@ ghost use Rattle.rule_checks.specs.TypeChecks.{Gives};
 ghost use Rattle.stmt_types.specs.Task;
 
 use data_scopes::ParamRow;
-use rule_checks::TypeFault;
 use named_data::name_text;
 use raw_trees::RawParam;
+use rule_checks::TypeFault;
 use std::alloc::Global;
 use typed_trees::Param;
 

@@ -14,9 +14,9 @@ use crate::params::typed_params;
 use crate::typed_handler::TypedHandler;
 use body_types::{Body, labels_of, typed_list};
 use data_scopes::Scopes;
-use rule_checks::TypeFault;
 use named_data::name_text;
 use raw_trees::{RawRoutine, RawStmt};
+use rule_checks::TypeFault;
 use std::alloc::Global;
 use typed_trees::{LocalRow, Routine};
 
