@@ -9,7 +9,6 @@ use Rattle.raw_trees.specs.Plain.{PlainExpr, PlainDatum, PlainRoutine, PlainItem
 use Rattle.data_scopes.specs.declared.counts.Counts.{Counts}
 use Rattle.data_scopes.specs.declared.data_row.DatumRow.{DatumRow}
 use Rattle.data_scopes.specs.declared.data_row.Since.{Since}
-use Rattle.rule_checks.specs.declared.rule.TypeRule.{TypeRule}
 use Rattle.rule_checks.specs.declared.rule.TypeRule.TheVariants.{NameTwice, TypeClash, PersKind}
 use Rattle.data_scopes.specs.declared.meant.Meant.TheVariants as meants
 use Rattle.rule_checks.specs.Checks.{◌>>=◌, must}

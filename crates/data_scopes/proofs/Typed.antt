@@ -1,5 +1,5 @@
 -- There are as many types as CONSTs that the walk counts.
-use Rattle.std.proofs.Common.{◌≡◌, ℕ, ◌+◌, ◌<◌, ◌≤◌, Bool, true, false, not, List, [], ◌∷◌, ◌++◌, length, Option, Some, None, refl, sym, ap, subst, ◌∙◌, if◌then◌else◌, length-append, replicate, zero, suc, set, slice_get, IfSome, IsTrue, length-set, Ok, Err, arith}
+use Rattle.std.proofs.Common.{◌≡◌, ℕ, ◌+◌, ◌<◌, ◌≤◌, Bool, true, false, not, List, [], ◌∷◌, ◌++◌, length, Option, Some, None, refl, sym, ap, subst, ◌∙◌, if◌then◌else◌, length-append, replicate, zero, suc, set, slice_get, IfSome, IsTrue, length-set, Ok, arith}
 use Rattle.std.proofs.lemmas.List.{length-replicate}
 use Rattle.rapid_model.specs.declared.signal_row.SignalRow.{SignalRow}
 use Rattle.rapid_model.specs.declared.value.Value.{Value}
@@ -10,9 +10,9 @@ use Rattle.data_scopes.specs.declared.counts.Counts.{Counts}
 use Rattle.rule_checks.specs.declared.rule.TypeRule.TheVariants.{NameTwice}
 use Rattle.data_scopes.specs.declared.meant.Meant.TheVariants as meants
 use Rattle.data_scopes.specs.Kept.{IsBelow, AreKept, AreOfTypes, TablesMean}
-use Rattle.rule_checks.specs.Checks.{◌>>=◌, must}
+use Rattle.rule_checks.specs.Checks.{must}
 use Rattle.rule_checks.proofs.Steps.{behind, ok_same}
-use Rattle.rule_checks.specs.TypeChecks.{Checked, at_spot}
+use Rattle.rule_checks.specs.TypeChecks.{at_spot}
 use Rattle.data_scopes.specs.Declarations.{is_own, spot_of, with_const, datum_sort, item_name_rules, datum_rules, result_rules, params_rules, local_rules, locals_rules, routine_rules, item_rules, items_rules, module_rules, modules_rules}
 use Rattle.data_scopes.specs.Numbers.{no_counts, tables_of, datum_meant, local_meant, is_pers, is_scalar_const, scalar_consts, after_item, after_items}
 use Rattle.rapid_model.specs.Sorts.{is_value_of}

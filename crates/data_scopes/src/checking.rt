@@ -8,15 +8,14 @@ ghost use Rattle.rule_checks.specs.Checks.{must};
 ghost use Rattle.rule_checks.specs.TypeChecks.{Gives, at_spot};
 ghost use Rattle.rule_checks.specs.declared.fault.TypeFault.TheVariants.{Rule};
 
-use rule_checks::{TypeFault, TypeRule};
 use crate::meant::Meant;
 use crate::numbers::{is_const, is_pers, is_scalar_const};
 use crate::own::is_own;
 use crate::sorts::sort_of;
-use rule_checks::Spot;
 use crate::tables::NameTables;
 use rapid_model::{Sort, has_values};
 use raw_trees::{RawDatum, RawName};
+use rule_checks::{Spot, TypeFault, TypeRule};
 
 /// The rule holds, or it is broken at the spot.
 pub(crate) fn must(holds: bool, spot: Spot, rule: TypeRule) -> Result<(), TypeFault>

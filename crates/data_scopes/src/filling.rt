@@ -7,7 +7,6 @@ ghost use Rattle.data_scopes.specs.Scopes.{declare, loop_rows};
 ghost use Rattle.rule_checks.specs.declared.fault.TypeFault.TheVariants.{Memory};
 
 use crate::counts::Counts;
-use rule_checks::TypeFault;
 use crate::loop_row::LoopRow;
 use crate::loops::loops_in_routine;
 use crate::meant::Meant;
@@ -18,6 +17,7 @@ use crate::tables::NameTables;
 use name_tables::NameTable;
 use rapid_model::SignalRow;
 use raw_trees::{RawDatum, RawItem, RawModule, RawParam, RawRoutine};
+use rule_checks::TypeFault;
 use std::alloc::Global;
 
 /// Declares the parameters of a routine, and answers how many there are.

@@ -9,12 +9,12 @@ ghost use Rattle.rule_checks.specs.declared.fault.TypeFault.TheVariants.{Memory}
 use crate::checking::{sort_at, spot_of};
 use crate::data_row::{DatumRow, ParamRow};
 use crate::datum_rows::datum_row;
-use rule_checks::TypeFault;
 use crate::routine_entry::RoutineEntry;
 use crate::row_tables::RowTables;
 use crate::tables::NameTables;
 use rapid_model::Sort;
 use raw_trees::{RawDatum, RawName, RawParam, RawRoutine};
+use rule_checks::TypeFault;
 use std::alloc::Global;
 
 /// The row of a parameter.

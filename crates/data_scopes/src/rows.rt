@@ -7,13 +7,13 @@ ghost use Rattle.rule_checks.specs.TypeChecks.{Gives};
 ghost use Rattle.rule_checks.specs.declared.fault.TypeFault.TheVariants.{Memory};
 
 use crate::datum_rows::{datum_row, with_datum};
-use rule_checks::TypeFault;
 use crate::numbers::number_after;
 use crate::routine_rows::{routine_row, with_routine};
 use crate::row_tables::RowTables;
 use crate::slots::Slots;
 use crate::tables::NameTables;
 use raw_trees::{RawItem, RawModule};
+use rule_checks::TypeFault;
 use std::alloc::Global;
 
 /// No rows.

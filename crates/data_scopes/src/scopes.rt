@@ -10,17 +10,16 @@ ghost use Rattle.data_scopes.specs.Scopes.{meaning};
 ghost use Rattle.rapid_model.specs.Sorts.{is_value_of};
 
 use crate::data_row::{DatumRow, ParamRow};
-use rule_checks::TypeFault;
 use crate::filling::tables_of;
 use crate::known::Known;
 use crate::meant::Meant;
 use crate::row_tables::RowTables;
 use crate::rows::modules_rows;
-use rule_checks::Spot;
 use crate::tables::NameTables;
 use crate::walking::modules_rules;
 use rapid_model::{SignalRow, Sort, Value};
 use raw_trees::{RawModule, RoutineKind};
+use rule_checks::{Spot, TypeFault};
 use std::alloc::Global;
 use std::marker::Model;
 

@@ -6,10 +6,10 @@ ghost use Rattle.rule_checks.specs.TypeChecks.{Gives};
 ghost use Rattle.rule_checks.specs.declared.fault.TypeFault.TheVariants.{Memory};
 
 use crate::data_row::DatumRow;
-use rule_checks::TypeFault;
 use crate::numbers::number_after;
 use crate::sorts::same_sort;
 use rapid_model::Sort;
+use rule_checks::TypeFault;
 use std::alloc::Global;
 use std::marker::Model;
 

@@ -10,7 +10,6 @@ ghost use Rattle.rule_checks.specs.TypeChecks.{Gives};
 
 use crate::checking::{datum_sort, item_name_rules, must, sort_at, spot_of, with_const};
 use crate::counts::Counts;
-use rule_checks::{TypeFault, TypeRule};
 use crate::meant::Meant;
 use crate::numbers::{
     after_item, after_items, after_local, datum_meant, local_meant, number_after, param_meant,
@@ -19,6 +18,7 @@ use crate::own::is_own;
 use crate::tables::NameTables;
 use rapid_model::{Sort, has_values};
 use raw_trees::{Mode, RawDatum, RawItem, RawModule, RawName, RawParam, RawRoutine};
+use rule_checks::{TypeFault, TypeRule};
 use std::alloc::Global;
 
 /// A datum of a module.
