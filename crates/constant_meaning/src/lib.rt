@@ -11,5 +11,6 @@ mod outcome;
 mod tests;
 
 pub use arrays::Arrays;
+pub use elements::element_number;
 pub use evaluate::{are_constant, constant_value, is_constant};
 pub use outcome::Outcome;
