@@ -9,7 +9,7 @@ use Rattle.rapid_model.specs.declared.instruction.Instruction.{Instruction}
 use Rattle.rapid_model.specs.declared.sort.Sort.{Sort}
 use Rattle.rapid_model.specs.declared.sort.Sort.TheVariants as sorts
 use Rattle.typed_trees.specs.Plain
-use Rattle.typed_trees.specs.Plain.{TypedExpr, TypedPlace, TypedArgs, TypedStmt, TypedStmts, TypedArms, TypedCases, TypedElse}
+use Rattle.typed_trees.specs.Plain.{TypedExpr, TypedExprs, TypedPlace, TypedArgs, TypedStmt, TypedStmts, TypedArms, TypedCases, TypedElse}
 use Rattle.rule_checks.specs.declared.rule.TypeRule.TheVariants.{NoName, NotThis, TypeClash, ReadOnly, NoLabel, LabelTwice, HandlerOnly, ReturnKind}
 use Rattle.data_scopes.specs.declared.meant.Meant.{Meant}
 use Rattle.data_scopes.specs.declared.meant.Meant.TheVariants as meants
@@ -178,9 +178,9 @@ abbrev pub counter_place : Body → ℕ → ℕ
 counter_place body loop = places_of body.names.rows (Some body.routine) + loop
 
 -- the values of a CASE, of the type of the tested one
-abbrev pub case_values : Site → Sort → List PlainExpr → Checked (List TypedExpr)
-case_values s sort [] = Ok []
-case_values s sort (e ∷ es) = typed s e (Same sort) >>= (λ t. case_values s sort es >>= (λ ts. Ok (t ∷ ts)))
+abbrev pub case_values : Site → Sort → List PlainExpr → Checked TypedExprs
+case_values s sort [] = Ok Plain.NoExprs
+case_values s sort (e ∷ es) = typed s e (Same sort) >>= (λ t. case_values s sort es >>= (λ ts. Ok (Plain.MoreExprs t ts)))
 
 -- what is typed, and the number of the next FOR
 pub record Typed (A : Type 0) : Type 0 where

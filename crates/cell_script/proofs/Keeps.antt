@@ -1,5 +1,5 @@
 -- What is true of each value that keys may be read as.
-use Rattle.std.proofs.Common.{◌≡◌, List, ℕ, Option, Some, None}
+use Rattle.std.proofs.Common.{List, ℕ, Option, Some, None}
 use Rattle.toml.specs.Data.{Data}
 use Rattle.rule_checks.proofs.Keeps.{Keeps}
 use Rattle.cell_script.specs.Break.{Read}

@@ -8,7 +8,7 @@ use Rattle.rapid_model.specs.declared.script_rule.ScriptRule.TheVariants.{NoSuch
 use Rattle.rapid_model.specs.declared.script_task.ScriptTask.{ScriptTask}
 use Rattle.rapid_model.specs.declared.signal_row.SignalRow.{SignalRow}
 use Rattle.rule_checks.specs.Checks.{◌>>=◌}
-use Rattle.cell_script.specs.Break.{Read}
+use Rattle.cell_script.specs.Break.{Read, at_key}
 use Rattle.cell_script.specs.Keys.{at, value_of, needed, optional, whole_at, bit_at, number_at, table_at, both_at, pair_at}
 use Rattle.cell_script.specs.Rows.{input_signal_at, input_of}
 use Rattle.rule_checks.proofs.Keeps.{Keeps, Keeps-then, Keeps-any, Keeps-must}

@@ -14,6 +14,7 @@ use Rattle.rapid_model.specs.declared.script_task.ScriptTask.{ScriptTask}
 use Rattle.rapid_model.specs.declared.signal_row.SignalRow.{SignalRow}
 use Rattle.rapid_model.specs.declared.zone_row.ZoneRow.{ZoneRow}
 use Rattle.rule_checks.specs.Checks.{◌>>=◌}
+use Rattle.cell_script.specs.Break.{at_key}
 use Rattle.cell_script.specs.Keys.{at, needed, bit_at, word_at, name_at, number_at, list_at, table_at}
 use Rattle.cell_script.specs.Rows.{armed_task_at, is_axis, are_axes, axes_at, bounds_at, each_below, high_bounds_at, is_axis_number, bound_of, shape_of, zone_of}
 use Rattle.rule_checks.proofs.Keeps.{Keeps, Keeps-then, Keeps-any, Keeps-must}

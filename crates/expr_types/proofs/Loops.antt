@@ -53,7 +53,7 @@ pub stops : {X R : Type 0} (f : Checked X → Checked R) → ((b : TypeBreak) �
 stops f errs (Rule number at rule) one whole is h = is ∙ ap f h ∙ errs (record { «module» = number; at = at; rule = rule })
 stops f errs Memory one whole is h = tt
 
-all_exprs : (es : List TypedExpr) → all MoreExprs es NoExprs ≡ exprs_of es
+pub all_exprs : (es : List TypedExpr) → all MoreExprs es NoExprs ≡ exprs_of es
 all_exprs [] = refl
 all_exprs (e ∷ es) = ap (MoreExprs e) (all_exprs es)
 

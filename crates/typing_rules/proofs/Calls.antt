@@ -43,7 +43,7 @@ call_law s at signature args t =
     in_words
     (where_it_holds s (are_counted args (length signature.needs)) at ArgCount _ t (
     where_it_holds s (are_chosen signature.choice args) at ArgName _ t (
-    it_holds s (not signature.arm || s.names.arm) at NoArm t)))
+    it_holds (not signature.arm || s.names.arm) (at_byte s at NoArm) t)))
     (λ (counted, (chosen, armed)). record { counted = counted; chosen = chosen; armed = armed })
     (λ h. (h.counted, (h.chosen, h.armed)))
 

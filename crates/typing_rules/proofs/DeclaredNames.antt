@@ -13,9 +13,9 @@ use Rattle.data_scopes.specs.Declarations.{spot_of, type_of, sort_meant, sort_at
 use Rattle.data_scopes.specs.Numbers.{Tally, is_const, is_pers, datum_meant, after_item, after_items, param_meant, local_meant}
 use Rattle.data_scopes.specs.Scopes.{Tables, list_at, meant_in, meant_outside, meaning}
 use Rattle.rapid_model.specs.Sorts.{has_values}
-use Rattle.typing_rules.proofs.Steps.{in_words, neither, done, never, then, found_law}
+use Rattle.typing_rules.proofs.Steps.{in_words, neither, done, never, then, found_law, it_holds}
 use Rattle.typing_rules.specs.DeclaredNames.{IsSort, IsDatumSort, IsItemName, IsParam, AreParams, AreLocals, IsResult, IsItem, AreItems, AreModules}
-use Rattle.typing_rules.proofs.TaskSteps.{regrouped, where_they_hold, it_holds, it_fails}
+use Rattle.typing_rules.proofs.TaskSteps.{regrouped, where_they_hold, it_fails}
 
 sort_meant_law : (spot : Spot) (found : Option Meant) (sort : Sort) → (sort_meant spot found ≡ Ok sort) ↔ ((meant : Meant) × (found ≡ Some meant) × (type_of meant ≡ Some sort))
 sort_meant_law spot None sort = neither (never _ sort) (λ (meant, none, is). cc)
@@ -33,8 +33,8 @@ datum_sort_law tables number routine d sort =
     let spot : Spot = spot_of number routine d.sort in
     in_words
     (then (sort_at tables spot d.sort) _ sort (sort_law tables spot d.sort) (λ found.
-    where_they_hold (must (has_values found || not (is_const d.kind)) (at_spot spot TypeClash)) _ sort (it_holds (has_values found || not (is_const d.kind)) spot TypeClash) (
-    where_they_hold (must (has_values found || not (is_pers d.kind)) (at_spot spot PersKind)) _ sort (it_holds (has_values found || not (is_pers d.kind)) spot PersKind) (
+    where_they_hold (must (has_values found || not (is_const d.kind)) (at_spot spot TypeClash)) _ sort (it_holds (has_values found || not (is_const d.kind)) (at_spot spot TypeClash)) (
+    where_they_hold (must (has_values found || not (is_pers d.kind)) (at_spot spot PersKind)) _ sort (it_holds (has_values found || not (is_pers d.kind)) (at_spot spot PersKind)) (
     done found sort))))
     (λ (found, is, (fits, (persists, same))). subst (IsDatumSort tables number routine d) (sym same) (is, fits, persists))
     (λ (is, fits, persists). (sort, is, (fits, (persists, refl))))
@@ -44,7 +44,7 @@ item_name_law : (tables : Tables) (number : ℕ) (local : Bool) (own : Meant) (n
 item_name_law tables number local own name t =
     let spot : Spot = spot_of number None name in
     let is_first : Bool = is_own own (meant_in name.text (item_scope tables number local)) in
-    where_they_hold (must is_first (at_spot spot NameTwice)) _ t (it_holds is_first spot NameTwice) (it_fails (is_some (meant_outside tables name.text)) spot NameTaken t)
+    where_they_hold (must is_first (at_spot spot NameTwice)) _ t (it_holds is_first (at_spot spot NameTwice)) (it_fails (is_some (meant_outside tables name.text)) (at_spot spot NameTaken) t)
 
 param_law : (tables : Tables) (number routine place : ℕ) (p : PlainParam) (t : Unit {0}) → (param_rules tables number routine place p ≡ Ok t) ↔ IsParam tables number routine place p
 param_law tables number routine place p t =
@@ -52,8 +52,8 @@ param_law tables number routine place p t =
     let is_first : Bool = is_own (param_meant place p.mode) (meant_in p.name.text (list_at tables.inner routine)) in
     in_words
     (then (sort_at tables spot p.sort) _ t (sort_law tables spot p.sort) (λ sort.
-    where_they_hold (must (takes_sort p.mode sort) (at_spot spot TypeClash)) _ t (it_holds (takes_sort p.mode sort) spot TypeClash) (
-    it_holds is_first (spot_of number (Some routine) p.name) NameTwice t)))
+    where_they_hold (must (takes_sort p.mode sort) (at_spot spot TypeClash)) _ t (it_holds (takes_sort p.mode sort) (at_spot spot TypeClash)) (
+    it_holds is_first (at_spot (spot_of number (Some routine) p.name) NameTwice) t)))
     (λ (sort, is, (fits, first)). (sort, is, fits, first))
     (λ (sort, is, fits, first). (sort, is, (fits, first)))
 
@@ -72,7 +72,7 @@ locals_law tables number routine place consts (d ∷ ds) before past =
     (regrouped (datum_sort tables number (Some routine) d) _ _ past (
     then (datum_sort tables number (Some routine) d) _ past (datum_sort_law tables number (Some routine) d) (λ sort.
     regrouped (must is_first (at_spot spot NameTwice)) _ _ past (
-    where_they_hold (must is_first (at_spot spot NameTwice)) _ past (it_holds is_first spot NameTwice) (
+    where_they_hold (must is_first (at_spot spot NameTwice)) _ past (it_holds is_first (at_spot spot NameTwice)) (
     locals_law tables number routine (place + 1) _ ds (with_const before d sort) past)))))
     (λ (sort, is, (first, are)). (sort, is, first, are))
     (λ (sort, is, first, are). (sort, is, (first, are)))
@@ -81,7 +81,7 @@ result_law : (tables : Tables) (number routine : ℕ) (result : Option PlainName
 result_law tables number routine None t = (λ e. tt, λ u. refl)
 result_law tables number routine (Some name) t =
     let spot : Spot = spot_of number (Some routine) name in
-    then (sort_at tables spot name) _ t (sort_law tables spot name) (λ sort. it_holds (has_values sort) spot TypeClash t)
+    then (sort_at tables spot name) _ t (sort_law tables spot name) (λ sort. it_holds (has_values sort) (at_spot spot TypeClash) t)
 
 item_law : (tables : Tables) (number : ℕ) (c : Tally) (i : PlainItem) (before past : List Sort) → (item_rules tables number c i before ≡ Ok past) ↔ IsItem tables number c i before past
 item_law tables number c (Datum local task d at) before past =
@@ -114,7 +114,7 @@ modules_law tables number names c (m ∷ ms) before past =
     let spot : Spot = spot_of number None m.name in
     in_words
     (then (module_rules tables number names c m before) _ past (λ middle.
-    where_they_hold (must (not is_twice) (at_spot spot NameTwice)) _ middle (it_fails is_twice spot NameTwice) (items_law tables number c m.items before middle)) (λ middle.
+    where_they_hold (must (not is_twice) (at_spot spot NameTwice)) _ middle (it_fails is_twice (at_spot spot NameTwice)) (items_law tables number c m.items before middle)) (λ middle.
     modules_law tables (number + 1) (names ++ m.name.text ∷ []) (after_items c m.items) ms middle past))
     (λ (middle, (is_first, are), more). (middle, is_first, are, more))
     (λ (middle, is_first, are, more). (middle, (is_first, are), more))

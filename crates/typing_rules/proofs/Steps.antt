@@ -53,6 +53,6 @@ where_it_holds s true at rule rest t next = (λ e. (refl, next.0 e), λ (holds, 
 where_it_holds s false at rule rest t next = (λ e. absurd (cc), λ (holds, is). absurd (cc))
 
 -- a rule alone
-pub it_holds : (s : Site) (holds : Bool) (at : ℕ) (rule : TypeRule) (t : Unit {0}) → (must holds (at_byte s at rule) ≡ Ok t) ↔ (holds ≡ true)
-it_holds s true at rule t = (λ e. refl, λ e. refl)
-it_holds s false at rule t = (λ e. absurd (cc), λ e. absurd (cc))
+pub it_holds : (holds : Bool) (broken : TypeBreak) (t : Unit {0}) → (must holds broken ≡ Ok t) ↔ (holds ≡ true)
+it_holds true broken t = (λ e. refl, λ e. refl)
+it_holds false broken t = (λ e. absurd (cc), λ e. absurd (cc))
