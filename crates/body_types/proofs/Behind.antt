@@ -1,8 +1,8 @@
 -- A loop over a list that is checked one element after the other.
 use Rattle.std.proofs.Common.{◌≡◌, List, [], ◌∷◌, ◌++◌, refl, sym, ap, ◌∙◌}
-use Rattle.data_scopes.specs.declared.fault.TypeFault.{TypeFault}
-use Rattle.data_scopes.specs.Declarations.{Checked, ◌>>=◌}
-use Rattle.data_scopes.specs.Gives.{Fails}
+use Rattle.rule_checks.specs.declared.fault.TypeFault.{TypeFault}
+use Rattle.rule_checks.specs.Checks.{◌>>=◌}
+use Rattle.rule_checks.specs.TypeChecks.{Checked, Fails}
 use Rattle.expr_types.proofs.Loops.{behind, goes_on, stops, then_more}
 
 -- one element further

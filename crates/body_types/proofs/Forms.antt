@@ -17,7 +17,8 @@ use Rattle.raw_trees.specs.Views.{view_arm as view_raw_arm, view_case as view_ra
 use Rattle.raw_trees.proofs.Rows.{choice_view, for_view, test_view, while_view}
 use Rattle.rapid_model.specs.declared.sort.Sort.TheVariants as sorts
 use Rattle.typed_trees.specs.Plain
-use Rattle.data_scopes.specs.Declarations.{Checked, ◌>>=◌}
+use Rattle.rule_checks.specs.Checks.{◌>>=◌}
+use Rattle.rule_checks.specs.TypeChecks.{Checked}
 use Rattle.named_data.specs.declared.wanted.Wanted.TheVariants.{Is, Fits}
 use Rattle.expr_types.specs.Typing.{typed, sort_of}
 use Rattle.body_types.specs.Bodies.{Around, Body, Bounds, Typed, bounds, choices, counter_place, otherwise, site, stmt}

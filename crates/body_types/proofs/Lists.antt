@@ -13,12 +13,13 @@ use Rattle.typed_trees.specs.declared.expr.Expr.{Expr}
 use Rattle.typed_trees.specs.declared.stmt.Stmt.{Stmt}
 use Rattle.typed_trees.specs.Plain
 use Rattle.typed_trees.specs.Views.{view_arm, view_case, view_expr, view_list}
-use Rattle.data_scopes.specs.Declarations.{Checked, ◌>>=◌}
+use Rattle.rule_checks.specs.Checks.{◌>>=◌}
+use Rattle.rule_checks.specs.TypeChecks.{Checked}
 use Rattle.named_data.specs.Rules.{Site}
 use Rattle.named_data.specs.declared.wanted.Wanted.TheVariants.{Is, Same}
 use Rattle.expr_types.specs.Typing.{typed}
 use Rattle.body_types.specs.Bodies.{Around, Body, Typed, branches, case_values, choices, into, stmt, stmts}
-use Rattle.expr_types.proofs.Loops.{all, behind, then_more}
+use Rattle.expr_types.proofs.Loops.{all, all_exprs, behind, then_more}
 
 abbrev pub more_stmts : Plain.TypedStmt → Typed Plain.TypedStmts → Typed Plain.TypedStmts
 more_stmts s r = record { tree = Plain.MoreStmts s r.tree; next = r.next }
@@ -26,18 +27,15 @@ more_stmts s r = record { tree = Plain.MoreStmts s r.tree; next = r.next }
 abbrev pub more_arms : Plain.TypedExpr × Plain.TypedStmts → Typed Plain.TypedArms → Typed Plain.TypedArms
 more_arms a r = record { tree = Plain.MoreArms a.0 a.1 r.tree; next = r.next }
 
-abbrev pub more_cases : List Plain.TypedExpr × Plain.TypedStmts → Typed Plain.TypedCases → Typed Plain.TypedCases
+abbrev pub more_cases : Plain.TypedExprs × Plain.TypedStmts → Typed Plain.TypedCases → Typed Plain.TypedCases
 more_cases c r = record { tree = Plain.MoreCases c.0 c.1 r.tree; next = r.next }
-
-abbrev pub more_values : Plain.TypedExpr → List Plain.TypedExpr → List Plain.TypedExpr
-more_values t ts = t ∷ ts
 
 -- an arm and a case, their statements as one tree
 abbrev pub arm_front : Expr × Vec Stmt Global → Plain.TypedExpr × Plain.TypedStmts
 arm_front a = (view_expr a.0, Plain.stmts_of (view_list a.1))
 
-abbrev pub case_front : Vec Expr Global × Vec Stmt Global → List Plain.TypedExpr × Plain.TypedStmts
-case_front c = (map view_expr c.0.items, Plain.stmts_of (view_list c.1))
+abbrev pub case_front : Vec Expr Global × Vec Stmt Global → Plain.TypedExprs × Plain.TypedStmts
+case_front c = (Plain.exprs_of (map view_expr c.0.items), Plain.stmts_of (view_list c.1))
 
 -- the statements of a list, with its labels among those around
 abbrev pub inside : Body → Around → Vec RawStmt Global → ℕ → Checked (Typed Plain.TypedStmts)
@@ -47,12 +45,8 @@ inside body around list next = stmts body (raw_stmts_of (view_raw_list list)) (i
 abbrev pub then_arms : (ℕ → Checked (Typed Plain.TypedArms)) → Plain.TypedExpr → Typed Plain.TypedStmts → Checked (Typed Plain.TypedArms)
 then_arms rest t l = then_more more_arms (t, l.tree) (rest l.next)
 
-abbrev pub then_cases : (ℕ → Checked (Typed Plain.TypedCases)) → List Plain.TypedExpr → Typed Plain.TypedStmts → Checked (Typed Plain.TypedCases)
+abbrev pub then_cases : (ℕ → Checked (Typed Plain.TypedCases)) → Plain.TypedExprs → Typed Plain.TypedStmts → Checked (Typed Plain.TypedCases)
 then_cases rest ts l = then_more more_cases (ts, l.tree) (rest l.next)
-
-all_values : (ts : List Plain.TypedExpr) → all more_values ts [] ≡ ts
-all_values [] = refl
-all_values (t ∷ ts) = ap (more_values t) (all_values ts)
 
 all_stmts : (ss : List Plain.TypedStmt) (next : ℕ) → all more_stmts ss (record { tree = Plain.NoStmts; next = next }) ≡ record { tree = Plain.stmts_of ss; next = next }
 all_stmts [] next = refl
@@ -69,15 +63,15 @@ all_cases (c ∷ cases) next = ap (more_cases (case_front c)) (all_cases cases n
 -- the values of a CASE from one on
 pub values_more : (site : Site) (sort : Sort) (list : List RawExpr) (i : ℕ) (e : RawExpr) → i < length list → e ≡ get_or list i e →
     case_values site sort (map view_raw (drop i list))
-    ≡ (typed site (view_raw e) (Same sort) >>= (λ t. then_more more_values t (case_values site sort (map view_raw (drop (i + 1) list)))))
+    ≡ (typed site (view_raw e) (Same sort) >>= (λ t. then_more Plain.MoreExprs t (case_values site sort (map view_raw (drop (i + 1) list)))))
 values_more site sort list i e lt is =
     at_drop_more (λ left. case_values site sort (map view_raw left)) list i e lt
-    ∙ ap (λ x. typed site (view_raw x) (Same sort) >>= (λ t. then_more more_values t (case_values site sort (map view_raw (drop (i + 1) list))))) (sym is)
+    ∙ ap (λ x. typed site (view_raw x) (Same sort) >>= (λ t. then_more Plain.MoreExprs t (case_values site sort (map view_raw (drop (i + 1) list))))) (sym is)
 
 pub values_end : (site : Site) (sort : Sort) (list : List RawExpr) (i : ℕ) (front : List Plain.TypedExpr) → length list ≤ i →
-    behind more_values front (case_values site sort (map view_raw (drop i list))) ≡ Ok front
+    behind Plain.MoreExprs front (case_values site sort (map view_raw (drop i list))) ≡ Ok (Plain.exprs_of front)
 values_end site sort list i front le =
-    ap (behind more_values front) (at_drop_all (λ left. case_values site sort (map view_raw left)) list i le) ∙ ap Ok (all_values front)
+    ap (behind Plain.MoreExprs front) (at_drop_all (λ left. case_values site sort (map view_raw left)) list i le) ∙ ap Ok (all_exprs front)
 
 module _ (body : Body) (around : Around) where
   -- the statements of a list from one on

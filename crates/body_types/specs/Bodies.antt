@@ -9,19 +9,20 @@ use Rattle.rapid_model.specs.declared.instruction.Instruction.{Instruction}
 use Rattle.rapid_model.specs.declared.sort.Sort.{Sort}
 use Rattle.rapid_model.specs.declared.sort.Sort.TheVariants as sorts
 use Rattle.typed_trees.specs.Plain
-use Rattle.typed_trees.specs.Plain.{TypedExpr, TypedPlace, TypedArgs, TypedStmt, TypedStmts, TypedArms, TypedCases, TypedElse}
-use Rattle.data_scopes.specs.declared.fault.TypeRule.TheVariants.{NoName, NotThis, TypeClash, ReadOnly, NoLabel, LabelTwice, HandlerOnly, ReturnKind}
+use Rattle.typed_trees.specs.Plain.{TypedExpr, TypedExprs, TypedPlace, TypedArgs, TypedStmt, TypedStmts, TypedArms, TypedCases, TypedElse}
+use Rattle.rule_checks.specs.declared.rule.TypeRule.TheVariants.{NoName, NotThis, TypeClash, ReadOnly, NoLabel, LabelTwice, HandlerOnly, ReturnKind}
 use Rattle.data_scopes.specs.declared.meant.Meant.{Meant}
 use Rattle.data_scopes.specs.declared.meant.Meant.TheVariants as meants
 use Rattle.data_scopes.specs.Called.{kind_of, params_of, places_of, result_of}
-use Rattle.data_scopes.specs.Declarations.{Checked, ◌>>=◌}
+use Rattle.rule_checks.specs.Checks.{◌>>=◌, must}
+use Rattle.rule_checks.specs.TypeChecks.{Checked}
 use Rattle.data_scopes.specs.Scopes.{Names}
 use Rattle.rapid_model.specs.Sorts.{has_values}
 use Rattle.named_data.specs.declared.named.Source.{Source}
 use Rattle.named_data.specs.declared.named.Source.TheVariants as sources
 use Rattle.named_data.specs.declared.wanted.Wanted.TheVariants.{Any, Is, Same, Fits}
 use Rattle.named_data.specs.Data.{NamedPart, named}
-use Rattle.named_data.specs.Rules.{Site, fail, must}
+use Rattle.named_data.specs.Rules.{Site, fail, at_byte}
 use Rattle.expr_types.specs.Arguments.{is_fixed}
 use Rattle.expr_types.specs.Calls.{routine_signature, instruction_signature}
 use Rattle.expr_types.specs.Places.{place, lent_place}
@@ -70,7 +71,7 @@ is_signal (Some (meants.Signal number)) = true
 is_signal _ = false
 
 abbrev pub no_signal : Site → PlainName → Checked (Unit {0})
-no_signal s name = must s (not (is_signal (named s name))) name.at NotThis
+no_signal s name = must (not (is_signal (named s name))) (at_byte s name.at NotThis)
 
 -- the place of a part that is written
 abbrev pub target_from : Site → ℕ → NamedPart → Source → Checked TypedPlace
@@ -82,8 +83,8 @@ abbrev pub target : Site → PlainPlace → Checked TypedPlace
 target s written =
     no_signal s (name_of written) >>= (λ _.
     place s false written >>= (λ p.
-    must s (has_values p.sort) (name_of written).at TypeClash >>= (λ _.
-    must s (not (is_fixed p.source)) (name_of written).at ReadOnly >>= (λ _. target_from s (name_of written).at p p.source))))
+    must (has_values p.sort) (at_byte s (name_of written).at TypeClash) >>= (λ _.
+    must (not (is_fixed p.source)) (at_byte s (name_of written).at ReadOnly) >>= (λ _. target_from s (name_of written).at p p.source))))
 
 abbrev pub place_sort : TypedPlace → Sort
 place_sort (Plain.PlaceOf root index part sort) = sort
@@ -112,12 +113,12 @@ abbrev pub called : Site → ℕ → PlainName → PlainArgs → Checked TypedSt
 called s at name args = call_meant s at name args (named s name)
 
 abbrev pub labelled : Body → Site → ℕ → PlainName → Checked TypedStmt
-labelled body s at name = must s (is_first name body.labels) at LabelTwice >>= (λ _. Ok (Plain.Label at (label_number name.text body.labels)))
+labelled body s at name = must (is_first name body.labels) (at_byte s at LabelTwice) >>= (λ _. Ok (Plain.Label at (label_number name.text body.labels)))
 
 -- the label stands in the GOTO's own list or in one around it
 abbrev pub jumped : Body → Around → Site → ℕ → PlainName → Checked TypedStmt
 jumped body around s at name =
-    must s (is_visible name.text around.labels) at NoLabel >>= (λ _. Ok (Plain.Goto at (label_number name.text body.labels)))
+    must (is_visible name.text around.labels) (at_byte s at NoLabel) >>= (λ _. Ok (Plain.Goto at (label_number name.text body.labels)))
 
 -- a function returns a value of its type, nothing else returns one
 abbrev pub returned_value : Site → ℕ → PlainExpr → RoutineKind → Option Sort → Checked TypedStmt
@@ -130,16 +131,16 @@ is_function kinds.Proc = false
 is_function kinds.Trap = false
 
 abbrev pub returned : Body → Site → ℕ → Option PlainExpr → Checked TypedStmt
-returned body s at None = must s (not (is_function body.kind)) at ReturnKind >>= (λ _. Ok (Plain.Return at None))
+returned body s at None = must (not (is_function body.kind)) (at_byte s at ReturnKind) >>= (λ _. Ok (Plain.Return at None))
 returned body s at (Some value) = returned_value s at value body.kind (result_of s.names.rows body.routine)
 
 -- outside an ERROR part an error is raised by its number
 abbrev pub raised : Around → Site → ℕ → Option PlainExpr → Checked TypedStmt
-raised around s at None = must s around.handler at HandlerOnly >>= (λ _. Ok (Plain.Raise at None))
+raised around s at None = must around.handler (at_byte s at HandlerOnly) >>= (λ _. Ok (Plain.Raise at None))
 raised around s at (Some number) = typed s number (Is sorts.Num) >>= (λ t. Ok (Plain.Raise at (Some t)))
 
 abbrev pub in_handler : Around → Site → ℕ → TypedStmt → Checked TypedStmt
-in_handler around s at tree = must s around.handler at HandlerOnly >>= (λ _. Ok tree)
+in_handler around s at tree = must around.handler (at_byte s at HandlerOnly) >>= (λ _. Ok tree)
 
 -- a trap is named
 abbrev pub trap_of_kind : Site → ℕ → ℕ → Option RoutineKind → Checked ℕ
@@ -177,9 +178,9 @@ abbrev pub counter_place : Body → ℕ → ℕ
 counter_place body loop = places_of body.names.rows (Some body.routine) + loop
 
 -- the values of a CASE, of the type of the tested one
-abbrev pub case_values : Site → Sort → List PlainExpr → Checked (List TypedExpr)
-case_values s sort [] = Ok []
-case_values s sort (e ∷ es) = typed s e (Same sort) >>= (λ t. case_values s sort es >>= (λ ts. Ok (t ∷ ts)))
+abbrev pub case_values : Site → Sort → List PlainExpr → Checked TypedExprs
+case_values s sort [] = Ok Plain.NoExprs
+case_values s sort (e ∷ es) = typed s e (Same sort) >>= (λ t. case_values s sort es >>= (λ ts. Ok (Plain.MoreExprs t ts)))
 
 -- what is typed, and the number of the next FOR
 pub record Typed (A : Type 0) : Type 0 where

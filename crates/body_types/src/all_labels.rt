@@ -3,12 +3,12 @@
 ghost use Rattle.std.specs.Prelude.{◌++◌, Ok};
 ghost use Rattle.raw_trees.specs.Plain.{stmts_of};
 ghost use Rattle.raw_trees.specs.Views.{view_list, view_routine, view_stmt};
-ghost use Rattle.data_scopes.specs.Gives.{Gives};
+ghost use Rattle.rule_checks.specs.TypeChecks.{Gives};
 ghost use Rattle.body_types.specs.Labels;
 
 use crate::label_list::LabelList;
-use data_scopes::TypeFault;
 use raw_trees::{RawForm, RawRoutine, RawStmt};
+use rule_checks::TypeFault;
 use std::alloc::Global;
 
 /// Behind these labels those of a statement.

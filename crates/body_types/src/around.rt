@@ -7,8 +7,8 @@ ghost use Rattle.named_data.specs.Views.{view_site};
 
 use crate::body::Body;
 use crate::label_list::LabelList;
-use data_scopes::Spot;
 use named_data::Site;
+use rule_checks::Spot;
 
 /// What is around a statement: the innermost FOR whose list it stands in, the labels of its own list and of those around it,
 /// and whether it stands in the ERROR part.

@@ -3,16 +3,16 @@
 ghost use Rattle.std.specs.Prelude.{option_map};
 ghost use Rattle.raw_trees.specs.Views.{view_expr as view_raw};
 ghost use Rattle.typed_trees.specs.Views.{view_expr};
-ghost use Rattle.data_scopes.specs.Gives.{Gives};
+ghost use Rattle.rule_checks.specs.TypeChecks.{Gives};
 ghost use Rattle.named_data.specs.Views.{view_site};
 ghost use Rattle.body_types.specs.Bodies;
 ghost use Rattle.body_types.specs.Views.{view_bounds};
 
-use data_scopes::TypeFault;
 use expr_types::typed;
 use named_data::{Site, Wanted};
 use rapid_model::Sort;
 use raw_trees::{RawBounds, RawExpr};
+use rule_checks::TypeFault;
 use typed_trees::{Bounds, Expr};
 
 fn step_of(site: &Site<'_>, step: &Option<RawExpr<'_>>) -> Result<Option<Expr>, TypeFault>

@@ -4,16 +4,17 @@ ghost use Rattle.std.specs.Prelude.{◌≡◌, map};
 ghost use Rattle.raw_trees.specs.Plain.{args_of as raw_args_of};
 ghost use Rattle.raw_trees.specs.Views.{view_arg as view_raw_arg, view_name, view_place as view_raw_place};
 ghost use Rattle.typed_trees.specs.Views.{view_stmt};
-ghost use Rattle.data_scopes.specs.Gives.{Gives};
+ghost use Rattle.rule_checks.specs.TypeChecks.{Gives};
 ghost use Rattle.named_data.specs.Views.{view_site};
 ghost use Rattle.body_types.specs.Bodies;
 
 use crate::targets::{named, no_signal};
-use data_scopes::{Meant, TypeFault, TypeRule};
+use data_scopes::Meant;
 use expr_types::{call_arguments, instruction_signature, lent_place, routine_signature};
 use named_data::{Site, fault};
 use rapid_model::{Instruction, Sort};
 use raw_trees::{RawArg, RawName, RawPlace, RoutineKind};
+use rule_checks::{TypeFault, TypeRule};
 use typed_trees::Stmt;
 
 /// An instruction of the profile (RAPID Instructions, Functions and Data types, arguments).

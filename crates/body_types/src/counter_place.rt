@@ -1,12 +1,12 @@
 //! Places of the variables of FORs.
 
 ghost use Rattle.std.specs.Prelude.{Ok};
-ghost use Rattle.data_scopes.specs.Gives.{Gives};
+ghost use Rattle.rule_checks.specs.TypeChecks.{Gives};
 ghost use Rattle.body_types.specs.Bodies;
 ghost use Rattle.body_types.specs.Views.{view_body};
 
 use crate::body::Body;
-use data_scopes::TypeFault;
+use rule_checks::TypeFault;
 
 /// The place of the variable of the FOR of this number, behind the parameters and data of its routine. Its error is want of
 /// memory, also for a number past 32 bits.

@@ -2,7 +2,7 @@
 
 ghost use Rattle.raw_trees.specs.Views.{view_name};
 ghost use Rattle.typed_trees.specs.Views.{view_stmt};
-ghost use Rattle.data_scopes.specs.Gives.{Gives};
+ghost use Rattle.rule_checks.specs.TypeChecks.{Gives};
 ghost use Rattle.named_data.specs.Views.{view_site};
 ghost use Rattle.body_types.specs.Bodies;
 ghost use Rattle.body_types.specs.Views.{view_around, view_body};
@@ -10,9 +10,9 @@ ghost use Rattle.body_types.specs.Views.{view_around, view_body};
 use crate::around::Around;
 use crate::body::Body;
 use crate::labels::is_visible;
-use data_scopes::{TypeFault, TypeRule};
 use named_data::{Site, must};
 use raw_trees::RawName;
+use rule_checks::{TypeFault, TypeRule};
 use typed_trees::Stmt;
 
 /// A label, the only one of its name in the routine.

@@ -1,12 +1,12 @@
 ghost use Rattle.std.specs.Prelude.{◌≡◌, [], ◌∷◌, ◌++◌, Ok, length};
 ghost use Rattle.raw_trees.specs.Views.{view_name};
-ghost use Rattle.data_scopes.specs.Gives.{Gives};
+ghost use Rattle.rule_checks.specs.TypeChecks.{Gives};
 ghost use Rattle.body_types.specs.Labels;
 
-use data_scopes::TypeFault;
 use name_tables::NameTable;
 use named_data::number_of;
 use raw_trees::RawName;
+use rule_checks::TypeFault;
 use std::alloc::Global;
 use std::marker::Model;
 

@@ -3,14 +3,14 @@
 ghost use Rattle.std.specs.Prelude.{◌≡◌, ◌++◌, not, Ok};
 ghost use Rattle.raw_trees.specs.Plain.{stmts_of, MoreStmts, NoStmts};
 ghost use Rattle.raw_trees.specs.Views.{view_list, view_stmt};
-ghost use Rattle.data_scopes.specs.Gives.{Gives};
+ghost use Rattle.rule_checks.specs.TypeChecks.{Gives};
 ghost use Rattle.named_data.specs.Data.{is_none};
 ghost use Rattle.body_types.specs.Labels;
 ghost use Rattle.body_types.specs.Labels.{labels_around};
 
 use crate::label_list::LabelList;
-use data_scopes::TypeFault;
 use raw_trees::{RawForm, RawStmt};
+use rule_checks::TypeFault;
 use std::alloc::Global;
 
 /// Whether some label of these lists has this name.

@@ -3,18 +3,18 @@
 ghost use Rattle.std.specs.Prelude.{◌≡◌, option_map};
 ghost use Rattle.raw_trees.specs.Views.{view_expr as view_raw};
 ghost use Rattle.typed_trees.specs.Views.{view_stmt};
-ghost use Rattle.data_scopes.specs.Gives.{Gives};
+ghost use Rattle.rule_checks.specs.TypeChecks.{Gives};
 ghost use Rattle.named_data.specs.Views.{view_site};
 ghost use Rattle.body_types.specs.Bodies;
 ghost use Rattle.body_types.specs.Views.{view_around, view_body};
 
 use crate::around::Around;
 use crate::body::Body;
-use data_scopes::{TypeFault, TypeRule};
 use expr_types::typed;
 use named_data::{Site, Wanted, fault, must};
 use rapid_model::Sort;
 use raw_trees::{RawExpr, RoutineKind};
+use rule_checks::{TypeFault, TypeRule};
 use typed_trees::Stmt;
 
 /// RETURN with a value, in a routine of this kind and this type of results: a function returns a value of its type, nothing

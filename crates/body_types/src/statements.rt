@@ -6,7 +6,7 @@ ghost use Rattle.raw_trees.specs.Plain.{stmts_of as raw_stmts_of};
 ghost use Rattle.raw_trees.specs.Views.{view_list as view_raw_list, view_stmt as view_raw_stmt};
 ghost use Rattle.typed_trees.specs.Plain.{Else};
 ghost use Rattle.typed_trees.specs.Views.{view_stmt};
-ghost use Rattle.data_scopes.specs.Gives.{Gives};
+ghost use Rattle.rule_checks.specs.TypeChecks.{Gives};
 ghost use Rattle.named_data.specs.Views.{view_site};
 ghost use Rattle.body_types.specs.Bodies;
 ghost use Rattle.body_types.specs.Bodies.{outside};
@@ -24,11 +24,12 @@ use crate::labels::{has_labels, levels_within, own_labels};
 use crate::returns::{in_handler, raised, returned};
 use crate::targets::assigned;
 use crate::typed_rows::{TypedArms, TypedCases, TypedElse, TypedList, TypedOne};
-use data_scopes::{TypeFault, number_after};
+use data_scopes::number_after;
 use expr_types::typed;
 use named_data::{Site, Wanted};
 use rapid_model::Sort;
 use raw_trees::{Operator, RawForm, RawStmt};
+use rule_checks::TypeFault;
 use typed_trees::Stmt;
 
 /// A statement that holds no list, and the number of the next FOR.

@@ -3,17 +3,18 @@
 ghost use Rattle.std.specs.Prelude.{◌≡◌};
 ghost use Rattle.raw_trees.specs.Views.{view_expr as view_raw, view_name, view_place as view_raw_place};
 ghost use Rattle.typed_trees.specs.Views.{view_place, view_stmt};
-ghost use Rattle.data_scopes.specs.Gives.{Gives};
+ghost use Rattle.rule_checks.specs.TypeChecks.{Gives};
 ghost use Rattle.named_data.specs.Data.{named};
 ghost use Rattle.named_data.specs.Views.{view_site};
 ghost use Rattle.expr_types.specs.Views.{view_part};
 ghost use Rattle.body_types.specs.Bodies;
 
-use data_scopes::{Meant, TypeFault, TypeRule};
+use data_scopes::Meant;
 use expr_types::{PlacePart, is_fixed, place, typed};
 use named_data::{Site, Source, Wanted, fault, must};
 use rapid_model::has_values;
 use raw_trees::{RawExpr, RawName, RawPlace};
+use rule_checks::{TypeFault, TypeRule};
 use typed_trees::{Stmt, TreePlace};
 
 /// What the innermost declaration of the name means that is visible (RAPID Kernel, scope rules).

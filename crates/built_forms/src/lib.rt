@@ -6,8 +6,6 @@ mod fault;
 mod joints;
 mod moves;
 mod speeds;
-#[cfg(test)]
-mod tests;
 mod words;
 
 pub use build::build_module;

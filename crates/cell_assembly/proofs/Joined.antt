@@ -4,15 +4,15 @@ use Rattle.std.proofs.lemmas.Bool.{le-leb}
 use Rattle.std.proofs.lemmas.List.{length-map, map-set}
 use Rattle.std.proofs.lemmas.Option.{slice_get-map, slice_get_read}
 use Rattle.rapid_model.specs.declared.pers_value.PersValue.{PersValue}
-use Rattle.rapid_model.specs.declared.script_rule.ScriptRule.{ScriptRule}
 use Rattle.rapid_model.specs.declared.script_rule.ScriptRule.TheVariants.{Kind, Range, Twice}
 use Rattle.name_tables.specs.Names.{NameList, Finds}
 use Rattle.named_data.specs.Wants.{same_sort}
 use Rattle.typed_trees.specs.Plain.{TypedPers}
 use Rattle.rapid_model.specs.Sorts.{width}
 use Rattle.cell_assembly.specs.declared.pers_info.PersInfo.{PersInfo}
+use Rattle.rule_checks.specs.Checks.{◌>>◌, must}
 use Rattle.cell_assembly.specs.Cells
-use Rattle.cell_assembly.specs.Cells.{Making, Clash}
+use Rattle.cell_assembly.specs.Cells.{CellBreak, Making, Clash}
 use Rattle.cell_assembly.specs.Views.{view_info}
 use Rattle.cell_assembly.proofs.Kept.{number_kept}
 
@@ -50,9 +50,9 @@ table_joined table pers k row old new within is declared found name =
     ∙ sym (number_kept name (map view_info pers) k (view_info old) (view_info new) (info_there pers k old within is) (ap (λ (p : Cells.PersInfo). p.name) declared) (ap (λ (p : Cells.PersInfo). p.owner) declared))
     ∙ ap (Cells.global_number name) (sym (map-set view_info pers k new))
 
-must_holds : {A : Type 0} (holds : Bool) (number : ℕ) (rule : ScriptRule) (next : Making A) → holds ≡ true → Cells.must holds number rule next ≡ next
-must_holds true number rule next e = refl
-must_holds false number rule next e = cc
+must_holds : {A : Type 0} (holds : Bool) (b : CellBreak) (next : Making A) → holds ≡ true → (must holds b >> next) ≡ next
+must_holds true b next e = refl
+must_holds false b next e = cc
 
 pub told_there : (infos : List PersInfo) (number k : ℕ) (row : PersValue) (old new : PersInfo) → k < length infos → old ≡ get_or infos k old
     → Cells.has_sort old.sort row.value && Cells.fits_index old.len row.index ≡ true → Cells.element row.index + 1 ≤ width old.len
@@ -62,8 +62,8 @@ told_there infos number k row old new within is suits in_range untold told =
     let ps = map view_info infos in
     let place = Cells.element row.index in
     ap (Cells.tell_to ps number row k) (info_there infos k old within is)
-    ∙ must_holds (Cells.has_sort old.sort row.value && Cells.fits_index old.len row.index) number Kind _ suits
-    ∙ must_holds (nat_le (place + 1) (width old.len)) number Range _ (le-leb (place + 1) (width old.len) in_range)
-    ∙ must_holds (not (Cells.is_told (slice_get old.told.items place))) number Twice _ (ap not untold)
+    ∙ must_holds (Cells.has_sort old.sort row.value && Cells.fits_index old.len row.index) (Cells.at_value number Kind) _ suits
+    ∙ must_holds (nat_le (place + 1) (width old.len)) (Cells.at_value number Range) _ (le-leb (place + 1) (width old.len) in_range)
+    ∙ must_holds (not (Cells.is_told (slice_get old.told.items place))) (Cells.at_value number Twice) _ (ap not untold)
     ∙ ap (λ p. let made : Making (List Cells.PersInfo) = Ok (set ps k p) in made) (sym told)
     ∙ ap (λ qs. let made : Making (List Cells.PersInfo) = Ok qs in made) (sym (map-set view_info infos k new))

@@ -7,8 +7,8 @@ use Rattle.name_tables.specs.Names.{NameList, Finds}
 use Rattle.rapid_model.specs.Sorts.{width}
 use Rattle.rapid_model.specs.declared.pers_value.PersValue.{PersValue}
 use Rattle.rapid_model.specs.declared.script_rule.ScriptRule.TheVariants.{Kind, Range, Twice}
-use Rattle.cell_assembly.specs.Cells.{PersInfo, is_global, global_number, has_sort, fits_index, element, is_told, with_told, tell_to, tell_global}
-use Rattle.cell_assembly.proofs.Holds.{must_hold}
+use Rattle.cell_assembly.specs.Cells.{PersInfo, is_global, global_number, has_sort, fits_index, element, is_told, with_told, at_value, tell_to, tell_global}
+use Rattle.rule_checks.proofs.Keeps.{Keeps-must}
 
 same_number : (name : List ℕ) (ps : List PersInfo) (k : ℕ) (old new : PersInfo) → slice_get ps k ≡ Some old → is_global name new ≡ is_global name old → global_number name (set ps k new) ≡ global_number name ps
 same_number name [] k old new at same = refl
@@ -29,10 +29,10 @@ tell_to_keeps : (name : List ℕ) (ps : List PersInfo) (number : ℕ) (row : Per
 tell_to_keeps name ps number row k None at = tt
 tell_to_keeps name ps number row k (Some p) at =
     let place = element row.index in
-    let Keeps : List PersInfo → Type 0 = λ qs. global_number name qs ≡ global_number name ps in
-    must_hold Keeps (has_sort p.sort row.value && fits_index p.len row.index) number Kind _ (λ suits.
-    must_hold Keeps (nat_le (place + 1) (width p.len)) number Range _ (λ there.
-    must_hold Keeps (not (is_told (slice_get p.told place))) number Twice _ (λ untold.
+    let Same : List PersInfo → Type 0 = λ qs. global_number name qs ≡ global_number name ps in
+    Keeps-must Same (has_sort p.sort row.value && fits_index p.len row.index) (at_value number Kind) _ (λ suits.
+    Keeps-must Same (nat_le (place + 1) (width p.len)) (at_value number Range) _ (λ there.
+    Keeps-must Same (not (is_told (slice_get p.told place))) (at_value number Twice) _ (λ untold.
     number_kept name ps k p (with_told p place row.value) at refl refl)))
 
 tell_global_keeps : (name : List ℕ) (ps : List PersInfo) (number : ℕ) (row : PersValue) (k : Option ℕ) → IfOk (tell_global ps number row k) (λ qs. global_number name qs ≡ global_number name ps)

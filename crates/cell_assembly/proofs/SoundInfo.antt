@@ -1,5 +1,6 @@
 -- Persistents of sound declarations, and that they are persistents of a cell.
 use Rattle.std.proofs.Common.{◌≡◌, ℕ, suc, Bool, true, ◌&&◌, ◌==◌, nat_lt, List, [], ◌∷◌, length, replicate, set, Option, None, Some, refl, ap, ◌∙◌, arith}
+use Rattle.std.specs.Option.{option_or}
 use Rattle.std.specs.List.{list_all}
 use Rattle.std.proofs.lemmas.Bool.{and_parts, and_from, eqb-true, eq-eqb}
 use Rattle.std.proofs.lemmas.List.{length-replicate, length-set}
@@ -15,7 +16,7 @@ use Rattle.rapid_model.specs.declared.value.Value.TheVariants as values
 use Rattle.named_data.specs.Wants.{same_sort}
 use Rattle.typed_trees.specs.Plain.{TypedPers}
 use Rattle.typed_trees.specs.Sound.{fits, is_sound}
-use Rattle.cell_assembly.specs.Cells.{PersInfo, new_pers, or_declared, with_declared, same_len, has_sort, with_told}
+use Rattle.cell_assembly.specs.Cells.{PersInfo, new_pers, with_declared, same_len, has_sort, with_told}
 use Rattle.cell_assembly.specs.Made.{start_of, declared_values, over, pers_cell}
 
 -- a value of the type for each element
@@ -71,7 +72,7 @@ same_len_is None None e = refl
 same_len_is (Some m) (Some n) e = ap Some (eqb-true m n e)
 same_len_is _ _ e = cc
 
-either_declared : (test : List Value → Bool) (one more : Option (List Value)) → holds_where_there test one ≡ true → holds_where_there test more ≡ true → holds_where_there test (or_declared one more) ≡ true
+either_declared : (test : List Value → Bool) (one more : Option (List Value)) → holds_where_there test one ≡ true → holds_where_there test more ≡ true → holds_where_there test (option_or one more) ≡ true
 either_declared test (Some vs) more here there = here
 either_declared test None more here there = there
 

@@ -16,9 +16,11 @@ use Rattle.rapid_model.specs.declared.script_rule.ScriptRule.TheVariants.{Kind, 
 use Rattle.named_data.specs.Wants.{same_sort}
 use Rattle.typed_trees.specs.Plain.{TypedPers, TypedTree}
 use Rattle.typed_trees.specs.Sound.{is_sound, has_sound_pers}
-use Rattle.cell_assembly.specs.Cells.{◌>>=◌, PersInfo, Numbered, PersTables, CellTables, MeetingTables, new_pers, added, joined, join, global_pers, one_pers, all_pers, with_list, trees_pers, global_number, same_len, has_sort, fits_index, element, is_told, with_declared, with_told, tell_to, tell_global, tell, tell_all, meet_all, meetings_with, trees_meetings, tables, cell_tables, Clash}
+use Rattle.rule_checks.specs.Checks.{◌>>=◌}
+use Rattle.cell_assembly.specs.Cells.{PersInfo, Numbered, PersTables, CellTables, MeetingTables, new_pers, added, joined, join, global_pers, one_pers, all_pers, with_list, trees_pers, global_number, same_len, has_sort, fits_index, element, is_told, with_declared, with_told, at_value, tell_to, tell_global, tell, tell_all, meet_all, meetings_with, trees_meetings, tables, cell_tables, Clash}
 use Rattle.cell_assembly.specs.Made.{pers_cell}
-use Rattle.cell_assembly.proofs.Holds.{then_holds, either_holds, must_hold}
+use Rattle.rule_checks.proofs.Keeps.{Keeps-then, Keeps-must}
+use Rattle.cell_assembly.proofs.Holds.{either_holds}
 use Rattle.cell_assembly.proofs.SoundInfo.{IsSoundInfo, new_sound, declared_sound, told_sound, cell_sound}
 
 -- with so many tasks
@@ -53,7 +55,7 @@ all_sound : (tasks : ℕ) (n : Numbered) (task : ℕ) (rows : List TypedPers) �
 all_sound tasks n task [] is_task sound all = all
 all_sound tasks n task (row ∷ rows) is_task sound all =
     let (here, more) = and_parts (is_sound row) (list_all is_sound rows) sound in
-    then_holds (λ (m : Numbered). AreSound tasks m.pers) (λ (m : Numbered). AreSound tasks m.pers) (one_pers n task row) (λ m. all_pers m task rows) (one_sound tasks n task row is_task here all)
+    Keeps-then (λ (m : Numbered). AreSound tasks m.pers) (λ (m : Numbered). AreSound tasks m.pers) (one_pers n task row) (λ m. all_pers m task rows) (one_sound tasks n task row is_task here all)
     (λ m is. all_sound tasks m task rows is_task more is)
 
 -- the persistents of sound trees, of so many tasks
@@ -66,7 +68,7 @@ trees_sound : (tasks : ℕ) (t : PersTables) (task : ℕ) (trees : List TypedTre
 trees_sound tasks t task [] count lists sound all = record { pers = all; as_many = omega arith }
 trees_sound tasks t task (tree ∷ trees) count lists sound all =
     let (here, more) = and_parts (has_sound_pers tree) (list_all has_sound_pers trees) sound in
-    then_holds (λ (n : Numbered). AreSound tasks n.pers) (AreSoundPers tasks) (all_pers (record { pers = t.pers; numbers = [] }) task tree.pers) (λ n. trees_pers (with_list t n) (task + 1) trees)
+    Keeps-then (λ (n : Numbered). AreSound tasks n.pers) (AreSoundPers tasks) (all_pers (record { pers = t.pers; numbers = [] }) task tree.pers) (λ n. trees_pers (with_list t n) (task + 1) trees)
     (all_sound tasks (record { pers = t.pers; numbers = [] }) task tree.pers (omega arith) here all)
     (λ n is. trees_sound tasks (with_list t n) (task + 1) trees (omega arith) (omega (arith, length-append t.lists (n.numbers ∷ []))) more is)
 
@@ -74,9 +76,9 @@ tell_to_sound : (tasks : ℕ) (ps : List PersInfo) (number : ℕ) (row : PersVal
 tell_to_sound tasks ps number row k None all at = tt
 tell_to_sound tasks ps number row k (Some p) all at =
     let place = element row.index in
-    must_hold (AreSound tasks) (has_sort p.sort row.value && fits_index p.len row.index) number Kind _ (λ suits.
-    must_hold (AreSound tasks) (nat_le (place + 1) (width p.len)) number Range _ (λ there.
-    must_hold (AreSound tasks) (not (is_told (slice_get p.told place))) number Twice _ (λ untold.
+    Keeps-must (AreSound tasks) (has_sort p.sort row.value && fits_index p.len row.index) (at_value number Kind) _ (λ suits.
+    Keeps-must (AreSound tasks) (nat_le (place + 1) (width p.len)) (at_value number Range) _ (λ there.
+    Keeps-must (AreSound tasks) (not (is_told (slice_get p.told place))) (at_value number Twice) _ (λ untold.
     All-set (IsSoundInfo tasks) ps k (with_told p place row.value)
     (told_sound tasks p place row.value (and_parts (has_sort p.sort row.value) (fits_index p.len row.index) suits).0 (one_there tasks ps k p at all)) all)))
 
@@ -87,7 +89,7 @@ tell_global_sound tasks ps number row (Some k) all = tell_to_sound tasks ps numb
 tell_all_sound : (tasks : ℕ) (ps : List PersInfo) (number : ℕ) (rows : List PersValue) → AreSound tasks ps → IfOk (tell_all ps number rows) (AreSound tasks)
 tell_all_sound tasks ps number [] all = all
 tell_all_sound tasks ps number (row ∷ rows) all =
-    then_holds (AreSound tasks) (AreSound tasks) (tell ps number row) (λ qs. tell_all qs (number + 1) rows) (tell_global_sound tasks ps number row (global_number row.name ps) all)
+    Keeps-then (AreSound tasks) (AreSound tasks) (tell ps number row) (λ qs. tell_all qs (number + 1) rows) (tell_global_sound tasks ps number row (global_number row.name ps) all)
     (λ qs is. tell_all_sound tasks qs (number + 1) rows is)
 
 meetings_as_many : (t : MeetingTables) (trees : List TypedTree) → length (trees_meetings t trees).lists ≡ length t.lists + length trees
@@ -110,9 +112,9 @@ are_right : (rows : List PersValue) (trees : List TypedTree) → list_all has_so
 are_right rows trees sound =
     let tasks = length trees in
     let met = trees_meetings (record { names = []; lists = [] }) trees in
-    then_holds (AreSoundPers tasks) (AreRight tasks) (trees_pers (record { pers = []; lists = [] }) 0 trees) (λ t. tell_all t.pers 0 rows >>= (λ ps. Ok (tables t ps met)))
+    Keeps-then (AreSoundPers tasks) (AreRight tasks) (trees_pers (record { pers = []; lists = [] }) 0 trees) (λ t. tell_all t.pers 0 rows >>= (λ ps. Ok (tables t ps met)))
     (trees_sound tasks (record { pers = []; lists = [] }) 0 trees (omega arith) refl sound (All-nil (IsSoundInfo tasks)))
-    (λ t is. then_holds (AreSound tasks) (AreRight tasks) (tell_all t.pers 0 rows) (λ ps. Ok (tables t ps met)) (tell_all_sound tasks t.pers 0 rows is.pers)
+    (λ t is. Keeps-then (AreSound tasks) (AreRight tasks) (tell_all t.pers 0 rows) (λ ps. Ok (tables t ps met)) (tell_all_sound tasks t.pers 0 rows is.pers)
     (λ ps all. record { pers = cells_sound tasks ps all; pers_of = is.as_many; meeting_of = meetings_as_many (record { names = []; lists = [] }) trees ∙ omega arith }))
 
 pub tables_are_right : (tasks : ℕ) (rows : List PersValue) (trees : List TypedTree) (t : CellTables) → length trees ≡ tasks → list_all has_sound_pers trees ≡ true → cell_tables rows trees ≡ Ok t → AreRight tasks t

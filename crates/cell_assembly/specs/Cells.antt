@@ -1,7 +1,7 @@
 -- The persistents and meetings of a cell: which of its tasks' trees are one, their numbers, and the first values of persistents
 -- (RAPID Overview, persistent data; RAPID Instructions, WaitSyncTask).
 use Rattle.std.specs.Prelude.{ℕ, ◌+◌, ◌-◌, Bool, true, false, not, ◌&&◌, ◌==◌, suc, nat_le, List, [], ◌∷◌, ◌++◌, codes, length, set, replicate, Option, Some, None, is_some, is_none, slice_get, Result, Ok, Err, if◌then◌else◌}
-use Rattle.std.specs.Option.{option_map}
+use Rattle.std.specs.Option.{option_map, option_or}
 use Rattle.std.specs.Str.{str_eq_ignore_ascii_case}
 use Rattle.rapid_model.specs.declared.pers_value.PersValue.{PersValue}
 use Rattle.rapid_model.specs.declared.script_rule.ScriptRule.{ScriptRule}
@@ -12,6 +12,7 @@ use Rattle.rapid_model.specs.declared.value.Value.{Value}
 use Rattle.rapid_model.specs.declared.value.Value.TheVariants as values
 use Rattle.rapid_model.specs.Sorts.{width}
 use Rattle.typed_trees.specs.Plain.{TypedPers, TypedTree}
+use Rattle.rule_checks.specs.Checks.{◌>>=◌, ◌>>◌, must}
 use Rattle.cell_script.specs.Break.{element_of}
 use Rattle.named_data.specs.Wants.{same_sort}
 
@@ -23,11 +24,6 @@ pub data CellBreak : Type 0 where
 
 abbrev pub Making : Type 0 → Type 0
 Making A = Result A CellBreak
-
-infixl 10 ◌>>=◌
-abbrev pub ◌>>=◌ : {A B : Type 0} → Making A → (A → Making B) → Making B
-(Ok x) >>= f = f x
-(Err b) >>= f = Err b
 
 -- A persistent of the cell: its name as it is first spelled, the task that it belongs to unless it is global, its type, its length
 -- where it is an array, the values that a declaration gives, if any does, and those that the script gives to its elements.
@@ -64,17 +60,13 @@ new_pers owner row = record {
 }
 
 -- the first declaration that gives values gives them
-abbrev pub or_declared : Option (List Value) → Option (List Value) → Option (List Value)
-or_declared (Some vs) more = Some vs
-or_declared None more = more
-
 abbrev pub with_declared : PersInfo → TypedPers → PersInfo
 with_declared p row = record {
   name = p.name;
   owner = p.owner;
   sort = p.sort;
   len = p.len;
-  declared = or_declared p.declared row.first;
+  declared = option_or p.declared row.first;
   told = p.told;
 }
 
@@ -141,11 +133,9 @@ element (Some index) = index - 1
 abbrev pub key_of : ℕ → List ℕ
 key_of number = element_of (codes "pers") number
 
-abbrev pub in_script : {A : Type 0} → ℕ → ScriptRule → Making A
-in_script number rule = Err (InScript (key_of number) rule)
-
-abbrev pub must : {A : Type 0} → Bool → ℕ → ScriptRule → Making A → Making A
-must holds number rule next = if holds then next else in_script number rule
+-- a rule that the value of this number breaks
+abbrev pub at_value : ℕ → ScriptRule → CellBreak
+at_value number rule = InScript (key_of number) rule
 
 abbrev pub is_told : Option (Option Value) → Bool
 is_told (Some (Some v)) = true
@@ -163,15 +153,15 @@ with_told p place value = record {
 
 -- the value of this number in the script, for the persistent that it names
 abbrev pub tell_to : List PersInfo → ℕ → PersValue → ℕ → Option PersInfo → Making (List PersInfo)
-tell_to ps number row k None = in_script number NoSuch
+tell_to ps number row k None = Err (at_value number NoSuch)
 tell_to ps number row k (Some p) =
-    must (has_sort p.sort row.value && fits_index p.len row.index) number Kind
-    (must (nat_le (element row.index + 1) (width p.len)) number Range
-    (must (not (is_told (slice_get p.told (element row.index)))) number Twice
-    (Ok (set ps k (with_told p (element row.index) row.value)))))
+    must (has_sort p.sort row.value && fits_index p.len row.index) (at_value number Kind)
+    >> (must (nat_le (element row.index + 1) (width p.len)) (at_value number Range)
+    >> (must (not (is_told (slice_get p.told (element row.index)))) (at_value number Twice)
+    >> Ok (set ps k (with_told p (element row.index) row.value))))
 
 abbrev pub tell_global : List PersInfo → ℕ → PersValue → Option ℕ → Making (List PersInfo)
-tell_global ps number row None = in_script number NoSuch
+tell_global ps number row None = Err (at_value number NoSuch)
 tell_global ps number row (Some k) = tell_to ps number row k (slice_get ps k)
 
 abbrev pub tell : List PersInfo → ℕ → PersValue → Making (List PersInfo)

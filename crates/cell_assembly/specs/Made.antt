@@ -9,7 +9,8 @@ use Rattle.rapid_model.specs.declared.value.Value.{Value}
 use Rattle.rapid_model.specs.declared.value.Value.TheVariants as values
 use Rattle.rapid_values.specs.Values.{start_value}
 use Rattle.typed_trees.specs.Plain.{TypedTree}
-use Rattle.cell_assembly.specs.Cells.{Making, ◌>>=◌, PersInfo, CellTables, cell_tables}
+use Rattle.rule_checks.specs.Checks.{◌>>=◌}
+use Rattle.cell_assembly.specs.Cells.{Making, PersInfo, CellTables, cell_tables}
 
 -- what an element begins with; each persistent's type has values
 abbrev pub start_of : Sort → Value

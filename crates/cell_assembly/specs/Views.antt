@@ -1,13 +1,14 @@
 -- How contracts see the persistents and meetings of a cell.
-use Rattle.std.specs.Prelude.{◌≡◌, List, map, option_map, Result, Ok, Err}
+use Rattle.std.specs.Prelude.{List, map, option_map, Option, Some, None, Result}
 use Rattle.rapid_model.specs.CellData.{CellData}
 use Rattle.typed_trees.specs.Plain.{TypedTree}
+use Rattle.rule_checks.specs.Gives as words
 use Rattle.cell_assembly.specs.declared.cell_fault.CellFault.{CellFault}
 use Rattle.cell_assembly.specs.declared.cell_fault.CellFault.TheVariants as faults
 use Rattle.cell_assembly.specs.declared.tables.CellTables.{CellTables}
 use Rattle.cell_assembly.specs.declared.pers_info.PersInfo.{PersInfo}
 use Rattle.cell_assembly.specs.Cells
-use Rattle.cell_assembly.specs.Cells.{Making, Clash, InScript}
+use Rattle.cell_assembly.specs.Cells.{CellBreak, Making, Clash, InScript}
 use Rattle.cell_assembly.specs.Made.{MadeCell}
 
 abbrev pub view_info : PersInfo → Cells.PersInfo
@@ -25,13 +26,14 @@ view_tables t = record {
 abbrev pub view_made : List TypedTree → CellData → MadeCell
 view_made trees cell = record { cell = cell; trees = trees }
 
--- what is refused; want of memory says nothing
-abbrev pub Fails : {A : Type 0} → CellFault → Making A → Type 0
-Fails (faults.Clash task «module» at) making = making ≡ Err (Clash task «module» at)
-Fails (faults.Script key rule) making = making ≡ Err (InScript key rule)
-Fails faults.Memory making = Unit {0}
+-- why no cell is made, as a fault says; want of memory says nothing
+abbrev pub broken_rule : CellFault → Option CellBreak
+broken_rule (faults.Clash task «module» at) = Some (Clash task «module» at)
+broken_rule (faults.Script key rule) = Some (InScript key rule)
+broken_rule faults.Memory = None
 
--- what a function returned, seen by a view, is what is made, want of memory aside
+abbrev pub Fails : {A : Type 0} → CellFault → Making A → Type 0
+Fails fault making = words.Fails (broken_rule fault) making
+
 abbrev pub Gives : {X A : Type 0} → (X → A) → Result X CellFault → Making A → Type 0
-Gives view (Ok x) making = making ≡ Ok (view x)
-Gives view (Err fault) making = Fails fault making
+Gives view result making = words.Gives broken_rule view result making

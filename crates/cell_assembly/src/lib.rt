@@ -26,6 +26,3 @@ pub use cell_fault::CellFault;
 pub use make::cell_tables;
 pub use pers_info::PersInfo;
 pub use tables::CellTables;
-
-#[cfg(test)]
-mod tests;

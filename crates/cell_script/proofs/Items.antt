@@ -1,12 +1,13 @@
 -- The items of an array, and loops over them.
-use Rattle.std.proofs.Common.{◌≡◌, ℕ, ◌+◌, ◌<◌, ◌≤◌, List, [], ◌∷◌, ◌++◌, length, get_or, drop, map, Option, Some, None, option_map, Ok, refl, sym, ap, ◌∙◌, append_assoc}
+use Rattle.std.proofs.Common.{◌≡◌, ℕ, ◌+◌, ◌<◌, ◌≤◌, List, [], ◌∷◌, ◌++◌, length, get_or, drop, map, Option, Some, None, option_map, Ok, Err, refl, sym, ap, ◌∙◌, append_assoc}
 use Rattle.std.proofs.lemmas.List.{at_drop_more, at_drop_all, append-nil}
 use Rattle.toml.specs.Data.{Data, Items, as_array}
 use Rattle.toml.specs.View.{view, items_view}
 use Rattle.toml.specs.declared.value.Value.{Value}
 use Rattle.rapid_model.specs.Limits.{is_within}
 use Rattle.rapid_model.specs.declared.script_rule.ScriptRule.TheVariants.{Kind, Range}
-use Rattle.cell_script.specs.Break.{◌>>=◌, broken, must, found_or}
+use Rattle.rule_checks.specs.Checks.{◌>>=◌, ◌>>◌, must, found_or}
+use Rattle.cell_script.specs.Break.{at_key}
 use Rattle.cell_script.specs.Keys.{items_list, each_as, front_of, list_at, rows_at}
 
 pub items_list-view : (items : List Value) → items_list (items_view items) ≡ map view items
@@ -52,30 +53,30 @@ items_end read items i front all past so_far =
     sym so_far ∙ ap (with_front front) (at_drop_all (left read) items i past) ∙ ap Some (append-nil front)
 
 -- the values that stand for the items of an array, where it is one
-pub list_of_items : {A : Type 0} (key : List ℕ) (read : Data → Option A) (d : Data) (ds : List Data) → Some ds ≡ option_map items_list (as_array d) → list_at key read d ≡ found_or key Kind (each_as read ds)
+pub list_of_items : {A : Type 0} (key : List ℕ) (read : Data → Option A) (d : Data) (ds : List Data) → Some ds ≡ option_map items_list (as_array d) → list_at key read d ≡ found_or (each_as read ds) (at_key key Kind)
 list_of_items key read d ds e = by_array (as_array d) e
   where
-    by_array : (o : Option Items) → Some ds ≡ option_map items_list o → (found_or key Kind o >>= (λ items. found_or key Kind (each_as read (items_list items)))) ≡ found_or key Kind (each_as read ds)
+    by_array : (o : Option Items) → Some ds ≡ option_map items_list o → (found_or o (at_key key Kind) >>= (λ items. found_or (each_as read (items_list items)) (at_key key Kind))) ≡ found_or (each_as read ds) (at_key key Kind)
     by_array None e = absurd cc
     by_array (Some items) e = let same : ds ≡ items_list items = cc in rw same refl
 
-pub no_list : {A : Type 0} (key : List ℕ) (read : Data → Option A) (d : Data) → None ≡ option_map items_list (as_array d) → list_at key read d ≡ broken key Kind
+pub no_list : {A : Type 0} (key : List ℕ) (read : Data → Option A) (d : Data) → None ≡ option_map items_list (as_array d) → list_at key read d ≡ Err (at_key key Kind)
 no_list key read d e = by_array (as_array d) e
   where
-    by_array : (o : Option Items) → None ≡ option_map items_list o → (found_or key Kind o >>= (λ items. found_or key Kind (each_as read (items_list items)))) ≡ broken key Kind
+    by_array : (o : Option Items) → None ≡ option_map items_list o → (found_or o (at_key key Kind) >>= (λ items. found_or (each_as read (items_list items)) (at_key key Kind))) ≡ Err (at_key key Kind)
     by_array None e = refl
     by_array (Some items) e = absurd cc
 
-pub rows_of_items : (key : List ℕ) (low high : ℕ) (d : Data) (ds : List Data) → Some ds ≡ option_map items_list (as_array d) → rows_at key low high d ≡ must (is_within low high (length ds)) key Range (Ok ds)
+pub rows_of_items : (key : List ℕ) (low high : ℕ) (d : Data) (ds : List Data) → Some ds ≡ option_map items_list (as_array d) → rows_at key low high d ≡ (must (is_within low high (length ds)) (at_key key Range) >> Ok ds)
 rows_of_items key low high d ds e = by_array (as_array d) e
   where
-    by_array : (o : Option Items) → Some ds ≡ option_map items_list o → (found_or key Kind o >>= (λ items. must (is_within low high (length (items_list items))) key Range (Ok (items_list items)))) ≡ must (is_within low high (length ds)) key Range (Ok ds)
+    by_array : (o : Option Items) → Some ds ≡ option_map items_list o → (found_or o (at_key key Kind) >>= (λ items. must (is_within low high (length (items_list items))) (at_key key Range) >> Ok (items_list items))) ≡ (must (is_within low high (length ds)) (at_key key Range) >> Ok ds)
     by_array None e = absurd cc
     by_array (Some items) e = let same : ds ≡ items_list items = cc in rw same refl
 
-pub no_rows : (key : List ℕ) (low high : ℕ) (d : Data) → None ≡ option_map items_list (as_array d) → rows_at key low high d ≡ broken key Kind
+pub no_rows : (key : List ℕ) (low high : ℕ) (d : Data) → None ≡ option_map items_list (as_array d) → rows_at key low high d ≡ Err (at_key key Kind)
 no_rows key low high d e = by_array (as_array d) e
   where
-    by_array : (o : Option Items) → None ≡ option_map items_list o → (found_or key Kind o >>= (λ items. must (is_within low high (length (items_list items))) key Range (Ok (items_list items)))) ≡ broken key Kind
+    by_array : (o : Option Items) → None ≡ option_map items_list o → (found_or o (at_key key Kind) >>= (λ items. must (is_within low high (length (items_list items))) (at_key key Range) >> Ok (items_list items))) ≡ Err (at_key key Kind)
     by_array None e = refl
     by_array (Some items) e = absurd cc

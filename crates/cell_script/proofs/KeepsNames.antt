@@ -8,14 +8,15 @@ use Rattle.std.proofs.lemmas.Bool.Decides.{same_from_decides}
 use Rattle.std.proofs.lemmas.List.{length-map}
 use Rattle.std.proofs.lemmas.Slice.Eq.{bytes_eq-Decides}
 use Rattle.toml.specs.Data.{Data}
-use Rattle.rapid_lexer.specs.Reading.{is_reserved}
+use Rattle.rapid_lexer.specs.Words.{is_reserved}
 use Rattle.rapid_builtins.specs.Names.{is_predefined}
 use Rattle.rapid_model.specs.Names.{is_name, is_among, differ}
 use Rattle.rapid_model.specs.declared.script_rule.ScriptRule.TheVariants.{Name, Twice, NoSuch}
-use Rattle.cell_script.specs.Break.{must, found_or}
+use Rattle.rule_checks.specs.Checks.{◌>>◌, must, found_or}
+use Rattle.cell_script.specs.Break.{at_key}
 use Rattle.cell_script.specs.Keys.{text_at, name_at, number_at}
 use Rattle.cell_script.specs.Rows.{signal_name_at, task_name_at}
-use Rattle.cell_script.proofs.Keeps.{Keeps, Keeps-then, Keeps-any, Keeps-must, Keeps-found}
+use Rattle.rule_checks.proofs.Keeps.{Keeps, Keeps-then, Keeps-any, Keeps-must, Keeps-found}
 
 abbrev pub IsName : List ℕ → Type 0
 IsName name = is_name name ≡ true
@@ -29,21 +30,21 @@ not_true false e = refl
 
 pub name_keeps : (key : List ℕ) (d : Data) → Keeps IsName (name_at key d)
 name_keeps key d =
-    Keeps-any IsName (text_at key d) (λ text. must (is_name text && not (is_reserved text)) key Name (Ok text)) (λ text.
-    Keeps-must IsName (is_name text && not (is_reserved text)) key Name (Ok text) (λ e. (and_parts (is_name text) (not (is_reserved text)) e).0))
+    Keeps-any IsName (text_at key d) (λ text. must (is_name text && not (is_reserved text)) (at_key key Name) >> Ok text) (λ text.
+    Keeps-must IsName (is_name text && not (is_reserved text)) (at_key key Name) (Ok text) (λ e. (and_parts (is_name text) (not (is_reserved text)) e).0))
 
 pub signal_name_keeps : (key : List ℕ) (others : List (List ℕ)) (d : Data) → Keeps (λ name. IsName name × IsNew others name) (signal_name_at key others d)
 signal_name_keeps key others d =
     let Q : List ℕ → Type 0 = λ name. IsName name × IsNew others name in
-    Keeps-then IsName Q (name_at key d) (λ name. must (not (is_predefined name)) key Name (must (not (is_among name others)) key Twice (Ok name))) (name_keeps key d) (λ name form.
-    Keeps-must Q (not (is_predefined name)) key Name (must (not (is_among name others)) key Twice (Ok name)) (λ _.
-    Keeps-must Q (not (is_among name others)) key Twice (Ok name) (λ e. (form, not_true (is_among name others) e))))
+    Keeps-then IsName Q (name_at key d) (λ name. must (not (is_predefined name)) (at_key key Name) >> (must (not (is_among name others)) (at_key key Twice) >> Ok name)) (name_keeps key d) (λ name form.
+    Keeps-must Q (not (is_predefined name)) (at_key key Name) (must (not (is_among name others)) (at_key key Twice) >> Ok name) (λ _.
+    Keeps-must Q (not (is_among name others)) (at_key key Twice) (Ok name) (λ e. (form, not_true (is_among name others) e))))
 
 pub task_name_keeps : (key : List ℕ) (others : List (List ℕ)) (d : Data) → Keeps (λ name. IsName name × IsNew others name) (task_name_at key others d)
 task_name_keeps key others d =
     let Q : List ℕ → Type 0 = λ name. IsName name × IsNew others name in
-    Keeps-then IsName Q (name_at key d) (λ name. must (not (is_among name others)) key Twice (Ok name)) (name_keeps key d) (λ name form.
-    Keeps-must Q (not (is_among name others)) key Twice (Ok name) (λ e. (form, not_true (is_among name others) e)))
+    Keeps-then IsName Q (name_at key d) (λ name. must (not (is_among name others)) (at_key key Twice) >> Ok name) (name_keeps key d) (λ name form.
+    Keeps-must Q (not (is_among name others)) (at_key key Twice) (Ok name) (λ e. (form, not_true (is_among name others) e)))
 
 found_below : {A : Type 0} (test : A → Bool) (xs : List A) (n : ℕ) → position test xs ≡ Some n → nat_lt n (length xs) ≡ true
 found_below test xs n e = by_test (position_or_len test xs) (nat_lt (position_or_len test xs) (length xs)) refl e
@@ -58,8 +59,8 @@ IsOf rows n = nat_lt n (length rows) ≡ true
 
 pub number_keeps : {A : Type 0} (key : List ℕ) (name : A → List ℕ) (rows : List A) (d : Data) → Keeps (IsOf rows) (number_at key (map name rows) d)
 number_keeps key name rows d =
-    Keeps-any (IsOf rows) (text_at key d) (λ text. found_or key NoSuch (position (str_eq_ignore_ascii_case text) (map name rows))) (λ text.
-    Keeps-found (IsOf rows) key NoSuch (position (str_eq_ignore_ascii_case text) (map name rows)) (λ n e.
+    Keeps-any (IsOf rows) (text_at key d) (λ text. found_or (position (str_eq_ignore_ascii_case text) (map name rows)) (at_key key NoSuch)) (λ text.
+    Keeps-found (IsOf rows) (position (str_eq_ignore_ascii_case text) (map name rows)) (at_key key NoSuch) (λ n e.
     rw length-map at (found_below (str_eq_ignore_ascii_case text) (map name rows) n e)))
 
 -- two names are the same in either order

@@ -8,10 +8,11 @@ use Rattle.toml.specs.Data.{Data, as_array}
 use Rattle.rapid_model.specs.Names.{differ}
 use Rattle.rapid_model.specs.Limits.{is_within}
 use Rattle.rapid_model.specs.declared.script_rule.ScriptRule.TheVariants.{Kind, Range}
-use Rattle.cell_script.specs.Break.{Read, must, found_or}
+use Rattle.rule_checks.specs.Checks.{◌>>◌, must, found_or}
+use Rattle.cell_script.specs.Break.{Read, at_key}
 use Rattle.cell_script.specs.Keys.{items_list, rows_at, each_row}
 use Rattle.cell_script.specs.Parts.{rows_in}
-use Rattle.cell_script.proofs.Keeps.{Keeps, Keeps-then, Keeps-any, Keeps-must}
+use Rattle.rule_checks.proofs.Keeps.{Keeps, Keeps-then, Keeps-any, Keeps-must}
 use Rattle.cell_script.proofs.KeepsNames.{IsNew, differ_more}
 
 abbrev pub IsAt : {A : Type 0} → (A → Bool) → A → Type 0
@@ -51,8 +52,8 @@ pub rows_keep : {A : Type 0} (test : A → Bool) (key : List ℕ) (low high : �
 rows_keep {A} test key low high read d row =
     let P : List Data → Type 0 = λ ds. is_within low high (length ds) ≡ true in
     let within : Keeps P (rows_at key low high d) =
-    Keeps-any P (found_or key Kind (as_array d)) (λ items. must (is_within low high (length (items_list items))) key Range (Ok (items_list items))) (λ items.
-    Keeps-must P (is_within low high (length (items_list items))) key Range (Ok (items_list items)) (λ e. e)) in
+    Keeps-any P (found_or (as_array d) (at_key key Kind)) (λ items. must (is_within low high (length (items_list items))) (at_key key Range) >> Ok (items_list items)) (λ items.
+    Keeps-must P (is_within low high (length (items_list items))) (at_key key Range) (Ok (items_list items)) (λ e. e)) in
     Keeps-then P (SoMany test low high) (rows_at key low high d) (each_row read []) within (λ ds e.
     let parts = and_parts (nat_le low (length ds)) (nat_le (length ds) high) e in
     so_many ds (leb-true _ _ parts.0) (leb-true _ _ parts.1) (each_row read [] ds) (each_keeps test read [] ds row refl))

@@ -15,10 +15,12 @@ use Rattle.rapid_model.specs.declared.script_rule.ScriptRule.TheVariants.{Kind, 
 use Rattle.rapid_model.specs.declared.script_task.ScriptTask.{ScriptTask}
 use Rattle.rapid_model.specs.declared.signal_row.SignalRow.{SignalRow}
 use Rattle.rapid_model.specs.declared.value.Value.TheVariants as values
-use Rattle.cell_script.specs.Break.{◌>>=◌, found_or}
+use Rattle.rule_checks.specs.Checks.{◌>>=◌, found_or}
+use Rattle.cell_script.specs.Break.{at_key}
 use Rattle.cell_script.specs.Keys.{Keys, at, value_of, needed, optional, text_at, whole_at, bit_at, word_at, name_at, list_at, table_at}
 use Rattle.cell_script.specs.Rows.{signal_name_at, signal_of, task_name_at, files_at, arm_at, task_of, signed_literal, number_value_at, truth_value_at, text_value_at, given_value, pers_of}
-use Rattle.cell_script.proofs.Keeps.{Keeps, Keeps-then, Keeps-any, Keeps-must, Keeps-optional, Keeps-only}
+use Rattle.rule_checks.proofs.Keeps.{Keeps, Keeps-then, Keeps-any, Keeps-must}
+use Rattle.cell_script.proofs.Keeps.{Keeps-optional, Keeps-only}
 use Rattle.cell_script.proofs.KeepsNames.{IsName, IsNew, name_keeps, signal_name_keeps, task_name_keeps}
 use Rattle.cell_script.proofs.KeepsRows.{IsAt}
 
@@ -27,7 +29,7 @@ whole_keeps key low high d = by_integer (as_integer d) refl
   where
     by_integer : (o : Option ℤ) → as_integer d ≡ o → Keeps (λ n. is_within low high n ≡ true) (whole_at key low high d)
     by_integer None e = rw e tt
-    by_integer (Some (pos n)) e = rw e (Keeps-must (λ n. is_within low high n ≡ true) (is_within low high n) key Range (Ok n) (λ w. w))
+    by_integer (Some (pos n)) e = rw e (Keeps-must (λ n. is_within low high n ≡ true) (is_within low high n) (at_key key Range) (Ok n) (λ w. w))
     by_integer (Some (negsuc n)) e = rw e tt
 
 -- ---- signals
@@ -49,7 +51,7 @@ signal_keeps before d =
 files_keep : (key : List ℕ) (d : Data) → Keeps (λ files. (is_within 1 16 (length files) && list_all is_file_name files) ≡ true) (files_at key d)
 files_keep key d =
     let Q : List (List ℕ) → Type 0 = λ files. (is_within 1 16 (length files) && list_all is_file_name files) ≡ true in
-    Keeps-any Q (list_at key as_str d) _ (λ files. Keeps-must Q (is_within 1 16 (length files) && list_all is_file_name files) key Range (Ok files) (λ e. e))
+    Keeps-any Q (list_at key as_str d) _ (λ files. Keeps-must Q (is_within 1 16 (length files) && list_all is_file_name files) (at_key key Range) (Ok files) (λ e. e))
 
 position : (angles : List ℤ) (arm : Joints) → list_all is_in_reach angles ≡ true → length angles ≡ 6 → arm.axis ≡ angles ++ absent_axes → is_position arm ≡ true
 position angles arm reach six e =
@@ -61,7 +63,7 @@ arm_keeps : (key : List ℕ) (d : Data) → Keeps (λ arm. is_position arm ≡ t
 arm_keeps key d =
     let Q : Joints → Type 0 = λ arm. is_position arm ≡ true in
     Keeps-any Q (list_at key as_integer d) _ (λ angles.
-    Keeps-must Q (length angles == 6 && list_all is_in_reach angles) key Range (Ok (record { axis = angles ++ absent_axes })) (λ e.
+    Keeps-must Q (length angles == 6 && list_all is_in_reach angles) (at_key key Range) (Ok (record { axis = angles ++ absent_axes })) (λ e.
     let parts = and_parts (length angles == 6) (list_all is_in_reach angles) e in
     position angles (record { axis = angles ++ absent_axes }) parts.1 (eqb-true (length angles) 6 parts.0) refl))
 
@@ -96,13 +98,13 @@ task_keeps before d =
 -- ---- first values
 
 number_value_keeps : (key : List ℕ) (d : Data) → Keeps (IsAt is_given_value) (number_value_at key d)
-number_value_keeps key d = Keeps-any (IsAt is_given_value) (text_at key d) _ (λ text. Keeps-any (IsAt is_given_value) (found_or key Range (signed_literal text)) _ (λ n. refl))
+number_value_keeps key d = Keeps-any (IsAt is_given_value) (text_at key d) _ (λ text. Keeps-any (IsAt is_given_value) (found_or (signed_literal text) (at_key key Range)) _ (λ n. refl))
 
 truth_value_keeps : (key : List ℕ) (d : Data) → Keeps (IsAt is_given_value) (truth_value_at key d)
-truth_value_keeps key d = Keeps-any (IsAt is_given_value) (found_or key Kind (as_bool d)) _ (λ b. refl)
+truth_value_keeps key d = Keeps-any (IsAt is_given_value) (found_or (as_bool d) (at_key key Kind)) _ (λ b. refl)
 
 text_value_keeps : (key : List ℕ) (d : Data) → Keeps (IsAt is_given_value) (text_value_at key d)
-text_value_keeps key d = Keeps-any (IsAt is_given_value) (text_at key d) _ (λ text. Keeps-must (IsAt is_given_value) _ key Range (Ok (values.Text text)) (λ e. refl))
+text_value_keeps key d = Keeps-any (IsAt is_given_value) (text_at key d) _ (λ text. Keeps-must (IsAt is_given_value) _ (at_key key Range) (Ok (values.Text text)) (λ e. refl))
 
 given_keeps : (keys : Keys) (num bool text : Option Data) → Keeps (IsAt is_given_value) (given_value keys num bool text)
 given_keeps keys (Some d) None None = number_value_keeps (at keys (codes "num")) d

@@ -7,10 +7,12 @@ use Rattle.rapid_model.specs.declared.input_row.InputRow.{InputRow}
 use Rattle.rapid_model.specs.declared.script_rule.ScriptRule.TheVariants.{NoSuch}
 use Rattle.rapid_model.specs.declared.script_task.ScriptTask.{ScriptTask}
 use Rattle.rapid_model.specs.declared.signal_row.SignalRow.{SignalRow}
-use Rattle.cell_script.specs.Break.{Read, ◌>>=◌}
+use Rattle.rule_checks.specs.Checks.{◌>>=◌}
+use Rattle.cell_script.specs.Break.{Read, at_key}
 use Rattle.cell_script.specs.Keys.{at, value_of, needed, optional, whole_at, bit_at, number_at, table_at, both_at, pair_at}
 use Rattle.cell_script.specs.Rows.{input_signal_at, input_of}
-use Rattle.cell_script.proofs.Keeps.{Keeps, Keeps-then, Keeps-any, Keeps-must, Keeps-only}
+use Rattle.rule_checks.proofs.Keeps.{Keeps, Keeps-then, Keeps-any, Keeps-must}
+use Rattle.cell_script.proofs.Keeps.{Keeps-only}
 use Rattle.cell_script.proofs.KeepsNames.{IsOf, number_keeps}
 use Rattle.cell_script.proofs.KeepsRows.{IsAt}
 use Rattle.cell_script.proofs.Limits.{whole_keeps, optional_whole_keeps}
@@ -18,7 +20,7 @@ use Rattle.cell_script.proofs.Limits.{whole_keeps, optional_whole_keeps}
 signal_is_input : (key : List ℕ) (signals : List SignalRow) (d : Data) → Keeps (λ n. is_input_signal signals n ≡ true) (input_signal_at key signals d)
 signal_is_input key signals d =
     let Q : ℕ → Type 0 = λ n. is_input_signal signals n ≡ true in
-    Keeps-any Q (number_at key (map (λ row. row.name) signals) d) _ (λ n. Keeps-must Q (is_input_signal signals n) key NoSuch (Ok n) (λ e. e))
+    Keeps-any Q (number_at key (map (λ row. row.name) signals) d) _ (λ n. Keeps-must Q (is_input_signal signals n) (at_key key NoSuch) (Ok n) (λ e. e))
 
 -- a pair, of two values that are each so
 pair_keeps : {A B : Type 0} (test : A × B → Bool) (P : A → Type 0) (Q : B → Type 0) (first second : List ℕ) (read_first : Data → Read A) (read_second : Data → Read B) (o p : Option Data)

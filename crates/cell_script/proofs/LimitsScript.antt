@@ -15,7 +15,8 @@ use Rattle.cell_script.specs.Keys.{Keys, at, value_of, needed, optional, whole_a
 use Rattle.cell_script.specs.Parts.{rows_in, needed_rows}
 use Rattle.cell_script.specs.Rows.{signal_of, task_of, pers_of, zone_of, input_of}
 use Rattle.cell_script.specs.ScriptOf.{default_steps}
-use Rattle.cell_script.proofs.Keeps.{Keeps, Keeps-any, Keeps-optional, Keeps-grouped, kept}
+use Rattle.rule_checks.proofs.Keeps.{Keeps, Keeps-any, Keeps-grouped, kept}
+use Rattle.cell_script.proofs.Keeps.{Keeps-optional}
 use Rattle.cell_script.proofs.KeepsNames.{IsNew}
 use Rattle.cell_script.proofs.KeepsRows.{IsAt, SoMany, rows_keep, rows_differ}
 use Rattle.cell_script.proofs.Limits.{whole_keeps, signal_keeps, task_keeps, pers_keeps}

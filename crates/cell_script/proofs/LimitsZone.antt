@@ -13,10 +13,12 @@ use Rattle.rapid_model.specs.declared.script_rule.ScriptRule.TheVariants.{NoSuch
 use Rattle.rapid_model.specs.declared.script_task.ScriptTask.{ScriptTask}
 use Rattle.rapid_model.specs.declared.signal_row.SignalRow.{SignalRow}
 use Rattle.rapid_model.specs.declared.zone_row.ZoneRow.{ZoneRow}
-use Rattle.cell_script.specs.Break.{◌>>=◌}
+use Rattle.rule_checks.specs.Checks.{◌>>=◌}
+use Rattle.cell_script.specs.Break.{at_key}
 use Rattle.cell_script.specs.Keys.{at, needed, bit_at, word_at, name_at, number_at, list_at, table_at}
 use Rattle.cell_script.specs.Rows.{armed_task_at, is_axis, are_axes, axes_at, bounds_at, each_below, high_bounds_at, is_axis_number, bound_of, shape_of, zone_of}
-use Rattle.cell_script.proofs.Keeps.{Keeps, Keeps-then, Keeps-any, Keeps-must, Keeps-only}
+use Rattle.rule_checks.proofs.Keeps.{Keeps, Keeps-then, Keeps-any, Keeps-must}
+use Rattle.cell_script.proofs.Keeps.{Keeps-only}
 use Rattle.cell_script.proofs.KeepsNames.{IsName, IsOf, name_keeps, number_keeps}
 use Rattle.cell_script.proofs.KeepsRows.{IsAt}
 
@@ -24,7 +26,7 @@ task_is_armed : (key : List ℕ) (tasks : List ScriptTask) (d : Data) → Keeps 
 task_is_armed key tasks d =
     let arms = map (λ task. task.arm) tasks in
     let Q : ℕ → Type 0 = λ n. has_arm arms n ≡ true in
-    Keeps-any Q (number_at key (map (λ task. task.name) tasks) d) _ (λ n. Keeps-must Q (has_arm arms n) key NoSuch (Ok n) (λ e. e))
+    Keeps-any Q (number_at key (map (λ task. task.name) tasks) d) _ (λ n. Keeps-must Q (has_arm arms n) (at_key key NoSuch) (Ok n) (λ e. e))
 
 -- one or more axes
 record AreAxes (axes : List ℤ) : Type 0 where
@@ -34,7 +36,7 @@ record AreAxes (axes : List ℤ) : Type 0 where
 axes_keep : (key : List ℕ) (d : Data) → Keeps AreAxes (axes_at key d)
 axes_keep key d =
     Keeps-any AreAxes (list_at key as_integer d) _ (λ axes.
-    Keeps-must AreAxes (not (length axes == 0) && are_axes axes) key Range (Ok axes) (λ e.
+    Keeps-must AreAxes (not (length axes == 0) && are_axes axes) (at_key key Range) (Ok axes) (λ e.
     let parts = and_parts (not (length axes == 0)) (are_axes axes) e in record { some = parts.0; ascend = parts.1 }))
 
 -- so many bounds in reach
@@ -45,7 +47,7 @@ record AreBounds (count : ℕ) (bounds : List ℤ) : Type 0 where
 bounds_keep : (key : List ℕ) (count : ℕ) (d : Data) → Keeps (AreBounds count) (bounds_at key count d)
 bounds_keep key count d =
     Keeps-any (AreBounds count) (list_at key as_integer d) _ (λ bounds.
-    Keeps-must (AreBounds count) (length bounds == count && list_all is_in_reach bounds) key Range (Ok bounds) (λ e.
+    Keeps-must (AreBounds count) (length bounds == count && list_all is_in_reach bounds) (at_key key Range) (Ok bounds) (λ e.
     let parts = and_parts (length bounds == count) (list_all is_in_reach bounds) e in record { count_is = eqb-true (length bounds) count parts.0; reach = parts.1 }))
 
 record AreHighs (lows highs : List ℤ) : Type 0 where
@@ -56,7 +58,7 @@ record AreHighs (lows highs : List ℤ) : Type 0 where
 highs_keep : (key : List ℕ) (lows : List ℤ) (d : Data) → Keeps (AreHighs lows) (high_bounds_at key lows d)
 highs_keep key lows d =
     Keeps-then (AreBounds (length lows)) (AreHighs lows) (bounds_at key (length lows) d) _ (bounds_keep key (length lows) d) (λ highs are.
-    Keeps-must (AreHighs lows) (each_below lows highs) key Range (Ok highs) (λ e. record { count_is = are.count_is; reach = are.reach; below = e }))
+    Keeps-must (AreHighs lows) (each_below lows highs) (at_key key Range) (Ok highs) (λ e. record { count_is = are.count_is; reach = are.reach; below = e }))
 
 -- the bound of an axis, where it is there, is one
 bounded : (axis : ℕ) (axes lows highs : List ℤ) → list_all is_in_reach lows ≡ true → list_all is_in_reach highs ≡ true → each_below lows highs ≡ true

@@ -3,7 +3,8 @@ use Rattle.std.specs.Prelude.{ℕ, ℤ, List, [], Option, Some, None, Ok, if◌t
 use Rattle.std.specs.List.{list_all}
 use Rattle.toml.specs.Data.{Data, as_integer}
 use Rattle.rapid_num.specs.Reach.{is_in_reach}
-use Rattle.cell_script.specs.Break.{Read, ◌>>=◌}
+use Rattle.rule_checks.specs.Checks.{◌>>=◌}
+use Rattle.cell_script.specs.Break.{Read}
 use Rattle.cell_script.specs.Keys.{Keys, at, needed, optional, whole_at, list_at, rows_at, each_row}
 
 -- what is read of a value, where it is there

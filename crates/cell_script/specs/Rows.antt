@@ -1,6 +1,6 @@
 -- The rows of a script: a signal, a task, a persistent's value, a zone, an input. The keys of each stand in the order in
 -- which they are checked; a key that is not known is found last.
-use Rattle.std.specs.Prelude.{ℕ, Bool, true, false, not, ◌&&◌, nat_le, ℤ, pos, negsuc, neg_ℤ, int_lt, List, [], ◌∷◌, ◌++◌, length, map, replicate, codes, Option, Some, None, Ok, ◌==◌, if◌then◌else◌}
+use Rattle.std.specs.Prelude.{ℕ, Bool, true, false, not, ◌&&◌, nat_le, ℤ, pos, negsuc, neg_ℤ, int_lt, List, [], ◌∷◌, ◌++◌, length, map, replicate, codes, Option, Some, None, Ok, Err, ◌==◌, if◌then◌else◌}
 use Rattle.std.specs.List.{list_all}
 use Rattle.std.specs.Option.{option_map}
 use Rattle.toml.specs.Data.{Data, as_str, as_integer, as_bool}
@@ -22,14 +22,17 @@ use Rattle.rapid_model.specs.declared.signal_row.SignalRow.{SignalRow}
 use Rattle.rapid_model.specs.declared.value.Value.{Value}
 use Rattle.rapid_model.specs.declared.value.Value.TheVariants as values
 use Rattle.rapid_model.specs.declared.zone_row.ZoneRow.{ZoneRow}
-use Rattle.cell_script.specs.Break.{Read, ◌>>=◌, broken, must, found_or}
+use Rattle.rule_checks.specs.Checks.{◌>>=◌, ◌>>◌, must, found_or}
+use Rattle.cell_script.specs.Break.{Read, at_key}
 use Rattle.cell_script.specs.Keys.{Keys, at, value_of, needed, optional, only_keys, text_at, whole_at, bit_at, word_at, name_at, number_at, list_at, table_at, pair_at}
 
 -- the name of a signal is no predefined name and no other signal's
 abbrev pub signal_name_at : List ℕ → List (List ℕ) → Data → Read (List ℕ)
 signal_name_at key others d = do
   name ← name_at key d
-  must (not (is_predefined name)) key Name (must (not (is_among name others)) key Twice (Ok name))
+  must (not (is_predefined name)) (at_key key Name)
+  must (not (is_among name others)) (at_key key Twice)
+  Ok name
 
 unfoldable pub signal_of : List SignalRow → Data → Read SignalRow
 signal_of before d = do
@@ -43,19 +46,22 @@ signal_of before d = do
 abbrev pub task_name_at : List ℕ → List (List ℕ) → Data → Read (List ℕ)
 task_name_at key others d = do
   name ← name_at key d
-  must (not (is_among name others)) key Twice (Ok name)
+  must (not (is_among name others)) (at_key key Twice)
+  Ok name
 
 -- the files of a task's modules: 1 to 16 names of 1 to 255 bytes
 abbrev pub files_at : List ℕ → Data → Read (List (List ℕ))
 files_at key d = do
   files ← list_at key as_str d
-  must (is_within 1 16 (length files) && list_all is_file_name files) key Range (Ok files)
+  must (is_within 1 16 (length files) && list_all is_file_name files) (at_key key Range)
+  Ok files
 
 -- six angles within 720 degrees, in thousandths; external axes are not there
 abbrev pub arm_at : List ℕ → Data → Read Joints
 arm_at key d = do
   angles ← list_at key as_integer d
-  must (length angles == 6 && list_all is_in_reach angles) key Range (Ok (record { axis = angles ++ absent_axes }))
+  must (length angles == 6 && list_all is_in_reach angles) (at_key key Range)
+  Ok (record { axis = angles ++ absent_axes })
 
 unfoldable pub task_of : List ScriptTask → Data → Read ScriptTask
 task_of before d = do
@@ -73,26 +79,27 @@ signed_literal (b ∷ bs) = if b == 45 then option_map neg_ℤ (literal_value bs
 abbrev pub number_value_at : List ℕ → Data → Read Value
 number_value_at key d = do
   text ← text_at key d
-  number ← found_or key Range (signed_literal text)
+  number ← found_or (signed_literal text) (at_key key Range)
   Ok (values.Num number)
 
 abbrev pub truth_value_at : List ℕ → Data → Read Value
 truth_value_at key d = do
-  truth ← found_or key Kind (as_bool d)
+  truth ← found_or (as_bool d) (at_key key Kind)
   Ok (values.Bool truth)
 
 -- a text of at most 80 bytes from 20 to 7E hexadecimal
 abbrev pub text_value_at : List ℕ → Data → Read Value
 text_value_at key d = do
   text ← text_at key d
-  must (nat_le (length text) 80 && list_all is_printable text) key Range (Ok (values.Text text))
+  must (nat_le (length text) 80 && list_all is_printable text) (at_key key Range)
+  Ok (values.Text text)
 
 -- the value at the one of the keys num, bool and text that is there
 abbrev pub given_value : Keys → Option Data → Option Data → Option Data → Read Value
 given_value keys (Some d) None None = number_value_at (at keys (codes "num")) d
 given_value keys None (Some d) None = truth_value_at (at keys (codes "bool")) d
 given_value keys None None (Some d) = text_value_at (at keys (codes "text")) d
-given_value keys _ _ _ = broken keys.path Pair
+given_value keys _ _ _ = Err (at_key keys.path Pair)
 
 unfoldable pub pers_of : List PersValue → Data → Read PersValue
 pers_of before d = do
@@ -107,7 +114,8 @@ pers_of before d = do
 abbrev pub armed_task_at : List ℕ → List ScriptTask → Data → Read ℕ
 armed_task_at key tasks d = do
   task ← number_at key (map (λ task. task.name) tasks) d
-  must (has_arm (map (λ task. task.arm) tasks) task) key NoSuch (Ok task)
+  must (has_arm (map (λ task. task.arm) tasks) task) (at_key key NoSuch)
+  Ok task
 
 -- an axis from 1 to 6
 abbrev pub is_axis : ℤ → Bool
@@ -124,13 +132,15 @@ are_axes (a ∷ b ∷ axes) = is_axis a && int_lt a b && are_axes (b ∷ axes)
 abbrev pub axes_at : List ℕ → Data → Read (List ℤ)
 axes_at key d = do
   axes ← list_at key as_integer d
-  must (not (length axes == 0) && are_axes axes) key Range (Ok axes)
+  must (not (length axes == 0) && are_axes axes) (at_key key Range)
+  Ok axes
 
 -- as many bounds as axes, within 720 degrees
 abbrev pub bounds_at : List ℕ → ℕ → Data → Read (List ℤ)
 bounds_at key count d = do
   bounds ← list_at key as_integer d
-  must (length bounds == count && list_all is_in_reach bounds) key Range (Ok bounds)
+  must (length bounds == count && list_all is_in_reach bounds) (at_key key Range)
+  Ok bounds
 
 abbrev pub each_below : List ℤ → List ℤ → Bool
 each_below (l ∷ ls) (h ∷ hs) = int_lt l h && each_below ls hs
@@ -140,7 +150,8 @@ each_below _ _ = true
 abbrev pub high_bounds_at : List ℕ → List ℤ → Data → Read (List ℤ)
 high_bounds_at key lows d = do
   highs ← bounds_at key (length lows) d
-  must (each_below lows highs) key Range (Ok highs)
+  must (each_below lows highs) (at_key key Range)
+  Ok highs
 
 abbrev pub is_axis_number : ℤ → ℕ → Bool
 is_axis_number (pos a) axis = a == axis
@@ -174,7 +185,8 @@ zone_of signals tasks before d = do
 abbrev pub input_signal_at : List ℕ → List SignalRow → Data → Read ℕ
 input_signal_at key signals d = do
   signal ← number_at key (map (λ row. row.name) signals) d
-  must (is_input_signal signals signal) key NoSuch (Ok signal)
+  must (is_input_signal signals signal) (at_key key NoSuch)
+  Ok signal
 
 unfoldable pub input_of : List SignalRow → List ScriptTask → List InputRow → Data → Read InputRow
 input_of signals tasks before d = do

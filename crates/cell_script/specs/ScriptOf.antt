@@ -7,7 +7,8 @@ use Rattle.rapid_model.specs.ScriptData.{ScriptData}
 use Rattle.rapid_model.specs.declared.script_rule.ScriptRule.TheVariants.{NotToml}
 use Rattle.cell_script.specs.declared.fault.ScriptFault.{ScriptFault}
 use Rattle.cell_script.specs.declared.fault.ScriptFault.TheVariants.{Rule, Memory}
-use Rattle.cell_script.specs.Break.{Break, Read, ◌>>=◌}
+use Rattle.rule_checks.specs.Checks.{◌>>=◌}
+use Rattle.cell_script.specs.Break.{ScriptBreak, Read}
 use Rattle.cell_script.specs.Keys.{Keys, needed, optional, value_of, only_keys, whole_at, rows_at, each_row}
 use Rattle.cell_script.specs.Rows.{signal_of, task_of, pers_of, zone_of, input_of}
 
@@ -37,7 +38,7 @@ pub record IsTable (text : List ℕ) (members : Members) : Type 0 where
   pub table : parse_document text ≡ Some members
 
 -- the text is no TOML, which is said of the script as a whole: its key is empty
-pub record IsNoToml (text : List ℕ) (broken : Break) : Type 0 where
+pub record IsNoToml (text : List ℕ) (broken : ScriptBreak) : Type 0 where
   pub is : broken ≡ record { key = []; rule = NotToml }
   pub refused : IsUtf8 text → parse_document text ≡ None
 

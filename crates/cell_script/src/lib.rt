@@ -18,6 +18,3 @@ mod zone;
 
 pub use fault::ScriptFault;
 pub use script::read_script;
-
-#[cfg(test)]
-mod tests;

@@ -4,14 +4,14 @@ ghost use Rattle.std.specs.Prelude.{◌≡◌, IsTrue, map, position};
 ghost use Rattle.std.specs.List.{list_all, list_any};
 ghost use Rattle.std.specs.Str.{str_eq_ignore_ascii_case};
 ghost use Rattle.toml.specs.View.{view};
-ghost use Rattle.rapid_model.specs.Names.{is_letter, is_name_byte, is_name};
+ghost use Rattle.rapid_model.specs.Names.{is_name_byte, is_name};
 ghost use Rattle.cell_script.specs.Keys.{at, name_at};
 ghost use Rattle.cell_script.specs.Gives.{Gives, view_keys};
 
 use crate::fault::ScriptFault;
 use crate::keys::TableKeys;
 use crate::plain::text_at;
-use rapid_lexer::is_reserved;
+use rapid_lexer::{is_letter, is_name_byte, is_reserved};
 use rapid_model::{NameText, ScriptRule};
 use toml::Value;
 
@@ -59,18 +59,6 @@ fn are_name_bytes(bytes: &[u8]) -> bool
     ensures { result ≡ list_all is_name_byte bytes.now }
 {
     bytes.iter().all(|byte| is_name_byte(*byte))
-}
-
-fn is_name_byte(byte: u8) -> bool
-    ensures { result ≡ is_name_byte byte }
-{
-    is_letter(byte) || (48..=57).contains(&byte) || byte == b'_'
-}
-
-fn is_letter(byte: u8) -> bool
-    ensures { result ≡ is_letter byte }
-{
-    (65..=90).contains(&byte) || (97..=122).contains(&byte)
 }
 
 /// Whether a text is this name, its letters in either case.

@@ -1,8 +1,8 @@
 //! Cells of two tasks, and the values that a script gives to persistents.
 
 use super::rows::{Row, Ruled, Suiting, Three, Valued};
-use data_scopes::TypeRule;
 use rapid_model::ScriptRule;
+use rule_checks::TypeRule;
 
 /// PersType: a global PERS of two tasks: the items of the one and of the other.
 pub static PERS_TYPE: [Row; 15] = [

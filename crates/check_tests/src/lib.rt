@@ -1,5 +1,6 @@
-//! A table of small modules, each with the first rule of names and types that it breaks and its exact place, as the
-//! documents of the language have them, compared with what the controller's `check` tells. It holds only tests.
+//! A table of small modules, each with the first rule of names and types that it breaks and its exact place, as the documents of
+//! the language have them, compared with what the controller's `check` tells; a table of scripts, each with the key and the rule;
+//! and small texts, with what the crates of names, types, cells and built forms answer. It holds only tests.
 #![tactic(auto)]
 
 #[cfg(test)]
@@ -9,17 +10,31 @@ mod cells;
 #[cfg(test)]
 mod data;
 #[cfg(test)]
+mod expressions;
+#[cfg(test)]
+mod forms;
+#[cfg(test)]
 mod names;
 #[cfg(test)]
 mod order;
 #[cfg(test)]
 mod rows;
 #[cfg(test)]
+mod scopes;
+#[cfg(test)]
+mod script_faults;
+#[cfg(test)]
+mod script_texts;
+#[cfg(test)]
 mod scripts;
+#[cfg(test)]
+mod shared;
 #[cfg(test)]
 mod statements;
 #[cfg(test)]
 mod tests;
+#[cfg(test)]
+mod texts;
 #[cfg(test)]
 mod told;
 #[cfg(test)]

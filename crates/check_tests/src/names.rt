@@ -124,7 +124,7 @@ pub static LOCAL_NAMES: [Row; 5] = [
 ];
 
 /// NameTwice: names that two modules of a task share.
-pub static TASK_NAMES: [Row; 7] = [
+pub static TASK_NAMES: [Row; 9] = [
     (
         b"MODULE M\nVAR num x;\nPROC main()\nENDPROC\nENDMODULE\n",
         b"MODULE N\nVAR num ^x;\nENDMODULE\n",
@@ -150,20 +150,30 @@ pub static TASK_NAMES: [Row; 7] = [
         b"\n\nMODULE N\nVAR num a;  PERS num ^Main2;\nENDMODULE\n",
     ),
     (
+        b"MODULE M\nLOCAL VAR num a;\nVAR num a;\nPROC main()\nENDPROC\nENDMODULE\n",
+        b"MODULE N\nLOCAL CONST num a := 1;\nENDMODULE\n",
+    ),
+    (
+        b"MODULE M\nPROC main()\nENDPROC\nENDMODULE\n",
+        b"MODULE N\nLOCAL VAR num a;\nLOCAL CONST num ^a := 1;\nENDMODULE\n",
+    ),
+    (
         b"MODULE Abs\nPROC main()\nENDPROC\nENDMODULE\n",
         b"MODULE di1\nENDMODULE\n",
     ),
 ];
 
 /// NotThis: a name that means another kind of thing than its place needs.
-pub static NOT_THIS: [Row; 35] = [
+pub static NOT_THIS: [Row; 37] = [
     (b"VAR ^signaldi s;", b""),
     (b"PROC p(^signaldo s) ENDPROC", b""),
     (b"FUNC ^signaldi f() ENDFUNC", b""),
     (b"VAR ^main x;", b""),
     (b"VAR ^di1 x;", b""),
     (b"VAR num k; VAR ^k x;", b""),
+    (b"VAR num x;", b"VAR ^X b;"),
     (b"CONST ^num num := 1;", b""),
+    (b"VAR ^num x; LOCAL VAR bool num;", b""),
     (b"VAR ^num x; VAR bool num;", b""),
     (b"PROC p(^num num) ENDPROC", b""),
     (b"FUNC ^num f(num num) RETURN 1; ENDFUNC", b""),

@@ -1,7 +1,7 @@
 //! Two faults in one task: the one that is told, and what is told last.
 
 use super::rows::{Row, Ruled};
-use data_scopes::TypeRule;
+use rule_checks::TypeRule;
 
 /// Names come before other declarations, and these before bodies.
 pub static PHASES: [Ruled; 25] = [

@@ -1,8 +1,8 @@
 //! The forms of rows. In the text of a module a `^` stands before the byte of the fault, and is left out when the cell is
 //! checked; a cell without one is accepted.
 
-use data_scopes::TypeRule;
 use rapid_model::ScriptRule;
+use rule_checks::TypeRule;
 
 /// Two texts, which a `Frame` makes a cell of.
 pub type Row = (&'static [u8], &'static [u8]);

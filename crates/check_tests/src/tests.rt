@@ -4,7 +4,7 @@ use super::rows::{Frame, Row, Ruled};
 use super::scripts::{TASKS, THREE_MODULES};
 use super::told::{framed, is_told, is_told_at_key, row_is_told};
 use super::{arguments, cells, data, names, order, statements, values};
-use data_scopes::TypeRule;
+use rule_checks::TypeRule;
 use std::alloc::Global;
 use std::process::Abort;
 use std::test::Fail;

@@ -2,11 +2,12 @@
 
 use super::rows::Frame;
 use super::scripts::{ARM, MODULES, NO_ARM, TASKS};
+use super::texts::unmarked;
 use controller::{ModuleRule, Refused, Report, quiet};
-use data_scopes::TypeRule;
 use outside::{MemoryShelf, MemorySink};
 use rapid_lexer::Place;
 use rapid_model::ScriptRule;
+use rule_checks::TypeRule;
 use std::alloc::{AllocError, Global};
 use std::test::Fail;
 
@@ -33,17 +34,6 @@ fn mark_of(text: &[u8]) -> Option<Place> {
         }
     }
     None
-}
-
-/// The text without its mark.
-fn unmarked(alloc: Global, text: &[u8]) -> Result<Vec<u8>, AllocError> {
-    let mut bytes = Vec::new(alloc);
-    for byte in text {
-        if *byte != b'^' {
-            bytes.push(*byte)?;
-        }
-    }
-    Ok(bytes)
 }
 
 /// A module with these items and a `main` of this body.
@@ -113,7 +103,7 @@ pub fn is_told(
                 Refused::Module {
                     file,
                     place,
-                    rule: ModuleRule::Typing(rule),
+                    rule: ModuleRule::Type(rule),
                 },
             ),
             Some((marked_file, mark)),

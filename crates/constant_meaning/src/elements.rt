@@ -65,7 +65,7 @@ fn element_part(elements: &[Value], name: PartName, number: Num) -> Outcome
 
 /// The element, counted from 1, that a num names in an array of so many: None where it is no whole number from 1 to the
 /// length.
-fn element_number(len: usize, number: Num) -> Option<usize>
+pub fn element_number(len: usize, number: Num) -> Option<usize>
     ensures { result ≡ element_number len number }
 {
     let Ok(count) = usize::try_from(number.thousandths()) else {

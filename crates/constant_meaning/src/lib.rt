@@ -7,9 +7,8 @@ mod elements;
 mod evaluate;
 mod operands;
 mod outcome;
-#[cfg(test)]
-mod tests;
 
 pub use arrays::Arrays;
+pub use elements::element_number;
 pub use evaluate::{are_constant, constant_value, is_constant};
 pub use outcome::Outcome;

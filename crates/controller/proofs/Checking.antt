@@ -14,10 +14,9 @@ use Rattle.cell_assembly.specs.Made.{MadeCell, make_cell}
 use Rattle.raw_trees.specs.Plain.{PlainModule}
 use Rattle.raw_trees.specs.Views.{view_module}
 use Rattle.rapid_model.specs.declared.signal_row.SignalRow.{SignalRow}
-use Rattle.data_scopes.specs.Declarations.{Checked}
-use Rattle.data_scopes.specs.Gives.{Fails}
-use Rattle.data_scopes.specs.declared.fault.TypeFault.{TypeFault}
-use Rattle.data_scopes.specs.declared.fault.TypeFault.TheVariants as types
+use Rattle.rule_checks.specs.TypeChecks.{Checked, Fails}
+use Rattle.rule_checks.specs.declared.fault.TypeFault.{TypeFault}
+use Rattle.rule_checks.specs.declared.fault.TypeFault.TheVariants as types
 use Rattle.controller.proofs.ReadModules.{raws-of}
 use Rattle.stmt_types.specs.Task.{task_of}
 use Rattle.controller.specs.declared.refused.Refused.{Refused}

@@ -103,3 +103,9 @@ pub in_pieces : (head middle tail text : List ℕ) (result : Result ⊤ Failed) 
     → WritesPieces text result sink
 in_pieces head middle tail text result sink is w =
     (head ∷ middle ∷ tail ∷ [], is ∙ ap (λ (xs : List ℕ). head ++ (middle ++ xs)) (sym (append-nil tail)), w)
+
+-- a line in five
+pub in_five : (head name between rule end text : List ℕ) (result : Result ⊤ Failed) (sink : Sunk) → text ≡ head ++ (name ++ (between ++ (rule ++ end))) → Writes (head ∷ name ∷ between ∷ rule ∷ end ∷ []) result sink
+    → WritesPieces text result sink
+in_five head name between rule end text result sink is w =
+    (head ∷ name ∷ between ∷ rule ∷ end ∷ [], is ∙ ap (λ (xs : List ℕ). head ++ (name ++ (between ++ (rule ++ xs)))) (sym (append-nil end)), w)

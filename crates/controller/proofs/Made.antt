@@ -11,10 +11,11 @@ use Rattle.typed_trees.specs.Plain.{TypedTree}
 use Rattle.typed_trees.specs.Sound.{has_sound_pers}
 use Rattle.typed_trees.specs.Views.{view_tree}
 use Rattle.typed_trees.specs.declared.tree.Tree.{Tree}
-use Rattle.data_scopes.specs.Declarations.{Checked}
+use Rattle.rule_checks.specs.TypeChecks.{Checked}
 use Rattle.stmt_types.proofs.Sound.{task_sound}
 use Rattle.stmt_types.specs.Task.{task_of}
-use Rattle.cell_assembly.specs.Cells.{Making, ◌>>=◌, CellTables, cell_tables}
+use Rattle.rule_checks.specs.Checks.{◌>>=◌}
+use Rattle.cell_assembly.specs.Cells.{Making, CellTables, cell_tables}
 use Rattle.cell_assembly.specs.Made.{MadeCell, cell_of, numbered, make_cell}
 use Rattle.cell_assembly.specs.Views.{Fails}
 use Rattle.cell_assembly.specs.declared.cell_fault.CellFault.{CellFault}

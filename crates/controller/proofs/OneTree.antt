@@ -1,11 +1,10 @@
 -- Where nothing is refused there is one task with one module, and the cell suits its tree.
 use Rattle.std.proofs.Common.{◌≡◌, ℕ, suc, ◌+◌, ◌≤◌, List, [], ◌∷◌, ◌++◌, length, map, Bool, true, false, not, ◌&&◌, ◌==◌, ◌⊎◌, refl, ap, sym, ◌∙◌, subst, inl, inr, arith}
 use Rattle.std.specs.Prelude.{Option, Some, None, Ok, Err, IsTrue, is_some, nat_lt, codes, if◌then◌else◌, IfSome}
-use Rattle.std.specs.Option.{option_map}
+use Rattle.std.specs.Option.{option_map, option_or}
 use Rattle.std.specs.List.{list_all}
 use Rattle.std.proofs.lemmas.Bool.Decides.{nat_tests}
 use Rattle.std.proofs.lemmas.List.{length-map}
-use Rattle.rapid_model.specs.Requests.{or_else}
 use Rattle.rapid_model.specs.CellData.{CellData}
 use Rattle.rapid_model.specs.ScriptData.{ScriptData, IsScript, is_task, row_of}
 use Rattle.rapid_model.specs.declared.script_task.ScriptTask.{ScriptTask}
@@ -65,11 +64,11 @@ few_builds script ms reads builds limits is built =
     omega (arith, few, same, here, seen)
 
 -- neither is there
-none_first : {A : Type 0} (a b : Option A) → or_else a b ≡ None → a ≡ None
+none_first : {A : Type 0} (a b : Option A) → option_or a b ≡ None → a ≡ None
 none_first None b p = refl
 none_first (Some x) b p = cc
 
-none_then : {A : Type 0} (a b : Option A) → or_else a b ≡ None → b ≡ None
+none_then : {A : Type 0} (a b : Option A) → option_or a b ≡ None → b ≡ None
 none_then None b p = p
 none_then (Some x) b p = cc
 
@@ -165,7 +164,7 @@ suits_only cell builds tree o is =
     subst (λ (t : Tree). SuitsOne cell t) same o.suits
 
 -- what is not built is no fault of a write
-key_fault : (old new : ℕ) (o : Option (List ℕ)) (rest : Option Refused) → IfSome rest (IsDoneFault old new) → IfSome (or_else (option_map (λ key. Script key rules.NotBuilt) o) rest) (IsDoneFault old new)
+key_fault : (old new : ℕ) (o : Option (List ℕ)) (rest : Option Refused) → IfSome rest (IsDoneFault old new) → IfSome (option_or (option_map (λ key. Script key rules.NotBuilt) o) rest) (IsDoneFault old new)
 key_fault old new None rest p = p
 key_fault old new (Some key) rest p = tt
 

@@ -4,7 +4,7 @@ use Rattle.outside.specs.Told.{Told}
 use Rattle.toml.specs.Data.{Members}
 use Rattle.rapid_model.specs.CellData.{CellData}
 use Rattle.rapid_model.specs.ScriptData.{ScriptData, module_names}
-use Rattle.cell_script.specs.Break.{Break, Read}
+use Rattle.cell_script.specs.Break.{ScriptBreak, Read}
 use Rattle.cell_script.specs.ScriptOf.{script_of, IsTable, IsNoToml, ScriptOf}
 use Rattle.raw_trees.specs.Plain.{PlainModule}
 use Rattle.rapid_forms.specs.declared.fault.SyntaxFault.{SyntaxFault}
@@ -23,7 +23,7 @@ OneText = (text : List ℕ) (a b : Result PlainModule SyntaxFault) → ModuleTex
 same_keys : (text : List ℕ) (members others : Members) → IsTable text members → IsTable text others → members ≡ others
 same_keys text members others a b = let e : Some members ≡ Some others = sym a.table ∙ b.table in cc
 
-no_table : {A : Type 0} (text : List ℕ) (broken : Break) (members : Members) → IsNoToml text broken → IsTable text members → A
+no_table : {A : Type 0} (text : List ℕ) (broken : ScriptBreak) (members : Members) → IsNoToml text broken → IsTable text members → A
 no_table text broken members a b = let e : Some members ≡ None = sym b.table ∙ a.refused b.utf8 in cc
 
 -- a text is one script, or breaks one rule at one key

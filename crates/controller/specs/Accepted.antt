@@ -1,9 +1,8 @@
 -- What command words and files come to: the first refusal; or what is checked; or the cell and the trees of its tasks.
 use Rattle.std.specs.Prelude.{◌≡◌, ℕ, zero, suc, ◌+◌, ◌-◌, ◌⊎◌, take, drop, slice_get, Bool, true, false, not, nat_lt, List, [], ◌∷◌, ◌++◌, length, map, codes, Option, Some, None, is_some, Result, Ok, Err, ◌==◌, if◌then◌else◌}
-use Rattle.std.specs.Option.{option_map}
+use Rattle.std.specs.Option.{option_map, option_or}
 use Rattle.outside.specs.Told.{Told, found, after_reads}
 use Rattle.rapid_model.specs.CellData.{CellData}
-use Rattle.rapid_model.specs.Requests.{or_else}
 use Rattle.rapid_model.specs.ScriptData.{ScriptData, module_names}
 use Rattle.rapid_model.specs.declared.script_rule.ScriptRule.TheVariants as rules
 use Rattle.rapid_model.specs.declared.script_task.ScriptTask.{ScriptTask}
@@ -15,9 +14,9 @@ use Rattle.rapid_lexer.specs.Places.{line_of, column_of}
 use Rattle.rapid_lexer.specs.declared.place.Place.{Place}
 use Rattle.raw_trees.specs.Plain.{PlainModule, PlainItem}
 use Rattle.typed_trees.specs.Plain.{TypedTree}
-use Rattle.data_scopes.specs.declared.fault.TypeRule.{TypeRule}
-use Rattle.data_scopes.specs.declared.fault.TypeRule.TheVariants.{PersType}
-use Rattle.data_scopes.specs.Declarations.{Checked}
+use Rattle.rule_checks.specs.declared.rule.TypeRule.{TypeRule}
+use Rattle.rule_checks.specs.declared.rule.TypeRule.TheVariants.{PersType}
+use Rattle.rule_checks.specs.TypeChecks.{Checked}
 use Rattle.stmt_types.specs.Task.{task_of}
 use Rattle.cell_assembly.specs.Cells.{CellBreak, Clash, InScript, Making}
 use Rattle.cell_assembly.specs.Made.{MadeCell, make_cell}
@@ -29,7 +28,7 @@ use Rattle.controller.specs.declared.command.Action.{Action}
 use Rattle.controller.specs.declared.command.Action.TheVariants.{Round}
 use Rattle.controller.specs.declared.refused.Refused.{Refused}
 use Rattle.controller.specs.declared.refused.Refused.TheVariants.{Words, Script, Module, Memory}
-use Rattle.controller.specs.declared.refused.ModuleRule.TheVariants.{Lex, Syntax, Typing, NotBuilt}
+use Rattle.controller.specs.declared.refused.ModuleRule.TheVariants.{Lex, Syntax, «Type», NotBuilt}
 use Rattle.controller.specs.Files.{text_of}
 use Rattle.controller.specs.Words.{refused_place, script_name, plain_words, first_action}
 
@@ -138,7 +137,7 @@ read_text None = []
 
 -- the refusal by a rule of names and types, in the module of this number among these; the first of them is in this file
 abbrev pub rule_refusal : ℕ → List ReadModule → ℕ → ℕ → TypeRule → Refused
-rule_refusal file reads number at rule = Module (file + number) (place_at (read_text (slice_get reads number)) at) (Typing rule)
+rule_refusal file reads number at rule = Module (file + number) (place_at (read_text (slice_get reads number)) at) («Type» rule)
 
 abbrev pub or_refused : ℕ → List ReadModule → Checked TypedTree → Result TypedTree Refused
 or_refused file reads (Ok tree) = Ok tree
@@ -209,7 +208,7 @@ unbuilt_module file (Err place ∷ builds) = Some (Module file place NotBuilt)
 
 -- the refusal of what is not built: a key of the script, then a form of a module
 abbrev pub not_built : ScriptData → List Build → Option Refused
-not_built script builds = or_else (option_map (λ key. Script key rules.NotBuilt) (unbuilt_key script)) (unbuilt_module 1 builds)
+not_built script builds = option_or (option_map (λ key. Script key rules.NotBuilt) (unbuilt_key script)) (unbuilt_module 1 builds)
 
 -- what each module of these mentions is built to
 abbrev pub AreBuilds : List Mention → List ReadModule → List Build → Type 0

@@ -4,13 +4,13 @@ use Rattle.std.specs.declared.alloc.Global.{Global}
 use Rattle.outside.specs.Told.{Told}
 use Rattle.rapid_model.specs.ScriptData.{ScriptData}
 use Rattle.rapid_model.specs.declared.tree.Tree.{Tree}
-use Rattle.cell_script.specs.Break.{Break}
+use Rattle.cell_script.specs.Break.{ScriptBreak}
 use Rattle.cell_script.specs.ScriptOf.{ScriptOf}
 use Rattle.raw_trees.specs.Plain.{PlainModule}
 use Rattle.raw_trees.specs.Views.{view_module}
 use Rattle.raw_trees.specs.declared.raw_module.RawModule.{RawModule}
-use Rattle.data_scopes.specs.declared.fault.TypeFault.{TypeFault}
-use Rattle.data_scopes.specs.declared.fault.TypeFault.TheVariants as types
+use Rattle.rule_checks.specs.declared.fault.TypeFault.{TypeFault}
+use Rattle.rule_checks.specs.declared.fault.TypeFault.TheVariants as types
 use Rattle.cell_assembly.specs.Cells.{Clash}
 use Rattle.cell_assembly.specs.declared.cell_fault.CellFault.{CellFault}
 use Rattle.cell_assembly.specs.declared.cell_fault.CellFault.TheVariants as cells
@@ -62,7 +62,7 @@ abbrev pub IsScriptIn : Result (List ℕ) Refused → Result ScriptData Refused 
 IsScriptIn read (Ok script) = (text : List ℕ) × (read ≡ Ok text) × ScriptOf text (Ok script)
 IsScriptIn read (Err refused) =
     (refused ≡ Memory) ⊎ ((read ≡ Err refused)
-    ⊎ ((text : List ℕ) × (broken : Break) × (read ≡ Ok text) × ScriptOf text (Err broken) × (refused ≡ Script broken.key broken.rule)))
+    ⊎ ((text : List ℕ) × (broken : ScriptBreak) × (read ≡ Ok text) × ScriptOf text (Err broken) × (refused ≡ Script broken.key broken.rule)))
 
 -- The texts of the files of these names, the first of which has this number, up to the first one that is not read, and why
 -- that one is not. Want of memory aside.

@@ -1,8 +1,7 @@
 -- The status and the line of a refusal.
 use Rattle.std.specs.Prelude.{ℕ, List, [], ◌∷◌, ◌++◌, Option, Some, None, codes, decimal, slice_get}
 use Rattle.std.specs.Option.{unwrap_or, option_map_or}
-use Rattle.rapid_model.specs.declared.script_rule.ScriptRule.{ScriptRule}
-use Rattle.rapid_model.specs.declared.script_rule.ScriptRule.TheVariants as rules
+use Rattle.rapid_model.specs.RuleNames.{rule_name}
 use Rattle.controller.specs.declared.refused.Refused.{Refused}
 use Rattle.controller.specs.declared.refused.Refused.TheVariants.{Words, Script, Module, Read, Write, Memory, TooLong}
 use Rattle.controller.specs.declared.refused.ModuleRule.{ModuleRule}
@@ -10,8 +9,7 @@ use Rattle.controller.specs.declared.refused.ModuleRule.TheVariants as modules
 use Rattle.rapid_lexer.specs.declared.place.Place.{Place}
 use Rattle.rapid_lexer.specs.declared.fault.LexRule.{LexRule}
 use Rattle.rapid_lexer.specs.declared.fault.LexRule.TheVariants as lexes
-use Rattle.data_scopes.specs.declared.fault.TypeRule.{TypeRule}
-use Rattle.data_scopes.specs.declared.fault.TypeRule.TheVariants as types
+use Rattle.rule_checks.specs.Names.{type_rule_name}
 use Rattle.rapid_forms.specs.declared.fault.SyntaxRule.{SyntaxRule}
 use Rattle.rapid_forms.specs.declared.fault.SyntaxRule.TheVariants as syntaxes
 
@@ -23,18 +21,6 @@ status_of (Read file) = 5
 status_of Write = 6
 status_of Memory = 7
 status_of (TooLong file) = 10
-
-abbrev pub script_rule_name : ScriptRule → List ℕ
-script_rule_name rules.NotToml = codes "NotToml"
-script_rule_name rules.NoKey = codes "NoKey"
-script_rule_name rules.Kind = codes "Kind"
-script_rule_name rules.UnknownKey = codes "UnknownKey"
-script_rule_name rules.Range = codes "Range"
-script_rule_name rules.Name = codes "Name"
-script_rule_name rules.Twice = codes "Twice"
-script_rule_name rules.NoSuch = codes "NoSuch"
-script_rule_name rules.Pair = codes "Pair"
-script_rule_name rules.NotBuilt = codes "NotBuilt"
 
 abbrev pub lex_rule_name : LexRule → List ℕ
 lex_rule_name lexes.BadByte = codes "BadByte"
@@ -50,39 +36,10 @@ syntax_rule_name syntaxes.Syntax = codes "Syntax"
 syntax_rule_name syntaxes.LeftOut = codes "LeftOut"
 syntax_rule_name syntaxes.TooDeep = codes "TooDeep"
 
-abbrev pub type_rule_name : TypeRule → List ℕ
-type_rule_name types.NameTwice = codes "NameTwice"
-type_rule_name types.NameTaken = codes "NameTaken"
-type_rule_name types.NoName = codes "NoName"
-type_rule_name types.NotThis = codes "NotThis"
-type_rule_name types.TypeClash = codes "TypeClash"
-type_rule_name types.NoInit = codes "NoInit"
-type_rule_name types.NotConst = codes "NotConst"
-type_rule_name types.ConstOrder = codes "ConstOrder"
-type_rule_name types.ConstFault = codes "ConstFault"
-type_rule_name types.DimRange = codes "DimRange"
-type_rule_name types.WholeArray = codes "WholeArray"
-type_rule_name types.ReadOnly = codes "ReadOnly"
-type_rule_name types.BadRef = codes "BadRef"
-type_rule_name types.ArgCount = codes "ArgCount"
-type_rule_name types.ArgName = codes "ArgName"
-type_rule_name types.NoLabel = codes "NoLabel"
-type_rule_name types.LabelTwice = codes "LabelTwice"
-type_rule_name types.HandlerOnly = codes "HandlerOnly"
-type_rule_name types.ReturnKind = codes "ReturnKind"
-type_rule_name types.PersKind = codes "PersKind"
-type_rule_name types.CornerZone = codes "CornerZone"
-type_rule_name types.ToolOnly = codes "ToolOnly"
-type_rule_name types.SyncName = codes "SyncName"
-type_rule_name types.NoArm = codes "NoArm"
-type_rule_name types.NoMain = codes "NoMain"
-type_rule_name types.DataRange = codes "DataRange"
-type_rule_name types.PersType = codes "PersType"
-
 abbrev pub module_rule_name : ModuleRule → List ℕ
 module_rule_name (modules.Lex rule) = lex_rule_name rule
 module_rule_name (modules.Syntax rule) = syntax_rule_name rule
-module_rule_name (modules.Typing rule) = type_rule_name rule
+module_rule_name (modules.«Type» rule) = type_rule_name rule
 module_rule_name modules.NotBuilt = codes "NotBuilt"
 
 -- an empty key is shown as a minus
@@ -110,7 +67,7 @@ file_of (TooLong file) = Some file
 -- the words behind `rapid_cell: `, with the name of the file that they speak of
 abbrev pub refusal_words : List ℕ → Refused → List ℕ
 refusal_words name (Words place) = codes "words " ++ decimal place
-refusal_words name (Script key rule) = codes "script " ++ (key_words key ++ (32 ∷ script_rule_name rule))
+refusal_words name (Script key rule) = codes "script " ++ (key_words key ++ (32 ∷ rule_name rule))
 refusal_words name (Module file place rule) = codes "module " ++ (name ++ (32 ∷ place_words place ++ (32 ∷ module_rule_name rule)))
 refusal_words name (Read file) = codes "read " ++ name
 refusal_words name Write = codes "write"

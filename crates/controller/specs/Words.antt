@@ -1,7 +1,7 @@
 -- Which command words are taken: an action and the name of a script's file, neither beginning with a minus, and
 -- `--history` anywhere, at most once.
 use Rattle.std.specs.Prelude.{ℕ, ◌+◌, Bool, false, not, ◌&&◌, nat_lt, List, [], ◌∷◌, length, filter, position, slice_get, Option, Some, None, is_some, codes, ◌==◌, if◌then◌else◌, bytes_eq}
-use Rattle.rapid_model.specs.Requests.{or_else}
+use Rattle.std.specs.Option.{option_or}
 use Rattle.controller.specs.declared.command.Action.{Action}
 use Rattle.controller.specs.declared.command.Action.TheVariants.{Check, Round}
 
@@ -48,8 +48,8 @@ missing_word words = if nat_lt (length (plain_words words)) 2 then Some (length 
 -- `--history`; an unknown action; a missing word; a word too many
 abbrev pub refused_place : List (List ℕ) → Option ℕ
 refused_place words =
-    or_else (position is_wrong_option words) (or_else (slice_get (places is_history 0 words) 1)
-    (or_else (unknown_action words) (or_else (missing_word words) (slice_get (places is_plain 0 words) 2))))
+    option_or (position is_wrong_option words) (option_or (slice_get (places is_history 0 words) 1)
+    (option_or (unknown_action words) (option_or (missing_word words) (slice_get (places is_plain 0 words) 2))))
 
 -- the second one of some words
 abbrev pub second_word : List (List ℕ) → List ℕ

@@ -9,8 +9,9 @@ use crate::module_text::place_in;
 use crate::modules::{Modules, first_modules, later_modules, text_at};
 use crate::refused::{ModuleRule, Refused};
 use cell_assembly::{CellFault, make_cell};
-use data_scopes::{Known, TypeFault, TypeRule};
+use data_scopes::Known;
 use rapid_model::{Cell, NameText, Script, ScriptTask};
+use rule_checks::{TypeFault, TypeRule};
 use std::alloc::{AllocError, Global};
 use stmt_types::check_task;
 use typed_trees::Tree;
@@ -131,7 +132,7 @@ fn rule_refusal(
     Refused::Module {
         file,
         place: place_in(text_at(modules, number), at),
-        rule: ModuleRule::Typing(rule),
+        rule: ModuleRule::Type(rule),
     }
 }
 

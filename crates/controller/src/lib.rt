@@ -31,6 +31,3 @@ pub use command::Action;
 pub use laws::verdict_is_one;
 pub use refused::{ModuleRule, Refused};
 pub use report::Report;
-
-#[cfg(test)]
-mod tests;

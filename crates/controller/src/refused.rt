@@ -1,7 +1,7 @@
-use data_scopes::TypeRule;
 use rapid_forms::SyntaxRule;
 use rapid_lexer::{LexRule, Place};
 use rapid_model::{ScriptRule, Text};
+use rule_checks::TypeRule;
 
 /// The rules of a module.
 #[derive(Clone, Copy, Debug, PartialEq, Eq)]
@@ -11,7 +11,7 @@ pub enum ModuleRule {
     /// The tokens are no module.
     Syntax(SyntaxRule),
     /// A rule of names and types.
-    Typing(TypeRule),
+    Type(TypeRule),
     /// The module is accepted, and a form of it is not built.
     NotBuilt,
 }

@@ -1,17 +1,15 @@
 ghost use Rattle.std.specs.Prelude.{◌++◌, ◌≡◌, ◌+◌, ◌≤◌, ◌∷◌, [], codes, decimal, length};
-ghost use Rattle.controller.specs.Refusals.{refusal_text, key_words, place_words, script_rule_name, module_rule_name, lex_rule_name, syntax_rule_name, type_rule_name};
+ghost use Rattle.controller.specs.Refusals.{refusal_text, key_words, place_words, module_rule_name, lex_rule_name, syntax_rule_name};
 ghost use Rattle.controller.specs.Printed.{sunk, GainedUnlessFaults};
 ghost use Rattle.controller.specs.Written.{Writes, WritesPieces};
 
 use crate::refused::{ModuleRule, Refused};
 use crate::write::write_all;
 use arrayvec::ArrayString;
-use data_scopes::TypeRule;
 use itoa::Buffer;
 use outside::{Failed, Sink};
 use rapid_forms::SyntaxRule;
 use rapid_lexer::{LexRule, Place};
-use rapid_model::ScriptRule;
 
 /// Tells a refusal on the second sink. A write that fails there changes nothing else. `name` is the name of the file that
 /// the refusal speaks of, where it speaks of one. Takes no memory.
@@ -32,22 +30,15 @@ fn write_refusal<E: Sink>(err: &mut E, name: &str, refused: &Refused) -> Result<
             write_three(err, b"rapid_cell: words ", text.as_bytes(), b"\n")
         }
         Refused::Script { key, rule } => {
-            write_three(
-                err,
-                b"rapid_cell: script ",
-                shown(key.bytes()),
-                script_rule(*rule),
-            )
+            let key = shown(key.bytes());
+            write_rule(err, b"rapid_cell: script ", key, b" ", rule.name())
         }
         Refused::Module { place, rule, .. } => {
-            let mut tail = ArrayString::new();
-            push_fault(place, *rule, &mut tail);
-            write_three(
-                err,
-                b"rapid_cell: module ",
-                name.as_bytes(),
-                tail.as_str().as_bytes(),
-            )
+            let mut words = ArrayString::new();
+            push_place(place, &mut words);
+            let at = words.as_str().as_bytes();
+            let name = name.as_bytes();
+            write_rule(err, b"rapid_cell: module ", name, at, module_rule(*rule))
         }
         Refused::Read { .. } => write_three(err, b"rapid_cell: read ", name.as_bytes(), b"\n"),
         Refused::Write => write_three(err, b"rapid_cell: write", b"", b"\n"),
@@ -63,102 +54,51 @@ fn shown(key: &[u8]) -> &[u8]
     if key.is_empty() { b"-" } else { key }
 }
 
-/// The end of the line of a script's refusal.
-fn script_rule(rule: ScriptRule) -> &'static [u8]
-    ensures { result.now ≡ 32 ∷ script_rule_name rule ++ codes "\n" }
+/// Where a module is refused, between spaces.
+fn push_place(place: &Place, words: &mut ArrayString<128>)
+    requires { words.old.bytes ≡ [] }
+    ensures { words.new.bytes ≡ 32 ∷ place_words place.now ++ codes " " }
 {
-    match rule {
-        ScriptRule::NotToml => b" NotToml\n",
-        ScriptRule::NoKey => b" NoKey\n",
-        ScriptRule::Kind => b" Kind\n",
-        ScriptRule::UnknownKey => b" UnknownKey\n",
-        ScriptRule::Range => b" Range\n",
-        ScriptRule::Name => b" Name\n",
-        ScriptRule::Twice => b" Twice\n",
-        ScriptRule::NoSuch => b" NoSuch\n",
-        ScriptRule::Pair => b" Pair\n",
-        ScriptRule::NotBuilt => b" NotBuilt\n",
-    }
+    words.push(' ');
+    push_number(place.line, words);
+    words.push(':');
+    push_number(place.column, words);
+    words.push(' ');
 }
 
-/// The end of the line of a module's refusal: where it is refused, and by which rule.
-fn push_fault(place: &Place, rule: ModuleRule, line: &mut ArrayString<128>)
-    requires { line.old.bytes ≡ [] }
-    ensures { line.new.bytes ≡ 32 ∷ place_words place.now ++ (32 ∷ module_rule_name rule ++ codes "\n") }
-{
-    line.push(' ');
-    push_number(place.line, line);
-    line.push(':');
-    push_number(place.column, line);
-    line.push_str(module_rule(rule));
-}
-
-fn module_rule(rule: ModuleRule) -> &'static str
-    ensures { result.now ≡ 32 ∷ module_rule_name rule ++ codes "\n" }
+/// The name of the rule by which a module is refused.
+fn module_rule(rule: ModuleRule) -> &'static [u8]
+    ensures { result.now ≡ module_rule_name rule }
 {
     match rule {
         ModuleRule::Lex(rule) => lex_rule(rule),
         ModuleRule::Syntax(rule) => syntax_rule(rule),
-        ModuleRule::Typing(rule) => type_rule(rule),
-        ModuleRule::NotBuilt => " NotBuilt\n",
+        ModuleRule::Type(rule) => rule.name(),
+        ModuleRule::NotBuilt => b"NotBuilt",
     }
 }
 
-fn lex_rule(rule: LexRule) -> &'static str
-    ensures { result.now ≡ 32 ∷ lex_rule_name rule ++ codes "\n" }
+fn lex_rule(rule: LexRule) -> &'static [u8]
+    ensures { result.now ≡ lex_rule_name rule }
 {
     match rule {
-        LexRule::BadByte => " BadByte\n",
-        LexRule::OpenString => " OpenString\n",
-        LexRule::BadEscape => " BadEscape\n",
-        LexRule::LongString => " LongString\n",
-        LexRule::LongName => " LongName\n",
-        LexRule::BadLiteral => " BadLiteral\n",
-        LexRule::OpenHeader => " OpenHeader\n",
+        LexRule::BadByte => b"BadByte",
+        LexRule::OpenString => b"OpenString",
+        LexRule::BadEscape => b"BadEscape",
+        LexRule::LongString => b"LongString",
+        LexRule::LongName => b"LongName",
+        LexRule::BadLiteral => b"BadLiteral",
+        LexRule::OpenHeader => b"OpenHeader",
     }
 }
 
-fn syntax_rule(rule: SyntaxRule) -> &'static str
-    ensures { result.now ≡ 32 ∷ syntax_rule_name rule ++ codes "\n" }
+fn syntax_rule(rule: SyntaxRule) -> &'static [u8]
+    ensures { result.now ≡ syntax_rule_name rule }
 {
     match rule {
-        SyntaxRule::Syntax => " Syntax\n",
-        SyntaxRule::LeftOut => " LeftOut\n",
-        SyntaxRule::TooDeep => " TooDeep\n",
-    }
-}
-
-fn type_rule(rule: TypeRule) -> &'static str
-    ensures { result.now ≡ 32 ∷ type_rule_name rule ++ codes "\n" }
-{
-    match rule {
-        TypeRule::NameTwice => " NameTwice\n",
-        TypeRule::NameTaken => " NameTaken\n",
-        TypeRule::NoName => " NoName\n",
-        TypeRule::NotThis => " NotThis\n",
-        TypeRule::TypeClash => " TypeClash\n",
-        TypeRule::NoInit => " NoInit\n",
-        TypeRule::NotConst => " NotConst\n",
-        TypeRule::ConstOrder => " ConstOrder\n",
-        TypeRule::ConstFault => " ConstFault\n",
-        TypeRule::DimRange => " DimRange\n",
-        TypeRule::WholeArray => " WholeArray\n",
-        TypeRule::ReadOnly => " ReadOnly\n",
-        TypeRule::BadRef => " BadRef\n",
-        TypeRule::ArgCount => " ArgCount\n",
-        TypeRule::ArgName => " ArgName\n",
-        TypeRule::NoLabel => " NoLabel\n",
-        TypeRule::LabelTwice => " LabelTwice\n",
-        TypeRule::HandlerOnly => " HandlerOnly\n",
-        TypeRule::ReturnKind => " ReturnKind\n",
-        TypeRule::PersKind => " PersKind\n",
-        TypeRule::CornerZone => " CornerZone\n",
-        TypeRule::ToolOnly => " ToolOnly\n",
-        TypeRule::SyncName => " SyncName\n",
-        TypeRule::NoArm => " NoArm\n",
-        TypeRule::NoMain => " NoMain\n",
-        TypeRule::DataRange => " DataRange\n",
-        TypeRule::PersType => " PersType\n",
+        SyntaxRule::Syntax => b"Syntax",
+        SyntaxRule::LeftOut => b"LeftOut",
+        SyntaxRule::TooDeep => b"TooDeep",
     }
 }
 
@@ -169,6 +109,22 @@ fn push_number(number: u32, line: &mut ArrayString<128>)
 {
     let mut digits = Buffer::new();
     line.push_str(digits.format(number));
+}
+
+/// Writes the line of a rule that is broken: what is refused, its name, what stands between that and the rule's name.
+fn write_rule<E: Sink>(
+    err: &mut E,
+    head: &[u8],
+    name: &[u8],
+    between: &[u8],
+    rule: &[u8],
+) -> Result<(), Failed>
+    ensures { Writes (head.now ∷ name.now ∷ between.now ∷ rule.now ∷ codes "\n" ∷ []) result (sunk E.told E.calls E.faults err.old err.new) }
+{
+    match write_two(err, head, name) {
+        Ok(()) => write_three(err, between, rule, b"\n"),
+        Err(failed) => Err(failed),
+    }
 }
 
 /// Writes three pieces in order.

@@ -26,9 +26,20 @@ fn run(rt: &HostRuntime) -> io::Result<u8> {
     for word in &given {
         words.push(word.as_str())?;
     }
-    let mut shelf = FileShelf::new(rt);
+    let mut shelf = FileShelf::new(rt, script_name(words.as_slice()));
     let mut out = StreamSink::new(rt.stdout());
     let mut err = StreamSink::new(rt.stderr());
     let report = quiet(rt.alloc(), words.as_slice(), &mut shelf, &mut out, &mut err);
     Ok(report.status)
+}
+
+/// The name of the script's file among command words that are not refused: the last one that is not `--history`.
+fn script_name<'a>(words: &[&'a str]) -> &'a str {
+    let mut name = "";
+    for word in words {
+        if *word != "--history" {
+            name = *word;
+        }
+    }
+    name
 }

@@ -8,7 +8,7 @@ use Rattle.rapid_builtins.specs.Names.{instruction_of, function_of, predefined_o
 use Rattle.name_tables.specs.Names.{found_by as entry_by}
 use Rattle.data_scopes.specs.declared.meant.Meant.{Meant}
 use Rattle.data_scopes.specs.declared.meant.Meant.TheVariants as meants
-use Rattle.data_scopes.specs.declared.spot.Spot.{Spot}
+use Rattle.rule_checks.specs.declared.spot.Spot.{Spot}
 use Rattle.data_scopes.specs.Kept.{Mean, AllMean, TablesMean}
 use Rattle.data_scopes.specs.Scopes.{Scope, Tables, declare, list_at, meant_in, meant_in_routine, meant_predefined, meaning}
 

@@ -9,22 +9,24 @@ use Rattle.raw_trees.specs.Plain.{PlainExpr, PlainDatum, PlainRoutine, PlainItem
 use Rattle.data_scopes.specs.declared.counts.Counts.{Counts}
 use Rattle.data_scopes.specs.declared.data_row.DatumRow.{DatumRow}
 use Rattle.data_scopes.specs.declared.data_row.Since.{Since}
-use Rattle.data_scopes.specs.declared.fault.TypeRule.{TypeRule}
-use Rattle.data_scopes.specs.declared.fault.TypeRule.TheVariants.{NameTwice, TypeClash, PersKind}
+use Rattle.rule_checks.specs.declared.rule.TypeRule.TheVariants.{NameTwice, TypeClash, PersKind}
 use Rattle.data_scopes.specs.declared.meant.Meant.TheVariants as meants
-use Rattle.data_scopes.specs.Declarations.{Checked, ◌>>=◌, is_own, must, spot_of, sort_at, with_const, datum_sort, item_name_rules, datum_rules, result_rules, params_rules, local_rules, locals_rules, routine_rules, item_rules, items_rules, module_rules, modules_rules}
+use Rattle.rule_checks.specs.Checks.{◌>>=◌, must}
+use Rattle.rule_checks.specs.TypeChecks.{Checked, at_spot}
+use Rattle.data_scopes.specs.Declarations.{is_own, spot_of, sort_at, with_const, datum_sort, item_name_rules, datum_rules, result_rules, params_rules, local_rules, locals_rules, routine_rules, item_rules, items_rules, module_rules, modules_rules}
 use Rattle.data_scopes.specs.Numbers.{no_counts, tables_of, datum_meant, local_meant, is_const, is_pers, is_scalar_const, after_datum, after_routine, after_item, after_items}
 use Rattle.data_scopes.specs.Rows.{datum_row, since_of, value_at, with_datum, scalar_rows, result_row, param_rows, local_rows, routine_row, with_routine, item_rows, items_rows, modules_rows, no_rows}
 use Rattle.rapid_model.specs.declared.signal_row.SignalRow.{SignalRow}
 use Rattle.data_scopes.specs.declared.meant.Meant.{Meant}
-use Rattle.data_scopes.specs.declared.spot.Spot.{Spot}
+use Rattle.rule_checks.specs.declared.spot.Spot.{Spot}
 use Rattle.data_scopes.specs.Naming.{names_of}
 use Rattle.data_scopes.specs.Scopes.{Tables, Names, RoutineRow, Rows, list_at, meant_in, meaning}
 use Rattle.data_scopes.specs.Numbered.{HasRow}
 use Rattle.data_scopes.proofs.Within.{after_by, after_modules, Fits, IsWithin, tables_within, meant_within}
 use Rattle.rapid_model.specs.Sorts.{has_values}
 use Rattle.data_scopes.proofs.All.{all_more}
-use Rattle.data_scopes.proofs.Typed.{behind, ok_same, modules_types}
+use Rattle.rule_checks.proofs.Steps.{behind, ok_same, it_holds}
+use Rattle.data_scopes.proofs.Typed.{modules_types}
 
 abbrev pub sorts_in : List DatumRow → List Sort
 sorts_in rows = map (λ row. row.sort) rows
@@ -104,10 +106,6 @@ one_more_scalar number d sort front sorts rows h =
     ∙ ap (λ l. front ++ l) (sym (map-append (λ row. row.sort) (scalar_rows rows) (scalar_rows (row_of number d sort ∷ []))))
     ∙ ap (λ l. front ++ sorts_in l) (sym (scalar_append rows (row_of number d sort ∷ [])))
 
-it_holds : (holds : Bool) (spot : Spot) (rule : TypeRule) (u : Unit {0}) → must holds spot rule ≡ Ok u → holds ≡ true
-it_holds true spot rule u e = refl
-it_holds false spot rule u e = absurd (cc)
-
 module _ (tables : Tables) (number : ℕ) where
   abbrev type_of_datum : Option ℕ → PlainDatum → Checked Sort
   type_of_datum routine d = sort_at tables (spot_of number routine d.sort) d.sort
@@ -118,8 +116,8 @@ module _ (tables : Tables) (number : ℕ) where
       let P : Type 0 = type_of_datum routine d ≡ Ok sort in
       let spot = spot_of number routine d.sort in
       behind P sort (type_of_datum routine d) _ e (λ s is rest.
-      behind P sort (must (has_values s || not (is_const d.kind)) spot TypeClash) _ rest (λ u fine last.
-      behind P sort (must (has_values s || not (is_pers d.kind)) spot PersKind) _ last (λ v good done. is ∙ done)))
+      behind P sort (must (has_values s || not (is_const d.kind)) (at_spot spot TypeClash)) _ rest (λ u fine last.
+      behind P sort (must (has_values s || not (is_pers d.kind)) (at_spot spot PersKind)) _ last (λ v good done. is ∙ done)))
 
   -- a PERS has a type with values
   sort_fits : (routine : Option ℕ) (d : PlainDatum) (sort : Sort) → datum_sort tables number routine d ≡ Ok sort → (has_values sort || not (is_pers d.kind)) ≡ true
@@ -127,9 +125,9 @@ module _ (tables : Tables) (number : ℕ) where
       let P : Type 0 = (has_values sort || not (is_pers d.kind)) ≡ true in
       let spot = spot_of number routine d.sort in
       behind P sort (type_of_datum routine d) _ e (λ s is rest.
-      behind P sort (must (has_values s || not (is_const d.kind)) spot TypeClash) _ rest (λ u fine last.
-      behind P sort (must (has_values s || not (is_pers d.kind)) spot PersKind) _ last (λ v good done.
-      subst (λ s. (has_values s || not (is_pers d.kind)) ≡ true) (ok_same _ _ done) (it_holds (has_values s || not (is_pers d.kind)) spot PersKind v good))))
+      behind P sort (must (has_values s || not (is_const d.kind)) (at_spot spot TypeClash)) _ rest (λ u fine last.
+      behind P sort (must (has_values s || not (is_pers d.kind)) (at_spot spot PersKind)) _ last (λ v good done.
+      subst (λ s. (has_values s || not (is_pers d.kind)) ≡ true) (ok_same _ _ done) (it_holds (has_values s || not (is_pers d.kind)) (at_spot spot PersKind) v good))))
 
   row_found : (routine : Option ℕ) (d : PlainDatum) (sort : Sort) (row : DatumRow) → datum_sort tables number routine d ≡ Ok sort → datum_row tables number routine d ≡ Ok row → row ≡ row_of number d sort
   row_found routine d sort row e r =
@@ -140,7 +138,7 @@ module _ (tables : Tables) (number : ℕ) where
   local_typed routine place consts d sorts more row e r front rows h =
       let P : Type 0 = more ≡ front ++ sorts_in (scalar_rows (rows ++ row ∷ [])) in
       behind P more (datum_sort tables number (Some routine) d) _ e (λ sort is named.
-      behind P more (must (is_own (local_meant place consts d) (meant_in d.name.text (list_at tables.inner routine))) (spot_of number (Some routine) d.name) NameTwice) _ named (λ u fine done.
+      behind P more (must (is_own (local_meant place consts d) (meant_in d.name.text (list_at tables.inner routine))) (at_spot (spot_of number (Some routine) d.name) NameTwice)) _ named (λ u fine done.
       sym (ok_same _ _ done) ∙ one_more_scalar number d sort front sorts rows h
       ∙ ap (λ x. front ++ sorts_in (scalar_rows (rows ++ x ∷ []))) (sym (row_found (Some routine) d sort row is r))))
 
@@ -206,7 +204,7 @@ modules_rowed tables number before c [] sorts more rows got e r h = subst (λ s.
 modules_rowed tables number before c (m ∷ ms) sorts more rows got e r h =
     let P : Type 0 = AreRowed (after_modules (after_items c m.items) ms) more got in
     behind P more (module_rules tables number before c m sorts) _ e (λ mid is rest.
-    behind P mid (must (not (is_among m.name.text before)) (spot_of number None m.name) NameTwice) _ is (λ u fine ruled.
+    behind P mid (must (not (is_among m.name.text before)) (at_spot (spot_of number None m.name) NameTwice)) _ is (λ u fine ruled.
     behind P got (items_rows tables number m.items rows) _ r (λ next found others.
     modules_rowed tables (number + 1) (before ++ (m.name.text ∷ [])) (after_items c m.items) ms mid more next got rest others
     (items_rowed tables number c m.items sorts mid rows next ruled found h))))

@@ -1,5 +1,5 @@
 -- There are as many types as CONSTs that the walk counts.
-use Rattle.std.proofs.Common.{◌≡◌, ℕ, ◌+◌, ◌<◌, ◌≤◌, Bool, true, false, not, List, [], ◌∷◌, ◌++◌, length, Option, Some, None, refl, sym, ap, subst, ◌∙◌, if◌then◌else◌, length-append, replicate, zero, suc, set, slice_get, IfSome, IsTrue, length-set, Ok, Err, arith}
+use Rattle.std.proofs.Common.{◌≡◌, ℕ, ◌+◌, ◌<◌, ◌≤◌, Bool, true, false, not, List, [], ◌∷◌, ◌++◌, length, Option, Some, None, refl, sym, ap, subst, ◌∙◌, if◌then◌else◌, length-append, replicate, zero, suc, set, slice_get, IfSome, IsTrue, length-set, Ok, arith}
 use Rattle.std.proofs.lemmas.List.{length-replicate}
 use Rattle.rapid_model.specs.declared.signal_row.SignalRow.{SignalRow}
 use Rattle.rapid_model.specs.declared.value.Value.{Value}
@@ -7,20 +7,17 @@ use Rattle.rapid_model.specs.declared.sort.Sort.{Sort}
 use Rattle.rapid_model.specs.Names.{is_among}
 use Rattle.raw_trees.specs.Plain.{PlainDatum, PlainRoutine, PlainItem, PlainModule, Datum, Routine}
 use Rattle.data_scopes.specs.declared.counts.Counts.{Counts}
-use Rattle.data_scopes.specs.declared.fault.TypeRule.TheVariants.{NameTwice}
+use Rattle.rule_checks.specs.declared.rule.TypeRule.TheVariants.{NameTwice}
 use Rattle.data_scopes.specs.declared.meant.Meant.TheVariants as meants
 use Rattle.data_scopes.specs.Kept.{IsBelow, AreKept, AreOfTypes, TablesMean}
-use Rattle.data_scopes.specs.Declarations.{Checked, ◌>>=◌, is_own, must, spot_of, with_const, datum_sort, item_name_rules, datum_rules, result_rules, params_rules, local_rules, locals_rules, routine_rules, item_rules, items_rules, module_rules, modules_rules}
+use Rattle.rule_checks.specs.Checks.{must}
+use Rattle.rule_checks.proofs.Steps.{behind, ok_same}
+use Rattle.rule_checks.specs.TypeChecks.{at_spot}
+use Rattle.data_scopes.specs.Declarations.{is_own, spot_of, with_const, datum_sort, item_name_rules, datum_rules, result_rules, params_rules, local_rules, locals_rules, routine_rules, item_rules, items_rules, module_rules, modules_rules}
 use Rattle.data_scopes.specs.Numbers.{no_counts, tables_of, datum_meant, local_meant, is_pers, is_scalar_const, scalar_consts, after_item, after_items}
 use Rattle.rapid_model.specs.Sorts.{is_value_of}
 use Rattle.data_scopes.specs.Scopes.{Tables, list_at, meant_in}
 use Rattle.data_scopes.proofs.Within.{after_by, after_modules, tables_below}
-
--- where a step and what follows it answer, each does
-module _ {A B : Type 0} (P : Type 0) (y : B) where
-  pub behind : (x : Checked A) (f : A → Checked B) → (x >>= f) ≡ Ok y → ((a : A) → x ≡ Ok a → f a ≡ Ok y → P) → P
-  behind (Ok a) f e next = next a refl e
-  behind (Err b) f e next = absurd (cc)
 
 count_by : (b : Bool) (sorts : List Sort) (sort : Sort) → length (if b then sorts ++ sort ∷ [] else sorts) ≡ length sorts + (if b then 1 else 0)
 count_by true sorts sort = length-append sorts (sort ∷ [])
@@ -28,9 +25,6 @@ count_by false sorts sort = omega arith
 
 counted : (d : PlainDatum) (sorts more : List Sort) (sort : Sort) → with_const sorts d sort ≡ more → length more ≡ length sorts + (if is_scalar_const d then 1 else 0)
 counted d sorts more sort e = ap length (sym e) ∙ count_by (is_scalar_const d) sorts sort
-
-pub ok_same : {A : Type 0} (x y : A) → ◌≡◌ {A = Checked A} (Ok x) (Ok y) → x ≡ y
-ok_same x y e = cc
 
 module _ (tables : Tables) (number : ℕ) where
   datum_types : (local : Bool) (c : Counts) (d : PlainDatum) (sorts more : List Sort) → datum_rules tables number local c d sorts ≡ Ok more → length more ≡ length sorts + (if is_scalar_const d then 1 else 0)
@@ -43,7 +37,7 @@ module _ (tables : Tables) (number : ℕ) where
   local_types routine place consts d sorts more e =
       let P : Type 0 = length more ≡ length sorts + (if is_scalar_const d then 1 else 0) in
       behind P more (datum_sort tables number (Some routine) d) _ e (λ sort is named.
-      behind P more (must (is_own (local_meant place consts d) (meant_in d.name.text (list_at tables.inner routine))) (spot_of number (Some routine) d.name) NameTwice) _ named (λ u fine done. counted d sorts more sort (ok_same _ _ done)))
+      behind P more (must (is_own (local_meant place consts d) (meant_in d.name.text (list_at tables.inner routine))) (at_spot (spot_of number (Some routine) d.name) NameTwice)) _ named (λ u fine done. counted d sorts more sort (ok_same _ _ done)))
 
   locals_types : (routine place consts : ℕ) (ds : List PlainDatum) (sorts more : List Sort) → locals_rules tables number routine place consts ds sorts ≡ Ok more → length more ≡ length sorts + scalar_consts ds
   locals_types routine place consts [] sorts more e = let same : sorts ≡ more = ok_same _ _ e in omega (arith, ap length same)
@@ -78,7 +72,7 @@ module _ (tables : Tables) (number : ℕ) where
 
   module_types : (before : List (List ℕ)) (c : Counts) (m : PlainModule) (sorts more : List Sort) → c.consts ≡ length sorts → module_rules tables number before c m sorts ≡ Ok more → (after_items c m.items).consts ≡ length more
   module_types before c m sorts more as_many e =
-      behind ((after_items c m.items).consts ≡ length more) more (must (not (is_among m.name.text before)) (spot_of number None m.name) NameTwice) _ e (λ u fine rest.
+      behind ((after_items c m.items).consts ≡ length more) more (must (not (is_among m.name.text before)) (at_spot (spot_of number None m.name) NameTwice)) _ e (λ u fine rest.
       items_types c m.items sorts more as_many rest)
 
 pub modules_types : (tables : Tables) (number : ℕ) (before : List (List ℕ)) (c : Counts) (ms : List PlainModule) (sorts more : List Sort) → c.consts ≡ length sorts → modules_rules tables number before c ms sorts ≡ Ok more → (after_modules c ms).consts ≡ length more

@@ -7,7 +7,7 @@ use Rattle.raw_trees.specs.declared.raw_routine.Mode.TheVariants as modes
 use Rattle.data_scopes.specs.declared.counts.Counts.{Counts}
 use Rattle.data_scopes.specs.declared.meant.Meant.{Meant}
 use Rattle.data_scopes.specs.declared.meant.Meant.TheVariants as meants
-use Rattle.data_scopes.specs.declared.spot.Spot.{Spot}
+use Rattle.rule_checks.specs.declared.spot.Spot.{Spot}
 use Rattle.data_scopes.specs.Kept.{IsBelow, Mean, AllMean, TablesMean}
 use Rattle.data_scopes.specs.Numbers.{is_pers, is_scalar_const, scalar_consts, is_local, item_name, item_meant, after_item, after_items, param_meant, declare_params, local_meant, declare_locals, own_items, task_items, item_scopes, routine_scopes, task_scope, own_scopes, inner_scopes, signal_scope, no_counts, tables_of}
 use Rattle.data_scopes.specs.Scopes.{Scope, Tables, meaning}

@@ -1,42 +1,22 @@
 -- The first rule that is broken at a declared name or at its type's name: from left to right through the modules in order,
 -- a declaration's type before its name.
-use Rattle.std.specs.Prelude.{ℕ, ◌+◌, Bool, true, false, not, ◌||◌, List, [], ◌∷◌, ◌++◌, length, map, Option, Some, None, is_some, Result, Ok, Err, ◌==◌, if◌then◌else◌}
+use Rattle.std.specs.Prelude.{ℕ, ◌+◌, Bool, true, false, not, ◌||◌, List, [], ◌∷◌, ◌++◌, length, map, Option, Some, None, is_some, Ok, ◌==◌, if◌then◌else◌}
 use Rattle.raw_trees.specs.Plain.{PlainDatum, PlainParam, PlainRoutine, PlainItem, PlainModule, PlainName, Datum, Routine}
 use Rattle.raw_trees.specs.declared.raw_routine.Mode.{Mode}
 use Rattle.raw_trees.specs.declared.raw_routine.Mode.TheVariants as modes
 use Rattle.rapid_model.specs.declared.sort.Sort.{Sort}
 use Rattle.rapid_model.specs.Names.{is_among}
-use Rattle.data_scopes.specs.declared.fault.TypeRule.{TypeRule}
-use Rattle.data_scopes.specs.declared.fault.TypeRule.TheVariants.{NameTwice, NameTaken, NoName, NotThis, TypeClash, PersKind}
+use Rattle.rule_checks.specs.declared.rule.TypeRule.TheVariants.{NameTwice, NameTaken, NoName, NotThis, TypeClash, PersKind}
 use Rattle.data_scopes.specs.declared.counts.Counts.{Counts}
 use Rattle.data_scopes.specs.declared.meant.Meant.{Meant}
 use Rattle.data_scopes.specs.declared.meant.Meant.TheVariants as meants
-use Rattle.data_scopes.specs.declared.spot.Spot.{Spot}
+use Rattle.rule_checks.specs.declared.spot.Spot.{Spot}
+use Rattle.rule_checks.specs.Checks.{◌>>=◌, must, found_or}
+use Rattle.rule_checks.specs.TypeChecks.{Checked, at_spot}
 use Rattle.data_scopes.specs.Numbers.{is_const, is_pers, is_scalar_const, datum_meant, after_item, after_items, param_meant, local_meant}
 use Rattle.data_scopes.specs.Scopes.{Scope, Tables, list_at, meant_in, meant_outside, meaning}
 use Rattle.rapid_model.specs.Sorts.{has_values}
 use Rattle.data_scopes.specs.Sorts.{sort_of}
-
--- a rule that is broken, and where
-pub record Break : Type 0 where
-  pub «module» : ℕ
-  pub at : ℕ
-  pub rule : TypeRule
-
-abbrev pub Checked : Type 0 → Type 0
-Checked A = Result A Break
-
-infixl 10 ◌>>=◌
-abbrev pub ◌>>=◌ : {A B : Type 0} → Checked A → (A → Checked B) → Checked B
-(Ok x) >>= f = f x
-(Err b) >>= f = Err b
-
-abbrev pub broken : {A : Type 0} → Spot → TypeRule → Checked A
-broken spot rule = Err (record { «module» = spot.«module»; at = spot.at; rule = rule })
-
--- a rule stands at a spot: it holds, or it is broken there
-abbrev pub must : Bool → Spot → TypeRule → Checked (Unit {0})
-must holds spot rule = if holds then Ok tt else broken spot rule
 
 -- a name in a module, and in a routine of it
 abbrev pub spot_of : ℕ → Option ℕ → PlainName → Spot
@@ -47,13 +27,8 @@ abbrev pub type_of : Meant → Option Sort
 type_of (meants.Predefined name) = sort_of name
 type_of _ = None
 
-abbrev pub or_not_this : Spot → Option Sort → Checked Sort
-or_not_this spot (Some sort) = Ok sort
-or_not_this spot None = broken spot NotThis
-
 abbrev pub sort_meant : Spot → Option Meant → Checked Sort
-sort_meant spot None = broken spot NoName
-sort_meant spot (Some meant) = or_not_this spot (type_of meant)
+sort_meant spot meant = found_or meant (at_spot spot NoName) >>= (λ found. found_or (type_of found) (at_spot spot NotThis))
 
 -- the type that a name means, which is looked up as any name
 abbrev pub sort_at : Tables → Spot → PlainName → Checked Sort
@@ -77,16 +52,16 @@ item_scope tables number false = tables.task
 -- the name of an item
 abbrev pub item_name_rules : Tables → Spot → Bool → Meant → PlainName → Checked (Unit {0})
 item_name_rules tables spot local own name =
-    must (is_own own (meant_in name.text (item_scope tables spot.«module» local))) spot NameTwice
-    >>= (λ _. must (not (is_some (meant_outside tables name.text))) spot NameTaken)
+    must (is_own own (meant_in name.text (item_scope tables spot.«module» local))) (at_spot spot NameTwice)
+    >>= (λ _. must (not (is_some (meant_outside tables name.text))) (at_spot spot NameTaken))
 
 -- the type of a datum, which fits its kind
 abbrev pub datum_sort : Tables → ℕ → Option ℕ → PlainDatum → Checked Sort
 datum_sort tables number routine d =
     let spot = spot_of number routine d.sort in
     sort_at tables spot d.sort >>= (λ sort.
-    must (has_values sort || not (is_const d.kind)) spot TypeClash >>= (λ _.
-    must (has_values sort || not (is_pers d.kind)) spot PersKind >>= (λ _. Ok sort)))
+    must (has_values sort || not (is_const d.kind)) (at_spot spot TypeClash) >>= (λ _.
+    must (has_values sort || not (is_pers d.kind)) (at_spot spot PersKind) >>= (λ _. Ok sort)))
 
 -- the types so far, and behind them that of a CONST that is no array
 abbrev pub with_const : List Sort → PlainDatum → Sort → List Sort
@@ -109,8 +84,8 @@ abbrev pub param_rules : Tables → ℕ → ℕ → ℕ → PlainParam → Check
 param_rules tables number routine place p =
     let spot = spot_of number (Some routine) p.sort in
     sort_at tables spot p.sort >>= (λ sort.
-    must (takes_sort p.mode sort) spot TypeClash >>= (λ _.
-    must (is_own (param_meant place p.mode) (meant_in p.name.text (list_at tables.inner routine))) (spot_of number (Some routine) p.name) NameTwice))
+    must (takes_sort p.mode sort) (at_spot spot TypeClash) >>= (λ _.
+    must (is_own (param_meant place p.mode) (meant_in p.name.text (list_at tables.inner routine))) (at_spot (spot_of number (Some routine) p.name) NameTwice)))
 
 abbrev pub params_rules : Tables → ℕ → ℕ → ℕ → List PlainParam → Checked (Unit {0})
 params_rules tables number routine place [] = Ok tt
@@ -125,7 +100,7 @@ counted params checked = checked >>= (λ _. Ok (length params))
 abbrev pub local_rules : Tables → ℕ → ℕ → ℕ → ℕ → PlainDatum → List Sort → Checked (List Sort)
 local_rules tables number routine place consts d sorts =
     datum_sort tables number (Some routine) d >>= (λ sort.
-    must (is_own (local_meant place consts d) (meant_in d.name.text (list_at tables.inner routine))) (spot_of number (Some routine) d.name) NameTwice
+    must (is_own (local_meant place consts d) (meant_in d.name.text (list_at tables.inner routine))) (at_spot (spot_of number (Some routine) d.name) NameTwice)
     >>= (λ _. Ok (with_const sorts d sort)))
 
 abbrev pub locals_rules : Tables → ℕ → ℕ → ℕ → ℕ → List PlainDatum → List Sort → Checked (List Sort)
@@ -139,7 +114,7 @@ abbrev pub result_rules : Tables → ℕ → ℕ → Option PlainName → Checke
 result_rules tables number routine None = Ok tt
 result_rules tables number routine (Some name) =
     let spot = spot_of number (Some routine) name in
-    sort_at tables spot name >>= (λ sort. must (has_values sort) spot TypeClash)
+    sort_at tables spot name >>= (λ sort. must (has_values sort) (at_spot spot TypeClash))
 
 abbrev pub routine_rules : Tables → ℕ → Counts → PlainRoutine → List Sort → Checked (List Sort)
 routine_rules tables number c r sorts =
@@ -166,7 +141,7 @@ names modules = map (λ m. m.name.text) modules
 -- a module of this number, behind modules of these names
 abbrev pub module_rules : Tables → ℕ → List (List ℕ) → Counts → PlainModule → List Sort → Checked (List Sort)
 module_rules tables number before c m sorts =
-    must (not (is_among m.name.text before)) (spot_of number None m.name) NameTwice >>= (λ _. items_rules tables number c m.items sorts)
+    must (not (is_among m.name.text before)) (at_spot (spot_of number None m.name) NameTwice) >>= (λ _. items_rules tables number c m.items sorts)
 
 -- the modules, the first of which has this number
 abbrev pub modules_rules : Tables → ℕ → List (List ℕ) → Counts → List PlainModule → List Sort → Checked (List Sort)

@@ -3,7 +3,6 @@ pub mod Loops
 pub mod Numbers
 pub mod Sorts
 pub mod Declarations
-pub mod Gives
 pub mod Kept
 pub mod Rows
 pub mod Naming

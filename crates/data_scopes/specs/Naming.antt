@@ -2,7 +2,9 @@
 use Rattle.std.specs.Prelude.{Bool, List, [], length, replicate, None, Ok}
 use Rattle.raw_trees.specs.Plain.{PlainModule}
 use Rattle.rapid_model.specs.declared.signal_row.SignalRow.{SignalRow}
-use Rattle.data_scopes.specs.Declarations.{Checked, ◌>>=◌, modules_rules}
+use Rattle.rule_checks.specs.Checks.{◌>>=◌}
+use Rattle.rule_checks.specs.TypeChecks.{Checked}
+use Rattle.data_scopes.specs.Declarations.{modules_rules}
 use Rattle.data_scopes.specs.Numbers.{no_counts, tables_of}
 use Rattle.data_scopes.specs.Rows.{modules_rows, no_rows, outputs_of}
 use Rattle.data_scopes.specs.Scopes.{Names}

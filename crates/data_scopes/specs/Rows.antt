@@ -6,7 +6,9 @@ use Rattle.rapid_model.specs.declared.sort.Sort.{Sort}
 use Rattle.data_scopes.specs.declared.data_row.DatumRow.{DatumRow}
 use Rattle.data_scopes.specs.declared.data_row.ParamRow.{ParamRow}
 use Rattle.data_scopes.specs.declared.data_row.Since.{Since}
-use Rattle.data_scopes.specs.Declarations.{Checked, ◌>>=◌, spot_of, sort_at}
+use Rattle.rule_checks.specs.Checks.{◌>>=◌}
+use Rattle.rule_checks.specs.TypeChecks.{Checked}
+use Rattle.data_scopes.specs.Declarations.{spot_of, sort_at}
 use Rattle.data_scopes.specs.Numbers.{is_const, is_pers, is_scalar_const}
 use Rattle.data_scopes.specs.Scopes.{Tables, RoutineRow, Rows}
 

@@ -13,7 +13,7 @@ use Rattle.data_scopes.specs.declared.data_row.DatumRow.{DatumRow}
 use Rattle.data_scopes.specs.declared.data_row.ParamRow.{ParamRow}
 use Rattle.data_scopes.specs.declared.meant.Meant.{Meant}
 use Rattle.data_scopes.specs.declared.meant.Meant.TheVariants as meants
-use Rattle.data_scopes.specs.declared.spot.Spot.{Spot}
+use Rattle.rule_checks.specs.declared.spot.Spot.{Spot}
 
 -- The names of a scope, in small letters, and what they mean.
 abbrev pub Scope : Type 0

@@ -4,22 +4,22 @@ ghost use Rattle.std.specs.Prelude.{◌≡◌};
 ghost use Rattle.raw_trees.specs.Views.{view_datum, view_name};
 ghost use Rattle.data_scopes.specs.Declarations;
 ghost use Rattle.data_scopes.specs.Scopes.{meant_in};
-ghost use Rattle.data_scopes.specs.Gives.{Gives};
-ghost use Rattle.data_scopes.specs.declared.fault.TypeFault.TheVariants.{Rule};
+ghost use Rattle.rule_checks.specs.Checks.{must};
+ghost use Rattle.rule_checks.specs.TypeChecks.{Gives, at_spot};
+ghost use Rattle.rule_checks.specs.declared.fault.TypeFault.TheVariants.{Rule};
 
-use crate::fault::{TypeFault, TypeRule};
 use crate::meant::Meant;
 use crate::numbers::{is_const, is_pers, is_scalar_const};
 use crate::own::is_own;
 use crate::sorts::sort_of;
-use crate::spot::Spot;
 use crate::tables::NameTables;
 use rapid_model::{Sort, has_values};
 use raw_trees::{RawDatum, RawName};
+use rule_checks::{Spot, TypeFault, TypeRule};
 
 /// The rule holds, or it is broken at the spot.
 pub(crate) fn must(holds: bool, spot: Spot, rule: TypeRule) -> Result<(), TypeFault>
-    ensures { Gives (λ u. u) result (Declarations.must holds spot rule) }
+    ensures { Gives (λ u. u) result (must holds (at_spot spot rule)) }
 {
     if holds {
         return Ok(());

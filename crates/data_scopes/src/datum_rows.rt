@@ -3,15 +3,15 @@
 ghost use Rattle.std.specs.Prelude.{◌≡◌, ◌++◌, ◌∷◌, [], Ok, option_map};
 ghost use Rattle.raw_trees.specs.Views.{view_datum, view_expr, view_name};
 ghost use Rattle.data_scopes.specs.Rows;
-ghost use Rattle.data_scopes.specs.Gives.{Gives};
+ghost use Rattle.rule_checks.specs.TypeChecks.{Gives};
 
 use crate::checking::{sort_at, spot_of};
 use crate::data_row::{DatumRow, Since};
-use crate::fault::TypeFault;
 use crate::numbers::{is_const, is_pers, is_scalar_const};
 use crate::row_tables::RowTables;
 use crate::tables::NameTables;
 use raw_trees::{RawDatum, RawExpr, RawName};
+use rule_checks::TypeFault;
 
 /// The byte at which an expression begins, where a rule that it breaks is reported (RAPID Kernel, expressions). It is the
 /// field `at`, and the clause says so of the tree that definitions speak of.

@@ -4,10 +4,9 @@ ghost use Rattle.std.specs.Prelude.{◌≡◌, ◌++◌, [], map, length, OnOk, 
 ghost use Rattle.raw_trees.specs.Views.{view_datum, view_item, view_module, view_param, view_routine};
 ghost use Rattle.data_scopes.specs.Numbers;
 ghost use Rattle.data_scopes.specs.Scopes.{declare, loop_rows};
-ghost use Rattle.data_scopes.specs.declared.fault.TypeFault.TheVariants.{Memory};
+ghost use Rattle.rule_checks.specs.declared.fault.TypeFault.TheVariants.{Memory};
 
 use crate::counts::Counts;
-use crate::fault::TypeFault;
 use crate::loop_row::LoopRow;
 use crate::loops::loops_in_routine;
 use crate::meant::Meant;
@@ -18,6 +17,7 @@ use crate::tables::NameTables;
 use name_tables::NameTable;
 use rapid_model::SignalRow;
 use raw_trees::{RawDatum, RawItem, RawModule, RawParam, RawRoutine};
+use rule_checks::TypeFault;
 use std::alloc::Global;
 
 /// Declares the parameters of a routine, and answers how many there are.

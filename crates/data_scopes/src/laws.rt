@@ -5,7 +5,7 @@ ghost use Rattle.rapid_model.specs.declared.signal_row.SignalRow.{SignalRow};
 ghost use Rattle.rapid_model.specs.declared.value.Value.{Value};
 ghost use Rattle.raw_trees.specs.Plain.{PlainModule};
 ghost use Rattle.data_scopes.specs.declared.meant.Meant.{Meant};
-ghost use Rattle.data_scopes.specs.declared.spot.Spot.{Spot};
+ghost use Rattle.rule_checks.specs.declared.spot.Spot.{Spot};
 ghost use Rattle.data_scopes.specs.Kept.{with_kept};
 ghost use Rattle.data_scopes.specs.Naming.{names_of};
 ghost use Rattle.data_scopes.specs.Numbered.{HasRow};

@@ -5,7 +5,6 @@ mod checking;
 mod counts;
 mod data_row;
 mod datum_rows;
-mod fault;
 mod filling;
 mod known;
 mod laws;
@@ -21,13 +20,11 @@ mod rows;
 mod scopes;
 mod slots;
 mod sorts;
-mod spot;
 mod tables;
 mod walking;
 
 pub use data_row::{DatumRow, ParamRow, Since};
 pub use datum_rows::begin_of;
-pub use fault::{TypeFault, TypeRule};
 pub use known::Known;
 pub use laws::{kept_by_number, numbers_have_rows};
 pub use meant::Meant;
@@ -35,7 +32,3 @@ pub use numbers::{is_const, is_pers, is_scalar_const, number_after};
 pub use scopes::Scopes;
 pub use slots::is_meeting;
 pub use sorts::same_sort;
-pub use spot::Spot;
-
-#[cfg(test)]
-mod tests;

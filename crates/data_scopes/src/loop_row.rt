@@ -1,9 +1,9 @@
 ghost use Rattle.std.specs.Prelude.{◌≡◌, bytes_eq, IfOk, IfErr};
 ghost use Rattle.std.specs.Str.{str_to_ascii_lowercase};
-ghost use Rattle.data_scopes.specs.declared.fault.TypeFault.TheVariants.{Memory};
+ghost use Rattle.rule_checks.specs.declared.fault.TypeFault.TheVariants.{Memory};
 
-use crate::fault::TypeFault;
 use arrayvec::ArrayVec;
+use rule_checks::TypeFault;
 use std::marker::Model;
 
 /// A FOR: its variable, and the number of the FOR whose list it stands in, if it stands in one. Contracts see the name in

@@ -3,12 +3,12 @@
 ghost use Rattle.std.specs.Prelude.{◌≡◌, ◌+◌, map, IfOk, IfErr, if◌then◌else◌};
 ghost use Rattle.raw_trees.specs.Views.{view_datum, view_item, view_routine};
 ghost use Rattle.data_scopes.specs.Numbers;
-ghost use Rattle.data_scopes.specs.declared.fault.TypeFault.TheVariants.{Memory};
+ghost use Rattle.rule_checks.specs.declared.fault.TypeFault.TheVariants.{Memory};
 
 use crate::counts::Counts;
-use crate::fault::TypeFault;
 use crate::meant::Meant;
 use raw_trees::{DatumKind, Mode, RawDatum, RawItem, RawRoutine};
+use rule_checks::TypeFault;
 
 /// The number behind this one. Its error is want of memory, also for a number past 32 bits.
 pub fn number_after(number: u32) -> Result<u32, TypeFault>

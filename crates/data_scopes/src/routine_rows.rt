@@ -3,18 +3,18 @@
 ghost use Rattle.std.specs.Prelude.{◌≡◌, ◌++◌, [], map, option_map, OnOk, IfErr};
 ghost use Rattle.raw_trees.specs.Views.{view_datum, view_name, view_param, view_routine};
 ghost use Rattle.data_scopes.specs.Rows;
-ghost use Rattle.data_scopes.specs.Gives.{Gives};
-ghost use Rattle.data_scopes.specs.declared.fault.TypeFault.TheVariants.{Memory};
+ghost use Rattle.rule_checks.specs.TypeChecks.{Gives};
+ghost use Rattle.rule_checks.specs.declared.fault.TypeFault.TheVariants.{Memory};
 
 use crate::checking::{sort_at, spot_of};
 use crate::data_row::{DatumRow, ParamRow};
 use crate::datum_rows::datum_row;
-use crate::fault::TypeFault;
 use crate::routine_entry::RoutineEntry;
 use crate::row_tables::RowTables;
 use crate::tables::NameTables;
 use rapid_model::Sort;
 use raw_trees::{RawDatum, RawName, RawParam, RawRoutine};
+use rule_checks::TypeFault;
 use std::alloc::Global;
 
 /// The row of a parameter.

@@ -3,17 +3,17 @@
 ghost use Rattle.std.specs.Prelude.{◌≡◌, length, map, IfOk, IfErr};
 ghost use Rattle.raw_trees.specs.Views.{view_item, view_module};
 ghost use Rattle.data_scopes.specs.Rows;
-ghost use Rattle.data_scopes.specs.Gives.{Gives};
-ghost use Rattle.data_scopes.specs.declared.fault.TypeFault.TheVariants.{Memory};
+ghost use Rattle.rule_checks.specs.TypeChecks.{Gives};
+ghost use Rattle.rule_checks.specs.declared.fault.TypeFault.TheVariants.{Memory};
 
 use crate::datum_rows::{datum_row, with_datum};
-use crate::fault::TypeFault;
 use crate::numbers::number_after;
 use crate::routine_rows::{routine_row, with_routine};
 use crate::row_tables::RowTables;
 use crate::slots::Slots;
 use crate::tables::NameTables;
 use raw_trees::{RawItem, RawModule};
+use rule_checks::TypeFault;
 use std::alloc::Global;
 
 /// No rows.

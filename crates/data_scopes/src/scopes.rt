@@ -3,24 +3,23 @@ ghost use Rattle.raw_trees.specs.Views.{view_module};
 ghost use Rattle.data_scopes.specs.Naming.{names_of};
 ghost use Rattle.data_scopes.specs.Called.{kind_of, local_of, param_of, params_of, places_of, result_of};
 ghost use Rattle.data_scopes.specs.Rows.{outputs_of};
-ghost use Rattle.data_scopes.specs.Gives.{Gives};
+ghost use Rattle.rule_checks.specs.TypeChecks.{Gives};
 ghost use Rattle.data_scopes.specs.Kept.{with_kept};
 ghost use Rattle.data_scopes.specs.Meetings.{meetings_before};
 ghost use Rattle.data_scopes.specs.Scopes.{meaning};
 ghost use Rattle.rapid_model.specs.Sorts.{is_value_of};
 
 use crate::data_row::{DatumRow, ParamRow};
-use crate::fault::TypeFault;
 use crate::filling::tables_of;
 use crate::known::Known;
 use crate::meant::Meant;
 use crate::row_tables::RowTables;
 use crate::rows::modules_rows;
-use crate::spot::Spot;
 use crate::tables::NameTables;
 use crate::walking::modules_rules;
 use rapid_model::{SignalRow, Sort, Value};
 use raw_trees::{RawModule, RoutineKind};
+use rule_checks::{Spot, TypeFault};
 use std::alloc::Global;
 use std::marker::Model;
 

@@ -2,14 +2,14 @@
 
 ghost use Rattle.std.specs.Prelude.{◌≡◌, ◌+◌, ◌++◌, ◌∷◌, [], Ok, Some, slice_get, IfOk, IfErr, if◌then◌else◌};
 ghost use Rattle.data_scopes.specs.Meetings;
-ghost use Rattle.data_scopes.specs.Gives.{Gives};
-ghost use Rattle.data_scopes.specs.declared.fault.TypeFault.TheVariants.{Memory};
+ghost use Rattle.rule_checks.specs.TypeChecks.{Gives};
+ghost use Rattle.rule_checks.specs.declared.fault.TypeFault.TheVariants.{Memory};
 
 use crate::data_row::DatumRow;
-use crate::fault::TypeFault;
 use crate::numbers::number_after;
 use crate::sorts::same_sort;
 use rapid_model::Sort;
+use rule_checks::TypeFault;
 use std::alloc::Global;
 use std::marker::Model;
 

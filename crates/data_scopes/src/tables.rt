@@ -5,9 +5,9 @@ ghost use Rattle.data_scopes.specs.Scopes.{list_at, loop_named, loop_rows, meani
 use crate::loop_row::LoopRow;
 use crate::loops::loop_named;
 use crate::meant::Meant;
-use crate::spot::Spot;
 use name_tables::NameTable;
 use rapid_builtins::{function, instruction, predefined};
+use rule_checks::Spot;
 use std::marker::Model;
 
 /// The names of a task's modules: the items that are not LOCAL; the LOCAL ones of each module; the parameters and data of

@@ -6,11 +6,10 @@ ghost use Rattle.rapid_model.specs.Names.{is_among};
 ghost use Rattle.raw_trees.specs.Views.{view_datum, view_item, view_module, view_name, view_param, view_routine};
 ghost use Rattle.data_scopes.specs.Declarations;
 ghost use Rattle.data_scopes.specs.Numbers.{no_counts};
-ghost use Rattle.data_scopes.specs.Gives.{Gives};
+ghost use Rattle.rule_checks.specs.TypeChecks.{Gives};
 
 use crate::checking::{datum_sort, item_name_rules, must, sort_at, spot_of, with_const};
 use crate::counts::Counts;
-use crate::fault::{TypeFault, TypeRule};
 use crate::meant::Meant;
 use crate::numbers::{
     after_item, after_items, after_local, datum_meant, local_meant, number_after, param_meant,
@@ -19,6 +18,7 @@ use crate::own::is_own;
 use crate::tables::NameTables;
 use rapid_model::{Sort, has_values};
 use raw_trees::{Mode, RawDatum, RawItem, RawModule, RawName, RawParam, RawRoutine};
+use rule_checks::{TypeFault, TypeRule};
 use std::alloc::Global;
 
 /// A datum of a module.

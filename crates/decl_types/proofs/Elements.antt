@@ -16,53 +16,26 @@ use Rattle.constant_meaning.specs.Constants.{Elements, Outcomes, all, stops, and
 use Rattle.constant_meaning.specs.declared.outcome.Outcome.{Outcome}
 use Rattle.constant_meaning.specs.declared.outcome.Outcome.TheVariants as outcomes
 use Rattle.constant_meaning.proofs.Lists.{behind}
-use Rattle.data_scopes.specs.declared.fault.TypeFault.{TypeFault}
-use Rattle.data_scopes.specs.declared.fault.TypeFault.TheVariants.{Rule, Memory}
-use Rattle.data_scopes.specs.declared.fault.TypeRule.{TypeRule}
-use Rattle.data_scopes.specs.declared.fault.TypeRule.TheVariants.{ConstFault}
-use Rattle.data_scopes.specs.Declarations.{Break, Checked, ◌>>=◌}
-use Rattle.data_scopes.specs.Gives.{Fails}
+use Rattle.rule_checks.specs.declared.fault.TypeFault.{TypeFault}
+use Rattle.rule_checks.specs.declared.fault.TypeFault.TheVariants.{Rule, Memory}
+use Rattle.rule_checks.specs.declared.rule.TypeRule.{TypeRule}
+use Rattle.rule_checks.specs.declared.rule.TypeRule.TheVariants.{ConstFault}
+use Rattle.rule_checks.specs.Checks.{◌>>=◌, must}
+use Rattle.rule_checks.specs.TypeChecks.{TypeBreak, Checked, Fails}
 use Rattle.rapid_model.specs.Sorts.{is_value_of}
 use Rattle.named_data.specs.declared.wanted.Wanted.TheVariants.{Is}
-use Rattle.named_data.specs.Rules.{Site, fail, must}
+use Rattle.named_data.specs.Rules.{Site, fail, at_byte}
 use Rattle.expr_types.specs.Typing.{typed}
+use Rattle.expr_types.proofs.Loops.{then_more}
 use Rattle.decl_types.specs.Values.{array_elements, how_many, value_or_fault, values_or_fault}
-
--- trees behind others
-abbrev pub in_front : List TypedExpr → TypedExprs → TypedExprs
-in_front [] ts = ts
-in_front (e ∷ es) ts = Plain.MoreExprs e (in_front es ts)
-
-abbrev pub with_front : List TypedExpr → Checked TypedExprs → Checked TypedExprs
-with_front front checked = checked >>= (λ ts. Ok (in_front front ts))
-
--- a tree before others
-abbrev pub behind_one : TypedExpr → Checked TypedExprs → Checked TypedExprs
-behind_one t checked = checked >>= (λ ts. Ok (Plain.MoreExprs t ts))
-
-in_front_more : (front : List TypedExpr) (t : TypedExpr) (ts : TypedExprs) → in_front (front ++ t ∷ []) ts ≡ in_front front (Plain.MoreExprs t ts)
-in_front_more [] t ts = refl
-in_front_more (e ∷ es) t ts = ap (Plain.MoreExprs e) (in_front_more es t ts)
-
-pub with_front_more : (front : List TypedExpr) (t : TypedExpr) (checked : Checked TypedExprs) →
-    with_front (front ++ t ∷ []) checked ≡ with_front front (behind_one t checked)
-with_front_more front t (Ok ts) = ap Ok (in_front_more front t ts)
-with_front_more front t (Err broken) = refl
-
-in_front_all : (front : List TypedExpr) → in_front front Plain.NoExprs ≡ exprs_of front
-in_front_all [] = refl
-in_front_all (e ∷ es) = ap (Plain.MoreExprs e) (in_front_all es)
-
-pub with_front_all : (front : List TypedExpr) → with_front front (Ok Plain.NoExprs) ≡ Ok (exprs_of front)
-with_front_all front = ap Ok (in_front_all front)
 
 -- the elements from one on
 pub elements_more : (site : Site) (sort : Sort) (list : List RawExpr) (i : ℕ) (e : RawExpr) → i < length list → e ≡ get_or list i e →
     array_elements site sort (raw_exprs_of (map view_raw (drop i list)))
-    ≡ (typed site (view_raw e) (Is sort) >>= (λ t. behind_one t (array_elements site sort (raw_exprs_of (map view_raw (drop (i + 1) list))))))
+    ≡ (typed site (view_raw e) (Is sort) >>= (λ t. then_more Plain.MoreExprs t (array_elements site sort (raw_exprs_of (map view_raw (drop (i + 1) list))))))
 elements_more site sort list i e lt is =
     at_drop_more (λ left. array_elements site sort (raw_exprs_of (map view_raw left))) list i e lt
-    ∙ ap (λ x. typed site (view_raw x) (Is sort) >>= (λ t. behind_one t (array_elements site sort (raw_exprs_of (map view_raw (drop (i + 1) list)))))) (sym is)
+    ∙ ap (λ x. typed site (view_raw x) (Is sort) >>= (λ t. then_more Plain.MoreExprs t (array_elements site sort (raw_exprs_of (map view_raw (drop (i + 1) list)))))) (sym is)
 
 pub elements_end : (site : Site) (sort : Sort) (list : List RawExpr) (i : ℕ) → length list ≤ i →
     array_elements site sort (raw_exprs_of (map view_raw (drop i list))) ≡ Ok Plain.NoExprs
@@ -76,28 +49,13 @@ trees_counted (e ∷ es) = ap (λ (n : ℕ). suc n) (trees_counted es)
 pub all_counted : (es : List Expr) → how_many (exprs_of (map view_expr es)) ≡ length es
 all_counted es = trees_counted (map view_expr es) ∙ length-map es view_expr
 
--- where each element comes to a value, there are as many values
-one_more : (one : Outcome) (more : Outcomes) (n : ℕ) (vs : List Value) → ((ws : List Value) → more ≡ all ws → length ws ≡ n) → and_more one more ≡ all vs → length vs ≡ suc n
-one_more (outcomes.Value v) (all ws) n vs others is =
-    let same : vs ≡ v ∷ ws = cc in
-    ap length same ∙ ap (λ (n : ℕ). suc n) (others ws refl)
-one_more (outcomes.Value v) (stops other) n vs others is = absurd cc
-one_more other more n vs others is = absurd cc
-
-pub values_counted : (known : Elements) (ts : TypedExprs) (vs : List Value) → constant_values known ts ≡ all vs → length vs ≡ how_many ts
-unfolding constant_values
-values_counted known Plain.NoExprs vs is =
-    let none : vs ≡ [] = cc in
-    ap length none
-values_counted known (Plain.MoreExprs t ts) vs is = one_more (constant_value known t) (constant_values known ts) (how_many ts) vs (values_counted known ts) is
-
 -- a value that is found is of the type
 pub record IsFound (sort : Sort) (v : Value) (outcome : Outcome) : Type 0 where
   pub is : outcome ≡ outcomes.Value v
   pub fits : is_value_of sort v ≡ true
 
 -- where a rule and what follows it answer, the rule holds
-pub held_if : {A : Type 0} (site : Site) (at : ℕ) (rule : TypeRule) (holds : Bool) (w v : A) → (must site holds at rule >>= (λ _. Ok w)) ≡ Ok v → (w ≡ v) × (holds ≡ true)
+pub held_if : {A : Type 0} (site : Site) (at : ℕ) (rule : TypeRule) (holds : Bool) (w v : A) → (must holds (at_byte site at rule) >>= (λ _. Ok w)) ≡ Ok v → (w ≡ v) × (holds ≡ true)
 held_if site at rule true w v is = (cc, refl)
 held_if site at rule false w v is = absurd cc
 
@@ -114,20 +72,20 @@ pub all_found : (site : Site) (at : ℕ) (sort : Sort) (front : List Value) → 
     values_or_fault site at sort (behind front (all [])) ≡ Ok front
 all_found site at sort front fit =
     ap (λ vs. values_or_fault site at sort (all vs)) (append-nil front)
-    ∙ ap (λ b. must site b at ConstFault >>= (λ _. Ok front)) fit
+    ∙ ap (λ b. must b (at_byte site at ConstFault) >>= (λ _. Ok front)) fit
 
 -- one that is no value of the type
 unfit : (sort : Sort) (front : List Value) (v : Value) (vs : List Value) → is_value_of sort v ≡ false → list_all (is_value_of sort) (front ++ v ∷ vs) ≡ false
 unfit sort [] v vs fails = ap (λ b. b && list_all (is_value_of sort) vs) fails
 unfit sort (w ∷ front) v vs fails = ap (λ b. is_value_of sort w && b) (unfit sort front v vs fails) ∙ and-false (is_value_of sort w)
 
-stopped_if : (site : Site) (at : ℕ) (fits fit : Bool) (v : Value) (vs : List Value) (broken : Break) → (fits ≡ false → fit ≡ false) →
-    (must site fits at ConstFault >>= (λ _. Ok v)) ≡ Err broken → (must site fit at ConstFault >>= (λ _. Ok vs)) ≡ Err broken
+stopped_if : (site : Site) (at : ℕ) (fits fit : Bool) (v : Value) (vs : List Value) (broken : TypeBreak) → (fits ≡ false → fit ≡ false) →
+    (must fits (at_byte site at ConstFault) >>= (λ _. Ok v)) ≡ Err broken → (must fit (at_byte site at ConstFault) >>= (λ _. Ok vs)) ≡ Err broken
 stopped_if site at true fit v vs broken unless is = absurd cc
 stopped_if site at false fit v vs broken unless is =
-    ap (λ b. must site b at ConstFault >>= (λ _. Ok vs)) (unless refl) ∙ ap (λ checked. checked >>= (λ _. fail site at ConstFault)) is
+    ap (λ b. must b (at_byte site at ConstFault) >>= (λ _. Ok vs)) (unless refl) ∙ ap (λ checked. checked >>= (λ _. fail site at ConstFault)) is
 
-stopped : (site : Site) (at : ℕ) (sort : Sort) (front : List Value) (outcome : Outcome) (more : Outcomes) (broken : Break) →
+stopped : (site : Site) (at : ℕ) (sort : Sort) (front : List Value) (outcome : Outcome) (more : Outcomes) (broken : TypeBreak) →
     value_or_fault site at sort outcome ≡ Err broken → values_or_fault site at sort (behind front (and_more outcome more)) ≡ Err broken
 stopped site at sort front (outcomes.Value v) (all vs) broken is =
     stopped_if site at (is_value_of sort v) (list_all (is_value_of sort) (front ++ v ∷ vs)) v (front ++ v ∷ vs) broken (unfit sort front v vs) is

@@ -15,18 +15,19 @@ use Rattle.constant_meaning.specs.Constants.{Elements, Outcomes, all, stops, con
 use Rattle.constant_meaning.specs.declared.outcome.Outcome.{Outcome}
 use Rattle.constant_meaning.specs.declared.outcome.Outcome.TheVariants as outcomes
 use Rattle.data_scopes.specs.declared.data_row.DatumRow.{DatumRow}
-use Rattle.data_scopes.specs.declared.fault.TypeRule.TheVariants.{NotConst, ConstFault, DimRange}
+use Rattle.rule_checks.specs.declared.rule.TypeRule.TheVariants.{NotConst, ConstFault, DimRange}
 use Rattle.data_scopes.specs.Called.{local_of}
-use Rattle.data_scopes.specs.Declarations.{Checked}
+use Rattle.rule_checks.specs.TypeChecks.{Checked}
 use Rattle.data_scopes.specs.Naming.{names_of}
 use Rattle.data_scopes.specs.Numbers.{is_pers, is_scalar_const}
 use Rattle.data_scopes.specs.Rows.{begin_of}
 use Rattle.data_scopes.specs.Scopes.{Names, Rows}
 use Rattle.data_scopes.proofs.All.{all_more}
 use Rattle.data_scopes.proofs.Rowed.{has_valued_sort, are_numbered}
-use Rattle.data_scopes.proofs.Typed.{behind, ok_same}
+use Rattle.rule_checks.proofs.Steps.{behind, ok_same}
 use Rattle.named_data.specs.declared.wanted.Wanted.TheVariants.{Is, Nothing}
-use Rattle.named_data.specs.Rules.{Site, must}
+use Rattle.rule_checks.specs.Checks.{must}
+use Rattle.named_data.specs.Rules.{Site, at_byte}
 use Rattle.expr_types.specs.Typing.{typed}
 use Rattle.decl_types.specs.Data.{Progress, Inner, beginning, sort_in, keeping, with_const, with_slot, with_pers, of_modules, datum_const, datum_pers, datum_slot, datum, with_local, local, locals, entered, left, routine, item, items, data_of}
 use Rattle.decl_types.specs.Parts.{pers_row}
@@ -66,7 +67,7 @@ length_short : (s : Site) (known : Elements) (e : PlainExpr) (len : ℕ) → len
 length_short s known e len is =
     let P : Type 0 = is_short len ≡ true in
     behind P len (typed s e (Is sorts.Num)) _ is (λ t typed_to rest.
-    behind P len (must s (is_constant known t) (begin_of e) NotConst) _ rest (λ u constant last.
+    behind P len (must (is_constant known t) (at_byte s (begin_of e) NotConst)) _ rest (λ u constant last.
     whole_short s (begin_of e) (constant_value known t) len last))
 
 len_short : (names : Names) (number : ℕ) (routine : Option ℕ) (known : Elements) (e : Option PlainExpr) (len : Option ℕ) → len_of names number routine known e ≡ Ok len → holds_where_there is_short len ≡ true
@@ -81,7 +82,7 @@ single_fits s known sort e vs is =
     let P : Type 0 = are_fit sort None vs ≡ true in
     let at : ℕ = begin_of e in
     behind P vs (typed s e (Is sort)) _ is (λ t typed_to rest.
-    behind P vs (must s (is_constant known t) at NotConst) _ rest (λ u constant more.
+    behind P vs (must (is_constant known t) (at_byte s at NotConst)) _ rest (λ u constant more.
     behind P vs (value_or_fault s at sort (constant_value known t)) _ more (λ v comes_to done.
     subst (λ l. are_fit sort None l ≡ true) (ok_same (v ∷ []) vs done) (and_from (is_value_of sort v) true (found s at sort v (constant_value known t) comes_to).fits refl))))
 
@@ -96,8 +97,8 @@ array_fits s known sort len e vs is =
     let P : Type 0 = are_fit sort (Some len) vs ≡ true in
     let at : ℕ = begin_of e in
     behind P vs (brackets s sort e) _ is (λ b bracketed rest.
-    behind P vs (must s (b.at == at || how_many b.elements == len) b.at DimRange) _ rest (λ u fits others.
-    behind P vs (must s (are_constant known b.elements) at NotConst) _ others (λ w constant more.
+    behind P vs (must (b.at == at || how_many b.elements == len) (at_byte s b.at DimRange)) _ rest (λ u fits others.
+    behind P vs (must (are_constant known b.elements) (at_byte s at NotConst)) _ others (λ w constant more.
     behind P vs (values_or_fault s at sort (constant_values known b.elements)) _ more (λ ws come_to counted.
     let both = held_if s b.at DimRange (length ws == len) ws vs counted in
     subst (λ l. are_fit sort (Some len) l ≡ true) both.0

@@ -9,7 +9,8 @@ use Rattle.typed_trees.specs.Plain.{TypedSlot, TypedPers, TypedLocal}
 use Rattle.constant_meaning.specs.Constants.{Elements}
 use Rattle.data_scopes.specs.declared.data_row.DatumRow.{DatumRow}
 use Rattle.data_scopes.specs.Called.{local_of}
-use Rattle.data_scopes.specs.Declarations.{Checked, ◌>>=◌}
+use Rattle.rule_checks.specs.Checks.{◌>>=◌}
+use Rattle.rule_checks.specs.TypeChecks.{Checked}
 use Rattle.data_scopes.specs.Kept.{with_kept}
 use Rattle.data_scopes.specs.Numbers.{is_const, is_pers, is_scalar_const}
 use Rattle.data_scopes.specs.Scopes.{Names}

@@ -14,14 +14,15 @@ use Rattle.typed_trees.specs.declared.datum.Datum.TheVariants as held
 use Rattle.constant_meaning.specs.Constants.{Elements, Outcomes, all, stops, constant_value, constant_values, is_constant, are_constant, element_number}
 use Rattle.constant_meaning.specs.declared.outcome.Outcome.{Outcome}
 use Rattle.constant_meaning.specs.declared.outcome.Outcome.TheVariants as outcomes
-use Rattle.data_scopes.specs.declared.fault.TypeRule.TheVariants.{TypeClash, NoInit, NotConst, ConstFault, DimRange}
-use Rattle.data_scopes.specs.Declarations.{Checked, ◌>>=◌}
+use Rattle.rule_checks.specs.declared.rule.TypeRule.TheVariants.{TypeClash, NoInit, NotConst, ConstFault, DimRange}
+use Rattle.rule_checks.specs.Checks.{◌>>=◌, must}
+use Rattle.rule_checks.specs.TypeChecks.{Checked}
 use Rattle.data_scopes.specs.Numbers.{is_const}
 use Rattle.data_scopes.specs.Rows.{begin_of}
 use Rattle.data_scopes.specs.Scopes.{Names}
 use Rattle.rapid_model.specs.Sorts.{has_values, is_value_of, width}
 use Rattle.named_data.specs.declared.wanted.Wanted.TheVariants.{Is, Nothing}
-use Rattle.named_data.specs.Rules.{Site, fail, must}
+use Rattle.named_data.specs.Rules.{Site, fail, at_byte}
 use Rattle.expr_types.specs.Typing.{typed}
 
 -- the greatest length of an array
@@ -41,18 +42,18 @@ whole_length site at other = fail site at DimRange
 abbrev pub length_at : Site → Elements → PlainExpr → Checked ℕ
 length_at site known e =
     typed site e (Is sorts.Num) >>= (λ t.
-    must site (is_constant known t) (begin_of e) NotConst >>= (λ _. whole_length site (begin_of e) (constant_value known t)))
+    must (is_constant known t) (at_byte site (begin_of e) NotConst) >>= (λ _. whole_length site (begin_of e) (constant_value known t)))
 
 -- what an initial value comes to is a value of the type
 abbrev pub value_or_fault : Site → ℕ → Sort → Outcome → Checked Value
-value_or_fault site at sort (outcomes.Value v) = must site (is_value_of sort v) at ConstFault >>= (λ _. Ok v)
+value_or_fault site at sort (outcomes.Value v) = must (is_value_of sort v) (at_byte site at ConstFault) >>= (λ _. Ok v)
 value_or_fault site at sort other = fail site at ConstFault
 
 -- the initial value of a datum that is no array
 abbrev pub single_value : Site → Elements → Sort → PlainExpr → Checked (List Value)
 single_value site known sort e =
     typed site e (Is sort) >>= (λ t.
-    must site (is_constant known t) (begin_of e) NotConst >>= (λ _.
+    must (is_constant known t) (at_byte site (begin_of e) NotConst) >>= (λ _.
     value_or_fault site (begin_of e) sort (constant_value known t) >>= (λ v. Ok (v ∷ []))))
 
 -- the brackets of an array: where they stand, and the elements
@@ -79,7 +80,7 @@ how_many (Plain.MoreExprs e es) = suc (how_many es)
 
 -- what the elements of an array come to are values of its type
 abbrev pub values_or_fault : Site → ℕ → Sort → Outcomes → Checked (List Value)
-values_or_fault site at sort (all vs) = must site (list_all (is_value_of sort) vs) at ConstFault >>= (λ _. Ok vs)
+values_or_fault site at sort (all vs) = must (list_all (is_value_of sort) vs) (at_byte site at ConstFault) >>= (λ _. Ok vs)
 values_or_fault site at sort (stops other) = fail site at ConstFault
 
 -- The initial value of an array of this length. Brackets in parentheses are a part of it: their number of elements is looked
@@ -87,10 +88,10 @@ values_or_fault site at sort (stops other) = fail site at ConstFault
 abbrev pub array_values : Site → Elements → Sort → ℕ → PlainExpr → Checked (List Value)
 array_values site known sort len e =
     brackets site sort e >>= (λ b.
-    must site (b.at == begin_of e || how_many b.elements == len) b.at DimRange >>= (λ _.
-    must site (are_constant known b.elements) (begin_of e) NotConst >>= (λ _.
+    must (b.at == begin_of e || how_many b.elements == len) (at_byte site b.at DimRange) >>= (λ _.
+    must (are_constant known b.elements) (at_byte site (begin_of e) NotConst) >>= (λ _.
     values_or_fault site (begin_of e) sort (constant_values known b.elements) >>= (λ vs.
-    must site (length vs == len) b.at DimRange >>= (λ _. Ok vs)))))
+    must (length vs == len) (at_byte site b.at DimRange) >>= (λ _. Ok vs)))))
 
 -- data of the types without values have no initial value
 abbrev pub no_value : Site → PlainExpr → Checked (List Value)
@@ -122,8 +123,7 @@ pub record Initial : Type 0 where
 -- a CONST without a value is refused at its name
 abbrev pub init_rule : Names → ℕ → Option ℕ → PlainDatum → Checked (Unit {0})
 init_rule names number routine d =
-    must (record { names = names; spot = record { «module» = number; routine = routine; within = None; at = d.name.at } })
-    (is_some d.first || not (is_const d.kind)) d.name.at NoInit
+    must (is_some d.first || not (is_const d.kind)) (at_byte (record { names = names; spot = record { «module» = number; routine = routine; within = None; at = d.name.at } }) d.name.at NoInit)
 
 abbrev pub initial : Names → ℕ → Option ℕ → Elements → Sort → PlainDatum → Checked Initial
 initial names number routine known sort d =

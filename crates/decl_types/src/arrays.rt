@@ -5,7 +5,7 @@ ghost use Rattle.raw_trees.specs.Views.{view_expr as view_raw};
 ghost use Rattle.typed_trees.specs.Plain.{exprs_of};
 ghost use Rattle.typed_trees.specs.Views.{view_expr};
 ghost use Rattle.constant_meaning.specs.Constants.{constant_values, elements_of};
-ghost use Rattle.data_scopes.specs.Gives.{Gives};
+ghost use Rattle.rule_checks.specs.TypeChecks.{Gives};
 ghost use Rattle.named_data.specs.Views.{view_site};
 ghost use Rattle.decl_types.specs.Parts.{view_brackets};
 ghost use Rattle.decl_types.specs.Values;
@@ -13,10 +13,11 @@ ghost use Rattle.decl_types.specs.Values;
 use crate::brackets::{Brackets, brackets_in};
 use crate::single::value_or_fault;
 use constant_meaning::{Arrays, are_constant, constant_value};
-use data_scopes::{TypeFault, TypeRule, begin_of};
+use data_scopes::begin_of;
 use named_data::{Site, must};
 use rapid_model::{Sort, Value};
 use raw_trees::RawExpr;
+use rule_checks::{TypeFault, TypeRule};
 use typed_trees::Expr;
 
 /// What the elements of an array come to are values of its type.

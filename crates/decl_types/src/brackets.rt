@@ -6,16 +6,17 @@ ghost use Rattle.raw_trees.specs.Plain.{exprs_of as raw_exprs_of};
 ghost use Rattle.raw_trees.specs.Views.{view_expr as view_raw};
 ghost use Rattle.typed_trees.specs.Plain.{exprs_of};
 ghost use Rattle.typed_trees.specs.Views.{view_expr};
-ghost use Rattle.data_scopes.specs.Gives.{Gives};
+ghost use Rattle.rule_checks.specs.TypeChecks.{Gives};
 ghost use Rattle.named_data.specs.Views.{view_site};
 ghost use Rattle.decl_types.specs.Parts.{view_brackets};
 ghost use Rattle.decl_types.specs.Values;
 
-use data_scopes::{TypeFault, TypeRule, begin_of};
+use data_scopes::begin_of;
 use expr_types::typed;
 use named_data::{Site, Wanted, fault};
 use rapid_model::Sort;
 use raw_trees::{RawExpr, RawExprForm};
+use rule_checks::{TypeFault, TypeRule};
 use typed_trees::Expr;
 
 /// The brackets of an array: where they stand, and the elements.

@@ -2,7 +2,7 @@
 
 ghost use Rattle.std.specs.Prelude.{◌≡◌, None};
 ghost use Rattle.raw_trees.specs.Views.{view_datum};
-ghost use Rattle.data_scopes.specs.Gives.{Gives};
+ghost use Rattle.rule_checks.specs.TypeChecks.{Gives};
 ghost use Rattle.typed_trees.specs.Views.{view_pers, view_slot};
 ghost use Rattle.decl_types.specs.Data;
 ghost use Rattle.decl_types.specs.Parts.{pers_row, slot_row, view_initial};
@@ -16,10 +16,11 @@ use crate::numbers::more_values;
 use crate::progress::Progress;
 use crate::sites::site_at;
 use constant_meaning::Arrays;
-use data_scopes::{DatumRow, TypeFault, is_const, is_pers, is_scalar_const, number_after};
+use data_scopes::{DatumRow, is_const, is_pers, is_scalar_const, number_after};
 use named_data::{name_text, number_of};
 use rapid_model::{Sort, width};
 use raw_trees::RawDatum;
+use rule_checks::TypeFault;
 use std::alloc::Global;
 use typed_trees::{PersRow, SlotRow};
 

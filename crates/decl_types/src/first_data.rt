@@ -1,15 +1,15 @@
 //! What data hold at first.
 
-ghost use Rattle.std.specs.Prelude.{◌≡◌, map, replicate};
+ghost use Rattle.std.specs.Prelude.{◌≡◌, map};
 ghost use Rattle.constant_meaning.specs.Constants.{items_of};
-ghost use Rattle.data_scopes.specs.Gives.{Gives};
+ghost use Rattle.rule_checks.specs.TypeChecks.{Gives};
 ghost use Rattle.decl_types.specs.Values;
 
-use data_scopes::TypeFault;
 use rapid_model::{Sort, Value, width};
 use rapid_values::start_value;
+use rule_checks::TypeFault;
 use std::alloc::Global;
-use typed_trees::Datum;
+use typed_trees::{Datum, FirstData};
 
 /// What a datum of a type without values holds at first.
 fn without_value(sort: Sort) -> Datum
@@ -48,28 +48,17 @@ fn plain_data(alloc: Global, values: &[Value]) -> Result<Vec<Datum>, TypeFault>
     Ok(held)
 }
 
-/// So many data of a type whose declaration says nothing.
-fn start_data(alloc: Global, sort: Sort, count: usize) -> Result<Vec<Datum>, TypeFault>
-    ensures { Gives (λ v. v.items) result (Ok (replicate count (Values.start_datum sort))) }
-{
-    let mut held = Vec::new(alloc);
-    for _element in 0..count {
-        held.push(start_datum(sort))?;
-    }
-    Ok(held)
-}
-
-/// What the elements of a datum hold at first.
+/// What the elements of a datum hold at first. Where no values are given, this takes no memory for the elements.
 pub(crate) fn first_data(
     alloc: Global,
     sort: Sort,
     len: Option<u16>,
     values: &Option<Vec<Value>>,
-) -> Result<Vec<Datum>, TypeFault>
-    ensures { Gives (λ v. v.items) result (Ok (Values.first_data sort len (items_of values.now))) }
+) -> Result<FirstData, TypeFault>
+    ensures { Gives (λ first. first) result (Ok (Values.first_data sort len (items_of values.now))) }
 {
     match values {
-        Some(values) => plain_data(alloc, values),
-        None => start_data(alloc, sort, width(len)),
+        Some(values) => Ok(FirstData::given(plain_data(alloc, values)?)),
+        None => Ok(FirstData::alike(start_datum(sort), width(len))),
     }
 }

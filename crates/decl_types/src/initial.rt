@@ -3,7 +3,7 @@
 ghost use Rattle.std.specs.Prelude.{◌≡◌, option_map};
 ghost use Rattle.raw_trees.specs.Views.{view_datum, view_expr as view_raw};
 ghost use Rattle.constant_meaning.specs.Constants.{elements_of, items_of};
-ghost use Rattle.data_scopes.specs.Gives.{Gives};
+ghost use Rattle.rule_checks.specs.TypeChecks.{Gives};
 ghost use Rattle.named_data.specs.Views.{view_site};
 ghost use Rattle.decl_types.specs.Parts.{view_initial};
 ghost use Rattle.decl_types.specs.Values;
@@ -13,11 +13,12 @@ use crate::lengths::length_at;
 use crate::single::single_value;
 use crate::sites::value_site;
 use constant_meaning::Arrays;
-use data_scopes::{TypeFault, TypeRule, begin_of, is_const};
+use data_scopes::{begin_of, is_const};
 use expr_types::typed;
 use named_data::{Site, Wanted, fault, must};
 use rapid_model::{Sort, Value, has_values};
 use raw_trees::{RawDatum, RawExpr};
+use rule_checks::{TypeFault, TypeRule};
 
 /// The length of a datum that is an array, and the values that its declaration gives, one for each element.
 #[derive(Drop)]

@@ -2,15 +2,15 @@
 
 ghost use Rattle.std.specs.Prelude.{◌≡◌, map};
 ghost use Rattle.raw_trees.specs.Views.{view_item};
-ghost use Rattle.data_scopes.specs.Gives.{Gives};
+ghost use Rattle.rule_checks.specs.TypeChecks.{Gives};
 ghost use Rattle.decl_types.specs.Data;
 ghost use Rattle.decl_types.specs.Views.{view_progress};
 
 use crate::datum::datum;
 use crate::locals::routine;
 use crate::progress::Progress;
-use data_scopes::TypeFault;
 use raw_trees::RawItem;
+use rule_checks::TypeFault;
 use std::alloc::Global;
 
 /// An item of the module, behind these data. A LOCAL or TASK PERS is the task's own.

@@ -2,12 +2,13 @@
 
 ghost use Rattle.std.specs.Prelude.{◌≡◌, Some};
 ghost use Rattle.constant_meaning.specs.Constants.{items_of};
-ghost use Rattle.data_scopes.specs.Gives.{Gives};
+ghost use Rattle.rule_checks.specs.TypeChecks.{Gives};
 ghost use Rattle.data_scopes.specs.Kept.{with_kept};
 ghost use Rattle.decl_types.specs.Data;
 
-use data_scopes::{Scopes, TypeFault};
+use data_scopes::Scopes;
 use rapid_model::{Value, is_value_of};
+use rule_checks::TypeFault;
 
 /// The names with the value of one more CONST. Its error is want of memory. A value that is no value of the type that the
 /// names have for the CONST is refused as such, though it never comes: that type is the type of the CONST's row, and each

@@ -4,38 +4,28 @@ ghost use Rattle.std.specs.Prelude.{◌≡◌};
 ghost use Rattle.raw_trees.specs.Views.{view_expr as view_raw};
 ghost use Rattle.constant_meaning.specs.Constants.{element_number, elements_of};
 ghost use Rattle.constant_meaning.specs.declared.outcome.Outcome.TheVariants as outcomes;
-ghost use Rattle.data_scopes.specs.Gives.{Gives};
+ghost use Rattle.rule_checks.specs.TypeChecks.{Gives};
 ghost use Rattle.named_data.specs.Views.{view_site};
 ghost use Rattle.decl_types.specs.Values;
 
-use constant_meaning::{Arrays, Outcome, constant_value, is_constant};
-use data_scopes::{TypeFault, TypeRule, begin_of};
+use constant_meaning::{Arrays, Outcome, constant_value, element_number, is_constant};
+use data_scopes::begin_of;
 use expr_types::typed;
 use named_data::{Site, Wanted, fault, must};
 use rapid_model::{Sort, Value};
 use rapid_num::Num;
 use raw_trees::RawExpr;
+use rule_checks::{TypeFault, TypeRule};
 
 /// The greatest length of an array.
-const LONGEST_ARRAY: u16 = 1_000;
+const LONGEST_ARRAY: usize = 1_000;
 
 /// The length that a num is: `None` where it is no whole number from 1 to the greatest length.
 fn length_of(number: Num) -> Option<u16>
     ensures { result ≡ element_number Values.longest_array number }
 {
-    let Ok(count) = u64::try_from(number.thousandths()) else {
-        return None;
-    };
-    if count % 1_000 != 0 {
-        return None;
-    }
-    let Ok(length) = u16::try_from(count / 1_000) else {
-        return None;
-    };
-    if 1 <= length && length <= LONGEST_ARRAY {
-        return Some(length);
-    }
-    None
+    let length = element_number(LONGEST_ARRAY, number)?;
+    u16::try_from(length).ok()
 }
 
 fn length_or_fault(site: &Site<'_>, at: usize, length: Option<u16>) -> Result<u16, TypeFault>

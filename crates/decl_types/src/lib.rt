@@ -3,7 +3,7 @@
 
 ghost use Rattle.std.specs.Prelude.{◌≡◌, map};
 ghost use Rattle.raw_trees.specs.Views.{view_module};
-ghost use Rattle.data_scopes.specs.Gives.{Gives};
+ghost use Rattle.rule_checks.specs.TypeChecks.{Gives};
 ghost use Rattle.decl_types.specs.Data.{data_of, beginning};
 ghost use Rattle.decl_types.specs.Views.{view_progress};
 
@@ -23,9 +23,10 @@ mod single;
 mod sites;
 
 use crate::items::items;
-use data_scopes::{Scopes, TypeFault, number_after};
+use data_scopes::{Scopes, number_after};
 pub use progress::Progress;
 use raw_trees::RawModule;
+use rule_checks::TypeFault;
 use std::alloc::Global;
 
 /// No data yet.

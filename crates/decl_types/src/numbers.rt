@@ -1,9 +1,9 @@
 //! How many values data have.
 
 ghost use Rattle.std.specs.Prelude.{◌≡◌, ◌+◌, IfOk, IfErr};
-ghost use Rattle.data_scopes.specs.declared.fault.TypeFault.TheVariants.{Memory};
+ghost use Rattle.rule_checks.specs.declared.fault.TypeFault.TheVariants.{Memory};
 
-use data_scopes::TypeFault;
+use rule_checks::TypeFault;
 
 /// So many values more.
 pub(crate) fn more_values(values: usize, more: usize) -> Result<usize, TypeFault>

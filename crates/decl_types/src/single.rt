@@ -3,16 +3,17 @@
 ghost use Rattle.std.specs.Prelude.{◌≡◌};
 ghost use Rattle.raw_trees.specs.Views.{view_expr as view_raw};
 ghost use Rattle.constant_meaning.specs.Constants.{elements_of};
-ghost use Rattle.data_scopes.specs.Gives.{Gives};
+ghost use Rattle.rule_checks.specs.TypeChecks.{Gives};
 ghost use Rattle.named_data.specs.Views.{view_site};
 ghost use Rattle.decl_types.specs.Values;
 
 use constant_meaning::{Arrays, Outcome, constant_value, is_constant};
-use data_scopes::{TypeFault, TypeRule, begin_of};
+use data_scopes::begin_of;
 use expr_types::typed;
 use named_data::{Site, Wanted, fault, must};
 use rapid_model::{Sort, Value, is_value_of};
 use raw_trees::RawExpr;
+use rule_checks::{TypeFault, TypeRule};
 
 /// What an initial value comes to is a value of the type.
 pub(crate) fn value_or_fault(

@@ -5,9 +5,10 @@ ghost use Rattle.raw_trees.specs.Views.{view_expr as view_raw};
 ghost use Rattle.named_data.specs.Views.{view_site};
 ghost use Rattle.decl_types.specs.Values;
 
-use data_scopes::{Scopes, Spot, begin_of};
+use data_scopes::{Scopes, begin_of};
 use named_data::Site;
 use raw_trees::RawExpr;
+use rule_checks::Spot;
 use std::alloc::Global;
 
 /// A byte of a module, outside the list of any FOR.

@@ -3,3 +3,4 @@ pub mod Answered
 pub mod Told
 pub mod Taking
 pub mod Operands
+pub mod Precedence

@@ -2,3 +2,4 @@ pub mod Operators
 pub mod Grammar
 pub mod Parts
 pub mod Reads
+pub mod Precedence

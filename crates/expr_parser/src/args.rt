@@ -45,10 +45,10 @@ pub(crate) fn call<'a>(
     Ok((args, end))
 }
 
-/// Arguments, where any are there.
+/// Arguments, where any are there, within `left` levels, and the number of the token behind them.
 #[cycle(expr)]
 #[tactic(auto, unfolding(rapid_forms::specs::Reading::made_read, rapid_forms::specs::Reading::optional_read, rapid_forms::specs::Reading::then_read))]
-pub(crate) fn args_if_any<'a>(
+pub fn args_if_any<'a>(
     p: &Parser<'_, 'a>,
     at: usize,
     left: u32,

@@ -25,7 +25,7 @@ static COMPARISONS: [Sign; 6] = [
 
 /// The expression that begins at token `at`, within `left` levels, and the number of the token behind it.
 #[cycle(expr)]
-pub(crate) fn expr<'a>(
+pub fn expr<'a>(
     p: &Parser<'_, 'a>,
     at: usize,
     left: u32,

@@ -50,10 +50,10 @@ pub(crate) fn aggregate<'a>(
     Ok((RawExpr::aggregate(p.tokens.place(at), values), end))
 }
 
-/// An index in braces.
+/// An index in braces, within `left` levels, and the number of the token behind it.
 #[cycle(expr)]
 #[tactic(auto, unfolding(crate::specs::Reads::inside_read, crate::specs::Reads::index_read, rapid_forms::specs::Reading::made_read, rapid_forms::specs::Reading::seq_read, rapid_forms::specs::Reading::then_read, rapid_forms::specs::Reading::nothing_read))]
-pub(crate) fn index<'a>(
+pub fn index<'a>(
     p: &Parser<'_, 'a>,
     at: usize,
     left: u32,
@@ -69,10 +69,10 @@ pub(crate) fn index<'a>(
     Ok((value, end))
 }
 
-/// Expressions with commas between them, one at least.
+/// Expressions with commas between them, one at least, within `left` levels, and the number of the token behind them.
 #[cycle(expr)]
 #[tactic(auto, unfolding(crate::specs::Reads::exprs_read, rapid_forms::specs::Reading::made_read, rapid_forms::specs::Reading::seq_read, rapid_forms::specs::Reading::then_read))]
-pub(crate) fn exprs<'a>(
+pub fn exprs<'a>(
     p: &Parser<'_, 'a>,
     at: usize,
     left: u32,

@@ -1,4 +1,5 @@
-//! Expressions: which tokens spell one, and the tree that they spell.
+//! Expressions: which tokens spell one, and the tree that they spell. Beside `parse_expr` stand the parts that the parsers
+//! of statements and modules read, for the `Parser` that all of them share.
 #![tactic(auto)]
 
 mod args;
@@ -10,5 +11,9 @@ mod operators;
 mod parse;
 mod primary;
 
-pub use laws::one_answer;
-pub use parse::{parse_args, parse_expr, parse_exprs, parse_index, parse_parts};
+pub use args::args_if_any;
+pub use chains::expr;
+pub use laws::{not_covers_and, one_answer};
+pub use levels::{exprs, index};
+pub use parse::parse_expr;
+pub use primary::{name, place_parts};

@@ -13,9 +13,9 @@ use crate::operators::is_true;
 use rapid_forms::{Parser, Sign, SyntaxFault};
 use raw_trees::{RawExpr, RawName, RawPlace};
 
-/// A name.
+/// The name that token `at` is, and the number of the next token.
 #[tactic(auto, unfolding(crate::specs::Reads::name_read, rapid_forms::specs::Reading::made_read, rapid_forms::specs::Reading::then_read))]
-pub(crate) fn name<'a>(p: &Parser<'_, 'a>, at: usize) -> Result<(RawName<'a>, usize), SyntaxFault>
+pub fn name<'a>(p: &Parser<'_, 'a>, at: usize) -> Result<(RawName<'a>, usize), SyntaxFault>
     ensures { Gives p.now.tokens view_name result (name_read (rest_from p.now.tokens at)) }
 {
     let (token, next) = p.tokens.take(at, &[Sign::Name])?;
@@ -94,10 +94,11 @@ fn named<'a>(p: &Parser<'_, 'a>, at: usize, left: u32) -> Result<(RawExpr<'a>, u
     Ok((RawExpr::place(p.tokens.place(at), place), end))
 }
 
-/// What stands behind a name in a place: an index, or none, and components.
+/// What stands behind a name in a place, within `left` levels: an index, or none, and components. With it the number of
+/// the token behind them.
 #[cycle(expr)]
 #[tactic(auto, unfolding(crate::specs::Reads::parts_read, rapid_forms::specs::Reading::seq_read, rapid_forms::specs::Reading::then_read))]
-pub(crate) fn place_parts<'a>(
+pub fn place_parts<'a>(
     p: &Parser<'_, 'a>,
     at: usize,
     left: u32,

@@ -12,13 +12,13 @@ use Rattle.typed_trees.specs.declared.expr.Arg.{Arg}
 use Rattle.typed_trees.specs.declared.expr.Expr.{Expr}
 use Rattle.typed_trees.specs.Plain.{TypedArg, TypedArgs, TypedExpr, TypedExprs, NoArgs, NoExprs, NoSteps, MoreArgs, MoreExprs, MoreSteps, args_of, exprs_of, steps_of}
 use Rattle.typed_trees.specs.Views.{view_arg, view_expr, view_step}
-use Rattle.data_scopes.specs.declared.fault.TypeFault.{TypeFault}
-use Rattle.data_scopes.specs.declared.fault.TypeFault.TheVariants.{Rule, Memory}
-use Rattle.data_scopes.specs.declared.fault.TypeRule.TheVariants.{TypeClash}
-use Rattle.data_scopes.specs.Declarations.{Break, Checked, ◌>>=◌}
-use Rattle.data_scopes.specs.Gives.{Fails}
+use Rattle.rule_checks.specs.declared.fault.TypeFault.{TypeFault}
+use Rattle.rule_checks.specs.declared.fault.TypeFault.TheVariants.{Rule, Memory}
+use Rattle.rule_checks.specs.declared.rule.TypeRule.TheVariants.{TypeClash}
+use Rattle.rule_checks.specs.Checks.{◌>>=◌, must}
+use Rattle.rule_checks.specs.TypeChecks.{TypeBreak, Checked, Fails}
 use Rattle.named_data.specs.declared.wanted.Wanted.TheVariants.{Same}
-use Rattle.named_data.specs.Rules.{Site, must}
+use Rattle.named_data.specs.Rules.{Site, at_byte}
 use Rattle.named_data.specs.Wants.{of_component, suits, comes_to}
 use Rattle.expr_types.specs.Calls.{Taking, after}
 use Rattle.expr_types.specs.Typing.{TypedRest, arguments, elements, one_argument, steps, typed}
@@ -49,11 +49,11 @@ goes_on more front x (Ok r) = ap Ok (sym (all_push more front x r))
 goes_on more front x (Err b) = refl
 
 -- what a step breaks is what the whole breaks
-pub stops : {X R : Type 0} (f : Checked X → Checked R) → ((b : Break) → f (Err b) ≡ Err b) → (fault : TypeFault) (one : Checked X) (whole : Checked R) → whole ≡ f one → Fails fault one → Fails fault whole
+pub stops : {X R : Type 0} (f : Checked X → Checked R) → ((b : TypeBreak) → f (Err b) ≡ Err b) → (fault : TypeFault) (one : Checked X) (whole : Checked R) → whole ≡ f one → Fails fault one → Fails fault whole
 stops f errs (Rule number at rule) one whole is h = is ∙ ap f h ∙ errs (record { «module» = number; at = at; rule = rule })
 stops f errs Memory one whole is h = tt
 
-all_exprs : (es : List TypedExpr) → all MoreExprs es NoExprs ≡ exprs_of es
+pub all_exprs : (es : List TypedExpr) → all MoreExprs es NoExprs ≡ exprs_of es
 all_exprs [] = refl
 all_exprs (e ∷ es) = ap (MoreExprs e) (all_exprs es)
 
@@ -104,16 +104,16 @@ elements_end site list cs i front le =
 -- the operators from one on
 steps_more : (site : Site) (list : List (Operator × RawExpr)) (at : ℕ) (left : Sort) (i : ℕ) (s : Operator × RawExpr) → i < length list → s ≡ get_or list i s →
     steps site (raw_steps_of (map view_raw_step (drop i list))) at left
-    ≡ (must site (suits s.0 left) at TypeClash >>= (λ _. typed site (view_raw s.1) (Same left) >>= (λ t.
+    ≡ (must (suits s.0 left) (at_byte site at TypeClash) >>= (λ _. typed site (view_raw s.1) (Same left) >>= (λ t.
     then_more more_steps (s.0, t) (steps site (raw_steps_of (map view_raw_step (drop (i + 1) list))) at (comes_to s.0 left)))))
 unfolding steps
 steps_more site list at left i s lt is =
     at_drop_more (λ rest. steps site (raw_steps_of (map view_raw_step rest)) at left) list i s lt
-    ∙ ap (λ (x : Operator × RawExpr). must site (suits x.0 left) at TypeClash >>= (λ _. typed site (view_raw x.1) (Same left) >>= (λ t.
+    ∙ ap (λ (x : Operator × RawExpr). must (suits x.0 left) (at_byte site at TypeClash) >>= (λ _. typed site (view_raw x.1) (Same left) >>= (λ t.
     then_more more_steps (x.0, t) (steps site (raw_steps_of (map view_raw_step (drop (i + 1) list))) at (comes_to x.0 left))))) (sym is)
 
 pub steps_step : (site : Site) (list : List (Operator × RawExpr)) (at : ℕ) (left : Sort) (i : ℕ) (s : Operator × RawExpr) (front : List (Operator × Expr)) (value : Expr) → i < length list → s ≡ get_or list i s →
-    must site (suits s.0 left) at TypeClash ≡ Ok tt → typed site (view_raw s.1) (Same left) ≡ Ok (view_expr value) →
+    must (suits s.0 left) (at_byte site at TypeClash) ≡ Ok tt → typed site (view_raw s.1) (Same left) ≡ Ok (view_expr value) →
     behind more_steps (map view_step front) (steps site (raw_steps_of (map view_raw_step (drop i list))) at left)
     ≡ behind more_steps (map view_step (front ++ (s.0, value) ∷ [])) (steps site (raw_steps_of (map view_raw_step (drop (i + 1) list))) at (comes_to s.0 left))
 steps_step site list at left i s front value lt is holds ok =
@@ -126,16 +126,16 @@ steps_step site list at left i s front value lt is holds ok =
 
 pub steps_clash : (site : Site) (list : List (Operator × RawExpr)) (at : ℕ) (left : Sort) (i : ℕ) (s : Operator × RawExpr) (front : List (Operator × Expr)) (fault : TypeFault) (whole : Checked TypedRest) → i < length list → s ≡ get_or list i s →
     behind more_steps (map view_step front) (steps site (raw_steps_of (map view_raw_step (drop i list))) at left) ≡ whole →
-    Fails fault (must site (suits s.0 left) at TypeClash) → Fails fault whole
+    Fails fault (must (suits s.0 left) (at_byte site at TypeClash)) → Fails fault whole
 steps_clash site list at left i s front fault whole lt is invariant h =
     stops (λ (r : Checked (Unit {0})). behind more_steps (map view_step front) (r >>= (λ _. typed site (view_raw s.1) (Same left) >>= (λ t.
     then_more more_steps (s.0, t) (steps site (raw_steps_of (map view_raw_step (drop (i + 1) list))) at (comes_to s.0 left))))))
-    (λ b. refl) fault (must site (suits s.0 left) at TypeClash) whole
+    (λ b. refl) fault (must (suits s.0 left) (at_byte site at TypeClash)) whole
     (sym invariant ∙ ap (behind more_steps (map view_step front)) (steps_more site list at left i s lt is)) h
 
 pub steps_stop : (site : Site) (list : List (Operator × RawExpr)) (at : ℕ) (left : Sort) (i : ℕ) (s : Operator × RawExpr) (front : List (Operator × Expr)) (fault : TypeFault) (whole : Checked TypedRest) → i < length list → s ≡ get_or list i s →
     behind more_steps (map view_step front) (steps site (raw_steps_of (map view_raw_step (drop i list))) at left) ≡ whole →
-    must site (suits s.0 left) at TypeClash ≡ Ok tt → Fails fault (typed site (view_raw s.1) (Same left)) → Fails fault whole
+    must (suits s.0 left) (at_byte site at TypeClash) ≡ Ok tt → Fails fault (typed site (view_raw s.1) (Same left)) → Fails fault whole
 steps_stop site list at left i s front fault whole lt is invariant holds h =
     let rest : Checked TypedRest = steps site (raw_steps_of (map view_raw_step (drop (i + 1) list))) at (comes_to s.0 left) in
     stops (λ (r : Checked TypedExpr). behind more_steps (map view_step front) (r >>= (λ t. then_more more_steps (s.0, t) rest)))

@@ -20,12 +20,12 @@ use Rattle.typed_trees.specs.declared.expr.ExprForm.{ExprForm, Number as NumberF
 use Rattle.typed_trees.specs.Views.{view_form as view_typed_form}
 use Rattle.typed_trees.specs.Plain
 use Rattle.typed_trees.specs.Plain.{TypedArg, TypedExpr, TypedHeld, Given}
-use Rattle.data_scopes.specs.declared.fault.TypeFault.{TypeFault}
-use Rattle.data_scopes.specs.declared.fault.TypeFault.TheVariants.{Rule}
-use Rattle.data_scopes.specs.declared.fault.TypeRule.{TypeRule}
-use Rattle.data_scopes.specs.declared.fault.TypeRule.TheVariants.{TypeClash, BadRef, ArgName}
-use Rattle.data_scopes.specs.Declarations.{Break, Checked, ◌>>=◌}
-use Rattle.data_scopes.specs.Gives.{Fails, Gives}
+use Rattle.rule_checks.specs.declared.fault.TypeFault.{TypeFault}
+use Rattle.rule_checks.specs.declared.fault.TypeFault.TheVariants.{Rule}
+use Rattle.rule_checks.specs.declared.rule.TypeRule.{TypeRule}
+use Rattle.rule_checks.specs.declared.rule.TypeRule.TheVariants.{TypeClash, BadRef, ArgName}
+use Rattle.rule_checks.specs.Checks.{◌>>=◌}
+use Rattle.rule_checks.specs.TypeChecks.{TypeBreak, Checked, Fails, Gives}
 use Rattle.data_scopes.specs.Rows.{begin_of}
 use Rattle.rapid_model.specs.Sorts.{has_values}
 use Rattle.named_data.specs.declared.wanted.Wanted.{Wanted}
@@ -68,7 +68,7 @@ typed_chain site raw first rest want is =
     ap (λ form. typed site (view_form raw.at form) want) is ∙ ap (λ e. typed site e want) (chain_view raw.at first rest)
 
 -- what is broken stays broken
-never : {X Y Z : Type 0} (r : Checked X) (b : Break) (f : Y → Checked Z) → (r >>= (λ _. Err b)) ≡ ((r >>= (λ _. Err b)) >>= f)
+never : {X Y Z : Type 0} (r : Checked X) (b : TypeBreak) (f : Y → Checked Z) → (r >>= (λ _. Err b)) ≡ ((r >>= (λ _. Err b)) >>= f)
 never (Ok x) b f = refl
 never (Err c) b f = refl
 

@@ -16,11 +16,12 @@ use Rattle.typed_trees.specs.Plain
 use Rattle.typed_trees.specs.Plain.{TypedExpr, TypedHeld, TypedArg, Given, Lent, OfSignal, OfMeeting, Itself}
 use Rattle.typed_trees.specs.declared.expr.TreeRoot.{TreeRoot}
 use Rattle.typed_trees.specs.declared.expr.TreeRoot.TheVariants as roots
-use Rattle.data_scopes.specs.declared.fault.TypeRule.{TypeRule}
-use Rattle.data_scopes.specs.declared.fault.TypeRule.TheVariants.{NoName, NotThis, TypeClash, ReadOnly, BadRef, CornerZone, ToolOnly, SyncName}
+use Rattle.rule_checks.specs.declared.rule.TypeRule.{TypeRule}
+use Rattle.rule_checks.specs.declared.rule.TypeRule.TheVariants.{NoName, NotThis, TypeClash, ReadOnly, BadRef, CornerZone, ToolOnly, SyncName}
 use Rattle.data_scopes.specs.declared.meant.Meant.{Meant}
 use Rattle.data_scopes.specs.declared.meant.Meant.TheVariants as meants
-use Rattle.data_scopes.specs.Declarations.{Checked, ◌>>=◌}
+use Rattle.rule_checks.specs.Checks.{◌>>=◌, must}
+use Rattle.rule_checks.specs.TypeChecks.{Checked}
 use Rattle.data_scopes.specs.Meetings.{is_meeting, meetings_before}
 use Rattle.data_scopes.specs.Rows.{begin_of}
 use Rattle.rapid_model.specs.Sorts.{has_values}
@@ -31,7 +32,7 @@ use Rattle.named_data.specs.declared.named.Source.{Source}
 use Rattle.named_data.specs.declared.named.Source.TheVariants as sources
 use Rattle.named_data.specs.declared.wanted.Wanted.{Wanted}
 use Rattle.named_data.specs.declared.wanted.Wanted.TheVariants.{Is, Nothing, Reference, ReferenceTo, Meeting}
-use Rattle.named_data.specs.Rules.{Site, fail, must}
+use Rattle.named_data.specs.Rules.{Site, fail, at_byte}
 use Rattle.named_data.specs.Wants.{same_sort}
 use Rattle.named_data.specs.Data.{NamedPart, named, datum_at, place, part_at, whole_of, is_none}
 
@@ -91,7 +92,7 @@ is_fixed (sources.Signal number) = false
 -- a place that is lent, where the rule holds
 abbrev pub lent : Site → Bool → ℕ → TypeRule → NamedPart → Source → Checked TypedArg
 lent site holds at rule p (sources.Place root access) =
-    must site holds at rule >>= (λ _. Ok (Lent (Plain.PlaceOf root p.index p.part p.sort)))
+    must holds (at_byte site at rule) >>= (λ _. Ok (Lent (Plain.PlaceOf root p.index p.part p.sort)))
 lent site holds at rule p _ = fail site at rule
 
 -- how the place of a source is accessed; what has no place is not written
@@ -107,7 +108,7 @@ root_of _ = None
 -- a place as what the callee reads and writes, as one of a type, as an array without an index
 abbrev pub lent_as : Site → Need → ℕ → NamedPart → Checked TypedArg
 lent_as site need at p =
-    must site (not (is_written need && is_fixed p.source)) at ReadOnly >>= (λ _.
+    must (not (is_written need && is_fixed p.source)) (at_byte site at ReadOnly) >>= (λ _.
     lent site (lends need (access_in p.source) && takes need p.sort) at BadRef p p.source)
 
 abbrev pub lent_of : Site → Sort → ℕ → NamedPart → Checked TypedArg
@@ -133,7 +134,7 @@ referred _ = Reference
 abbrev pub reference : Site → Need → PlainExpr → (Wanted → Checked TypedExpr) → Checked TypedHeld → Checked TypedArg
 reference site need (Place at (PlaceOf name held components)) value index =
     place site false name (is_held held) index components >>= (λ p.
-    must site (not (is_written need && is_fixed p.source)) at ReadOnly >>= (λ _.
+    must (not (is_written need && is_fixed p.source)) (at_byte site at ReadOnly) >>= (λ _.
     lent site (lends need (access_in p.source) && takes need p.sort) at BadRef p p.source))
 reference site need e value index = value (referred need) >>= (λ t. fail site (begin_of e) BadRef)
 
@@ -161,7 +162,7 @@ one_dimension _ = Nothing
 
 -- a predefined name that stands for itself, and is not looked up
 abbrev pub itself : Site → Predefined → List ℕ → TypeRule → PlainExpr → Checked TypedArg
-itself site name text rule e = must site (is_bare text e) (begin_of e) rule >>= (λ _. Ok (Itself name))
+itself site name text rule e = must (is_bare text e) (at_byte site (begin_of e) rule) >>= (λ _. Ok (Itself name))
 
 -- the signal is an output, or an input, as is needed
 abbrev pub has_direction : Bool → Option Bool → Bool
@@ -172,7 +173,7 @@ has_direction false (Some output) = not output
 abbrev pub signal_meant : Site → Bool → ℕ → Option Meant → Checked TypedArg
 signal_meant site output at None = fail site at NoName
 signal_meant site output at (Some (meants.Signal number)) =
-    must site (has_direction output (slice_get site.names.outputs number)) at TypeClash >>= (λ _. Ok (OfSignal number))
+    must (has_direction output (slice_get site.names.outputs number)) (at_byte site at TypeClash) >>= (λ _. Ok (OfSignal number))
 signal_meant site output at (Some _) = fail site at NotThis
 
 -- the name of a signal
@@ -183,7 +184,7 @@ signal site output e value = value Nothing >>= (λ t. fail site (begin_of e) Typ
 abbrev pub meeting_meant : Site → ℕ → Option Meant → Checked TypedArg
 meeting_meant site at None = fail site at NoName
 meeting_meant site at (Some (meants.Slot number)) =
-    must site (is_meeting (slice_get site.names.rows.slots number)) at SyncName >>= (λ _. Ok (OfMeeting (meetings_before number site.names.rows.slots)))
+    must (is_meeting (slice_get site.names.rows.slots number)) (at_byte site at SyncName) >>= (λ _. Ok (OfMeeting (meetings_before number site.names.rows.slots)))
 meeting_meant site at (Some _) = fail site at SyncName
 
 -- the components behind a name are those of the datum that it means, where it means one here
@@ -195,13 +196,13 @@ parts_known site (Err fault) components = Ok tt
 abbrev pub meeting : Site → PlainExpr → (Wanted → Checked TypedExpr) → Checked TypedHeld → Checked TypedArg
 meeting site (Place at (PlaceOf name NotHeld [])) value index = meeting_meant site at (named site name)
 meeting site (Place at (PlaceOf name held components)) value index =
-    must site (is_some (named site name)) at NoName >>= (λ _. index >>= (λ i.
+    must (is_some (named site name)) (at_byte site at NoName) >>= (λ _. index >>= (λ i.
     parts_known site (datum_at site name) components >>= (λ _. fail site at SyncName)))
 meeting site e value index = value Meeting >>= (λ t. fail site (begin_of e) SyncName)
 
 abbrev pub whole_pers : Site → Bool → ℕ → Sort → Source → Checked TypedArg
 whole_pers site bare at sort (sources.Place (roots.Pers number) access) =
-    must site bare at BadRef >>= (λ _. Ok (Lent (Plain.PlaceOf (roots.Pers number) Plain.NotHeld parts.Whole sort)))
+    must bare (at_byte site at BadRef) >>= (λ _. Ok (Lent (Plain.PlaceOf (roots.Pers number) Plain.NotHeld parts.Whole sort)))
 whole_pers site bare at sort _ = fail site at BadRef
 
 -- the name of a declared PERS, an array or none

@@ -20,16 +20,17 @@ use Rattle.rapid_builtins.specs.declared.option_choice.Choice.TheVariants as cho
 use Rattle.typed_trees.specs.Plain
 use Rattle.typed_trees.specs.Plain.{TypedExpr, TypedHeld, TypedArg, Given, NoArgument, Argument}
 use Rattle.data_scopes.specs.declared.data_row.ParamRow.{ParamRow}
-use Rattle.data_scopes.specs.declared.fault.TypeRule.TheVariants.{NoName, NotThis, ArgCount, ArgName, NoArm}
+use Rattle.rule_checks.specs.declared.rule.TypeRule.TheVariants.{NoName, NotThis, ArgCount, ArgName, NoArm}
 use Rattle.data_scopes.specs.declared.meant.Meant.{Meant}
 use Rattle.data_scopes.specs.declared.meant.Meant.TheVariants as meants
 use Rattle.data_scopes.specs.Called.{kind_of, params_of, result_of}
-use Rattle.data_scopes.specs.Declarations.{Checked, ◌>>=◌}
+use Rattle.rule_checks.specs.Checks.{◌>>=◌, must}
+use Rattle.rule_checks.specs.TypeChecks.{Checked}
 use Rattle.expr_types.specs.declared.callee.Callee.{Callee}
 use Rattle.expr_types.specs.declared.callee.Callee.TheVariants as callees
 use Rattle.named_data.specs.declared.wanted.Wanted.{Wanted}
 use Rattle.named_data.specs.declared.wanted.Wanted.TheVariants.{Any}
-use Rattle.named_data.specs.Rules.{Site, fail, must}
+use Rattle.named_data.specs.Rules.{Site, fail, at_byte}
 use Rattle.named_data.specs.Data.{named}
 use Rattle.expr_types.specs.Arguments.{argument}
 
@@ -117,13 +118,13 @@ are_chosen _ args = true
 -- the rules of a call, after those of its arguments
 -- as many arguments as are needed, and such options
 abbrev pub count_rules : Site → ℕ → Signature → PlainArgs → Checked (Unit {0})
-count_rules site at s args = must site (are_counted args (length s.needs)) at ArgCount >>= (λ _. must site (are_chosen s.choice args) at ArgName)
+count_rules site at s args = must (are_counted args (length s.needs)) (at_byte site at ArgCount) >>= (λ _. must (are_chosen s.choice args) (at_byte site at ArgName))
 
 abbrev pub call_rules : Site → ℕ → Signature → PlainArgs → Checked (Unit {0})
 call_rules site at s args =
-    must site (are_counted args (length s.needs)) at ArgCount >>= (λ _.
-    must site (are_chosen s.choice args) at ArgName >>= (λ _.
-    must site (not s.arm || site.names.arm) at NoArm))
+    must (are_counted args (length s.needs)) (at_byte site at ArgCount) >>= (λ _.
+    must (are_chosen s.choice args) (at_byte site at ArgName) >>= (λ _.
+    must (not s.arm || site.names.arm) (at_byte site at NoArm)))
 
 -- what the next argument has to be
 abbrev pub first_need : List Need → Option Need
@@ -141,7 +142,7 @@ is_excluded choices.Any name before = is_among name before
 is_excluded _ name before = not (length before == 0)
 
 abbrev pub may_stand : Site → Taking → ℕ → List ℕ → Checked (Unit {0})
-may_stand site t at name = must site (not (is_excluded t.choice name t.before)) at ArgName
+may_stand site t at name = must (not (is_excluded t.choice name t.before)) (at_byte site at ArgName)
 
 abbrev pub option_with : Site → Taking → ℕ → List ℕ → TypedArg → Checked TypedArg
 option_with site t at name x = may_stand site t at name >>= (λ _. Ok (Plain.Optional name (Argument x)))
@@ -156,7 +157,7 @@ plain_option site t at None = fail site at ArgName
 plain_option site t at (Some row) = by_need row.value
   where
     by_need : Option Need → Checked TypedArg
-    by_need None = must site (not (is_excluded t.choice row.name t.before)) at ArgName >>= (λ _. Ok (Plain.Optional row.name NoArgument))
+    by_need None = must (not (is_excluded t.choice row.name t.before)) (at_byte site at ArgName) >>= (λ _. Ok (Plain.Optional row.name NoArgument))
     by_need (Some need) = fail site at ArgName
 
 abbrev pub valued_option : Site → Taking → ℕ → Option OptionRow → PlainExpr → (Wanted → Checked TypedExpr) → Checked TypedHeld → Checked TypedArg
@@ -167,7 +168,7 @@ valued_option site t at (Some row) e value index = by_need row.value
     by_need None = value Any >>= (λ x. fail site at ArgName)
     by_need (Some need) =
         argument site need e value index >>= (λ x.
-        must site (not (is_excluded t.choice row.name t.before)) at ArgName >>= (λ _. Ok (Plain.Optional row.name (Argument x))))
+        must (not (is_excluded t.choice row.name t.before)) (at_byte site at ArgName) >>= (λ _. Ok (Plain.Optional row.name (Argument x))))
 
 abbrev pub with_option : Taking → Option OptionRow → Taking
 with_option t None = t

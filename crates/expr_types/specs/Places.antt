@@ -4,9 +4,10 @@ use Rattle.rapid_model.specs.declared.sort.Sort.{Sort}
 use Rattle.typed_trees.specs.Plain
 use Rattle.typed_trees.specs.Plain.{TypedPlace, TypedArg}
 use Rattle.raw_trees.specs.Plain.{PlainExpr, Place, PlainPlace, PlaceOf, PlainHeld}
-use Rattle.data_scopes.specs.declared.fault.TypeRule.{TypeRule}
-use Rattle.data_scopes.specs.declared.fault.TypeRule.TheVariants.{NoName, TypeClash, BadRef, SyncName}
-use Rattle.data_scopes.specs.Declarations.{Checked, ◌>>=◌}
+use Rattle.rule_checks.specs.declared.rule.TypeRule.{TypeRule}
+use Rattle.rule_checks.specs.declared.rule.TypeRule.TheVariants.{NoName, TypeClash, BadRef, SyncName}
+use Rattle.rule_checks.specs.Checks.{◌>>=◌, must}
+use Rattle.rule_checks.specs.TypeChecks.{Checked}
 use Rattle.data_scopes.specs.Rows.{begin_of}
 use Rattle.named_data.specs.declared.wanted.Wanted.{Wanted}
 use Rattle.named_data.specs.declared.wanted.Wanted.TheVariants.{Reference, Meeting}
@@ -14,7 +15,7 @@ use Rattle.named_data.specs.Data
 use Rattle.named_data.specs.Data.{NamedPart, named, datum_at, part_at, whole_of, is_none}
 use Rattle.named_data.specs.declared.named.Source.{Source}
 use Rattle.named_data.specs.declared.named.Source.TheVariants as sources
-use Rattle.named_data.specs.Rules.{Site, fail, must}
+use Rattle.named_data.specs.Rules.{Site, fail, at_byte}
 use Rattle.named_data.specs.Wants.{same_sort}
 use Rattle.expr_types.specs.Arguments.{is_held, parts_known, whole_pers}
 use Rattle.expr_types.specs.Typing.{index, typed}
@@ -38,7 +39,7 @@ place_in site whole want rule e = typed site e want >>= (λ t. fail site (begin_
 -- a place of a type, of whatever kind, where the rule stands at this byte
 abbrev pub lent_from : Site → Sort → ℕ → NamedPart → Source → Checked TypedPlace
 lent_from site sort at p (sources.Place root access) =
-    must site (same_sort p.sort sort) at TypeClash >>= (λ _. Ok (Plain.PlaceOf root p.index p.part p.sort))
+    must (same_sort p.sort sort) (at_byte site at TypeClash) >>= (λ _. Ok (Plain.PlaceOf root p.index p.part p.sort))
 lent_from site sort at p _ = fail site at TypeClash
 
 abbrev pub lent_of : Site → Sort → ℕ → NamedPart → Checked TypedPlace
@@ -54,7 +55,7 @@ known_parts site (PlaceOf name held components) = parts_known site (datum_at sit
 -- what is broken in an expression that is no name and stands for a meeting
 abbrev pub no_meeting : Site → PlainExpr → Checked TypedArg
 no_meeting site (Place at (PlaceOf name held components)) =
-    must site (is_some (named site name)) at NoName >>= (λ _. index site held >>= (λ i.
+    must (is_some (named site name)) (at_byte site at NoName) >>= (λ _. index site held >>= (λ i.
     parts_known site (datum_at site name) components >>= (λ _. fail site at SyncName)))
 no_meeting site e = typed site e Meeting >>= (λ t. fail site (begin_of e) SyncName)
 

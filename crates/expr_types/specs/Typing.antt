@@ -11,15 +11,16 @@ use Rattle.rapid_values.specs.Components.{Component}
 use Rattle.rapid_builtins.specs.Calls.{option_named}
 use Rattle.typed_trees.specs.Plain
 use Rattle.typed_trees.specs.Plain.{TypedExpr, TypedExprs, TypedSteps, TypedHeld, TypedArg, TypedArgs}
-use Rattle.data_scopes.specs.declared.fault.TypeRule.TheVariants.{TypeClash, DimRange, SyncName}
-use Rattle.data_scopes.specs.Declarations.{Checked, ◌>>=◌}
+use Rattle.rule_checks.specs.declared.rule.TypeRule.TheVariants.{TypeClash, DimRange, SyncName}
+use Rattle.rule_checks.specs.Checks.{◌>>=◌, must}
+use Rattle.rule_checks.specs.TypeChecks.{Checked}
 use Rattle.expr_types.specs.declared.callee.Callee.{Callee}
 use Rattle.expr_types.specs.declared.callee.Callee.TheVariants as callees
 use Rattle.expr_types.specs.declared.want.Want.{Want}
 use Rattle.expr_types.specs.declared.want.Want.TheVariants as asked
 use Rattle.named_data.specs.declared.wanted.Wanted.{Wanted}
 use Rattle.named_data.specs.declared.wanted.Wanted.TheVariants.{Any, Is, Same, Meeting}
-use Rattle.named_data.specs.Rules.{Site, fail, must}
+use Rattle.named_data.specs.Rules.{Site, fail, at_byte}
 use Rattle.named_data.specs.Wants.{fits, clash, untyped, inside, hands_on, needed_components, needed_sort, of_component, first_operand, suits, comes_to}
 use Rattle.rapid_model.specs.Sorts.{has_values}
 use Rattle.named_data.specs.Data.{NamedPart, given, place_value, value_from, is_none}
@@ -68,8 +69,8 @@ count (MoreExprs e es) = suc (count es)
 -- brackets have a type, and as many values as it has components
 abbrev pub aggregate : Site → Wanted → ℕ → PlainExprs → TypedExprs → Checked TypedExpr
 aggregate site want at es ts =
-    must site (not (is_none (needed_components want))) at (untyped want) >>= (λ _.
-    must site (count es == length (needed_components want)) at DimRange >>= (λ _.
+    must (not (is_none (needed_components want))) (at_byte site at (untyped want)) >>= (λ _.
+    must (count es == length (needed_components want)) (at_byte site at DimRange) >>= (λ _.
     Ok (Plain.Aggregate at (needed_sort want) ts)))
 
 abbrev pub invoked : ℕ → Sort → Callee → TypedArgs → TypedExpr
@@ -85,15 +86,15 @@ names_meeting want = false
 abbrev pub call : Site → Wanted → ℕ → Called → PlainArgs → TypedArgs → Checked TypedExpr
 call site want at called args ts =
     if names_meeting want then count_rules site at called.signature args >>= (λ _. fail site at SyncName)
-    else must site (fits want called.sort) at (clash want) >>= (λ _.
+    else must (fits want called.sort) (at_byte site at (clash want)) >>= (λ _.
     call_rules site at called.signature args >>= (λ _. Ok (invoked at called.sort called.callee ts)))
 
 abbrev pub group : Site → Wanted → ℕ → TypedExpr → Checked TypedExpr
-group site want at t = must site (hands_on want) at (clash want) >>= (λ _. Ok (Plain.Group at (sort_of t) t))
+group site want at t = must (hands_on want) (at_byte site at (clash want)) >>= (λ _. Ok (Plain.Group at (sort_of t) t))
 
 -- the value of a place that is found
 abbrev pub value_given : Site → Wanted → ℕ → NamedPart → Checked TypedExpr
-value_given site want at p = must site (has_values p.sort) at TypeClash >>= (λ _. given site want at p.sort (value_from at p p.source))
+value_given site want at p = must (has_values p.sort) (at_byte site at TypeClash) >>= (λ _. given site want at p.sort (value_from at p p.source))
 
 unfoldable mutual
   pub typed : Site → PlainExpr → Wanted → Checked TypedExpr
@@ -120,7 +121,7 @@ unfoldable mutual
   pub steps : Site → PlainSteps → ℕ → Sort → Checked TypedRest
   steps site NoSteps at left = Ok (record { steps = Plain.NoSteps; sort = left })
   steps site (MoreSteps operator e ss) at left =
-      must site (suits operator left) at TypeClash >>= (λ _. typed site e (Same left) >>= (λ t.
+      must (suits operator left) (at_byte site at TypeClash) >>= (λ _. typed site e (Same left) >>= (λ t.
       steps site ss at (comes_to operator left) >>= (λ r. Ok (record { steps = Plain.MoreSteps operator t r.steps; sort = r.sort }))))
 
   pub index : Site → PlainHeld → Checked TypedHeld

@@ -2,7 +2,7 @@
 
 ghost use Rattle.std.specs.Prelude.{◌≡◌};
 ghost use Rattle.raw_trees.specs.Views.{view_name};
-ghost use Rattle.data_scopes.specs.Gives.{Gives};
+ghost use Rattle.rule_checks.specs.TypeChecks.{Gives};
 ghost use Rattle.named_data.specs.Views.{view_site};
 ghost use Rattle.expr_types.specs.Calls;
 ghost use Rattle.expr_types.specs.Views.{view_called};
@@ -10,11 +10,12 @@ ghost use Rattle.expr_types.specs.Views.{view_called};
 use crate::callee::Callee;
 use crate::names::named;
 use crate::signature::{Signature, function_signature, routine_signature};
-use rapid_builtins::function_result;
-use data_scopes::{Meant, TypeFault, TypeRule};
+use data_scopes::Meant;
 use named_data::{Site, fault};
+use rapid_builtins::function_result;
 use rapid_model::Sort;
 use raw_trees::{RawName, RoutineKind};
+use rule_checks::{TypeFault, TypeRule};
 
 /// A function that is called, how, and the type of its answer (RAPID Kernel, function calls).
 #[derive(Clone, Copy)]

@@ -3,17 +3,17 @@
 ghost use Rattle.std.specs.Prelude.{◌≡◌, Ok};
 ghost use Rattle.typed_trees.specs.Plain.{PlaceOf};
 ghost use Rattle.typed_trees.specs.Views.{view_arg, view_place};
-ghost use Rattle.data_scopes.specs.Gives.{Gives};
+ghost use Rattle.rule_checks.specs.TypeChecks.{Gives};
 ghost use Rattle.named_data.specs.Views.{view_site};
 ghost use Rattle.expr_types.specs.Arguments;
 ghost use Rattle.expr_types.specs.Places;
 ghost use Rattle.expr_types.specs.Views.{view_held, view_part};
 
 use crate::place_part::PlacePart;
-use rapid_builtins::Need;
-use data_scopes::{TypeFault, TypeRule};
 use named_data::{Access, Site, Source, Wanted, fault, must, same_sort};
+use rapid_builtins::Need;
 use rapid_model::{Sort, has_values};
+use rule_checks::{TypeFault, TypeRule};
 use typed_trees::{Arg, TreePlace, TreeRoot};
 
 /// Whether a place is lent in this way.

@@ -28,6 +28,3 @@ pub use place_part::PlacePart;
 pub use signature::{Signature, instruction_signature, routine_signature};
 pub use typing::{place, typed};
 pub use want::Want;
-
-#[cfg(test)]
-mod tests;

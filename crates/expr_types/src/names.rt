@@ -2,15 +2,16 @@
 
 ghost use Rattle.std.specs.Prelude.{◌≡◌, option_map};
 ghost use Rattle.raw_trees.specs.Views.{view_expr as view_raw, view_name, view_place};
-ghost use Rattle.data_scopes.specs.Gives.{Gives};
+ghost use Rattle.rule_checks.specs.TypeChecks.{Gives};
 ghost use Rattle.named_data.specs.Data;
 ghost use Rattle.named_data.specs.Views.{view_site};
 ghost use Rattle.expr_types.specs.Arguments;
 ghost use Rattle.expr_types.specs.Places;
 
-use data_scopes::{Meant, TypeFault};
+use data_scopes::Meant;
 use named_data::{Site, datum_at, part_at};
 use raw_trees::{RawExpr, RawExprForm, RawName, RawPlace};
+use rule_checks::TypeFault;
 
 /// What the innermost declaration of the name means that is visible (RAPID Kernel, scope rules).
 pub(crate) fn named(site: &Site<'_>, name: &RawName<'_>) -> Option<Meant>

@@ -4,8 +4,8 @@ ghost use Rattle.std.specs.Prelude.{◌≡◌, drop, length};
 ghost use Rattle.expr_types.specs.Calls;
 ghost use Rattle.expr_types.specs.Views.{view_needs};
 
-use rapid_builtins::Need;
 use data_scopes::ParamRow;
+use rapid_builtins::Need;
 use rapid_model::Sort;
 use raw_trees::Mode;
 

@@ -7,15 +7,15 @@ ghost use Rattle.rapid_builtins.specs.Calls.{row_of};
 ghost use Rattle.rapid_builtins.specs.declared.need.Need.{Need};
 ghost use Rattle.typed_trees.specs.Plain.{Argument, NoArgument, Optional};
 ghost use Rattle.typed_trees.specs.Views.{view_arg};
-ghost use Rattle.data_scopes.specs.Gives.{Gives};
+ghost use Rattle.rule_checks.specs.TypeChecks.{Gives};
 ghost use Rattle.named_data.specs.Views.{view_site};
 ghost use Rattle.expr_types.specs.Calls;
 ghost use Rattle.expr_types.specs.Views.{view_taking};
 
 use crate::taking::{Taking, is_excluded};
-use rapid_builtins::{InstructionOption, Need};
-use data_scopes::{TypeFault, TypeRule};
 use named_data::{Site, fault, must, name_text};
+use rapid_builtins::{InstructionOption, Need};
+use rule_checks::{TypeFault, TypeRule};
 use typed_trees::Arg;
 
 /// An option without a value, whose backslash is at this byte.

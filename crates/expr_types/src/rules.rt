@@ -3,16 +3,16 @@
 ghost use Rattle.std.specs.Prelude.{◌≡◌, map};
 ghost use Rattle.raw_trees.specs.Plain.{args_of};
 ghost use Rattle.raw_trees.specs.Views.{view_arg as view_raw_arg};
-ghost use Rattle.data_scopes.specs.Gives.{Gives};
+ghost use Rattle.rule_checks.specs.TypeChecks.{Gives};
 ghost use Rattle.named_data.specs.Views.{view_site};
 ghost use Rattle.expr_types.specs.Calls;
 ghost use Rattle.expr_types.specs.Views.{view_signature};
 
 use crate::signature::Signature;
-use rapid_builtins::Choice;
-use data_scopes::{TypeFault, TypeRule};
 use named_data::{Site, must};
+use rapid_builtins::Choice;
 use raw_trees::RawArg;
+use rule_checks::{TypeFault, TypeRule};
 
 /// The greatest number of arguments of a call, options with them (RAPID Kernel, procedure calls).
 const MOST_ARGUMENTS: usize = 32;

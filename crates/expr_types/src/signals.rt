@@ -3,15 +3,16 @@
 ghost use Rattle.std.specs.Prelude.{◌≡◌};
 ghost use Rattle.raw_trees.specs.Views.{view_expr as view_raw};
 ghost use Rattle.typed_trees.specs.Views.{view_arg};
-ghost use Rattle.data_scopes.specs.Gives.{Gives};
+ghost use Rattle.rule_checks.specs.TypeChecks.{Gives};
 ghost use Rattle.named_data.specs.Views.{view_site};
 ghost use Rattle.expr_types.specs.Arguments;
 
 use crate::names::is_bare;
-use data_scopes::{Meant, TypeFault, TypeRule, begin_of, is_meeting};
+use data_scopes::{Meant, begin_of, is_meeting};
 use named_data::{Site, Source, fault, must};
 use rapid_model::{PartName, Predefined, Sort};
 use raw_trees::RawExpr;
+use rule_checks::{TypeFault, TypeRule};
 use typed_trees::{Arg, TreePlace, TreeRoot};
 
 /// A predefined name that stands for itself, and is not looked up.

@@ -8,11 +8,11 @@ ghost use Rattle.expr_types.specs.Views.{view_signature};
 
 use crate::needs::Needs;
 use crate::zone::zone_need;
+use data_scopes::ParamRow;
 use rapid_builtins::{
     Choice, InstructionOption, Need, choice, function_needs, function_needs_arm, instruction_needs,
     needs_arm, options,
 };
-use data_scopes::ParamRow;
 use rapid_model::{Function, Instruction};
 use raw_trees::RawArg;
 

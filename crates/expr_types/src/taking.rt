@@ -6,15 +6,15 @@ ghost use Rattle.rapid_model.specs.Names;
 ghost use Rattle.rapid_builtins.specs.declared.instruction_option.InstructionOption.{InstructionOption};
 ghost use Rattle.rapid_builtins.specs.Calls.{row_of};
 ghost use Rattle.raw_trees.specs.Views.{view_arg as view_raw_arg};
-ghost use Rattle.data_scopes.specs.Gives.{Gives};
+ghost use Rattle.rule_checks.specs.TypeChecks.{Gives};
 ghost use Rattle.expr_types.specs.Calls;
 ghost use Rattle.expr_types.specs.Views.{view_signature, view_taking};
 
 use crate::needs::Needs;
 use crate::signature::Signature;
 use rapid_builtins::{Choice, InstructionOption, first_named};
-use data_scopes::TypeFault;
 use raw_trees::RawArg;
+use rule_checks::TypeFault;
 use std::alloc::Global;
 
 /// The needs of the arguments that are left, and the options that stand before.

@@ -6,7 +6,7 @@ ghost use Rattle.raw_trees.specs.Plain.{Held, Optional, args_of as raw_args_of, 
 ghost use Rattle.raw_trees.specs.Views.{view_arg as view_raw_arg, view_expr as view_raw, view_place as view_raw_place, view_step as view_raw_step};
 ghost use Rattle.typed_trees.specs.Plain.{args_of, exprs_of};
 ghost use Rattle.typed_trees.specs.Views.{view_arg, view_expr};
-ghost use Rattle.data_scopes.specs.Gives.{Gives};
+ghost use Rattle.rule_checks.specs.TypeChecks.{Gives};
 ghost use Rattle.named_data.specs.Views.{view_site};
 ghost use Rattle.named_data.specs.Wants;
 ghost use Rattle.expr_types.specs.Arguments;
@@ -28,11 +28,12 @@ use crate::typed_chain::TypedChain;
 use crate::values::{
     aggregate, call, element_want, first_operand, given, group, one_dimension, place_value,
 };
-use rapid_builtins::{Need, first_named};
-use data_scopes::{TypeFault, TypeRule, begin_of};
+use data_scopes::begin_of;
 use named_data::{Site, Wanted, comes_to, datum_at, fault, inside, must, part_at, suits};
+use rapid_builtins::{Need, first_named};
 use rapid_model::{Predefined, Sort, Value};
 use raw_trees::{Operator, RawArg, RawExpr, RawExprForm, RawPlace};
+use rule_checks::{TypeFault, TypeRule};
 use typed_trees::{Arg, Expr};
 
 /// The typed form of an expression where something is wanted of it.

@@ -7,7 +7,7 @@ ghost use Rattle.raw_trees.specs.Plain.{Number, args_of as raw_args_of, exprs_of
 ghost use Rattle.raw_trees.specs.Views.{view_arg as view_raw_arg, view_expr as view_raw, view_place as view_raw_place, view_step as view_raw_step};
 ghost use Rattle.typed_trees.specs.Plain.{Given, args_of, exprs_of};
 ghost use Rattle.typed_trees.specs.Views.{view_arg, view_expr};
-ghost use Rattle.data_scopes.specs.Gives.{Gives};
+ghost use Rattle.rule_checks.specs.TypeChecks.{Gives};
 ghost use Rattle.named_data.specs.Data;
 ghost use Rattle.named_data.specs.Views.{view_site};
 ghost use Rattle.named_data.specs.Wants;
@@ -19,12 +19,12 @@ use crate::called::Called;
 use crate::callee::Callee;
 use crate::place_part::PlacePart;
 use crate::rules::{call_rules, count_rules};
-use data_scopes::{TypeFault, TypeRule};
 use named_data::{Site, Source, Wanted, clash, fault, fits, hands_on, must, untyped};
 use rapid_model::{PartName, Sort, Value, has_values};
 use rapid_num::read_literal;
 use rapid_values::{component_sorts, part};
 use raw_trees::{Operator, RawArg, RawExpr, RawExprForm};
+use rule_checks::{TypeFault, TypeRule};
 use typed_trees::{Arg, Expr, TreePlace};
 
 /// An expression of this type stands where something is wanted.

@@ -5,9 +5,10 @@ ghost use Rattle.module_parser.specs.Bodies.{view_body};
 ghost use Rattle.module_parser.specs.Reads.{body_read};
 
 use crate::data::locals;
-use crate::names::{handler_if_any, list};
+use crate::optional::handler_if_any;
 use rapid_forms::{Parser, SyntaxFault};
 use raw_trees::{RawDatum, RawStmt};
+use stmt_parser::list;
 
 /// The data of a routine, its statements, and its ERROR part.
 #[derive(Drop)]
@@ -26,7 +27,7 @@ pub(crate) fn routine_body<'a>(
     ensures { Gives p.now.tokens view_body result (body_read 64 (rest_from p.now.tokens at)) }
 {
     let (locals, next) = locals(p, at)?;
-    let (list, after) = list(p, next)?;
+    let (list, after) = list(p, next, 64)?;
     let (handler, end) = handler_if_any(p, after)?;
     let body = Body {
         locals,

@@ -5,8 +5,9 @@ ghost use Rattle.raw_trees.specs.Views.{view_datum};
 ghost use Rattle.rapid_forms.specs.Reading.{Gives, rest_from};
 ghost use Rattle.module_parser.specs.Reads.{datum_read, locals_read};
 
-use crate::names::{length_if_any, name, value_if_any};
+use crate::optional::{length_if_any, value_if_any};
 use crate::words::kind_of;
+use expr_parser::name;
 use rapid_forms::{Parser, Sign, SyntaxFault};
 use raw_trees::RawDatum;
 

@@ -10,8 +10,8 @@ ghost use Rattle.module_parser.specs.Reads.{behind_local_read, datum_read, datum
 
 use crate::body::routine_body;
 use crate::data::datum;
-use crate::names::name;
 use crate::params::params;
+use expr_parser::name;
 use rapid_forms::{Parser, Sign, SyntaxFault};
 use rapid_lexer::Token;
 use raw_trees::{RawItem, RawRoutine, RoutineKind};

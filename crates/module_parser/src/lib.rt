@@ -6,15 +6,10 @@ mod data;
 mod items;
 mod laws;
 mod module;
-mod names;
+mod optional;
 mod params;
 mod parse;
 mod words;
 
 pub use laws::one_module;
 pub use parse::parse_module;
-
-#[cfg(test)]
-mod refused;
-#[cfg(test)]
-mod tests;

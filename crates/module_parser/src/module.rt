@@ -7,8 +7,8 @@ ghost use Rattle.expr_parser.specs.Grammar.{first_and_more, none_or};
 ghost use Rattle.module_parser.specs.Reads.{attribute_read, attributes_read, item_read, item_signs, module_read, more_attribute_read};
 
 use crate::items::item;
-use crate::names::name;
 use crate::words::attribute_of;
+use expr_parser::name;
 use rapid_forms::{Parser, Sign, SyntaxFault};
 use raw_trees::{Attribute, RawItem, RawModule};
 

@@ -9,8 +9,8 @@ ghost use Rattle.expr_parser.specs.Grammar.{none_or};
 ghost use Rattle.module_parser.specs.Grammar.{param_tree};
 ghost use Rattle.module_parser.specs.Reads.{mode_signs, more_param_read, param_read, param_signs, params_read, some_params_read};
 
-use crate::names::name;
 use crate::words::mode_of;
+use expr_parser::name;
 use rapid_forms::{Parser, Sign, SyntaxFault};
 use rapid_lexer::Token;
 use raw_trees::{Mode, RawName, RawParam};

@@ -7,6 +7,3 @@ mod table;
 
 pub use not_entered::NotEntered;
 pub use table::NameTable;
-
-#[cfg(test)]
-mod tests;

@@ -6,20 +6,21 @@ use Rattle.raw_trees.specs.declared.raw_name.RawName.{RawName}
 use Rattle.rapid_model.specs.declared.sort.Sort.{Sort}
 use Rattle.rapid_values.specs.Components.{Component, components, component_of}
 use Rattle.rapid_model.specs.declared.part_name.PartName.{PartName}
-use Rattle.data_scopes.specs.Declarations.{Checked, ◌>>=◌}
-use Rattle.data_scopes.specs.Gives.{Fails}
-use Rattle.data_scopes.specs.declared.fault.TypeFault.{TypeFault}
-use Rattle.data_scopes.specs.declared.fault.TypeFault.TheVariants.{Rule, Memory}
+use Rattle.rule_checks.specs.Checks.{◌>>=◌, found_or}
+use Rattle.rule_checks.specs.TypeChecks.{Checked, Fails}
+use Rattle.rule_checks.specs.declared.rule.TypeRule.TheVariants.{NoName}
+use Rattle.rule_checks.specs.declared.fault.TypeFault.{TypeFault}
+use Rattle.rule_checks.specs.declared.fault.TypeFault.TheVariants.{Rule, Memory}
 use Rattle.named_data.specs.declared.component.Part.{Part}
-use Rattle.named_data.specs.Data.{component, as_part, part_at}
-use Rattle.named_data.specs.Rules.{Site}
+use Rattle.named_data.specs.Data.{as_part, part_at}
+use Rattle.named_data.specs.Rules.{Site, at_byte}
 
 abbrev row : PartName → Sort → PartName × Sort
 row name sort = (name, sort)
 
 -- the part that a component of a type is
 pub found_part : (site : Site) (at : ℕ) (x : Option Component) (name : PartName) (sort : Sort) → Some (row name sort) ≡ option_map (λ c. row c.part c.sort) x
-    → (component site at x >>= (λ c. part_at site (as_part c) [])) ≡ Ok (record { name = name; sort = sort })
+    → (found_or x (at_byte site at NoName) >>= (λ c. part_at site (as_part c) [])) ≡ Ok (record { name = name; sort = sort })
 found_part site at None name sort e = absurd cc
 found_part site at (Some c) name sort e =
     let same : row name sort ≡ row c.part c.sort = cc in ap (λ (r : PartName × Sort). Ok (record { name = r.0; sort = r.1 })) (sym same)
@@ -27,7 +28,7 @@ found_part site at (Some c) name sort e =
 -- the first component, and then the others
 one_more : (site : Site) (found : Part) (name : PlainName) (more : List PlainName)
     → part_at site found (name ∷ more) ≡ (part_at site found (name ∷ []) >>= (λ p. part_at site p more))
-one_more site found name more = at (component site name.at (component_of name.text (components found.sort)))
+one_more site found name more = at (found_or (component_of name.text (components found.sort)) (at_byte site name.at NoName))
   where
     at : (c : Checked Component) → (c >>= (λ x. part_at site (as_part x) more)) ≡ ((c >>= (λ x. part_at site (as_part x) [])) >>= (λ p. part_at site p more))
     at (Ok x) = refl

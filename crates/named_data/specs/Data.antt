@@ -19,12 +19,13 @@ use Rattle.typed_trees.specs.declared.expr.TreeRoot.TheVariants as roots
 use Rattle.data_scopes.specs.declared.data_row.DatumRow.{DatumRow}
 use Rattle.data_scopes.specs.declared.data_row.ParamRow.{ParamRow}
 use Rattle.data_scopes.specs.declared.data_row.Since.{Since}
-use Rattle.data_scopes.specs.declared.fault.TypeRule.TheVariants.{NoName, NotThis, TypeClash, ConstOrder, WholeArray}
+use Rattle.rule_checks.specs.declared.rule.TypeRule.TheVariants.{NoName, NotThis, TypeClash, ConstOrder, WholeArray}
 use Rattle.data_scopes.specs.declared.meant.Meant.{Meant}
 use Rattle.data_scopes.specs.declared.meant.Meant.TheVariants as meants
-use Rattle.data_scopes.specs.declared.spot.Spot.{Spot}
+use Rattle.rule_checks.specs.declared.spot.Spot.{Spot}
 use Rattle.data_scopes.specs.Called.{local_of, param_of, places_of}
-use Rattle.data_scopes.specs.Declarations.{Checked, ◌>>=◌}
+use Rattle.rule_checks.specs.Checks.{◌>>=◌, must, found_or}
+use Rattle.rule_checks.specs.TypeChecks.{Checked}
 use Rattle.data_scopes.specs.Scopes.{meaning}
 use Rattle.rapid_model.specs.Sorts.{has_values}
 use Rattle.named_data.specs.declared.component.Part.{Part}
@@ -34,7 +35,7 @@ use Rattle.named_data.specs.declared.named.Source.{Source}
 use Rattle.named_data.specs.declared.named.Source.TheVariants as sources
 use Rattle.named_data.specs.declared.named.NamedDatum.{NamedDatum}
 use Rattle.named_data.specs.declared.wanted.Wanted.{Wanted}
-use Rattle.named_data.specs.Rules.{Site, fail, must}
+use Rattle.named_data.specs.Rules.{Site, fail, at_byte}
 use Rattle.named_data.specs.Wants.{fits, clash}
 
 -- what is declared there stands before the expression at the spot
@@ -51,7 +52,7 @@ access_of (Some since) = accesses.Fixed
 abbrev pub stored : Site → ℕ → TreeRoot → Option DatumRow → Checked NamedDatum
 stored site at root None = fail site at NoName
 stored site at root (Some row) =
-    must site (is_before site.spot row.since) at ConstOrder >>= (λ _.
+    must (is_before site.spot row.since) (at_byte site at ConstOrder) >>= (λ _.
     Ok (record { source = sources.Place root (access_of row.since); sort = row.sort; array = row.array }))
 
 abbrev pub persistent : Site → ℕ → ℕ → Option DatumRow → Checked NamedDatum
@@ -73,7 +74,7 @@ parameter site at place (Some row) = Ok (record { source = sources.Place (roots.
 abbrev pub constant : Site → ℕ → Option DatumRow → Option (Option Value) → Checked NamedDatum
 constant site at None kept = fail site at NoName
 constant site at (Some row) (Some (Some value)) =
-    must site (is_before site.spot row.since) at ConstOrder >>= (λ _.
+    must (is_before site.spot row.since) (at_byte site at ConstOrder) >>= (λ _.
     Ok (record { source = sources.Value value; sort = row.sort; array = false }))
 constant site at (Some row) _ = fail site at ConstOrder
 
@@ -113,10 +114,6 @@ named site name = meaning site.names.tables site.spot name.text
 abbrev pub datum_at : Site → PlainName → Checked NamedDatum
 datum_at site name = datum_meant site name.at (named site name)
 
-abbrev pub component : Site → ℕ → Option Component → Checked Component
-component site at None = fail site at NoName
-component site at (Some c) = Ok c
-
 abbrev pub as_part : Component → Part
 as_part c = record { name = c.part; sort = c.sort }
 
@@ -124,7 +121,7 @@ as_part c = record { name = c.part; sort = c.sort }
 abbrev pub part_at : Site → Part → List PlainName → Checked Part
 part_at site found [] = Ok found
 part_at site found (name ∷ more) =
-    component site name.at (component_of name.text (components found.sort)) >>= (λ c. part_at site (as_part c) more)
+    found_or (component_of name.text (components found.sort)) (at_byte site name.at NoName) >>= (λ c. part_at site (as_part c) more)
 
 -- a value as a part of itself
 abbrev pub whole_of : Sort → Part
@@ -146,9 +143,9 @@ is_none (x ∷ xs) = false
 abbrev pub place : Site → Bool → PlainName → Bool → Checked TypedHeld → List PlainName → Checked NamedPart
 place site whole name indexed index components =
     datum_at site name >>= (λ d.
-    must site (whole || indexed || not d.array) name.at WholeArray >>= (λ _.
+    must (whole || indexed || not d.array) (at_byte site name.at WholeArray) >>= (λ _.
     index >>= (λ i.
-    must site (d.array || not indexed) name.at TypeClash >>= (λ _.
+    must (d.array || not indexed) (at_byte site name.at TypeClash) >>= (λ _.
     part_at site (whole_of d.sort) components >>= (λ c.
     Ok (record { source = d.source; array = d.array; index = i; part = c.name; sort = c.sort }))))))
 
@@ -164,11 +161,11 @@ value_from at p (sources.Signal number) = SignalValue at p.sort number
 
 -- an expression of this type stands where something is wanted
 abbrev pub given : Site → Wanted → ℕ → Sort → TypedExpr → Checked TypedExpr
-given site want at sort tree = must site (fits want sort) at (clash want) >>= (λ _. Ok tree)
+given site want at sort tree = must (fits want sort) (at_byte site at (clash want)) >>= (λ _. Ok tree)
 
 -- the value at a place: its type has values
 abbrev pub place_value : Site → ℕ → PlainName → Bool → Checked TypedHeld → List PlainName → Wanted → Checked TypedExpr
 place_value site at name indexed index components want =
     place site false name indexed index components >>= (λ p.
-    must site (has_values p.sort) at TypeClash >>= (λ _.
+    must (has_values p.sort) (at_byte site at TypeClash) >>= (λ _.
     given site want at p.sort (value_from at p p.source)))

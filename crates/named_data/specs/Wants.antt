@@ -6,8 +6,8 @@ use Rattle.raw_trees.specs.Plain.{PlainSteps, NoSteps, MoreSteps}
 use Rattle.rapid_model.specs.declared.sort.Sort.{Sort}
 use Rattle.rapid_model.specs.declared.sort.Sort.TheVariants as sorts
 use Rattle.rapid_values.specs.Components.{Component, components}
-use Rattle.data_scopes.specs.declared.fault.TypeRule.{TypeRule}
-use Rattle.data_scopes.specs.declared.fault.TypeRule.TheVariants.{TypeClash, BadRef, SyncName}
+use Rattle.rule_checks.specs.declared.rule.TypeRule.{TypeRule}
+use Rattle.rule_checks.specs.declared.rule.TypeRule.TheVariants.{TypeClash, BadRef, SyncName}
 pub use Rattle.data_scopes.specs.Sorts.{same_sort}
 use Rattle.named_data.specs.declared.wanted.Wanted.{Wanted}
 use Rattle.named_data.specs.declared.wanted.Wanted.TheVariants.{Any, Brackets, Is, Same, Fits, Nothing, Reference, ReferenceTo, Meeting}

@@ -4,8 +4,9 @@ ghost use Rattle.std.specs.Prelude.{◌≡◌};
 ghost use Rattle.named_data.specs.Data;
 
 use crate::named::Access;
-use data_scopes::{Since, Spot};
+use data_scopes::Since;
 use raw_trees::Mode;
+use rule_checks::Spot;
 
 /// Whether what is declared there stands before the expression at the spot.
 pub(crate) fn is_before(spot: Spot, since: Option<Since>) -> bool

@@ -2,16 +2,16 @@
 
 ghost use Rattle.std.specs.Prelude.{◌≡◌, ◌∷◌, [], map};
 ghost use Rattle.raw_trees.specs.Views.{view_name};
-ghost use Rattle.data_scopes.specs.Gives.{Gives};
+ghost use Rattle.rule_checks.specs.TypeChecks.{Gives};
 ghost use Rattle.named_data.specs.Data;
 ghost use Rattle.named_data.specs.Views.{view_site};
 
 use crate::rules::fault;
 use crate::site::Site;
-use data_scopes::{TypeFault, TypeRule};
 use rapid_model::{PartName, Sort};
 use rapid_values::component;
 use raw_trees::RawName;
+use rule_checks::{TypeFault, TypeRule};
 
 /// A part of a value, and the part's type.
 #[derive(Clone, Copy, Debug, PartialEq, Eq)]

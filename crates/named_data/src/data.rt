@@ -2,7 +2,7 @@
 
 ghost use Rattle.std.specs.Prelude.{◌≡◌, ◌<◌, ℕ, false, length};
 ghost use Rattle.raw_trees.specs.Views.{view_name};
-ghost use Rattle.data_scopes.specs.Gives.{Gives};
+ghost use Rattle.rule_checks.specs.TypeChecks.{Gives};
 ghost use Rattle.named_data.specs.Data;
 ghost use Rattle.named_data.specs.Views.{view_site};
 
@@ -11,9 +11,10 @@ use crate::places::{counter, parameter, persistent, stored};
 use crate::rules::fault;
 use crate::site::Site;
 use crate::values::{constant, predefined};
-use data_scopes::{Meant, TypeFault, TypeRule};
+use data_scopes::Meant;
 use rapid_model::Sort;
 use raw_trees::RawName;
+use rule_checks::{TypeFault, TypeRule};
 use typed_trees::TreeRoot;
 
 /// The datum that a name means; the name of a signal stands for its value.

@@ -1,10 +1,10 @@
 //! Names of typed trees.
 
 ghost use Rattle.std.specs.Prelude.{Ok};
-ghost use Rattle.data_scopes.specs.Gives.{Gives};
+ghost use Rattle.rule_checks.specs.TypeChecks.{Gives};
 
-use data_scopes::TypeFault;
 use rapid_model::NameText;
+use rule_checks::TypeFault;
 
 /// The name as it is spelled. Its error is want of memory, also where the name has more than 32 bytes or others than printable
 /// ones.

@@ -1,9 +1,9 @@
 //! Numbers of what is declared, from 0.
 
 ghost use Rattle.std.specs.Prelude.{◌≡◌, IfOk, IfErr};
-ghost use Rattle.data_scopes.specs.declared.fault.TypeFault.TheVariants.{Memory};
+ghost use Rattle.rule_checks.specs.declared.fault.TypeFault.TheVariants.{Memory};
 
-use data_scopes::TypeFault;
+use rule_checks::TypeFault;
 
 /// The number of what comes behind so many. Its error is want of memory, also for a number past 32 bits.
 pub fn number_of(count: usize) -> Result<u32, TypeFault>

@@ -1,7 +1,7 @@
 //! Names that stand for places of the task's data.
 
 ghost use Rattle.std.specs.Prelude.{◌≡◌};
-ghost use Rattle.data_scopes.specs.Gives.{Gives};
+ghost use Rattle.rule_checks.specs.TypeChecks.{Gives};
 ghost use Rattle.named_data.specs.Data;
 ghost use Rattle.named_data.specs.Views.{view_site};
 
@@ -9,8 +9,9 @@ use crate::access::{access_by, access_of, is_before};
 use crate::named::{Access, NamedDatum, Source};
 use crate::rules::{fault, must};
 use crate::site::Site;
-use data_scopes::{DatumRow, ParamRow, TypeFault, TypeRule};
+use data_scopes::{DatumRow, ParamRow};
 use rapid_model::Sort;
+use rule_checks::{TypeFault, TypeRule};
 use typed_trees::TreeRoot;
 
 /// A datum at a place of its own: ConstOrder where it is a CONST array that is declared later.

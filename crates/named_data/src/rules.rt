@@ -1,12 +1,13 @@
 //! Rules that stand at a byte of the module at hand.
 
-ghost use Rattle.std.specs.Prelude.{◌≡◌, Err};
-ghost use Rattle.data_scopes.specs.Gives.{Gives};
-ghost use Rattle.named_data.specs.Rules;
+ghost use Rattle.std.specs.Prelude.{◌≡◌};
+ghost use Rattle.rule_checks.specs.Checks.{must};
+ghost use Rattle.rule_checks.specs.TypeChecks.{Gives};
+ghost use Rattle.named_data.specs.Rules.{at_byte};
 ghost use Rattle.named_data.specs.Views.{view_site};
 
 use crate::site::Site;
-use data_scopes::{TypeFault, TypeRule};
+use rule_checks::{TypeFault, TypeRule};
 
 /// The fault that a rule is broken at this byte.
 pub fn fault(site: &Site<'_>, at: usize, rule: TypeRule) -> TypeFault
@@ -21,7 +22,7 @@ pub fn fault(site: &Site<'_>, at: usize, rule: TypeRule) -> TypeFault
 
 /// The rule holds, or it is broken at this byte.
 pub fn must(site: &Site<'_>, holds: bool, at: usize, rule: TypeRule) -> Result<(), TypeFault>
-    ensures { Gives (λ u. u) result (Rules.must (view_site site.now) holds at rule) }
+    ensures { Gives (λ u. u) result (must holds (at_byte (view_site site.now) at rule)) }
 {
     if holds {
         return Ok(());

@@ -1,4 +1,5 @@
-use data_scopes::{Scopes, Spot};
+use data_scopes::Scopes;
+use rule_checks::Spot;
 use std::alloc::Global;
 
 /// Where checking stands: the names of the task's modules, and the spot of the expression or statement at hand.

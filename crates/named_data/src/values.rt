@@ -1,7 +1,7 @@
 //! Names whose value is known.
 
 ghost use Rattle.std.specs.Prelude.{◌≡◌};
-ghost use Rattle.data_scopes.specs.Gives.{Gives};
+ghost use Rattle.rule_checks.specs.TypeChecks.{Gives};
 ghost use Rattle.named_data.specs.Data;
 ghost use Rattle.named_data.specs.Views.{view_site};
 
@@ -9,9 +9,10 @@ use crate::access::is_before;
 use crate::named::{NamedDatum, Source};
 use crate::rules::{fault, must};
 use crate::site::Site;
+use data_scopes::DatumRow;
 use rapid_builtins::predefined_datum;
-use data_scopes::{DatumRow, TypeFault, TypeRule};
 use rapid_model::{Predefined, Sort, Value};
+use rule_checks::{TypeFault, TypeRule};
 
 /// A CONST that is no array, by the value that is kept of it: ConstOrder where none is kept yet, or where it is declared later.
 pub(crate) fn constant(

@@ -5,9 +5,10 @@ ghost use Rattle.rapid_values.specs.Components.{components};
 ghost use Rattle.named_data.specs.Wants;
 
 use crate::wanted::Wanted;
-use data_scopes::{TypeRule, same_sort};
+use data_scopes::same_sort;
 use rapid_model::Sort;
 use raw_trees::Operator;
+use rule_checks::TypeRule;
 
 /// Whether values of the type are compared by `=` and `<>` (RAPID Overview, expressions).
 fn is_compared(sort: Sort) -> bool

@@ -1,5 +1,6 @@
 pub mod Count
 pub mod Told
+pub mod Paths
 pub mod Reads
 pub mod Writes
 pub mod MemoryShelf

@@ -1,24 +1,29 @@
-ghost use Rattle.std.specs.Prelude.{◌≡◌, ℕ, ◌+◌, ◌≤◌, ◌<◌, List, ◌++◌, length, None, ◌≢◌, OnOk};
+ghost use Rattle.std.specs.Prelude.{◌≡◌, ℕ, ◌+◌, ◌≤◌, ◌<◌, List, ◌++◌, length, None, ◌≢◌, OnOk, IfOk};
 ghost use Rattle.std.specs.Io.{appended_bytes};
 ghost use Rattle.std.specs.Io.KnownBytes.{Consumes, IsAtEnd};
+ghost use Rattle.std.specs.Path.{path_buf_bytes};
 ghost use Rattle.outside.specs.Count.{Rose};
+ghost use Rattle.outside.specs.Paths.{path_from};
 ghost use Rattle.outside.specs.Reads.{Gains, Extends, faults_after_read};
 
 use super::memory_shelf::append;
 use super::{Shelf, ShelfFault};
-use std::alloc::Global;
+use std::alloc::{AllocError, Global};
 use std::fs;
 use std::io::Read;
 use std::marker::Model;
+use std::path::{Path, PathBuf};
 use std::rt::Files;
 
 // The most bytes that are asked for at once.
 const CHUNK: usize = 4096;
 
-/// The files of the runtime; names are paths. It tells nothing of them. Contracts see it as its count of faults.
+/// The files of the runtime; names are paths. The script's own name is a path from the caller's folder, every other one
+/// a path from the script's folder. It tells nothing of the files. Contracts see it as its count of faults.
 #[derive(Drop)]
 pub struct FileShelf<'a, R: Files> {
     runtime: &'a R,
+    script: &'a str,
     faults: u64,
 }
 
@@ -31,11 +36,16 @@ impl<'a, R: Files> Model for FileShelf<'a, R> {
 }
 
 impl<'a, R: Files> FileShelf<'a, R> {
-    /// The files that the runtime gives.
-    pub fn new(runtime: &'a R) -> FileShelf<'a, R>
+    /// The files that the runtime gives. The name `script` is opened as it stands, and every other name beside that
+    /// file, unless it is absolute; so a file that is spelled as the script is the script.
+    pub fn new(runtime: &'a R, script: &'a str) -> FileShelf<'a, R>
         ensures no_faults_yet { result ≡ 0 }
     {
-        FileShelf { runtime, faults: 0 }
+        FileShelf {
+            runtime,
+            script,
+            faults: 0,
+        }
     }
 }
 
@@ -48,7 +58,7 @@ impl<'a, R: Files> Shelf for FileShelf<'a, R> {
     /// count of faults by one.
     fn read(
         &mut self,
-        _alloc: Global,
+        alloc: Global,
         name: &str,
         limit: usize,
         into: &mut Vec<u8>,
@@ -60,7 +70,10 @@ impl<'a, R: Files> Shelf for FileShelf<'a, R> {
         ensures failures_are_counted { self.new ≡ faults_after_read self.old result }
     {
         let start = into.len();
-        let result = read_path(self.runtime, name, limit, into);
+        let result = match path_from(alloc, self.script, name) {
+            Ok(path) => read_path(self.runtime, path.as_path(), limit, into),
+            Err(_) => Err(ShelfFault::Memory),
+        };
         if let Err(fault) = result
             && fault != ShelfFault::TooLong
         {
@@ -73,16 +86,29 @@ impl<'a, R: Files> Shelf for FileShelf<'a, R> {
     }
 }
 
+// The path of the file of this name.
+fn path_from(alloc: Global, script: &str, name: &str) -> Result<PathBuf, AllocError>
+    ensures { IfOk result (λ path. path_buf_bytes path ≡ path_from script.now name.now) }
+{
+    if name == script {
+        return PathBuf::from_str(alloc, name);
+    }
+    match Path::new(script).parent() {
+        Some(folder) => folder.join(alloc, name),
+        None => PathBuf::from_str(alloc, name),
+    }
+}
+
 // Appends the file's bytes, up to one more than the limit.
 fn read_path<R: Files>(
     runtime: &R,
-    name: &str,
+    path: Path<'_>,
     limit: usize,
     into: &mut Vec<u8>,
 ) -> Result<(), ShelfFault>
     ensures { Extends limit into.old.items into.new.items result }
 {
-    match fs::open(runtime, name) {
+    match fs::open(runtime, path) {
         Ok(mut file) => read_to_limit(&mut file, limit, into),
         Err(_) => Err(ShelfFault::Failed),
     }

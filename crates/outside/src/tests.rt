@@ -82,7 +82,7 @@ fn files(rt: HostRuntime) -> Result<(), Fail> {
     let path = "outside_test_file";
     let mut sink = StreamSink::new(fs::create(&rt, path)?);
     assert_eq!(rt; sink.write(b"abc"), Ok(3));
-    let mut shelf = FileShelf::new(&rt);
+    let mut shelf = FileShelf::new(&rt, path);
     let mut into = vec![in alloc; b'-']?;
     assert_eq!(rt; shelf.read(alloc, path, 3, &mut into), Ok(()));
     assert_eq!(rt; into.as_slice(), b"-abc".as_slice());
@@ -97,5 +97,31 @@ fn files(rt: HostRuntime) -> Result<(), Fail> {
         Err(ShelfFault::Failed)
     );
     assert_eq!(rt; into.len(), 6);
+    Ok(())
+}
+
+// A cell in a folder of its own: its script's name is a path from here, its module's a path from that folder.
+#[test]
+fn files_beside(rt: HostRuntime) -> Result<(), Fail> {
+    let alloc = rt.alloc();
+    let (folder, script, module) = ("outside_cell", "outside_cell/cell", "outside_cell/part");
+    fs::create_dir(&rt, folder)?;
+    let mut sink = StreamSink::new(fs::create(&rt, script)?);
+    assert_eq!(rt; sink.write(b"abc"), Ok(3));
+    let mut sink = StreamSink::new(fs::create(&rt, module)?);
+    assert_eq!(rt; sink.write(b"d"), Ok(1));
+    let mut shelf = FileShelf::new(&rt, script);
+    let mut into = Vec::new(alloc);
+    assert_eq!(rt; shelf.read(alloc, script, 3, &mut into), Ok(()));
+    assert_eq!(rt; shelf.read(alloc, "part", 3, &mut into), Ok(()));
+    assert_eq!(rt; shelf.read(alloc, "/dev/null", 3, &mut into), Ok(()));
+    assert_eq!(rt; into.as_slice(), b"abcd".as_slice());
+    assert_eq!(rt;
+        shelf.read(alloc, module, 3, &mut into),
+        Err(ShelfFault::Failed)
+    );
+    fs::remove_file(&rt, script)?;
+    fs::remove_file(&rt, module)?;
+    fs::remove_dir(&rt, folder)?;
     Ok(())
 }

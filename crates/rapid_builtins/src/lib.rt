@@ -30,8 +30,3 @@ pub use option_choice::Choice;
 pub use option_laws::options_differ;
 pub use option_rows::{choice, first_named, option_of, options};
 pub use types_and_data::{is_predefined, predefined};
-
-#[cfg(test)]
-mod call_tests;
-#[cfg(test)]
-mod tests;

@@ -1,5 +1,5 @@
 -- What a reader's answer means, in the public words; and that the answers of those words exclude one another.
-use Rattle.std.proofs.Common.{◌≡◌, ℕ, suc, ◌+◌, ◌≤◌, ◌<◌, Bool, false, List, [], ◌∷◌, ◌++◌, length, take, drop, min, IfOk, Result, Ok, Err, refl, sym, ap, subst, ◌∙◌, inl, inr, ◌⊎◌, arith}
+use Rattle.std.proofs.Common.{◌≡◌, ℕ, suc, ◌+◌, ◌≤◌, ◌<◌, Bool, List, [], ◌∷◌, ◌++◌, length, take, drop, min, IfOk, Result, Ok, Err, refl, sym, ap, subst, ◌∙◌, inl, inr, ◌⊎◌, arith}
 use Rattle.std.proofs.lemmas.Bool.{cases_order, cases_lt}
 use Rattle.std.proofs.lemmas.List.{take-append-drop, take-take, take_at, drop_at, length-append, length-drop, length-map, drop-drop, drop_min}
 use Rattle.rapid_lexer.specs.Tokens.{Lexeme, views}
@@ -13,7 +13,6 @@ use Rattle.rapid_forms.specs.Parsed.{Begins, IsLongest, IsParsed, IsFaulty, IsTo
 use Rattle.rapid_forms.specs.Reading.{Fails, Deep, Read, Reader, Gives, rest_from}
 use Rattle.rapid_forms.proofs.Laws.{LL}
 use Rattle.rapid_forms.proofs.Up.{Up}
-use Rattle.rapid_forms.proofs.Loops.{reads_take, taken_there}
 use Rattle.rapid_forms.proofs.Right.{Right, Reads, Ends}
 
 -- fewer tokens begin a form as well
@@ -161,27 +160,11 @@ module _ {A : Type 0} (F : ℕ → Form A) (n : ℕ) where
     answer_parses (Err (Lex f)) read a within (Deep rest, e, same) = cc
     answer_parses (Err Memory) read a within g = tt
 
-    parses_answer : {null : Bool} {first more : List Sign} → LL null first more (F n) → (result : Result (X × ℕ) SyntaxFault) (read : Read A) → Answers F n (rest_from tokens at) read → Parses F n (views tokens.list.now) tokens.end at view result → Gives tokens view result read
-    parses_answer l (Ok x) read a (k, h, e) = answer_once l _ read (Ok (view x.0, drop x.1 (views tokens.list.now))) a (k, h, ap (λ i. drop i (views tokens.list.now)) e ∙ sym (drop-drop k at (views tokens.list.now)))
-    parses_answer l (Err (Rule rule place)) read a (inl (k, h, e)) =
-        (Fails (drop (at + k) (views tokens.list.now)), answer_once l _ read (Err (Fails _)) a (k, h, sym (drop-drop k at (views tokens.list.now))), e)
-    parses_answer l (Err (Rule rule place)) read a (inr (k, h, e)) =
-        (Deep (drop (at + k) (views tokens.list.now)), answer_once l _ read (Err (Deep _)) a (k, h, sym (drop-drop k at (views tokens.list.now))), e)
-    parses_answer l (Err (Lex f)) read a p = absurd p
-    parses_answer l (Err Memory) read a p = tt
-
 -- What a function gives is what its caller is told. Premises: the tokens are read from one that is there or from their
 -- end, and so is what is left.
 pub gives_parses : {X A : Type 0} {null : Bool} {first more : List Sign} {F : ℕ → Form A} {n : ℕ} {a : Reader A} → Reads F n a → ((m : ℕ) → LL null first more (F m)) → ((k m : ℕ) → k ≤ m → Up (F k) (F m)) → (tokens : Tokens) (at : ℕ) (view : X → A) (result : Result (X × ℕ) SyntaxFault) → IfOk result (λ x. (at ≤ length tokens.list.now) × (x.1 ≤ length tokens.list.now)) → Gives tokens view result (a (rest_from tokens at)) → Parses F n (views tokens.list.now) tokens.end at view result
 gives_parses {F = F} {n = n} {a = a} ra lf up tokens at view result within g =
     answer_parses F n tokens at view result (a (rest_from tokens at)) (reads_answer ra lf up (rest_from tokens at)) within g
-
--- the same where the form takes a token, so that one is there
-pub some_parses : {X A : Type 0} {first more : List Sign} {F : ℕ → Form A} {n : ℕ} {a : Reader A} → Reads F n a → ((m : ℕ) → LL false first more (F m)) → ((k m : ℕ) → k ≤ m → Up (F k) (F m)) → (tokens : Tokens) (at : ℕ) (view : X → A) (result : Result (X × ℕ) SyntaxFault) → IfOk result (λ x. x.1 ≤ length tokens.list.now) → Gives tokens view result (a (rest_from tokens at)) → Parses F n (views tokens.list.now) tokens.end at view result
-some_parses {n = n} ra lf up tokens at view (Ok x) within g =
-    let there = taken_there (reads_take ra (lf n)) tokens at (view x.0) (rest_from tokens x.1) g in
-    gives_parses ra lf up tokens at view (Ok x) (omega (arith, there), within) g
-some_parses ra lf up tokens at view (Err f) within g = gives_parses ra lf up tokens at view (Err f) tt g
 
 -- what is given with a fault has no view
 pub fails_parses : {A : Type 0} {null : Bool} {first more : List Sign} {F : ℕ → Form A} {n : ℕ} {a : Reader A} → Reads F n a → ((m : ℕ) → LL null first more (F m)) → ((k m : ℕ) → k ≤ m → Up (F k) (F m)) → (tokens : Tokens) (at : ℕ) (fault : SyntaxFault) → Gives tokens (λ (x : A). x) (Err fault) (a (rest_from tokens at)) → Parses F n (views tokens.list.now) tokens.end at (λ (x : A). x) (Err fault)
@@ -191,8 +174,3 @@ fails_parses ra lf up tokens at fault g = gives_parses ra lf up tokens at (λ x.
 pub least_gives : {X A : Type 0} (tokens : Tokens) (view : X → A) (x : X) (next : ℕ) (read : Read A) → Gives tokens view (Ok (x, next)) read → Gives tokens view (Ok (x, min next (length tokens.list.now))) read
 least_gives tokens view x next read g =
     g ∙ ap (λ l. Ok (view x, l)) (sym (drop_min next (views tokens.list.now)) ∙ ap (λ k. drop (min next k) (views tokens.list.now)) (length-map tokens.list.now lexeme))
-
--- And what a caller is told is what the function gives.
-pub parses_gives : {X A : Type 0} {null : Bool} {first more : List Sign} {F : ℕ → Form A} {n : ℕ} {a : Reader A} → Reads F n a → ((m : ℕ) → LL null first more (F m)) → ((k m : ℕ) → k ≤ m → Up (F k) (F m)) → (tokens : Tokens) (at : ℕ) (view : X → A) (result : Result (X × ℕ) SyntaxFault) → Parses F n (views tokens.list.now) tokens.end at view result → Gives tokens view result (a (rest_from tokens at))
-parses_gives {F = F} {n = n} {a = a} ra lf up tokens at view result p =
-    parses_answer F n tokens at view (lf n) result (a (rest_from tokens at)) (reads_answer ra lf up (rest_from tokens at)) p

@@ -2,19 +2,13 @@
 #![tactic(auto)]
 
 mod fault;
-mod marks;
 mod parser;
-mod rows;
 mod sign;
 mod signs;
 mod tokens;
-mod words;
 
 pub use fault::{SyntaxFault, SyntaxRule};
 pub use parser::Parser;
 pub use sign::Sign;
 pub use signs::sign_of;
 pub use tokens::{Tokens, is_seen};
-
-#[cfg(test)]
-mod tests;

@@ -2,8 +2,6 @@
 /// elements).
 #[derive(Clone, Copy, Debug, PartialEq, Eq)]
 pub enum Sign {
-    /// A token that no form has.
-    Other,
     Name,
     Number,
     Quoted,

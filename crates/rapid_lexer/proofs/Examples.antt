@@ -2,12 +2,14 @@
 use Rattle.std.proofs.Common.{◌≡◌, true, false, [], ◌∷◌, ◌++◌, Some, Ok, Err, refl, lit<}
 use Rattle.std.specs.Prelude.{codes, is_some}
 use Rattle.rapid_num.specs.Literal.{spelled_thousandths}
-use Rattle.rapid_lexer.specs.declared.kind.Kind.TheVariants.{Number, Quoted}
+use Rattle.rapid_lexer.specs.declared.kind.Kind.TheVariants.{Word, Number, Quoted, Mark}
+use Rattle.rapid_lexer.specs.declared.mark.Mark.TheVariants.{LessEqual, NotEqual}
+use Rattle.rapid_lexer.specs.declared.word.Word.TheVariants.{Else, If}
 use Rattle.rapid_lexer.specs.declared.fault.LexRule.TheVariants.{OpenString}
-use Rattle.rapid_lexer.specs.Words.{is_name, IsReserved}
+use Rattle.rapid_lexer.specs.Words.{is_name, IsWord}
 use Rattle.rapid_lexer.specs.Strings.{is_character, IsString}
 use Rattle.rapid_lexer.specs.Gaps.{is_gap_within, front_of}
-use Rattle.rapid_lexer.specs.Tokens.{is_mark}
+use Rattle.rapid_lexer.specs.Tokens.{IsToken}
 use Rattle.rapid_lexer.specs.Places.{line_of, column_of}
 use Rattle.rapid_lexer.specs.Scanning.{longest}
 use Rattle.rapid_lexer.specs.Reading.{gap_len, characters_len, broken, token_at, next_of}
@@ -18,7 +20,7 @@ name = refl
 no_name : is_name (codes "_a") ≡ false
 no_name = refl
 
-word : IsReserved (codes "iF")
+word : IsWord If (codes "iF")
 word = (27, lit< tt, refl)
 
 doubled_quote : is_character (codes "\"\"") ≡ true
@@ -36,11 +38,8 @@ escape_past_printable = refl
 string_of_two : IsString (codes "\"a\\41\"") (codes "a" ∷ codes "\\41" ∷ [])
 string_of_two = record { characters = (refl, (refl, tt)); whole = refl }
 
-one_mark : is_mark (codes "<=") ≡ true
+one_mark : IsToken (Mark LessEqual) (codes "<=")
 one_mark = refl
-
-no_mark : is_mark (codes "=<") ≡ false
-no_mark = refl
 
 point_first : is_some (spelled_thousandths (codes ".5")) ≡ true
 point_first = refl
@@ -75,6 +74,15 @@ doubled_then_end = refl
 open_behind : next_of 3 (34 ∷ 10 ∷ []) ≡ Some (Err (record { rule = OpenString; at = 3 }))
 unfolding next_of token_at longest gap_len characters_len broken
 open_behind = refl
+
+-- a word in letters of either case, and a mark of two bytes
+word_first : next_of 0 (codes "eLse<>") ≡ Some (Ok (record { kind = Word Else; text = codes "eLse"; at = 0 }))
+unfolding next_of token_at longest gap_len
+word_first = refl
+
+mark_of_two : next_of 4 (codes "<>") ≡ Some (Ok (record { kind = Mark NotEqual; text = codes "<>"; at = 4 }))
+unfolding next_of token_at longest gap_len
+mark_of_two = refl
 
 -- digits and an exponent without digits
 falls_back : next_of 0 (codes "1e+") ≡ Some (Ok (record { kind = Number; text = codes "1"; at = 0 }))

@@ -1,21 +1,22 @@
 -- The limits of a token, tested on its text.
-use Rattle.std.proofs.Common.{◌≡◌, ℕ, ◌≤◌, ◌<◌, Bool, true, false, cond, ltb, List, [], ◌∷◌, ◌++◌, length, drop, Option, Some, None, Result, Ok, Err, refl, sym, ap, ◌∙◌, arith, inl, inr}
+use Rattle.std.proofs.Common.{◌≡◌, ℕ, ◌≤◌, ◌<◌, Bool, true, false, ltb, List, [], ◌∷◌, ◌++◌, length, drop, Option, Some, None, Result, Ok, Err, refl, sym, ap, ◌∙◌, arith, inl, inr}
 use Rattle.std.specs.Prelude.{is_some}
 use Rattle.std.specs.List.{concat}
 use Rattle.std.proofs.lemmas.Bool.{ltb-true, ltb-false, lt-ltb, le-ltb, cases_lt}
 use Rattle.rapid_num.specs.Literal.{literal_value}
 use Rattle.rapid_lexer.specs.declared.kind.Kind.{Kind}
 use Rattle.rapid_lexer.specs.declared.kind.Kind.TheVariants.{Name, Word, Number, Quoted, Mark}
+use Rattle.rapid_lexer.specs.declared.word.Word.{Word as OneWord}
 use Rattle.rapid_lexer.specs.declared.fault.LexRule.TheVariants.{LongString, LongName, BadLiteral}
 use Rattle.rapid_lexer.specs.declared.fault.LexFault.{LexFault}
 use Rattle.rapid_lexer.specs.Strings.{IsString}
-use Rattle.rapid_lexer.specs.Words.{IsReserved}
+use Rattle.rapid_lexer.specs.Words.{IsWord, word_of}
 use Rattle.rapid_lexer.specs.Tokens.{Lexeme, IsToken, IsLongest, IsWithinLimits}
 use Rattle.rapid_lexer.specs.Faults.{IsMisfit}
-use Rattle.rapid_lexer.specs.Reading.{characters_len, is_reserved, checked, lexeme, fault, token_of}
+use Rattle.rapid_lexer.specs.Reading.{characters_len, name_kind, checked, lexeme, fault, token_of}
 use Rattle.rapid_lexer.proofs.Shapes.{IsShape}
 use Rattle.rapid_lexer.proofs.Longest.{scanned}
-use Rattle.rapid_lexer.proofs.Reserved.{reserved_yes, reserved_no, yes_reserved, no_reserved, reserved_short}
+use Rattle.rapid_lexer.proofs.Reserved.{word_yes, word_no, yes_word, no_word, word_short}
 use Rattle.rapid_lexer.proofs.Walks.{walk_of, walk_over}
 
 -- what begins the bytes at a place where no gap does: a token, or a misfit
@@ -36,13 +37,13 @@ inside_over text cs s lt =
 
 -- ---- what is found is right
 
-name_at : (at : ℕ) (bytes text after : List ℕ) (short word : Bool) → ltb (length text) 33 ≡ short → is_reserved text ≡ word → bytes ≡ text ++ after → IsShape Name text → IsLongest text after
-    → IsAt at bytes (checked short (lexeme (cond word Word Name) at text) (fault LongName at))
-name_at at bytes text after true true s w whole h most = (after, whole, refl, (h, reserved_yes text w), most, tt)
-name_at at bytes text after true false s w whole h most = (after, whole, refl, (h, reserved_no text w), most, (let lt = ltb-true (length text) 33 s in omega arith))
+name_at : (at : ℕ) (bytes text after : List ℕ) (short : Bool) (word : Option OneWord) → ltb (length text) 33 ≡ short → word_of text ≡ word → bytes ≡ text ++ after → IsShape Name text → IsLongest text after
+    → IsAt at bytes (checked short (lexeme (name_kind word) at text) (fault LongName at))
+name_at at bytes text after true (Some w) s e whole h most = (after, whole, refl, (h, word_yes text w e), most, tt)
+name_at at bytes text after true None s e whole h most = (after, whole, refl, (h, word_no text e), most, (let lt = ltb-true (length text) 33 s in omega arith))
 name_at at bytes text after false w s e whole h most =
     let long : 33 ≤ length text = ltb-false (length text) 33 s in
-    (record { text = text; after = after; whole = whole; is_token = (h, λ r. let x : length text ≤ 9 = reserved_short text r in omega arith); is_longest = most; excess = omega arith }, refl)
+    (record { text = text; after = after; whole = whole; is_token = (h, λ r. let x : length text ≤ 9 = word_short text r.0 r.1 in omega arith); is_longest = most; excess = omega arith }, refl)
 
 number_at : (at : ℕ) (bytes text after : List ℕ) (fits : Bool) → is_some (literal_value text) ≡ fits → bytes ≡ text ++ after → IsShape Number text → IsLongest text after
     → IsAt at bytes (checked fits (lexeme Number at text) (fault BadLiteral at))
@@ -84,23 +85,23 @@ quoted_at at bytes text after false s whole h most = (
 )
 
 pub token_of_right : (k : Kind) (at : ℕ) (bytes text after : List ℕ) → bytes ≡ text ++ after → IsShape k text → IsLongest text after → IsAt at bytes (token_of k at text)
-token_of_right Name at bytes text after whole h most = name_at at bytes text after (ltb (length text) 33) (is_reserved text) refl refl whole h most
-token_of_right Word at bytes text after whole h most = absurd h
+token_of_right Name at bytes text after whole h most = name_at at bytes text after (ltb (length text) 33) (word_of text) refl refl whole h most
+token_of_right (Word w) at bytes text after whole h most = absurd h
 token_of_right Number at bytes text after whole h most = number_at at bytes text after (is_some (literal_value text)) refl whole h most
 token_of_right Quoted at bytes text after whole h most = quoted_at at bytes text after (is_some (characters_len 80 (drop 1 text))) refl whole h most
-token_of_right Mark at bytes text after whole h most = (after, whole, refl, h, most, tt)
+token_of_right (Mark m) at bytes text after whole h most = (after, whole, refl, h, most, tt)
 
 -- ---- what is right is found
 
-short_reserved : (text : List ℕ) → IsReserved text → ltb (length text) 33 ≡ true
-short_reserved text r = lt-ltb (length text) 33 (let x : length text ≤ 9 = reserved_short text r in omega arith)
+short_word : (text : List ℕ) (w : OneWord) → IsWord w text → ltb (length text) 33 ≡ true
+short_word text w r = lt-ltb (length text) 33 (let x : length text ≤ 9 = word_short text w r in omega arith)
 
 pub token_of_is : (k : Kind) (at : ℕ) (text : List ℕ) → IsToken k text → IsWithinLimits k text → token_of (scanned k) at text ≡ Ok (lexeme k at text)
-token_of_is Name at text h fits = rw (lt-ltb (length text) 33 (omega (arith, fits)), no_reserved text h.1) refl
-token_of_is Word at text h fits = rw (short_reserved text h.1, yes_reserved text h.1) refl
+token_of_is Name at text h fits = rw (lt-ltb (length text) 33 (omega (arith, fits)), no_word text h.1) refl
+token_of_is (Word w) at text h fits = rw (short_word text w h.1, yes_word text w h.1) refl
 token_of_is Number at text h fits = ap (λ (t : Bool). checked t (lexeme Number at text) (fault BadLiteral at)) fits
 token_of_is Quoted at text h fits = ap (λ (t : Bool). checked t (lexeme Quoted at text) (fault LongString at)) (inside_walk text fits.0 fits.1 fits.2)
-token_of_is Mark at text h fits = refl
+token_of_is (Mark m) at text h fits = refl
 
 pub long_name_is : (at : ℕ) (text : List ℕ) → 32 < length text → token_of Name at text ≡ Err (fault LongName at)
 long_name_is at text lt = rw (le-ltb (length text) 33 (omega arith)) refl

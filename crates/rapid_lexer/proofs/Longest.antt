@@ -1,43 +1,44 @@
 -- The longest token by the scanner is the longest token, and there is none where it finds none.
-use Rattle.std.proofs.Common.{◌≡◌, ℕ, ◌≤◌, Bool, true, false, List, ◌++◌, length, take, drop, Option, Some, None, refl, sym, ap, subst, ◌∙◌, arith}
+use Rattle.std.proofs.Common.{◌≡◌, ℕ, ◌≤◌, List, ◌++◌, length, take, drop, Option, Some, None, refl, sym, ap, subst, ◌∙◌, arith}
 use Rattle.std.proofs.lemmas.List.{take-append-drop, length-take-le, take_at}
 use Rattle.rapid_lexer.specs.declared.kind.Kind.{Kind}
 use Rattle.rapid_lexer.specs.declared.kind.Kind.TheVariants.{Name, Word, Number, Quoted, Mark}
+use Rattle.rapid_lexer.specs.declared.word.Word.{Word as OneWord}
 use Rattle.rapid_lexer.specs.declared.state.State.TheVariants.{Start}
 use Rattle.rapid_lexer.specs.Tokens.{IsToken, IsLongest}
 use Rattle.rapid_lexer.specs.Faults.{NoToken}
 use Rattle.rapid_lexer.specs.Scanning.{accepted, longest}
-use Rattle.rapid_lexer.specs.Reading.{is_reserved}
+use Rattle.rapid_lexer.specs.Words.{word_of}
 use Rattle.rapid_lexer.proofs.Scan.{found, at_most}
 use Rattle.rapid_lexer.proofs.Shapes.{IsShape, shape_of, shape_accepted}
-use Rattle.rapid_lexer.proofs.Reserved.{reserved_yes, reserved_no}
+use Rattle.rapid_lexer.proofs.Reserved.{word_yes, word_no}
 
 -- the kind by the scanner, which takes words for names
 abbrev pub scanned : Kind → Kind
 scanned Name = Name
-scanned Word = Name
+scanned (Word w) = Name
 scanned Number = Number
 scanned Quoted = Quoted
-scanned Mark = Mark
+scanned (Mark m) = Mark m
 
 pub token_shape : (k : Kind) (u : List ℕ) → IsToken k u → IsShape (scanned k) u
 token_shape Name u h = h.0
-token_shape Word u h = h.0
+token_shape (Word w) u h = h.0
 token_shape Number u h = h
 token_shape Quoted u h = h
-token_shape Mark u h = h
+token_shape (Mark m) u h = h
 
 -- a shape is that of a token
-name_token : (u : List ℕ) (t : Bool) → is_reserved u ≡ t → IsShape Name u → (k : Kind) × IsToken k u
-name_token u true e h = (Word, (h, reserved_yes u e))
-name_token u false e h = (Name, (h, reserved_no u e))
+name_token : (u : List ℕ) (o : Option OneWord) → word_of u ≡ o → IsShape Name u → (k : Kind) × IsToken k u
+name_token u (Some w) e h = (Word w, (h, word_yes u w e))
+name_token u None e h = (Name, (h, word_no u e))
 
 shape_token : (k : Kind) (u : List ℕ) → IsShape k u → (j : Kind) × IsToken j u
-shape_token Name u h = name_token u (is_reserved u) refl h
-shape_token Word u h = absurd h
+shape_token Name u h = name_token u (word_of u) refl h
+shape_token (Word w) u h = absurd h
 shape_token Number u h = (Number, h)
 shape_token Quoted u h = (Quoted, h)
-shape_token Mark u h = (Mark, h)
+shape_token (Mark m) u h = (Mark m, h)
 
 -- what the scanner finds is a token, and no longer one begins there
 pub record IsFoundLongest (bytes : List ℕ) (k : Kind) (n : ℕ) : Type 0 where

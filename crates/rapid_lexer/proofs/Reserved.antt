@@ -1,63 +1,65 @@
--- The test for reserved words decides which names are reserved.
-use Rattle.std.proofs.Common.{◌≡◌, ℕ, zero, suc, ◌≤◌, ◌<◌, Bool, true, false, ◌&&◌, eqb, List, [], ◌∷◌, length, get_or, map, refl, sym, ap, ◌∙◌, arith, inl, inr}
-use Rattle.std.specs.List.{list_any, Contains, AllByRecursion}
+-- The lookup of a word finds which word a name is.
+use Rattle.std.proofs.Common.{◌≡◌, ℕ, zero, suc, ◌≤◌, ◌<◌, Bool, true, false, cond, List, [], ◌∷◌, length, get_or, map, Option, Some, None, refl, sym, ap, subst, ◌∙◌, arith}
+use Rattle.std.specs.List.{Contains, AllByRecursion}
 use Rattle.std.specs.Str.{bytes_eq}
-use Rattle.std.proofs.lemmas.Bool.{or_cases, or_right}
 use Rattle.std.proofs.lemmas.List.{length-map}
 use Rattle.std.proofs.lemmas.Slice.Eq.{bytes_eq-Decides}
+use Rattle.rapid_lexer.specs.declared.word.Word.{Word}
 use Rattle.rapid_lexer.specs.Bytes.{upper}
-use Rattle.rapid_lexer.specs.Words.{reserved, IsReserved}
-use Rattle.rapid_lexer.specs.Reading.{is_word, is_reserved}
+use Rattle.rapid_lexer.specs.Words.{words, word_in, word_of, IsWord, IsReserved}
 
-is_word-bytes_eq : (word text : List ℕ) → is_word word text ≡ bytes_eq word (map upper text)
-is_word-bytes_eq [] [] = refl
-is_word-bytes_eq [] (b ∷ bs) = refl
-is_word-bytes_eq (a ∷ more) [] = refl
-is_word-bytes_eq (a ∷ more) (b ∷ bs) = ap (λ (t : Bool). eqb a (upper b) && t) (is_word-bytes_eq more bs)
+abbrev Rows : Type 0
+Rows = List (List ℕ × Word)
 
-word_same : (word text : List ℕ) → is_word word text ≡ true → word ≡ map upper text
-word_same word text e = (bytes_eq-Decides word (map upper text)).0 (sym (is_word-bytes_eq word text) ∙ e)
-
-same_word : (word text : List ℕ) → word ≡ map upper text → is_word word text ≡ true
-same_word word text e = is_word-bytes_eq word text ∙ (bytes_eq-Decides word (map upper text)).1 e
-
-some_contained : (ws : List (List ℕ)) (text : List ℕ) → list_any (λ w. is_word w text) ws ≡ true → Contains ws (map upper text)
-some_contained [] text e = absurd (let x : false ≡ true = e in cc)
-some_contained (w ∷ ws) text e =
-    elim (or_cases (is_word w text) (list_any (λ w. is_word w text) ws) e) [
-      | inl h ↦ (0, omega arith, word_same w text h)
-      | inr h ↦ let f = some_contained ws text h in (suc f.0, omega (arith, f.1), f.2)
-    ]
-
-contained_some : (ws : List (List ℕ)) (text : List ℕ) (k : ℕ) → k < length ws → get_or ws k (map upper text) ≡ map upper text → list_any (λ w. is_word w text) ws ≡ true
-contained_some [] text k lt e = absurd (omega arith)
-contained_some (w ∷ ws) text zero lt e = rw (same_word w text e) refl
-contained_some (w ∷ ws) text (suc k) lt e = or_right (is_word w text) (list_any (λ w. is_word w text) ws) (contained_some ws text k (omega arith) e)
-
-pub reserved_yes : (text : List ℕ) → is_reserved text ≡ true → IsReserved text
-reserved_yes text e = some_contained reserved text e
-
-pub yes_reserved : (text : List ℕ) → IsReserved text → is_reserved text ≡ true
-yes_reserved text h = contained_some reserved text h.0 h.1 h.2
-
-pub reserved_no : (text : List ℕ) → is_reserved text ≡ false → ¬ IsReserved text
-reserved_no text e h = let x : true ≡ false = sym (yes_reserved text h) ∙ e in cc
-
-pub no_reserved : (text : List ℕ) → ¬ IsReserved text → is_reserved text ≡ false
-no_reserved text h = at (is_reserved text) refl
+row_here : (row : List ℕ × Word) (rows : Rows) (capitals : List ℕ) (word : Word) (same : Bool) → bytes_eq row.0 capitals ≡ same → (word_in rows capitals ≡ Some word → Contains rows (capitals, word))
+    → cond same (Some row.1) (word_in rows capitals) ≡ Some word → Contains (row ∷ rows) (capitals, word)
+row_here row rows capitals word true is rest e =
+    let text : row.0 ≡ capitals = (bytes_eq-Decides row.0 capitals).0 is in
+    let named : row.1 ≡ word = some_is row.1 word e in
+    (0, omega arith, ap (λ t. (t, row.1)) text ∙ ap (λ w. (capitals, w)) named)
   where
-    at : (t : Bool) → is_reserved text ≡ t → t ≡ false
-    at true e = absurd (h (reserved_yes text e))
-    at false e = refl
+    some_is : (a b : Word) → ◌≡◌ {A = Option Word} (Some a) (Some b) → a ≡ b
+    some_is a b h = cc
+row_here row rows capitals word false is rest e = let f = rest e in (suc f.0, omega (arith, f.1), f.2)
+
+found_row : (rows : Rows) (capitals : List ℕ) (word : Word) → word_in rows capitals ≡ Some word → Contains rows (capitals, word)
+found_row [] capitals word e = absurd cc
+found_row (row ∷ rows) capitals word e = row_here row rows capitals word (bytes_eq row.0 capitals) refl (found_row rows capitals word) e
+
+-- each word is found by its capitals
+each_found : AllByRecursion (λ row. word_in words row.0 ≡ Some row.1) words
+each_found = search
+
+row_found : (all rows : Rows) (capitals : List ℕ) (word : Word) (k : ℕ) → AllByRecursion (λ row. word_in all row.0 ≡ Some row.1) rows → k < length rows → get_or rows k (capitals, word) ≡ (capitals, word)
+    → word_in all capitals ≡ Some word
+row_found all [] capitals word k each lt e = absurd (omega arith)
+row_found all (row ∷ rows) capitals word zero each lt e = subst (λ (r : List ℕ × Word). word_in all r.0 ≡ Some r.1) e each.0
+row_found all (row ∷ rows) capitals word (suc k) each lt e = row_found all rows capitals word k each.1 (omega arith) e
+
+pub word_yes : (text : List ℕ) (word : Word) → word_of text ≡ Some word → IsWord word text
+word_yes text word e = found_row words (map upper text) word e
+
+pub yes_word : (text : List ℕ) (word : Word) → IsWord word text → word_of text ≡ Some word
+yes_word text word h = row_found words words (map upper text) word h.0 each_found h.1 h.2
+
+pub word_no : (text : List ℕ) → word_of text ≡ None → ¬ IsReserved text
+word_no text e (word, h) = let x : ◌≡◌ {A = Option Word} (Some word) None = sym (yes_word text word h) ∙ e in cc
+
+pub no_word : (text : List ℕ) → ¬ IsReserved text → word_of text ≡ None
+no_word text none = at (word_of text) refl
+  where
+    at : (o : Option Word) → word_of text ≡ o → o ≡ None
+    at None e = refl
+    at (Some word) e = absurd (none (word, word_yes text word e))
 
 -- no reserved word is longer than nine letters
-short_words : (ws : List (List ℕ)) (text : List ℕ) (k : ℕ) → AllByRecursion (λ w. length w ≤ 9) ws → k < length ws → get_or ws k text ≡ text → length text ≤ 9
-short_words [] text k all lt e = absurd (omega arith)
-short_words (w ∷ ws) text zero all lt e = omega (arith, all.0, ap length e)
-short_words (w ∷ ws) text (suc k) all lt e = short_words ws text k all.1 (omega arith) e
+short_row : (rows : Rows) (text : List ℕ) (word : Word) (k : ℕ) → AllByRecursion (λ row. length row.0 ≤ 9) rows → k < length rows → get_or rows k (text, word) ≡ (text, word) → length text ≤ 9
+short_row [] text word k all lt e = absurd (omega arith)
+short_row (row ∷ rows) text word zero all lt e = omega (arith, all.0, ap (λ (r : List ℕ × Word). length r.0) e)
+short_row (row ∷ rows) text word (suc k) all lt e = short_row rows text word k all.1 (omega arith) e
 
-all_short : AllByRecursion (λ w. length w ≤ 9) reserved
+all_short : AllByRecursion (λ row. length row.0 ≤ 9) words
 all_short = search arith
 
-pub reserved_short : (text : List ℕ) → IsReserved text → length text ≤ 9
-reserved_short text h = omega (arith, short_words reserved (map upper text) h.0 all_short h.1 h.2, length-map text upper)
+pub word_short : (text : List ℕ) (word : Word) → IsWord word text → length text ≤ 9
+word_short text word h = omega (arith, short_row words (map upper text) word h.0 all_short h.1 h.2, length-map text upper)

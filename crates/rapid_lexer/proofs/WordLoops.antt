@@ -1,11 +1,12 @@
 -- Comparing a text with words.
-use Rattle.std.proofs.Common.{◌≡◌, ℕ, suc, ◌+◌, ◌≤◌, ◌<◌, Bool, true, false, ◌&&◌, ◌||◌, cond, eqb, List, [], ◌∷◌, length, get_or, drop, refl, ap, arith}
-use Rattle.std.specs.List.{filter, list_any}
-use Rattle.std.proofs.lemmas.List.{drop_more, drop_all}
+use Rattle.std.proofs.Common.{◌≡◌, ℕ, suc, ◌+◌, ◌≤◌, ◌<◌, Bool, true, false, ◌&&◌, cond, if◌then◌else◌, eqb, List, [], ◌∷◌, length, get_or, map, drop, Bor, Option, Some, refl, sym, ap, ◌∙◌, arith}
+use Rattle.std.specs.List.{filter}
+use Rattle.std.proofs.lemmas.List.{drop_more, drop_all, at_drop_more}
 use Rattle.std.proofs.lemmas.Bool.{eq-eqb, ne_eqb}
 use Rattle.rapid_lexer.specs.Bytes.{upper}
-use Rattle.rapid_lexer.specs.Words.{reserved}
-use Rattle.rapid_lexer.specs.Reading.{is_word, is_reserved}
+use Rattle.rapid_lexer.specs.declared.word.Word.{Word}
+use Rattle.rapid_lexer.specs.Words.{words, word_in, word_of}
+use Rattle.rapid_lexer.specs.Reading.{is_word}
 
 pub is_word_more : (word text : List ℕ) (i : ℕ) → i < length word → length word ≡ length text → get_or word i 0 ≡ upper (get_or text i 0) → is_word (drop i word) (drop i text) ≡ is_word (drop (i + 1) word) (drop (i + 1) text)
 is_word_more word text i lt len e =
@@ -39,16 +40,31 @@ other_length word text ne = elim_false (is_word word text) (λ t. ne (is_word-le
     elim_false true h = absurd (h refl)
     elim_false false h = refl
 
-filtered_head : (p q : List ℕ → Bool) (w : List ℕ) (ws : List (List ℕ)) (y x : Bool) → p w ≡ x → (x ≡ true → y ≡ true) → list_any p (filter q ws) ≡ list_any p ws
-    → list_any p (cond y (w ∷ filter q ws) (filter q ws)) ≡ (x || list_any p ws)
-filtered_head p q w ws true x is imp rest = rw (is, rest) refl
-filtered_head p q w ws false true is imp rest = absurd (let e : false ≡ true = imp refl in cc)
-filtered_head p q w ws false false is imp rest = rest
+abbrev pub plain : List (Bor (List ℕ) × Word) → List (List ℕ × Word)
+plain rows = map (λ row. (row.0.now, row.1)) rows
 
-any_filtered : (p q : List ℕ → Bool) → ((w : List ℕ) → p w ≡ true → q w ≡ true) → (ws : List (List ℕ)) → list_any p (filter q ws) ≡ list_any p ws
-any_filtered p q h [] = refl
-any_filtered p q h (w ∷ ws) = filtered_head p q w ws (q w) (p w) refl (h w) (any_filtered p q h ws)
+kept_head : (row : List ℕ × Word) (text : List ℕ) (found rows : Option Word) (keep same : Bool) → is_word row.0 text ≡ same → (same ≡ true → keep ≡ true) → found ≡ rows → (kept : Option Word)
+    → kept ≡ cond keep (if is_word row.0 text then Some row.1 else found) found → kept ≡ cond same (Some row.1) rows
+kept_head row text found rows true same is imp rest kept e = e ∙ rw (is, rest) refl
+kept_head row text found rows false true is imp rest kept e = absurd (let x : false ≡ true = imp refl in cc)
+kept_head row text found rows false false is imp rest kept e = e ∙ rest
 
--- among the words of its length, a text is reserved where it is at all
-pub reserved_of_length : (text : List ℕ) → list_any (λ w. is_word w text) (filter (λ w. eqb (length w) (length text)) reserved) ≡ is_reserved text
-reserved_of_length text = any_filtered (λ w. is_word w text) (λ w. eqb (length w) (length text)) (λ w e. eq-eqb (length w) (length text) (is_word-length w text e)) reserved
+word_in_kept : (q : List ℕ × Word → Bool) (text : List ℕ) → ((row : List ℕ × Word) → is_word row.0 text ≡ true → q row ≡ true) → (rows : List (List ℕ × Word)) → word_in (filter q rows) (map upper text) ≡ word_in rows (map upper text)
+word_in_kept q text h [] = refl
+word_in_kept q text h (row ∷ rows) =
+    kept_head row text (word_in (filter q rows) (map upper text)) (word_in rows (map upper text)) (q row) (is_word row.0 text) refl (h row) (word_in_kept q text h rows) _ (filtered (q row))
+  where
+    filtered : (keep : Bool) → word_in (cond keep (row ∷ filter q rows) (filter q rows)) (map upper text) ≡ cond keep (if is_word row.0 text then Some row.1 else word_in (filter q rows) (map upper text)) (word_in (filter q rows) (map upper text))
+    filtered true = refl
+    filtered false = refl
+
+-- among the words of its length, a text is the word that it is at all
+pub words_of_length : (text : List ℕ) → word_in (filter (λ row. eqb (length row.0) (length text)) words) (map upper text) ≡ word_of text
+words_of_length text = word_in_kept (λ row. eqb (length row.0) (length text)) text (λ row e. eq-eqb (length row.0) (length text) (is_word-length row.0 text e)) words
+
+-- the table from row i on, where test says whether the row's text is this one
+pub row_more : (rows : List (Bor (List ℕ) × Word)) (text : List ℕ) (i : ℕ) (d : Bor (List ℕ) × Word) (test : Bool) → i < length rows → test ≡ is_word (get_or rows i d).0.now text
+    → word_in (plain (drop i rows)) (map upper text) ≡ (if test then Some (get_or rows i d).1 else word_in (plain (drop (i + 1) rows)) (map upper text))
+row_more rows text i d test lt is =
+    at_drop_more (λ left. word_in (plain left) (map upper text)) rows i d lt
+    ∙ ap (λ same. if same then Some (get_or rows i d).1 else word_in (plain (drop (i + 1) rows)) (map upper text)) (sym is)

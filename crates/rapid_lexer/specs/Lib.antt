@@ -1,5 +1,6 @@
 pub mod Bytes
 pub mod Words
+pub mod Marks
 pub mod Strings
 pub mod Gaps
 pub mod Tokens

@@ -1,27 +1,24 @@
 -- Reading from left to right: what the functions of the crate find, as functions on lists.
-use Rattle.std.specs.Prelude.{ℕ, zero, suc, ◌+◌, Bool, true, false, not, ◌||◌, ◌==◌, nat_lt, if◌then◌else◌, List, [], ◌∷◌, length, take, drop, Option, Some, None, Result, Ok, Err, is_some}
-use Rattle.std.specs.List.{list_any}
+use Rattle.std.specs.Prelude.{ℕ, zero, suc, ◌+◌, Bool, true, false, not, ◌||◌, ◌==◌, nat_lt, if◌then◌else◌, List, [], ◌∷◌, length, take, drop, Option, Some, None, Result, Ok, Err, is_some, map}
+use Rattle.std.specs.Str.{bytes_eq}
 use Rattle.std.specs.Option.{option_map}
-use Rattle.std.specs.Cmp.Lexicographic.{pointwise}
 use Rattle.rapid_num.specs.Literal.{literal_value}
 use Rattle.rapid_lexer.specs.declared.kind.Kind.{Kind}
-use Rattle.rapid_lexer.specs.declared.kind.Kind.TheVariants.{Name, Word, Number, Quoted, Mark}
+use Rattle.rapid_lexer.specs.declared.kind.Kind.TheVariants as kinds
+use Rattle.rapid_lexer.specs.declared.word.Word.{Word}
 use Rattle.rapid_lexer.specs.declared.state.State.TheVariants.{Start}
 use Rattle.rapid_lexer.specs.declared.fault.LexRule.{LexRule}
 use Rattle.rapid_lexer.specs.declared.fault.LexRule.TheVariants.{BadByte, OpenString, BadEscape, LongString, LongName, BadLiteral}
 use Rattle.rapid_lexer.specs.declared.fault.LexFault.{LexFault}
 use Rattle.rapid_lexer.specs.Bytes.{is_blank, is_printable, upper}
-use Rattle.rapid_lexer.specs.Words.{reserved}
+use Rattle.rapid_lexer.specs.Words.{word_of}
 use Rattle.rapid_lexer.specs.Strings.{is_code}
 use Rattle.rapid_lexer.specs.Tokens.{Lexeme}
 use Rattle.rapid_lexer.specs.Scanning.{longest}
 
--- the text is this word, its letters in either case
+-- the text is this word in capitals, its own letters in either case
 abbrev pub is_word : List ℕ → List ℕ → Bool
-is_word word text = pointwise (λ a b. a == upper b) word text
-
-abbrev pub is_reserved : List ℕ → Bool
-is_reserved text = list_any (λ word. is_word word text) reserved
+is_word word text = bytes_eq word (map upper text)
 
 -- how many bytes of gaps come first, within a comment or outside
 unfoldable pub gap_len : Bool → List ℕ → ℕ
@@ -89,13 +86,18 @@ checked fits t f = if fits then Ok t else Err f
 abbrev pub lexeme : Kind → ℕ → List ℕ → Lexeme
 lexeme kind at text = record { kind = kind; text = text; at = at }
 
+-- the kind of a name that is this reserved word, or none
+abbrev pub name_kind : Option Word → Kind
+name_kind None = kinds.Name
+name_kind (Some word) = kinds.Word word
+
 -- the token that a text of a kind is at a place, a name being a word where it is reserved
 abbrev pub token_of : Kind → ℕ → List ℕ → Result Lexeme LexFault
-token_of Name at text = checked (nat_lt (length text) 33) (lexeme (if is_reserved text then Word else Name) at text) (fault LongName at)
-token_of Word at text = Ok (lexeme Word at text)
-token_of Number at text = checked (is_some (literal_value text)) (lexeme Number at text) (fault BadLiteral at)
-token_of Quoted at text = checked (is_some (characters_len 80 (drop 1 text))) (lexeme Quoted at text) (fault LongString at)
-token_of Mark at text = Ok (lexeme Mark at text)
+token_of kinds.Name at text = checked (nat_lt (length text) 33) (lexeme (name_kind (word_of text)) at text) (fault LongName at)
+token_of (kinds.Word word) at text = Ok (lexeme (kinds.Word word) at text)
+token_of kinds.Number at text = checked (is_some (literal_value text)) (lexeme kinds.Number at text) (fault BadLiteral at)
+token_of kinds.Quoted at text = checked (is_some (characters_len 80 (drop 1 text))) (lexeme kinds.Quoted at text) (fault LongString at)
+token_of (kinds.Mark mark) at text = Ok (lexeme (kinds.Mark mark) at text)
 
 abbrev pub token_found : ℕ → List ℕ → Option (Kind × ℕ) → Result Lexeme LexFault
 token_found at bytes None = Err (misfit at bytes)

@@ -1,17 +1,36 @@
 -- The longest token at the front of some bytes, byte by byte: the states of a scanner.
-use Rattle.std.specs.Prelude.{ℕ, ◌+◌, Bool, ◌||◌, ◌==◌, nat_lt, if◌then◌else◌, List, [], ◌∷◌, codes, Option, Some, None}
-use Rattle.std.specs.List.{list_any}
+use Rattle.std.specs.Prelude.{ℕ, ◌+◌, Bool, ◌||◌, ◌==◌, nat_lt, if◌then◌else◌, List, [], ◌∷◌, Option, Some, None}
+use Rattle.std.specs.Str.{bytes_eq}
 use Rattle.rapid_num.specs.Literal.{digit_value, is_exponent_letter}
 use Rattle.rapid_lexer.specs.declared.kind.Kind.{Kind}
-use Rattle.rapid_lexer.specs.declared.kind.Kind.TheVariants.{Name, Number, Quoted, Mark}
+use Rattle.rapid_lexer.specs.declared.kind.Kind.TheVariants as kinds
+use Rattle.rapid_lexer.specs.declared.mark.Mark.{Mark}
+use Rattle.rapid_lexer.specs.declared.mark.Mark.TheVariants as marks
 use Rattle.rapid_lexer.specs.declared.state.State.{State}
 use Rattle.rapid_lexer.specs.declared.state.State.TheVariants.{Start, InName, Zero, Whole, Dot, Fraction, Exponent, ExponentSign, Power, HexMark, Hex, OctalMark, Octal, BinaryMark, Binary, Inside, Closed, Escape, Code, Colon, Less, Greater, Single, Dead}
 use Rattle.rapid_lexer.specs.Bytes.{is_digit, is_letter, is_name_byte, is_printable, is_hex}
 use Rattle.rapid_lexer.specs.Strings.{is_code}
+use Rattle.rapid_lexer.specs.Marks.{mark_text}
 
--- a mark that begins no longer one
-abbrev pub is_single : ℕ → Bool
-is_single b = list_any (λ c. c == b) (codes "{}[](),;=+-*/\\?")
+-- the marks of one byte that begin no longer one
+abbrev pub singles : List Mark
+singles =
+    marks.OpenBrace ∷ marks.CloseBrace ∷ marks.OpenBracket ∷ marks.CloseBracket ∷ marks.OpenParenthesis ∷ marks.CloseParenthesis
+    ∷ marks.Comma ∷ marks.Semicolon ∷ marks.Equal ∷ marks.Plus ∷ marks.Minus ∷ marks.Star ∷ marks.Slash ∷ marks.Backslash
+    ∷ marks.Question ∷ []
+
+-- the first of some marks that is this byte
+abbrev pub mark_in : List Mark → ℕ → Option Mark
+mark_in [] b = None
+mark_in (m ∷ ms) b = if bytes_eq (mark_text m) (b ∷ []) then Some m else mark_in ms b
+
+abbrev pub single_of : ℕ → Option Mark
+single_of b = mark_in singles b
+
+-- behind a mark that begins no longer one, where it is one
+abbrev pub where_single : Option Mark → State
+where_single None = Dead
+where_single (Some m) = Single m
 
 abbrev pub after_start : ℕ → State
 after_start b =
@@ -23,7 +42,12 @@ after_start b =
     else if b == 58 then Colon
     else if b == 60 then Less
     else if b == 62 then Greater
-    else if is_single b then Single
+    else where_single (single_of b)
+
+abbrev pub after_less : ℕ → State
+after_less b =
+    if b == 61 then Single marks.LessEqual
+    else if b == 62 then Single marks.NotEqual
     else Dead
 
 -- behind digits, with no point yet
@@ -93,37 +117,37 @@ step Inside b = after_character b
 step Closed b = where_so (b == 34) Inside
 step Escape b = after_escape b
 step (Code h) b = where_so (is_code h b) Inside
-step Colon b = where_so (b == 61) Single
-step Less b = where_so (b == 61 || b == 62) Single
-step Greater b = where_so (b == 61) Single
-step Single b = Dead
+step Colon b = where_so (b == 61) (Single marks.Assign)
+step Less b = after_less b
+step Greater b = where_so (b == 61) (Single marks.GreaterEqual)
+step (Single m) b = Dead
 step Dead b = Dead
 
 -- the kind of the token that ends here, a reserved word as a name
 abbrev pub kind_at : State → Option Kind
 kind_at Start = None
-kind_at InName = Some Name
-kind_at Zero = Some Number
-kind_at Whole = Some Number
-kind_at Dot = Some Mark
-kind_at Fraction = Some Number
+kind_at InName = Some kinds.Name
+kind_at Zero = Some kinds.Number
+kind_at Whole = Some kinds.Number
+kind_at Dot = Some (kinds.Mark marks.Dot)
+kind_at Fraction = Some kinds.Number
 kind_at Exponent = None
 kind_at ExponentSign = None
-kind_at Power = Some Number
+kind_at Power = Some kinds.Number
 kind_at HexMark = None
-kind_at Hex = Some Number
+kind_at Hex = Some kinds.Number
 kind_at OctalMark = None
-kind_at Octal = Some Number
+kind_at Octal = Some kinds.Number
 kind_at BinaryMark = None
-kind_at Binary = Some Number
+kind_at Binary = Some kinds.Number
 kind_at Inside = None
-kind_at Closed = Some Quoted
+kind_at Closed = Some kinds.Quoted
 kind_at Escape = None
 kind_at (Code h) = None
-kind_at Colon = Some Mark
-kind_at Less = Some Mark
-kind_at Greater = Some Mark
-kind_at Single = Some Mark
+kind_at Colon = Some (kinds.Mark marks.Colon)
+kind_at Less = Some (kinds.Mark marks.Less)
+kind_at Greater = Some (kinds.Mark marks.Greater)
+kind_at (Single m) = Some (kinds.Mark m)
 kind_at Dead = None
 
 -- the kind of the token that all of the bytes are

@@ -1,11 +1,11 @@
 -- Tokens, and how they tile a text.
-use Rattle.std.specs.Prelude.{◌≡◌, ℕ, ◌+◌, ◌≤◌, Bool, true, false, ◌&&◌, ◌||◌, ◌==◌, List, [], ◌∷◌, ◌++◌, length, take, drop, map, codes, IsSome, Ok}
-use Rattle.std.specs.List.{list_any}
+use Rattle.std.specs.Prelude.{◌≡◌, ℕ, ◌+◌, ◌≤◌, true, List, [], ◌∷◌, ◌++◌, length, take, drop, map, IsSome, Ok}
 use Rattle.rapid_num.specs.Literal.{spelled_thousandths, literal_value}
 use Rattle.rapid_lexer.specs.declared.kind.Kind.{Kind}
 use Rattle.rapid_lexer.specs.declared.kind.Kind.TheVariants.{Name, Word, Number, Quoted, Mark}
 use Rattle.rapid_lexer.specs.declared.token.Token.{Token}
-use Rattle.rapid_lexer.specs.Words.{is_name, IsReserved}
+use Rattle.rapid_lexer.specs.Words.{is_name, IsWord, IsReserved}
+use Rattle.rapid_lexer.specs.Marks.{mark_text}
 use Rattle.rapid_lexer.specs.Strings.{IsString}
 use Rattle.rapid_lexer.specs.Gaps.{IsGap, front_of}
 
@@ -21,20 +21,13 @@ view t = record { kind = t.kind; text = t.text.now; at = t.at }
 abbrev pub views : List Token → List Lexeme
 views ts = map view ts
 
--- { } [ ] ( ) , . ; : = < > + - * / \ ? and := <= <> >=
-abbrev pub is_mark : List ℕ → Bool
-is_mark [] = false
-is_mark (b ∷ []) = list_any (λ c. c == b) (codes "{}[](),.;:=<>+-*/\\?")
-is_mark (b ∷ c ∷ []) = (b == 58 && c == 61) || (b == 60 && c == 61) || (b == 60 && c == 62) || (b == 62 && c == 61)
-is_mark (b ∷ c ∷ d ∷ bs) = false
-
 -- the shape of each kind of token, whatever its length and value
 abbrev pub IsToken : Kind → List ℕ → Type 0
 IsToken Name text = (is_name text ≡ true) × ¬ IsReserved text
-IsToken Word text = (is_name text ≡ true) × IsReserved text
+IsToken (Word word) text = (is_name text ≡ true) × IsWord word text
 IsToken Number text = IsSome (spelled_thousandths text)
 IsToken Quoted text = (cs : List (List ℕ)) × IsString text cs
-IsToken Mark text = is_mark text ≡ true
+IsToken (Mark mark) text = text ≡ mark_text mark
 
 -- no longer token begins where this text does
 abbrev pub IsLongest : List ℕ → List ℕ → Type 0
@@ -43,10 +36,10 @@ IsLongest text after = (kind : Kind) (other rest : List ℕ) → text ++ after �
 -- the limits: 32 bytes of a name, the bytes and the range of a literal, 80 characters of a string
 abbrev pub IsWithinLimits : Kind → List ℕ → Type 0
 IsWithinLimits Name text = length text ≤ 32
-IsWithinLimits Word text = Unit {0}
+IsWithinLimits (Word word) text = Unit {0}
 IsWithinLimits Number text = IsSome (literal_value text)
 IsWithinLimits Quoted text = (cs : List (List ℕ)) × IsString text cs × (length cs ≤ 80)
-IsWithinLimits Mark text = Unit {0}
+IsWithinLimits (Mark mark) text = Unit {0}
 
 -- of the bytes from a place on, a gap and a token come first, and then the bytes after
 pub record Follows (at : ℕ) (bytes : List ℕ) (token : Lexeme) (after : List ℕ) : Type 0 where

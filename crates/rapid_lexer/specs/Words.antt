@@ -1,6 +1,9 @@
 -- Names, and the reserved words among them (RAPID Kernel, lexical elements).
-use Rattle.std.specs.Prelude.{ℕ, Bool, false, ◌&&◌, List, [], ◌∷◌, codes, map}
+use Rattle.std.specs.Prelude.{ℕ, Bool, false, ◌&&◌, if◌then◌else◌, List, [], ◌∷◌, Option, None, Some, is_some, codes, map}
 use Rattle.std.specs.List.{list_all, Contains}
+use Rattle.std.specs.Str.{bytes_eq}
+use Rattle.rapid_lexer.specs.declared.word.Word.{Word}
+use Rattle.rapid_lexer.specs.declared.word.Word.TheVariants.{Alias, And, Backward, Case, Connect, Const, Default, Div, Do, Else, ElseIf, EndFor, EndFunc, EndIf, EndModule, EndProc, EndRecord, EndTest, EndTrap, EndWhile, Error, Exit, False, For, From, Func, Goto, If, Inout, Local, Mod, Module, NoStepIn, Not, NoView, Or, Pers, Proc, Raise, ReadOnly, Record, Retry, Return, Step, SysModule, Task, Test, Then, To, Trap, True, TryNext, Undo, Var, ViewOnly, While, With, Xor}
 use Rattle.rapid_lexer.specs.Bytes.{is_letter, is_name_byte, upper}
 
 -- a letter, then letters, digits and _
@@ -8,16 +11,41 @@ abbrev pub is_name : List ℕ → Bool
 is_name [] = false
 is_name (b ∷ bs) = is_letter b && list_all is_name_byte bs
 
-abbrev pub reserved : List (List ℕ)
-reserved =
-    codes "ALIAS" ∷ codes "AND" ∷ codes "BACKWARD" ∷ codes "CASE" ∷ codes "CONNECT" ∷ codes "CONST" ∷ codes "DEFAULT" ∷ codes "DIV" ∷ codes "DO"
-    ∷ codes "ELSE" ∷ codes "ELSEIF" ∷ codes "ENDFOR" ∷ codes "ENDFUNC" ∷ codes "ENDIF" ∷ codes "ENDMODULE" ∷ codes "ENDPROC" ∷ codes "ENDRECORD"
-    ∷ codes "ENDTEST" ∷ codes "ENDTRAP" ∷ codes "ENDWHILE" ∷ codes "ERROR" ∷ codes "EXIT" ∷ codes "FALSE" ∷ codes "FOR" ∷ codes "FROM" ∷ codes "FUNC"
-    ∷ codes "GOTO" ∷ codes "IF" ∷ codes "INOUT" ∷ codes "LOCAL" ∷ codes "MOD" ∷ codes "MODULE" ∷ codes "NOSTEPIN" ∷ codes "NOT" ∷ codes "NOVIEW"
-    ∷ codes "OR" ∷ codes "PERS" ∷ codes "PROC" ∷ codes "RAISE" ∷ codes "READONLY" ∷ codes "RECORD" ∷ codes "RETRY" ∷ codes "RETURN" ∷ codes "STEP"
-    ∷ codes "SYSMODULE" ∷ codes "TASK" ∷ codes "TEST" ∷ codes "THEN" ∷ codes "TO" ∷ codes "TRAP" ∷ codes "TRUE" ∷ codes "TRYNEXT" ∷ codes "UNDO"
-    ∷ codes "VAR" ∷ codes "VIEWONLY" ∷ codes "WHILE" ∷ codes "WITH" ∷ codes "XOR" ∷ []
+-- each reserved word, in capitals
+abbrev pub words : List (List ℕ × Word)
+words =
+    (codes "ALIAS", Alias) ∷ (codes "AND", And) ∷ (codes "BACKWARD", Backward) ∷ (codes "CASE", Case)
+    ∷ (codes "CONNECT", Connect) ∷ (codes "CONST", Const) ∷ (codes "DEFAULT", Default) ∷ (codes "DIV", Div)
+    ∷ (codes "DO", Do) ∷ (codes "ELSE", Else) ∷ (codes "ELSEIF", ElseIf) ∷ (codes "ENDFOR", EndFor)
+    ∷ (codes "ENDFUNC", EndFunc) ∷ (codes "ENDIF", EndIf) ∷ (codes "ENDMODULE", EndModule) ∷ (codes "ENDPROC", EndProc)
+    ∷ (codes "ENDRECORD", EndRecord) ∷ (codes "ENDTEST", EndTest) ∷ (codes "ENDTRAP", EndTrap) ∷ (codes "ENDWHILE", EndWhile)
+    ∷ (codes "ERROR", Error) ∷ (codes "EXIT", Exit) ∷ (codes "FALSE", False) ∷ (codes "FOR", For)
+    ∷ (codes "FROM", From) ∷ (codes "FUNC", Func) ∷ (codes "GOTO", Goto) ∷ (codes "IF", If)
+    ∷ (codes "INOUT", Inout) ∷ (codes "LOCAL", Local) ∷ (codes "MOD", Mod) ∷ (codes "MODULE", Module)
+    ∷ (codes "NOSTEPIN", NoStepIn) ∷ (codes "NOT", Not) ∷ (codes "NOVIEW", NoView) ∷ (codes "OR", Or)
+    ∷ (codes "PERS", Pers) ∷ (codes "PROC", Proc) ∷ (codes "RAISE", Raise) ∷ (codes "READONLY", ReadOnly)
+    ∷ (codes "RECORD", Record) ∷ (codes "RETRY", Retry) ∷ (codes "RETURN", Return) ∷ (codes "STEP", Step)
+    ∷ (codes "SYSMODULE", SysModule) ∷ (codes "TASK", Task) ∷ (codes "TEST", Test) ∷ (codes "THEN", Then)
+    ∷ (codes "TO", To) ∷ (codes "TRAP", Trap) ∷ (codes "TRUE", True) ∷ (codes "TRYNEXT", TryNext)
+    ∷ (codes "UNDO", Undo) ∷ (codes "VAR", Var) ∷ (codes "VIEWONLY", ViewOnly) ∷ (codes "WHILE", While)
+    ∷ (codes "WITH", With) ∷ (codes "XOR", Xor) ∷ []
 
--- a reserved word, its letters in either case
+-- the text is this word, its letters in either case
+abbrev pub IsWord : Word → List ℕ → Type 0
+IsWord word text = Contains words (map upper text, word)
+
+-- a reserved word
 abbrev pub IsReserved : List ℕ → Type 0
-IsReserved text = Contains reserved (map upper text)
+IsReserved text = (word : Word) × IsWord word text
+
+-- the word of the first row with these capitals
+abbrev pub word_in : List (List ℕ × Word) → List ℕ → Option Word
+word_in [] capitals = None
+word_in (row ∷ rows) capitals = if bytes_eq row.0 capitals then Some row.1 else word_in rows capitals
+
+-- the word that a text is
+abbrev pub word_of : List ℕ → Option Word
+word_of text = word_in words (map upper text)
+
+abbrev pub is_reserved : List ℕ → Bool
+is_reserved text = is_some (word_of text)

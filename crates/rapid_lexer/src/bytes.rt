@@ -3,8 +3,10 @@
 ghost use Rattle.std.specs.Prelude.{◌≡◌, ◌≤◌};
 ghost use Rattle.rapid_num.specs.Literal.{digit_value, is_exponent_letter};
 ghost use Rattle.rapid_lexer.specs.Bytes.{is_blank, is_digit, is_hex, is_letter, is_name_byte, is_printable, upper};
-ghost use Rattle.rapid_lexer.specs.Scanning.{is_single};
+ghost use Rattle.rapid_lexer.specs.Scanning.{single_of};
 ghost use Rattle.rapid_lexer.specs.Strings.{is_code};
+
+use crate::mark::Mark;
 
 pub(crate) fn is_digit(byte: u8) -> bool
     ensures { result ≡ is_digit byte }
@@ -12,13 +14,15 @@ pub(crate) fn is_digit(byte: u8) -> bool
     byte >= 48 && byte <= 57
 }
 
-pub(crate) fn is_letter(byte: u8) -> bool
+/// Whether a byte is a letter, in either case.
+pub fn is_letter(byte: u8) -> bool
     ensures { result ≡ is_letter byte }
 {
     (byte >= 65 && byte <= 90) || (byte >= 97 && byte <= 122)
 }
 
-pub(crate) fn is_name_byte(byte: u8) -> bool
+/// Whether a byte may stand in a name behind its first letter.
+pub fn is_name_byte(byte: u8) -> bool
     ensures { result ≡ is_name_byte byte }
 {
     is_letter(byte) || is_digit(byte) || byte == 95
@@ -84,23 +88,26 @@ pub(crate) fn is_exponent_letter(byte: u8) -> bool
     byte == 69 || byte == 101
 }
 
-/// Whether a byte is a mark, and begins no longer one.
-pub(crate) fn is_single(byte: u8) -> bool
-    ensures { result ≡ is_single byte }
+/// The mark that a byte is, where it begins no longer one.
+pub(crate) fn single_of(byte: u8) -> Option<Mark>
+    ensures { result ≡ single_of byte }
 {
-    byte == b'{'
-        || byte == b'}'
-        || byte == b'['
-        || byte == b']'
-        || byte == b'('
-        || byte == b')'
-        || byte == b','
-        || byte == b';'
-        || byte == b'='
-        || byte == b'+'
-        || byte == b'-'
-        || byte == b'*'
-        || byte == b'/'
-        || byte == b'\\'
-        || byte == b'?'
+    match byte {
+        b'{' => Some(Mark::OpenBrace),
+        b'}' => Some(Mark::CloseBrace),
+        b'[' => Some(Mark::OpenBracket),
+        b']' => Some(Mark::CloseBracket),
+        b'(' => Some(Mark::OpenParenthesis),
+        b')' => Some(Mark::CloseParenthesis),
+        b',' => Some(Mark::Comma),
+        b';' => Some(Mark::Semicolon),
+        b'=' => Some(Mark::Equal),
+        b'+' => Some(Mark::Plus),
+        b'-' => Some(Mark::Minus),
+        b'*' => Some(Mark::Star),
+        b'/' => Some(Mark::Slash),
+        b'\\' => Some(Mark::Backslash),
+        b'?' => Some(Mark::Question),
+        _ => None,
+    }
 }

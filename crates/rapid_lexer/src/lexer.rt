@@ -1,13 +1,13 @@
 //! The tokens of a source, one after the other.
 
-ghost use Rattle.std.specs.Prelude.{◌≡◌, ◌<◌, ◌≤◌, ◌+◌, ◌^◌, IfOk, IfSome, Option, Result, if◌then◌else◌, is_some, length, drop};
+ghost use Rattle.std.specs.Prelude.{◌≡◌, ◌<◌, ◌≤◌, ◌+◌, ◌^◌, IfOk, IfSome, Option, Result, is_some, length, drop};
 ghost use Rattle.rapid_num.specs.Literal.{literal_value};
+ghost use Rattle.rapid_lexer.specs.Words.{word_of};
 ghost use Rattle.rapid_lexer.specs.Tokens.{Lexeme};
 ghost use Rattle.rapid_lexer.specs.Faults.{seen};
 ghost use Rattle.rapid_lexer.specs.Lexing.{seen_next};
-ghost use Rattle.rapid_lexer.specs.declared.kind.Kind.TheVariants.{Name, Word};
 ghost use Rattle.rapid_lexer.specs.declared.fault.LexFault.{LexFault};
-ghost use Rattle.rapid_lexer.specs.Reading.{characters_len, is_reserved, misfit, next_of, token_at, token_of};
+ghost use Rattle.rapid_lexer.specs.Reading.{characters_len, misfit, name_kind, next_of, token_at, token_of};
 
 use crate::fault::{LexFault, LexRule};
 use crate::fronts::front_of;
@@ -16,7 +16,7 @@ use crate::kind::Kind;
 use crate::scanner::longest_token;
 use crate::strings::{broken, characters_len};
 use crate::token::Token;
-use crate::words::is_reserved;
+use crate::words::word_of;
 use rapid_num::read_literal;
 use std::marker::Model;
 
@@ -56,12 +56,11 @@ fn is_short(text: &[u8]) -> bool
 }
 
 fn name_kind(text: &[u8]) -> Kind
-    ensures { result ≡ (if is_reserved text.now then Word else Name) }
+    ensures { result ≡ name_kind (word_of text.now) }
 {
-    if is_reserved(text) {
-        Kind::Word
-    } else {
-        Kind::Name
+    match word_of(text) {
+        Some(word) => Kind::Word(word),
+        None => Kind::Name,
     }
 }
 
@@ -102,7 +101,7 @@ fn token_of(kind: Kind, at: usize, text: &[u8]) -> Result<Token<'_>, LexFault>
             }
             Ok(Token { kind, text, at })
         }
-        Kind::Word | Kind::Mark => Ok(Token { kind, text, at }),
+        Kind::Word(_) | Kind::Mark(_) => Ok(Token { kind, text, at }),
     }
 }
 

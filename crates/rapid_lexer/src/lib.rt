@@ -8,23 +8,24 @@ mod gaps;
 mod kind;
 mod laws;
 mod lexer;
+mod mark;
 mod place;
 mod scanner;
 mod state;
 mod strings;
 mod token;
 mod tokens;
+mod word;
 mod words;
 
-pub use bytes::{digit_value, is_hex, is_printable};
+pub use bytes::{digit_value, is_hex, is_letter, is_name_byte, is_printable};
 pub use fault::{LexFault, LexRule, TokensFault};
 pub use kind::Kind;
 pub use laws::one_reading;
 pub use lexer::Lexer;
+pub use mark::Mark;
 pub use place::{Place, place_of};
 pub use token::Token;
 pub use tokens::read_tokens;
+pub use word::Word;
 pub use words::is_reserved;
-
-#[cfg(test)]
-mod tests;

@@ -6,20 +6,23 @@ ghost use Rattle.rapid_lexer.specs.Scanning.{
   after_escape,
   after_exponent,
   after_fraction,
+  after_less,
   after_start,
   after_whole,
   after_zero,
   kind_at,
   step,
+  where_single,
   where_so,
 };
 ghost use Rattle.rapid_lexer.specs.declared.state.State.TheVariants.{Dead};
 
 use crate::bytes::{
     digit_value, is_code, is_digit, is_exponent_letter, is_hex, is_letter, is_name_byte,
-    is_printable, is_single,
+    is_printable, single_of,
 };
 use crate::kind::Kind;
+use crate::mark::Mark;
 
 #[derive(Clone, Copy, Debug, PartialEq, Eq)]
 pub(crate) enum State {
@@ -57,7 +60,7 @@ pub(crate) enum State {
     Less,
     Greater,
     /// A mark that begins no longer one.
-    Single,
+    Single(Mark),
     /// No token begins so.
     Dead,
 }
@@ -81,8 +84,27 @@ fn after_start(byte: u8) -> State
         State::Less
     } else if byte == b'>' {
         State::Greater
-    } else if is_single(byte) {
-        State::Single
+    } else {
+        where_single(single_of(byte))
+    }
+}
+
+fn where_single(mark: Option<Mark>) -> State
+    ensures { result ≡ where_single mark }
+{
+    match mark {
+        Some(mark) => State::Single(mark),
+        None => State::Dead,
+    }
+}
+
+fn after_less(byte: u8) -> State
+    ensures { result ≡ after_less byte }
+{
+    if byte == b'=' {
+        State::Single(Mark::LessEqual)
+    } else if byte == b'>' {
+        State::Single(Mark::NotEqual)
     } else {
         State::Dead
     }
@@ -193,9 +215,10 @@ impl State {
             State::Closed => where_so(byte == b'"', State::Inside),
             State::Escape => after_escape(byte),
             State::Code(high) => where_so(is_code(high, byte), State::Inside),
-            State::Colon | State::Greater => where_so(byte == b'=', State::Single),
-            State::Less => where_so(byte == b'=' || byte == b'>', State::Single),
-            State::Single | State::Dead => State::Dead,
+            State::Colon => where_so(byte == b'=', State::Single(Mark::Assign)),
+            State::Less => after_less(byte),
+            State::Greater => where_so(byte == b'=', State::Single(Mark::GreaterEqual)),
+            State::Single(_) | State::Dead => State::Dead,
         }
     }
 
@@ -208,9 +231,11 @@ impl State {
             State::Zero | State::Whole | State::Fraction | State::Power => Some(Kind::Number),
             State::Hex | State::Octal | State::Binary => Some(Kind::Number),
             State::Closed => Some(Kind::Quoted),
-            State::Dot | State::Colon | State::Less | State::Greater | State::Single => {
-                Some(Kind::Mark)
-            }
+            State::Dot => Some(Kind::Mark(Mark::Dot)),
+            State::Colon => Some(Kind::Mark(Mark::Colon)),
+            State::Less => Some(Kind::Mark(Mark::Less)),
+            State::Greater => Some(Kind::Mark(Mark::Greater)),
+            State::Single(mark) => Some(Kind::Mark(mark)),
             State::Start | State::Exponent | State::ExponentSign | State::HexMark => None,
             State::OctalMark | State::BinaryMark | State::Inside => None,
             State::Escape | State::Code(_) | State::Dead => None,

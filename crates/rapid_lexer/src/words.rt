@@ -1,47 +1,98 @@
 //! Reserved words.
 
 ghost use Rattle.std.specs.Prelude.{◌≡◌, ◌==◌, map, length};
-ghost use Rattle.std.specs.List.{filter, list_any};
-ghost use Rattle.rapid_lexer.specs.Words.{reserved};
-ghost use Rattle.rapid_lexer.specs.Reading.{is_reserved, is_word};
+ghost use Rattle.std.specs.List.{filter};
+ghost use Rattle.rapid_lexer.specs.Words.{is_reserved, word_of, words};
+ghost use Rattle.rapid_lexer.specs.Reading.{is_word};
 
 use crate::bytes::upper;
+use crate::word::Word;
 
-static OF_TWO: [&[u8]; 4] = [b"DO", b"IF", b"OR", b"TO"];
-
-static OF_THREE: [&[u8]; 7] = [b"AND", b"DIV", b"FOR", b"MOD", b"NOT", b"VAR", b"XOR"];
-
-static OF_FOUR: [&[u8]; 16] = [
-    b"CASE", b"ELSE", b"EXIT", b"FROM", b"FUNC", b"GOTO", b"PERS", b"PROC", b"STEP", b"TASK",
-    b"TEST", b"THEN", b"TRAP", b"TRUE", b"UNDO", b"WITH",
+static OF_TWO: [(&[u8], Word); 4] = [
+    (b"DO", Word::Do),
+    (b"IF", Word::If),
+    (b"OR", Word::Or),
+    (b"TO", Word::To),
 ];
 
-static OF_FIVE: [&[u8]; 10] = [
-    b"ALIAS", b"CONST", b"ENDIF", b"ERROR", b"FALSE", b"INOUT", b"LOCAL", b"RAISE", b"RETRY",
-    b"WHILE",
+static OF_THREE: [(&[u8], Word); 7] = [
+    (b"AND", Word::And),
+    (b"DIV", Word::Div),
+    (b"FOR", Word::For),
+    (b"MOD", Word::Mod),
+    (b"NOT", Word::Not),
+    (b"VAR", Word::Var),
+    (b"XOR", Word::Xor),
 ];
 
-static OF_SIX: [&[u8]; 6] = [
-    b"ELSEIF", b"ENDFOR", b"MODULE", b"NOVIEW", b"RECORD", b"RETURN",
+static OF_FOUR: [(&[u8], Word); 16] = [
+    (b"CASE", Word::Case),
+    (b"ELSE", Word::Else),
+    (b"EXIT", Word::Exit),
+    (b"FROM", Word::From),
+    (b"FUNC", Word::Func),
+    (b"GOTO", Word::Goto),
+    (b"PERS", Word::Pers),
+    (b"PROC", Word::Proc),
+    (b"STEP", Word::Step),
+    (b"TASK", Word::Task),
+    (b"TEST", Word::Test),
+    (b"THEN", Word::Then),
+    (b"TRAP", Word::Trap),
+    (b"TRUE", Word::True),
+    (b"UNDO", Word::Undo),
+    (b"WITH", Word::With),
 ];
 
-static OF_SEVEN: [&[u8]; 7] = [
-    b"CONNECT", b"DEFAULT", b"ENDFUNC", b"ENDPROC", b"ENDTEST", b"ENDTRAP", b"TRYNEXT",
+static OF_FIVE: [(&[u8], Word); 10] = [
+    (b"ALIAS", Word::Alias),
+    (b"CONST", Word::Const),
+    (b"ENDIF", Word::EndIf),
+    (b"ERROR", Word::Error),
+    (b"FALSE", Word::False),
+    (b"INOUT", Word::Inout),
+    (b"LOCAL", Word::Local),
+    (b"RAISE", Word::Raise),
+    (b"RETRY", Word::Retry),
+    (b"WHILE", Word::While),
 ];
 
-static OF_EIGHT: [&[u8]; 5] = [
-    b"BACKWARD",
-    b"ENDWHILE",
-    b"NOSTEPIN",
-    b"READONLY",
-    b"VIEWONLY",
+static OF_SIX: [(&[u8], Word); 6] = [
+    (b"ELSEIF", Word::ElseIf),
+    (b"ENDFOR", Word::EndFor),
+    (b"MODULE", Word::Module),
+    (b"NOVIEW", Word::NoView),
+    (b"RECORD", Word::Record),
+    (b"RETURN", Word::Return),
 ];
 
-static OF_NINE: [&[u8]; 3] = [b"ENDMODULE", b"ENDRECORD", b"SYSMODULE"];
+static OF_SEVEN: [(&[u8], Word); 7] = [
+    (b"CONNECT", Word::Connect),
+    (b"DEFAULT", Word::Default),
+    (b"ENDFUNC", Word::EndFunc),
+    (b"ENDPROC", Word::EndProc),
+    (b"ENDTEST", Word::EndTest),
+    (b"ENDTRAP", Word::EndTrap),
+    (b"TRYNEXT", Word::TryNext),
+];
 
-/// The reserved words of so many letters.
-fn words_of(len: usize) -> &'static [&'static [u8]]
-    ensures { map (λ word. word.now) result.now ≡ filter (λ word. length word == len) reserved }
+static OF_EIGHT: [(&[u8], Word); 5] = [
+    (b"BACKWARD", Word::Backward),
+    (b"ENDWHILE", Word::EndWhile),
+    (b"NOSTEPIN", Word::NoStepIn),
+    (b"READONLY", Word::ReadOnly),
+    (b"VIEWONLY", Word::ViewOnly),
+];
+
+static OF_NINE: [(&[u8], Word); 3] = [
+    (b"ENDMODULE", Word::EndModule),
+    (b"ENDRECORD", Word::EndRecord),
+    (b"SYSMODULE", Word::SysModule),
+];
+
+/// The reserved words of so many letters, each in capitals.
+fn words_of(len: usize) -> &'static [(&'static [u8], Word)]
+    ensures { map (λ row. (row.0.now, row.1)) result.now ≡ filter (λ row. length row.0 == len) words }
 {
     match len {
         2 => &OF_TWO,
@@ -56,7 +107,7 @@ fn words_of(len: usize) -> &'static [&'static [u8]]
     }
 }
 
-/// Whether a text is this word, its letters in either case.
+/// Whether a text is this word in capitals, its own letters in either case.
 fn is_word(word: &[u8], text: &[u8]) -> bool
     ensures { result ≡ is_word word.now text.now }
 {
@@ -71,14 +122,21 @@ fn is_word(word: &[u8], text: &[u8]) -> bool
     true
 }
 
+/// The reserved word that a name is, its letters in either case.
+pub(crate) fn word_of(text: &[u8]) -> Option<Word>
+    ensures { result ≡ word_of text.now }
+{
+    for (capitals, word) in words_of(text.len()) {
+        if is_word(capitals, text) {
+            return Some(*word);
+        }
+    }
+    None
+}
+
 /// Whether a name is a reserved word, its letters in either case.
 pub fn is_reserved(text: &[u8]) -> bool
     ensures { result ≡ is_reserved text.now }
 {
-    for word in words_of(text.len()) {
-        if is_word(word, text) {
-            return true;
-        }
-    }
-    false
+    word_of(text).is_some()
 }

@@ -10,8 +10,6 @@ mod num;
 mod round;
 mod scale;
 mod shape;
-#[cfg(test)]
-mod tests;
 mod write;
 
 pub use joints::Joints;

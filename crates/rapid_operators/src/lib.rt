@@ -7,8 +7,6 @@ mod index;
 mod laws;
 mod numbers;
 mod operation;
-#[cfg(test)]
-mod tests;
 mod texts;
 
 pub use applied::Applied;

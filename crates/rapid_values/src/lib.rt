@@ -8,8 +8,6 @@ mod parts;
 mod put;
 mod record;
 mod start;
-#[cfg(test)]
-mod tests;
 
 pub use components::{component, component_sorts};
 pub use laws::{made_parts, put_parts, value_is_full};

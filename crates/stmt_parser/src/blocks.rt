@@ -1,6 +1,6 @@
 //! Statements with lists.
 
-ghost use Rattle.std.specs.Prelude.{◌≤◌, ◌∷◌, map, option_map, Ok};
+ghost use Rattle.std.specs.Prelude.{◌∷◌, map, option_map, Ok};
 ghost use Rattle.rapid_lexer.specs.Tokens.{view};
 ghost use Rattle.raw_trees.specs.Views.{view_arm, view_case, view_expr, view_list, view_stmt};
 ghost use Rattle.rapid_forms.specs.Reading.{Gives, rest_from, then_read};
@@ -8,9 +8,10 @@ ghost use Rattle.expr_parser.specs.Reads.{expr_of_read, inside_read};
 ghost use Rattle.stmt_parser.specs.Grammar.{arm_tree, if_tree};
 ghost use Rattle.stmt_parser.specs.Reads.{arm_read, arms_read, behind_read, branched_read, case_read, cases_read, default_read, for_read, if_read, list_read, test_read, tested_read, while_read};
 
-use crate::exprs::{expr, expr_behind, exprs, name};
-use crate::list::list;
+use crate::exprs::expr_behind;
 use crate::simple::simple;
+use crate::statements::list;
+use expr_parser::{expr, exprs, name};
 use rapid_forms::{Parser, Sign, SyntaxFault};
 use rapid_lexer::Token;
 use raw_trees::{RawBounds, RawExpr, RawStmt};
@@ -23,7 +24,6 @@ pub(crate) fn choice_or_one<'a>(
     at: usize,
     left: u32,
 ) -> Result<(RawStmt<'a>, usize), SyntaxFault>
-    requires { left ≤ 64 }
     ensures { Gives p.now.tokens view_stmt result (tested_read (inside_read left) (list_read left) (rest_from p.now.tokens at)) }
 {
     let (word, first) = p.tokens.take(at, &[Sign::If])?;
@@ -46,7 +46,6 @@ fn branches<'a>(
     at: usize,
     left: u32,
 ) -> Result<(RawStmt<'a>, usize), SyntaxFault>
-    requires { left ≤ 64 }
     ensures { Gives p.now.tokens view_stmt result (then_read (branched_read (inside_read left) (list_read left) (rest_from p.now.tokens at)) λ x rest. Ok (if_tree word.entry.at (view word.entry, (arm_tree word.entry.at (view_expr test.entry, x.0), x.1)), rest)) }
 {
     let (_then, body) = p.tokens.take(at, &[Sign::Then])?;
@@ -66,7 +65,6 @@ fn arms<'a>(
     at: usize,
     left: u32,
 ) -> Result<(Vec<(RawExpr<'a>, Vec<RawStmt<'a>>)>, usize), SyntaxFault>
-    requires { left ≤ 64 }
     ensures { Gives p.now.tokens (λ v. map view_arm v.items) result (then_read (arms_read (inside_read left) (list_read left) (rest_from p.now.tokens at)) λ xs rest. Ok (view_arm first.entry ∷ xs, rest)) }
 {
     let mut list = Vec::with_capacity(p.alloc, 1)?;
@@ -88,7 +86,6 @@ fn arm<'a>(
     at: usize,
     left: u32,
 ) -> Result<((RawExpr<'a>, Vec<RawStmt<'a>>), usize), SyntaxFault>
-    requires { left ≤ 64 }
     ensures { Gives p.now.tokens view_arm result (behind_read Sign.ElseIf (arm_read (inside_read left) (list_read left)) (rest_from p.now.tokens at)) }
 {
     let (test, next) = expr_behind(p, at, left, Sign::ElseIf)?;
@@ -105,7 +102,6 @@ fn list_behind<'a>(
     left: u32,
     sign: Sign,
 ) -> Result<(Vec<RawStmt<'a>>, usize), SyntaxFault>
-    requires { left ≤ 64 }
     ensures { Gives p.now.tokens view_list result (behind_read sign (list_read left) (rest_from p.now.tokens at)) }
 {
     let (_word, next) = p.tokens.take(at, &[sign])?;
@@ -121,7 +117,6 @@ fn list_if_any<'a>(
     left: u32,
     sign: Sign,
 ) -> Result<(Option<Vec<RawStmt<'a>>>, usize), SyntaxFault>
-    requires { left ≤ 64 }
     ensures { Gives p.now.tokens (option_map view_list) result (if_read sign (list_read left) (rest_from p.now.tokens at)) }
 {
     if !p.tokens.sees(at, &[sign]) {
@@ -139,7 +134,6 @@ pub(crate) fn for_loop<'a>(
     at: usize,
     left: u32,
 ) -> Result<(RawStmt<'a>, usize), SyntaxFault>
-    requires { left ≤ 64 }
     ensures { Gives p.now.tokens view_stmt result (for_read (inside_read left) (list_read left) (rest_from p.now.tokens at)) }
 {
     let (word, next) = p.tokens.take(at, &[Sign::For])?;
@@ -161,7 +155,6 @@ fn step_if_any<'a>(
     at: usize,
     left: u32,
 ) -> Result<(Option<RawExpr<'a>>, usize), SyntaxFault>
-    requires { left ≤ 64 }
     ensures { Gives p.now.tokens (option_map view_expr) result (if_read Sign.Step (expr_of_read (inside_read left)) (rest_from p.now.tokens at)) }
 {
     if !p.tokens.sees(at, &[Sign::Step]) {
@@ -179,7 +172,6 @@ pub(crate) fn while_loop<'a>(
     at: usize,
     left: u32,
 ) -> Result<(RawStmt<'a>, usize), SyntaxFault>
-    requires { left ≤ 64 }
     ensures { Gives p.now.tokens view_stmt result (while_read (inside_read left) (list_read left) (rest_from p.now.tokens at)) }
 {
     let (word, next) = p.tokens.take(at, &[Sign::While])?;
@@ -197,7 +189,6 @@ pub(crate) fn choice<'a>(
     at: usize,
     left: u32,
 ) -> Result<(RawStmt<'a>, usize), SyntaxFault>
-    requires { left ≤ 64 }
     ensures { Gives p.now.tokens view_stmt result (test_read (inside_read left) (list_read left) (rest_from p.now.tokens at)) }
 {
     let (word, first) = p.tokens.take(at, &[Sign::Test])?;
@@ -216,7 +207,6 @@ fn cases<'a>(
     at: usize,
     left: u32,
 ) -> Result<(Vec<(Vec<RawExpr<'a>>, Vec<RawStmt<'a>>)>, usize), SyntaxFault>
-    requires { left ≤ 64 }
     ensures { Gives p.now.tokens (λ v. map view_case v.items) result (cases_read (inside_read left) (list_read left) (rest_from p.now.tokens at)) }
 {
     let mut list = Vec::new(p.alloc);
@@ -237,7 +227,6 @@ fn case<'a>(
     at: usize,
     left: u32,
 ) -> Result<((Vec<RawExpr<'a>>, Vec<RawStmt<'a>>), usize), SyntaxFault>
-    requires { left ≤ 64 }
     ensures { Gives p.now.tokens view_case result (behind_read Sign.Case (case_read (inside_read left) (list_read left)) (rest_from p.now.tokens at)) }
 {
     let (_word, first) = p.tokens.take(at, &[Sign::Case])?;
@@ -254,7 +243,6 @@ fn default_if_any<'a>(
     at: usize,
     left: u32,
 ) -> Result<(Option<Vec<RawStmt<'a>>>, usize), SyntaxFault>
-    requires { left ≤ 64 }
     ensures { Gives p.now.tokens (option_map view_list) result (default_read (list_read left) (rest_from p.now.tokens at)) }
 {
     if !p.tokens.sees(at, &[Sign::Default]) {

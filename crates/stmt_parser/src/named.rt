@@ -1,13 +1,13 @@
 //! Statements that begin with a name.
 
-ghost use Rattle.std.specs.Prelude.{◌≤◌, Ok};
+ghost use Rattle.std.specs.Prelude.{Ok};
 ghost use Rattle.raw_trees.specs.Views.{view_name, view_stmt};
 ghost use Rattle.rapid_forms.specs.Reading.{Gives, rest_from, then_read};
 ghost use Rattle.expr_parser.specs.Reads.{inside_read, mark_read};
 ghost use Rattle.stmt_parser.specs.Grammar.{call_tree, label_tree};
 ghost use Rattle.stmt_parser.specs.Reads.{assigned_read, assigned_tree, behind_name_read, called_read, named_read, named_simple_read, named_simple_tree};
 
-use crate::exprs::{args, expr, name, parts};
+use expr_parser::{args_if_any, expr, name, place_parts};
 use rapid_forms::{Parser, Sign, SyntaxFault};
 use raw_trees::{RawName, RawPlace, RawStmt};
 
@@ -18,7 +18,6 @@ pub(crate) fn named<'a>(
     at: usize,
     left: u32,
 ) -> Result<(RawStmt<'a>, usize), SyntaxFault>
-    requires { left ≤ 64 }
     ensures { Gives p.now.tokens view_stmt result (named_read (inside_read left) (rest_from p.now.tokens at)) }
 {
     let (name, next) = name(p, at)?;
@@ -35,7 +34,6 @@ pub(crate) fn named_simple<'a>(
     at: usize,
     left: u32,
 ) -> Result<(RawStmt<'a>, usize), SyntaxFault>
-    requires { left ≤ 64 }
     ensures { Gives p.now.tokens view_stmt result (named_simple_read (inside_read left) (rest_from p.now.tokens at)) }
 {
     let (name, next) = name(p, at)?;
@@ -62,7 +60,6 @@ fn behind_name<'a>(
     at: usize,
     left: u32,
 ) -> Result<(RawStmt<'a>, usize), SyntaxFault>
-    requires { left ≤ 64 }
     ensures { Gives p.now.tokens view_stmt result (then_read (behind_name_read (inside_read left) (rest_from p.now.tokens at)) λ x rest. Ok (named_simple_tree name.entry.at (view_name name.entry, x), rest)) }
 {
     if p.tokens
@@ -81,10 +78,9 @@ fn assignment<'a>(
     at: usize,
     left: u32,
 ) -> Result<(RawStmt<'a>, usize), SyntaxFault>
-    requires { left ≤ 64 }
     ensures { Gives p.now.tokens view_stmt result (then_read (assigned_read (inside_read left) (rest_from p.now.tokens at)) λ x rest. Ok (assigned_tree name.entry.at (view_name name.entry, x), rest)) }
 {
-    let ((index, parts), after) = parts(p, at, left)?;
+    let ((index, parts), after) = place_parts(p, at, left)?;
     let place = RawPlace::new(p.alloc, name, index, parts)?;
     let (_assign, next) = p.tokens.take(after, &[Sign::Assign])?;
     let (value, last) = expr(p, next, left)?;
@@ -99,10 +95,9 @@ fn call<'a>(
     at: usize,
     left: u32,
 ) -> Result<(RawStmt<'a>, usize), SyntaxFault>
-    requires { left ≤ 64 }
     ensures { Gives p.now.tokens view_stmt result (then_read (called_read (inside_read left) (rest_from p.now.tokens at)) λ x rest. Ok (call_tree name.entry.at (view_name name.entry, x), rest)) }
 {
-    let (args, last) = args(p, at, left)?;
+    let (args, last) = args_if_any(p, at, left)?;
     let (_semicolon, end) = p.tokens.take(last, &[Sign::Semicolon])?;
     Ok((RawStmt::call(name.at, name, args), end))
 }

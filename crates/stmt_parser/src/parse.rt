@@ -6,7 +6,7 @@ ghost use Rattle.raw_trees.specs.Views.{view_list};
 ghost use Rattle.rapid_forms.specs.Parsed.{Parses};
 ghost use Rattle.stmt_parser.specs.Grammar.{items};
 
-use crate::list::items;
+use crate::statements::items;
 use rapid_forms::{Parser, SyntaxFault, Tokens};
 use rapid_lexer::Token;
 use raw_trees::RawStmt;

@@ -1,13 +1,13 @@
 //! Statements without lists.
 
-ghost use Rattle.std.specs.Prelude.{◌≤◌, option_map};
+ghost use Rattle.std.specs.Prelude.{option_map};
 ghost use Rattle.raw_trees.specs.Views.{view_expr, view_place, view_stmt};
 ghost use Rattle.rapid_forms.specs.Reading.{Gives, rest_from};
 ghost use Rattle.expr_parser.specs.Reads.{inside_read, place_read};
 ghost use Rattle.stmt_parser.specs.Reads.{connect_read, exit_read, goto_read, raise_read, retry_read, return_read, simple_read, try_next_read, value_read, worded_read};
 
-use crate::exprs::{expr, name, parts};
 use crate::named::named_simple;
+use expr_parser::{expr, name, place_parts};
 use rapid_forms::{Parser, Sign, SyntaxFault, is_seen};
 use raw_trees::{RawExpr, RawPlace, RawStmt};
 
@@ -18,7 +18,6 @@ pub(crate) fn simple<'a>(
     at: usize,
     left: u32,
 ) -> Result<(RawStmt<'a>, usize), SyntaxFault>
-    requires { left ≤ 64 }
     ensures { Gives p.now.tokens view_stmt result (simple_read (inside_read left) (rest_from p.now.tokens at)) }
 {
     if p.tokens.sees(at, &[Sign::Name]) {
@@ -34,7 +33,6 @@ pub(crate) fn worded<'a>(
     at: usize,
     left: u32,
 ) -> Result<(RawStmt<'a>, usize), SyntaxFault>
-    requires { left ≤ 64 }
     ensures { Gives p.now.tokens view_stmt result (worded_read (inside_read left) (rest_from p.now.tokens at)) }
 {
     let sign = p.tokens.sign(at);
@@ -75,7 +73,6 @@ fn returns<'a>(
     at: usize,
     left: u32,
 ) -> Result<(RawStmt<'a>, usize), SyntaxFault>
-    requires { left ≤ 64 }
     ensures { Gives p.now.tokens view_stmt result (return_read (inside_read left) (rest_from p.now.tokens at)) }
 {
     let (word, next) = p.tokens.take(at, &[Sign::Return])?;
@@ -95,7 +92,6 @@ fn exit<'a>(p: &Parser<'_, 'a>, at: usize) -> Result<(RawStmt<'a>, usize), Synta
 
 #[tactic(auto, using(rapid_forms::proofs::Placed::one_placed), unfolding(crate::specs::Reads::raise_read, rapid_forms::specs::Reading::made_read, rapid_forms::specs::Reading::seq_read, rapid_forms::specs::Reading::then_read))]
 fn raise<'a>(p: &Parser<'_, 'a>, at: usize, left: u32) -> Result<(RawStmt<'a>, usize), SyntaxFault>
-    requires { left ≤ 64 }
     ensures { Gives p.now.tokens view_stmt result (raise_read (inside_read left) (rest_from p.now.tokens at)) }
 {
     let (word, next) = p.tokens.take(at, &[Sign::Raise])?;
@@ -128,7 +124,6 @@ fn connect<'a>(
     at: usize,
     left: u32,
 ) -> Result<(RawStmt<'a>, usize), SyntaxFault>
-    requires { left ≤ 64 }
     ensures { Gives p.now.tokens view_stmt result (connect_read (inside_read left) (rest_from p.now.tokens at)) }
 {
     let (word, first) = p.tokens.take(at, &[Sign::Connect])?;
@@ -141,11 +136,10 @@ fn connect<'a>(
 
 #[tactic(auto, unfolding(expr_parser::specs::Reads::place_read, rapid_forms::specs::Reading::made_read, rapid_forms::specs::Reading::seq_read, rapid_forms::specs::Reading::then_read))]
 fn place<'a>(p: &Parser<'_, 'a>, at: usize, left: u32) -> Result<(RawPlace<'a>, usize), SyntaxFault>
-    requires { left ≤ 64 }
     ensures { Gives p.now.tokens view_place result (place_read (inside_read left) (rest_from p.now.tokens at)) }
 {
     let (name, next) = name(p, at)?;
-    let ((index, parts), end) = parts(p, next, left)?;
+    let ((index, parts), end) = place_parts(p, next, left)?;
     let place = RawPlace::new(p.alloc, name, index, parts)?;
     Ok((place, end))
 }
@@ -157,7 +151,6 @@ fn value_if_any<'a>(
     at: usize,
     left: u32,
 ) -> Result<(Option<RawExpr<'a>>, usize), SyntaxFault>
-    requires { left ≤ 64 }
     ensures { Gives p.now.tokens (option_map view_expr) result (value_read (inside_read left) (rest_from p.now.tokens at)) }
 {
     if !p.tokens.sees(at, &EXPR_SIGNS) {

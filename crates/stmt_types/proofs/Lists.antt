@@ -1,13 +1,7 @@
--- Statements as a list, and the rows of data that are left.
+-- The rows of data that are left.
 use Rattle.std.proofs.Common.{◌≡◌, ℕ, zero, suc, List, [], ◌∷◌, ◌++◌, drop, length, map, refl, ap, ◌∙◌, length-append, arith}
 use Rattle.std.proofs.lemmas.List.{drop-drop, length-map}
-use Rattle.typed_trees.specs.Plain.{TypedStmt, stmts_of}
 use Rattle.data_scopes.specs.Scopes.{list_at}
-use Rattle.stmt_types.specs.Task.{list_of}
-
-pub list_of_stmts : (list : List TypedStmt) → list_of (stmts_of list) ≡ list
-list_of_stmts [] = refl
-list_of_stmts (s ∷ list) = ap (λ more. s ∷ more) (list_of_stmts list)
 
 list_at-drop : {A : Type 0} (n : ℕ) (lists : List (List A)) → list_at (drop n lists) 0 ≡ list_at lists n
 list_at-drop zero lists = refl

@@ -1,6 +1,6 @@
 -- The first main among routines that are looked at one part after another.
 use Rattle.std.proofs.Common.{◌≡◌, ℕ, ◌+◌, suc, Bool, true, false, List, [], ◌∷◌, ◌++◌, length, drop, get_or, map, ◌<◌, Option, Some, None, refl, ap, sym, ◌∙◌, is_some, true≢false, if◌then◌else◌, arith}
-use Rattle.std.specs.Option.{option_map}
+use Rattle.std.specs.Option.{option_map, option_or}
 use Rattle.std.proofs.lemmas.List.{drop_more}
 use Rattle.raw_trees.specs.declared.raw_module.RawItem.{RawItem}
 use Rattle.raw_trees.specs.declared.raw_module.RawModule.{RawModule}
@@ -12,10 +12,6 @@ use Rattle.stmt_types.specs.Task.{is_main, main_among, routines_in, routines_of}
 abbrev pub from : ℕ → Option ℕ → Option ℕ
 from first found = option_map (λ n. first + n) found
 
-abbrev pub or_else : Option ℕ → Option ℕ → Option ℕ
-or_else (Some n) other = Some n
-or_else None other = other
-
 from_zero : (found : Option ℕ) → from 0 found ≡ found
 from_zero None = refl
 from_zero (Some n) = ap Some (omega arith)
@@ -24,8 +20,8 @@ from_more : (first more : ℕ) (found : Option ℕ) → from first (from more fo
 from_more first more None = refl
 from_more first more (Some n) = ap Some (omega arith)
 
-main_or_later : (r : PlainRoutine) (rs more : List PlainRoutine) (found : Option ℕ) → main_among (rs ++ more) ≡ or_else found (from (length rs) (main_among more)) → (b : Bool) →
-    (if b then Some 0 else option_map suc (main_among (rs ++ more))) ≡ or_else (if b then Some 0 else option_map suc found) (from (suc (length rs)) (main_among more))
+main_or_later : (r : PlainRoutine) (rs more : List PlainRoutine) (found : Option ℕ) → main_among (rs ++ more) ≡ option_or found (from (length rs) (main_among more)) → (b : Bool) →
+    (if b then Some 0 else option_map suc (main_among (rs ++ more))) ≡ option_or (if b then Some 0 else option_map suc found) (from (suc (length rs)) (main_among more))
 main_or_later r rs more found later true = refl
 main_or_later r rs more (Some n) later false = ap (option_map suc) later
 main_or_later r rs more None later false = ap (option_map suc) later ∙ shifted (length rs) (main_among more)
@@ -35,7 +31,7 @@ main_or_later r rs more None later false = ap (option_map suc) later ∙ shifted
     shifted k (Some n) = ap Some (omega arith)
 
 -- a main in the first part comes before one in what follows
-main_among-append : (rs more : List PlainRoutine) → main_among (rs ++ more) ≡ or_else (main_among rs) (from (length rs) (main_among more))
+main_among-append : (rs more : List PlainRoutine) → main_among (rs ++ more) ≡ option_or (main_among rs) (from (length rs) (main_among more))
 main_among-append [] more = sym (from_zero (main_among more))
 main_among-append (r ∷ rs) more = main_or_later r rs more (main_among rs) (main_among-append rs more) (is_main r)
 
@@ -43,7 +39,7 @@ main_among-append (r ∷ rs) more = main_or_later r rs more (main_among rs) (mai
 pub found_here : (first : ℕ) (found : Option ℕ) (rs more : List PlainRoutine) → from first (main_among rs) ≡ found → true ≡ is_some found → from first (main_among (rs ++ more)) ≡ found
 found_here first found rs more is some = rw main_among-append (by (main_among rs) is)
   where
-    by : (o : Option ℕ) → from first o ≡ found → from first (or_else o (from (length rs) (main_among more))) ≡ found
+    by : (o : Option ℕ) → from first o ≡ found → from first (option_or o (from (length rs) (main_among more))) ≡ found
     by (Some n) same = same
     by None none = absurd (true≢false (some ∙ ap is_some (sym none)))
 
@@ -51,7 +47,7 @@ found_here first found rs more is some = rw main_among-append (by (main_among rs
 pub looked_on : (first behind : ℕ) (found : Option ℕ) (rs more : List PlainRoutine) → from first (main_among rs) ≡ found → false ≡ is_some found → first + length rs ≡ behind → from behind (main_among more) ≡ from first (main_among (rs ++ more))
 looked_on first behind found rs more is none at = sym (rw main_among-append (by (main_among rs) is))
   where
-    by : (o : Option ℕ) → from first o ≡ found → from first (or_else o (from (length rs) (main_among more))) ≡ from behind (main_among more)
+    by : (o : Option ℕ) → from first o ≡ found → from first (option_or o (from (length rs) (main_among more))) ≡ from behind (main_among more)
     by (Some n) some = absurd (true≢false (ap is_some some ∙ sym none))
     by None same = from_more first (length rs) (main_among more) ∙ ap (λ k. from k (main_among more)) at
 

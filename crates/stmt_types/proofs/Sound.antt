@@ -7,13 +7,13 @@ use Rattle.typed_trees.specs.Plain.{TypedTree}
 use Rattle.typed_trees.specs.Sound.{has_sound_pers}
 use Rattle.typed_trees.specs.Views.{view_tree}
 use Rattle.typed_trees.specs.declared.tree.Tree.{Tree}
-use Rattle.data_scopes.specs.declared.fault.TypeFault.{TypeFault}
-use Rattle.data_scopes.specs.declared.fault.TypeRule.TheVariants.{DataRange}
-use Rattle.data_scopes.specs.Declarations.{◌>>=◌}
-use Rattle.data_scopes.specs.Gives.{Gives}
+use Rattle.rule_checks.specs.declared.fault.TypeFault.{TypeFault}
+use Rattle.rule_checks.specs.declared.rule.TypeRule.TheVariants.{DataRange}
+use Rattle.rule_checks.specs.Checks.{◌>>=◌, must}
+use Rattle.rule_checks.specs.TypeChecks.{Gives}
 use Rattle.data_scopes.specs.Naming.{names_of}
-use Rattle.data_scopes.proofs.Typed.{behind, ok_same}
-use Rattle.named_data.specs.Rules.{must}
+use Rattle.rule_checks.proofs.Steps.{behind, ok_same}
+use Rattle.named_data.specs.Rules.{at_byte}
 use Rattle.decl_types.specs.Data.{beginning, data_of}
 use Rattle.decl_types.proofs.Sound.{pers_are_sound}
 use Rattle.stmt_types.specs.Task.{task_of, bodies, main_or, top, main_among, routines_of, most_values, tree_of}
@@ -26,7 +26,7 @@ task_sound modules tasks signals arm tree is =
     behind P tree (data_of 0 modules (beginning names)) _ rest (λ p found more.
     behind P tree (bodies p.names p.locals 0 modules []) _ more (λ routines typed left.
     behind P tree (main_or (top p.names) (main_among (routines_of modules))) _ left (λ main runs last.
-    behind P tree (must (top p.names) (nat_le p.values most_values) 0 DataRange) _ last (λ u few done.
+    behind P tree (must (nat_le p.values most_values) (at_byte (top p.names) 0 DataRange)) _ last (λ u few done.
     subst (λ t. IsTrue (has_sound_pers t)) (ok_same (tree_of modules tasks p routines main) tree done) (pers_are_sound modules signals arm names p named found))))))
 
 -- so too where the tree is what a function returned

@@ -9,28 +9,25 @@ use Rattle.raw_trees.specs.declared.raw_routine.RoutineKind.TheVariants as kinds
 use Rattle.rapid_model.specs.declared.signal_row.SignalRow.{SignalRow}
 use Rattle.rapid_model.specs.declared.sort.Sort.TheVariants as sorts
 use Rattle.raw_trees.specs.Plain as Raw
-use Rattle.typed_trees.specs.Plain.{TypedStmt, TypedStmts, TypedParam, TypedLocal, TypedRoutine, TypedSlot, TypedTree, NoStmts, MoreStmts}
+use Rattle.typed_trees.specs.Plain.{TypedStmts, TypedParam, TypedLocal, TypedRoutine, TypedSlot, TypedTree}
 use Rattle.data_scopes.specs.declared.data_row.ParamRow.{ParamRow}
-use Rattle.data_scopes.specs.declared.fault.TypeRule.TheVariants.{NoMain, DataRange}
+use Rattle.rule_checks.specs.declared.rule.TypeRule.TheVariants.{NoMain, DataRange}
 use Rattle.data_scopes.specs.Called.{params_of, result_of}
-use Rattle.data_scopes.specs.Declarations.{Checked, ◌>>=◌}
+use Rattle.rule_checks.specs.Checks.{◌>>=◌, must}
+use Rattle.rule_checks.specs.TypeChecks.{Checked}
 use Rattle.data_scopes.specs.Naming.{names_of}
 use Rattle.data_scopes.specs.Scopes.{Names, list_at}
-use Rattle.named_data.specs.Rules.{Site, fail, must}
+use Rattle.named_data.specs.Rules.{Site, fail, at_byte}
 use Rattle.named_data.specs.Wants.{same_sort}
 use Rattle.decl_types.specs.Data.{Progress, beginning, data_of}
-use Rattle.body_types.specs.Bodies.{Body, outside, stmts, into}
+use Rattle.body_types.specs.Bodies.{Body, Typed, outside, stmts, into}
 use Rattle.body_types.specs.Labels.{labels_in_routine}
 
--- the statements as a list
-abbrev pub list_of : TypedStmts → List TypedStmt
-list_of NoStmts = []
-list_of (MoreStmts s list) = s ∷ list_of list
-
-abbrev pub handler_of : Body → Option (List Raw.PlainStmt) → ℕ → Checked (Option (List TypedStmt))
-handler_of body None next = Ok None
+-- the ERROR part, if there is one, behind this many FORs
+abbrev pub handler_of : Body → Option (List Raw.PlainStmt) → ℕ → Checked (Typed (Option TypedStmts))
+handler_of body None next = Ok (record { tree = None; next = next })
 handler_of body (Some list) next =
-    stmts body (stmts_of list) (into (outside true) (stmts_of list)) next >>= (λ l. Ok (Some (list_of l.tree)))
+    stmts body (stmts_of list) (into (outside true) (stmts_of list)) next >>= (λ l. Ok (record { tree = Some l.tree; next = l.next }))
 
 abbrev pub body_of : Names → ℕ → ℕ → PlainRoutine → Body
 body_of names number routine r =
@@ -41,7 +38,7 @@ abbrev pub typed_params : List PlainParam → List ParamRow → List TypedParam
 typed_params (p ∷ ps) (row ∷ rows) = record { name = p.name.text; mode = row.mode; sort = row.sort } ∷ typed_params ps rows
 typed_params _ _ = []
 
--- a routine of this number, with its data
+-- a routine of this number, with its data; its FORs are as many as the number of the next one
 abbrev pub typed_routine : Names → List (List TypedLocal) → ℕ → ℕ → PlainRoutine → Checked TypedRoutine
 typed_routine names locals number routine r =
     let body = body_of names number routine r in
@@ -54,8 +51,9 @@ typed_routine names locals number routine r =
       result = result_of names.rows routine;
       params = typed_params r.params (params_of names.rows routine);
       locals = list_at locals routine;
-      list = list_of l.tree;
-      handler = h;
+      list = l.tree;
+      handler = h.tree;
+      loops = h.next;
       at = r.at;
     })))
 
@@ -138,5 +136,5 @@ task_of modules tasks signals arm =
     data_of 0 modules (beginning names) >>= (λ p.
     bodies p.names p.locals 0 modules [] >>= (λ routines.
     main_or (top p.names) (main_among (routines_of modules)) >>= (λ main.
-    must (top p.names) (nat_le p.values most_values) 0 DataRange >>= (λ _.
+    must (nat_le p.values most_values) (at_byte (top p.names) 0 DataRange) >>= (λ _.
     Ok (tree_of modules tasks p routines main))))))

@@ -4,16 +4,17 @@ ghost use Rattle.std.specs.Prelude.{[], List, map, IfOk};
 ghost use Rattle.raw_trees.specs.Views.{view_item, view_module};
 ghost use Rattle.typed_trees.specs.Plain.{TypedLocal};
 ghost use Rattle.typed_trees.specs.Views.{view_local, view_routine};
-ghost use Rattle.data_scopes.specs.Gives.{Gives};
+ghost use Rattle.rule_checks.specs.TypeChecks.{Gives};
 ghost use Rattle.stmt_types.specs.Task;
 ghost use Rattle.stmt_types.specs.Views.{view_routines, HasLeft};
 
 use crate::routine::typed_routine;
 use crate::routine_data::RoutineData;
 use crate::routine_list::RoutineList;
-use data_scopes::{Scopes, TypeFault, number_after};
+use data_scopes::{Scopes, number_after};
 use named_data::number_of;
 use raw_trees::{RawItem, RawModule};
+use rule_checks::TypeFault;
 use std::alloc::Global;
 use typed_trees::{LocalRow, Routine};
 

@@ -10,5 +10,6 @@ mod params;
 mod routine;
 mod routine_data;
 mod routine_list;
+mod typed_handler;
 
 pub use check::check_task;

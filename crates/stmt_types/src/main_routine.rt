@@ -3,12 +3,13 @@
 ghost use Rattle.std.specs.Prelude.{◌≡◌, ◌+◌, Ok, length, map, option_map};
 ghost use Rattle.raw_trees.specs.Views.{view_item, view_module, view_routine};
 ghost use Rattle.named_data.specs.Views.{view_site};
-ghost use Rattle.data_scopes.specs.Gives.{Gives};
+ghost use Rattle.rule_checks.specs.TypeChecks.{Gives};
 ghost use Rattle.stmt_types.specs.Task;
 
-use data_scopes::{TypeFault, TypeRule, number_after};
+use data_scopes::number_after;
 use named_data::{Site, fault};
 use raw_trees::{RawItem, RawModule, RawRoutine, RoutineKind};
+use rule_checks::{TypeFault, TypeRule};
 
 /// Whether a routine of the kind is a procedure.
 fn is_procedure(kind: RoutineKind) -> bool

@@ -2,12 +2,12 @@
 
 ghost use Rattle.std.specs.Prelude.{Ok, map};
 ghost use Rattle.typed_trees.specs.Views.{view_slot};
-ghost use Rattle.data_scopes.specs.Gives.{Gives};
+ghost use Rattle.rule_checks.specs.TypeChecks.{Gives};
 ghost use Rattle.stmt_types.specs.Task;
 
-use data_scopes::TypeFault;
 use named_data::same_sort;
 use rapid_model::{NameText, Sort};
+use rule_checks::TypeFault;
 use std::alloc::Global;
 use typed_trees::SlotRow;
 

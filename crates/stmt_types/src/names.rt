@@ -1,10 +1,10 @@
 //! Names of a typed tree.
 
 ghost use Rattle.std.specs.Prelude.{Ok};
-ghost use Rattle.data_scopes.specs.Gives.{Gives};
+ghost use Rattle.rule_checks.specs.TypeChecks.{Gives};
 
-use data_scopes::TypeFault;
 use rapid_model::NameText;
+use rule_checks::TypeFault;
 use std::alloc::Global;
 
 /// The names once more. Its error is want of memory.

@@ -3,12 +3,13 @@
 ghost use Rattle.std.specs.Prelude.{◌≡◌, ◌++◌, [], ◌∷◌, Ok, map, slice_get};
 ghost use Rattle.raw_trees.specs.Views.{view_param as view_raw};
 ghost use Rattle.typed_trees.specs.Views.{view_param};
-ghost use Rattle.data_scopes.specs.Gives.{Gives};
+ghost use Rattle.rule_checks.specs.TypeChecks.{Gives};
 ghost use Rattle.stmt_types.specs.Task;
 
-use data_scopes::{ParamRow, TypeFault};
+use data_scopes::ParamRow;
 use named_data::name_text;
 use raw_trees::RawParam;
+use rule_checks::TypeFault;
 use std::alloc::Global;
 use typed_trees::Param;
 

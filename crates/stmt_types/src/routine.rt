@@ -3,40 +3,44 @@
 ghost use Rattle.std.specs.Prelude.{◌≡◌, List, map, option_map};
 ghost use Rattle.raw_trees.specs.Views.{view_list as view_raw_list, view_routine as view_raw};
 ghost use Rattle.typed_trees.specs.Plain.{TypedLocal};
-ghost use Rattle.typed_trees.specs.Views.{view_list, view_local, view_routine};
-ghost use Rattle.data_scopes.specs.Gives.{Gives};
+ghost use Rattle.typed_trees.specs.Views.{view_local, view_routine};
+ghost use Rattle.rule_checks.specs.TypeChecks.{Gives};
 ghost use Rattle.data_scopes.specs.Scopes.{list_at};
 ghost use Rattle.body_types.specs.Views.{view_body};
 ghost use Rattle.stmt_types.specs.Task;
+ghost use Rattle.stmt_types.specs.Views.{view_handler};
 
 use crate::params::typed_params;
+use crate::typed_handler::TypedHandler;
 use body_types::{Body, labels_of, typed_list};
-use data_scopes::{Scopes, TypeFault};
+use data_scopes::Scopes;
 use named_data::name_text;
 use raw_trees::{RawRoutine, RawStmt};
+use rule_checks::TypeFault;
 use std::alloc::Global;
-use typed_trees::{LocalRow, Routine, Stmt};
+use typed_trees::{LocalRow, Routine};
 
 /// The ERROR part of a routine, where the next FOR has this number.
-#[tactic(auto, using(crate::proofs::Lists::list_of_stmts))]
 fn handler_of(
     body: &Body<'_, '_>,
     handler: &Option<Vec<RawStmt<'_>>>,
     next: u32,
-) -> Result<Option<Vec<Stmt>>, TypeFault>
-    ensures { Gives (option_map view_list) result (Task.handler_of (view_body body.now) (option_map view_raw_list handler.now) next) }
+) -> Result<TypedHandler, TypeFault>
+    ensures { Gives view_handler result (Task.handler_of (view_body body.now) (option_map view_raw_list handler.now) next) }
 {
     match handler {
-        None => Ok(None),
+        None => Ok(TypedHandler { list: None, next }),
         Some(list) => {
             let typed = typed_list(body, list, true, next)?;
-            Ok(Some(typed.list))
+            Ok(TypedHandler {
+                list: Some(typed.list),
+                next: typed.next,
+            })
         }
     }
 }
 
 /// The routine of this number, in the module of this number, with the rows of its data.
-#[tactic(auto, using(crate::proofs::Lists::list_of_stmts))]
 pub(crate) fn typed_routine(
     alloc: Global,
     scopes: &Scopes,
@@ -70,7 +74,8 @@ pub(crate) fn typed_routine(
         params,
         locals: rows,
         list: typed.list,
-        handler,
+        handler: handler.list,
+        loops: handler.next,
         at: routine.at,
     })
 }

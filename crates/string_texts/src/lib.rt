@@ -5,6 +5,3 @@ mod first;
 mod text;
 
 pub use text::text_of;
-
-#[cfg(test)]
-mod tests;

@@ -13,11 +13,12 @@ use Rattle.typed_trees.specs.Plain
 use Rattle.typed_trees.specs.Plain.{TypedExpr, TypedHeld, TypedArg, Given, Lent, OfSignal, OfMeeting, Itself}
 use Rattle.typed_trees.specs.declared.expr.TreeRoot.{TreeRoot}
 use Rattle.typed_trees.specs.declared.expr.TreeRoot.TheVariants as roots
-use Rattle.data_scopes.specs.declared.fault.TypeRule.{TypeRule}
-use Rattle.data_scopes.specs.declared.fault.TypeRule.TheVariants.{NoName, TypeClash, ReadOnly, BadRef, CornerZone, ToolOnly, SyncName}
+use Rattle.rule_checks.specs.declared.rule.TypeRule.{TypeRule}
+use Rattle.rule_checks.specs.declared.rule.TypeRule.TheVariants.{NoName, TypeClash, ReadOnly, BadRef, CornerZone, ToolOnly, SyncName}
 use Rattle.data_scopes.specs.declared.meant.Meant.{Meant}
 use Rattle.data_scopes.specs.declared.meant.Meant.TheVariants as meants
-use Rattle.data_scopes.specs.Declarations.{Checked, ◌>>=◌}
+use Rattle.rule_checks.specs.Checks.{◌>>=◌, must}
+use Rattle.rule_checks.specs.TypeChecks.{Checked}
 use Rattle.data_scopes.specs.Meetings.{is_meeting, meetings_before}
 use Rattle.data_scopes.specs.Rows.{begin_of}
 use Rattle.rapid_model.specs.Sorts.{has_values}
@@ -27,7 +28,7 @@ use Rattle.named_data.specs.declared.named.Source.{Source}
 use Rattle.named_data.specs.declared.named.Source.TheVariants as sources
 use Rattle.named_data.specs.declared.wanted.Wanted.{Wanted}
 use Rattle.named_data.specs.declared.wanted.Wanted.TheVariants.{Is, Nothing, Reference, Meeting}
-use Rattle.named_data.specs.Rules.{Site, must}
+use Rattle.named_data.specs.Rules.{Site, at_byte}
 use Rattle.named_data.specs.Wants.{same_sort}
 use Rattle.named_data.specs.Data.{NamedPart, named, datum_at, part_at, whole_of, place, is_none}
 use Rattle.expr_types.specs.Arguments.{is_held, is_bare, lends, takes, is_written, is_fixed, access_in, lent, referred, reference, any_place, whole_array, one_dimension, itself, has_direction, signal_meant, signal, meeting_meant, parts_known, meeting, whole_pers, pers_name, argument}
@@ -131,7 +132,7 @@ whole_law {value} s of_sort e arg law = never_after (value Nothing) _ arg (λ t.
 
 -- the number of what is meant, for which a test holds
 numbered : (s : Site) (at : ℕ) (rule : TypeRule) (holds : ℕ → Bool) (made : ℕ → TypedArg) (kind : ℕ → Meant) (number : ℕ) (arg : TypedArg) → ((n : ℕ) → Some (kind number) ≡ Some (kind n) → n ≡ number)
-    → ((must s (holds number) at rule >>= (λ _. Ok (made number))) ≡ Ok arg) ↔ ((n : ℕ) × (Some (kind number) ≡ Some (kind n)) × (holds n ≡ true) × (arg ≡ made n))
+    → ((must (holds number) (at_byte s at rule) >>= (λ _. Ok (made number))) ≡ Ok arg) ↔ ((n : ℕ) × (Some (kind number) ≡ Some (kind n)) × (holds n ≡ true) × (arg ≡ made n))
 numbered s at rule holds made kind number arg same =
     in_words
     (where_it_holds s (holds number) at rule _ arg (done (made number) arg))
@@ -159,7 +160,7 @@ meeting_meant_law s at (Some _) arg = neither (never _ arg) (λ (n, meant, held,
 meeting_law : (value : Wanted → Checked TypedExpr) (index : Checked TypedHeld) (s : Site) (e : PlainExpr) (arg : TypedArg) → (meeting s e value index ≡ Ok arg) ↔ IsMeeting s e arg
 meeting_law value index s (Place at (PlaceOf name NotHeld [])) arg = meeting_meant_law s at (named s name) arg
 meeting_law value index s (Place at (PlaceOf name held components)) arg =
-    neither (never_after (must s _ at NoName) _ arg (λ u. never_after index _ arg (λ i. never_after (parts_known s (datum_at s name) components) _ arg (λ known. never _ arg))))
+    neither (never_after (must _ (at_byte s at NoName)) _ arg (λ u. never_after index _ arg (λ i. never_after (parts_known s (datum_at s name) components) _ arg (λ known. never _ arg))))
     (λ (n, none, held, is). none)
 meeting_law value index s e arg = neither (never_after (value Meeting) _ arg (λ t. never _ arg)) (λ (n, none, held, is). none)
 

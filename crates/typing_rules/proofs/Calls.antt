@@ -9,15 +9,16 @@ use Rattle.rapid_builtins.specs.Calls.{OptionRow}
 use Rattle.rapid_builtins.specs.declared.need.Need.{Need}
 use Rattle.typed_trees.specs.Plain
 use Rattle.typed_trees.specs.Plain.{TypedExpr, TypedHeld, TypedArg, NoArgument, Argument}
-use Rattle.data_scopes.specs.declared.fault.TypeRule.TheVariants.{ArgCount, ArgName, NoArm}
+use Rattle.rule_checks.specs.declared.rule.TypeRule.TheVariants.{ArgCount, ArgName, NoArm}
 use Rattle.data_scopes.specs.declared.meant.Meant.{Meant}
 use Rattle.data_scopes.specs.declared.meant.Meant.TheVariants as meants
 use Rattle.data_scopes.specs.Called.{kind_of, result_of}
-use Rattle.data_scopes.specs.Declarations.{Checked, ◌>>=◌}
+use Rattle.rule_checks.specs.Checks.{◌>>=◌, must}
+use Rattle.rule_checks.specs.TypeChecks.{Checked}
 use Rattle.named_data.specs.declared.wanted.Wanted.{Wanted}
 use Rattle.named_data.specs.declared.wanted.Wanted.TheVariants.{Any}
 use Rattle.named_data.specs.Data.{named}
-use Rattle.named_data.specs.Rules.{Site, must}
+use Rattle.named_data.specs.Rules.{Site, at_byte}
 use Rattle.expr_types.specs.Arguments.{argument}
 use Rattle.expr_types.specs.Calls.{Called, Signature, Taking, routine_function, function_meant, function_at, are_counted, are_chosen, call_rules, needed, is_excluded, plain_option, valued_option}
 use Rattle.typing_rules.specs.Calls.{Values, Indexes, IsArgument, IsNeeded, IsPlainOption, IsValuedOption, IsCall, IsRoutine, IsFunctionMeant, IsFunction}
@@ -42,7 +43,7 @@ call_law s at signature args t =
     in_words
     (where_it_holds s (are_counted args (length signature.needs)) at ArgCount _ t (
     where_it_holds s (are_chosen signature.choice args) at ArgName _ t (
-    it_holds s (not signature.arm || s.names.arm) at NoArm t)))
+    it_holds (not signature.arm || s.names.arm) (at_byte s at NoArm) t)))
     (λ (counted, (chosen, armed)). record { counted = counted; chosen = chosen; armed = armed })
     (λ h. (h.counted, (h.chosen, h.armed)))
 
@@ -53,7 +54,7 @@ needed_law s (need ∷ more) e arg law = argument_law s need e arg law
 
 -- an option may stand
 may_stand_law : {P : Type 0} (s : Site) (excluded : Bool) (at : ℕ) (rest : Checked TypedArg) (arg : TypedArg) → ((rest ≡ Ok arg) ↔ P)
-    → ((must s (not excluded) at ArgName >>= (λ _. rest)) ≡ Ok arg) ↔ ((excluded ≡ false) × P)
+    → ((must (not excluded) (at_byte s at ArgName) >>= (λ _. rest)) ≡ Ok arg) ↔ ((excluded ≡ false) × P)
 may_stand_law s excluded at rest arg next =
     in_words (where_it_holds s (not excluded) at ArgName rest arg next) (λ (may, is). (not-true excluded may, is)) (λ (may, is). (not_from_false excluded may, is))
 

@@ -1,6 +1,6 @@
 -- One of several steps, chosen by tests.
 use Rattle.std.proofs.Common.{◌≡◌, ◌↔◌, Bool, true, false, Ok, refl, if◌then◌else◌}
-use Rattle.data_scopes.specs.Declarations.{Checked}
+use Rattle.rule_checks.specs.TypeChecks.{Checked}
 use Rattle.typing_rules.proofs.Steps.{in_words}
 
 -- one of two, of which the other never comes to a value

@@ -6,7 +6,7 @@ use Rattle.raw_trees.specs.declared.raw_routine.RoutineKind.TheVariants as kinds
 use Rattle.rapid_model.specs.declared.sort.Sort.TheVariants as sorts
 use Rattle.typed_trees.specs.Plain
 use Rattle.typed_trees.specs.Plain.{TypedStmt}
-use Rattle.data_scopes.specs.declared.fault.TypeRule.TheVariants.{NotThis}
+use Rattle.rule_checks.specs.declared.rule.TypeRule.TheVariants.{NotThis}
 use Rattle.data_scopes.specs.declared.meant.Meant.{Meant}
 use Rattle.data_scopes.specs.declared.meant.Meant.TheVariants as meants
 use Rattle.data_scopes.specs.Called.{kind_of}

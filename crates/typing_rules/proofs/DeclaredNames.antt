@@ -3,27 +3,25 @@ use Rattle.std.proofs.Common.{◌≡◌, ◌↔◌, ℕ, ◌+◌, Bool, not, ◌
 use Rattle.raw_trees.specs.Plain.{PlainDatum, PlainParam, PlainItem, PlainModule, PlainName, Datum, Routine}
 use Rattle.rapid_model.specs.declared.sort.Sort.{Sort}
 use Rattle.rapid_model.specs.Names.{is_among}
-use Rattle.data_scopes.specs.declared.fault.TypeRule.TheVariants.{NameTwice, NameTaken, TypeClash, PersKind}
+use Rattle.rule_checks.specs.declared.rule.TypeRule.TheVariants.{NameTwice, NameTaken, NotThis, TypeClash, PersKind}
 use Rattle.data_scopes.specs.declared.meant.Meant.{Meant}
 use Rattle.data_scopes.specs.declared.meant.Meant.TheVariants as meants
-use Rattle.data_scopes.specs.declared.spot.Spot.{Spot}
-use Rattle.data_scopes.specs.Declarations.{spot_of, type_of, or_not_this, sort_meant, sort_at, is_own, item_scope, item_name_rules, datum_sort, with_const, takes_sort, param_rules, params_rules, locals_rules, result_rules, item_rules, items_rules, module_rules, modules_rules, must}
+use Rattle.rule_checks.specs.declared.spot.Spot.{Spot}
+use Rattle.rule_checks.specs.Checks.{must}
+use Rattle.rule_checks.specs.TypeChecks.{at_spot}
+use Rattle.data_scopes.specs.Declarations.{spot_of, type_of, sort_meant, sort_at, is_own, item_scope, item_name_rules, datum_sort, with_const, takes_sort, param_rules, params_rules, locals_rules, result_rules, item_rules, items_rules, module_rules, modules_rules}
 use Rattle.data_scopes.specs.Numbers.{Tally, is_const, is_pers, datum_meant, after_item, after_items, param_meant, local_meant}
 use Rattle.data_scopes.specs.Scopes.{Tables, list_at, meant_in, meant_outside, meaning}
 use Rattle.rapid_model.specs.Sorts.{has_values}
-use Rattle.typing_rules.proofs.Steps.{in_words, neither, done, never, then}
+use Rattle.typing_rules.proofs.Steps.{in_words, neither, done, never, then, found_law, it_holds}
 use Rattle.typing_rules.specs.DeclaredNames.{IsSort, IsDatumSort, IsItemName, IsParam, AreParams, AreLocals, IsResult, IsItem, AreItems, AreModules}
-use Rattle.typing_rules.proofs.TaskSteps.{regrouped, where_they_hold, it_holds, it_fails}
-
-type_law : (spot : Spot) (type : Option Sort) (sort : Sort) → (or_not_this spot type ≡ Ok sort) ↔ (type ≡ Some sort)
-type_law spot None sort = (λ e. absurd (cc), λ e. absurd (cc))
-type_law spot (Some found) sort = (λ e. ap Some (cc), λ e. ap Ok (cc))
+use Rattle.typing_rules.proofs.TaskSteps.{regrouped, where_they_hold, it_fails}
 
 sort_meant_law : (spot : Spot) (found : Option Meant) (sort : Sort) → (sort_meant spot found ≡ Ok sort) ↔ ((meant : Meant) × (found ≡ Some meant) × (type_of meant ≡ Some sort))
 sort_meant_law spot None sort = neither (never _ sort) (λ (meant, none, is). cc)
 sort_meant_law spot (Some found) sort =
     in_words
-    (type_law spot (type_of found) sort)
+    (found_law (type_of found) (at_spot spot NotThis) sort)
     (λ is. (found, refl, is))
     (λ (meant, same, is). let e : meant ≡ found = cc in subst (λ m. type_of m ≡ Some sort) e is)
 
@@ -35,8 +33,8 @@ datum_sort_law tables number routine d sort =
     let spot : Spot = spot_of number routine d.sort in
     in_words
     (then (sort_at tables spot d.sort) _ sort (sort_law tables spot d.sort) (λ found.
-    where_they_hold (must (has_values found || not (is_const d.kind)) spot TypeClash) _ sort (it_holds (has_values found || not (is_const d.kind)) spot TypeClash) (
-    where_they_hold (must (has_values found || not (is_pers d.kind)) spot PersKind) _ sort (it_holds (has_values found || not (is_pers d.kind)) spot PersKind) (
+    where_they_hold (must (has_values found || not (is_const d.kind)) (at_spot spot TypeClash)) _ sort (it_holds (has_values found || not (is_const d.kind)) (at_spot spot TypeClash)) (
+    where_they_hold (must (has_values found || not (is_pers d.kind)) (at_spot spot PersKind)) _ sort (it_holds (has_values found || not (is_pers d.kind)) (at_spot spot PersKind)) (
     done found sort))))
     (λ (found, is, (fits, (persists, same))). subst (IsDatumSort tables number routine d) (sym same) (is, fits, persists))
     (λ (is, fits, persists). (sort, is, (fits, (persists, refl))))
@@ -46,7 +44,7 @@ item_name_law : (tables : Tables) (number : ℕ) (local : Bool) (own : Meant) (n
 item_name_law tables number local own name t =
     let spot : Spot = spot_of number None name in
     let is_first : Bool = is_own own (meant_in name.text (item_scope tables number local)) in
-    where_they_hold (must is_first spot NameTwice) _ t (it_holds is_first spot NameTwice) (it_fails (is_some (meant_outside tables name.text)) spot NameTaken t)
+    where_they_hold (must is_first (at_spot spot NameTwice)) _ t (it_holds is_first (at_spot spot NameTwice)) (it_fails (is_some (meant_outside tables name.text)) (at_spot spot NameTaken) t)
 
 param_law : (tables : Tables) (number routine place : ℕ) (p : PlainParam) (t : Unit {0}) → (param_rules tables number routine place p ≡ Ok t) ↔ IsParam tables number routine place p
 param_law tables number routine place p t =
@@ -54,8 +52,8 @@ param_law tables number routine place p t =
     let is_first : Bool = is_own (param_meant place p.mode) (meant_in p.name.text (list_at tables.inner routine)) in
     in_words
     (then (sort_at tables spot p.sort) _ t (sort_law tables spot p.sort) (λ sort.
-    where_they_hold (must (takes_sort p.mode sort) spot TypeClash) _ t (it_holds (takes_sort p.mode sort) spot TypeClash) (
-    it_holds is_first (spot_of number (Some routine) p.name) NameTwice t)))
+    where_they_hold (must (takes_sort p.mode sort) (at_spot spot TypeClash)) _ t (it_holds (takes_sort p.mode sort) (at_spot spot TypeClash)) (
+    it_holds is_first (at_spot (spot_of number (Some routine) p.name) NameTwice) t)))
     (λ (sort, is, (fits, first)). (sort, is, fits, first))
     (λ (sort, is, fits, first). (sort, is, (fits, first)))
 
@@ -73,8 +71,8 @@ locals_law tables number routine place consts (d ∷ ds) before past =
     in_words
     (regrouped (datum_sort tables number (Some routine) d) _ _ past (
     then (datum_sort tables number (Some routine) d) _ past (datum_sort_law tables number (Some routine) d) (λ sort.
-    regrouped (must is_first spot NameTwice) _ _ past (
-    where_they_hold (must is_first spot NameTwice) _ past (it_holds is_first spot NameTwice) (
+    regrouped (must is_first (at_spot spot NameTwice)) _ _ past (
+    where_they_hold (must is_first (at_spot spot NameTwice)) _ past (it_holds is_first (at_spot spot NameTwice)) (
     locals_law tables number routine (place + 1) _ ds (with_const before d sort) past)))))
     (λ (sort, is, (first, are)). (sort, is, first, are))
     (λ (sort, is, first, are). (sort, is, (first, are)))
@@ -83,7 +81,7 @@ result_law : (tables : Tables) (number routine : ℕ) (result : Option PlainName
 result_law tables number routine None t = (λ e. tt, λ u. refl)
 result_law tables number routine (Some name) t =
     let spot : Spot = spot_of number (Some routine) name in
-    then (sort_at tables spot name) _ t (sort_law tables spot name) (λ sort. it_holds (has_values sort) spot TypeClash t)
+    then (sort_at tables spot name) _ t (sort_law tables spot name) (λ sort. it_holds (has_values sort) (at_spot spot TypeClash) t)
 
 item_law : (tables : Tables) (number : ℕ) (c : Tally) (i : PlainItem) (before past : List Sort) → (item_rules tables number c i before ≡ Ok past) ↔ IsItem tables number c i before past
 item_law tables number c (Datum local task d at) before past =
@@ -116,7 +114,7 @@ modules_law tables number names c (m ∷ ms) before past =
     let spot : Spot = spot_of number None m.name in
     in_words
     (then (module_rules tables number names c m before) _ past (λ middle.
-    where_they_hold (must (not is_twice) spot NameTwice) _ middle (it_fails is_twice spot NameTwice) (items_law tables number c m.items before middle)) (λ middle.
+    where_they_hold (must (not is_twice) (at_spot spot NameTwice)) _ middle (it_fails is_twice (at_spot spot NameTwice)) (items_law tables number c m.items before middle)) (λ middle.
     modules_law tables (number + 1) (names ++ m.name.text ∷ []) (after_items c m.items) ms middle past))
     (λ (middle, (is_first, are), more). (middle, is_first, are, more))
     (λ (middle, is_first, are, more). (middle, (is_first, are), more))

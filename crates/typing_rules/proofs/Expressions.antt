@@ -10,12 +10,13 @@ use Rattle.rapid_values.specs.Components.{Component}
 use Rattle.rapid_builtins.specs.Calls.{option_named}
 use Rattle.typed_trees.specs.Plain
 use Rattle.typed_trees.specs.Plain.{TypedExpr, TypedExprs, TypedSteps, TypedHeld, TypedArg, TypedArgs}
-use Rattle.data_scopes.specs.declared.fault.TypeRule.TheVariants.{TypeClash, DimRange}
-use Rattle.data_scopes.specs.Declarations.{Checked, ◌>>=◌}
+use Rattle.rule_checks.specs.declared.rule.TypeRule.TheVariants.{TypeClash, DimRange}
+use Rattle.rule_checks.specs.Checks.{◌>>=◌, must}
+use Rattle.rule_checks.specs.TypeChecks.{Checked}
 use Rattle.rapid_model.specs.Sorts.{has_values}
 use Rattle.named_data.specs.declared.wanted.Wanted.{Wanted}
 use Rattle.named_data.specs.declared.wanted.Wanted.TheVariants.{Any, Brackets, Is, Same, Fits, Nothing, Reference, ReferenceTo, Meeting}
-use Rattle.named_data.specs.Rules.{Site, must}
+use Rattle.named_data.specs.Rules.{Site, at_byte}
 use Rattle.named_data.specs.Wants.{fits, clash, untyped, inside, hands_on, needed_components, needed_sort, of_component, first_operand, suits, comes_to}
 use Rattle.named_data.specs.Data.{NamedPart, given, place_value, value_from, is_none}
 use Rattle.expr_types.specs.Arguments.{is_held}
@@ -63,7 +64,7 @@ aggregate_law s want at es parts t law =
 
 -- a call where a value may stand, after its arguments
 valued_law : (s : Site) (want : Wanted) (at : ℕ) (called : Called) (args : PlainArgs) (us : TypedArgs) (t : TypedExpr)
-    → ((must s (fits want called.sort) at (clash want) >>= (λ _. call_rules s at called.signature args >>= (λ _. Ok (invoked at called.sort called.callee us)))) ≡ Ok t)
+    → ((must (fits want called.sort) (at_byte s at (clash want)) >>= (λ _. call_rules s at called.signature args >>= (λ _. Ok (invoked at called.sort called.callee us)))) ≡ Ok t)
     ↔ ((fits want called.sort ≡ true) × ((u : Unit {0}) × IsCall s called.signature args × (t ≡ invoked at called.sort called.callee us)))
 valued_law s want at called args us t =
     where_it_holds s (fits want called.sort) at (clash want) _ t (
@@ -122,7 +123,7 @@ rest_is ts sort r = in_words (done (record { steps = ts; sort = sort }) r) (λ e
 more_steps_law : {IsPart : TypedExpr → Type 0} (s : Site) (operator : Operator) (at : ℕ) (left : Sort) (part : Checked TypedExpr) (rest : Checked TypedRest) (AreRest : TypedSteps → Sort → Type 0) (r : TypedRest)
     → ((u : TypedExpr) → (part ≡ Ok u) ↔ IsPart u)
     → ((r : TypedRest) → (rest ≡ Ok r) ↔ AreRest r.steps r.sort)
-    → ((must s (suits operator left) at TypeClash >>= (λ _. part >>= (λ u. rest >>= (λ r. Ok (record { steps = Plain.MoreSteps operator u r.steps; sort = r.sort }))))) ≡ Ok r)
+    → ((must (suits operator left) (at_byte s at TypeClash) >>= (λ _. part >>= (λ u. rest >>= (λ r. Ok (record { steps = Plain.MoreSteps operator u r.steps; sort = r.sort }))))) ≡ Ok r)
     ↔ ((u : TypedExpr) × (us : TypedSteps) × (suits operator left ≡ true) × IsPart u × AreRest us r.sort × (r.steps ≡ Plain.MoreSteps operator u us))
 more_steps_law s operator at left part rest AreRest r first law =
     in_words

@@ -5,24 +5,25 @@ use Rattle.rapid_model.specs.declared.predefined.Predefined.{Predefined}
 use Rattle.rapid_model.specs.declared.predefined.Predefined.TheVariants as predefineds
 use Rattle.rapid_model.specs.declared.sort.Sort.{Sort}
 use Rattle.rapid_model.specs.declared.value.Value.{Value}
-use Rattle.rapid_values.specs.Components.{Component, components, component_of}
+use Rattle.rapid_values.specs.Components.{components, component_of}
 use Rattle.rapid_builtins.specs.Data.{predefined_datum}
 use Rattle.typed_trees.specs.Plain.{TypedHeld}
 use Rattle.typed_trees.specs.declared.expr.TreeRoot.{TreeRoot}
 use Rattle.typed_trees.specs.declared.expr.TreeRoot.TheVariants as roots
 use Rattle.data_scopes.specs.declared.data_row.DatumRow.{DatumRow}
 use Rattle.data_scopes.specs.declared.data_row.ParamRow.{ParamRow}
-use Rattle.data_scopes.specs.declared.fault.TypeRule.TheVariants.{TypeClash, ConstOrder, WholeArray}
+use Rattle.rule_checks.specs.declared.rule.TypeRule.TheVariants.{NoName, TypeClash, ConstOrder, WholeArray}
 use Rattle.data_scopes.specs.declared.meant.Meant.{Meant}
 use Rattle.data_scopes.specs.declared.meant.Meant.TheVariants as meants
 use Rattle.data_scopes.specs.Called.{local_of, param_of}
-use Rattle.data_scopes.specs.Declarations.{Checked, ◌>>=◌}
+use Rattle.rule_checks.specs.Checks.{◌>>=◌, found_or}
+use Rattle.rule_checks.specs.TypeChecks.{Checked}
 use Rattle.named_data.specs.declared.component.Part.{Part}
 use Rattle.named_data.specs.declared.named.NamedDatum.{NamedDatum}
-use Rattle.named_data.specs.Rules.{Site}
-use Rattle.named_data.specs.Data.{NamedPart, stored, persistent, parameter, constant, with_value, predefined, datum_meant, datum_at, named, is_before, component, part_at, as_part, whole_of, place}
+use Rattle.named_data.specs.Rules.{Site, at_byte}
+use Rattle.named_data.specs.Data.{NamedPart, stored, persistent, parameter, constant, with_value, predefined, datum_meant, datum_at, named, is_before, part_at, as_part, whole_of, place}
 use Rattle.typing_rules.specs.Names.{IsStored, IsPersistent, IsParameter, IsConstant, IsKnown, IsPredefined, IsMeant, IsDatum, IsPart, IsPlace}
-use Rattle.typing_rules.proofs.Steps.{in_words, done, never, then, where_it_holds}
+use Rattle.typing_rules.proofs.Steps.{in_words, done, never, then, found_law, where_it_holds}
 
 module _ (s : Site) (at : ℕ) (d : NamedDatum) where
   stored_law : (root : TreeRoot) (row : Option DatumRow) → (stored s at root row ≡ Ok d) ↔ IsStored s root row d
@@ -66,15 +67,11 @@ module _ (s : Site) (at : ℕ) (d : NamedDatum) where
 pub datum_law : (s : Site) (name : PlainName) (d : NamedDatum) → (datum_at s name ≡ Ok d) ↔ IsDatum s name d
 datum_law s name d = meant_law s name.at d (named s name)
 
-component_law : (s : Site) (at : ℕ) (found : Option Component) (c : Component) → (component s at found ≡ Ok c) ↔ (found ≡ Some c)
-component_law s at None c = (λ e. absurd (cc), λ e. absurd (cc))
-component_law s at (Some x) c = (λ e. ap Some (cc), λ e. ap Ok (cc))
-
 pub part_law : (s : Site) (found : Part) (components : List PlainName) (p : Part) → (part_at s found components ≡ Ok p) ↔ IsPart found components p
 part_law s found [] p = done found p
 part_law s found (name ∷ more) p =
     let c = component_of name.text (components found.sort) in
-    then (component s name.at c) (λ c. part_at s (as_part c) more) p (component_law s name.at c) (λ c. part_law s (as_part c) more p)
+    then (found_or c (at_byte s name.at NoName)) (λ c. part_at s (as_part c) more) p (found_law c (at_byte s name.at NoName)) (λ c. part_law s (as_part c) more p)
 
 -- a place, whose index comes to these
 pub place_law : {IsIndexed : TypedHeld → Type 0} (s : Site) (whole : Bool) (name : PlainName) (indexed : Bool) (index : Checked TypedHeld) (components : List PlainName) (p : NamedPart)

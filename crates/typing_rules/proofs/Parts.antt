@@ -3,7 +3,8 @@ use Rattle.std.proofs.Common.{◌≡◌, ◌↔◌, List, [], ◌∷◌, Option,
 use Rattle.raw_trees.specs.Plain.{PlainExpr}
 use Rattle.rapid_model.specs.declared.sort.Sort.{Sort}
 use Rattle.rapid_model.specs.declared.sort.Sort.TheVariants as sorts
-use Rattle.typed_trees.specs.Plain.{TypedExpr}
+use Rattle.typed_trees.specs.Plain
+use Rattle.typed_trees.specs.Plain.{TypedExpr, TypedExprs}
 use Rattle.named_data.specs.declared.wanted.Wanted.TheVariants.{Is, Same}
 use Rattle.named_data.specs.Rules.{Site}
 use Rattle.expr_types.specs.Typing.{typed}
@@ -29,7 +30,7 @@ bounds_law s first last step b =
     (λ (f, is_first, (l, is_last, (u, is_step, same))). subst (AreBounds s first last step) (sym same) (is_first, is_last, is_step))
     (λ (is_first, is_last, is_step). (b.first, is_first, (b.last, is_last, (b.step, is_step, refl))))
 
-pub case_values_law : (s : Site) (sort : Sort) (es : List PlainExpr) (us : List TypedExpr) → (case_values s sort es ≡ Ok us) ↔ AreCaseValues s sort es us
-case_values_law s sort [] us = done [] us
+pub case_values_law : (s : Site) (sort : Sort) (es : List PlainExpr) (us : TypedExprs) → (case_values s sort es ≡ Ok us) ↔ AreCaseValues s sort es us
+case_values_law s sort [] us = done Plain.NoExprs us
 case_values_law s sort (e ∷ es) us =
-    both (typed s e (Same sort)) (case_values s sort es) (λ t ts. t ∷ ts) us (typed_law s e (Same sort)) (case_values_law s sort es)
+    both (typed s e (Same sort)) (case_values s sort es) Plain.MoreExprs us (typed_law s e (Same sort)) (case_values_law s sort es)

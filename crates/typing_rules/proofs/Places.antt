@@ -6,8 +6,8 @@ use Rattle.rapid_model.specs.declared.sort.Sort.TheVariants as sorts
 use Rattle.typed_trees.specs.Plain
 use Rattle.typed_trees.specs.Plain.{TypedPlace}
 use Rattle.typed_trees.specs.declared.expr.TreeRoot.{TreeRoot}
-use Rattle.data_scopes.specs.declared.fault.TypeRule.TheVariants.{NotThis, TypeClash, ReadOnly}
-use Rattle.data_scopes.specs.Declarations.{Checked}
+use Rattle.rule_checks.specs.declared.rule.TypeRule.TheVariants.{NotThis, TypeClash, ReadOnly}
+use Rattle.rule_checks.specs.TypeChecks.{Checked}
 use Rattle.rapid_model.specs.Sorts.{has_values}
 use Rattle.named_data.specs.declared.named.Access.{Access}
 use Rattle.named_data.specs.declared.named.Source.{Source}

@@ -7,11 +7,11 @@ use Rattle.rapid_model.specs.declared.sort.Sort.{Sort}
 use Rattle.rapid_model.specs.declared.sort.Sort.TheVariants as sorts
 use Rattle.typed_trees.specs.Plain
 use Rattle.typed_trees.specs.Plain.{TypedStmt}
-use Rattle.data_scopes.specs.declared.fault.TypeRule.TheVariants.{HandlerOnly, ReturnKind}
+use Rattle.rule_checks.specs.declared.rule.TypeRule.TheVariants.{HandlerOnly, ReturnKind}
 use Rattle.data_scopes.specs.Called.{result_of}
-use Rattle.data_scopes.specs.Declarations.{◌>>=◌}
+use Rattle.rule_checks.specs.Checks.{◌>>=◌, must}
 use Rattle.named_data.specs.declared.wanted.Wanted.TheVariants.{Any, Is}
-use Rattle.named_data.specs.Rules.{Site, must}
+use Rattle.named_data.specs.Rules.{Site, at_byte}
 use Rattle.expr_types.specs.Typing.{typed}
 use Rattle.body_types.specs.Bodies.{Body, Around, is_function, returned_value, returned, raised}
 use Rattle.typing_rules.proofs.Steps.{done, never, then, never_after, where_it_holds}
@@ -19,7 +19,7 @@ use Rattle.typing_rules.proofs.Expressions.{typed_law}
 use Rattle.typing_rules.specs.Statements.{IsReturnedValue, IsReturn, IsRaise}
 
 no_value_law : (body : Body) (s : Site) (at : ℕ) (kind : RoutineKind) (t : TypedStmt)
-    → ((must s (not (is_function kind)) at ReturnKind >>= (λ _. Ok (Plain.Return at None))) ≡ Ok t) ↔ IsReturn body s at None kind t
+    → ((must (not (is_function kind)) (at_byte s at ReturnKind) >>= (λ _. Ok (Plain.Return at None))) ≡ Ok t) ↔ IsReturn body s at None kind t
 no_value_law body s at kinds.Func t = never _ t
 no_value_law body s at kind t = done (Plain.Return at None) t
 

@@ -2,23 +2,20 @@
 use Rattle.std.proofs.Common.{◌≡◌, ◌↔◌, ℕ, ◌+◌, true, false, List, [], ◌∷◌, ◌++◌, length, Option, Some, None, Ok}
 use Rattle.raw_trees.specs.Plain as Raw
 use Rattle.raw_trees.specs.Plain.{PlainRoutine, PlainItem, PlainModule, Datum, Routine, stmts_of}
-use Rattle.typed_trees.specs.Plain.{TypedStmt, TypedLocal, TypedRoutine}
+use Rattle.typed_trees.specs.Plain.{TypedStmts, TypedLocal, TypedRoutine}
 use Rattle.data_scopes.specs.Scopes.{Names}
-use Rattle.body_types.specs.Bodies.{Body, outside, stmts, into}
-use Rattle.stmt_types.specs.Task.{list_of, handler_of, body_of, typed_routine, items_bodies, bodies}
+use Rattle.body_types.specs.Bodies.{Body, Typed, outside, stmts, into}
+use Rattle.stmt_types.specs.Task.{handler_of, body_of, typed_routine, items_bodies, bodies}
 use Rattle.typing_rules.proofs.Steps.{in_words, done, then}
+use Rattle.typing_rules.proofs.Sequences.{typed_is, with_last}
 use Rattle.typing_rules.proofs.Statements.{stmts_law}
 use Rattle.typing_rules.specs.Tasks.{IsHandler, IsRoutine, AreItemRoutines, AreRoutines}
 use Rattle.typing_rules.proofs.TaskSteps.{regrouped}
 
-handler_law : (body : Body) (handler : Option (List Raw.PlainStmt)) (next : ℕ) (h : Option (List TypedStmt)) → (handler_of body handler next ≡ Ok h) ↔ IsHandler body handler next h
-handler_law body None next h = done None h
+handler_law : (body : Body) (handler : Option (List Raw.PlainStmt)) (next : ℕ) (h : Typed (Option TypedStmts)) → (handler_of body handler next ≡ Ok h) ↔ IsHandler body handler next h.tree h.next
+handler_law body None next h = typed_is None next h
 handler_law body (Some list) next h =
-    in_words
-    (then (stmts body (stmts_of list) (into (outside true) (stmts_of list)) next) _ h (stmts_law body (stmts_of list) (into (outside true) (stmts_of list)) next) (λ l.
-    done (Some (list_of l.tree)) h))
-    (λ (l, are, is). (l.tree, l.next, are, is))
-    (λ (ts, past, are, is). (record { tree = ts; next = past }, are, is))
+    with_last (stmts body (stmts_of list) (into (outside true) (stmts_of list)) next) Some h (stmts_law body (stmts_of list) (into (outside true) (stmts_of list)) next)
 
 routine_law : (names : Names) (locals : List (List TypedLocal)) (number routine : ℕ) (r : PlainRoutine) (t : TypedRoutine)
     → (typed_routine names locals number routine r ≡ Ok t) ↔ IsRoutine names locals number routine r t
@@ -27,8 +24,8 @@ routine_law names locals number routine r t =
     in_words
     (then (stmts body (stmts_of r.list) (into (outside false) (stmts_of r.list)) 0) _ t (stmts_law body (stmts_of r.list) (into (outside false) (stmts_of r.list)) 0) (λ l.
     then (handler_of body r.handler l.next) _ t (handler_law body r.handler l.next) (λ h. done _ t)))
-    (λ (l, are, (h, is_handler, is)). (l.tree, l.next, h, are, is_handler, is))
-    (λ (ts, past, h, are, is_handler, is). (record { tree = ts; next = past }, are, (h, is_handler, is)))
+    (λ (l, are, (h, is_handler, is)). (l.tree, l.next, h.tree, h.next, are, is_handler, is))
+    (λ (ts, middle, h, loops, are, is_handler, is). (record { tree = ts; next = middle }, are, (record { tree = h; next = loops }, is_handler, is)))
 
 items_law : (names : Names) (locals : List (List TypedLocal)) (number : ℕ) (is : List PlainItem) (before past : List TypedRoutine)
     → (items_bodies names locals number is before ≡ Ok past) ↔ AreItemRoutines names locals number is before past

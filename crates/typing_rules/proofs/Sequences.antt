@@ -2,15 +2,16 @@
 use Rattle.std.proofs.Common.{◌≡◌, ◌↔◌, ℕ, Bool, false, not, Ok, refl, sym, ap, subst}
 use Rattle.std.proofs.lemmas.Bool.{not-true, not_from_false}
 use Rattle.typed_trees.specs.Plain.{TypedStmt}
-use Rattle.data_scopes.specs.declared.fault.TypeRule.{TypeRule}
-use Rattle.data_scopes.specs.Declarations.{Checked, ◌>>=◌}
-use Rattle.named_data.specs.Rules.{Site, must}
+use Rattle.rule_checks.specs.declared.rule.TypeRule.{TypeRule}
+use Rattle.rule_checks.specs.Checks.{◌>>=◌, must}
+use Rattle.rule_checks.specs.TypeChecks.{Checked}
+use Rattle.named_data.specs.Rules.{Site, at_byte}
 use Rattle.body_types.specs.Bodies.{Typed, then_next}
 use Rattle.typing_rules.proofs.Steps.{in_words, done, then, where_it_holds}
 
 -- a rule that something is not, and what follows where it is not
 pub where_it_fails : {B P : Type 0} (s : Site) (fails : Bool) (at : ℕ) (rule : TypeRule) (rest : Checked B) (t : B) → ((rest ≡ Ok t) ↔ P)
-    → ((must s (not fails) at rule >>= (λ _. rest)) ≡ Ok t) ↔ ((fails ≡ false) × P)
+    → ((must (not fails) (at_byte s at rule) >>= (λ _. rest)) ≡ Ok t) ↔ ((fails ≡ false) × P)
 where_it_fails s fails at rule rest t next =
     in_words (where_it_holds s (not fails) at rule rest t next) (λ (fails_not, is). (not-true fails fails_not, is)) (λ (fails_not, is). (not_from_false fails fails_not, is))
 

@@ -6,12 +6,13 @@ use Rattle.rapid_model.specs.declared.sort.Sort.{Sort}
 use Rattle.rapid_model.specs.declared.sort.Sort.TheVariants as sorts
 use Rattle.typed_trees.specs.Plain
 use Rattle.typed_trees.specs.Plain.{TypedExpr, TypedPlace, TypedStmt, TypedStmts, TypedArms, TypedCases, TypedElse}
-use Rattle.data_scopes.specs.declared.fault.TypeRule.{TypeRule}
-use Rattle.data_scopes.specs.declared.fault.TypeRule.TheVariants.{NoLabel, LabelTwice, HandlerOnly}
-use Rattle.data_scopes.specs.Declarations.{Checked, ◌>>=◌}
+use Rattle.rule_checks.specs.declared.rule.TypeRule.{TypeRule}
+use Rattle.rule_checks.specs.declared.rule.TypeRule.TheVariants.{NoLabel, LabelTwice, HandlerOnly}
+use Rattle.rule_checks.specs.Checks.{◌>>=◌, must}
+use Rattle.rule_checks.specs.TypeChecks.{Checked}
 use Rattle.named_data.specs.declared.wanted.Wanted.TheVariants.{Is, Fits}
 use Rattle.named_data.specs.Data.{named}
-use Rattle.named_data.specs.Rules.{Site, must}
+use Rattle.named_data.specs.Rules.{Site, at_byte}
 use Rattle.expr_types.specs.Typing.{typed, sort_of}
 use Rattle.body_types.specs.Bodies.{Body, Around, Typed, site, into, into_loop, target, place_sort, assigned, called, returned, raised, connected, bounds, counter_place, case_values, then_next, stmt, stmts, branches, choices, otherwise}
 use Rattle.body_types.specs.Labels.{label_number, is_first, is_visible}
@@ -39,10 +40,10 @@ assign_law s at written value next r =
 
 -- a form that stands where a rule holds
 where_ruled : (s : Site) (holds : Bool) (at : ℕ) (rule : TypeRule) (tree : TypedStmt) (next : ℕ) (r : Typed TypedStmt)
-    → (then_next next (must s holds at rule >>= (λ _. Ok tree)) ≡ Ok r) ↔ ((holds ≡ true) × (r.tree ≡ tree) × (r.next ≡ next))
+    → (then_next next (must holds (at_byte s at rule) >>= (λ _. Ok tree)) ≡ Ok r) ↔ ((holds ≡ true) × (r.tree ≡ tree) × (r.next ≡ next))
 where_ruled s holds at rule tree next r =
     in_words
-    (alone next (must s holds at rule >>= (λ _. Ok tree)) r (λ t. where_it_holds s holds at rule _ t (done tree t)))
+    (alone next (must holds (at_byte s at rule) >>= (λ _. Ok tree)) r (λ t. where_it_holds s holds at rule _ t (done tree t)))
     (λ ((held, is), past). (held, is, past))
     (λ (held, is, past). ((held, is), past))
 

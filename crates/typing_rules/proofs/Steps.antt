@@ -1,8 +1,9 @@
 -- When checking in steps comes to a value: exactly where each step does. Each law, here and in the other files, says both ways.
-use Rattle.std.proofs.Common.{◌≡◌, ◌↔◌, ℕ, Bool, true, false, Ok, Err, refl, sym, ap, ◌∙◌}
-use Rattle.data_scopes.specs.declared.fault.TypeRule.{TypeRule}
-use Rattle.data_scopes.specs.Declarations.{Break, Checked, ◌>>=◌}
-use Rattle.named_data.specs.Rules.{Site, must}
+use Rattle.std.proofs.Common.{◌≡◌, ◌↔◌, ℕ, Bool, true, false, Option, Some, None, Ok, Err, refl, sym, ap, ◌∙◌}
+use Rattle.rule_checks.specs.declared.rule.TypeRule.{TypeRule}
+use Rattle.rule_checks.specs.Checks.{◌>>=◌, must, found_or}
+use Rattle.rule_checks.specs.TypeChecks.{TypeBreak, Checked}
+use Rattle.named_data.specs.Rules.{Site, at_byte}
 
 -- a law, with what it says in other words
 pub in_words : {A B C : Type 0} → (A ↔ B) → (B → C) → (C → B) → A ↔ C
@@ -16,7 +17,7 @@ neither law none = (λ a. absurd (law.0 a), λ c. absurd (none c))
 pub done : {A : Type 0} (x t : A) → (◌≡◌ {A = Checked A} (Ok x) (Ok t)) ↔ (t ≡ x)
 done x t = (λ e. sym (cc), λ e. ap Ok (sym e))
 
-pub never : {A : Type 0} (b : Break) (t : A) → (◌≡◌ {A = Checked A} (Err b) (Ok t)) ↔ ⊥
+pub never : {A : Type 0} (b : TypeBreak) (t : A) → (◌≡◌ {A = Checked A} (Err b) (Ok t)) ↔ ⊥
 never b t = (λ e. absurd (cc), λ none. absurd none)
 
 -- a step, and what follows it
@@ -35,6 +36,11 @@ both m n made t first next =
     (λ (x, p, (y, q, is)). (x, y, p, q, is))
     (λ (x, y, p, q, is). (x, p, (y, q, is)))
 
+-- what is there
+pub found_law : {A : Type 0} (found : Option A) (b : TypeBreak) (x : A) → (found_or found b ≡ Ok x) ↔ (found ≡ Some x)
+found_law None b x = (λ e. absurd (cc), λ e. absurd (cc))
+found_law (Some y) b x = (λ e. ap Some (cc), λ e. ap Ok (cc))
+
 -- a step behind which no value comes
 pub never_after : {A B : Type 0} (m : Checked A) (f : A → Checked B) (t : B) → ((x : A) → (f x ≡ Ok t) ↔ ⊥) → ((m >>= f) ≡ Ok t) ↔ ⊥
 never_after (Ok x) f t none = none x
@@ -42,11 +48,11 @@ never_after (Err b) f t none = never b t
 
 -- a rule, and what follows where it holds
 pub where_it_holds : {B P : Type 0} (s : Site) (holds : Bool) (at : ℕ) (rule : TypeRule) (rest : Checked B) (t : B) → ((rest ≡ Ok t) ↔ P)
-    → ((must s holds at rule >>= (λ _. rest)) ≡ Ok t) ↔ ((holds ≡ true) × P)
+    → ((must holds (at_byte s at rule) >>= (λ _. rest)) ≡ Ok t) ↔ ((holds ≡ true) × P)
 where_it_holds s true at rule rest t next = (λ e. (refl, next.0 e), λ (holds, is). next.1 is)
 where_it_holds s false at rule rest t next = (λ e. absurd (cc), λ (holds, is). absurd (cc))
 
 -- a rule alone
-pub it_holds : (s : Site) (holds : Bool) (at : ℕ) (rule : TypeRule) (t : Unit {0}) → (must s holds at rule ≡ Ok t) ↔ (holds ≡ true)
-it_holds s true at rule t = (λ e. refl, λ e. refl)
-it_holds s false at rule t = (λ e. absurd (cc), λ e. absurd (cc))
+pub it_holds : (holds : Bool) (broken : TypeBreak) (t : Unit {0}) → (must holds broken ≡ Ok t) ↔ (holds ≡ true)
+it_holds true broken t = (λ e. refl, λ e. refl)
+it_holds false broken t = (λ e. absurd (cc), λ e. absurd (cc))

@@ -3,7 +3,7 @@ use Rattle.std.proofs.Common.{◌≡◌, ◌↔◌, ℕ, Bool, List, [], nat_le,
 use Rattle.raw_trees.specs.Plain.{PlainModule}
 use Rattle.rapid_model.specs.declared.signal_row.SignalRow.{SignalRow}
 use Rattle.typed_trees.specs.Plain.{TypedTree}
-use Rattle.data_scopes.specs.declared.fault.TypeRule.TheVariants.{DataRange}
+use Rattle.rule_checks.specs.declared.rule.TypeRule.TheVariants.{DataRange}
 use Rattle.data_scopes.specs.Naming.{names_of}
 use Rattle.named_data.specs.Rules.{Site}
 use Rattle.decl_types.specs.Data.{beginning, data_of}

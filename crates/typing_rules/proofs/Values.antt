@@ -12,8 +12,9 @@ use Rattle.typed_trees.specs.Plain.{TypedExprs}
 use Rattle.constant_meaning.specs.Constants.{Elements, Outcomes, all, stops, constant_value, constant_values, is_constant, are_constant, element_number}
 use Rattle.constant_meaning.specs.declared.outcome.Outcome.{Outcome}
 use Rattle.constant_meaning.specs.declared.outcome.Outcome.TheVariants as outcomes
-use Rattle.data_scopes.specs.declared.fault.TypeRule.TheVariants.{NoInit, NotConst, ConstFault, DimRange}
-use Rattle.data_scopes.specs.Declarations.{Checked, ◌>>=◌}
+use Rattle.rule_checks.specs.declared.rule.TypeRule.TheVariants.{NoInit, NotConst, ConstFault, DimRange}
+use Rattle.rule_checks.specs.Checks.{◌>>=◌}
+use Rattle.rule_checks.specs.TypeChecks.{Checked}
 use Rattle.data_scopes.specs.Numbers.{is_const}
 use Rattle.data_scopes.specs.Rows.{begin_of}
 use Rattle.data_scopes.specs.Scopes.{Names}

@@ -8,7 +8,7 @@ use Rattle.data_scopes.specs.declared.data_row.DatumRow.{DatumRow}
 use Rattle.data_scopes.specs.declared.data_row.ParamRow.{ParamRow}
 use Rattle.data_scopes.specs.declared.meant.Meant.{Meant}
 use Rattle.data_scopes.specs.declared.meant.Meant.TheVariants as meants
-use Rattle.data_scopes.specs.declared.spot.Spot.{Spot}
+use Rattle.rule_checks.specs.declared.spot.Spot.{Spot}
 use Rattle.data_scopes.specs.Declarations.{spot_of, type_of, is_own, item_scope, takes_sort, with_const}
 use Rattle.data_scopes.specs.Numbers.{Tally, no_counts, is_const, is_pers, is_scalar_const, datum_meant, after_item, after_items, param_meant, local_meant, tables_of}
 use Rattle.data_scopes.specs.Rows.{since_of, no_rows, with_datum, with_routine, outputs_of}

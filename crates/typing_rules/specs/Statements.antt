@@ -7,7 +7,7 @@ use Rattle.raw_trees.specs.declared.raw_routine.RoutineKind.TheVariants as kinds
 use Rattle.rapid_model.specs.declared.sort.Sort.{Sort}
 use Rattle.rapid_model.specs.declared.sort.Sort.TheVariants as sorts
 use Rattle.typed_trees.specs.Plain
-use Rattle.typed_trees.specs.Plain.{TypedExpr, TypedHeld, TypedPlace, TypedArgs, TypedStmt, TypedStmts, TypedArms, TypedCases, TypedElse}
+use Rattle.typed_trees.specs.Plain.{TypedExpr, TypedExprs, TypedHeld, TypedPlace, TypedArgs, TypedStmt, TypedStmts, TypedArms, TypedCases, TypedElse}
 use Rattle.typed_trees.specs.declared.expr.TreeRoot.{TreeRoot}
 use Rattle.data_scopes.specs.declared.meant.Meant.{Meant}
 use Rattle.data_scopes.specs.declared.meant.Meant.TheVariants as meants
@@ -77,9 +77,10 @@ IsStep s None u = u ≡ None
 IsStep s (Some e) u = (t : TypedExpr) × IsExpr s e (Is sorts.Num) t × (u ≡ Some t)
 
 -- the values of a CASE
-abbrev pub AreCaseValues : Site → Sort → List PlainExpr → List TypedExpr → Type 0
-AreCaseValues s sort [] us = us ≡ []
-AreCaseValues s sort (e ∷ es) us = (t : TypedExpr) × (ts : List TypedExpr) × IsExpr s e (Same sort) t × AreCaseValues s sort es ts × (us ≡ t ∷ ts)
+abbrev pub AreCaseValues : Site → Sort → List PlainExpr → TypedExprs → Type 0
+AreCaseValues s sort [] us = us ≡ Plain.NoExprs
+AreCaseValues s sort (e ∷ es) us =
+    (t : TypedExpr) × (ts : TypedExprs) × IsExpr s e (Same sort) t × AreCaseValues s sort es ts × (us ≡ Plain.MoreExprs t ts)
 
 -- the next FOR has the number next, and the one behind these statements the number past
 unfoldable mutual
@@ -133,7 +134,7 @@ unfoldable mutual
   pub AreChoices : Body → PlainCases → Site → Sort → Around → ℕ → TypedCases → ℕ → Type 0
   AreChoices body NoCases s sort around next ts past = (ts ≡ Plain.NoCases) × (past ≡ next)
   AreChoices body (MoreCases values list cases) s sort around next ts past =
-      (vs : List TypedExpr) × (l : TypedStmts) × (us : TypedCases) × (middle : ℕ) × AreCaseValues s sort values vs
+      (vs : TypedExprs) × (l : TypedStmts) × (us : TypedCases) × (middle : ℕ) × AreCaseValues s sort values vs
       × AreStmts body list (into around list) next l middle × AreChoices body cases s sort around middle us past × (ts ≡ Plain.MoreCases vs l us)
 
   -- ELSE and DEFAULT

@@ -4,28 +4,28 @@ use Rattle.std.specs.Prelude.{◌≡◌, ℕ, ◌+◌, Bool, true, false, List, 
 use Rattle.raw_trees.specs.Plain as Raw
 use Rattle.raw_trees.specs.Plain.{PlainRoutine, PlainItem, PlainModule, Datum, Routine, stmts_of}
 use Rattle.rapid_model.specs.declared.signal_row.SignalRow.{SignalRow}
-use Rattle.typed_trees.specs.Plain.{TypedStmt, TypedStmts, TypedLocal, TypedRoutine, TypedTree}
+use Rattle.typed_trees.specs.Plain.{TypedStmts, TypedLocal, TypedRoutine, TypedTree}
 use Rattle.data_scopes.specs.Called.{params_of, result_of}
 use Rattle.data_scopes.specs.Scopes.{Names, list_at}
 use Rattle.decl_types.specs.Data.{Progress, beginning}
 use Rattle.body_types.specs.Bodies.{Body, outside, into}
-use Rattle.stmt_types.specs.Task.{list_of, body_of, typed_params, main_among, routines_of, most_values, tree_of}
+use Rattle.stmt_types.specs.Task.{body_of, typed_params, main_among, routines_of, most_values, tree_of}
 use Rattle.typing_rules.specs.Statements.{AreStmts}
 use Rattle.typing_rules.specs.DeclaredNames.{AreNames}
 use Rattle.typing_rules.specs.Data.{AreModulesData}
 
--- the ERROR part, whose first FOR has this number
-abbrev pub IsHandler : Body → Option (List Raw.PlainStmt) → ℕ → Option (List TypedStmt) → Type 0
-IsHandler body None next h = h ≡ None
-IsHandler body (Some list) next h =
-    (ts : TypedStmts) × (past : ℕ) × AreStmts body (stmts_of list) (into (outside true) (stmts_of list)) next ts past × (h ≡ Some (list_of ts))
+-- the ERROR part; its first FOR has the number next, and the one behind it the number past
+abbrev pub IsHandler : Body → Option (List Raw.PlainStmt) → ℕ → Option TypedStmts → ℕ → Type 0
+IsHandler body None next h past = (h ≡ None) × (past ≡ next)
+IsHandler body (Some list) next h past =
+    (ts : TypedStmts) × AreStmts body (stmts_of list) (into (outside true) (stmts_of list)) next ts past × (h ≡ Some ts)
 
--- a routine of this number, with its data
+-- a routine of this number, with its data; its FORs are numbered from 0 through its list and its ERROR part
 abbrev pub IsRoutine : Names → List (List TypedLocal) → ℕ → ℕ → PlainRoutine → TypedRoutine → Type 0
 IsRoutine names locals number routine r t =
-    (ts : TypedStmts) × (past : ℕ) × (h : Option (List TypedStmt))
-    × AreStmts (body_of names number routine r) (stmts_of r.list) (into (outside false) (stmts_of r.list)) 0 ts past
-    × IsHandler (body_of names number routine r) r.handler past h
+    (ts : TypedStmts) × (middle : ℕ) × (h : Option TypedStmts) × (loops : ℕ)
+    × AreStmts (body_of names number routine r) (stmts_of r.list) (into (outside false) (stmts_of r.list)) 0 ts middle
+    × IsHandler (body_of names number routine r) r.handler middle h loops
     × (t ≡ record {
       name = r.name.text;
       «module» = number;
@@ -33,8 +33,9 @@ IsRoutine names locals number routine r t =
       result = result_of names.rows routine;
       params = typed_params r.params (params_of names.rows routine);
       locals = list_at locals routine;
-      list = list_of ts;
+      list = ts;
       handler = h;
+      loops = loops;
       at = r.at;
     })
 

@@ -7,25 +7,25 @@ use Rattle.stmt_parser.specs.Reads.{arms_read, cases_read, items_read}
 use Rattle.stmt_parser.proofs.Lists.{arm_takes, case_takes, stmt_takes}
 use Rattle.stmt_parser.proofs.+stmt.Goals as goal
 
-pub list::items-loop-list-init : goal.list::items-loop-list-init
+pub statements::items-loop-list-init : goal.statements::items-loop-list-init
 unfolding items_read
-list::items-loop-list-init t c = rw c.in_ok-list.ensures.items (front_none _)
+statements::items-loop-list-init t c = rw c.in_ok-list.ensures.items (front_none _)
 
-pub list::items-returns-in_err-stmt : goal.list::items-returns-in_err-stmt
-list::items-returns-in_err-stmt t c =
+pub statements::items-returns-in_err-stmt : goal.statements::items-returns-in_err-stmt
+statements::items-returns-in_err-stmt t c =
     let p = err_from_is_err_and c.from_residual-in_err-stmt.result c.from_residual-in_err-stmt.ensures.1 in
     rw (p.1, p.2) (loop_fails (stmt_takes c.args.left) _ (view_list c.loop-list.list) c.args.p.now.tokens _ c.loop-list.next _ (sym c.sees.ensures ∙ c.loop-list-test.true) c.loop-list.invariant c.in_err-stmt.ensures)
 
-pub list::items-loop-list-smaller : goal.list::items-loop-list-smaller
-list::items-loop-list-smaller t c = loop_smaller (stmt_takes c.args.left) c.args.p.now.tokens c.loop-list.next c.in_ok-stmt.after (view_stmt c.in_ok-stmt.stmt) c.in_ok-stmt.ensures
+pub statements::items-loop-list-smaller : goal.statements::items-loop-list-smaller
+statements::items-loop-list-smaller t c = loop_smaller (stmt_takes c.args.left) c.args.p.now.tokens c.loop-list.next c.in_ok-stmt.after (view_stmt c.in_ok-stmt.stmt) c.in_ok-stmt.ensures
 
-pub list::items-loop-list-preserved : goal.list::items-loop-list-preserved
-list::items-loop-list-preserved t c =
+pub statements::items-loop-list-preserved : goal.statements::items-loop-list-preserved
+statements::items-loop-list-preserved t c =
     rw c.in_ok-push.ensures.items
     (loop_pushes (stmt_takes c.args.left) view_stmt _ c.loop-list.list.items (rest_from c.args.p.now.tokens c.loop-list.next) c.in_ok-stmt.stmt _ (sym c.sees.ensures ∙ c.loop-list-test.true) c.in_ok-stmt.ensures ∙ c.loop-list.invariant)
 
-pub list::items-returns : goal.list::items-returns
-list::items-returns t c = sym c.loop-list.invariant ∙ loop_done _ _ (view_list c.loop-list.list) (rest_from c.args.p.now.tokens c.loop-list.next) (sym c.sees.ensures ∙ c.loop-list-test.false)
+pub statements::items-returns : goal.statements::items-returns
+statements::items-returns t c = sym c.loop-list.invariant ∙ loop_done _ _ (view_list c.loop-list.list) (rest_from c.args.p.now.tokens c.loop-list.next) (sym c.sees.ensures ∙ c.loop-list-test.false)
 
 pub blocks::arms-loop-list-init : goal.blocks::arms-loop-list-init
 unfolding arms_read with_front

@@ -10,8 +10,8 @@ use Rattle.stmt_parser.proofs.+stmt.Given as goal
 -- The measure is the levels left, and within one level a rank by who calls whom: a list lowest, which opens a level, then
 -- what stands around lists, statements, and the statements of a list.
 
-abbrev pub decreases-list::list : goal.decreases-list::list
-decreases-list::list l = 10 * l.left
+abbrev pub decreases-statements::list : goal.decreases-statements::list
+decreases-statements::list l = 10 * l.left
 
 abbrev pub decreases-blocks::list_behind : goal.decreases-blocks::list_behind
 decreases-blocks::list_behind l = 10 * l.left + 1
@@ -49,18 +49,18 @@ decreases-blocks::cases l = 10 * l.left + 3
 abbrev pub decreases-blocks::choice : goal.decreases-blocks::choice
 decreases-blocks::choice l = 10 * l.left + 4
 
-abbrev pub decreases-list::stmt : goal.decreases-list::stmt
-decreases-list::stmt l = 10 * l.left + 6
+abbrev pub decreases-statements::stmt : goal.decreases-statements::stmt
+decreases-statements::stmt l = 10 * l.left + 6
 
-abbrev pub decreases-list::items : goal.decreases-list::items
-decreases-list::items l = 10 * l.left + 7
+abbrev pub decreases-statements::items : goal.decreases-statements::items
+decreases-statements::items l = 10 * l.left + 7
 
-abbrev pub invariant-list::items-loop-list : goal.invariant-list::items-loop-list
-invariant-list::items-loop-list l =
+abbrev pub invariant-statements::items-loop-list : goal.invariant-statements::items-loop-list
+invariant-statements::items-loop-list l =
     with_front (view_list l.list) (many_read stmt_signs (stmt_read l.left) (rest_from l.p.tokens l.next)) ≡ items_read l.left (rest_from l.p.tokens l.at)
 
-abbrev pub decreases-list::items-loop-list : goal.decreases-list::items-loop-list
-decreases-list::items-loop-list l = length l.p.tokens.list.now - l.next
+abbrev pub decreases-statements::items-loop-list : goal.decreases-statements::items-loop-list
+decreases-statements::items-loop-list l = length l.p.tokens.list.now - l.next
 
 abbrev pub invariant-blocks::arms-loop-list : goal.invariant-blocks::arms-loop-list
 invariant-blocks::arms-loop-list l =

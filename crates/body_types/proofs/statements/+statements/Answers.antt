@@ -9,9 +9,10 @@ use Rattle.rapid_model.specs.declared.sort.Sort.TheVariants as sorts
 use Rattle.typed_trees.specs.declared.expr.Expr.{Expr}
 use Rattle.typed_trees.specs.declared.stmt.Stmt.{Stmt}
 use Rattle.typed_trees.specs.Plain
-use Rattle.typed_trees.specs.Plain.{TypedExpr, stmts_of}
+use Rattle.typed_trees.specs.Plain.{TypedExpr, TypedExprs, exprs_of, stmts_of}
 use Rattle.typed_trees.specs.Views.{view_arm, view_case, view_expr, view_list, view_stmt}
-use Rattle.data_scopes.specs.Declarations.{Checked, ◌>>=◌}
+use Rattle.rule_checks.specs.Checks.{◌>>=◌}
+use Rattle.rule_checks.specs.TypeChecks.{Checked}
 use Rattle.named_data.specs.declared.wanted.Wanted.TheVariants.{Is, Fits}
 use Rattle.named_data.specs.Views.{view_site}
 use Rattle.expr_types.specs.Typing.{typed, sort_of}
@@ -160,7 +161,7 @@ choices-returns-in_err-values t c =
     let item = c.loop-values-item.result in
     let rest : ℕ → Checked (Typed Plain.TypedCases) = λ n. choices body (raw_cases_of (map view_raw_case (drop (i + 1) list))) site sort around n in
     let here : Checked (Typed Plain.TypedCases) = choices body (raw_cases_of (map view_raw_case (drop i list))) site sort around number in
-    let then_list : List TypedExpr → Checked (Typed Plain.TypedCases) = λ vs. inside body around item.1 number >>= then_cases rest vs in
+    let then_list : TypedExprs → Checked (Typed Plain.TypedCases) = λ vs. inside body around item.1 number >>= then_cases rest vs in
     let more = cases_more body around site sort list i number item c.loop-values-test.true c.loop-values-item.is
     ∙ ap (λ es. case_values site sort (map view_raw es) >>= then_list) (sym c.deref.ensures.value) in
     let whole = c.loop-values.invariant ∙ ap (λ cs. choices body (raw_cases_of (map view_raw_case cs)) site sort around c.args.next) c.deref-values-items.ensures.value
@@ -181,14 +182,14 @@ choices-returns-in_err-inside t c =
     let item = c.loop-values-item.result in
     let rest : ℕ → Checked (Typed Plain.TypedCases) = λ n. choices body (raw_cases_of (map view_raw_case (drop (i + 1) list))) site sort around n in
     let here : Checked (Typed Plain.TypedCases) = choices body (raw_cases_of (map view_raw_case (drop i list))) site sort around number in
-    let then_list : List TypedExpr → Checked (Typed Plain.TypedCases) = λ vs. inside body around item.1 number >>= then_cases rest vs in
+    let then_list : TypedExprs → Checked (Typed Plain.TypedCases) = λ vs. inside body around item.1 number >>= then_cases rest vs in
     let more = cases_more body around site sort list i number item c.loop-values-test.true c.loop-values-item.is
     ∙ ap (λ es. case_values site sort (map view_raw es) >>= then_list) (sym c.deref.ensures.value) in
     let whole = c.loop-values.invariant ∙ ap (λ cs. choices body (raw_cases_of (map view_raw_case cs)) site sort around c.args.next) c.deref-values-items.ensures.value
     ∙ ap (λ cs. choices body cs site sort around c.args.next) (sym (test_cases c.args.raw.now c.in-Test.value c.in-Test.cases c.in-Test.other c.in-Test.is)) in
     exits view_typed_cases c.from_residual-in_err-inside.result c.in_err-inside.field-0.0 _ c.from_residual-in_err-inside.ensures.1
-    (stops_at more_cases (map case_front front) here (inside body around item.1 number) (then_cases rest (map view_expr c.in_ok-values.values.items)) _ c.in_err-inside.field-0.0 whole
-    (more ∙ ap (λ (r : Checked (List TypedExpr)). r >>= then_list) c.in_ok-values.ensures) c.in_err-inside.ensures)
+    (stops_at more_cases (map case_front front) here (inside body around item.1 number) (then_cases rest (exprs_of (map view_expr c.in_ok-values.values.items))) _ c.in_err-inside.field-0.0 whole
+    (more ∙ ap (λ (r : Checked TypedExprs). r >>= then_list) c.in_ok-values.ensures) c.in_err-inside.ensures)
 
 pub choices-loop-values-preserved : goal.choices-loop-values-preserved
 choices-loop-values-preserved t c =
@@ -203,7 +204,7 @@ choices-loop-values-preserved t c =
     let item = c.loop-values-item.result in
     let rest : ℕ → Checked (Typed Plain.TypedCases) = λ n. choices body (raw_cases_of (map view_raw_case (drop (i + 1) list))) site sort around n in
     let here : Checked (Typed Plain.TypedCases) = choices body (raw_cases_of (map view_raw_case (drop i list))) site sort around number in
-    let then_list : List TypedExpr → Checked (Typed Plain.TypedCases) = λ vs. inside body around item.1 number >>= then_cases rest vs in
+    let then_list : TypedExprs → Checked (Typed Plain.TypedCases) = λ vs. inside body around item.1 number >>= then_cases rest vs in
     let more = cases_more body around site sort list i number item c.loop-values-test.true c.loop-values-item.is
     ∙ ap (λ es. case_values site sort (map view_raw es) >>= then_list) (sym c.deref.ensures.value) in
     let values = c.in_ok-values.values in
@@ -211,8 +212,8 @@ choices-loop-values-preserved t c =
     subst (λ (done : List (Vec Expr Global × Vec Stmt Global)). behind more_cases (map case_front done) (rest typed_list.next) ≡ choices body (raw_cases_of (map view_raw_case list)) site sort around c.args.next) (sym c.in_ok-push.ensures.items)
     (ap (λ done. behind more_cases done (rest typed_list.next)) (map_push case_front front (values, typed_list.list))
     ∙ further more_cases (map case_front front) (case_front (values, typed_list.list)) here (rest typed_list.next) _ c.loop-values.invariant
-    (more ∙ ap (λ (r : Checked (List TypedExpr)). r >>= then_list) c.in_ok-values.ensures
-    ∙ ap (λ (r : Checked (Typed Plain.TypedStmts)). r >>= then_cases rest (map view_expr values.items)) c.in_ok-inside.ensures))
+    (more ∙ ap (λ (r : Checked TypedExprs). r >>= then_list) c.in_ok-values.ensures
+    ∙ ap (λ (r : Checked (Typed Plain.TypedStmts)). r >>= then_cases rest (exprs_of (map view_expr values.items))) c.in_ok-inside.ensures))
 
 pub choices-returns : goal.choices-returns
 choices-returns t c =

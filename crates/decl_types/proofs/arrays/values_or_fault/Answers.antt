@@ -5,7 +5,7 @@ use Rattle.typed_trees.specs.Plain.{exprs_of}
 use Rattle.typed_trees.specs.Views.{view_expr}
 use Rattle.constant_meaning.specs.Constants.{and_more, constant_values, elements_of}
 use Rattle.constant_meaning.proofs.Lists.{behind, kept, values_end, values_more}
-use Rattle.data_scopes.specs.Gives.{Fails}
+use Rattle.rule_checks.specs.TypeChecks.{Fails}
 use Rattle.data_scopes.proofs.All.{all_more}
 use Rattle.rapid_model.specs.Sorts.{is_value_of}
 use Rattle.named_data.specs.Views.{view_site}

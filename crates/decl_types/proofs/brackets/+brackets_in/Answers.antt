@@ -2,7 +2,7 @@ use Rattle.std.proofs.Common.{◌∙◌, map, sym, ap, subst}
 use Rattle.raw_trees.specs.Plain.{PlainExpr, Aggregate, exprs_of}
 use Rattle.raw_trees.specs.Views.{view_expr, view_form}
 use Rattle.raw_trees.proofs.Rows.{aggregate_view}
-use Rattle.data_scopes.specs.Gives.{Gives}
+use Rattle.rule_checks.specs.TypeChecks.{Gives}
 use Rattle.named_data.specs.Views.{view_site}
 use Rattle.decl_types.specs.Parts.{view_brackets}
 use Rattle.decl_types.specs.Values.{brackets}

@@ -4,16 +4,16 @@ use Rattle.raw_trees.specs.Views.{view_arg as view_raw_arg, view_expr as view_ra
 use Rattle.raw_trees.specs.declared.raw_expr.Operator.{Operator}
 use Rattle.typed_trees.specs.declared.expr.Arg.{Arg}
 use Rattle.typed_trees.specs.declared.expr.Expr.{Expr}
-use Rattle.data_scopes.specs.Gives.{Fails}
+use Rattle.rule_checks.specs.TypeChecks.{Fails, Checked}
 use Rattle.typed_trees.specs.Plain
 use Rattle.typed_trees.specs.Plain.{MoreArgs, MoreExprs, TypedArgs, TypedArg, TypedExpr, TypedExprs, args_of, exprs_of, steps_of}
 use Rattle.typed_trees.specs.Views.{view_arg, view_expr, view_step}
-use Rattle.data_scopes.specs.declared.fault.TypeRule.TheVariants.{ArgName, BadRef, TypeClash}
-use Rattle.data_scopes.specs.Declarations.{Checked, ◌>>=◌}
+use Rattle.rule_checks.specs.declared.rule.TypeRule.TheVariants.{ArgName, BadRef, TypeClash}
+use Rattle.rule_checks.specs.Checks.{◌>>=◌, must}
 use Rattle.data_scopes.specs.Rows.{begin_of}
 use Rattle.named_data.specs.declared.wanted.Wanted.TheVariants.{Any, Nothing}
 use Rattle.named_data.specs.Data.{NamedPart, given, named}
-use Rattle.named_data.specs.Rules.{fail, must}
+use Rattle.named_data.specs.Rules.{fail, at_byte}
 use Rattle.named_data.specs.Views.{view_site}
 use Rattle.named_data.specs.Wants.{first_operand, needed_components, of_component}
 use Rattle.expr_types.specs.Arguments.{argument, is_whole, lent_as, lent_of, lent_whole, meeting_meant, signal_meant}
@@ -207,7 +207,7 @@ steps-returns-in_err-must t c =
     let item = c.loop-operator-item.result in
     let left = c.loop-operator.sort in
     let front = c.loop-operator.steps.items in
-    let holds = ap (λ fits. must site fits at TypeClash) (sym c.suits.ensures) in
+    let holds = ap (λ fits. must fits (at_byte site at TypeClash)) (sym c.suits.ensures) in
     let whole = c.loop-operator.invariant ∙ ap (λ ss. steps site (raw_steps_of (map view_raw_step ss)) at c.args.left) c.deref-operator-items.ensures.value in
     exits view_chain c.from_residual-in_err-must.result c.in_err-must.field-0.0 _ c.from_residual-in_err-must.ensures.1
     (steps_clash site list at left i item front c.in_err-must.field-0.0 _ c.loop-operator-test.true c.loop-operator-item.is whole
@@ -222,7 +222,7 @@ steps-returns-in_err-value t c =
     let item = c.loop-operator-item.result in
     let left = c.loop-operator.sort in
     let front = c.loop-operator.steps.items in
-    let holds = ap (λ fits. must site fits at TypeClash) (sym c.suits.ensures) in
+    let holds = ap (λ fits. must fits (at_byte site at TypeClash)) (sym c.suits.ensures) in
     let whole = c.loop-operator.invariant ∙ ap (λ ss. steps site (raw_steps_of (map view_raw_step ss)) at c.args.left) c.deref-operator-items.ensures.value in
     exits view_chain c.from_residual-in_err-value.result c.in_err-value.field-0.0 _ c.from_residual-in_err-value.ensures.1
     (steps_stop site list at left i item front c.in_err-value.field-0.0 _ c.loop-operator-test.true c.loop-operator-item.is whole (holds ∙ c.in_ok-must.ensures) c.in_err-value.ensures)
@@ -236,7 +236,7 @@ steps-loop-operator-preserved t c =
     let item = c.loop-operator-item.result in
     let left = c.loop-operator.sort in
     let front = c.loop-operator.steps.items in
-    let holds = ap (λ fits. must site fits at TypeClash) (sym c.suits.ensures) in
+    let holds = ap (λ fits. must fits (at_byte site at TypeClash)) (sym c.suits.ensures) in
     subst (λ (done : List (Operator × Expr)). behind more_steps (map view_step done) (steps site (raw_steps_of (map view_raw_step (drop (i + 1) list))) at c.comes_to-sort.result) ≡ steps site (raw_steps_of (map view_raw_step list)) at c.args.left)
     (sym c.in_ok-push.ensures.items)
     (ap (λ sort. behind more_steps (map view_step (front ++ (item.0, c.in_ok-value.value) ∷ [])) (steps site (raw_steps_of (map view_raw_step (drop (i + 1) list))) at sort)) c.comes_to-sort.ensures

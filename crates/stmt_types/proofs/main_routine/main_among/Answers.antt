@@ -1,6 +1,6 @@
 use Rattle.std.proofs.Common.{◌+◌, Ok, length, map, drop, sym, ◌∙◌, ap}
 use Rattle.raw_trees.specs.Views.{view_item, view_module}
-use Rattle.data_scopes.proofs.Typed.{ok_same}
+use Rattle.rule_checks.proofs.Steps.{ok_same}
 use Rattle.stmt_types.specs.Task.{main_among, routines_in, routines_of}
 use Rattle.stmt_types.proofs.Mains.{from, found_here, looked_on, next_module}
 use Rattle.stmt_types.proofs.main_routine.main_among.Goals as goal

@@ -2,7 +2,7 @@ use Rattle.std.proofs.Common.{◌≡◌, ◌++◌, Ok, None, Some, map, drop, sl
 use Rattle.std.proofs.lemmas.List.{append-nil}
 use Rattle.raw_trees.specs.Views.{view_param as view_raw}
 use Rattle.typed_trees.specs.Views.{view_param}
-use Rattle.data_scopes.proofs.Typed.{ok_same}
+use Rattle.rule_checks.proofs.Steps.{ok_same}
 use Rattle.stmt_types.proofs.ParamRows.{no_rows_left, one_more_param}
 use Rattle.stmt_types.proofs.params.typed_params.Goals as goal
 

@@ -1,6 +1,7 @@
 use Rattle.std.proofs.Common.{◌≡◌, length, map, arith}
 use Rattle.raw_trees.specs.Views.{view_module}
-use Rattle.data_scopes.proofs.Typed.{names_kept, ok_same}
+use Rattle.rule_checks.proofs.Steps.{ok_same}
+use Rattle.data_scopes.proofs.Typed.{names_kept}
 use Rattle.data_scopes.proofs.scopes.Scopes.new.Goals as goal
 
 pub invariant_of-result : goal.invariant_of-result

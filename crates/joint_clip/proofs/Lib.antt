@@ -1,0 +1,8 @@
+pub mod Fractions
+pub mod Ways
+pub mod Parts
+pub mod Sides
+pub mod Axes
+pub mod Beyond
+pub mod Bounds
+mod Examples

@@ -1,0 +1,4 @@
+pub mod Touches
+pub mod Shapes
+pub mod Sides
+pub mod Parts

@@ -1,0 +1,16 @@
+//! Zones in joint space: the shape that two bound positions make, and whether a segment of a move touches a shape.
+#![tactic(auto)]
+
+mod cut;
+mod fraction;
+mod inside;
+mod making;
+mod outside;
+mod part;
+mod shape_fault;
+mod side;
+mod touching;
+
+pub use making::make_shape;
+pub use shape_fault::ShapeFault;
+pub use touching::touches;

@@ -1,0 +1,107 @@
+ghost use Rattle.std.specs.Prelude.{◌≡◌, ◌≤◌, ◌≤ℤ◌, ℤ, IsTrue, is_some};
+ghost use Rattle.std.specs.List.{list_any};
+ghost use Rattle.rapid_num.specs.Range.{IsNum};
+ghost use Rattle.joint_clip.specs.Shapes.{no_limit, kept_low, kept_high, bound_of, bounds_of, has_no_room, made_shape};
+
+use crate::shape_fault::ShapeFault;
+use rapid_num::{Bound, Joints, Num, Shape};
+
+/// The zone inside or outside the bounds of an arm of so many axes, at most twelve, where 9E9 is no limit: `ExtAxis`
+/// exactly where an axis that the arm does not have has a bound, else `ZoneShape` exactly where no axis has one or some
+/// axis has a low bound that is not below its high one (RAPID Instructions: WZLimJointDef).
+pub fn make_shape(
+    inside: bool,
+    low: &Joints,
+    high: &Joints,
+    axes: usize,
+) -> Result<Shape, ShapeFault>
+    requires axes { axes ≤ 12 }
+    ensures { result ≡ made_shape inside low.now high.now axes }
+{
+    let bounds = bounds_of(&low.axis, &high.axis);
+    let each = &bounds[..];
+    if is_any_named(&each[axes..]) {
+        return Err(ShapeFault::ExtAxis);
+    }
+    if !is_any_named(each) || is_any_without_room(each) {
+        return Err(ShapeFault::ZoneShape);
+    }
+    Ok(Shape { inside, bounds })
+}
+
+/// The bounds of each axis.
+fn bounds_of(lows: &[Num; 12], highs: &[Num; 12]) -> [Option<Bound>; 12]
+    ensures { result ≡ bounds_of lows.now highs.now }
+{
+    let mut bounds = [None; 12];
+    for axis in 0..12 {
+        bounds[axis] = bound_of(lows[axis], highs[axis]);
+    }
+    bounds
+}
+
+/// The bounds of an axis: none where neither is a limit.
+fn bound_of(low: Num, high: Num) -> Option<Bound>
+    ensures { result ≡ bound_of low high }
+{
+    if is_no_limit(low) && is_no_limit(high) {
+        return None;
+    }
+    Some(Bound {
+        low: kept_low(low),
+        high: kept_high(high),
+    })
+}
+
+/// What is kept of a low bound: the least num for 9E9.
+fn kept_low(low: Num) -> Num
+    ensures kept { result ≡ kept_low low }
+    ensures passed_by_none { IsTrue (no_limit low) → (angle : ℤ) → IsNum angle → result ≤ℤ angle }
+{
+    if is_no_limit(low) {
+        Num::new(-9_999_999_999_999).unwrap()
+    } else {
+        low
+    }
+}
+
+/// What is kept of a high bound: the greatest num for 9E9.
+fn kept_high(high: Num) -> Num
+    ensures kept { result ≡ kept_high high }
+    ensures passed_by_none { IsTrue (no_limit high) → (angle : ℤ) → IsNum angle → angle ≤ℤ result }
+{
+    if is_no_limit(high) {
+        Num::new(9_999_999_999_999).unwrap()
+    } else {
+        high
+    }
+}
+
+/// 9E9.
+fn is_no_limit(bound: Num) -> bool
+    ensures { result ≡ no_limit bound }
+{
+    bound.thousandths() == 9_000_000_000_000
+}
+
+fn is_any_named(bounds: &[Option<Bound>]) -> bool
+    ensures { result ≡ list_any is_some bounds.now }
+{
+    bounds.iter().any(|bound| bound.is_some())
+}
+
+fn is_any_without_room(bounds: &[Option<Bound>]) -> bool
+    ensures { result ≡ list_any has_no_room bounds.now }
+{
+    bounds.iter().any(|bound| has_no_room(bound))
+}
+
+/// Whether the low bound is not below the high one.
+fn has_no_room(bound: &Option<Bound>) -> bool
+    ensures { result ≡ has_no_room bound.now }
+{
+    match bound {
+        Some(bound) => bound.low.thousandths() >= bound.high.thousandths(),
+        None => false,
+    }
+}

@@ -1,0 +1,35 @@
+//! Outside zones: where an axis is past a bound on the way, it is so at one of the ends.
+
+ghost use Rattle.std.specs.Prelude.{◌↔◌, IsTrue};
+ghost use Rattle.joint_clip.specs.Touches.{LiesOutside, SomeFraction, IsBeyond, point_at, way_at};
+
+use rapid_num::{Bound, Joints, Num};
+
+/// Whether a segment has a point where some named axis is past one of its bounds.
+pub(crate) fn passes_outside(p: &Joints, q: &Joints, bounds: &[Option<Bound>; 12]) -> bool
+    ensures { IsTrue result ↔ SomeFraction (λ k m. LiesOutside bounds.now (point_at p.now q.now k m) m) }
+{
+    for axis in 0..12 {
+        if let Some(bound) = &bounds[axis] {
+            if passes_beyond(p.axis[axis], q.axis[axis], bound) {
+                return true;
+            }
+        }
+    }
+    false
+}
+
+/// Whether an axis that goes from `p` to `q` is past one of the bounds on the way.
+fn passes_beyond(p: Num, q: Num, bound: &Bound) -> bool
+    ensures { IsTrue result ↔ SomeFraction (λ k m. IsBeyond bound.now (way_at p q k m) m) }
+{
+    is_beyond(p, bound) || is_beyond(q, bound)
+}
+
+/// Whether an angle is past one of the bounds, which belong to what is within them.
+fn is_beyond(angle: Num, bound: &Bound) -> bool
+    ensures { IsTrue result ↔ IsBeyond bound.now angle 1 }
+{
+    let angle = angle.thousandths();
+    angle < bound.low.thousandths() || bound.high.thousandths() < angle
+}

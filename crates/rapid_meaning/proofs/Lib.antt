@@ -1,0 +1,11 @@
+pub mod Trees
+pub mod Asked
+mod SmallTasks
+mod Forms
+pub mod Begins
+pub mod Fuel
+pub mod Growth
+pub mod Composing
+pub mod ConstantsAgree
+mod ConstantArrays
+pub mod Setpoints

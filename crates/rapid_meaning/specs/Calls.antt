@@ -1,0 +1,45 @@
+-- Routines (RAPID Kernel, routine declarations), and what each part of a program is.
+use Rattle.std.specs.Prelude.{List, Option, None, Some, slice_get}
+use Rattle.rapid_model.specs.declared.fate.Fault.TheVariants.{NoReturn}
+use Rattle.raw_trees.specs.declared.raw_routine.RoutineKind.{RoutineKind}
+use Rattle.raw_trees.specs.declared.raw_routine.RoutineKind.TheVariants as kinds
+use Rattle.typed_trees.specs.Plain.{TypedRoutine, TypedStmts, TypedTree}
+use Rattle.typed_trees.specs.declared.datum.Datum.{Datum}
+use Rattle.rapid_meaning.specs.Doings.{Doing, Gives, Raises, Misfit, ◌>>◌, after, fault}
+use Rattle.rapid_meaning.specs.Flows.{Flow, Normal, Returns, Errors, Unguarded, Guarded, Where, Part, Attempt, Turn, Rest, Call}
+use Rattle.rapid_meaning.specs.Frames.{enters, frame_of, leaves}
+use Rattle.rapid_meaning.specs.Lists.{rest}
+use Rattle.rapid_meaning.specs.Statements.{stmt, turn}
+
+abbrev pub errors_of : Option TypedStmts → Errors
+errors_of None = Unguarded
+errors_of (Some part) = Guarded part
+
+-- where the statements of a routine's list stand
+abbrev pub within : TypedRoutine → Where
+within routine = record { routine = routine; errors = errors_of routine.handler }
+
+-- a FUNC that reaches its end is a fault; a PROC and a TRAP end there, or return
+abbrev pub result : RoutineKind → Flow → Doing Flow
+result kinds.Func (Returns (Some v)) = leaves >> Gives (Returns (Some v))
+result kinds.Func Normal = fault NoReturn
+result kinds.Func flow = Misfit
+result kind Normal = leaves >> Gives Normal
+result kind (Returns None) = leaves >> Gives Normal
+result kind flow = Misfit
+
+abbrev pub body : TypedTree → TypedRoutine → Doing Flow
+body tree routine = rest tree (within routine) routine.list routine.list
+
+-- A routine's data are made, where there is room, and its list is done. An error that leaves it is an error of the statement
+-- that called it.
+abbrev pub called : TypedTree → List Datum → Option TypedRoutine → Doing Flow
+called tree args None = Misfit
+called tree args (Some routine) = enters (frame_of routine args) >> after (body tree routine) (result routine.kind) (λ error. leaves >> Raises error)
+
+-- each part of a program
+abbrev pub part : TypedTree → Part → Doing Flow
+part tree (Attempt w s) = stmt tree w s
+part tree (Turn w s) = turn w s
+part tree (Rest w list more) = rest tree w list more
+part tree (Call routine args) = called tree args (slice_get tree.routines routine)

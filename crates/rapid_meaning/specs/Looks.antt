@@ -1,0 +1,43 @@
+-- How each statement begins: by its Look, at which a trap may run (RAPID Overview, interrupts).
+use Rattle.std.specs.Prelude.{ℕ, true, false, [], Option, Some}
+use Rattle.rapid_model.specs.declared.answer.Answer.{Answer}
+use Rattle.rapid_model.specs.declared.answer.Answer.TheVariants as answers
+use Rattle.rapid_model.specs.declared.fate.Fault.TheVariants.{TrapFlood, Unhandled}
+use Rattle.rapid_model.specs.declared.request.Request.TheVariants.{Look, Leave, Hold, Rise}
+use Rattle.rapid_meaning.specs.Data.{At, seen_in, with_seen}
+use Rattle.rapid_meaning.specs.Doings.{Doing, Misfit, Asks, Reads, Does, ◌>>◌, change, fault, goes_to, tells}
+use Rattle.rapid_meaning.specs.Flows.{Flow, Part, Call, Where}
+
+-- the trap has ended: it is left, and then the part begins with its Look again
+abbrev pub left : Part → Doing Flow
+left again = do
+  tells Leave
+  change (λ d. record d { trapped = false })
+  goes_to again
+
+-- a trap runs on the spot; an error that leaves it ends the task
+abbrev pub interrupted : Part → ℕ → Doing Flow
+interrupted again trap = do
+  change (λ d. record d { trapped = true })
+  Does (Call trap []) (λ _. left again) (λ error. fault (Unhandled error))
+
+abbrev pub looked : Part → Doing Flow → Answer → Doing Flow
+looked again go (answers.Go seen) = do
+  change (λ d. record d { frames = with_seen seen d.frames })
+  go
+looked again go (answers.Trap number trap) = interrupted again trap
+looked again go answers.Flood = fault TrapFlood
+looked again go _ = Misfit
+
+abbrev pub place_of : Where → ℕ → Option At
+place_of w byte = Some (record { «module» = w.routine.«module»; byte = byte })
+
+-- the Look of a statement that begins at this byte, and what follows where it may begin; after a trap this part begins again
+abbrev pub look : Where → ℕ → Part → Doing Flow → Doing Flow
+look w byte again go = do
+  change (λ d. record d { place = place_of w byte })
+  Asks Look (looked again go)
+
+-- a wait that is not ready holds with the number that its own Look told, rises, and begins with its Look again
+abbrev pub hold : Part → Doing Flow
+hold again = Reads (λ d. tells (Hold (seen_in d.frames)) >> (tells Rise >> goes_to again))

@@ -1,0 +1,40 @@
+-- Moves of the arm (RAPID Instructions: MoveAbsJ).
+use Rattle.std.specs.Prelude.{ℕ, zero, suc, ◌-◌, ◌/◌, max, not, ℤ, pos, int_lt, nat_abs, if◌then◌else◌}
+use Rattle.rapid_num.specs.Reach.{is_reachable}
+use Rattle.rapid_num.specs.declared.joints.Joints.{Joints}
+use Rattle.joint_planner.specs.Setpoints.{setpoint, setpoint_count}
+use Rattle.rapid_model.specs.declared.answer.Answer.{Answer}
+use Rattle.rapid_model.specs.declared.answer.Answer.TheVariants as answers
+use Rattle.rapid_model.specs.declared.fate.Fault.TheVariants.{JointRange, MoveInTrap, Speed, ZoneStop}
+use Rattle.rapid_model.specs.declared.request.Request.TheVariants.{Position, Setpoint}
+use Rattle.rapid_meaning.specs.Doings.{Misfit, Asks, Reads, Act, done, fault}
+
+-- no move in a trap
+abbrev pub still : Act
+still = Reads (λ d. if d.trapped then fault MoveInTrap else done)
+
+-- the most that an axis moves in one setpoint, in thousandths of a degree: the whole part of the speed, 1 at least
+abbrev pub cap_of : ℤ → ℕ
+cap_of speed = max 1 (nat_abs speed / 1_000)
+
+abbrev pub when_given : Act → Answer → Act
+when_given next answers.Given = next
+when_given next (answers.Stopped zone) = fault ZoneStop
+when_given next _ = Misfit
+
+-- the last `left` of n setpoints, in order
+unfoldable pub setpoints : Joints → Joints → ℕ → ℕ → Act
+setpoints start target n zero = done
+setpoints start target n (suc left) = Asks (Setpoint (setpoint start target n (n - left))) (λ a. when_given (setpoints start target n left) a)
+
+-- from where the arm is, all setpoints of the move
+abbrev pub move_from : Joints → ℕ → Answer → Act
+move_from target cap (answers.At start) = setpoints start target (setpoint_count start target cap) (setpoint_count start target cap)
+move_from target cap _ = Misfit
+
+-- a move to a target at a speed of the tool
+abbrev pub move : Joints → ℤ → Act
+move target speed =
+    if not (is_reachable target) then fault JointRange
+    else if not (int_lt (pos 0) speed) then fault Speed
+    else Asks Position (move_from target (cap_of speed))

@@ -1,0 +1,51 @@
+-- The shape that a low and a high position make, where 9E9 is no limit.
+use Rattle.std.specs.Prelude.{ℕ, ◌==◌, Bool, false, not, ◌&&◌, ◌||◌, ℤ, pos, negsuc, neg_ℤ, int_lt, List, [], ◌∷◌, drop, Option, None, Some, is_some, is_none, Result, Ok, Err, if◌then◌else◌}
+use Rattle.std.specs.List.{list_all, list_any}
+use Rattle.rapid_num.specs.Range.{greatest}
+use Rattle.rapid_num.specs.declared.joints.Joints.{Joints}
+use Rattle.rapid_num.specs.declared.shape.Bound.{Bound}
+use Rattle.rapid_num.specs.declared.shape.Shape.{Shape}
+use Rattle.rapid_model.specs.declared.fate.Fault.{Fault}
+use Rattle.rapid_model.specs.declared.fate.Fault.TheVariants.{ExtAxis, ZoneShape}
+
+-- 9E9
+abbrev pub unlimited : ℤ
+unlimited = pos 9_000_000_000_000
+
+abbrev pub no_limit : ℤ → Bool
+no_limit (pos n) = n == 9_000_000_000_000
+no_limit (negsuc n) = false
+
+-- what is kept of a low and of a high bound: no num passes the least or the greatest one
+abbrev pub kept_low : ℤ → ℤ
+kept_low low = if no_limit low then neg_ℤ (pos greatest) else low
+
+abbrev pub kept_high : ℤ → ℤ
+kept_high high = if no_limit high then pos greatest else high
+
+-- the bounds of an axis, which is named where one of them is a limit
+abbrev pub bound_of : ℤ → ℤ → Option Bound
+bound_of low high = if no_limit low && no_limit high then None else Some (record { low = kept_low low; high = kept_high high })
+
+-- the bounds of each axis
+abbrev pub bounds_of : List ℤ → List ℤ → List (Option Bound)
+bounds_of (low ∷ lows) (high ∷ highs) = bound_of low high ∷ bounds_of lows highs
+bounds_of _ _ = []
+
+abbrev pub shape_of : Bool → Joints → Joints → Shape
+shape_of inside low high = record { inside = inside; bounds = bounds_of low.axis high.axis }
+
+-- the low bound is not below the high one
+abbrev pub has_no_room : Option Bound → Bool
+has_no_room None = false
+has_no_room (Some bound) = not (int_lt bound.low bound.high)
+
+abbrev pub checked_shape : ℕ → Shape → Result Shape Fault
+checked_shape axes shape =
+    if list_any is_some (drop axes shape.bounds) then Err ExtAxis
+    else if list_all is_none shape.bounds || list_any has_no_room shape.bounds then Err ZoneShape
+    else Ok shape
+
+-- the shape for an arm of so many axes: an axis past them is named, or none is, or one has no room, or all is well
+abbrev pub made_shape : Bool → Joints → Joints → ℕ → Result Shape Fault
+made_shape inside low high axes = checked_shape axes (shape_of inside low high)

@@ -1,0 +1,83 @@
+-- World zones (RAPID Instructions: WZLimJointDef, WZHomeJointDef, WZLimSup, WZDisable, WZEnable, WZFree).
+use Rattle.std.specs.Prelude.{ℕ, Bool, ◌||◌, ℤ, List, [], ◌∷◌, Option, None, Some, Result, Ok, Err, if◌then◌else◌}
+use Rattle.std.specs.Option.{option_and_then, option_map}
+use Rattle.rapid_num.specs.Arithmetic.{sum_of, difference_of}
+use Rattle.rapid_num.specs.declared.joints.Joints.{Joints}
+use Rattle.rapid_num.specs.declared.shape.Shape.{Shape}
+use Rattle.rapid_model.specs.declared.answer.Answer.{Answer}
+use Rattle.rapid_model.specs.declared.answer.Answer.TheVariants as answers
+use Rattle.rapid_model.specs.declared.fate.Fault.{Fault}
+use Rattle.rapid_model.specs.declared.fate.Fault.TheVariants as faults
+use Rattle.rapid_model.specs.declared.request.Request.{Request}
+use Rattle.rapid_model.specs.declared.request.Request.TheVariants.{ZoneSet}
+use Rattle.typed_trees.specs.declared.datum.Datum.TheVariants as datums
+use Rattle.typed_trees.specs.declared.datum.Lvalue.{Lvalue}
+use Rattle.rapid_meaning.specs.Doings.{Doing, Gives, Misfit, Asks, Act, ◌>>=◌, done, fault}
+use Rattle.rapid_meaning.specs.Places.{load, store}
+use Rattle.rapid_meaning.specs.Shapes.{made_shape, no_limit, unlimited}
+use Rattle.rapid_meaning.specs.Values.{shape_in}
+
+-- an arm has axes 1 to 6
+abbrev pub arm_axes : ℕ
+arm_axes = 6
+
+abbrev pub shaped : Lvalue → Result Shape Fault → Act
+shaped place (Ok shape) = store place (datums.Shape (Some shape))
+shaped place (Err why) = fault why
+
+-- stores the shape of a low and a high position
+abbrev pub define : Lvalue → Bool → Joints → Joints → Act
+define place inside low high = shaped place (made_shape inside low high arm_axes)
+
+-- the bound of an axis below and above its middle; none of both where the middle or the delta is 9E9
+abbrev pub home_low : ℤ → ℤ → Option ℤ
+home_low middle delta = if no_limit middle || no_limit delta then Some unlimited else difference_of middle delta
+
+abbrev pub home_high : ℤ → ℤ → Option ℤ
+home_high middle delta = if no_limit middle || no_limit delta then Some unlimited else sum_of middle delta
+
+-- of each axis, where all are in range
+unfoldable pub on_axes : (ℤ → ℤ → Option ℤ) → List ℤ → List ℤ → Option (List ℤ)
+on_axes bound (m ∷ ms) (d ∷ ds) = option_and_then (λ b. option_map (λ bs. b ∷ bs) (on_axes bound ms ds)) (bound m d)
+on_axes bound _ _ = Some []
+
+abbrev pub position_or_fault : Option (List ℤ) → Doing Joints
+position_or_fault None = fault faults.NumRange
+position_or_fault (Some axes) = Gives (record { axis = axes })
+
+-- stores the shape of a middle and its deltas
+abbrev pub define_home : Lvalue → Bool → Joints → Joints → Act
+define_home place inside middle delta = do
+  low ← position_or_fault (on_axes home_low middle.axis delta.axis)
+  high ← position_or_fault (on_axes home_high middle.axis delta.axis)
+  define place inside low high
+
+-- a shape that was defined
+abbrev pub defined : Option Shape → Doing Shape
+defined None = fault faults.ZoneShape
+defined (Some shape) = Gives shape
+
+abbrev pub shape_at : Lvalue → Doing Shape
+shape_at place = do
+  held ← load place
+  shape ← shape_in held
+  defined shape
+
+abbrev pub when_numbered : Lvalue → Answer → Act
+when_numbered place (answers.Number number) = store place (datums.Mark number)
+when_numbered place answers.ZoneUsed = fault faults.ZoneUsed
+when_numbered place answers.ZoneFull = fault faults.ZoneFull
+when_numbered place _ = Misfit
+
+-- supervises a shape by the zone of a variable, which holds the old number
+abbrev pub supervise : Lvalue → ℕ → Bool → Shape → Act
+supervise place old temporary shape = Asks (ZoneSet old temporary shape) (when_numbered place)
+
+abbrev pub when_zoned : Answer → Act
+when_zoned answers.Ok = done
+when_zoned answers.NoZone = fault faults.NoZone
+when_zoned _ = Misfit
+
+-- disables, enables or frees
+abbrev pub asks_of_zone : Request → Act
+asks_of_zone request = Asks request when_zoned

@@ -1,0 +1,4 @@
+pub mod Checks
+pub mod Gives
+pub mod Names
+pub mod TypeChecks

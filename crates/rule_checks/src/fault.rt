@@ -1,0 +1,44 @@
+//! Why a task's modules are refused.
+
+ghost use Rattle.std.specs.Prelude.{◌≡◌};
+ghost use Rattle.rule_checks.specs.declared.fault.TypeFault.TheVariants.{Memory};
+
+use crate::rule::TypeRule;
+use name_tables::NotEntered;
+use std::alloc::{AllocError, AllocFailed};
+
+/// Why a task's modules are refused: the rule, the module's number from 0 and the byte at which it stands; or memory was
+/// refused.
+#[derive(Debug, Drop)]
+pub enum TypeFault {
+    Rule {
+        module: u32,
+        at: usize,
+        rule: TypeRule,
+    },
+    Memory,
+}
+
+impl From<AllocError> for TypeFault {
+    ghost from_gives = { λ _ e. e ≡ Memory };
+
+    fn from(_e: AllocError) -> TypeFault {
+        TypeFault::Memory
+    }
+}
+
+impl<T: Drop> From<AllocFailed<T>> for TypeFault {
+    ghost from_gives = { λ _ e. e ≡ Memory };
+
+    fn from(_e: AllocFailed<T>) -> TypeFault {
+        TypeFault::Memory
+    }
+}
+
+impl From<NotEntered> for TypeFault {
+    ghost from_gives = { λ _ e. e ≡ Memory };
+
+    fn from(_e: NotEntered) -> TypeFault {
+        TypeFault::Memory
+    }
+}

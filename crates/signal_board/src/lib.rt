@@ -1,0 +1,6 @@
+//! The values of a cell's signals.
+#![tactic(auto)]
+
+mod signals;
+
+pub use signals::Signals;
