@@ -3,7 +3,7 @@ use Rattle.std.proofs.Common.{◌≡◌, ℕ, zero, suc, List, [], ◌∷◌, So
 use Rattle.std.specs.Prelude.{IsTrue, is_some, slice_get}
 use Rattle.std.specs.List.{list_all}
 use Rattle.rapid_model.specs.CellData.{CellData}
-use Rattle.rapid_model.specs.Requests.{has_ended, row_allows}
+use Rattle.rapid_model.specs.Requests.{suits_task}
 use Rattle.rapid_model.specs.declared.answer.Answer.{Answer}
 use Rattle.rapid_model.specs.declared.fate.Fate.TheVariants as fates
 use Rattle.rapid_model.specs.declared.request.Request.{Request}
@@ -11,10 +11,10 @@ use Rattle.rapid_model.specs.declared.request.Request.TheVariants.{End}
 use Rattle.rapid_model.specs.declared.task_row.TaskRow.{TaskRow}
 use Rattle.rapid_model.specs.declared.tree.Stmt.{Stmt}
 use Rattle.rapid_model.specs.declared.tree.Tree.{Tree}
-use Rattle.rapid_meaning.specs.Statements.{perform_list}
-use Rattle.rapid_meaning.specs.Runs.{asks, told, next_of, asked_after}
-use Rattle.rapid_meaning.specs.Traces.{answers_in, SuitsTask}
-use Rattle.rapid_meaning.proofs.Suits.{tree_suits, asking_not_ended}
+use Rattle.move_meaning.specs.Statements.{perform_list}
+use Rattle.move_meaning.specs.Runs.{asks, told, next_of, asked_after}
+use Rattle.move_meaning.specs.Traces.{answers_in, SuitsTask, SuitTasks}
+use Rattle.move_meaning.proofs.Suits.{tree_suits, asking_not_ended, asked_move, may_move, trace_moves}
 use Rattle.task_machine.specs.MachineData.{MachineData, fresh}
 use Rattle.cell_crew.specs.Crew.{IsCrew}
 use Rattle.controller.specs.Runs.{SuitsOne}
@@ -30,16 +30,12 @@ unfolding asked_after perform_list
 only_done tree given request nothing p =
     asks_done given request (sym (ap (λ (list : List Stmt). next_of (perform_list list given)) nothing) ∙ p)
 
-both : (b c : Bool) → b ≡ false → IsTrue c → IsTrue (not b && c)
-both b c p q = ap (λ (x : Bool). not x && c) p ∙ q
-
 -- which every task may tell
 pub idle_suits : (tree : Tree) (cell : CellData) (task : ℕ) (row : TaskRow) → slice_get cell.tasks task ≡ Some row → tree.list ≡ [] → SuitsTask tree cell task
 idle_suits tree cell task row at nothing = record {
   may = λ mine request trace p.
-      let end : End fates.Done ≡ request = sym (only_done tree (answers_in mine) request nothing p) in
-      let may : IsTrue (row_allows (Some row) request) = subst (λ (r : Request). IsTrue (row_allows (Some row) r)) end refl in
-      both (has_ended mine) (row_allows (slice_get cell.tasks task) request) (asking_not_ended tree mine request trace p) (rw at may);
+      may_move cell task row mine request at (trace_moves tree mine trace.asked) (asked_move tree (answers_in mine) request p)
+      (subst (λ (r : Request). IsTrue (suits_task cell row mine r)) (sym (only_done tree (answers_in mine) request nothing p)) refl) (asking_not_ended tree mine request trace p);
 }
 
 -- the first row of a cell of one task
@@ -65,8 +61,11 @@ suits_first cell here s zero tree at =
     subst (λ (t : Tree). SuitsTask t cell 0) same (suits_here cell here row.0 row.1 s.arms)
 suits_first cell here s (suc task) tree at = cc
 
+pub suit_one : (cell : CellData) (tree : Tree) → SuitsOne cell tree → SuitTasks (tree ∷ []) cell
+suit_one cell tree suits = record { each = suits_first cell tree suits }
+
 -- a machine that has asked nothing is a crew for the one task
 pub crew_of_one : (cell here : CellData) (machines : List MachineData) (tree : Tree) → SuitsOne cell tree → machines ≡ fresh tree ∷ [] → here ≡ cell → IsCrew machines here
 crew_of_one cell here machines tree suits new same =
-    let crew : IsCrew (fresh tree ∷ []) cell = record { one_each = sym suits.one; fresh = (refl, tt); suit = suits_first cell tree suits } in
+    let crew : IsCrew (fresh tree ∷ []) cell = record { one_each = sym suits.one; fresh = (refl, tt); suit = suit_one cell tree suits } in
     subst (λ (ms : List MachineData). IsCrew ms here) (sym new) (subst (λ (c : CellData). IsCrew (fresh tree ∷ []) c) (sym same) crew)

@@ -1,12 +1,14 @@
 -- The report of a run.
 use Rattle.std.proofs.Common.{◌≡◌, ℕ, List, [], length, None, Some, ap, sym, ◌∙◌, subst, inl, inr}
-use Rattle.rapid_model.specs.CellData.{CellData}
+use Rattle.rapid_model.specs.CellData.{CellData, IsCell}
 use Rattle.rapid_model.specs.declared.event.Event.{Event}
 use Rattle.rapid_model.specs.declared.tree.Tree.{Tree}
-use Rattle.rapid_meaning.specs.Runs.{tree_asks}
-use Rattle.rapid_meaning.specs.Histories.{fates_after}
-use Rattle.rapid_meaning.specs.Turns.{IsByTurns}
-use Rattle.rapid_meaning.proofs.ByTurns.{by_turns_legal, by_turns_whole, trees_ask_within}
+use Rattle.move_meaning.specs.Runs.{tree_asks}
+use Rattle.cell_meaning.specs.Histories.{fates_after}
+use Rattle.cell_meaning.specs.Turns.{IsByTurns}
+use Rattle.cell_meaning.proofs.ByTurns.{by_turns_legal, by_turns_whole}
+use Rattle.move_meaning.specs.Traces.{SuitTasks}
+use Rattle.move_meaning.proofs.Asking.{trees_ask_within, trees_ask_allowed}
 use Rattle.history_text.specs.Lines.{lines_of}
 use Rattle.controller.specs.declared.report.Report.{Report}
 use Rattle.controller.specs.declared.refused.Refused.TheVariants.{Write}
@@ -21,11 +23,11 @@ pub record Tells (cell : CellData) (history : List Event) (report : Report) : Ty
   pub history_is : report.history.items ≡ history
   pub fates_is : report.fates.items ≡ fates_after cell history (length cell.tasks)
 
-run_is : (cell : CellData) (trees : List Tree) (history : List Event) (report : Report) → length trees ≡ length cell.tasks → IsByTurns (tree_asks trees) cell history → Tells cell history report → IsRun cell trees report
-run_is cell trees history report one run tells =
+run_is : (cell : CellData) (trees : List Tree) (history : List Event) (report : Report) → length trees ≡ length cell.tasks → IsCell cell → SuitTasks trees cell → IsByTurns (tree_asks trees) cell history → Tells cell history report → IsRun cell trees report
+run_is cell trees history report one limits suit run tells =
     let here : IsByTurns (tree_asks trees) cell report.history.items = subst (λ (h : List Event). IsByTurns (tree_asks trees) cell h) (sym tells.history_is) run in
     record {
-      legal = by_turns_legal (tree_asks trees) cell report.history.items here;
+      legal = by_turns_legal (tree_asks trees) cell report.history.items limits (trees_ask_allowed trees cell suit) here;
       whole = by_turns_whole (tree_asks trees) cell report.history.items (trees_ask_within trees cell one) here;
       by_turns = here;
       fates = tells.fates_is ∙ ap (λ (h : List Event). fates_after cell h (length cell.tasks)) (sym tells.history_is);
@@ -38,13 +40,13 @@ lines_are cell history report tells =
     ap (λ (h : List Event). lines_of cell h (fates_after cell history (length cell.tasks))) (sym tells.history_is)
     ∙ ap (lines_of cell report.history.items) (sym tells.fates_is)
 
-pub run_printed : (cell : CellData) (trees : List Tree) (history : List Event) (report : Report) (out err : Sunk) → length trees ≡ length cell.tasks → IsByTurns (tree_asks trees) cell history
+pub run_printed : (cell : CellData) (trees : List Tree) (history : List Event) (report : Report) (out err : Sunk) → length trees ≡ length cell.tasks → IsCell cell → SuitTasks trees cell → IsByTurns (tree_asks trees) cell history
     → Tells cell history report → report.refused ≡ None → report.status ≡ run_status cell history
     → WritesAll (lines_of cell history (fates_after cell history (length cell.tasks))) out → Gained [] err.old.bytes err.new.bytes → AnswersRun cell trees report out err
-run_printed cell trees history report out err one run tells none status printed told =
+run_printed cell trees history report out err one limits suit run tells none status printed told =
     let here = subst (λ (lines : List (List ℕ)). WritesAll lines out) (lines_are cell history report tells) printed in
     inl (record {
-      run = run_is cell trees history report one run tells;
+      run = run_is cell trees history report one limits suit run tells;
       refused_is = none;
       status = status ∙ ap (run_status cell) (sym tells.history_is);
       printed = here.bytes;
@@ -52,14 +54,14 @@ run_printed cell trees history report out err one run tells none status printed 
       told = told;
     })
 
-pub run_cut_short : (cell : CellData) (trees : List Tree) (history : List Event) (report : Report) (out err : Sunk) → length trees ≡ length cell.tasks → IsByTurns (tree_asks trees) cell history
+pub run_cut_short : (cell : CellData) (trees : List Tree) (history : List Event) (report : Report) (out err : Sunk) → length trees ≡ length cell.tasks → IsCell cell → SuitTasks trees cell → IsByTurns (tree_asks trees) cell history
     → Tells cell history report → report.refused ≡ Some Write → report.status ≡ status_of Write
     → WritesPart (lines_of cell history (fates_after cell history (length cell.tasks))) out → TakesLine (refusal_text [] Write) err → AnswersRun cell trees report out err
-run_cut_short cell trees history report out err one run tells write status printed told =
+run_cut_short cell trees history report out err one limits suit run tells write status printed told =
     let here = subst (λ (lines : List (List ℕ)). WritesPart lines out) (lines_are cell history report tells) printed in
     inr (
       record {
-        run = run_is cell trees history report one run tells;
+        run = run_is cell trees history report one limits suit run tells;
         refused_is = write;
         status = status;
         printed = here.bytes;

@@ -6,9 +6,9 @@ use Rattle.rapid_model.specs.declared.event.Event.{Event}
 use Rattle.rapid_model.specs.declared.fate.Fate.{Fate}
 use Rattle.rapid_model.specs.declared.fate.Fate.TheVariants as fates
 use Rattle.rapid_model.specs.declared.tree.Tree.{Tree}
-use Rattle.rapid_meaning.specs.Runs.{tree_asks}
-use Rattle.rapid_meaning.specs.Histories.{IsLegal, IsWhole, is_spent, fates_after}
-use Rattle.rapid_meaning.specs.Turns.{IsByTurns}
+use Rattle.move_meaning.specs.Runs.{tree_asks}
+use Rattle.cell_meaning.specs.Histories.{IsLegal, IsWhole, all_ended, is_spent, fates_after}
+use Rattle.cell_meaning.specs.Turns.{IsByTurns}
 use Rattle.controller.specs.declared.report.Report.{Report}
 
 -- The history interleaves whole traces of the tasks' trees, each answer being what one shared cell gives at that point;
@@ -21,16 +21,16 @@ pub record IsRun (cell : CellData) (trees : List Tree) (report : Report) : Type 
 
 abbrev pub is_fault : Fate → Bool
 is_fault (fates.Fault fault) = true
-is_fault fates.Done = false
-is_fault fates.Held = false
-is_fault fates.Cut = false
+is_fault _ = false
 
--- the status of a run that was printed: 9 where it is spent, else 1 where a task ended with a fault, else 0
+-- The status of a run that was printed. Where all tasks ended, 1 where one ended with a fault, else 0. Else 9 where the steps are
+-- spent, and 8 where no task that has not ended can go on.
 abbrev pub run_status : CellData → List Event → ℕ
 run_status cell history =
-    if is_spent cell history then 9
-    else if list_any is_fault (fates_after cell history (length cell.tasks)) then 1
-    else 0
+    if all_ended (length cell.tasks) history then
+    (if list_any is_fault (fates_after cell history (length cell.tasks)) then 1 else 0)
+    else if is_spent cell history then 9
+    else 8
 
 -- the cell has one task, and it has an arm or nothing to do
 pub record SuitsOne (cell : CellData) (tree : Tree) : Type 0 where

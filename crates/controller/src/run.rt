@@ -1,6 +1,6 @@
 ghost use Rattle.std.specs.Prelude.{◌≡◌, [], ◌∷◌, IfOk};
-ghost use Rattle.rapid_meaning.specs.Runs.{tree_asks};
-ghost use Rattle.rapid_meaning.specs.Turns.{IsByTurns};
+ghost use Rattle.move_meaning.specs.Runs.{tree_asks};
+ghost use Rattle.cell_meaning.specs.Turns.{IsByTurns};
 ghost use Rattle.task_machine.specs.MachineData.{fresh};
 ghost use Rattle.controller.specs.Runs.{SuitsOne};
 
@@ -9,6 +9,7 @@ use cell_crew::run_round;
 use rapid_model::{Cell, Tree};
 use rapid_num::Memory;
 use std::alloc::Global;
+use std::marker::Brand;
 use task_machine::Machine;
 
 /// Runs the one task of a cell by turns. All memory is taken before the first event.
@@ -19,7 +20,7 @@ pub(crate) fn run_task(alloc: Global, cell: Cell, tree: Tree) -> Result<Core, Me
 {
     match crew_of(alloc, tree) {
         Ok(machines) => match Core::new(alloc, cell) {
-            Ok(core) => Ok(run_round(core, machines).core),
+            Ok(core) => Ok(run_round::<Brand>(core, machines).core),
             Err(_) => Err(Memory),
         },
         Err(memory) => Err(memory),

@@ -1,7 +1,8 @@
 ghost use Rattle.std.specs.Prelude.{◌≡◌, List, [], ◌∷◌, length};
 ghost use Rattle.rapid_model.specs.declared.tree.Tree.{Tree};
-ghost use Rattle.rapid_meaning.specs.Runs.{tree_asks};
-ghost use Rattle.rapid_meaning.specs.Turns.{IsByTurns};
+ghost use Rattle.move_meaning.specs.Runs.{tree_asks};
+ghost use Rattle.cell_meaning.specs.Turns.{IsByTurns};
+ghost use Rattle.move_meaning.specs.Traces.{SuitTasks};
 ghost use Rattle.controller.specs.Runs.{SuitsOne};
 ghost use Rattle.controller.specs.Printed.{sunk};
 ghost use Rattle.controller.specs.Answered.{RunsOrMemory, AnswersRun};
@@ -37,8 +38,10 @@ pub(crate) fn run_tree<O: Sink, E: Sink>(
 
 /// Prints a run and reports it.
 fn report_run<O: Sink, E: Sink>(core: Core, out: &mut O, err: &mut E) -> Report
-    ensures { (trees : List Tree) → length trees ≡ length core.cell.tasks → IsByTurns (tree_asks trees) core.cell core.history → AnswersRun core.cell trees result (sunk O.told O.calls O.faults out.old out.new) (sunk E.told E.calls E.faults err.old err.new) }
+    ensures { (trees : List Tree) → length trees ≡ length core.cell.tasks → SuitTasks trees core.cell → IsByTurns (tree_asks trees) core.cell core.history → AnswersRun core.cell trees result (sunk O.told O.calls O.faults out.old out.new) (sunk E.told E.calls E.faults err.old err.new) }
 {
+    // A cell is within its limits.
+    prove!(core.cell().steps() > 0);
     let status = status_of_run(&core);
     match print_run(out, &core) {
         Ok(()) => {

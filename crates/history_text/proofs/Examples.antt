@@ -7,7 +7,7 @@ use Rattle.rapid_model.specs.CellData.{CellData}
 use Rattle.rapid_model.specs.declared.answer.Answer.TheVariants as answers
 use Rattle.rapid_model.specs.declared.event.Event.{Event}
 use Rattle.rapid_model.specs.declared.fate.Fate.TheVariants as fates
-use Rattle.rapid_model.specs.declared.fate.Fault.TheVariants.{JointRange}
+use Rattle.rapid_model.specs.declared.fate.Fault.TheVariants.{JointRange, Unhandled}
 use Rattle.rapid_model.specs.declared.request.Request.{Request}
 use Rattle.rapid_model.specs.declared.request.Request.TheVariants.{Look, Position, Setpoint}
 use Rattle.rapid_model.specs.declared.answer.Answer.{Answer}
@@ -47,6 +47,13 @@ held = refl
 
 fault : fate_line (codes "A") (fates.Fault JointRange) ≡ codes "E A Fault JointRange\n"
 fault = refl
+
+exit : fate_line (codes "A") fates.Exit ≡ codes "E A Exit\n"
+exit = refl
+
+unhandled : fate_line (codes "A") (fates.Fault (Unhandled 41)) ≡ codes "E A Fault Unhandled 41\n"
+unfolding digits
+unhandled = refl
 
 cell : CellData
 cell = record { steps = 10; tasks = tasks; signals = []; pers = []; meetings = []; zones = []; inputs = [] }

@@ -1,4 +1,3 @@
 mod Examples
 mod Printable
 mod NumberWords
-pub mod LineLengths

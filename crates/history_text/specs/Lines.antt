@@ -1,5 +1,5 @@
 -- The lines that are printed of a history. Each ends with 0A.
-use Rattle.std.specs.Prelude.{ℕ, ℤ, List, [], ◌∷◌, ◌++◌, map, Option, Some, None, codes, take, slice_get}
+use Rattle.std.specs.Prelude.{ℕ, ℤ, List, [], ◌∷◌, ◌++◌, map, Option, Some, None, codes, decimal, take, slice_get}
 use Rattle.std.specs.List.{concat}
 use Rattle.rapid_num.specs.NumText.{fixed_text}
 use Rattle.rapid_num.specs.declared.joints.Joints.{Joints}
@@ -10,7 +10,7 @@ use Rattle.rapid_model.specs.declared.event.Event.{Event}
 use Rattle.rapid_model.specs.declared.fate.Fate.{Fate}
 use Rattle.rapid_model.specs.declared.fate.Fate.TheVariants as fates
 use Rattle.rapid_model.specs.declared.fate.Fault.{Fault}
-use Rattle.rapid_model.specs.declared.fate.Fault.TheVariants.{JointRange}
+use Rattle.rapid_model.specs.declared.fate.Fault.TheVariants as faults
 use Rattle.rapid_model.specs.declared.request.Request.{Request}
 use Rattle.rapid_model.specs.declared.request.Request.TheVariants.{Setpoint}
 use Rattle.rapid_model.specs.declared.task_row.TaskRow.{TaskRow}
@@ -41,11 +41,35 @@ abbrev pub line_of : List TaskRow → Event → List ℕ
 line_of tasks e = line_between (task_name tasks e.actor) e.request e.answer
 
 abbrev pub fault_name : Fault → List ℕ
-fault_name JointRange = codes "JointRange"
+fault_name faults.NumRange = codes "NumRange"
+fault_name faults.IndexRange = codes "IndexRange"
+fault_name faults.DepthLimit = codes "DepthLimit"
+fault_name faults.NoReturn = codes "NoReturn"
+fault_name faults.RaiseRange = codes "RaiseRange"
+fault_name faults.SignalValue = codes "SignalValue"
+fault_name faults.TaskName = codes "TaskName"
+fault_name faults.MoveInTrap = codes "MoveInTrap"
+fault_name faults.JointRange = codes "JointRange"
+fault_name faults.Speed = codes "Speed"
+fault_name faults.ZoneStop = codes "ZoneStop"
+fault_name faults.ZoneShape = codes "ZoneShape"
+fault_name faults.ZoneFull = codes "ZoneFull"
+fault_name faults.ZoneUsed = codes "ZoneUsed"
+fault_name faults.NoZone = codes "NoZone"
+fault_name faults.ExtAxis = codes "ExtAxis"
+fault_name faults.TrapFlood = codes "TrapFlood"
+fault_name faults.TiedOutput = codes "TiedOutput"
+fault_name (faults.Unhandled number) = codes "Unhandled"
+
+-- a fault by its name, and an error that was not handled also by its number
+abbrev pub fault_words : Fault → List ℕ
+fault_words (faults.Unhandled number) = fault_name (faults.Unhandled number) ++ 32 ∷ decimal number
+fault_words fault = fault_name fault
 
 abbrev pub fate_words : Fate → List ℕ
 fate_words fates.Done = codes "Done"
-fate_words (fates.Fault fault) = codes "Fault " ++ fault_name fault
+fate_words fates.Exit = codes "Exit"
+fate_words (fates.Fault fault) = codes "Fault " ++ fault_words fault
 fate_words fates.Held = codes "Held"
 fate_words fates.Cut = codes "Cut"
 

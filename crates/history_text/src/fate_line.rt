@@ -1,11 +1,12 @@
-ghost use Rattle.std.specs.Prelude.{◌≡◌, [], length, ◌≤◌};
-ghost use Rattle.history_text.specs.Lines.{fate_line, fate_words, fault_name};
+ghost use Rattle.std.specs.Prelude.{◌≡◌, ◌+◌, ◌≤◌, ◌++◌, [], decimal, length};
+ghost use Rattle.history_text.specs.Lines.{fate_line, fate_words, fault_name, fault_words};
 
 use crate::name::push_name;
 use arrayvec::ArrayString;
+use itoa::Buffer;
 use rapid_model::{Fate, Fault, NameText};
 
-/// Writes `E TASK FATE`. Takes no memory.
+/// Writes `E TASK FATE`: Done, Exit, Held, Cut, or Fault and the fault's name, for Unhandled also its number. Takes no memory.
 pub fn write_fate(name: &NameText, fate: &Fate, line: &mut ArrayString<1200>)
     requires { line.old.bytes ≡ [] }
     ensures { line.new.bytes ≡ fate_line name.now fate.now }
@@ -13,19 +14,74 @@ pub fn write_fate(name: &NameText, fate: &Fate, line: &mut ArrayString<1200>)
     line.push_str("E ");
     push_name(name, line);
     line.push(' ');
-    line.push_str(words_of(*fate));
+    push_fate(*fate, line);
     line.push('\n');
 }
 
-/// How a fate is written.
-fn words_of(fate: Fate) -> &'static str
-    ensures words { result.now ≡ fate_words fate }
-    ensures short { length result.now ≤ 16 }
+/// Appends how a fate is written.
+fn push_fate(fate: Fate, line: &mut ArrayString<1200>)
+    requires room { length line.old.bytes + 64 ≤ 1200 }
+    ensures text { line.new.bytes ≡ line.old.bytes ++ fate_words fate }
+    ensures short { length line.new.bytes ≤ length line.old.bytes + 64 }
 {
     match fate {
-        Fate::Done => "Done",
-        Fate::Fault(Fault::JointRange) => "Fault JointRange",
-        Fate::Held => "Held",
-        Fate::Cut => "Cut",
+        Fate::Done => line.push_str("Done"),
+        Fate::Exit => line.push_str("Exit"),
+        Fate::Fault(fault) => {
+            line.push_str("Fault ");
+            push_fault(fault, line);
+        }
+        Fate::Held => line.push_str("Held"),
+        Fate::Cut => line.push_str("Cut"),
+    }
+}
+
+/// Appends the fault's name, and the number of an error that was not handled.
+fn push_fault(fault: Fault, line: &mut ArrayString<1200>)
+    requires room { length line.old.bytes + 58 ≤ 1200 }
+    ensures text { line.new.bytes ≡ line.old.bytes ++ fault_words fault }
+    ensures short { length line.new.bytes ≤ length line.old.bytes + 58 }
+{
+    line.push_str(name_of(fault));
+    if let Fault::Unhandled(number) = fault {
+        line.push(' ');
+        push_number(number, line);
+    }
+}
+
+/// Appends the number's digits.
+fn push_number(number: u8, line: &mut ArrayString<1200>)
+    requires room { length line.old.bytes + 40 ≤ 1200 }
+    ensures text { line.new.bytes ≡ line.old.bytes ++ decimal number }
+    ensures short { length line.new.bytes ≤ length line.old.bytes + 40 }
+{
+    let mut digits = Buffer::new();
+    line.push_str(digits.format(number));
+}
+
+fn name_of(fault: Fault) -> &'static str
+    ensures name { result.now ≡ fault_name fault }
+    ensures short { length result.now ≤ 16 }
+{
+    match fault {
+        Fault::NumRange => "NumRange",
+        Fault::IndexRange => "IndexRange",
+        Fault::DepthLimit => "DepthLimit",
+        Fault::NoReturn => "NoReturn",
+        Fault::RaiseRange => "RaiseRange",
+        Fault::SignalValue => "SignalValue",
+        Fault::TaskName => "TaskName",
+        Fault::MoveInTrap => "MoveInTrap",
+        Fault::JointRange => "JointRange",
+        Fault::Speed => "Speed",
+        Fault::ZoneStop => "ZoneStop",
+        Fault::ZoneShape => "ZoneShape",
+        Fault::ZoneFull => "ZoneFull",
+        Fault::ZoneUsed => "ZoneUsed",
+        Fault::NoZone => "NoZone",
+        Fault::ExtAxis => "ExtAxis",
+        Fault::TrapFlood => "TrapFlood",
+        Fault::TiedOutput => "TiedOutput",
+        Fault::Unhandled(_) => "Unhandled",
     }
 }

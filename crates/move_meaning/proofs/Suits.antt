@@ -148,18 +148,18 @@ all_three : (over held rise suits : Bool) → over ≡ false → held ≡ false 
 all_three over held rise suits p q r s =
     ap (λ (x : Bool). not x && goes_with held rise && suits) p ∙ ap (λ (x : Bool). goes_with x rise && suits) q ∙ ap (λ (x : Bool). not x && suits) r ∙ s
 
--- a task with an arm, which has not ended, may ask what a tree asks
-may_move : (cell : CellData) (task : ℕ) (row : TaskRow) (mine : List Event) (request : Request) → slice_get cell.tasks task ≡ Some row → IsTrue (is_some row.arm) → AllMoves mine → IsMove request
-    → has_ended mine ≡ false → IsTrue (may_ask cell task mine request)
-may_move cell task row mine request at arm moves is alive =
-    let suits = all_three (has_ended mine) (is_held mine) (is_rise request) (suits_task cell row mine request) alive (never_held mine (moves_served mine moves)) (move_no_rise request is)
-    (move_suits cell row mine arm request is) in
-    rw (move_served request is, at) suits
+-- a task that has not ended may ask what a tree asks, where it suits the task
+pub may_move : (cell : CellData) (task : ℕ) (row : TaskRow) (mine : List Event) (request : Request) → slice_get cell.tasks task ≡ Some row → AllMoves mine → IsMove request
+    → IsTrue (suits_task cell row mine request) → has_ended mine ≡ false → IsTrue (may_ask cell task mine request)
+may_move cell task row mine request at moves is suits alive =
+    let may = all_three (has_ended mine) (is_held mine) (is_rise request) (suits_task cell row mine request) alive (never_held mine (moves_served mine moves)) (move_no_rise request is) suits in
+    rw (move_served request is, at) may
 
 pub tree_suits : (tree : Tree) (cell : CellData) (task : ℕ) (row : TaskRow) → slice_get cell.tasks task ≡ Some row → IsTrue (is_some row.arm) → SuitsTask tree cell task
 tree_suits tree cell task row at arm = record {
   may = λ mine request trace p.
-      may_move cell task row mine request at arm (trace_moves tree mine trace.asked) (asked_move tree (answers_in mine) request p) (asking_not_ended tree mine request trace p);
+      let is = asked_move tree (answers_in mine) request p in
+      may_move cell task row mine request at (trace_moves tree mine trace.asked) is (move_suits cell row mine arm request is) (asking_not_ended tree mine request trace p);
 }
 
 -- a tree connects no interrupt, so what fits its requests in a cell is what fits them anywhere
