@@ -12,7 +12,7 @@ use Rattle.typed_trees.specs.declared.expr.Expr.{Expr}
 use Rattle.typed_trees.specs.Plain
 use Rattle.typed_trees.specs.Plain.{TypedExpr, TypedExprs, exprs_of}
 use Rattle.typed_trees.specs.Views.{view_expr}
-use Rattle.constant_meaning.specs.Constants.{Elements, Outcomes, all, stops, and_more, constant_value, constant_values}
+use Rattle.constant_meaning.specs.Constants.{Outcomes, all, stops, and_more}
 use Rattle.constant_meaning.specs.declared.outcome.Outcome.{Outcome}
 use Rattle.constant_meaning.specs.declared.outcome.Outcome.TheVariants as outcomes
 use Rattle.constant_meaning.proofs.Lists.{behind}
@@ -21,7 +21,7 @@ use Rattle.rule_checks.specs.declared.fault.TypeFault.TheVariants.{Rule, Memory}
 use Rattle.rule_checks.specs.declared.rule.TypeRule.{TypeRule}
 use Rattle.rule_checks.specs.declared.rule.TypeRule.TheVariants.{ConstFault}
 use Rattle.rule_checks.specs.Checks.{◌>>=◌, must}
-use Rattle.rule_checks.specs.TypeChecks.{TypeBreak, Checked, Fails}
+use Rattle.rule_checks.specs.TypeChecks.{TypeBreak, Fails}
 use Rattle.rapid_model.specs.Sorts.{is_value_of}
 use Rattle.named_data.specs.declared.wanted.Wanted.TheVariants.{Is}
 use Rattle.named_data.specs.Rules.{Site, fail, at_byte}
