@@ -1,0 +1,4 @@
+pub mod Firing
+pub mod Queues
+pub mod Tasks
+pub mod Traps

@@ -1,0 +1,8 @@
+/// Why no number is connected (RAPID Instructions: CONNECT).
+#[derive(Clone, Copy, Debug, PartialEq, Eq)]
+pub enum ConnectFault {
+    /// The variable's number is connected.
+    Already,
+    /// The task has 64 interrupts.
+    NoMore,
+}

@@ -1,0 +1,32 @@
+ghost use Rattle.std.specs.Prelude.{◌≡◌, ◌<◌, is_none, IfSome};
+ghost use Rattle.std.specs.List.{position_from};
+ghost use Rattle.trap_dispatch.specs.Firing.{connected_at};
+
+use crate::order::Order;
+
+/// An interrupt number that is connected: its trap, by the routine's number in its task, its order, and whether it sleeps
+/// (RAPID Instructions: CONNECT, ISleep, IWatch).
+#[derive(Clone, Copy, Debug, PartialEq, Eq)]
+pub struct Connected {
+    pub trap: u32,
+    pub order: Option<Order>,
+    pub asleep: bool,
+}
+
+/// What the number is connected with, of the numbers from 1 to 64; no other number is connected.
+pub(crate) fn connected_at(numbers: &[Option<Connected>; 64], number: u8) -> Option<Connected>
+    ensures { result ≡ connected_at numbers.now number }
+{
+    if number == 0 || number > 64 {
+        return None;
+    }
+    numbers[number as usize - 1]
+}
+
+/// The first free place.
+pub(crate) fn free_place(numbers: &[Option<Connected>; 64]) -> Option<usize>
+    ensures there { IfSome result (λ place. place < 64) }
+    ensures first { result ≡ position_from is_none 0 numbers.now }
+{
+    numbers.iter().position(|place| place.is_none())
+}

@@ -1,0 +1,10 @@
+/// Whether a trap is to run before the task goes on.
+#[derive(Clone, Copy, Debug, PartialEq, Eq)]
+pub enum Due {
+    /// None.
+    None,
+    /// The interrupt's trap, by the routine's number in its task.
+    Trap { number: u8, trap: u32 },
+    /// More interrupts waited than the queue takes.
+    Flood,
+}

@@ -1,0 +1,3 @@
+/// The number is not connected.
+#[derive(Clone, Copy, Debug, PartialEq, Eq)]
+pub struct Unknown;
