@@ -1,0 +1,10 @@
+pub mod Kept
+pub mod Firsts
+pub mod CodeData
+pub mod Placed
+pub mod Confs
+pub mod Raising
+pub mod Entering
+pub mod Operands
+pub mod Steps
+pub mod CodeRuns
