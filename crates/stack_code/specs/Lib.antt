@@ -8,3 +8,9 @@ pub mod Entering
 pub mod Operands
 pub mod Steps
 pub mod CodeRuns
+pub mod Pieces
+pub mod Sizes
+pub mod Needs
+pub mod ExprLayouts
+pub mod StmtLayouts
+pub mod Compiled
