@@ -1,0 +1,16 @@
+pub mod Kept
+pub mod Firsts
+pub mod CodeData
+pub mod Placed
+pub mod Confs
+pub mod Raising
+pub mod Entering
+pub mod Operands
+pub mod Steps
+pub mod CodeRuns
+pub mod Pieces
+pub mod Sizes
+pub mod Needs
+pub mod ExprLayouts
+pub mod StmtLayouts
+pub mod Compiled

@@ -1,0 +1,9 @@
+/// What is done with an interrupt, or with all of them (RAPID Instructions: ISleep, IWatch, IDelete, IDisable, IEnable).
+#[derive(Clone, Copy)]
+pub enum IrqOp {
+    Sleep,
+    Watch,
+    Delete,
+    Disable,
+    Enable,
+}

@@ -1,0 +1,7 @@
+/// What stands behind an operator's text (RAPID Instructions: TPWrite).
+#[derive(Clone, Copy)]
+pub enum TailKind {
+    None,
+    Num,
+    Bool,
+}
