@@ -9,7 +9,7 @@ use Rattle.typed_trees.specs.Views.{view_tree}
 use Rattle.typed_trees.specs.declared.tree.Tree.{Tree}
 use Rattle.rule_checks.specs.declared.fault.TypeFault.{TypeFault}
 use Rattle.rule_checks.specs.declared.rule.TypeRule.TheVariants.{DataRange}
-use Rattle.rule_checks.specs.Checks.{◌>>=◌, must}
+use Rattle.rule_checks.specs.Checks.{must}
 use Rattle.rule_checks.specs.TypeChecks.{Gives}
 use Rattle.data_scopes.specs.Naming.{names_of}
 use Rattle.rule_checks.proofs.Steps.{behind, ok_same}
