@@ -1,7 +1,7 @@
 pub mod Trees
 pub mod Asked
-mod SmallTasks
-mod Forms
+pub mod SmallTasks
+pub mod Forms
 pub mod Begins
 pub mod Fuel
 pub mod Growth

@@ -166,7 +166,7 @@ counting = with_pers (task_of [] (proc (
     assigns (whole_of (roots.Pers 0) sorts.Num) (between (stored (whole_of (roots.Pers 0) sorts.Num)) operators.Add (num 1))
     ∷ says_num (codes "k=") (stored (whole_of (roots.Pers 0) sorts.Num)) ∷ []) ∷ [])) (pers_row sorts.Num (number 7))
 
-abbrev whole_path : Path
+abbrev pub whole_path : Path
 whole_path = record { index = 0; part = parts.Whole }
 
 counts_on : asked_along counting [] (go ∷ answers.Val (values.Num (neg_ℤ (pos 2_500))) ∷ Ok ∷ go ∷ answers.Val (values.Num (neg_ℤ (pos 1_500))) ∷ Ok ∷ Ok ∷ [])

@@ -1,5 +1,5 @@
 -- The code of expressions, from a place on, before what follows it.
-use Rattle.std.specs.Prelude.{ℕ, ◌+◌, Bool, true, false, List, ◌∷◌, Option, None, Some, slice_get}
+use Rattle.std.specs.Prelude.{ℕ, ◌+◌, Bool, true, false, List, ◌∷◌}
 use Rattle.std.specs.Option.{unwrap_or}
 use Rattle.rapid_model.specs.declared.function.Function.{Function}
 use Rattle.rapid_model.specs.declared.function.Function.TheVariants as functions
@@ -15,7 +15,7 @@ use Rattle.rapid_meaning.specs.Expressions.{lent_length}
 use Rattle.rapid_meaning.specs.Layouts.{length_at, local_start, slot_start}
 use Rattle.stack_code.specs.Pieces.{cell_number, push}
 use Rattle.stack_code.specs.Placed.{Own, Placed}
-use Rattle.stack_code.specs.Sizes.{args_size, expr_size, exprs_size, place_size}
+use Rattle.stack_code.specs.Sizes.{expr_size, place_size}
 use Rattle.stack_code.specs.declared.op.Op.{Op}
 use Rattle.stack_code.specs.declared.op.Op.TheVariants as ops
 use Rattle.stack_code.specs.declared.unary_op.UnaryOp.TheVariants as unary

@@ -1,5 +1,5 @@
 -- What statements without a list of their own are made of, in order, behind their Look.
-use Rattle.std.specs.Prelude.{ℕ, zero, suc, ◌+◌, Bool, true, false, pos, neg_ℤ, List, [], ◌∷◌, ◌++◌, codes, bytes_eq, Option, None, Some, slice_get}
+use Rattle.std.specs.Prelude.{ℕ, zero, suc, ◌+◌, Bool, true, false, pos, neg_ℤ, List, [], ◌∷◌, codes, bytes_eq, Option, None, Some, slice_get}
 use Rattle.std.specs.Option.{unwrap_or}
 use Rattle.rapid_model.specs.declared.instruction.Instruction.{Instruction}
 use Rattle.rapid_model.specs.declared.instruction.Instruction.TheVariants as instructions

@@ -1,0 +1,4 @@
+pub mod CodeAsked
+mod Examples
+mod Alike
+mod Listings
