@@ -12,6 +12,7 @@ use rapid_model::{
 };
 use rapid_num::{Joints, Num};
 use std::alloc::{AllocError, Global};
+use std::marker::Brand;
 use std::test::Fail;
 use task_machine::Machine;
 
@@ -121,7 +122,7 @@ fn report(alloc: Global, cell: Cell, machines: Vec<Machine>) -> Option<(Vec<Even
     let Ok(core) = Core::new(alloc, cell) else {
         return None;
     };
-    let Ran { core, machines: _ } = run_round(core, machines);
+    let Ran { core, machines: _ } = run_round::<Brand>(core, machines);
     Some(core.into_report())
 }
 
