@@ -1,5 +1,5 @@
 -- Declared names, and the names of their types.
-use Rattle.std.proofs.Common.{◌≡◌, ◌↔◌, ℕ, ◌+◌, Bool, not, ◌||◌, List, [], ◌∷◌, ◌++◌, length, Option, Some, None, is_some, Ok, refl, sym, ap, subst}
+use Rattle.std.proofs.Common.{◌≡◌, ◌↔◌, ℕ, ◌+◌, Bool, not, ◌||◌, List, [], ◌∷◌, ◌++◌, length, Option, Some, None, is_some, Ok, refl, sym, subst}
 use Rattle.raw_trees.specs.Plain.{PlainDatum, PlainParam, PlainItem, PlainModule, PlainName, Datum, Routine}
 use Rattle.rapid_model.specs.declared.sort.Sort.{Sort}
 use Rattle.rapid_model.specs.Names.{is_among}

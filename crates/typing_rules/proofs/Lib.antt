@@ -2,14 +2,14 @@ pub mod Steps
 pub mod Names
 pub mod Arguments
 pub mod Calls
-pub mod Expressions
+pub mod ExpressionLaws
 pub mod Sequences
 pub mod Places
 pub mod Connects
 pub mod ProcedureCalls
 pub mod Returns
 pub mod Parts
-pub mod Statements
+pub mod StatementLaws
 pub mod TaskSteps
 pub mod Choices
 pub mod DeclaredNames
@@ -17,4 +17,4 @@ pub mod Rows
 pub mod Values
 pub mod Data
 pub mod Routines
-pub mod Tasks
+pub mod TaskLaws

@@ -1,5 +1,5 @@
 -- What a name stands for, and the part of it that is meant.
-use Rattle.std.proofs.Common.{◌≡◌, ◌↔◌, ℕ, Bool, not, ◌||◌, List, [], ◌∷◌, Option, Some, None, slice_get, Ok, ap}
+use Rattle.std.proofs.Common.{◌≡◌, ◌↔◌, ℕ, Bool, not, ◌||◌, List, [], ◌∷◌, Option, Some, None, slice_get, Ok}
 use Rattle.raw_trees.specs.Plain.{PlainName}
 use Rattle.rapid_model.specs.declared.predefined.Predefined.{Predefined}
 use Rattle.rapid_model.specs.declared.predefined.Predefined.TheVariants as predefineds

@@ -11,7 +11,7 @@ use Rattle.expr_types.specs.Typing.{typed}
 use Rattle.body_types.specs.Bodies.{Bounds, step_of, bounds, case_values}
 use Rattle.typing_rules.specs.Expressions.{IsExpr}
 use Rattle.typing_rules.proofs.Steps.{in_words, done, then, both}
-use Rattle.typing_rules.proofs.Expressions.{typed_law}
+use Rattle.typing_rules.proofs.ExpressionLaws.{typed_law}
 use Rattle.typing_rules.specs.Statements.{IsStep, AreCaseValues}
 
 step_law : (s : Site) (step : Option PlainExpr) (u : Option TypedExpr) → (step_of s step ≡ Ok u) ↔ IsStep s step u

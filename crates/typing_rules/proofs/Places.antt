@@ -22,7 +22,7 @@ use Rattle.body_types.specs.Bodies.{name_of, is_signal, target_from, target}
 use Rattle.typing_rules.specs.Calls.{Stands}
 use Rattle.typing_rules.proofs.Steps.{in_words, neither, done, never, then, where_it_holds}
 use Rattle.typing_rules.proofs.Names.{place_law}
-use Rattle.typing_rules.proofs.Expressions.{index_law}
+use Rattle.typing_rules.proofs.ExpressionLaws.{index_law}
 use Rattle.typing_rules.specs.Statements.{IsNamed, IsPlaceOf, IsTarget}
 use Rattle.typing_rules.proofs.Sequences.{where_it_fails}
 

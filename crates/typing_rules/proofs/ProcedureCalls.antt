@@ -15,7 +15,7 @@ use Rattle.body_types.specs.Bodies.{procedure, call_meant}
 use Rattle.typing_rules.specs.Expressions.{AreArguments}
 use Rattle.typing_rules.proofs.Steps.{in_words, neither, done, never, then}
 use Rattle.typing_rules.proofs.Calls.{call_law}
-use Rattle.typing_rules.proofs.Expressions.{arguments_law}
+use Rattle.typing_rules.proofs.ExpressionLaws.{arguments_law}
 use Rattle.typing_rules.specs.Statements.{AreCallArguments, IsCalled}
 
 call_arguments_law : (s : Site) (at : ℕ) (args : PlainArgs) (signature : Signature) (us : TypedArgs) → (call_arguments s at args signature ≡ Ok us) ↔ AreCallArguments s args signature us

@@ -15,7 +15,7 @@ use Rattle.named_data.specs.Rules.{Site, at_byte}
 use Rattle.expr_types.specs.Typing.{typed}
 use Rattle.body_types.specs.Bodies.{Body, Around, is_function, returned_value, returned, raised}
 use Rattle.typing_rules.proofs.Steps.{done, never, then, never_after, where_it_holds}
-use Rattle.typing_rules.proofs.Expressions.{typed_law}
+use Rattle.typing_rules.proofs.ExpressionLaws.{typed_law}
 use Rattle.typing_rules.specs.Statements.{IsReturnedValue, IsReturn, IsRaise}
 
 no_value_law : (body : Body) (s : Site) (at : ℕ) (kind : RoutineKind) (t : TypedStmt)

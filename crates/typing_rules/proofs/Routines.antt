@@ -8,7 +8,7 @@ use Rattle.body_types.specs.Bodies.{Body, Typed, outside, stmts, into}
 use Rattle.stmt_types.specs.Task.{handler_of, body_of, typed_routine, items_bodies, bodies}
 use Rattle.typing_rules.proofs.Steps.{in_words, done, then}
 use Rattle.typing_rules.proofs.Sequences.{typed_is, with_last}
-use Rattle.typing_rules.proofs.Statements.{stmts_law}
+use Rattle.typing_rules.proofs.StatementLaws.{stmts_law}
 use Rattle.typing_rules.specs.Tasks.{IsHandler, IsRoutine, AreItemRoutines, AreRoutines}
 use Rattle.typing_rules.proofs.TaskSteps.{regrouped}
 

@@ -1,5 +1,5 @@
 -- Rules that stand in a row, and steps that are grouped.
-use Rattle.std.proofs.Common.{◌≡◌, ◌↔◌, Bool, true, false, not, Ok, Err, refl}
+use Rattle.std.proofs.Common.{◌≡◌, ◌↔◌, Bool, false, not, Ok, Err}
 use Rattle.std.proofs.lemmas.Bool.{not-true, not_from_false}
 use Rattle.rule_checks.specs.Checks.{◌>>=◌, must}
 use Rattle.rule_checks.specs.TypeChecks.{TypeBreak, Checked}

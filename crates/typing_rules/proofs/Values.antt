@@ -1,5 +1,5 @@
 -- Lengths and initial values of data.
-use Rattle.std.proofs.Common.{◌≡◌, ◌↔◌, ℕ, ℤ, Bool, true, not, ◌||◌, ◌==◌, List, [], ◌∷◌, length, Option, Some, None, is_some, Ok, refl, sym, ap, subst, ◌∙◌}
+use Rattle.std.proofs.Common.{◌≡◌, ◌↔◌, ℕ, ℤ, suc, Bool, true, not, ◌||◌, ◌==◌, List, [], ◌∷◌, length, Option, Some, None, is_some, Ok, refl, sym, ap, subst, ◌∙◌}
 use Rattle.std.proofs.lemmas.Bool.{eqb-true, eq-eqb, or_right}
 use Rattle.std.specs.List.{list_all}
 use Rattle.raw_trees.specs.Plain.{PlainDatum, PlainExpr, PlainExprs, Aggregate, Group, NoExprs, MoreExprs}
@@ -9,7 +9,7 @@ use Rattle.rapid_model.specs.declared.value.Value.{Value}
 use Rattle.rapid_model.specs.declared.value.Value.TheVariants as values
 use Rattle.typed_trees.specs.Plain
 use Rattle.typed_trees.specs.Plain.{TypedExprs}
-use Rattle.constant_meaning.specs.Constants.{Elements, Outcomes, all, stops, constant_value, constant_values, is_constant, are_constant, element_number}
+use Rattle.constant_meaning.specs.Constants.{Elements, Outcomes, all, stops, and_more, constant_value, constant_values, is_constant, are_constant, element_number}
 use Rattle.constant_meaning.specs.declared.outcome.Outcome.{Outcome}
 use Rattle.constant_meaning.specs.declared.outcome.Outcome.TheVariants as outcomes
 use Rattle.rule_checks.specs.declared.rule.TypeRule.TheVariants.{NoInit, NotConst, ConstFault, DimRange}
@@ -23,12 +23,26 @@ use Rattle.named_data.specs.declared.wanted.Wanted.TheVariants.{Is, Nothing}
 use Rattle.named_data.specs.Rules.{Site}
 use Rattle.expr_types.specs.Typing.{typed}
 use Rattle.decl_types.specs.Values.{Initial, Brackets, longest_array, length_or_fault, whole_length, length_at, value_or_fault, single_value, array_elements, brackets, how_many, values_or_fault, array_values, no_value, initial_values, site_of, values_at, len_of, initial}
-use Rattle.decl_types.proofs.Elements.{values_counted}
 use Rattle.typing_rules.proofs.Steps.{in_words, neither, done, never, then, both, never_after, where_it_holds}
-use Rattle.typing_rules.proofs.Expressions.{typed_law}
+use Rattle.typing_rules.proofs.ExpressionLaws.{typed_law}
 use Rattle.typing_rules.specs.Data.{IsLength, IsLen, IsSingle, AreArrayElements, AreBrackets, AreArrayValues, AreInitialValues, AreValues, IsInitial}
 use Rattle.typing_rules.proofs.TaskSteps.{regrouped}
 use Rattle.typing_rules.proofs.Choices.{chosen}
+
+-- where each element comes to a value, there are as many values
+one_more : (one : Outcome) (more : Outcomes) (n : ℕ) (vs : List Value) → ((ws : List Value) → more ≡ all ws → length ws ≡ n) → and_more one more ≡ all vs → length vs ≡ suc n
+one_more (outcomes.Value v) (all ws) n vs others is =
+    let same : vs ≡ v ∷ ws = cc in
+    ap length same ∙ ap (λ (n : ℕ). suc n) (others ws refl)
+one_more (outcomes.Value v) (stops other) n vs others is = absurd cc
+one_more other more n vs others is = absurd cc
+
+values_counted : (known : Elements) (ts : TypedExprs) (vs : List Value) → constant_values known ts ≡ all vs → length vs ≡ how_many ts
+unfolding constant_values
+values_counted known Plain.NoExprs vs is =
+    let none : vs ≡ [] = cc in
+    ap length none
+values_counted known (Plain.MoreExprs t ts) vs is = one_more (constant_value known t) (constant_values known ts) (how_many ts) vs (values_counted known ts) is
 
 found_length : (s : Site) (at : ℕ) (found : Option ℕ) (n : ℕ) → (length_or_fault s at found ≡ Ok n) ↔ (found ≡ Some n)
 found_length s at None n = (λ e. absurd (cc), λ e. absurd (cc))

@@ -1,6 +1,6 @@
 use Rattle.std.proofs.Common.{sym, ◌∙◌}
 use Rattle.typing_rules.proofs.Steps.{done}
-use Rattle.typing_rules.proofs.Expressions.{typed_law}
+use Rattle.typing_rules.proofs.ExpressionLaws.{typed_law}
 use Rattle.typing_rules.proofs.expressions.expressions_have_one_form.Goals as goal
 
 pub returns : goal.returns

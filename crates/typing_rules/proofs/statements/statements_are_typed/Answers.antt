@@ -1,4 +1,4 @@
-use Rattle.typing_rules.proofs.Statements.{stmts_law}
+use Rattle.typing_rules.proofs.StatementLaws.{stmts_law}
 use Rattle.typing_rules.proofs.statements.statements_are_typed.Goals as goal
 
 pub returns : goal.returns

@@ -1,6 +1,6 @@
 use Rattle.std.proofs.Common.{sym, ◌∙◌}
 use Rattle.typing_rules.proofs.Sequences.{typed_is}
-use Rattle.typing_rules.proofs.Statements.{stmts_law}
+use Rattle.typing_rules.proofs.StatementLaws.{stmts_law}
 use Rattle.typing_rules.proofs.statements.statements_have_one_form.Goals as goal
 
 pub returns : goal.returns

@@ -1,6 +1,6 @@
 use Rattle.std.proofs.Common.{sym, ◌∙◌}
 use Rattle.typing_rules.proofs.Steps.{done}
-use Rattle.typing_rules.proofs.Tasks.{task_law}
+use Rattle.typing_rules.proofs.TaskLaws.{task_law}
 use Rattle.typing_rules.proofs.tasks.tasks_have_one_tree.Goals as goal
 
 pub returns : goal.returns

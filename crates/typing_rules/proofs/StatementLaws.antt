@@ -18,7 +18,7 @@ use Rattle.body_types.specs.Bodies.{Body, Around, Typed, site, into, into_loop, 
 use Rattle.body_types.specs.Labels.{label_number, is_first, is_visible}
 use Rattle.typing_rules.specs.Expressions.{IsExpr}
 use Rattle.typing_rules.proofs.Steps.{in_words, done, then, where_it_holds}
-use Rattle.typing_rules.proofs.Expressions.{typed_law}
+use Rattle.typing_rules.proofs.ExpressionLaws.{typed_law}
 use Rattle.typing_rules.specs.Statements.{IsTarget, IsStep, IsStmt, AreStmts, AreBranches, AreChoices, IsOtherwise}
 use Rattle.typing_rules.proofs.Sequences.{typed_is, alone, with_last, headed, in_sequence, headed_sequence}
 use Rattle.typing_rules.proofs.Places.{target_law}
