@@ -1,5 +1,5 @@
 -- A machine for the one task of a cell is a crew.
-use Rattle.std.proofs.Common.{◌≡◌, ℕ, zero, suc, List, [], ◌∷◌, Some, refl, sym, subst, ap, ◌∙◌, arith, Bool, false, not, ◌&&◌, ◌⊎◌, inl, inr, length}
+use Rattle.std.proofs.Common.{◌≡◌, ℕ, zero, suc, List, [], ◌∷◌, Some, refl, sym, subst, ap, ◌∙◌, arith, ◌⊎◌, inl, inr, length}
 use Rattle.std.specs.Prelude.{IsTrue, is_some, slice_get}
 use Rattle.std.specs.List.{list_all}
 use Rattle.rapid_model.specs.CellData.{CellData}

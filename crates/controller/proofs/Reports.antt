@@ -1,5 +1,5 @@
 -- The report of a run.
-use Rattle.std.proofs.Common.{◌≡◌, ℕ, List, [], length, None, Some, ap, sym, ◌∙◌, subst, inl, inr}
+use Rattle.std.proofs.Common.{◌≡◌, ℕ, List, [], ◌∷◌, length, None, Some, ap, sym, ◌∙◌, subst, inl, inr}
 use Rattle.rapid_model.specs.CellData.{CellData, IsCell}
 use Rattle.rapid_model.specs.declared.event.Event.{Event}
 use Rattle.rapid_model.specs.declared.tree.Tree.{Tree}
@@ -13,10 +13,11 @@ use Rattle.history_text.specs.Lines.{lines_of}
 use Rattle.controller.specs.declared.report.Report.{Report}
 use Rattle.controller.specs.declared.refused.Refused.TheVariants.{Write}
 use Rattle.controller.specs.Refusals.{status_of, refusal_text}
-use Rattle.controller.specs.Runs.{IsRun, run_status}
+use Rattle.controller.specs.Runs.{IsRun, run_status, SuitsOne}
 use Rattle.controller.specs.Printed.{Sunk, Gained}
 use Rattle.controller.specs.Written.{WritesAll, WritesPart}
-use Rattle.controller.specs.Answered.{TakesLine, AnswersRun}
+use Rattle.controller.specs.Answered.{TakesLine, AnswersRun, RunsOrMemory}
+use Rattle.controller.proofs.OneArm.{suit_one}
 
 -- the report has this history of the cell, and the fates that follow from it
 pub record Tells (cell : CellData) (history : List Event) (report : Report) : Type 0 where
@@ -70,3 +71,13 @@ run_cut_short cell trees history report out err one limits suit run tells write 
       },
       here.rose,
     )
+
+-- the run of the one task of a cell
+pub run_answered : (cell here : CellData) (tree : Tree) (history : List Event) (report : Report) (out err : Sunk) → here ≡ cell → SuitsOne cell tree → IsByTurns (tree_asks (tree ∷ [])) cell history
+    → ((trees : List Tree) → length trees ≡ length here.tasks → SuitTasks trees here → IsByTurns (tree_asks trees) here history → AnswersRun here trees report out err)
+    → RunsOrMemory cell (tree ∷ []) report out err
+run_answered cell here tree history report out err same suits run answered =
+    let one : length (tree ∷ []) ≡ length here.tasks = sym (ap (λ (c : CellData). length c.tasks) same ∙ suits.one) in
+    let suit : SuitTasks (tree ∷ []) here = subst (λ (c : CellData). SuitTasks (tree ∷ []) c) (sym same) (suit_one cell tree suits) in
+    let turns : IsByTurns (tree_asks (tree ∷ [])) here history = subst (λ (c : CellData). IsByTurns (tree_asks (tree ∷ [])) c history) (sym same) run in
+    inr (subst (λ (c : CellData). AnswersRun c (tree ∷ []) report out err) same (answered (tree ∷ []) one suit turns))
