@@ -1,14 +1,16 @@
 -- The rows of a task's routines in its typed tree.
 use Rattle.std.proofs.Common.{◌≡◌, ℕ, ◌+◌, List, [], ◌∷◌, ◌++◌, length, Option, Some, None, Ok, slice_get, refl, sym, ap, subst, ◌∙◌, true, false, length-append, arith}
-use Rattle.raw_trees.specs.Plain.{PlainRoutine, PlainItem, PlainModule, Datum, Routine, stmts_of}
+use Rattle.raw_trees.specs.Plain.{PlainRoutine, PlainItem, PlainModule, Datum, Routine, stmts_of, else_of}
 use Rattle.typed_trees.specs.Plain.{TypedLocal, TypedRoutine}
 use Rattle.rule_checks.specs.Checks.{◌>>=◌}
 use Rattle.rule_checks.proofs.Steps.{behind, ok_same}
 use Rattle.data_scopes.specs.Called.{params_of, result_of}
+use Rattle.data_scopes.specs.Loops.{loops_in, loops_in_else, loops_in_routine}
 use Rattle.data_scopes.specs.Numbers.{Tally, is_pers, is_scalar_const, after_datum, after_item}
 use Rattle.data_scopes.specs.Scopes.{Names, list_at}
 use Rattle.body_types.specs.Bodies.{outside, stmts, into}
 use Rattle.stmt_types.specs.Task.{handler_of, body_of, typed_params, typed_routine, item_bodies, items_bodies, bodies}
+use Rattle.name_laws.proofs.Counters.{stmts_next, handler_next, routine_next}
 use Rattle.name_laws.proofs.Items.{Fact, IsWalk, IsFront, front_more, get_last}
 use Rattle.name_laws.proofs.Seen.{no_routine}
 
@@ -22,6 +24,7 @@ module _ (names : Names) (locals : List (List TypedLocal)) where
     pub result : t.result ≡ result_of names.rows routine
     pub params : t.params ≡ typed_params r.params (params_of names.rows routine)
     pub data_are : t.locals ≡ list_at locals routine
+    pub loops : t.loops ≡ length (loops_in_routine r)
 
   head_typed : (number routine : ℕ) (r : PlainRoutine) (t : TypedRoutine) → typed_routine names locals number routine r ≡ Ok t → IsHead number routine r t
   head_typed number routine r t e =
@@ -29,7 +32,11 @@ module _ (names : Names) (locals : List (List TypedLocal)) where
       let body = body_of names number routine r in
       behind P t (stmts body (stmts_of r.list) (into (outside false) (stmts_of r.list)) 0) _ e (λ l is rest.
       behind P t (handler_of body r.handler l.next) _ rest (λ h was done.
-      subst (IsHead number routine r) (ok_same _ t done) (record { name = refl; «module» = refl; at = refl; kind = refl; result = refl; params = refl; data_are = refl })))
+      subst (IsHead number routine r) (ok_same _ t done) (record {
+        name = refl; «module» = refl; at = refl; kind = refl; result = refl; params = refl; data_are = refl;
+        loops = routine_next (λ n. loops_in_else None n (else_of r.handler)) (loops_in None 0 (stmts_of r.list)) l.next h.next
+        (stmts_next body (stmts_of r.list) (into (outside false) (stmts_of r.list)) None 0 l is) (handler_next body r.handler l.next h was);
+      })))
 
   abbrev pub AreCounted : Tally → List TypedRoutine → Type 0
   AreCounted c rs = c.routines ≡ length rs

@@ -3,6 +3,7 @@ pub mod Items
 pub mod Seen
 pub mod Declarations
 pub mod Data
+pub mod Counters
 pub mod Bodies
 pub mod Tree
 pub mod Means

@@ -1,6 +1,7 @@
 -- What a name means has its row.
-use Rattle.std.proofs.Common.{◌≡◌, ◌⊎◌, inl, inr, ℕ, zero, suc, ◌+◌, Bool, true, false, ◌||◌, List, [], ◌∷◌, length, Option, Some, None, slice_get, IfSome, refl, sym, ap, subst, ◌∙◌, if◌then◌else◌, true≢false, arith}
+use Rattle.std.proofs.Common.{◌≡◌, ◌⊎◌, inl, inr, ℕ, zero, suc, ◌+◌, ◌<◌, Bool, true, false, ◌||◌, List, [], ◌∷◌, length, Option, Some, None, slice_get, IfSome, refl, sym, ap, subst, ◌∙◌, if◌then◌else◌, true≢false, arith}
 use Rattle.std.specs.Str.{str_to_ascii_lowercase}
+use Rattle.std.proofs.lemmas.Option.{slice_get_within}
 use Rattle.raw_trees.specs.Plain.{PlainDatum, PlainParam, PlainRoutine, PlainItem, PlainModule, Datum, Routine}
 use Rattle.raw_trees.specs.declared.raw_routine.Mode.{Mode}
 use Rattle.raw_trees.specs.declared.raw_routine.Mode.TheVariants as modes
@@ -9,15 +10,16 @@ use Rattle.rule_checks.specs.declared.spot.Spot.{Spot}
 use Rattle.typed_trees.specs.Plain.{TypedTree}
 use Rattle.data_scopes.specs.declared.meant.Meant.{Meant}
 use Rattle.data_scopes.specs.declared.meant.Meant.TheVariants as meants
+use Rattle.data_scopes.specs.Loops.{loops_in_routine}
 use Rattle.data_scopes.specs.Numbers.{Tally, is_pers, is_scalar_const, is_local, item_name, item_meant, param_meant, no_counts, tables_of, own_scopes, inner_scopes, task_scope, signal_scope}
 use Rattle.data_scopes.specs.Scopes.{Tables, list_at, meant_in, meaning}
 use Rattle.name_laws.specs.Declared.{IsOneName, StandsIn, IsSeen, AreEach}
 use Rattle.name_laws.specs.Rows.{IsParamRow, IsLocalRow}
 use Rattle.name_laws.specs.Meant.{HasItsRow, Inside, is_by_value} 
 use Rattle.name_laws.specs.Meant as specs
-use Rattle.name_laws.proofs.Entries.{Holds, found_there, holds_at, raised, meaning_such}
+use Rattle.name_laws.proofs.Entries.{Holds, found_there, holds_at, raised, Counter, meaning_such}
 use Rattle.name_laws.proofs.Items.{rest_all}
-use Rattle.name_laws.proofs.Seen.{ItemEntry, TaskEntry, InnerEntry, ParamEntry, LocalEntry, PlaceEntry, SignalEntry, own_scopes_entered, task_scope_entered, inner_scopes_entered, signals_entered}
+use Rattle.name_laws.proofs.Seen.{ItemEntry, TaskEntry, InnerEntry, ParamEntry, LocalEntry, PlaceEntry, SignalEntry, own_scopes_entered, task_scope_entered, inner_scopes_entered, signals_entered, loops_there, loop_found}
 use Rattle.name_laws.proofs.Tree.{Checked, IsInTree, DatumIn, RoutineIn, each_length}
 
 -- the partner of an element
@@ -107,6 +109,31 @@ module _ (modules : List PlainModule) (signals : List SignalRow) (tree : TypedTr
         is_row = e.holds.1.is_row;
       }) meant e.entry
 
+  counter_row : (routine k : ℕ) → spot.routine ≡ Some routine → Counter tables spot name Q routine k → Q (meants.For k)
+  counter_row routine k is e =
+      let loops = list_at tables.loops routine in
+      let found = loop_found (str_to_ascii_lowercase name) loops k (length loops) spot.within e in
+      let here = loops_there A modules checked.all routine k found.loop found.is in
+      let row = here.holds.1 in
+      let there : slice_get (loops_in_routine here.r) k ≡ Some found.loop = subst (λ ls. slice_get ls k ≡ Some found.loop) here.are found.is in
+      let within : k < length (loops_in_routine here.r) = slice_get_within (loops_in_routine here.r) k found.loop there in
+      record {
+        inside = record {
+          routine = here.c.routines;
+          number = here.number;
+          r = here.r;
+          row = row.row;
+          is_inside = is ∙ ap Some (sym here.is_it);
+          stands = here.holds.0;
+          has_row = row.has_row;
+          is_row = row.is_row;
+        };
+        loop = found.loop;
+        is_loop = there;
+        named = found.named;
+        has_place = subst (λ n. k < n) (sym row.is_row.loops) within;
+      }
+
   signal_row : (meant : Meant) → SignalEntry signals (str_to_ascii_lowercase name) meant → Q meant
   signal_row meant e = subst Q (sym e.means) (record { row = e.row; has_row = e.is_row; named = e.named })
 
@@ -141,5 +168,5 @@ module _ (modules : List PlainModule) (signals : List SignalRow) (tree : TypedTr
   has_its_row meant is =
       meaning_such tables spot name Q
       (record { instructions = λ i. tt; functions = λ f. tt; predefined = λ p. tt })
-      (record { counters = λ routine k at found. tt; inner = inner_rows; own = own_rows; task = task_rows; signals = signal_rows })
+      (record { counters = counter_row; inner = inner_rows; own = own_rows; task = task_rows; signals = signal_rows })
       meant is

@@ -1,12 +1,14 @@
 -- Each entry of the scopes of a task's modules is that of a declaration, of which this is true where it stands.
-use Rattle.std.proofs.Common.{◌≡◌, ◌⊎◌, inl, inr, ℕ, zero, suc, ◌+◌, Bool, true, false, List, [], ◌∷◌, ◌++◌, length, Option, Some, None, slice_get, refl, sym, ap, subst, ◌∙◌, if◌then◌else◌, arith}
+use Rattle.std.proofs.Common.{◌≡◌, ◌⊎◌, inl, inr, ℕ, zero, suc, ◌+◌, Bool, true, false, List, [], ◌∷◌, ◌++◌, length, Option, Some, None, slice_get, refl, sym, ap, subst, ◌∙◌, if◌then◌else◌, bytes_eq, arith}
 use Rattle.std.specs.Str.{str_to_ascii_lowercase}
+use Rattle.std.proofs.lemmas.Slice.Eq.{bytes_eq-Decides}
 use Rattle.raw_trees.specs.Plain.{PlainDatum, PlainParam, PlainRoutine, PlainItem, PlainModule, Datum, Routine}
 use Rattle.rapid_model.specs.declared.signal_row.SignalRow.{SignalRow}
 use Rattle.data_scopes.specs.declared.meant.Meant.{Meant}
 use Rattle.data_scopes.specs.declared.meant.Meant.TheVariants as meants
-use Rattle.data_scopes.specs.Numbers.{Tally, is_pers, is_scalar_const, is_local, item_name, item_meant, after_datum, after_item, after_items, param_meant, declare_params, local_meant, declare_locals, routine_scope, own_items, task_items, item_scopes, routine_scopes, task_scope, own_scopes, inner_scopes, signal_scope, no_counts}
-use Rattle.data_scopes.specs.Scopes.{Scope, declare}
+use Rattle.data_scopes.specs.Loops.{loops_in_routine}
+use Rattle.data_scopes.specs.Numbers.{Tally, is_pers, is_scalar_const, is_local, item_name, item_meant, after_datum, after_item, after_items, param_meant, declare_params, local_meant, declare_locals, routine_scope, own_items, task_items, item_scopes, routine_scopes, task_scope, own_scopes, inner_scopes, items_loops, all_loops, signal_scope, no_counts}
+use Rattle.data_scopes.specs.Scopes.{Scope, Loop, declare, list_at, loop_named, named_or}
 use Rattle.data_scopes.proofs.Within.{after_by}
 use Rattle.name_laws.proofs.Entries.{Holds, EachHolds, holds_declare}
 use Rattle.name_laws.proofs.Items.{Fact, AllItems, AllModules, Rest, rest_all, rest_first, rest_more}
@@ -138,6 +140,66 @@ module _ (A : Fact) where
   inner_scopes_entered number c [] h = tt
   inner_scopes_entered number c (m ∷ ms) h =
       inner_entered number c m.items (inner_scopes (after_items c m.items) ms) h.0 (inner_scopes_entered (number + 1) (after_items c m.items) ms h.1)
+
+  -- the FORs of the routine of this number
+  pub record RoutineLoops (routine : ℕ) (loops : List Loop) : Type 0 where
+    pub number : ℕ
+    pub c : Tally
+    pub r : PlainRoutine
+    pub holds : A number c (Routine r)
+    pub is_it : c.routines ≡ routine
+    pub are : loops ≡ loops_in_routine r
+
+  abbrev EachLoops : ℕ → List (List Loop) → Type 0
+  EachLoops routine [] = Unit {0}
+  EachLoops routine (loops ∷ more) = RoutineLoops routine loops × EachLoops (routine + 1) more
+
+  loops_entered : (number : ℕ) (c : Tally) (items : List PlainItem) (rest : List (List Loop)) → AllItems A number c items → EachLoops (after_items c items).routines rest →
+      EachLoops c.routines (items_loops items ++ rest)
+  loops_entered number c [] rest h all = all
+  loops_entered number c (Datum local task d at ∷ items) rest h all =
+      subst (λ n. EachLoops n (items_loops items ++ rest)) (no_routine c (is_scalar_const d) (is_pers d.kind)) (loops_entered number (after_datum c d) items rest h.1 all)
+  loops_entered number c (Routine r ∷ items) rest h all =
+      (record { number = number; c = c; r = r; holds = h.0; is_it = refl; are = refl }, loops_entered number (after_item c (Routine r)) items rest h.1 all)
+
+  all_loops_entered : (number : ℕ) (c : Tally) (ms : List PlainModule) → AllModules A number c ms → EachLoops c.routines (all_loops ms)
+  all_loops_entered number c [] h = tt
+  all_loops_entered number c (m ∷ ms) h =
+      loops_entered number c m.items (all_loops ms) h.0 (all_loops_entered (number + 1) (after_items c m.items) ms h.1)
+
+  loops_at : (first k : ℕ) (lists : List (List Loop)) (place : ℕ) (loop : Loop) → EachLoops first lists → slice_get (list_at lists k) place ≡ Some loop → RoutineLoops (first + k) (list_at lists k)
+  loops_at first k [] place loop all is = absurd (cc)
+  loops_at first zero (loops ∷ more) place loop all is = let e : first ≡ first + zero = omega arith in subst (λ n. RoutineLoops n loops) e all.0
+  loops_at first (suc k) (loops ∷ more) place loop all is =
+      let e : (first + 1) + k ≡ first + suc k = omega arith in subst (λ n. RoutineLoops n (list_at more k)) e (loops_at (first + 1) k more place loop all.1 is)
+
+  -- a FOR is one of its routine's
+  pub loops_there : (modules : List PlainModule) → AllModules A 0 no_counts modules → (routine place : ℕ) (loop : Loop) → slice_get (list_at (all_loops modules) routine) place ≡ Some loop →
+      RoutineLoops routine (list_at (all_loops modules) routine)
+  loops_there modules h routine place loop is =
+      let e : 0 + routine ≡ routine = omega arith in
+      subst (λ n. RoutineLoops n (list_at (all_loops modules) routine)) e (loops_at 0 routine (all_loops modules) place loop (all_loops_entered 0 no_counts modules h) is)
+
+-- a FOR whose variable has the name
+pub record LoopFound (key : List ℕ) (loops : List Loop) (k : ℕ) : Type 0 where
+  pub loop : Loop
+  pub is : slice_get loops k ≡ Some loop
+  pub named : key ≡ loop.name
+
+module _ (key : List ℕ) (loops : List Loop) (k : ℕ) where
+  found_by_name : (n : ℕ) (loop : Loop) (rest : Option ℕ) (b : Bool) → bytes_eq key loop.name ≡ b → slice_get loops n ≡ Some loop → (if b then Some n else rest) ≡ Some k → (rest ≡ Some k → LoopFound key loops k) → LoopFound key loops k
+  found_by_name n loop rest true same is e later =
+      let here : n ≡ k = cc in record { loop = loop; is = subst (λ m. slice_get loops m ≡ Some loop) here is; named = (bytes_eq-Decides key loop.name).0 same }
+  found_by_name n loop rest false same is e later = later e
+
+  found_further : (n : ℕ) (o : Option Loop) (further : Option ℕ → Option ℕ) → slice_get loops n ≡ o → named_or key n o further ≡ Some k → ((at : Option ℕ) → further at ≡ Some k → LoopFound key loops k) → LoopFound key loops k
+  found_further n None further is e later = absurd (cc)
+  found_further n (Some loop) further is e later = found_by_name n loop (further loop.outer) (bytes_eq key loop.name) refl is e (later loop.outer)
+
+  pub loop_found : (steps : ℕ) (at : Option ℕ) → loop_named steps key loops at ≡ Some k → LoopFound key loops k
+  loop_found zero at e = absurd (cc)
+  loop_found (suc steps) None e = absurd (cc)
+  loop_found (suc steps) (Some n) e = found_further n (slice_get loops n) (loop_named steps key loops) refl e (loop_found steps)
 
 -- a signal of the script
 pub record SignalEntry (signals : List SignalRow) (key : List ℕ) (meant : Meant) : Type 0 where

@@ -158,6 +158,7 @@ module _ (tables : Tables) (rows : Rows) (p : Progress) (routines : List TypedRo
           «module» = b.head.«module»;
           at = b.head.at;
           kind = b.head.kind;
+          loops = b.head.loops;
           result = subst (IsResultType tables (spot_of number (Some c.routines)) r.result) (sym result) typed.result;
           params = subst (AreEach (IsParamRow tables number c.routines) r.params) (sym params) (params_rows tables number c.routines r.params row.params typed.params);
           locals = subst (AreEach (IsLocalRow tables number c.routines) r.locals) (sym locals) each;

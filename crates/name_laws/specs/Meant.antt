@@ -1,5 +1,6 @@
 -- Which row each number has that a name means at a spot of a task's modules.
-use Rattle.std.specs.Prelude.{◌≡◌, ◌⊎◌, ℕ, ◌+◌, ◌||◌, Bool, true, false, List, length, Option, Some, None, slice_get}
+use Rattle.std.specs.Prelude.{◌≡◌, ◌⊎◌, ℕ, ◌+◌, ◌<◌, ◌||◌, Bool, true, false, List, length, Option, Some, None, slice_get}
+use Rattle.std.specs.Str.{str_to_ascii_lowercase}
 use Rattle.raw_trees.specs.Plain.{PlainDatum, PlainParam, PlainRoutine, PlainModule, Datum, Routine}
 use Rattle.raw_trees.specs.declared.raw_routine.Mode.{Mode}
 use Rattle.raw_trees.specs.declared.raw_routine.Mode.TheVariants as modes
@@ -8,7 +9,9 @@ use Rattle.rule_checks.specs.declared.spot.Spot.{Spot}
 use Rattle.typed_trees.specs.Plain.{TypedParam, TypedLocal, TypedRoutine, TypedSlot, TypedPers, TypedTree}
 use Rattle.data_scopes.specs.declared.meant.Meant.{Meant}
 use Rattle.data_scopes.specs.declared.meant.Meant.TheVariants as meants
+use Rattle.data_scopes.specs.Loops.{loops_in_routine}
 use Rattle.data_scopes.specs.Numbers.{is_scalar_const, tables_of}
+use Rattle.data_scopes.specs.Scopes.{Loop}
 use Rattle.name_laws.specs.Declared.{IsOneName, StandsIn, IsSeen}
 use Rattle.name_laws.specs.Rows.{IsSlotRow, IsPersRow, IsParamRow, IsLocalRow, IsRoutineRow}
 
@@ -88,6 +91,14 @@ module _ (modules : List PlainModule) (signals : List SignalRow) (tree : TypedTr
     pub has_row : slice_get inside.row.locals place ≡ Some row
     pub is_row : IsLocalRow (tables_of modules signals) inside.number inside.routine d row
 
+  -- a FOR of the routine around, by its variable; the routine has a place for it
+  pub record IsCounter (k : ℕ) : Type 0 where
+    pub inside : Inside
+    pub loop : Loop
+    pub is_loop : slice_get (loops_in_routine inside.r) k ≡ Some loop
+    pub named : str_to_ascii_lowercase name ≡ loop.name
+    pub has_place : k < inside.row.loops
+
   -- a signal of the script
   pub record IsSignal (k : ℕ) : Type 0 where
     pub row : SignalRow
@@ -101,5 +112,6 @@ module _ (modules : List PlainModule) (signals : List SignalRow) (tree : TypedTr
   HasItsRow (meants.Routine k) = IsRoutine k
   HasItsRow (meants.Local k) = IsParam true k ⊎ IsLocal k
   HasItsRow (meants.Ref k) = IsParam false k
+  HasItsRow (meants.For k) = IsCounter k
   HasItsRow (meants.Signal k) = IsSignal k
   HasItsRow _ = Unit {0}

@@ -1,9 +1,10 @@
 -- Which row of a typed tree is that of a declaration: it has its name, its type, its kind, and whether it is an array; a
 -- persistent and a routine also their module and their byte.
-use Rattle.std.specs.Prelude.{◌≡◌, ℕ, Bool, true, false, not, ◌||◌, Option, Some, None, is_some}
+use Rattle.std.specs.Prelude.{◌≡◌, ℕ, Bool, true, false, not, length, Option, Some, None, is_some}
 use Rattle.raw_trees.specs.Plain.{PlainDatum, PlainParam, PlainRoutine}
 use Rattle.typed_trees.specs.Plain.{TypedParam, TypedLocal, TypedRoutine, TypedSlot, TypedPers}
 use Rattle.data_scopes.specs.Declarations.{spot_of}
+use Rattle.data_scopes.specs.Loops.{loops_in_routine}
 use Rattle.data_scopes.specs.Numbers.{is_const, is_pers, is_scalar_const}
 use Rattle.data_scopes.specs.Scopes.{Tables}
 use Rattle.name_laws.specs.Declared.{IsType, IsResultType, AreEach}
@@ -40,7 +41,7 @@ pub record IsLocalRow (tables : Tables) (number routine : ℕ) (d : PlainDatum) 
   pub sort : IsType tables (spot_of number (Some routine) d.sort) d.sort row.sort
   pub array : is_some row.len ≡ is_some d.len
 
--- a routine of this number, with its parameters and its data
+-- a routine of this number, with its parameters and its data, and the number of its FORs
 pub record IsRoutineRow (tables : Tables) (number routine : ℕ) (r : PlainRoutine) (row : TypedRoutine) : Type 0 where
   pub name : row.name ≡ r.name.text
   pub «module» : row.«module» ≡ number
@@ -49,3 +50,4 @@ pub record IsRoutineRow (tables : Tables) (number routine : ℕ) (r : PlainRouti
   pub result : IsResultType tables (spot_of number (Some routine)) r.result row.result
   pub params : AreEach (IsParamRow tables number routine) r.params row.params
   pub locals : AreEach (IsLocalRow tables number routine) r.locals row.locals
+  pub loops : row.loops ≡ length (loops_in_routine r)
