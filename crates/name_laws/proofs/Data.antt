@@ -16,6 +16,7 @@ use Rattle.data_scopes.proofs.Within.{after_by}
 use Rattle.decl_types.specs.Values.{Initial, initial, init_rule, len_of, length_at, values_at, site_of}
 use Rattle.decl_types.specs.Data.{Progress, Inner, sort_in, keeping, with_const, with_slot, with_pers, inner_row, with_local, of_modules, datum_const, datum_pers, datum_slot, local, locals, entered, left, routine, item, items, data_of}
 use Rattle.decl_types.specs.Parts.{slot_row, pers_row}
+use Rattle.name_laws.proofs.Meetings.{AreAlike, alike_more}
 use Rattle.name_laws.proofs.Items.{Fact, IsWalk, IsFront, front_more, get_last}
 
 -- an array has a length, and nothing else has one
@@ -108,6 +109,7 @@ module _ (rows : Rows) where
     pub pers : c.pers ≡ length p.pers
     pub routines : c.routines ≡ length p.locals
     pub same : p.names.rows ≡ rows
+    pub alike : AreAlike p.slots rows.slots
 
   pub record Grow (p q : Progress) : Type 0 where
     pub slots : IsFront p.slots q.slots
@@ -165,7 +167,7 @@ module _ (rows : Rows) where
       let Is : Progress → Type 0 = Done (after_by c true pers) (λ q. DatumIn q number c own d true pers) p in
       behind (Is q) q (initial p.names number None (of_modules p) (sort_in (slice_get p.names.rows.consts p.consts)) d) _ e (λ i is done.
       subst Is (ok_same (with_const p i) q done)
-      (record { slots = h.slots; pers = h.pers; routines = h.routines; same = keeping_rows p.names p.consts i.values ∙ h.same },
+      (record { slots = h.slots; pers = h.pers; routines = h.routines; same = keeping_rows p.names p.consts i.values ∙ h.same; alike = h.alike },
        record { slots = stays p.slots; pers = stays p.pers; locals = stays p.locals },
        tt))
   datum_done number c own d p q false true h e =
@@ -177,7 +179,7 @@ module _ (rows : Rows) where
       let named : row ≡ pers_row number own d (sort_in (slice_get rows.pers c.pers)) i =
       ap (λ r. pers_row number own d (sort_in (slice_get r.pers (length p.pers))) i) h.same ∙ ap (λ k. pers_row number own d (sort_in (slice_get rows.pers k)) i) (sym h.pers) in
       subst Is (ok_same (with_pers p number own d sort i) q done)
-      (record { slots = h.slots; pers = omega (arith, h.pers, length-append p.pers (row ∷ [])); routines = h.routines; same = h.same },
+      (record { slots = h.slots; pers = omega (arith, h.pers, length-append p.pers (row ∷ [])); routines = h.routines; same = h.same; alike = h.alike },
        record { slots = stays p.slots; pers = front_more p.pers row; locals = stays p.locals },
        record { i = i; is = there ∙ ap Some named; array = initial_len p.names number None (of_modules p) sort d i is }))
   datum_done number c own d p q false false h e =
@@ -189,7 +191,7 @@ module _ (rows : Rows) where
       let named : row ≡ slot_row d (sort_in (slice_get rows.slots c.slots)) i =
       ap (λ r. slot_row d (sort_in (slice_get r.slots (length p.slots))) i) h.same ∙ ap (λ k. slot_row d (sort_in (slice_get rows.slots k)) i) (sym h.slots) in
       subst Is (ok_same (with_slot p d sort i) q done)
-      (record { slots = omega (arith, h.slots, length-append p.slots (row ∷ [])); pers = h.pers; routines = h.routines; same = h.same },
+      (record { slots = omega (arith, h.slots, length-append p.slots (row ∷ [])); pers = h.pers; routines = h.routines; same = h.same; alike = alike_more p.slots rows.slots row h.alike (ap (λ r. sort_in (slice_get r.slots (length p.slots))) h.same) },
        record { slots = front_more p.slots row; pers = stays p.pers; locals = stays p.locals },
        record { i = i; is = there ∙ ap Some named; array = initial_len p.names number None (of_modules p) sort d i is }))
 
@@ -201,7 +203,7 @@ module _ (rows : Rows) where
       let there : slice_get (p.locals ++ n.rows ∷ []) c.routines ≡ Some n.rows = ap (slice_get (p.locals ++ n.rows ∷ [])) h.routines ∙ get_last p.locals n.rows in
       let each : AreLocalsOf c.routines (length r.params) r.locals all.ts = subst (λ k. AreLocalsOf k (length r.params) r.locals all.ts) (sym h.routines) all.each in
       subst Is (ok_same (left p n) q done)
-      (record { slots = h.slots; pers = h.pers; routines = omega (arith, h.routines, length-append p.locals (n.rows ∷ [])); same = all.same },
+      (record { slots = h.slots; pers = h.pers; routines = omega (arith, h.routines, length-append p.locals (n.rows ∷ [])); same = all.same; alike = h.alike },
        record { slots = stays p.slots; pers = stays p.pers; locals = front_more p.locals n.rows },
        record { ts = n.rows; is = there; each = subst (AreLocalsOf c.routines (length r.params) r.locals) (sym all.is) each }))
 

@@ -2,6 +2,7 @@ pub mod Entries
 pub mod Items
 pub mod Seen
 pub mod Declarations
+pub mod Meetings
 pub mod Data
 pub mod Counters
 pub mod Bodies

@@ -34,7 +34,7 @@ partner R (z ∷ xs) [] k x h is = absurd h
 partner R (z ∷ xs) (y ∷ ys) zero x h is = let same : z ≡ x = cc in record { y = y; is = refl; such = subst (λ w. R w y) same h.0 }
 partner R (z ∷ xs) (y ∷ ys) (suc k) x h is = let p = partner R xs ys k x h.1 is in record { y = p.y; is = p.is; such = p.such }
 
-module _ (modules : List PlainModule) (signals : List SignalRow) (tree : TypedTree) (checked : Checked modules signals tree) (spot : Spot) (name : List ℕ) where
+module _ (modules : List PlainModule) (signals : List SignalRow) (arm : Bool) (tree : TypedTree) (checked : Checked modules signals arm tree) (spot : Spot) (name : List ℕ) where
   abbrev tables : Tables
   tables = tables_of modules signals
 

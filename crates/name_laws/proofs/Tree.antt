@@ -22,6 +22,10 @@ use Rattle.decl_types.specs.Data.{Progress, sort_in, inner_row, beginning, item,
 use Rattle.stmt_types.specs.Task.{task_of, typed_params, item_bodies, items_bodies, bodies, main_or, top, main_among, routines_of, most_values, tree_of}
 use Rattle.name_laws.specs.Declared.{StandsIn, IsType, IsResultType, AreEach}
 use Rattle.name_laws.specs.Rows.{IsSlotRow, IsPersRow, IsParamRow, IsLocalRow, IsRoutineRow}
+use Rattle.data_scopes.specs.Meetings.{is_meeting}
+use Rattle.data_scopes.proofs.Within.{after_modules}
+use Rattle.name_laws.specs.Meetings.{IsMeeting}
+use Rattle.name_laws.proofs.Meetings.{AreAlike, meeting_known}
 use Rattle.name_laws.proofs.Items.{Fact, IsFront, AllItems, AllModules, Rest, Stands, modules_made, modules_stand, modules_walked, rest_all, rest_first, rest_more}
 use Rattle.name_laws.proofs.Declarations as declared
 use Rattle.name_laws.proofs.Data as data_are
@@ -182,23 +186,33 @@ module _ (tables : Tables) (rows : Rows) (p : Progress) (routines : List TypedRo
       (modules_stand modules 0 no_counts modules (rest_all modules)) all
 
 -- the tree of modules that were checked, as far as rows go
-pub record Checked (modules : List PlainModule) (signals : List SignalRow) (tree : TypedTree) : Type 0 where
+pub record Checked (modules : List PlainModule) (signals : List SignalRow) (arm : Bool) (tree : TypedTree) : Type 0 where
+  pub names : Names
+  pub named : names_of modules signals arm ≡ Ok names
+  pub meets : (k : ℕ) → is_meeting (slice_get names.rows.slots k) ≡ true → IsMeeting tree.slots tree.meetings names.rows.slots k
   pub all : AllModules (IsInTree (tables_of modules signals) tree.slots tree.pers tree.routines modules) 0 no_counts modules
 
-rows_of_names : (modules : List PlainModule) (signals : List SignalRow) (arm : Bool) (names : Names) → names_of modules signals arm ≡ Ok names →
-    AllModules (declared.RowIn (tables_of modules signals) names.rows) 0 no_counts modules
+none_alike : (rows : List DatumRow) → AreAlike [] rows
+none_alike rows k row is = absurd (cc)
+
+-- the rows of names, one for each declaration
+record HaveRows (modules : List PlainModule) (signals : List SignalRow) (rows : Rows) : Type 0 where
+  pub counted : (after_modules no_counts modules).slots ≡ length rows.slots
+  pub all : AllModules (declared.RowIn (tables_of modules signals) rows) 0 no_counts modules
+
+rows_of_names : (modules : List PlainModule) (signals : List SignalRow) (arm : Bool) (names : Names) → names_of modules signals arm ≡ Ok names → HaveRows modules signals names.rows
 rows_of_names modules signals arm names e =
     let tables = tables_of modules signals in
-    let P : Type 0 = AllModules (declared.RowIn tables names.rows) 0 no_counts modules in
+    let P : Type 0 = HaveRows modules signals names.rows in
     behind P names (modules_rules tables 0 [] no_counts modules []) _ e (λ sorts is rest.
     behind P names (modules_rows tables 0 modules no_rows) _ rest (λ rows found done.
     let after = modules_walked Rows (item_rows tables) (items_rows tables) (modules_rows tables) (declared.AreCounted tables) (declared.Grow tables) (declared.RowIn tables) (declared.rows_walk tables)
     0 no_counts modules no_rows rows (record { slots = refl; pers = refl; routines = refl }) found in
-    subst (λ rs. AllModules (declared.RowIn tables rs) 0 no_counts modules) (ap (λ n. n.rows) (ok_same _ names done)) after.all))
+    subst (HaveRows modules signals) (ap (λ n. n.rows) (ok_same _ names done)) (record { counted = after.counted.slots; all = after.all })))
 
-pub task_checked : (modules : List PlainModule) (tasks : List (List ℕ)) (signals : List SignalRow) (arm : Bool) (tree : TypedTree) → task_of modules tasks signals arm ≡ Ok tree → Checked modules signals tree
+pub task_checked : (modules : List PlainModule) (tasks : List (List ℕ)) (signals : List SignalRow) (arm : Bool) (tree : TypedTree) → task_of modules tasks signals arm ≡ Ok tree → Checked modules signals arm tree
 task_checked modules tasks signals arm tree e =
-    let P : Type 0 = Checked modules signals tree in
+    let P : Type 0 = Checked modules signals arm tree in
     let tables = tables_of modules signals in
     behind P tree (names_of modules signals arm) _ e (λ names named rest.
     behind P tree (data_of 0 modules (beginning names)) _ rest (λ p held more.
@@ -206,11 +220,21 @@ task_checked modules tasks signals arm tree e =
     behind P tree (main_or (top p.names) (main_among (routines_of modules))) _ left (λ main runs last.
     behind P tree (must (nat_le p.values most_values) (at_byte (top p.names) 0 DataRange)) _ last (λ u few done.
     let rows = names.rows in
+    let have = rows_of_names modules signals arm names named in
     let data_after = modules_walked Progress item items data_of (data_are.AreCounted rows) (data_are.Grow rows) (data_are.RowIn rows) (data_are.data_walk rows)
-    0 no_counts modules (beginning names) p (record { slots = refl; pers = refl; routines = refl; same = refl }) held in
+    0 no_counts modules (beginning names) p (record { slots = refl; pers = refl; routines = refl; same = refl; alike = none_alike rows.slots }) held in
     let bodies_after = modules_walked (List TypedRoutine) (item_bodies p.names p.locals) (items_bodies p.names p.locals) (bodies p.names p.locals)
     (bodies_are.AreCounted p.names p.locals) IsFront (bodies_are.RowIn p.names p.locals) (bodies_are.bodies_walk p.names p.locals)
     0 no_counts modules [] routines refl run in
-    subst (Checked modules signals) (ok_same (tree_of modules tasks p routines main) tree done) (record {
-      all = rows_made tables rows p routines data_after.counted.same modules (rows_of_names modules signals arm names named) data_after.all bodies_after.all;
+    subst (Checked modules signals arm) (ok_same (tree_of modules tasks p routines main) tree done) (record {
+      names = names;
+      named = named;
+      all = rows_made tables rows p routines data_after.counted.same modules have.all data_after.all bodies_after.all;
+      meets = λ k meets. meeting_known p.slots rows.slots k data_after.counted.alike (sym data_after.counted.slots ∙ have.counted) meets;
     }))))))
+
+pub meetings_checked : (modules : List PlainModule) (tasks : List (List ℕ)) (signals : List SignalRow) (arm : Bool) (tree : TypedTree) (names : Names) → names_of modules signals arm ≡ Ok names → task_of modules tasks signals arm ≡ Ok tree →
+    (k : ℕ) → is_meeting (slice_get names.rows.slots k) ≡ true → IsMeeting tree.slots tree.meetings names.rows.slots k
+meetings_checked modules tasks signals arm tree names named is =
+    let checked = task_checked modules tasks signals arm tree is in
+    subst (λ n. (k : ℕ) → is_meeting (slice_get n.rows.slots k) ≡ true → IsMeeting tree.slots tree.meetings n.rows.slots k) (ok_same checked.names names (sym checked.named ∙ named)) checked.meets

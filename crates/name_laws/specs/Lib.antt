@@ -1,3 +1,4 @@
 pub mod Declared
 pub mod Rows
 pub mod Meant
+pub mod Meetings
