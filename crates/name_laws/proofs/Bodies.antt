@@ -33,9 +33,15 @@ module _ (names : Names) (locals : List (List TypedLocal)) where
       behind P t (stmts body (stmts_of r.list) (into (outside false) (stmts_of r.list)) 0) _ e (λ l is rest.
       behind P t (handler_of body r.handler l.next) _ rest (λ h was done.
       subst (IsHead number routine r) (ok_same _ t done) (record {
-        name = refl; «module» = refl; at = refl; kind = refl; result = refl; params = refl; data_are = refl;
+        name = refl;
+        «module» = refl;
+        at = refl;
+        kind = refl;
+        result = refl;
+        params = refl;
+        data_are = refl;
         loops = routine_next (λ n. loops_in_else None n (else_of r.handler)) (loops_in None 0 (stmts_of r.list)) l.next h.next
-        (stmts_next body (stmts_of r.list) (into (outside false) (stmts_of r.list)) None 0 l is) (handler_next body r.handler l.next h was);
+            (stmts_next body (stmts_of r.list) (into (outside false) (stmts_of r.list)) None 0 l is) (handler_next body r.handler l.next h was);
       })))
 
   abbrev pub AreCounted : Tally → List TypedRoutine → Type 0
@@ -63,10 +69,11 @@ module _ (names : Names) (locals : List (List TypedLocal)) where
   item_done number c (Routine r) rs ts h e =
       behind (Done number c (Routine r) rs ts) ts (typed_routine names locals number (length rs) r) _ e (λ t is done.
       let there : slice_get (rs ++ t ∷ []) c.routines ≡ Some t = ap (slice_get (rs ++ t ∷ [])) h ∙ get_last rs t in
-      subst (Done number c (Routine r) rs) (ok_same _ ts done)
-      (omega (arith, h, length-append rs (t ∷ [])),
-       front_more rs t,
-       record { row = t; is = there; head = subst (λ n. IsHead number n r t) (sym h) (head_typed number (length rs) r t is) }))
+      subst (Done number c (Routine r) rs) (ok_same _ ts done) (
+        omega (arith, h, length-append rs (t ∷ [])),
+        front_more rs t,
+        record { row = t; is = there; head = subst (λ n. IsHead number n r t) (sym h) (head_typed number (length rs) r t is) },
+      ))
 
   pub bodies_walk : IsWalk (List TypedRoutine) (item_bodies names locals) (items_bodies names locals) (bodies names locals) AreCounted IsFront RowIn
   bodies_walk = record {

@@ -95,11 +95,14 @@ module _ (rows : Rows) where
       record {
         ts = t ∷ after.ts;
         is = after.is ∙ ap (λ l. l ++ after.ts) added.behind ∙ append_assoc n.rows (t ∷ []) after.ts;
-        each = (record {
-          i = i;
-          is = ap (λ r. inner_row d (sort_in (local_of r (Some around) (length n.known))) i) same ∙ ap (λ k. inner_row d (sort_in (local_of rows (Some around) k)) i) long;
-          array = initial_len n.names number (Some around) (record { slots = slots; locals = n.known }) sort d i is;
-        }, after.each);
+        each = (
+          record {
+            i = i;
+            is = ap (λ r. inner_row d (sort_in (local_of r (Some around) (length n.known))) i) same ∙ ap (λ k. inner_row d (sort_in (local_of rows (Some around) k)) i) long;
+            array = initial_len n.names number (Some around) (record { slots = slots; locals = n.known }) sort d i is;
+          },
+          after.each,
+        );
         same = after.same;
       }))
 
@@ -166,10 +169,11 @@ module _ (rows : Rows) where
   datum_done number c own d p q true pers h e =
       let Is : Progress → Type 0 = Done (after_by c true pers) (λ q. DatumIn q number c own d true pers) p in
       behind (Is q) q (initial p.names number None (of_modules p) (sort_in (slice_get p.names.rows.consts p.consts)) d) _ e (λ i is done.
-      subst Is (ok_same (with_const p i) q done)
-      (record { slots = h.slots; pers = h.pers; routines = h.routines; same = keeping_rows p.names p.consts i.values ∙ h.same; alike = h.alike },
-       record { slots = stays p.slots; pers = stays p.pers; locals = stays p.locals },
-       tt))
+      subst Is (ok_same (with_const p i) q done) (
+        record { slots = h.slots; pers = h.pers; routines = h.routines; same = keeping_rows p.names p.consts i.values ∙ h.same; alike = h.alike },
+        record { slots = stays p.slots; pers = stays p.pers; locals = stays p.locals },
+        tt,
+      ))
   datum_done number c own d p q false true h e =
       let Is : Progress → Type 0 = Done (after_by c false true) (λ q. DatumIn q number c own d false true) p in
       let sort = sort_in (slice_get p.names.rows.pers (length p.pers)) in
@@ -178,10 +182,11 @@ module _ (rows : Rows) where
       let there : slice_get (p.pers ++ row ∷ []) c.pers ≡ Some row = ap (slice_get (p.pers ++ row ∷ [])) h.pers ∙ get_last p.pers row in
       let named : row ≡ pers_row number own d (sort_in (slice_get rows.pers c.pers)) i =
       ap (λ r. pers_row number own d (sort_in (slice_get r.pers (length p.pers))) i) h.same ∙ ap (λ k. pers_row number own d (sort_in (slice_get rows.pers k)) i) (sym h.pers) in
-      subst Is (ok_same (with_pers p number own d sort i) q done)
-      (record { slots = h.slots; pers = omega (arith, h.pers, length-append p.pers (row ∷ [])); routines = h.routines; same = h.same; alike = h.alike },
-       record { slots = stays p.slots; pers = front_more p.pers row; locals = stays p.locals },
-       record { i = i; is = there ∙ ap Some named; array = initial_len p.names number None (of_modules p) sort d i is }))
+      subst Is (ok_same (with_pers p number own d sort i) q done) (
+        record { slots = h.slots; pers = omega (arith, h.pers, length-append p.pers (row ∷ [])); routines = h.routines; same = h.same; alike = h.alike },
+        record { slots = stays p.slots; pers = front_more p.pers row; locals = stays p.locals },
+        record { i = i; is = there ∙ ap Some named; array = initial_len p.names number None (of_modules p) sort d i is },
+      ))
   datum_done number c own d p q false false h e =
       let Is : Progress → Type 0 = Done (after_by c false false) (λ q. DatumIn q number c own d false false) p in
       let sort = sort_in (slice_get p.names.rows.slots (length p.slots)) in
@@ -190,10 +195,11 @@ module _ (rows : Rows) where
       let there : slice_get (p.slots ++ row ∷ []) c.slots ≡ Some row = ap (slice_get (p.slots ++ row ∷ [])) h.slots ∙ get_last p.slots row in
       let named : row ≡ slot_row d (sort_in (slice_get rows.slots c.slots)) i =
       ap (λ r. slot_row d (sort_in (slice_get r.slots (length p.slots))) i) h.same ∙ ap (λ k. slot_row d (sort_in (slice_get rows.slots k)) i) (sym h.slots) in
-      subst Is (ok_same (with_slot p d sort i) q done)
-      (record { slots = omega (arith, h.slots, length-append p.slots (row ∷ [])); pers = h.pers; routines = h.routines; same = h.same; alike = alike_more p.slots rows.slots row h.alike (ap (λ r. sort_in (slice_get r.slots (length p.slots))) h.same) },
-       record { slots = front_more p.slots row; pers = stays p.pers; locals = stays p.locals },
-       record { i = i; is = there ∙ ap Some named; array = initial_len p.names number None (of_modules p) sort d i is }))
+      subst Is (ok_same (with_slot p d sort i) q done) (
+        record { slots = omega (arith, h.slots, length-append p.slots (row ∷ [])); pers = h.pers; routines = h.routines; same = h.same; alike = alike_more p.slots rows.slots row h.alike (ap (λ r. sort_in (slice_get r.slots (length p.slots))) h.same) },
+        record { slots = front_more p.slots row; pers = stays p.pers; locals = stays p.locals },
+        record { i = i; is = there ∙ ap Some named; array = initial_len p.names number None (of_modules p) sort d i is },
+      ))
 
   routine_done : (number : ℕ) (c : Tally) (r : PlainRoutine) (p q : Progress) → AreCounted c p → routine number r p ≡ Ok q → Done (after_item c (Routine r)) (λ q. LocalsIn q c r) p q
   routine_done number c r p q h e =
@@ -202,10 +208,11 @@ module _ (rows : Rows) where
       let all = locals_done number (length p.locals) (length r.params) p.known r.locals (entered p r.params) n h.same (length-replicate (length r.params) None) is in
       let there : slice_get (p.locals ++ n.rows ∷ []) c.routines ≡ Some n.rows = ap (slice_get (p.locals ++ n.rows ∷ [])) h.routines ∙ get_last p.locals n.rows in
       let each : AreLocalsOf c.routines (length r.params) r.locals all.ts = subst (λ k. AreLocalsOf k (length r.params) r.locals all.ts) (sym h.routines) all.each in
-      subst Is (ok_same (left p n) q done)
-      (record { slots = h.slots; pers = h.pers; routines = omega (arith, h.routines, length-append p.locals (n.rows ∷ [])); same = all.same; alike = h.alike },
-       record { slots = stays p.slots; pers = stays p.pers; locals = front_more p.locals n.rows },
-       record { ts = n.rows; is = there; each = subst (AreLocalsOf c.routines (length r.params) r.locals) (sym all.is) each }))
+      subst Is (ok_same (left p n) q done) (
+        record { slots = h.slots; pers = h.pers; routines = omega (arith, h.routines, length-append p.locals (n.rows ∷ [])); same = all.same; alike = h.alike },
+        record { slots = stays p.slots; pers = stays p.pers; locals = front_more p.locals n.rows },
+        record { ts = n.rows; is = there; each = subst (AreLocalsOf c.routines (length r.params) r.locals) (sym all.is) each },
+      ))
 
   item_done : (number : ℕ) (c : Tally) (i : PlainItem) (p q : Progress) → AreCounted c p → item number i p ≡ Ok q → AreCounted (after_item c i) q × Grow p q × RowIn q number c i
   item_done number c (Datum local task d at) p q h e = datum_done number c (local || task) d p q (is_scalar_const d) (is_pers d.kind) h e

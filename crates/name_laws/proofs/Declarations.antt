@@ -142,18 +142,21 @@ module _ (tables : Tables) where
 
   datum_stepped : (number : ℕ) (c : Tally) (d : PlainDatum) (rows : Rows) (row : DatumRow) (scalar pers : Bool) → AreCounted c rows → IsDatumRow number None d row →
       AreCounted (after_by c scalar pers) (rows_by rows scalar pers row) × Grow rows (rows_by rows scalar pers row) × DatumIn (rows_by rows scalar pers row) number c d scalar pers
-  datum_stepped number c d rows row true pers h typed =
-      (record { slots = h.slots; pers = h.pers; routines = h.routines },
-       record { slots = stays rows.slots; pers = stays rows.pers; routines = stays rows.routines },
-       tt)
-  datum_stepped number c d rows row false true h typed =
-      (record { slots = h.slots; pers = omega (arith, h.pers, length-append rows.pers (row ∷ [])); routines = h.routines },
-       record { slots = stays rows.slots; pers = front_more rows.pers row; routines = stays rows.routines },
-       (row, ap (slice_get (rows.pers ++ row ∷ [])) h.pers ∙ get_last rows.pers row, typed))
-  datum_stepped number c d rows row false false h typed =
-      (record { slots = omega (arith, h.slots, length-append rows.slots (row ∷ [])); pers = h.pers; routines = h.routines },
-       record { slots = front_more rows.slots row; pers = stays rows.pers; routines = stays rows.routines },
-       (row, ap (slice_get (rows.slots ++ row ∷ [])) h.slots ∙ get_last rows.slots row, typed))
+  datum_stepped number c d rows row true pers h typed = (
+    record { slots = h.slots; pers = h.pers; routines = h.routines },
+    record { slots = stays rows.slots; pers = stays rows.pers; routines = stays rows.routines },
+    tt,
+  )
+  datum_stepped number c d rows row false true h typed = (
+    record { slots = h.slots; pers = omega (arith, h.pers, length-append rows.pers (row ∷ [])); routines = h.routines },
+    record { slots = stays rows.slots; pers = front_more rows.pers row; routines = stays rows.routines },
+    (row, ap (slice_get (rows.pers ++ row ∷ [])) h.pers ∙ get_last rows.pers row, typed),
+  )
+  datum_stepped number c d rows row false false h typed = (
+    record { slots = omega (arith, h.slots, length-append rows.slots (row ∷ [])); pers = h.pers; routines = h.routines },
+    record { slots = front_more rows.slots row; pers = stays rows.pers; routines = stays rows.routines },
+    (row, ap (slice_get (rows.slots ++ row ∷ [])) h.slots ∙ get_last rows.slots row, typed),
+  )
 
   abbrev Stepped : ℕ → Tally → PlainItem → Rows → Rows → Type 0
   Stepped number c item rows got = AreCounted (after_item c item) got × Grow rows got × RowIn got number c item
@@ -165,11 +168,15 @@ module _ (tables : Tables) where
       (datum_stepped number c d rows row (is_scalar_const d) (is_pers d.kind) h (datum_typed number None d row is)))
   item_stepped number c (Routine r) rows got h e =
       behind (Stepped number c (Routine r) rows got) got (routine_row tables number (length rows.routines) r) _ e (λ row is done.
-      subst (Stepped number c (Routine r) rows) (ok_same _ _ done)
-      (record { slots = h.slots; pers = h.pers; routines = omega (arith, h.routines, length-append rows.routines (row ∷ [])) },
-       record { slots = stays rows.slots; pers = stays rows.pers; routines = front_more rows.routines row },
-       (row, ap (slice_get (rows.routines ++ row ∷ [])) h.routines ∙ get_last rows.routines row,
-       subst (λ n. IsRoutine number n r row) (sym h.routines) (routine_typed number (length rows.routines) r row is))))
+      subst (Stepped number c (Routine r) rows) (ok_same _ _ done) (
+        record { slots = h.slots; pers = h.pers; routines = omega (arith, h.routines, length-append rows.routines (row ∷ [])) },
+        record { slots = stays rows.slots; pers = stays rows.pers; routines = front_more rows.routines row },
+        (
+          row,
+          ap (slice_get (rows.routines ++ row ∷ [])) h.routines ∙ get_last rows.routines row,
+          subst (λ n. IsRoutine number n r row) (sym h.routines) (routine_typed number (length rows.routines) r row is),
+        ),
+      ))
 
   pub rows_walk : IsWalk Rows (item_rows tables) (items_rows tables) (modules_rows tables) AreCounted Grow RowIn
   rows_walk = record {

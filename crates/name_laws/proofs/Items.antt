@@ -50,15 +50,17 @@ module _ (modules : List PlainModule) where
 
   items_stand : (number : ℕ) (m : PlainModule) (c : Tally) (place : ℕ) (items : List PlainItem) → slice_get modules number ≡ Some m → Rest m.items place items → AllItems Stands number c items
   items_stand number m c place [] is rest = tt
-  items_stand number m c place (item ∷ items) is rest =
-      (record { unit = m; place = place; is_module = is; is_item = rest_first m.items place item items rest },
-       items_stand number m (after_item c item) (place + 1) items is (rest_more m.items place item items rest))
+  items_stand number m c place (item ∷ items) is rest = (
+    record { unit = m; place = place; is_module = is; is_item = rest_first m.items place item items rest },
+    items_stand number m (after_item c item) (place + 1) items is (rest_more m.items place item items rest),
+  )
 
   pub modules_stand : (number : ℕ) (c : Tally) (ms : List PlainModule) → Rest modules number ms → AllModules Stands number c ms
   modules_stand number c [] rest = tt
-  modules_stand number c (m ∷ ms) rest =
-      (items_stand number m c 0 m.items (rest_first modules number m ms rest) (rest_all m.items),
-       modules_stand (number + 1) (after_items c m.items) ms (rest_more modules number m ms rest))
+  modules_stand number c (m ∷ ms) rest = (
+    items_stand number m c 0 m.items (rest_first modules number m ms rest) (rest_all m.items),
+    modules_stand (number + 1) (after_items c m.items) ms (rest_more modules number m ms rest),
+  )
 
 -- a walk over the items of modules that ends at the first broken rule: what its steps make stays
 pub record IsWalk (S : Type 0) (step : ℕ → PlainItem → S → Checked S) (fold : ℕ → List PlainItem → S → Checked S) (walk : ℕ → List PlainModule → S → Checked S)

@@ -15,7 +15,7 @@ use Rattle.data_scopes.specs.Numbers.{Tally, is_pers, is_scalar_const, is_local,
 use Rattle.data_scopes.specs.Scopes.{Tables, list_at, meant_in, meaning}
 use Rattle.name_laws.specs.Declared.{IsOneName, StandsIn, IsSeen, AreEach}
 use Rattle.name_laws.specs.Rows.{IsParamRow, IsLocalRow}
-use Rattle.name_laws.specs.Meant.{HasItsRow, Inside, is_by_value} 
+use Rattle.name_laws.specs.Meant.{HasItsRow, Inside, is_by_value}
 use Rattle.name_laws.specs.Meant as specs
 use Rattle.name_laws.proofs.Entries.{Holds, found_there, holds_at, raised, Counter, meaning_such}
 use Rattle.name_laws.proofs.Items.{rest_all}

@@ -130,11 +130,12 @@ module _ (A : Fact) where
   inner_entered number c (Datum local task d at ∷ items) rest h all =
       subst (λ n. EachHolds InnerEntry n (routine_scopes (after_datum c d) items ++ rest)) (no_routine c (is_scalar_const d) (is_pers d.kind))
       (inner_entered number (after_datum c d) items rest h.1 all)
-  inner_entered number c (Routine r ∷ items) rest h all =
-      (holds_more (PlaceEntry r) (InnerEntry c.routines) (routine_scope c r)
-       (λ key meant entry. record { number = number; c = c; r = r; holds = h.0; is_it = refl; entry = entry })
-       (routine_entered c r),
-       inner_entered number (after_item c (Routine r)) items rest h.1 all)
+  inner_entered number c (Routine r ∷ items) rest h all = (
+    holds_more (PlaceEntry r) (InnerEntry c.routines) (routine_scope c r)
+        (λ key meant entry. record { number = number; c = c; r = r; holds = h.0; is_it = refl; entry = entry })
+        (routine_entered c r),
+    inner_entered number (after_item c (Routine r)) items rest h.1 all,
+  )
 
   pub inner_scopes_entered : (number : ℕ) (c : Tally) (ms : List PlainModule) → AllModules A number c ms → EachHolds InnerEntry c.routines (inner_scopes c ms)
   inner_scopes_entered number c [] h = tt

@@ -72,13 +72,15 @@ module _ (tables : Tables) (number around : ℕ) where
     locals_rows place (d ∷ ds) [] (t ∷ ts) rest h k = absurd h
     locals_rows place (d ∷ ds) (f ∷ fs) (t ∷ ts) rest h k =
         let e : (n + place) + 1 ≡ n + (place + 1) = omega arith in
-        let sort : t.sort ≡ f.sort = ap (λ x. x.sort) k.0.is ∙ local_sort place f (rest_first row.locals place f fs rest) in
-        (record {
-          name = ap (λ x. x.name) k.0.is;
-          variable = ap (λ x. x.variable) k.0.is;
-          sort = subst (IsType tables (spot_of number (Some around) d.sort) d.sort) (sym sort) h.0;
-          array = ap (λ x. is_some x.len) k.0.is ∙ k.0.array;
-        }, locals_rows (place + 1) ds fs ts (rest_more row.locals place f fs rest) h.1 (subst (λ m. data_are.AreLocalsOf rows around m ds ts) e k.1))
+        let sort : t.sort ≡ f.sort = ap (λ x. x.sort) k.0.is ∙ local_sort place f (rest_first row.locals place f fs rest) in (
+          record {
+            name = ap (λ x. x.name) k.0.is;
+            variable = ap (λ x. x.variable) k.0.is;
+            sort = subst (IsType tables (spot_of number (Some around) d.sort) d.sort) (sym sort) h.0;
+            array = ap (λ x. is_some x.len) k.0.is ∙ k.0.array;
+          },
+          locals_rows (place + 1) ds fs ts (rest_more row.locals place f fs rest) h.1 (subst (λ m. data_are.AreLocalsOf rows around m ds ts) e k.1),
+        )
 
 module _ (tables : Tables) (slots : List TypedSlot) (pers : List TypedPers) (routines : List TypedRoutine) where
   pub record PersIn (number : ℕ) (c : Tally) (own : Bool) (d : PlainDatum) : Type 0 where
