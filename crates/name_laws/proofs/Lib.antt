@@ -5,6 +5,8 @@ pub mod Declarations
 pub mod Meetings
 pub mod Data
 pub mod Counters
+pub mod Jumps
+pub mod RoutineJumps
 pub mod Bodies
 pub mod Tree
 pub mod Means

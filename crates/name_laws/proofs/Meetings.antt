@@ -17,11 +17,11 @@ abbrev pub AreAlike : List TypedSlot → List DatumRow → Type 0
 AreAlike slots rows = (k : ℕ) (row : TypedSlot) → slice_get slots k ≡ Some row → row.sort ≡ sort_in (slice_get rows k)
 
 -- an element of a list with one more is one before, or it is the last
-record IsLast {A : Type 0} (xs : List A) (y : A) (k : ℕ) (x : A) : Type 0 where
+pub record IsLast {A : Type 0} (xs : List A) (y : A) (k : ℕ) (x : A) : Type 0 where
   pub at_end : k ≡ length xs
   pub is_it : y ≡ x
 
-last_or : {A : Type 0} (xs : List A) (y : A) (k : ℕ) (x : A) → slice_get (xs ++ y ∷ []) k ≡ Some x → (slice_get xs k ≡ Some x) ⊎ IsLast xs y k x
+pub last_or : {A : Type 0} (xs : List A) (y : A) (k : ℕ) (x : A) → slice_get (xs ++ y ∷ []) k ≡ Some x → (slice_get xs k ≡ Some x) ⊎ IsLast xs y k x
 last_or [] y zero x is = inr (record { at_end = refl; is_it = cc })
 last_or [] y (suc k) x is = absurd (cc)
 last_or (z ∷ xs) y zero x is = inl is

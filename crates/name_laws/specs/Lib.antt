@@ -2,3 +2,4 @@ pub mod Declared
 pub mod Rows
 pub mod Meant
 pub mod Meetings
+pub mod Jumps

@@ -3,16 +3,18 @@
 #![tactic(auto)]
 
 ghost use Rattle.std.specs.Prelude.{◌≡◌, ℕ, Bool, List, Ok, Some, true, slice_get};
-ghost use Rattle.raw_trees.specs.Plain.{PlainModule};
+ghost use Rattle.raw_trees.specs.Plain.{PlainModule, PlainRoutine, Routine};
 ghost use Rattle.rapid_model.specs.declared.signal_row.SignalRow.{SignalRow};
 ghost use Rattle.rule_checks.specs.declared.spot.Spot.{Spot};
-ghost use Rattle.typed_trees.specs.Plain.{TypedTree};
+ghost use Rattle.typed_trees.specs.Plain.{TypedRoutine, TypedTree};
 ghost use Rattle.data_scopes.specs.declared.meant.Meant.{Meant};
 ghost use Rattle.data_scopes.specs.Meetings.{is_meeting};
 ghost use Rattle.data_scopes.specs.Naming.{names_of};
 ghost use Rattle.data_scopes.specs.Numbers.{tables_of};
 ghost use Rattle.data_scopes.specs.Scopes.{Names, meaning};
 ghost use Rattle.stmt_types.specs.Task.{task_of};
+ghost use Rattle.name_laws.specs.Declared.{StandsIn};
+ghost use Rattle.name_laws.specs.Jumps.{AreApart, JumpsLand, LabelsApart, labels_of_routine};
 ghost use Rattle.name_laws.specs.Meant.{HasItsRow};
 ghost use Rattle.name_laws.specs.Meetings.{IsMeeting};
 
@@ -26,4 +28,11 @@ pub fn numbers_have_their_rows()
 /// its name.
 pub fn meetings_have_their_names()
     ensures { (modules : List PlainModule) (tasks : List (List ℕ)) (signals : List SignalRow) (arm : Bool) (tree : TypedTree) (names : Names) → names_of modules signals arm ≡ Ok names → task_of modules tasks signals arm ≡ Ok tree → (k : ℕ) → is_meeting (slice_get names.rows.slots k) ≡ true → IsMeeting tree.slots tree.meetings names.rows.slots k }
+{}
+
+/// Each GOTO of a checked routine goes to a label that stands in its own list or in one around it; and where the labels of the
+/// routines stand at different bytes, as in each text, no label of a routine is another one.
+pub fn jumps_have_one_label()
+    ensures lands { (modules : List PlainModule) (tasks : List (List ℕ)) (signals : List SignalRow) (arm : Bool) (tree : TypedTree) → task_of modules tasks signals arm ≡ Ok tree → (routine : ℕ) (t : TypedRoutine) → slice_get tree.routines routine ≡ Some t → JumpsLand t }
+    ensures once { (modules : List PlainModule) (tasks : List (List ℕ)) (signals : List SignalRow) (arm : Bool) (tree : TypedTree) → task_of modules tasks signals arm ≡ Ok tree → ((number : ℕ) (r : PlainRoutine) → StandsIn modules number (Routine r) → LabelsApart r) → (routine : ℕ) (t : TypedRoutine) → slice_get tree.routines routine ≡ Some t → AreApart (labels_of_routine t) }
 {}
