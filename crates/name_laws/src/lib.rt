@@ -2,12 +2,13 @@
 //! row of that declaration.
 #![tactic(auto)]
 
-ghost use Rattle.std.specs.Prelude.{◌≡◌, ℕ, Bool, List, Ok, Some, true, slice_get};
+ghost use Rattle.std.specs.Prelude.{◌≡◌, ◌<◌, ℕ, Bool, List, Ok, Some, true, length, slice_get};
 ghost use Rattle.raw_trees.specs.Plain.{PlainModule, PlainRoutine, Routine};
 ghost use Rattle.rapid_model.specs.declared.signal_row.SignalRow.{SignalRow};
 ghost use Rattle.rule_checks.specs.declared.spot.Spot.{Spot};
 ghost use Rattle.typed_trees.specs.Plain.{TypedRoutine, TypedTree};
 ghost use Rattle.data_scopes.specs.declared.meant.Meant.{Meant};
+ghost use Rattle.data_scopes.specs.declared.meant.Meant.TheVariants as meants;
 ghost use Rattle.data_scopes.specs.Meetings.{is_meeting};
 ghost use Rattle.data_scopes.specs.Naming.{names_of};
 ghost use Rattle.data_scopes.specs.Numbers.{tables_of};
@@ -22,6 +23,11 @@ ghost use Rattle.name_laws.specs.Meetings.{IsMeeting};
 /// typed tree of the task's modules, and it is the row of a declaration of that name that is seen there.
 pub fn numbers_have_their_rows()
     ensures { (modules : List PlainModule) (tasks : List (List ℕ)) (signals : List SignalRow) (arm : Bool) (tree : TypedTree) → task_of modules tasks signals arm ≡ Ok tree → (spot : Spot) (name : List ℕ) (meant : Meant) → meaning (tables_of modules signals) spot name ≡ Some meant → HasItsRow modules signals tree spot name meant }
+{}
+
+/// The number of a CONST that is no array, of a module or of a routine, has a place among the values that are kept.
+pub fn constants_have_their_places()
+    ensures { (modules : List PlainModule) (signals : List SignalRow) (arm : Bool) (names : Names) → names_of modules signals arm ≡ Ok names → (spot : Spot) (name : List ℕ) (k : ℕ) → meaning (tables_of modules signals) spot name ≡ Some (meants.Const k) → (k < length names.kept) × (k < length names.rows.consts) }
 {}
 
 /// Where a VAR is a meeting, its row in the tree is a syncident's, and the tree's meeting of the number that is counted there has
