@@ -1,0 +1,13 @@
+pub mod Constants
+pub mod Entries
+pub mod Items
+pub mod Seen
+pub mod Declarations
+pub mod Meetings
+pub mod Data
+pub mod Counters
+pub mod Jumps
+pub mod RoutineJumps
+pub mod Bodies
+pub mod Tree
+pub mod Means

@@ -1,0 +1,45 @@
+-- The declarations of a task's modules, by where they stand and where they are seen.
+use Rattle.std.specs.Prelude.{◌≡◌, ℕ, Bool, true, false, List, [], ◌∷◌, Option, Some, None, slice_get}
+use Rattle.std.specs.Str.{str_to_ascii_lowercase}
+use Rattle.raw_trees.specs.Plain.{PlainItem, PlainModule, PlainName}
+use Rattle.rapid_model.specs.declared.sort.Sort.{Sort}
+use Rattle.rule_checks.specs.declared.spot.Spot.{Spot}
+use Rattle.data_scopes.specs.declared.meant.Meant.{Meant}
+use Rattle.data_scopes.specs.Declarations.{type_of}
+use Rattle.data_scopes.specs.Numbers.{item_name, is_local}
+use Rattle.data_scopes.specs.Scopes.{Tables, meaning}
+
+-- letters of either case are the same
+abbrev pub IsOneName : List ℕ → List ℕ → Type 0
+IsOneName name other = str_to_ascii_lowercase name ≡ str_to_ascii_lowercase other
+
+-- an item stands in the module of this number
+pub record StandsIn (modules : List PlainModule) (number : ℕ) (item : PlainItem) : Type 0 where
+  pub unit : PlainModule
+  pub place : ℕ
+  pub is_module : slice_get modules number ≡ Some unit
+  pub is_item : slice_get unit.items place ≡ Some item
+
+-- an item of the module of this number has the name, and is seen at the spot: a LOCAL one in its own module alone
+pub record IsSeen (modules : List PlainModule) (spot : Spot) (name : List ℕ) (number : ℕ) (item : PlainItem) : Type 0 where
+  pub stands : StandsIn modules number item
+  pub named : IsOneName name (item_name item).text
+  pub within : is_local item ≡ true → number ≡ spot.«module»
+
+-- the type that a type's name means at a spot
+pub record IsType (tables : Tables) (spot : Spot) (name : PlainName) (sort : Sort) : Type 0 where
+  pub meant : Meant
+  pub means : meaning tables spot name.text ≡ Some meant
+  pub is_type : type_of meant ≡ Some sort
+
+-- the type of a function's result, where there is one
+abbrev pub IsResultType : Tables → (PlainName → Spot) → Option PlainName → Option Sort → Type 0
+IsResultType tables spot None None = Unit {0}
+IsResultType tables spot (Some name) (Some sort) = IsType tables (spot name) name sort
+IsResultType tables spot _ _ = ⊥
+
+-- two lists are as long as each other, and each pair of one place is such
+abbrev pub AreEach : {A B : Type 0} → (A → B → Type 0) → List A → List B → Type 0
+AreEach IsSuch [] [] = Unit {0}
+AreEach IsSuch (x ∷ xs) (y ∷ ys) = IsSuch x y × AreEach IsSuch xs ys
+AreEach IsSuch _ _ = ⊥

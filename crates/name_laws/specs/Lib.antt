@@ -1,0 +1,5 @@
+pub mod Declared
+pub mod Rows
+pub mod Meant
+pub mod Meetings
+pub mod Jumps

@@ -1,0 +1,44 @@
+//! Laws alone: the number that a name means is that of a declaration of the name, and its row in a task's typed tree is the
+//! row of that declaration.
+#![tactic(auto)]
+
+ghost use Rattle.std.specs.Prelude.{◌≡◌, ◌<◌, ℕ, Bool, List, Ok, Some, true, length, slice_get};
+ghost use Rattle.raw_trees.specs.Plain.{PlainModule, PlainRoutine, Routine};
+ghost use Rattle.rapid_model.specs.declared.signal_row.SignalRow.{SignalRow};
+ghost use Rattle.rule_checks.specs.declared.spot.Spot.{Spot};
+ghost use Rattle.typed_trees.specs.Plain.{TypedRoutine, TypedTree};
+ghost use Rattle.data_scopes.specs.declared.meant.Meant.{Meant};
+ghost use Rattle.data_scopes.specs.declared.meant.Meant.TheVariants as meants;
+ghost use Rattle.data_scopes.specs.Meetings.{is_meeting};
+ghost use Rattle.data_scopes.specs.Naming.{names_of};
+ghost use Rattle.data_scopes.specs.Numbers.{tables_of};
+ghost use Rattle.data_scopes.specs.Scopes.{Names, meaning};
+ghost use Rattle.stmt_types.specs.Task.{task_of};
+ghost use Rattle.name_laws.specs.Declared.{StandsIn};
+ghost use Rattle.name_laws.specs.Jumps.{AreApart, JumpsLand, LabelsApart, labels_of_routine};
+ghost use Rattle.name_laws.specs.Meant.{HasItsRow};
+ghost use Rattle.name_laws.specs.Meetings.{IsMeeting};
+
+/// Where a name means a VAR, a PERS, a routine, a parameter or a datum of a routine, or a signal, its number has a row in the
+/// typed tree of the task's modules, and it is the row of a declaration of that name that is seen there.
+pub fn numbers_have_their_rows()
+    ensures { (modules : List PlainModule) (tasks : List (List ℕ)) (signals : List SignalRow) (arm : Bool) (tree : TypedTree) → task_of modules tasks signals arm ≡ Ok tree → (spot : Spot) (name : List ℕ) (meant : Meant) → meaning (tables_of modules signals) spot name ≡ Some meant → HasItsRow modules signals tree spot name meant }
+{}
+
+/// The number of a CONST that is no array, of a module or of a routine, has a place among the values that are kept.
+pub fn constants_have_their_places()
+    ensures { (modules : List PlainModule) (signals : List SignalRow) (arm : Bool) (names : Names) → names_of modules signals arm ≡ Ok names → (spot : Spot) (name : List ℕ) (k : ℕ) → meaning (tables_of modules signals) spot name ≡ Some (meants.Const k) → (k < length names.kept) × (k < length names.rows.consts) }
+{}
+
+/// Where a VAR is a meeting, its row in the tree is a syncident's, and the tree's meeting of the number that is counted there has
+/// its name.
+pub fn meetings_have_their_names()
+    ensures { (modules : List PlainModule) (tasks : List (List ℕ)) (signals : List SignalRow) (arm : Bool) (tree : TypedTree) (names : Names) → names_of modules signals arm ≡ Ok names → task_of modules tasks signals arm ≡ Ok tree → (k : ℕ) → is_meeting (slice_get names.rows.slots k) ≡ true → IsMeeting tree.slots tree.meetings names.rows.slots k }
+{}
+
+/// Each GOTO of a checked routine goes to a label that stands in its own list or in one around it; and where the labels of the
+/// routines stand at different bytes, as in each text, no label of a routine is another one.
+pub fn jumps_have_one_label()
+    ensures lands { (modules : List PlainModule) (tasks : List (List ℕ)) (signals : List SignalRow) (arm : Bool) (tree : TypedTree) → task_of modules tasks signals arm ≡ Ok tree → (routine : ℕ) (t : TypedRoutine) → slice_get tree.routines routine ≡ Some t → JumpsLand t }
+    ensures once { (modules : List PlainModule) (tasks : List (List ℕ)) (signals : List SignalRow) (arm : Bool) (tree : TypedTree) → task_of modules tasks signals arm ≡ Ok tree → ((number : ℕ) (r : PlainRoutine) → StandsIn modules number (Routine r) → LabelsApart r) → (routine : ℕ) (t : TypedRoutine) → slice_get tree.routines routine ≡ Some t → AreApart (labels_of_routine t) }
+{}
