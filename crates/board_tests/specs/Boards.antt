@@ -1,0 +1,15 @@
+-- What the boards of the tests keep.
+use Rattle.std.specs.Prelude.{◌≡◌, ◌≤◌, ℕ, List, map, length}
+use Rattle.std.specs.List.{All}
+use Rattle.rapid_model.specs.declared.sort.Sort.{Sort}
+use Rattle.persist_store.specs.Stores.{PersData}
+use Rattle.sync_tasks.specs.Meetings.{MeetingsData}
+
+abbrev pub sorts_of : List PersData → List Sort
+sorts_of rows = map (λ row. row.sort) rows
+
+-- three tasks with one meeting, where no task went on more often than this
+pub record IsThree (m : MeetingsData) (arrivals : ℕ) : Type 0 where
+  pub tasks : m.tasks ≡ 3
+  pub meetings : m.meetings ≡ 1
+  pub passed : All (λ s. s.passed ≤ arrivals) m.stands

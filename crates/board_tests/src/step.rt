@@ -1,0 +1,34 @@
+use trap_dispatch::{ConnectFault, Due, OrderFault};
+
+/// A step of a task with interrupts, with what comes of it.
+#[derive(Clone, Copy, Debug)]
+pub(crate) enum Step {
+    /// A variable with this number is connected with a trap.
+    Connect {
+        old: u8,
+        trap: u32,
+        wanted: Result<u8, ConnectFault>,
+    },
+    /// The number watches that signal 0 becomes 1.
+    Order {
+        number: u8,
+        single: bool,
+        wanted: Result<(), OrderFault>,
+    },
+    /// The number, which is connected, is put to sleep.
+    Sleep(u8),
+    /// It is woken.
+    Watch(u8),
+    /// It is deleted.
+    Delete(u8),
+    /// Interrupts are disabled.
+    Disable,
+    /// Interrupts are enabled.
+    Enable,
+    /// Signal 0 becomes 1.
+    Fire,
+    /// Whether anything is due.
+    Due(bool),
+    /// A look: where a trap comes, nothing is due within it, and it is left.
+    Look(Due),
+}
