@@ -14,8 +14,11 @@ use Rattle.stack_code.specs.Confs.{Conf, Failed, Running, Saved, Started, Called
 use Rattle.stack_code.specs.Placed.{Own}
 
 -- where a routine's ERROR part begins, if it has one
+abbrev pub handler_in : List (Option ℕ) → ℕ → Option ℕ
+handler_in handlers routine = option_and_then (λ handler. handler) (slice_get handlers routine)
+
 abbrev pub handler_of : CodeData → ℕ → Option ℕ
-handler_of code routine = option_and_then (λ handler. handler) (slice_get code.handlers routine)
+handler_of code routine = handler_in code.handlers routine
 
 abbrev pub part_unless : Option Failed → ℕ → Own → Running → List Saved → ℕ → Doing Conf → Doing Conf
 part_unless (Some failed) handler own frame saved error outside = outside
