@@ -2,10 +2,10 @@
 
 use super::texts::{mark_at, module_of, unmarked};
 use data_scopes::{Known, Scopes};
-use rule_checks::{Spot, TypeFault, TypeRule};
 use expr_types::{Want, check_expr};
 use rapid_model::Sort;
 use raw_trees::{RawExpr, RawItem, RawModule};
+use rule_checks::{Spot, TypeFault, TypeRule};
 use std::alloc::Global;
 use std::test::Fail;
 

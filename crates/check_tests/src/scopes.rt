@@ -2,9 +2,9 @@
 
 use super::texts::module_of;
 use data_scopes::{DatumRow, Known, Meant, ParamRow, Scopes, Since};
-use rule_checks::Spot;
 use rapid_model::{Instruction, NameText, SignalRow, Sort, Value};
 use raw_trees::{Mode, RawModule, RoutineKind};
+use rule_checks::Spot;
 use std::alloc::Global;
 use std::test::*;
 
