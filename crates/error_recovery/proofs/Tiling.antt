@@ -1,5 +1,5 @@
 -- Laws of owners that tile code in order.
-use Rattle.std.proofs.Common.{arith, lt-ltb, le-ltb, ◌≡◌, refl, sym, subst, ◌∙◌, ap, ℕ, zero, suc, ◌<◌, ◌≤◌, length, Bool, true, false, nat_lt, List, [], ◌∷◌, Option, Some, slice_get, slice_index_or, if◌then◌else◌}
+use Rattle.std.proofs.Common.{arith, lt-ltb, le-ltb, ◌≡◌, refl, sym, subst, ◌∙◌, ap, ℕ, zero, suc, ◌<◌, ◌≤◌, length, nat_lt, List, [], ◌∷◌, Option, Some, slice_get, slice_index_or, if◌then◌else◌}
 use Rattle.stack_code.specs.Placed.{owner_at}
 use Rattle.stack_code.specs.declared.owner.Owner.{Owner}
 use Rattle.error_recovery.specs.Owners.{Holds, IsNumberAt, Tiles}
@@ -23,11 +23,11 @@ ends_rise from count (o ∷ more) zero (suc j) d t order within =
 ends_rise from count (o ∷ more) (suc i) zero d t order within = omega arith
 ends_rise from count (o ∷ more) (suc i) (suc j) d t order within = ends_rise o.past count more i j d t.2 (omega arith) (omega arith)
 
-chosen : (pc past : ℕ) (owner : Owner) (other : Option Owner) → pc < past → (if nat_lt pc past then Some owner else other) ≡ Some owner
+pub chosen : (pc past : ℕ) (owner : Owner) (other : Option Owner) → pc < past → (if nat_lt pc past then Some owner else other) ≡ Some owner
 chosen pc past owner other below =
     rw (lt-ltb pc past below) refl
 
-passed : (pc past : ℕ) (owner : Owner) (other : Option Owner) → past ≤ pc → (if nat_lt pc past then Some owner else other) ≡ other
+pub passed : (pc past : ℕ) (owner : Owner) (other : Option Owner) → past ≤ pc → (if nat_lt pc past then Some owner else other) ≡ other
 passed pc past owner other behind =
     rw (le-ltb pc past behind) refl
 

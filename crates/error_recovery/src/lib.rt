@@ -2,7 +2,9 @@
 #![tactic(auto)]
 
 mod how;
+mod laws;
 mod recovery;
 
 pub use how::How;
+pub use laws::compiled_code_is_tiled;
 pub use recovery::{handler_of, owner_of, resume_of};

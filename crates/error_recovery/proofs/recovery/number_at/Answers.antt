@@ -1,4 +1,4 @@
-use Rattle.std.proofs.Common.{arith, leb, leb-true, leb-false, rules, ◌<◌, ◌≤◌}
+use Rattle.std.proofs.Common.{arith, leb, leb-true, leb-false, rules}
 use Rattle.std.proofs.lemmas.List.Sorted.{IsPartitionPoint-from_clause, IsPartitionedBy-leb}
 use Rattle.error_recovery.proofs.Tiling.{ends_rise, first_behind}
 use Rattle.error_recovery.proofs.recovery.number_at.Goals as goal

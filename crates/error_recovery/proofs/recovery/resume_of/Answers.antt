@@ -1,8 +1,7 @@
-use Rattle.std.proofs.Common.{◌≡◌, ap, sym, ◌∙◌, ℕ, Some, slice_get}
-use Rattle.stack_code.specs.Placed.{owner_at}
+use Rattle.std.proofs.Common.{◌≡◌, ap, sym, ◌∙◌, Some}
 use Rattle.stack_code.specs.declared.owner.Owner.{Owner}
 use Rattle.error_recovery.specs.declared.how.How.{How}
-use Rattle.error_recovery.specs.Owners.{Holds, resumed}
+use Rattle.error_recovery.specs.Owners.{resumed}
 use Rattle.error_recovery.proofs.Tiling.{named}
 use Rattle.error_recovery.proofs.recovery.resume_of.Goals as goal
 
