@@ -9,13 +9,13 @@ returns-in-Words g c = in_pieces _ _ _ _ _ _ (words_pieces c.args.name.now _ c.i
 
 pub returns-in-Script : goal.returns-in-Script
 returns-in-Script g c =
-    in_five _ _ _ _ _ _ _ _ (script_pieces c.args.name.now c.in-Script.key _ _ c.in-Script.rule c.args.refused.now c.in-Script.is (c.shown.ensures ∙ ap key_words c.bytes.ensures.same) c.name.ensures.same)
+    in_five _ _ _ _ _ _ _ _ (script_pieces c.args.name.now c.in-Script.key _ _ c.in-Script.rule c.args.refused.now c.in-Script.is (c.shown-key.ensures ∙ ap key_words c.bytes.ensures.same) c.name.ensures.same)
     c.write_rule.ensures
 
 pub returns-in-Module : goal.returns-in-Module
 returns-in-Module g c =
-    in_five _ _ _ _ _ _ _ _ (module_pieces c.args.name.now _ _ _ c.in-Module.file c.in-Module.place c.in-Module.rule c.args.refused.now c.in-Module.is c.as_bytes-in-Module-2.ensures.value
-    (c.as_bytes-in-Module.ensures.value ∙ c.as_str.ensures.value ∙ c.push_place.ensures) c.module_rule.ensures)
+    in_five _ _ _ _ _ _ _ _ (module_pieces c.args.name.now _ _ _ c.in-Module.file c.in-Module.place c.in-Module.rule c.args.refused.now c.in-Module.is c.as_bytes-name.ensures.value
+    (c.as_bytes-at.ensures.value ∙ c.as_str.ensures.value ∙ c.push_place.ensures) c.module_rule.ensures)
     c.write_rule-in-Module.ensures
 
 pub returns-in-Read : goal.returns-in-Read
