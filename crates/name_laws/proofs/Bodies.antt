@@ -1,12 +1,11 @@
 -- The rows of a task's routines in its typed tree.
-use Rattle.std.proofs.Common.{◌≡◌, ℕ, ◌+◌, List, [], ◌∷◌, ◌++◌, length, Option, Some, None, Ok, slice_get, refl, sym, ap, subst, ◌∙◌, true, false, length-append, arith}
-use Rattle.raw_trees.specs.Plain.{PlainRoutine, PlainItem, PlainModule, Datum, Routine, stmts_of, else_of}
+use Rattle.std.proofs.Common.{◌≡◌, ℕ, List, [], ◌∷◌, ◌++◌, length, Some, None, Ok, slice_get, refl, sym, ap, subst, ◌∙◌, false, length-append, arith}
+use Rattle.raw_trees.specs.Plain.{PlainRoutine, PlainItem, Datum, Routine, stmts_of, else_of}
 use Rattle.typed_trees.specs.Plain.{TypedLocal, TypedRoutine}
-use Rattle.rule_checks.specs.Checks.{◌>>=◌}
 use Rattle.rule_checks.proofs.Steps.{behind, ok_same}
 use Rattle.data_scopes.specs.Called.{params_of, result_of}
 use Rattle.data_scopes.specs.Loops.{loops_in, loops_in_else, loops_in_routine}
-use Rattle.data_scopes.specs.Numbers.{Tally, is_pers, is_scalar_const, after_datum, after_item}
+use Rattle.data_scopes.specs.Numbers.{Tally, is_pers, is_scalar_const, after_item}
 use Rattle.data_scopes.specs.Scopes.{Names, list_at}
 use Rattle.body_types.specs.Bodies.{outside, stmts, into}
 use Rattle.stmt_types.specs.Task.{handler_of, body_of, typed_params, typed_routine, item_bodies, items_bodies, bodies}

@@ -1,5 +1,5 @@
 -- Each constant that a name means has a place among those that are kept.
-use Rattle.std.proofs.Common.{◌≡◌, ℕ, ◌<◌, Bool, List, [], length, map, replicate, None, Some, Ok, refl, sym, ap, subst, ◌∙◌, arith}
+use Rattle.std.proofs.Common.{◌≡◌, ℕ, ◌<◌, Bool, List, [], length, None, Some, Ok, refl, sym, ap, subst, ◌∙◌, arith}
 use Rattle.std.proofs.lemmas.List.{length-map, length-replicate}
 use Rattle.raw_trees.specs.Plain.{PlainModule}
 use Rattle.rapid_model.specs.declared.signal_row.SignalRow.{SignalRow}

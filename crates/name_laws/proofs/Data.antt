@@ -1,12 +1,11 @@
 -- The rows of a task's data in its typed tree.
-use Rattle.std.proofs.Common.{◌≡◌, ℕ, zero, suc, ◌+◌, Bool, true, false, ◌||◌, List, [], ◌∷◌, ◌++◌, length, replicate, Option, Some, None, Ok, Err, slice_get, is_some, refl, sym, ap, subst, ◌∙◌, if◌then◌else◌, length-append, append_assoc, arith}
+use Rattle.std.proofs.Common.{◌≡◌, ℕ, ◌+◌, Bool, true, false, ◌||◌, List, [], ◌∷◌, ◌++◌, length, Option, Some, None, Ok, slice_get, is_some, refl, sym, ap, subst, ◌∙◌, if◌then◌else◌, length-append, append_assoc, arith}
 use Rattle.std.proofs.lemmas.List.{append-nil, length-replicate}
-use Rattle.raw_trees.specs.Plain.{PlainExpr, PlainDatum, PlainRoutine, PlainItem, PlainModule, Datum, Routine}
+use Rattle.raw_trees.specs.Plain.{PlainExpr, PlainDatum, PlainRoutine, PlainItem, Datum, Routine}
 use Rattle.rapid_model.specs.declared.sort.Sort.{Sort}
 use Rattle.rapid_model.specs.declared.value.Value.{Value}
-use Rattle.typed_trees.specs.Plain.{TypedSlot, TypedPers, TypedLocal}
+use Rattle.typed_trees.specs.Plain.{TypedLocal}
 use Rattle.constant_meaning.specs.Constants.{Elements}
-use Rattle.rule_checks.specs.Checks.{◌>>=◌}
 use Rattle.rule_checks.specs.TypeChecks.{Checked}
 use Rattle.rule_checks.proofs.Steps.{behind, ok_same}
 use Rattle.data_scopes.specs.Called.{local_of}
@@ -14,7 +13,7 @@ use Rattle.data_scopes.specs.Numbers.{Tally, is_pers, is_scalar_const, after_ite
 use Rattle.data_scopes.specs.Scopes.{Names, Rows}
 use Rattle.data_scopes.proofs.Within.{after_by}
 use Rattle.decl_types.specs.Values.{Initial, initial, init_rule, len_of, length_at, values_at, site_of}
-use Rattle.decl_types.specs.Data.{Progress, Inner, sort_in, keeping, with_const, with_slot, with_pers, inner_row, with_local, of_modules, datum_const, datum_pers, datum_slot, local, locals, entered, left, routine, item, items, data_of}
+use Rattle.decl_types.specs.Data.{Progress, Inner, sort_in, keeping, with_const, with_slot, with_pers, inner_row, of_modules, datum_const, datum_pers, datum_slot, local, locals, entered, left, routine, item, items, data_of}
 use Rattle.decl_types.specs.Parts.{slot_row, pers_row}
 use Rattle.name_laws.proofs.Meetings.{AreAlike, alike_more}
 use Rattle.name_laws.proofs.Items.{Fact, IsWalk, IsFront, front_more, get_last}

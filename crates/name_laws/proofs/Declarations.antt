@@ -1,19 +1,18 @@
 -- The rows of declarations among a task's names.
-use Rattle.std.proofs.Common.{◌≡◌, ℕ, zero, suc, ◌+◌, Bool, true, false, List, [], ◌∷◌, ◌++◌, length, Option, Some, None, Ok, Err, slice_get, refl, sym, ap, subst, ◌∙◌, if◌then◌else◌, length-append, append_assoc, is_some, arith}
+use Rattle.std.proofs.Common.{◌≡◌, ℕ, Bool, true, false, List, [], ◌∷◌, ◌++◌, length, Option, Some, None, Ok, slice_get, refl, sym, ap, subst, ◌∙◌, if◌then◌else◌, length-append, append_assoc, arith}
 use Rattle.std.proofs.lemmas.List.{append-nil}
-use Rattle.raw_trees.specs.Plain.{PlainDatum, PlainParam, PlainRoutine, PlainItem, PlainModule, PlainName, Datum, Routine}
+use Rattle.raw_trees.specs.Plain.{PlainDatum, PlainParam, PlainRoutine, PlainItem, PlainName, Datum, Routine}
 use Rattle.rapid_model.specs.declared.sort.Sort.{Sort}
-use Rattle.rule_checks.specs.Checks.{◌>>=◌, found_or}
+use Rattle.rule_checks.specs.Checks.{found_or}
 use Rattle.rule_checks.specs.declared.rule.TypeRule.TheVariants.{NoName, NotThis}
 use Rattle.rule_checks.specs.declared.spot.Spot.{Spot}
-use Rattle.rule_checks.specs.TypeChecks.{Checked, TypeBreak, at_spot}
+use Rattle.rule_checks.specs.TypeChecks.{TypeBreak, at_spot}
 use Rattle.rule_checks.proofs.Steps.{behind, ok_same}
 use Rattle.data_scopes.specs.declared.data_row.DatumRow.{DatumRow}
 use Rattle.data_scopes.specs.declared.data_row.ParamRow.{ParamRow}
-use Rattle.data_scopes.specs.declared.meant.Meant.{Meant}
 use Rattle.data_scopes.specs.Declarations.{spot_of, sort_at, type_of}
 use Rattle.data_scopes.specs.Numbers.{Tally, is_pers, is_scalar_const, after_item}
-use Rattle.data_scopes.specs.Rows.{datum_row, since_of, param_row, param_rows, local_rows, result_row, routine_row, with_datum, with_routine, item_rows, items_rows, modules_rows}
+use Rattle.data_scopes.specs.Rows.{datum_row, param_row, param_rows, local_rows, result_row, routine_row, item_rows, items_rows, modules_rows}
 use Rattle.data_scopes.specs.Scopes.{Tables, RoutineRow, Rows, meaning}
 use Rattle.data_scopes.proofs.Within.{after_by}
 use Rattle.name_laws.specs.Declared.{IsType, IsResultType, AreEach}

@@ -1,5 +1,5 @@
 -- What is true of each item of modules where it stands: by the number of its module, and by how many of each kind stand before.
-use Rattle.std.proofs.Common.{◌≡◌, ℕ, zero, suc, ◌+◌, Bool, true, false, List, [], ◌∷◌, ◌++◌, length, Option, Some, None, Result, Ok, slice_get, refl, sym, ap, subst, ◌∙◌, arith}
+use Rattle.std.proofs.Common.{◌≡◌, ℕ, zero, suc, ◌+◌, List, [], ◌∷◌, ◌++◌, length, Some, Ok, slice_get, refl, sym, ap, subst, ◌∙◌, arith}
 use Rattle.raw_trees.specs.Plain.{PlainItem, PlainModule}
 use Rattle.rule_checks.specs.Checks.{◌>>=◌}
 use Rattle.rule_checks.specs.TypeChecks.{Checked}

@@ -1,8 +1,8 @@
 -- What a name means has its row.
-use Rattle.std.proofs.Common.{◌≡◌, ◌⊎◌, inl, inr, ℕ, zero, suc, ◌+◌, ◌<◌, Bool, true, false, ◌||◌, List, [], ◌∷◌, length, Option, Some, None, slice_get, IfSome, refl, sym, ap, subst, ◌∙◌, if◌then◌else◌, true≢false, arith}
+use Rattle.std.proofs.Common.{◌≡◌, inl, inr, ℕ, zero, suc, ◌+◌, ◌<◌, Bool, true, false, ◌||◌, List, [], ◌∷◌, length, Some, slice_get, IfSome, refl, sym, ap, subst, ◌∙◌, if◌then◌else◌, true≢false, arith}
 use Rattle.std.specs.Str.{str_to_ascii_lowercase}
 use Rattle.std.proofs.lemmas.Option.{slice_get_within}
-use Rattle.raw_trees.specs.Plain.{PlainDatum, PlainParam, PlainRoutine, PlainItem, PlainModule, Datum, Routine}
+use Rattle.raw_trees.specs.Plain.{PlainDatum, PlainParam, PlainItem, PlainModule, Datum, Routine}
 use Rattle.raw_trees.specs.declared.raw_routine.Mode.{Mode}
 use Rattle.raw_trees.specs.declared.raw_routine.Mode.TheVariants as modes
 use Rattle.rapid_model.specs.declared.signal_row.SignalRow.{SignalRow}
@@ -11,16 +11,16 @@ use Rattle.typed_trees.specs.Plain.{TypedTree}
 use Rattle.data_scopes.specs.declared.meant.Meant.{Meant}
 use Rattle.data_scopes.specs.declared.meant.Meant.TheVariants as meants
 use Rattle.data_scopes.specs.Loops.{loops_in_routine}
-use Rattle.data_scopes.specs.Numbers.{Tally, is_pers, is_scalar_const, is_local, item_name, item_meant, param_meant, no_counts, tables_of, own_scopes, inner_scopes, task_scope, signal_scope}
+use Rattle.data_scopes.specs.Numbers.{Tally, is_pers, is_scalar_const, item_meant, param_meant, no_counts, tables_of, own_scopes, inner_scopes, task_scope, signal_scope}
 use Rattle.data_scopes.specs.Scopes.{Tables, list_at, meant_in, meaning}
-use Rattle.name_laws.specs.Declared.{IsOneName, StandsIn, IsSeen, AreEach}
+use Rattle.name_laws.specs.Declared.{IsOneName, IsSeen, AreEach}
 use Rattle.name_laws.specs.Rows.{IsParamRow, IsLocalRow}
 use Rattle.name_laws.specs.Meant.{HasItsRow, Inside, is_by_value}
 use Rattle.name_laws.specs.Meant as specs
 use Rattle.name_laws.proofs.Entries.{Holds, found_there, holds_at, raised, Counter, meaning_such}
 use Rattle.name_laws.proofs.Items.{rest_all}
-use Rattle.name_laws.proofs.Seen.{ItemEntry, TaskEntry, InnerEntry, ParamEntry, LocalEntry, PlaceEntry, SignalEntry, own_scopes_entered, task_scope_entered, inner_scopes_entered, signals_entered, loops_there, loop_found}
-use Rattle.name_laws.proofs.Tree.{Checked, IsInTree, DatumIn, RoutineIn, each_length}
+use Rattle.name_laws.proofs.Seen.{ItemEntry, TaskEntry, InnerEntry, PlaceEntry, SignalEntry, own_scopes_entered, task_scope_entered, inner_scopes_entered, signals_entered, loops_there, loop_found}
+use Rattle.name_laws.proofs.Tree.{Checked, IsInTree, DatumIn, each_length}
 
 -- the partner of an element
 record Partner {A B : Type 0} (R : A → B → Type 0) (ys : List B) (k : ℕ) (x : A) : Type 0 where

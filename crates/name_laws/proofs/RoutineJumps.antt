@@ -1,5 +1,5 @@
 -- The GOTOs and labels of each routine of a task.
-use Rattle.std.proofs.Common.{◌≡◌, ℕ, ◌+◌, Bool, true, false, List, [], ◌∷◌, ◌++◌, map, length, Option, Some, None, Ok, slice_get, refl, sym, ap, subst, ◌∙◌, nat_le, arith}
+use Rattle.std.proofs.Common.{◌≡◌, ℕ, ◌+◌, Bool, false, List, [], ◌∷◌, ◌++◌, length, Some, Ok, slice_get, sym, ap, subst, ◌∙◌, nat_le}
 use Rattle.std.proofs.Math.Logic.{⊎_elim}
 use Rattle.raw_trees.specs.Plain.{PlainRoutine, PlainItem, PlainModule, Datum, Routine, stmts_of, else_of}
 use Rattle.rapid_model.specs.declared.signal_row.SignalRow.{SignalRow}

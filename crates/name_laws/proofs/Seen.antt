@@ -1,5 +1,5 @@
 -- Each entry of the scopes of a task's modules is that of a declaration, of which this is true where it stands.
-use Rattle.std.proofs.Common.{◌≡◌, ◌⊎◌, inl, inr, ℕ, zero, suc, ◌+◌, Bool, true, false, List, [], ◌∷◌, ◌++◌, length, Option, Some, None, slice_get, refl, sym, ap, subst, ◌∙◌, if◌then◌else◌, bytes_eq, arith}
+use Rattle.std.proofs.Common.{◌≡◌, ◌⊎◌, inl, inr, ℕ, zero, suc, ◌+◌, Bool, true, false, List, [], ◌∷◌, ◌++◌, length, Option, Some, None, slice_get, refl, subst, if◌then◌else◌, bytes_eq, arith}
 use Rattle.std.specs.Str.{str_to_ascii_lowercase}
 use Rattle.std.proofs.lemmas.Slice.Eq.{bytes_eq-Decides}
 use Rattle.raw_trees.specs.Plain.{PlainDatum, PlainParam, PlainRoutine, PlainItem, PlainModule, Datum, Routine}
@@ -7,7 +7,7 @@ use Rattle.rapid_model.specs.declared.signal_row.SignalRow.{SignalRow}
 use Rattle.data_scopes.specs.declared.meant.Meant.{Meant}
 use Rattle.data_scopes.specs.declared.meant.Meant.TheVariants as meants
 use Rattle.data_scopes.specs.Loops.{loops_in_routine}
-use Rattle.data_scopes.specs.Numbers.{Tally, is_pers, is_scalar_const, is_local, item_name, item_meant, after_datum, after_item, after_items, param_meant, declare_params, local_meant, declare_locals, routine_scope, own_items, task_items, item_scopes, routine_scopes, task_scope, own_scopes, inner_scopes, items_loops, all_loops, signal_scope, no_counts}
+use Rattle.data_scopes.specs.Numbers.{Tally, is_pers, is_scalar_const, is_local, item_name, item_meant, after_datum, after_item, after_items, param_meant, declare_params, local_meant, declare_locals, routine_scope, own_items, task_items, routine_scopes, task_scope, own_scopes, inner_scopes, items_loops, all_loops, signal_scope, no_counts}
 use Rattle.data_scopes.specs.Scopes.{Scope, Loop, declare, list_at, loop_named, named_or}
 use Rattle.data_scopes.proofs.Within.{after_by}
 use Rattle.name_laws.proofs.Entries.{Holds, EachHolds, holds_declare}

@@ -1,24 +1,23 @@
 -- Each declaration of a task's modules has its row in the typed tree.
-use Rattle.std.proofs.Common.{◌≡◌, ℕ, zero, suc, ◌+◌, ◌-◌, ◌≤◌, Bool, true, false, ◌||◌, nat_lt, nat_le, List, [], ◌∷◌, length, Option, Some, None, Ok, slice_get, is_some, refl, sym, ap, subst, ◌∙◌, if◌then◌else◌, arith}
+use Rattle.std.proofs.Common.{◌≡◌, ℕ, zero, suc, ◌+◌, ◌-◌, ◌≤◌, Bool, true, false, ◌||◌, nat_lt, nat_le, List, [], ◌∷◌, length, Some, None, Ok, slice_get, is_some, refl, sym, ap, subst, ◌∙◌, if◌then◌else◌, arith}
 use Rattle.std.specs.Option.{option_and_then, option_map}
 use Rattle.std.proofs.lemmas.Bool.{le-ltb}
 use Rattle.raw_trees.specs.Plain.{PlainDatum, PlainParam, PlainRoutine, PlainItem, PlainModule, Datum, Routine}
 use Rattle.rapid_model.specs.declared.signal_row.SignalRow.{SignalRow}
-use Rattle.rapid_model.specs.declared.sort.Sort.{Sort}
-use Rattle.typed_trees.specs.Plain.{TypedParam, TypedLocal, TypedRoutine, TypedSlot, TypedPers, TypedTree}
-use Rattle.rule_checks.specs.Checks.{◌>>=◌, must}
+use Rattle.typed_trees.specs.Plain.{TypedLocal, TypedRoutine, TypedSlot, TypedPers, TypedTree}
+use Rattle.rule_checks.specs.Checks.{must}
 use Rattle.rule_checks.specs.declared.rule.TypeRule.TheVariants.{DataRange}
 use Rattle.rule_checks.proofs.Steps.{behind, ok_same}
 use Rattle.data_scopes.specs.declared.data_row.DatumRow.{DatumRow}
 use Rattle.data_scopes.specs.declared.data_row.ParamRow.{ParamRow}
-use Rattle.data_scopes.specs.Called.{local_of, params_in, params_of, place_row, result_of, value_row}
+use Rattle.data_scopes.specs.Called.{local_of, params_in, place_row, value_row}
 use Rattle.data_scopes.specs.Declarations.{spot_of, modules_rules}
 use Rattle.data_scopes.specs.Naming.{names_of}
 use Rattle.data_scopes.specs.Numbers.{Tally, is_pers, is_scalar_const, no_counts, tables_of}
 use Rattle.data_scopes.specs.Rows.{item_rows, items_rows, modules_rows, no_rows}
 use Rattle.data_scopes.specs.Scopes.{Names, RoutineRow, Rows, Tables, list_at}
 use Rattle.named_data.specs.Rules.{at_byte}
-use Rattle.decl_types.specs.Data.{Progress, sort_in, inner_row, beginning, item, items, data_of}
+use Rattle.decl_types.specs.Data.{Progress, sort_in, beginning, item, items, data_of}
 use Rattle.stmt_types.specs.Task.{task_of, typed_params, item_bodies, items_bodies, bodies, main_or, top, main_among, routines_of, most_values, tree_of}
 use Rattle.name_laws.specs.Declared.{StandsIn, IsType, IsResultType, AreEach}
 use Rattle.name_laws.specs.Rows.{IsSlotRow, IsPersRow, IsParamRow, IsLocalRow, IsRoutineRow}
@@ -26,7 +25,7 @@ use Rattle.data_scopes.specs.Meetings.{is_meeting}
 use Rattle.data_scopes.proofs.Within.{after_modules}
 use Rattle.name_laws.specs.Meetings.{IsMeeting}
 use Rattle.name_laws.proofs.Meetings.{AreAlike, meeting_known}
-use Rattle.name_laws.proofs.Items.{Fact, IsFront, AllItems, AllModules, Rest, Stands, modules_made, modules_stand, modules_walked, rest_all, rest_first, rest_more}
+use Rattle.name_laws.proofs.Items.{Fact, IsFront, AllModules, Rest, Stands, modules_made, modules_stand, modules_walked, rest_all, rest_first, rest_more}
 use Rattle.name_laws.proofs.Declarations as declared
 use Rattle.name_laws.proofs.Data as data_are
 use Rattle.name_laws.proofs.Bodies as bodies_are

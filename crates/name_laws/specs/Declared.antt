@@ -1,5 +1,5 @@
 -- The declarations of a task's modules, by where they stand and where they are seen.
-use Rattle.std.specs.Prelude.{◌≡◌, ℕ, Bool, true, false, List, [], ◌∷◌, Option, Some, None, slice_get}
+use Rattle.std.specs.Prelude.{◌≡◌, ℕ, true, List, [], ◌∷◌, Option, Some, None, slice_get}
 use Rattle.std.specs.Str.{str_to_ascii_lowercase}
 use Rattle.raw_trees.specs.Plain.{PlainItem, PlainModule, PlainName}
 use Rattle.rapid_model.specs.declared.sort.Sort.{Sort}

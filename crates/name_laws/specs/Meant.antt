@@ -1,5 +1,5 @@
 -- Which row each number has that a name means at a spot of a task's modules.
-use Rattle.std.specs.Prelude.{◌≡◌, ◌⊎◌, ℕ, ◌+◌, ◌<◌, ◌||◌, Bool, true, false, List, length, Option, Some, None, slice_get}
+use Rattle.std.specs.Prelude.{◌≡◌, ◌⊎◌, ℕ, ◌+◌, ◌<◌, ◌||◌, Bool, true, false, List, length, Some, slice_get}
 use Rattle.std.specs.Str.{str_to_ascii_lowercase}
 use Rattle.raw_trees.specs.Plain.{PlainDatum, PlainParam, PlainRoutine, PlainModule, Datum, Routine}
 use Rattle.raw_trees.specs.declared.raw_routine.Mode.{Mode}

@@ -1,6 +1,6 @@
 -- Which row of a typed tree is that of a declaration: it has its name, its type, its kind, and whether it is an array; a
 -- persistent and a routine also their module and their byte.
-use Rattle.std.specs.Prelude.{◌≡◌, ℕ, Bool, true, false, not, length, Option, Some, None, is_some}
+use Rattle.std.specs.Prelude.{◌≡◌, ℕ, Bool, true, false, not, length, Some, None, is_some}
 use Rattle.raw_trees.specs.Plain.{PlainDatum, PlainParam, PlainRoutine}
 use Rattle.typed_trees.specs.Plain.{TypedParam, TypedLocal, TypedRoutine, TypedSlot, TypedPers}
 use Rattle.data_scopes.specs.Declarations.{spot_of}

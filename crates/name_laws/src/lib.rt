@@ -1,5 +1,5 @@
 //! Laws alone: the number that a name means is that of a declaration of the name, and its row in a task's typed tree is the
-//! row of that declaration.
+//! row of that declaration; each GOTO has one label.
 #![tactic(auto)]
 
 ghost use Rattle.std.specs.Prelude.{◌≡◌, ◌<◌, ℕ, Bool, List, Ok, Some, true, length, slice_get};
@@ -19,8 +19,8 @@ ghost use Rattle.name_laws.specs.Jumps.{AreApart, JumpsLand, LabelsApart, labels
 ghost use Rattle.name_laws.specs.Meant.{HasItsRow};
 ghost use Rattle.name_laws.specs.Meetings.{IsMeeting};
 
-/// Where a name means a VAR, a PERS, a routine, a parameter or a datum of a routine, or a signal, its number has a row in the
-/// typed tree of the task's modules, and it is the row of a declaration of that name that is seen there.
+/// Where a name means a VAR, a PERS, a routine, a parameter or a datum of a routine, the variable of a FOR, or a signal, its
+/// number has a row in the typed tree of the task's modules, and it is the row of a declaration of that name that is seen there.
 pub fn numbers_have_their_rows()
     ensures { (modules : List PlainModule) (tasks : List (List ℕ)) (signals : List SignalRow) (arm : Bool) (tree : TypedTree) → task_of modules tasks signals arm ≡ Ok tree → (spot : Spot) (name : List ℕ) (meant : Meant) → meaning (tables_of modules signals) spot name ≡ Some meant → HasItsRow modules signals tree spot name meant }
 {}
