@@ -1,12 +1,15 @@
 -- Whole listings of two small tasks.
 use Rattle.std.proofs.Common.{◌≡◌, refl, ℕ, false, pos, neg_ℤ, List, [], ◌∷◌, None, Some}
-use Rattle.std.specs.Prelude.{codes}
+use Rattle.std.specs.Prelude.{codes, map}
+use Rattle.rapid_model.specs.declared.request.Request.TheVariants as requests
 use Rattle.rapid_model.specs.declared.value.Value.TheVariants as values
 use Rattle.raw_trees.specs.declared.raw_expr.Operator.TheVariants as operators
 use Rattle.typed_trees.specs.declared.datum.Datum.TheVariants.{Plain}
+use Rattle.rapid_meaning.specs.Runs.{asks, misfit, next_of}
+use Rattle.rapid_meaning.proofs.Asked.{go}
 use Rattle.rapid_meaning.proofs.SmallTasks.{adding, trying}
 use Rattle.rapid_meaning.proofs.Trees.{number}
-use Rattle.stack_code.proofs.CodeAsked.{compiled_stands}
+use Rattle.stack_code.proofs.CodeAsked.{code_stands, compiled_stands}
 use Rattle.stack_code.specs.Compiled.{compiled}
 use Rattle.stack_code.specs.declared.op.Op.{Op}
 use Rattle.stack_code.specs.declared.op.Op.TheVariants.{Push, Errno, Slot, Local, Ref, Load, Store, Binary, Jump, JumpFalse, Look, Call, Back, Raise, Again, Retry, Next, Turn, Step, Say}
@@ -62,6 +65,11 @@ adding_rows = refl
 adding_depth : (compiled adding).deepest ≡ 4
 unfolding compiled_stands
 adding_depth = refl
+
+-- with room for one operand less it misfits
+too_little_room : map next_of (code_stands (record (compiled adding) { deepest = 3 }) [] (go ∷ [])) ≡ asks requests.Look ∷ misfit ∷ []
+unfolding compiled_stands
+too_little_room = refl
 
 -- PROC main() p; TPWrite "n="\Num:=n; ERROR IF ERRNO = 5 RETRY; TRYNEXT; ENDPROC
 -- PROC p() n := n + 1; IF n < 3 RAISE 5; ENDPROC

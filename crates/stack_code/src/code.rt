@@ -1,3 +1,6 @@
+ghost use Rattle.std.specs.Prelude.{◌≡◌};
+ghost use Rattle.stack_code.specs.Firsts.{in_full};
+
 use crate::first_run::FirstRun;
 use crate::marks::Marks;
 use crate::op::Op;
@@ -43,4 +46,70 @@ impl Model for Code {
       deepest = c.deepest;
       main = c.main;
     } };
+}
+
+impl Code {
+    /// The operations.
+    pub fn ops(&self) -> &[Op]
+        ensures { result.now ≡ self.now.ops }
+    {
+        &self.ops
+    }
+
+    /// The routines.
+    pub fn routines(&self) -> &[RoutineRow]
+        ensures { result.now ≡ self.now.routines }
+    {
+        &self.routines
+    }
+
+    /// What error recovery needs.
+    pub fn marks(&self) -> &Marks
+        ensures owners { result.now.owners.items ≡ self.now.owners }
+        ensures handlers { result.now.handlers.items ≡ self.now.handlers }
+    {
+        &self.marks
+    }
+
+    /// The first values of the modules' data.
+    pub fn slots(&self) -> &[Datum]
+        ensures { result.now ≡ self.now.slots }
+    {
+        &self.slots
+    }
+
+    /// The first values of frames, run by run.
+    pub fn firsts(&self) -> &[FirstRun]
+        ensures { in_full result.now ≡ self.now.firsts }
+    {
+        &self.firsts
+    }
+
+    /// The names of all tasks of the script.
+    pub fn tasks(&self) -> &[NameText]
+        ensures { result.now ≡ self.now.tasks }
+    {
+        &self.tasks
+    }
+
+    /// The types of the task's persistents.
+    pub fn sorts(&self) -> &[PersSort]
+        ensures { result.now ≡ self.now.sorts }
+    {
+        &self.sorts
+    }
+
+    /// The most operands that a frame has.
+    pub fn deepest(&self) -> u32
+        ensures { result ≡ self.now.deepest }
+    {
+        self.deepest
+    }
+
+    /// The number of `main` among the routines.
+    pub fn main(&self) -> u32
+        ensures { result ≡ self.now.main }
+    {
+        self.main
+    }
 }
