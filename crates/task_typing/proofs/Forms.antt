@@ -1,5 +1,6 @@
 -- The forms of values by their types.
-use Rattle.std.proofs.Common.{◌≡◌, refl, sym, subst, ℕ, zero, suc, Bool, true, false, ◌&&◌, ℤ, List, [], ◌∷◌, length, IsTrue, ◌==◌}
+use Rattle.std.proofs.Common.{◌≡◌, refl, sym, subst, ℕ, zero, suc, Bool, true, false, ◌&&◌, ℤ, List, [], ◌∷◌, length, IsTrue, ◌==◌, nat_eq, arith}
+use Rattle.std.proofs.lemmas.Bool.{eqb-true}
 use Rattle.rapid_num.specs.declared.joints.Joints.{Joints}
 use Rattle.rapid_model.specs.Paths.{has_sort}
 use Rattle.rapid_model.specs.Sorts.{has_values}
@@ -26,16 +27,16 @@ pub tasks_form : (v : Value) → IsTrue (has_sort sorts.Tasks v) → (t : List �
 tasks_form (values.Text t) h = (t, refl)
 tasks_form v h = absurd cc
 
-pub target_form : (v : Value) → IsTrue (has_sort sorts.JointTarget v) → (j : Joints) × (v ≡ values.Target j)
-target_form (values.Target j) h = (j, refl)
+pub target_form : (v : Value) → IsTrue (has_sort sorts.JointTarget v) → (j : Joints) × (v ≡ values.Target j) × (length j.axis ≡ 12)
+target_form (values.Target j) h = (j, refl, eqb-true (length j.axis) 12 h)
 target_form v h = absurd cc
 
 pub rob_form : (v : Value) → IsTrue (has_sort sorts.RobJoint v) → (l : List ℤ) × (v ≡ values.Rob l) × (length l ≡ 6)
-rob_form (values.Rob l) h = (l, refl, grind (arith, h))
+rob_form (values.Rob l) h = (l, refl, eqb-true (length l) 6 h)
 rob_form v h = absurd cc
 
 pub ext_form : (v : Value) → IsTrue (has_sort sorts.ExtJoint v) → (l : List ℤ) × (v ≡ values.Ext l) × (length l ≡ 6)
-ext_form (values.Ext l) h = (l, refl, grind (arith, h))
+ext_form (values.Ext l) h = (l, refl, eqb-true (length l) 6 h)
 ext_form v h = absurd cc
 
 speed_tool : (l : List ℤ) → IsTrue (has_sort sorts.SpeedData (values.Speed l)) → (tool : ℤ) × (others : List ℤ) × (values.Speed l ≡ values.Speed (tool ∷ others))
@@ -45,6 +46,10 @@ speed_tool (tool ∷ others) h = (tool, others, refl)
 pub speed_form : (v : Value) → IsTrue (has_sort sorts.SpeedData v) → (tool : ℤ) × (others : List ℤ) × (v ≡ values.Speed (tool ∷ others))
 speed_form (values.Speed l) h = speed_tool l h
 speed_form v h = absurd cc
+
+pub speed_nums : (v : Value) → IsTrue (has_sort sorts.SpeedData v) → (l : List ℤ) × (v ≡ values.Speed l) × (length l ≡ 4)
+speed_nums (values.Speed l) h = (l, refl, eqb-true (length l) 4 h)
+speed_nums v h = absurd cc
 
 -- values of one type that are compared are of one form
 pub alike : (sort : Sort) (v w : Value) → IsTrue (is_compared sort) → IsTrue (has_sort sort v) → IsTrue (has_sort sort w) → IsTrue (are_alike v w)

@@ -1,5 +1,6 @@
 pub mod Told
 pub mod Meets
 pub mod Runs
-pub mod Parts
 pub mod Forms
+pub mod Parts
+pub mod Cells
