@@ -1,5 +1,6 @@
 -- Data in their places: reading and writing them.
-use Rattle.std.proofs.Common.{◌≡◌, refl, sym, ap, ◌∙◌, subst, ℕ, zero, suc, ◌==◌, Bool, true, false, List, [], ◌∷◌, length, Option, Some, None, slice_get, slice_set, if◌then◌else◌, IsTrue, arith}
+use Rattle.std.proofs.Common.{◌≡◌, refl, sym, ap, ◌∙◌, subst, ℕ, zero, suc, ◌==◌, Bool, true, false, List, [], ◌∷◌, length, Option, Some, None, slice_get, slice_set, if◌then◌else◌, IsTrue, arith, ◌<◌}
+use Rattle.std.proofs.lemmas.Bool.{eqb-true, eq-eqb, ne_eqb}
 use Rattle.std.specs.Option.{option_and_then}
 use Rattle.rapid_model.specs.declared.sort.Sort.{Sort}
 use Rattle.typed_trees.specs.Plain.{TypedTree}
@@ -90,6 +91,25 @@ frame_written tree (first ∷ below) (f ∷ fs) k at sort new g are is there e =
     (λ t i. frame_written tree below fs k at sort new g are.1 is t i) there
     (subst (λ (n : ℕ). option_and_then (λ cells. slice_get cells at) (if n == k then Some first else cells_at below k) ≡ Some (Holds sort)) (as_deep tree below fs are.1) e)
 
+depth_here : (b : Bool) (first cells : List Cell) (o : Option (List Cell)) (k n : ℕ) → (b ≡ true → k < suc n) → (o ≡ Some cells → k < suc n)
+    → (if b then Some first else o) ≡ Some cells → k < suc n
+depth_here true first cells o k n here more e = here refl
+depth_here false first cells o k n here more e = more e
+
+below_top : (frames : List (List Cell)) (k : ℕ) (cells : List Cell) → cells_at frames k ≡ Some cells → k < length frames
+below_top [] k cells e = absurd cc
+below_top (first ∷ below) k cells e =
+    depth_here (length below == k) first cells (cells_at below k) k (length below)
+    (λ same. let is : length below ≡ k = eqb-true (length below) k same in omega (arith, is))
+    (λ there. let less : k < length below = below_top below k cells there in omega (arith, less)) e
+
+not_top : (frames : List (List Cell)) (k : ℕ) → k < length frames → (length frames == k) ≡ false
+not_top frames k less = ne_eqb (length frames) k (λ (e : length frames ≡ k). omega (arith, e, less))
+
 -- a frame that is there stays there where another is put on top
-pub deep_frame : (frames : List (List Cell)) (k : ℕ) (cells : List Cell) → cells_at frames k ≡ Some cells → (length frames == k) ≡ false
-deep_frame frames k cells e = ?
+pub deeper : (frames : List (List Cell)) (top : List Cell) (k : ℕ) (cells : List Cell) → cells_at frames k ≡ Some cells → cells_at (top ∷ frames) k ≡ Some cells
+deeper frames top k cells e = ap (λ (b : Bool). if b then Some top else cells_at frames k) (not_top frames k (below_top frames k cells e)) ∙ e
+
+-- the top frame has its own number
+pub top_frame : (frames : List (List Cell)) (top : List Cell) → cells_at (top ∷ frames) (length frames) ≡ Some top
+top_frame frames top = ap (λ (b : Bool). if b then Some top else cells_at frames (length frames)) (eq-eqb (length frames) (length frames) refl)

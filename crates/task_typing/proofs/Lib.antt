@@ -4,3 +4,9 @@ pub mod Runs
 pub mod Forms
 pub mod Parts
 pub mod Cells
+pub mod Rows
+pub mod Scene
+pub mod Safe
+pub mod Places
+pub mod Data
+pub mod Loads
