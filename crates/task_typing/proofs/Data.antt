@@ -2,6 +2,7 @@
 use Rattle.std.proofs.Common.{◌≡◌, ◌⊎◌, inl, inr, ⊎_elim, refl, sym, ap, ◌∙◌, subst, ℕ, Bool, true, false, ◌&&◌, nat_le, nat_lt, List, [], ◌∷◌, Option, Some, None, slice_get, slice_set, IsTrue}
 use Rattle.std.specs.Option.{option_and_then, option_map}
 use Rattle.std.proofs.lemmas.Bool.{and_parts}
+use Rattle.rapid_num.specs.declared.shape.Shape.{Shape}
 use Rattle.rapid_model.specs.Paths.{has_sort, num_where, part_sort}
 use Rattle.rapid_model.specs.Sorts.{has_values}
 use Rattle.rapid_model.specs.declared.part_name.PartName.{PartName}
@@ -51,27 +52,37 @@ pub part_valued : (whole : Sort) (part : PartName) (sort : Sort) → IsTrue (has
 part_valued whole part sort h e =
     ⊎_elim (λ w. subst (λ (x : Sort). IsTrue (has_values x)) w.1 h) (λ v. v.1) (whole_or_valued whole part sort e)
 
+no_mark : (sort : Sort) → IsTrue (is_marked sort) → IsTrue (has_values sort) → ⊥
+no_mark sorts.IntNum marked holds = cc
+no_mark sorts.SyncIdent marked holds = cc
+no_mark sorts.WzTemporary marked holds = cc
+no_mark sorts.WzStationary marked holds = cc
+no_mark sort marked holds = cc
+
+shape_sort : (sort : Sort) (s : Option Shape) → IsTrue (is_datum_of sort (datums.Shape s)) → sort ≡ sorts.ShapeData
+shape_sort sorts.ShapeData s is = refl
+shape_sort sort s is = absurd cc
+
+no_shape : (sort : Sort) → sort ≡ sorts.ShapeData → IsTrue (has_values sort) → ⊥
+no_shape sort e holds = let no_values : IsTrue (has_values sorts.ShapeData) = subst (λ (x : Sort). IsTrue (has_values x)) e holds in cc
+
+no_marked_shape : (sort : Sort) → sort ≡ sorts.ShapeData → IsTrue (is_marked sort) → ⊥
+no_marked_shape sort e marked = let no_number : IsTrue (is_marked sorts.ShapeData) = subst (λ (x : Sort). IsTrue (is_marked x)) e marked in cc
+
 -- a datum of a type that has values is one
 pub plain_form : (sort : Sort) (x : Datum) → IsTrue (has_values sort) → IsTrue (is_datum_of sort x) → (v : Value) × (x ≡ datums.Plain v) × IsTrue (has_sort sort v)
-plain_form sort (datums.Plain v) valued is = (v, refl, is)
-plain_form sorts.Num (datums.Mark n) valued is = absurd cc
-plain_form sorts.Bool (datums.Mark n) valued is = absurd cc
-plain_form sorts.Text (datums.Mark n) valued is = absurd cc
-plain_form sorts.RobJoint (datums.Mark n) valued is = absurd cc
-plain_form sort (datums.Mark n) valued is = absurd cc
-plain_form sort (datums.Shape shape) valued is = absurd cc
-plain_form sort (datums.Place place) valued is = absurd cc
+plain_form sort (datums.Plain v) holds is = (v, refl, is)
+plain_form sort (datums.Mark n) holds is = absurd (no_mark sort is holds)
+plain_form sort (datums.Shape s) holds is = absurd (no_shape sort (shape_sort sort s is) holds)
+plain_form sort (datums.Place place) holds is = absurd cc
 
 pub mark_form : (sort : Sort) (x : Datum) → IsTrue (is_marked sort) → IsTrue (is_datum_of sort x) → (n : ℕ) × (x ≡ datums.Mark n)
 mark_form sort (datums.Mark n) marked is = (n, refl)
 mark_form sort (datums.Plain v) marked is = absurd (no_mark sort marked (valued sort v is))
-  where
-    no_mark : (sort : Sort) → IsTrue (is_marked sort) → IsTrue (has_values sort) → ⊥
-    no_mark sort m v = cc
-mark_form sort (datums.Shape shape) marked is = absurd cc
+mark_form sort (datums.Shape s) marked is = absurd (no_marked_shape sort (shape_sort sort s is) marked)
 mark_form sort (datums.Place place) marked is = absurd cc
 
-pub shape_form : (x : Datum) → IsTrue (is_datum_of sorts.ShapeData x) → (s : _) × (x ≡ datums.Shape s)
+pub shape_form : (x : Datum) → IsTrue (is_datum_of sorts.ShapeData x) → (s : Option Shape) × (x ≡ datums.Shape s)
 shape_form (datums.Shape s) is = (s, refl)
 shape_form (datums.Plain v) is = absurd cc
 shape_form (datums.Mark n) is = absurd cc
@@ -88,8 +99,8 @@ whole_in (datums.Shape s) = refl
 whole_in (datums.Place q) = refl
 
 valued_in : (whole : Sort) (part : PartName) (sort : Sort) (x : Datum) → IsTrue (has_values whole) → IsTrue (is_datum_of whole x) → part_sort whole part ≡ Some sort → HasDatum (part_in part x) sort
-valued_in whole part sort x valued is e =
-    let f : (v : Value) × (x ≡ datums.Plain v) × IsTrue (has_sort whole v) = plain_form whole x valued is in
+valued_in whole part sort x holds is e =
+    let f : (v : Value) × (x ≡ datums.Plain v) × IsTrue (has_sort whole v) = plain_form whole x holds is in
     let found : (w : Value) × (part_of f.0 part ≡ Some w) × IsTrue (has_sort sort w) = value_part whole sort part f.0 f.2 e in
     (datums.Plain found.0, ap (part_in part) f.1 ∙ ap (option_map datums.Plain) found.1, found.2)
 
@@ -110,15 +121,11 @@ plains_only sort v new plain is =
     let f : (w : Value) × (new ≡ datums.Plain w) × IsTrue (has_sort sort w) = plain_form sort new (valued sort v plain) is in
     subst (λ (x : Datum). put_in parts.Whole x (datums.Plain v) ≡ Some x) (sym f.1) refl
 
-shape_sort : (sort : Sort) (s : _) → IsTrue (is_datum_of sort (datums.Shape s)) → sort ≡ sorts.ShapeData
-shape_sort sorts.ShapeData s is = refl
-shape_sort sort s is = absurd cc
-
 whole_put : (sort : Sort) (x new : Datum) → IsTrue (is_datum_of sort x) → IsTrue (is_datum_of sort new) → put_in parts.Whole new x ≡ Some new
 whole_put sort (datums.Plain v) new is also = plains_only sort v new is also
 whole_put sort (datums.Mark n) new is also = marks_only sort n new is also
 whole_put sort (datums.Shape s) new is also =
-    let f : (r : _) × (new ≡ datums.Shape r) = shape_form new (subst (λ (y : Sort). IsTrue (is_datum_of y new)) (shape_sort sort s is) also) in
+    let f : (r : Option Shape) × (new ≡ datums.Shape r) = shape_form new (subst (λ (y : Sort). IsTrue (is_datum_of y new)) (shape_sort sort s is) also) in
     subst (λ (y : Datum). put_in parts.Whole y (datums.Shape s) ≡ Some y) (sym f.1) refl
 whole_put sort (datums.Place q) new is also = absurd cc
 

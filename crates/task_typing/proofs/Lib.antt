@@ -10,3 +10,5 @@ pub mod Safe
 pub mod Places
 pub mod Data
 pub mod Loads
+pub mod Operators
+pub mod Expressions

@@ -35,7 +35,7 @@ use Rattle.task_typing.proofs.Cells.{HasCells, as_deep, cell_read, deeper, has_c
 use Rattle.task_typing.proofs.Forms.{num_form}
 use Rattle.task_typing.proofs.Parts.{inner_part}
 use Rattle.task_typing.proofs.Rows.{at_repeated, cell_count, local_len, local_row, slot_row}
-use Rattle.task_typing.proofs.Safe.{Anything, Safe, safe_fault, safe_gives, safe_or, safe_reads, safe_then}
+use Rattle.task_typing.proofs.Safe.{Anything, Safe, safe_any, safe_fault, safe_gives, safe_or, safe_reads, safe_then}
 use Rattle.task_typing.proofs.Scene.{Facts, InScene, Scene}
 
 -- within a routine, with these frames below
@@ -207,7 +207,7 @@ element_safe s q sort len (Some k) rooted within =
     let is : (1 ≤ k) × (k ≤ len) = within k refl in safe_gives s (λ r. IsThere s r sort) (element_of q k) (rooted k is.0 is.1)
 
 pub num_safe : (s : Scene) (v : Value) → IsTrue (has_sort sorts.Num v) → Safe s Anything (num_in v)
-num_safe s v h = let f : (n : ℤ) × (v ≡ values.Num n) = num_form v h in subst (λ (x : Value). Safe s Anything (num_in x)) (sym f.1) (safe_gives s Anything f.0 tt)
+num_safe s v h = let f : (n : ℤ) × (v ≡ values.Num n) = num_form v h in subst (λ (x : Value). Safe s Anything (num_in x)) (sym f.1) (safe_any s f.0)
 
 pub indexed_safe : (s : Scene) (q : Lvalue) (sort : Sort) (len : ℕ) (o : Option ℕ) (v : Value) → o ≡ Some len → IsRooted s q sort (Some len) → IsTrue (has_sort sorts.Num v)
     → Safe s (λ r. IsThere s r sort) (indexed o q v)

@@ -28,6 +28,12 @@ Anything v = ⊤
 pub safe_gives : {A : Type 0} (s : Scene) (P : A → Type 0) (v : A) → P v → Safe s P (Gives v)
 safe_gives s P v p d is = (calm_itself d, (p, is))
 
+pub safe_any : {A : Type 0} (s : Scene) (v : A) → Safe s Anything (Gives v)
+safe_any s v = safe_gives s Anything v tt
+
+pub safe_done : (s : Scene) → Safe s Anything done
+safe_done s d is = (calm_itself d, (tt, is))
+
 pub safe_raises : {A : Type 0} (s : Scene) (P : A → Type 0) (n : ℕ) → Safe s P (Raises n)
 safe_raises s P n d is = (calm_itself d, is)
 
@@ -57,7 +63,7 @@ pub safe_writes : {A : Type 0} (s : Scene) (P : A → Type 0) (m : Doing A) (d e
 safe_writes s P m d e id ie safe = subst (λ (t : Told). Meets (rules_of s.c) (λ v x. P v × InScene s x) (λ n x. InScene s x) m t e) (same_told s d e id ie) (safe e ie)
 
 pub safe_change : (s : Scene) (to : Data → Data) → ((d : Data) → InScene s d → InScene s (to d)) → Safe s Anything (change to)
-safe_change s to keeps d is = safe_writes s Anything done d (to d) is (keeps d is) (safe_gives {A = ⊤} s Anything tt tt)
+safe_change s to keeps d is = safe_writes s Anything done d (to d) is (keeps d is) (safe_done s)
 
 -- a request that is neither Hold, nor Rise, nor Leave
 pub record IsQuiet (request : Request) : Type 0 where

@@ -48,7 +48,7 @@ is_zone sorts.WzTemporary = true
 is_zone sorts.WzStationary = true
 is_zone _ = false
 
-unfoldable mutual
+abbrev mutual
   pub IsExpr : Setting → List Kind → TypedExpr → Sort → Type 0
   IsExpr c kinds (Known at own v) sort = (own ≡ sort) × IsTrue (has_sort sort v)
   IsExpr c kinds (ErrorNumber at own) sort = (own ≡ sort) × (sort ≡ sorts.Num)

@@ -46,7 +46,7 @@ abbrev pub AreCaseValues : Setting → List Kind → TypedExprs → Sort → Typ
 AreCaseValues c kinds NoExprs sort = ⊤
 AreCaseValues c kinds (MoreExprs e es) sort = IsExpr c kinds e sort × AreCaseValues c kinds es sort
 
-unfoldable mutual
+abbrev mutual
   pub IsStmt : Setting → Around → TypedStmt → Type 0
   IsStmt c around (Assign at p e) = (sort : Sort) × IsTrue (has_values sort) × IsPlace c around.places p sort × IsExpr c around.places e sort
   IsStmt c around (Instruct at instruction args) = IsInstruction c around.places instruction args
