@@ -44,11 +44,11 @@ is_inner whole part sort e = ap is_some e
 
 read_answered : (s : Scene) (pers index : ℕ) (part : PartName) (whole sort : Sort) → IsRootOf s.c.tree s.frames (roots.Pers pers index) whole → part_sort whole part ≡ Some sort
     → Answered s (λ x. IsTrue (is_datum_of sort x)) (ReadP pers (path_of index part)) when_read
-read_answered s pers index part whole sort is e trapped (answers.Val v) fits =
+read_answered s pers index part whole sort is e trapped (answers.Val v) fits full =
     let own : sort_of_pers s.c.tree.pers_of s.c.tree.pers pers ≡ Some whole = s.facts.sorts pers is.0 is.1 ∙ ap Some is.3 in
     (refl, safe_gives s (λ x. IsTrue (is_datum_of sort x)) (datums.Plain v)
     (sym (fits_inner whole part sort v e) ∙ ap (λ (o : Option Sort). fits_pers o part v) (sym own) ∙ fits))
-read_answered s pers index part whole sort is e trapped a fits = absurd cc
+read_answered s pers index part whole sort is e trapped a fits full = absurd cc
 
 -- reads a datum of the place's type
 load_at : (s : Scene) (root : Root) (part : PartName) (whole sort : Sort) → IsRootOf s.c.tree s.frames root whole → part_sort whole part ≡ Some sort
@@ -88,8 +88,8 @@ mark_safe s sort x marked is =
     subst (λ (y : Datum). Safe s Anything (mark_in y)) (sym f.1) (safe_any s f.0)
 
 ok_answered : (s : Scene) (pers : ℕ) (path : Path) (v : Value) → Answered s Anything (WriteP pers path v) when_ok
-ok_answered s pers path v trapped answers.Ok fits = (refl, safe_done s)
-ok_answered s pers path v trapped a fits = absurd cc
+ok_answered s pers path v trapped answers.Ok fits full = (refl, safe_done s)
+ok_answered s pers path v trapped a fits full = absurd cc
 
 written_meets : (s : Scene) (root : Root) (d : Data) (o : Option Datum) (x : Datum) → o ≡ Some x → InScene s d → InScene s (put_at root x d)
     → Meets (rules_of s.c) (λ (v : ⊤) e. Anything v × InScene s e) (λ n e. InScene s e) (writes_at root d o) (calm d) d
@@ -130,8 +130,8 @@ set_safe s q false is =
     safe_then s Anything Anything (write_value q (values.Bool true)) (λ _. Gives true) (store_safe s q sorts.Bool (datums.Plain (values.Bool true)) is refl) (λ _ _. safe_any s true)
 
 tested_answered : (s : Scene) (pers : ℕ) (path : Path) → Answered s Anything (TestSet pers path) when_tested
-tested_answered s pers path trapped (answers.Yes met) fits = (refl, safe_any s met)
-tested_answered s pers path trapped a fits = absurd cc
+tested_answered s pers path trapped (answers.Yes met) fits full = (refl, safe_any s met)
+tested_answered s pers path trapped a fits full = absurd cc
 
 silent_test : (s : Scene) (q : Lvalue) → IsThere s q sorts.Bool → Safe s Anything (read_value q >>= λ v. truth_in v >>= set_unless q)
 silent_test s q is =

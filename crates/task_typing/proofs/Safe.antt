@@ -13,6 +13,7 @@ use Rattle.rapid_meaning.specs.Data.{Data}
 use Rattle.rapid_meaning.specs.Doings.{Doing, Gives, Raises, Asks, Ends, Reads, Writes, Does, ◌>>=◌, ◌>>◌, after, change, done, fault, goes_to, or_misfit}
 use Rattle.rapid_meaning.specs.Flows.{Flow, Part}
 use Rattle.task_typing.specs.Asked.{IsAsked}
+use Rattle.task_typing.specs.Full.{is_full_answer}
 use Rattle.task_typing.specs.Setting.{Setting}
 use Rattle.task_typing.specs.States.{IsState}
 use Rattle.task_typing.proofs.Meets.{Meets, meets_after}
@@ -79,15 +80,15 @@ quiet_told request a d quiet untrapped =
 
 -- each answer that fits is no trap, and goes on well
 abbrev pub Answered : {A : Type 0} → Scene → (A → Type 0) → Request → (Answer → Doing A) → Type 0
-Answered s P request k = (trapped : Bool) (a : Answer) → IsTrue (fits_request (fitting_of s.c.tree trapped) request a) → (is_trap a ≡ false) × Safe s P (k a)
+Answered s P request k = (trapped : Bool) (a : Answer) → IsTrue (fits_request (fitting_of s.c.tree trapped) request a) → IsTrue (is_full_answer a) → (is_trap a ≡ false) × Safe s P (k a)
 
 pub safe_asks : {A : Type 0} (s : Scene) (P : A → Type 0) (request : Request) (k : Answer → Doing A) → IsQuiet request → ((d : Data) → IsAsked s.c d request) → Answered s P request k
     → Safe s P (Asks request k)
 safe_asks s P request k quiet asked answered d is = (
   record { rises = quiet.no_rise; same = refl; asked = record { asked = asked d; trapped = s.trapped; frames = s.frames; state = is } },
-  λ a fits.
-      subst (λ (t : Told). Meets (rules_of s.c) (λ v x. P v × InScene s x) (λ n x. InScene s x) (k a) t d) (quiet_told request a d quiet (answered d.trapped a fits).0)
-      ((answered d.trapped a fits).1 d is),
+  λ a fits full.
+      subst (λ (t : Told). Meets (rules_of s.c) (λ v x. P v × InScene s x) (λ n x. InScene s x) (k a) t d) (quiet_told request a d quiet (answered d.trapped a fits full).0)
+      ((answered d.trapped a fits full).1 d is),
 )
 
 -- what is there
