@@ -12,3 +12,6 @@ pub mod Data
 pub mod Loads
 pub mod Operators
 pub mod Expressions
+pub mod Shapes
+pub mod Acts
+pub mod Instructions

@@ -51,7 +51,7 @@ text_whole : (part : PartName) (sort : Sort) → part_sort sorts.Text part ≡ S
 text_whole parts.Whole sort e = (refl, cc)
 text_whole part sort e = absurd cc
 
-within_whole : (outer : PartName) → part_within outer parts.Whole ≡ Some outer
+pub within_whole : (outer : PartName) → part_within outer parts.Whole ≡ Some outer
 within_whole parts.Whole = refl
 within_whole outer = refl
 
