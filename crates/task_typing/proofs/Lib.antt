@@ -15,3 +15,8 @@ pub mod Expressions
 pub mod Shapes
 pub mod Acts
 pub mod Instructions
+pub mod Looks
+pub mod Statements
+pub mod Frames
+pub mod Calls
+pub mod Whole

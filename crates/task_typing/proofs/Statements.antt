@@ -1,5 +1,5 @@
 -- Statements and lists of them.
-use Rattle.std.proofs.Common.{◌≡◌, ◌⊎◌, ⊎_elim, inl, inr, refl, sym, ap, ◌∙◌, subst, ℕ, ◌+◌, ◌<◌, ◌/◌, ◌%◌, ◌==◌, ◌&&◌, nat_le, Bool, true, false, ℤ, pos, negsuc, int_lt, neg_ℤ, List, [], ◌∷◌, length, Option, Some, None, is_some, slice_get, if◌then◌else◌, IsTrue, arith}
+use Rattle.std.proofs.Common.{◌≡◌, ◌⊎◌, ⊎_elim, inl, inr, refl, sym, ap, ◌∙◌, subst, ℕ, ◌+◌, ◌<◌, ◌/◌, ◌%◌, ◌==◌, ◌&&◌, nat_le, Bool, true, false, ℤ, pos, negsuc, int_lt, neg_ℤ, List, [], ◌∷◌, length, map, flat_map, Option, Some, None, is_some, slice_get, if◌then◌else◌, IsTrue, arith}
 use Rattle.std.specs.Prelude.{⊤}
 use Rattle.rapid_num.specs.Arithmetic.{sum_of}
 use Rattle.rapid_model.specs.Paths.{has_sort}
@@ -24,15 +24,15 @@ use Rattle.rapid_meaning.specs.Instructions.{instructed, needed, num, options, t
 use Rattle.rapid_meaning.specs.Interrupts.{connect, number_at}
 use Rattle.rapid_meaning.specs.Layouts.{local_start}
 use Rattle.rapid_meaning.specs.Lists.{behind, ended, items, jumped, rest}
-use Rattle.rapid_meaning.specs.Looks.{hold}
+use Rattle.rapid_meaning.specs.Looks.{hold, look}
 use Rattle.rapid_meaning.specs.Loops.{bounds, counted, counter, counter_place, counts_on, has_passed, set_counter, step_of, turn_due}
 use Rattle.rapid_meaning.specs.Places.{own_place, read_value, write_value}
-use Rattle.rapid_meaning.specs.Statements.{and_then, assign, byte_of, call, chosen, connects, done_or_held, follows, goes_on, inner, inner_or_not, is_among, raised, selected, stmt, turn, turned}
+use Rattle.rapid_meaning.specs.Statements.{again_behind, and_then, assign, byte_of, call, chosen, connects, done_or_held, follows, goes_on, inner, inner_or_not, is_among, raised, selected, stmt, turn, turned}
 use Rattle.rapid_meaning.specs.Values.{applied, num_in, truth_in}
 use Rattle.rapid_meaning.specs.Doings as doings
 use Rattle.task_typing.specs.Expressions.{AreArgs, IsExpr, IsPlace}
 use Rattle.task_typing.specs.Instructions.{IsInstruction}
-use Rattle.task_typing.specs.Kinds.{Counts, Holds, cells_of, kind_of, kinds_of, local_cells}
+use Rattle.task_typing.specs.Kinds.{Counts, Holds, Kind, cells_of, kind_of, kinds_of, need_of}
 use Rattle.task_typing.specs.Operations.{is_compared}
 use Rattle.task_typing.specs.Setting.{Setting}
 use Rattle.task_typing.specs.Statements.{Around, AreArms, AreCaseValues, AreCases, AreStmts, IsElse, IsStep, IsStmt, Sees, into}
@@ -110,8 +110,12 @@ assign_safe i p e sort ip ie =
     (λ q at. safe_then (scene i) (HasSort sort) Anything (expr i.c.tree i.routine e) (write_value q) (expr_safe i e sort ie) (λ v h. store_safe (scene i) q sort (datums.Plain v) at h))
 
 call_stmt : (i : Inside) (called : ℕ) (routine : TypedRoutine) (args : trees.TypedArgs) → slice_get i.c.tree.routines called ≡ Some routine
-    → AreArgs i.c (kinds_of i.routine) args _ → Safe (scene i) Anything (call i.c.tree i.routine called args)
-call_stmt i called routine args e are = ?
+    → AreArgs i.c (kinds_of i.routine) args (map need_of routine.params) → Safe (scene i) Anything (call i.c.tree i.routine called args)
+unfolding after
+call_stmt i called routine args e are =
+    safe_then (scene i) (AreArgsOf (scene i) (flat_map cells_of (map kind_of routine.params))) Anything (arguments i.c.tree i.routine args) (λ xs. calls called xs)
+    (args_safe i routine.params args (all_safe i args) are)
+    (λ xs held. safe_then (scene i) (λ flow. IsResult (slice_get i.c.tree.routines called) flow) Anything (calls called xs) Gives (call_safe i called routine xs e held) (λ flow _. safe_any (scene i) flow))
 
 raised_num : (s : Scene) (n : ℤ) → Safe s Anything (raised (values.Num n))
 raised_num s (pos n) =
@@ -137,7 +141,7 @@ chosen_safe : (i : Inside) (around : Around) (arms : TypedArms) (other : TypedEl
 chosen_safe i around NoArms other same are is = safe_gives (scene i) (IsElse i.c around) other is
 chosen_safe i around (MoreArms e list more) other same are is =
     safe_then (scene i) Anything (IsElse i.c around) (truth i.c.tree i.routine e) (λ b. if b then Gives (Else list) else chosen i.c.tree i.routine more other)
-    (truth_expr i e (subst (λ ks. IsExpr i.c ks e sorts.Bool) same are.0))
+    (truth_expr i e (subst (λ (ks : List Kind). IsExpr i.c ks e sorts.Bool) same are.0))
     (λ b _. when_safe (scene i) (IsElse i.c around) b (Gives (Else list)) (chosen i.c.tree i.routine more other) (λ _. safe_gives (scene i) (IsElse i.c around) (Else list) are.1)
      (λ _. chosen_safe i around more other same are.2 is))
 
@@ -157,7 +161,7 @@ selected_safe : (i : Inside) (around : Around) (sort : Sort) (v : Value) (cases 
 selected_safe i around sort v NoCases other same compared h are is = safe_gives (scene i) (IsElse i.c around) other is
 selected_safe i around sort v (MoreCases es list more) other same compared h are is =
     safe_then (scene i) Anything (IsElse i.c around) (is_among i.c.tree i.routine v es) (λ b. if b then Gives (Else list) else selected i.c.tree i.routine v more other)
-    (among_safe i sort v es compared h (subst (λ ks. AreCaseValues i.c ks es sort) same are.0))
+    (among_safe i sort v es compared h (subst (λ (ks : List Kind). AreCaseValues i.c ks es sort) same are.0))
     (λ b _. when_safe (scene i) (IsElse i.c around) b (Gives (Else list)) (selected i.c.tree i.routine v more other) (λ _. safe_gives (scene i) (IsElse i.c around) (Else list) are.1)
      (λ _. selected_safe i around sort v more other same compared h are.2 is))
 
@@ -191,3 +195,144 @@ bounds_safe i local first last step e ifirst ilast istep =
       (λ by _. safe_then (scene i) Anything Anything (set_counter i.routine local 2 by) (λ _. set_counter i.routine local 1 to >> set_counter i.routine local 0 from) (set_safe i local 2 by e (omega arith))
        (λ _ _. safe_then (scene i) Anything Anything (set_counter i.routine local 1 to) (λ _. set_counter i.routine local 0 from) (set_safe i local 1 to e (omega arith))
         (λ _ _. set_safe i local 0 from e (omega arith))))))
+
+-- the next turn of a FOR
+due_safe : (c : Setting) (facts : Facts c) (g : Ghost) (w : Where) (s : TypedStmt) (local : ℕ) → slice_get (kinds_of w.routine) local ≡ Some Counts → IsPart c g (Turn w s)
+    → Flows c facts g w (turn_due w s local)
+due_safe c facts g w s local e part =
+    safe_then (place_of c facts g w) Anything (IsFlow (around_of w g.lists)) (counter w.routine local 0)
+    (λ variable. counter w.routine local 1 >>= λ last. counter w.routine local 2 >>= λ step. if has_passed variable last step then Gives Normal else goes_to (Turn w s))
+    (counter_safe (inside_of c facts g w.routine) local 0 e (omega arith))
+    (λ variable _. safe_then (place_of c facts g w) Anything (IsFlow (around_of w g.lists)) (counter w.routine local 1)
+     (λ last. counter w.routine local 2 >>= λ step. if has_passed variable last step then Gives Normal else goes_to (Turn w s)) (counter_safe (inside_of c facts g w.routine) local 1 e (omega arith))
+     (λ last _. safe_then (place_of c facts g w) Anything (IsFlow (around_of w g.lists)) (counter w.routine local 2)
+      (λ step. if has_passed variable last step then Gives Normal else goes_to (Turn w s)) (counter_safe (inside_of c facts g w.routine) local 2 e (omega arith))
+      (λ step _. when_safe (place_of c facts g w) (IsFlow (around_of w g.lists)) (has_passed variable last step) (Gives Normal) (goes_to (Turn w s)) (λ _. goes_normal c facts g w)
+       (λ _. safe_goes c facts g (Turn w s) part))))
+
+counted_safe : (c : Setting) (facts : Facts c) (g : Ghost) (w : Where) (s : TypedStmt) (local : ℕ) (o : Option ℤ) → slice_get (kinds_of w.routine) local ≡ Some Counts → IsPart c g (Turn w s)
+    → Flows c facts g w (counted w s local o)
+counted_safe c facts g w s local None e part = goes_normal c facts g w
+counted_safe c facts g w s local (Some n) e part =
+    safe_then (place_of c facts g w) Anything (IsFlow (around_of w g.lists)) (set_counter w.routine local 0 n) (λ _. turn_due w s local) (set_safe (inside_of c facts g w.routine) local 0 n e (omega arith))
+    (λ _ _. due_safe c facts g w s local e part)
+
+counts_safe : (c : Setting) (facts : Facts c) (g : Ghost) (w : Where) (s : TypedStmt) (local : ℕ) → slice_get (kinds_of w.routine) local ≡ Some Counts → IsPart c g (Turn w s)
+    → Flows c facts g w (counts_on w s local)
+counts_safe c facts g w s local e part =
+    safe_then (place_of c facts g w) Anything (IsFlow (around_of w g.lists)) (counter w.routine local 0) (λ variable. counter w.routine local 2 >>= λ step. counted w s local (sum_of variable step))
+    (counter_safe (inside_of c facts g w.routine) local 0 e (omega arith))
+    (λ variable _. safe_then (place_of c facts g w) Anything (IsFlow (around_of w g.lists)) (counter w.routine local 2) (λ step. counted w s local (sum_of variable step))
+     (counter_safe (inside_of c facts g w.routine) local 2 e (omega arith)) (λ step _. counted_safe c facts g w s local (sum_of variable step) e part))
+
+turned_safe : (c : Setting) (facts : Facts c) (g : Ghost) (w : Where) (s t : TypedStmt) → IsPart c g (Turn w s) → IsFor t → IsStmt c (around_of w g.lists) t → Flows c facts g w (turned w s t)
+turned_safe c facts g w s (trees.For at local first last step list) part loops is =
+    safe_then (place_of c facts g w) (IsFlow (around_of w g.lists)) (IsFlow (around_of w g.lists)) (inner w list) (and_then (counts_on w s local)) (inner_safe c facts g w list part.0 is.4)
+    (λ flow ends. then_safe c facts g w (counts_on w s local) flow (counts_safe c facts g w s local is.0 part) ends)
+turned_safe c facts g w s t part loops is = absurd loops
+
+pub turn_safe : (c : Setting) (facts : Facts c) (g : Ghost) (w : Where) (s : TypedStmt) → IsPart c g (Turn w s) → Flows c facts g w (turn w s)
+turn_safe c facts g w s part = look_safe c facts g (Turn w s) w (byte_of s) (turned w s s) part (turned_safe c facts g w s s part part.1 part.2)
+
+-- what follows the Look of a statement, by its form
+follows_safe : (c : Setting) (facts : Facts c) (g : Ghost) (w : Where) (s t : TypedStmt) → IsPart c g (Attempt w s) → IsStmt c (around_of w g.lists) t → (IsFor t → IsFor s) → Flows c facts g w (follows c.tree w s t)
+follows_safe c facts g w s (trees.Assign at p e) part is loops =
+    header_safe c facts g w s Anything (assign c.tree w.routine p e) goes_on part (assign_safe (inside_of c facts g w.routine) p e is.0 is.2 is.3) (λ _ _. goes_normal c facts g w)
+follows_safe c facts g w s (trees.Instruct at instruction args) part is loops =
+    header_safe c facts g w s Anything (instructed c.tree w.routine instruction (needed args) (options args)) (done_or_held w s) part
+    (instructed_safe (inside_of c facts g w.routine) instruction (needed args) (options args) is.arm is.are_needed is.are_options is.chosen) (λ b _. held_safe b)
+  where
+    held_safe : (b : Bool) → Flows c facts g w (done_or_held w s b)
+    held_safe true = goes_normal c facts g w
+    held_safe false = hold_safe c facts g (Attempt w s) part
+follows_safe c facts g w s (trees.Call at called args) part is loops =
+    header_safe c facts g w s Anything (call c.tree w.routine called args) goes_on part (call_stmt (inside_of c facts g w.routine) called is.0 args is.1 is.3) (λ _ _. goes_normal c facts g w)
+follows_safe c facts g w s (trees.Label at label) part is loops = goes_normal c facts g w
+follows_safe c facts g w s (trees.Goto at label) part is loops = safe_gives (place_of c facts g w) (IsFlow (around_of w g.lists)) (Jumps label) is
+follows_safe c facts g w s (trees.Return at None) part is loops = safe_gives (place_of c facts g w) (IsFlow (around_of w g.lists)) (Returns None) is
+follows_safe c facts g w s (trees.Return at (Some e)) part is loops =
+    header_safe c facts g w s (HasSort is.0) (expr c.tree w.routine e) (λ v. Gives (Returns (Some v))) part (expr_safe (inside_of c facts g w.routine) e is.0 is.3)
+    (λ v h. safe_gives (place_of c facts g w) (IsFlow (around_of w g.lists)) (Returns (Some v)) (is.0, is.1, is.2, h))
+follows_safe c facts g w s (trees.Exit at) part is loops = safe_ends (place_of c facts g w) (IsFlow (around_of w g.lists)) fates.Exit refl
+follows_safe c facts g w s (trees.Raise at None) part is loops = again_safe c facts g w w.errors is
+follows_safe c facts g w s (trees.Raise at (Some e)) part is loops =
+    header_safe c facts g w s Anything (expr c.tree w.routine e >>= raised) goes_on part
+    (safe_then (place_of c facts g w) (HasSort sorts.Num) Anything (expr c.tree w.routine e) raised (expr_safe (inside_of c facts g w.routine) e sorts.Num is) (λ v h. raised_safe (place_of c facts g w) v h))
+    (λ _ _. goes_normal c facts g w)
+follows_safe c facts g w s (trees.Retry at) part is loops = safe_gives (place_of c facts g w) (IsFlow (around_of w g.lists)) Retries is
+follows_safe c facts g w s (trees.TryNext at) part is loops = safe_gives (place_of c facts g w) (IsFlow (around_of w g.lists)) Skips is
+follows_safe c facts g w s (trees.Connect at p trap) part is loops =
+    header_safe c facts g w s Anything (connects c.tree w.routine p trap) goes_on part (connects_safe (inside_of c facts g w.routine) p trap is.0) (λ _ _. goes_normal c facts g w)
+follows_safe c facts g w s (trees.If at arms other) part is loops =
+    header_safe c facts g w s (IsElse c (around_of w g.lists)) (chosen c.tree w.routine arms other) (inner_or_not w) part
+    (chosen_safe (inside_of c facts g w.routine) (around_of w g.lists) arms other refl is.0 is.1) (λ list typed. other_safe c facts g w list part.0 typed)
+follows_safe c facts g w s (trees.IfOne at e one) part is loops =
+    header_safe c facts g w s Anything (truth c.tree w.routine e) (λ b. if b then goes_to (Attempt w one) else Gives Normal) part (truth_expr (inside_of c facts g w.routine) e is.0)
+    (λ b _. when_safe (place_of c facts g w) (IsFlow (around_of w g.lists)) b (goes_to (Attempt w one)) (Gives Normal) (λ _. safe_goes c facts g (Attempt w one) (part.0, is.1)) (λ _. goes_normal c facts g w))
+follows_safe c facts g w s (trees.For at local first last step list) part is loops =
+    header_safe c facts g w s Anything (bounds c.tree w.routine local first last step) (λ _. turn_due w s local) part
+    (bounds_safe (inside_of c facts g w.routine) local first last step is.0 is.1 is.2 is.3) (λ _ _. due_safe c facts g w s local is.0 (part.0, loops tt, part.1))
+follows_safe c facts g w s (trees.While at e list) part is loops =
+    header_safe c facts g w s Anything (truth c.tree w.routine e) (λ b. if b then again_behind w s list else Gives Normal) part (truth_expr (inside_of c facts g w.routine) e is.0)
+    (λ b _. when_safe (place_of c facts g w) (IsFlow (around_of w g.lists)) b (again_behind w s list) (Gives Normal)
+     (λ _. safe_then (place_of c facts g w) (IsFlow (around_of w g.lists)) (IsFlow (around_of w g.lists)) (inner w list) (and_then (goes_to (Attempt w s))) (inner_safe c facts g w list part.0 is.1)
+      (λ flow ends. then_safe c facts g w (goes_to (Attempt w s)) flow (safe_goes c facts g (Attempt w s) part) ends))
+     (λ _. goes_normal c facts g w))
+follows_safe c facts g w s (trees.Test at e cases other) part is loops =
+    header_safe c facts g w s (IsElse c (around_of w g.lists)) (expr c.tree w.routine e >>= λ v. selected c.tree w.routine v cases other) (inner_or_not w) part
+    (safe_then (place_of c facts g w) (HasSort is.0) (IsElse c (around_of w g.lists)) (expr c.tree w.routine e) (λ v. selected c.tree w.routine v cases other) (expr_safe (inside_of c facts g w.routine) e is.0 is.2)
+     (λ v h. selected_safe (inside_of c facts g w.routine) (around_of w g.lists) is.0 v cases other refl is.1 h is.3 is.4))
+    (λ list typed. other_safe c facts g w list part.0 typed)
+
+-- a statement, from its Look on
+attempt_safe : (c : Setting) (facts : Facts c) (g : Ghost) (w : Where) (s : TypedStmt) → IsPart c g (Attempt w s) → Flows c facts g w (look w (byte_of s) (Attempt w s) (follows c.tree w s s))
+attempt_safe c facts g w s part = look_safe c facts g (Attempt w s) w (byte_of s) (follows c.tree w s s) part (follows_safe c facts g w s s part part.1 (λ is. is))
+
+pub stmt_safe : (c : Setting) (facts : Facts c) (g : Ghost) (w : Where) (s : TypedStmt) → IsPart c g (Attempt w s) → Flows c facts g w (stmt c.tree w s)
+stmt_safe c facts g w (trees.Label at label) part = goes_normal c facts g w
+stmt_safe c facts g w s part = attempt_safe c facts g w s part
+
+-- a list
+items_safe : (c : Setting) (facts : Facts c) (g : Ghost) (w : Where) (list : TypedStmts) → AreErrors c w.routine w.errors → AreStmts c (around_of w g.lists) list → Flows c facts g w (items c.tree w list)
+items_safe c facts g w NoStmts errors are = goes_normal c facts g w
+items_safe c facts g w (MoreStmts s more) errors are =
+    safe_then (place_of c facts g w) (IsFlow (around_of w g.lists)) (IsFlow (around_of w g.lists)) (stmt c.tree w s) (λ flow. and_then (items c.tree w more) flow) (stmt_safe c facts g w s (errors, are.0))
+    (λ flow ends. then_safe c facts g w (items c.tree w more) flow (items_safe c facts g w more errors are.1) ends)
+
+-- the statements behind a label
+behind_here : (c : Setting) (around : Around) (b : Bool) (more list : TypedStmts) (o : Option TypedStmts) → AreStmts c around more → (o ≡ Some list → AreStmts c around list)
+    → (if b then Some more else o) ≡ Some list → AreStmts c around list
+behind_here c around true more list o are deeper e = let same : more ≡ list = cc in subst (λ (x : TypedStmts). AreStmts c around x) same are
+behind_here c around false more list o are deeper e = deeper e
+
+behind_typed : (c : Setting) (around : Around) (label : ℕ) (list more : TypedStmts) → AreStmts c around list → behind label list ≡ Some more → AreStmts c around more
+behind_typed c around label NoStmts more are e = absurd cc
+behind_typed c around label (MoreStmts (trees.Label at number) rest) more are e =
+    behind_here c around (number == label) rest more (behind label rest) are.1 (λ there. behind_typed c around label rest more are.1 there) e
+behind_typed c around label (MoreStmts s rest) more are e = behind_typed c around label rest more are.1 e
+
+-- the ghost within a list
+abbrev within_list : Ghost → TypedStmts → Ghost
+within_list g list = record { trapped = g.trapped; frames = g.frames; lists = list ∷ g.lists }
+
+jumped_safe : (c : Setting) (facts : Facts c) (g : Ghost) (w : Where) (list : TypedStmts) (label : ℕ) (o : Option TypedStmts) → AreErrors c w.routine w.errors
+    → AreStmts c (into (around_of w g.lists) list) list → ((more : TypedStmts) → o ≡ Some more → AreStmts c (into (around_of w g.lists) list) more)
+    → IsTrue (is_some o) ⊎ Sees label g.lists → Flows c facts g w (jumped w list label o)
+jumped_safe c facts g w list label None errors are deeper sees =
+    safe_gives (place_of c facts g w) (IsFlow (around_of w g.lists)) (Jumps label) (⊎_elim (λ here. absurd cc) (λ further. further) sees)
+jumped_safe c facts g w list label (Some more) errors are deeper sees = safe_goes c facts g (Rest w list more) (errors, are, deeper more refl)
+
+ended_safe : (c : Setting) (facts : Facts c) (g : Ghost) (w : Where) (list : TypedStmts) (flow : Flow) → AreErrors c w.routine w.errors → AreStmts c (into (around_of w g.lists) list) list
+    → IsFlow (into (around_of w g.lists) list) flow → Flows c facts g w (ended w list flow)
+ended_safe c facts g w list (Jumps label) errors are is =
+    jumped_safe c facts g w list label (behind label list) errors are (λ more e. behind_typed c (into (around_of w g.lists) list) label list more are e) is
+ended_safe c facts g w list Normal errors are is = goes_normal c facts g w
+ended_safe c facts g w list (Returns None) errors are is = safe_gives (place_of c facts g w) (IsFlow (around_of w g.lists)) (Returns None) is
+ended_safe c facts g w list (Returns (Some v)) errors are is = safe_gives (place_of c facts g w) (IsFlow (around_of w g.lists)) (Returns (Some v)) is
+ended_safe c facts g w list Retries errors are is = safe_gives (place_of c facts g w) (IsFlow (around_of w g.lists)) Retries is
+ended_safe c facts g w list Skips errors are is = safe_gives (place_of c facts g w) (IsFlow (around_of w g.lists)) Skips is
+
+pub rest_safe : (c : Setting) (facts : Facts c) (g : Ghost) (w : Where) (list more : TypedStmts) → IsPart c g (Rest w list more) → Flows c facts g w (rest c.tree w list more)
+rest_safe c facts g w list more part =
+    safe_then (place_of c facts g w) (IsFlow (into (around_of w g.lists) list)) (IsFlow (around_of w g.lists)) (items c.tree w more) (ended w list)
+    (items_safe c facts (within_list g list) w more part.0 part.2) (λ flow ends. ended_safe c facts g w list flow part.0 part.1 ends)
