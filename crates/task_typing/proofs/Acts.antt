@@ -1,5 +1,5 @@
 -- What instructions do of places, numbers, signals, zones and moves.
-use Rattle.std.proofs.Common.{◌≡◌, refl, sym, ap, ◌∙◌, subst, ℕ, zero, suc, ◌+◌, ◌-◌, ◌<◌, ◌≤◌, Bool, true, false, not, ℤ, pos, int_lt, List, [], ◌∷◌, length, Option, Some, None, Result, Ok, Err, slice_get, position, bytes_eq, if◌then◌else◌, IsTrue, arith}
+use Rattle.std.proofs.Common.{◌≡◌, refl, sym, ap, subst, ℕ, zero, suc, ◌+◌, ◌-◌, ◌<◌, ◌≤◌, Bool, true, false, not, ℤ, pos, int_lt, List, ◌∷◌, length, Option, Some, None, Result, Ok, Err, slice_get, position, bytes_eq, if◌then◌else◌, IsTrue, arith}
 use Rattle.std.specs.Prelude.{⊤}
 use Rattle.std.specs.Option.{option_map}
 use Rattle.std.specs.Ordering.{int_eq}
@@ -8,14 +8,10 @@ use Rattle.rapid_num.specs.declared.joints.Joints.{Joints}
 use Rattle.rapid_num.specs.declared.shape.Shape.{Shape}
 use Rattle.joint_planner.specs.Setpoints.{setpoint, setpoint_count}
 use Rattle.joint_planner.proofs.Setpoints.{setpoint_position}
-use Rattle.rapid_model.specs.Paths.{has_sort}
-use Rattle.rapid_model.specs.declared.answer.Answer.{Answer}
 use Rattle.rapid_model.specs.declared.answer.Answer.TheVariants as answers
 use Rattle.rapid_model.specs.declared.fate.Fault.{Fault}
 use Rattle.rapid_model.specs.declared.fate.Fault.TheVariants as faults
-use Rattle.rapid_model.specs.declared.part_name.PartName.{PartName}
 use Rattle.rapid_model.specs.declared.part_name.PartName.TheVariants as parts
-use Rattle.rapid_model.specs.declared.request.Request.{Request}
 use Rattle.rapid_model.specs.declared.request.Request.TheVariants as requests
 use Rattle.rapid_model.specs.declared.sort.Sort.{Sort}
 use Rattle.rapid_model.specs.declared.sort.Sort.TheVariants as sorts
@@ -30,31 +26,31 @@ use Rattle.typed_trees.specs.declared.datum.Lvalue.{Lvalue}
 use Rattle.typed_trees.specs.declared.datum.Root.{Root}
 use Rattle.typed_trees.specs.declared.datum.Root.TheVariants as roots
 use Rattle.typed_trees.specs.declared.expr.TreeRoot.TheVariants as tree_roots
-use Rattle.rapid_meaning.specs.Doings.{Act, Asks, Doing, Gives, ◌>>=◌, ◌>>◌, done, fault, or_misfit, tells, when_ok}
+use Rattle.rapid_meaning.specs.Doings.{Act, Asks, Doing, Gives, ◌>>=◌, ◌>>◌, done, fault, tells, when_ok}
 use Rattle.rapid_meaning.specs.Expressions.{expr, lent_length, place}
 use Rattle.rapid_meaning.specs.Functions.{read_signal}
 use Rattle.rapid_meaning.specs.Instructions.{bit, num, ready, target, text, truth}
 use Rattle.rapid_meaning.specs.Interrupts.{asks_of_number, connect, number_at, order, pers_at, when_connected, when_known, when_ordered}
 use Rattle.rapid_meaning.specs.Meetings.{arrive, task_or_fault, tasks_in, when_arrived, with_task, with_tasks}
 use Rattle.rapid_meaning.specs.Moves.{cap_of, move, move_from, setpoints, still, when_given}
-use Rattle.rapid_meaning.specs.Places.{at_root, element_of, load, part_at, part_within, read_value, rooted, store}
+use Rattle.rapid_meaning.specs.Places.{at_root, element_of, load, part_at, part_within, read_value, rooted}
 use Rattle.rapid_meaning.specs.Shapes.{made_shape}
 use Rattle.rapid_meaning.specs.Signals.{has_value, when_written, write_signal}
 use Rattle.rapid_meaning.specs.Values.{bit_in, mark_in, num_in, shape_in, target_in, text_in, tool_speed_in, truth_in}
 use Rattle.rapid_meaning.specs.Zones.{arm_axes, asks_of_zone, define, define_home, defined, home_high, home_low, on_axes, position_or_fault, shape_at, shaped, supervise, when_numbered, when_zoned}
 use Rattle.rapid_operators.specs.Equality.{same_truth}
-use Rattle.task_typing.specs.Asked.{CanWatch, IsAsked}
-use Rattle.task_typing.specs.Expressions.{IsArray, IsExpr, IsPersName, IsPlace}
+use Rattle.task_typing.specs.Asked.{CanWatch}
+use Rattle.task_typing.specs.Expressions.{IsArray, IsExpr, IsPersName}
 use Rattle.task_typing.specs.Kinds.{kinds_of}
 use Rattle.task_typing.specs.States.{IsPers}
 use Rattle.task_typing.specs.WellTyped.{is_datum_of, is_marked}
 use Rattle.task_typing.proofs.Data.{shape_form}
-use Rattle.task_typing.proofs.Expressions.{HasSort, array_len, expr_safe, place_safe, signal_safe, text_safe}
+use Rattle.task_typing.proofs.Expressions.{HasSort, expr_safe, signal_safe, text_safe}
 use Rattle.task_typing.proofs.Forms.{num_form, speed_form, target_form, tasks_form}
 use Rattle.task_typing.proofs.Loads.{load_safe, mark_safe, read_safe, store_safe, truth_safe}
 use Rattle.task_typing.proofs.Parts.{within_whole}
 use Rattle.task_typing.proofs.Places.{Inside, IsRooted, IsThere, num_safe, root_len, rooted_safe, scene}
-use Rattle.task_typing.proofs.Safe.{Answered, Anything, IsQuiet, Safe, safe_any, safe_asks, safe_done, safe_fault, safe_gives, safe_or, safe_raises, safe_reads, safe_then}
+use Rattle.task_typing.proofs.Safe.{Answered, Anything, Safe, safe_any, safe_asks, safe_done, safe_fault, safe_gives, safe_or, safe_raises, safe_reads, safe_then}
 use Rattle.task_typing.proofs.Scene.{Scene}
 
 pub when_safe : {A : Type 0} (s : Scene) (P : A → Type 0) (b : Bool) (m n : Doing A) → (b ≡ true → Safe s P m) → (b ≡ false → Safe s P n) → Safe s P (if b then m else n)
@@ -185,9 +181,9 @@ name_safe i (PlaceOf (tree_roots.Pers row) NotHeld parts.Whole own) is =
     let number : (n : ℕ) × (slice_get i.c.tree.pers_of row ≡ Some n) = i.facts.numbers row is.0 is.1 in
     safe_then (scene i) (λ q. q ≡ at_root (roots.Pers number.0 0)) (IsPersAt (scene i)) (rooted i.c.tree i.routine (tree_roots.Pers row)) (part_at parts.Whole)
     (safe_or (scene i) (λ q. q ≡ at_root (roots.Pers number.0 0)) (option_map (λ pers. at_root (roots.Pers pers 0)) (slice_get i.c.tree.pers_of row)) (at_root (roots.Pers number.0 0))
-     (ap (option_map (λ pers. at_root (roots.Pers pers 0))) number.1) refl)
+    (ap (option_map (λ pers. at_root (roots.Pers pers 0))) number.1) refl)
     (λ q same. subst (λ (x : Lvalue). Safe (scene i) (IsPersAt (scene i)) (part_at parts.Whole x)) (sym same)
-     (safe_gives (scene i) (IsPersAt (scene i)) (at_root (roots.Pers number.0 0)) (number.0, 0, refl, is.0, record { row = row; numbered = number.1; there = is.1 })))
+    (safe_gives (scene i) (IsPersAt (scene i)) (at_root (roots.Pers number.0 0)) (number.0, 0, refl, is.0, record { row = row; numbered = number.1; there = is.1 })))
 name_safe i (PlaceOf root held part own) is = absurd is
 
 pub pers_safe : (s : Scene) (q : Lvalue) → IsPersAt s q → Safe s (λ number. (p : TypedPers) × IsPers s.c.tree number p) (pers_at q.root)
@@ -201,9 +197,9 @@ array_place i (PlaceOf root NotHeld parts.Whole own) sort are = (
   are.1,
   root_len i root sort (Some are.1) are.2,
   safe_then (scene i) (λ q. IsRooted (scene i) q sort (Some are.1)) (λ q. IsRooted (scene i) q sort (Some are.1)) (rooted i.c.tree i.routine root) (part_at parts.Whole)
-  (rooted_safe i root sort (Some are.1) are.2)
-  (λ q is. safe_or (scene i) (λ r. IsRooted (scene i) r sort (Some are.1)) (option_map (λ x. record q { part = x }) (part_within q.part parts.Whole)) q
-   (ap (option_map (λ x. record q { part = x })) (within_whole q.part)) is),
+      (rooted_safe i root sort (Some are.1) are.2)
+      (λ q is. safe_or (scene i) (λ r. IsRooted (scene i) r sort (Some are.1)) (option_map (λ x. record q { part = x }) (part_within q.part parts.Whole)) q
+      (ap (option_map (λ x. record q { part = x })) (within_whole q.part)) is),
 )
 array_place i (PlaceOf root NotHeld part own) sort are = absurd are
 array_place i (PlaceOf root (Held e) part own) sort are = absurd are
@@ -224,8 +220,8 @@ listed_safe s names q len is (suc left) number set low high =
     (λ v. text_in v >>= λ name. task_or_fault (position (bytes_eq name) names) >>= λ task. with_tasks names q left (number + 1) (with_task task set))
     (read_safe s (element_of q number) sorts.Tasks refl (is number low (omega (arith, high))))
     (λ v h. safe_then s Anything Anything (text_in v) (λ name. task_or_fault (position (bytes_eq name) names) >>= λ task. with_tasks names q left (number + 1) (with_task task set)) (name_text s v h)
-     (λ name _. safe_then s Anything Anything (task_or_fault (position (bytes_eq name) names)) (λ task. with_tasks names q left (number + 1) (with_task task set)) (task_safe s (position (bytes_eq name) names))
-      (λ task _. listed_safe s names q len is left (number + 1) (with_task task set) (omega (arith, low)) (omega (arith, high)))))
+    (λ name _. safe_then s Anything Anything (task_or_fault (position (bytes_eq name) names)) (λ task. with_tasks names q left (number + 1) (with_task task set)) (task_safe s (position (bytes_eq name) names))
+    (λ task _. listed_safe s names q len is left (number + 1) (with_task task set) (omega (arith, low)) (omega (arith, high)))))
 
 pub tasks_safe : (s : Scene) (names : List (List ℕ)) (q : Lvalue) (o : Option ℕ) (len : ℕ) → o ≡ Some len → IsRooted s q sorts.Tasks (Some len) → Safe s Anything (tasks_in names q o)
 tasks_safe s names q o len e is = subst (λ (x : Option ℕ). Safe s Anything (tasks_in names q x)) (sym e) (listed_safe s names q len is len 1 0 (omega arith) (omega arith))
@@ -255,7 +251,7 @@ home_safe s q inside middle delta is =
     safe_then s Anything Anything (position_or_fault (on_axes home_low middle.axis delta.axis)) (λ low. position_or_fault (on_axes home_high middle.axis delta.axis) >>= λ high. define q inside low high)
     (position_safe s (on_axes home_low middle.axis delta.axis))
     (λ low _. safe_then s Anything Anything (position_or_fault (on_axes home_high middle.axis delta.axis)) (λ high. define q inside low high) (position_safe s (on_axes home_high middle.axis delta.axis))
-     (λ high _. define_safe s q inside low high is))
+    (λ high _. define_safe s q inside low high is))
 
 defined_safe : (s : Scene) (o : Option Shape) → Safe s Anything (defined o)
 defined_safe s None = safe_fault {A = Shape} s Anything faults.ZoneShape
@@ -340,5 +336,5 @@ move_safe s target speed arm =
     when_safe s Anything (not (is_reachable target)) (fault faults.JointRange) (if not (int_lt (pos 0) speed) then fault faults.Speed else Asks requests.Position (move_from target (cap_of speed)))
     (λ _. safe_fault {A = ⊤} s Anything faults.JointRange)
     (λ there. when_safe s Anything (not (int_lt (pos 0) speed)) (fault faults.Speed) (Asks requests.Position (move_from target (cap_of speed))) (λ _. safe_fault {A = ⊤} s Anything faults.Speed)
-     (λ _. safe_asks s Anything requests.Position (move_from target (cap_of speed)) (record { no_rise = refl; no_hold = refl; no_leave = refl }) (λ d. arm)
-      (moved_answered s target (cap_of speed) arm (reached (is_reachable target) there))))
+    (λ _. safe_asks s Anything requests.Position (move_from target (cap_of speed)) (record { no_rise = refl; no_hold = refl; no_leave = refl }) (λ d. arm)
+    (moved_answered s target (cap_of speed) arm (reached (is_reachable target) there))))

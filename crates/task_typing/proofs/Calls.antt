@@ -1,18 +1,16 @@
 -- Calls of routines, and that each part of a program keeps what is said of it.
-use Rattle.std.proofs.Common.{◌≡◌, refl, sym, ap, ◌∙◌, subst, ℕ, Bool, true, false, List, [], ◌∷◌, ◌++◌, map, flat_map, Option, Some, None, slice_get, if◌then◌else◌, IsTrue}
-use Rattle.std.specs.Prelude.{⊤}
-use Rattle.rapid_model.specs.declared.fate.Fault.TheVariants.{DepthLimit, NoReturn}
-use Rattle.rapid_model.specs.declared.sort.Sort.{Sort}
+use Rattle.std.proofs.Common.{◌≡◌, refl, sym, ◌∙◌, subst, ℕ, Bool, true, false, List, [], ◌∷◌, map, flat_map, Option, Some, None, slice_get, if◌then◌else◌}
+use Rattle.rapid_model.specs.declared.fate.Fault.TheVariants.{DepthLimit}
 use Rattle.raw_trees.specs.declared.raw_routine.RoutineKind.{RoutineKind}
 use Rattle.raw_trees.specs.declared.raw_routine.RoutineKind.TheVariants as kinds
 use Rattle.typed_trees.specs.Plain.{TypedRoutine, TypedStmts}
 use Rattle.typed_trees.specs.declared.datum.Datum.{Datum}
 use Rattle.rapid_meaning.specs.Calls.{body, called, errors_of, part, result, within}
-use Rattle.rapid_meaning.specs.Data.{Data, Frame, below_first}
+use Rattle.rapid_meaning.specs.Data.{Data}
 use Rattle.rapid_meaning.specs.Doings.{Doing, Gives, Raises, Writes, ◌>>◌, after, done, fault}
 use Rattle.rapid_meaning.specs.Flows.{Flow, Normal, Jumps, Returns, Retries, Skips, Part, Attempt, Turn, Rest, Call}
-use Rattle.rapid_meaning.specs.Frames.{enters, frame_of, has_room, leaves}
-use Rattle.task_typing.specs.Kinds.{Cell, Kind, cells_of, kind_of, kinds_of, local_cells}
+use Rattle.rapid_meaning.specs.Frames.{frame_of, has_room, leaves}
+use Rattle.task_typing.specs.Kinds.{Cell, cells_of, kind_of, kinds_of, local_cells}
 use Rattle.task_typing.specs.Setting.{Setting}
 use Rattle.task_typing.specs.States.{AreInCells, IsState}
 use Rattle.task_typing.specs.Statements.{Around, AreStmts, into}
@@ -23,7 +21,7 @@ use Rattle.task_typing.proofs.Rows.{all_at}
 use Rattle.task_typing.proofs.Runs.{Keeps}
 use Rattle.task_typing.proofs.Safe.{Safe, scene_of}
 use Rattle.task_typing.proofs.Scene.{AreErrors, Facts, Ghost, IsEnd, IsFlow, IsPart, IsResult, IsResultBy, around_of, frames_in, is_in_part, rules_of}
-use Rattle.task_typing.proofs.Statements.{Flows, rest_safe, stmt_safe, turn_safe}
+use Rattle.task_typing.proofs.Statements.{rest_safe, stmt_safe, turn_safe}
 use Rattle.task_typing.proofs.Told.{Told, calm}
 
 -- ends as a call does
@@ -88,12 +86,12 @@ body_goes : (c : Setting) (facts : Facts c) (g : Ghost) (name : ℕ) (args : Lis
 body_goes c facts g name args routine e typed ends is =
     let inner : Ghost = record { trapped = g.trapped; frames = g.frames; lists = [] } in
     let list : AreStmts c (into (around_of (within routine) []) routine.list) routine.list =
-        subst (λ (b : Bool). AreStmts c (into (outside routine routine.kind b) routine.list) routine.list) (sym (no_part routine.handler)) typed.list in
+    subst (λ (b : Bool). AreStmts c (into (outside routine routine.kind b) routine.list) routine.list) (sym (no_part routine.handler)) typed.list in
     meets_after (rules_of c) (λ flow x. IsFlow (around_of (within routine) []) flow × IsState c.tree g.trapped (local_cells routine ∷ g.frames) x) (λ n x. IsState c.tree g.trapped (local_cells routine ∷ g.frames) x)
     (λ flow x. IsEnd c g (Call name args) flow × IsState c.tree g.trapped g.frames x) (λ n x. IsState c.tree g.trapped g.frames x)
     (body c.tree routine) (result routine.kind) (λ error. leaves >> Raises error) (calm e) e
     (λ flow x ended. result_goes c g name args routine routine.kind flow x ends
-     (subst (λ (b : Bool). IsFlow (outside routine routine.kind b) flow) (no_part routine.handler) ended.0) ended.1)
+    (subst (λ (b : Bool). IsFlow (outside routine routine.kind b) flow) (no_part routine.handler) ended.0) ended.1)
     (λ n x fails. left_by c g name args (local_cells routine) n x fails)
     (rest_safe c facts inner (within routine) routine.list routine.list (routine_errors c routine routine.handler typed.handler, list, list) e is)
 
@@ -112,7 +110,7 @@ called_safe c facts g name args routine there are d is =
     let e : Data = record d { frames = frame_of routine args ∷ d.frames } in
     entered_goes c g name args (after (body c.tree routine) (result routine.kind) (λ error. leaves >> Raises error)) (has_room d.frames (frame_of routine args)) d e is
     (body_goes c facts g name args routine e typed (λ x by. subst (λ (o : Option TypedRoutine). IsResult o x) (sym there) by)
-     (record { slots = is.slots; frames_are = (frame_in c.tree g.frames routine args typed.locals are, is.frames_are); in_trap = is.in_trap }))
+    (record { slots = is.slots; frames_are = (frame_in c.tree g.frames routine args typed.locals are, is.frames_are); in_trap = is.in_trap }))
 
 call_keeps : (c : Setting) (facts : Facts c) (g : Ghost) (name : ℕ) (args : List Datum) → IsPart c g (Call name args)
     → Safe (scene_of c facts g (Call name args)) (IsEnd c g (Call name args)) (part c.tree (Call name args))

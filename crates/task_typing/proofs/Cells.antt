@@ -1,12 +1,12 @@
 -- Data in their places: reading and writing them.
-use Rattle.std.proofs.Common.{◌≡◌, refl, sym, ap, ◌∙◌, subst, ℕ, zero, suc, ◌==◌, Bool, true, false, List, [], ◌∷◌, length, Option, Some, None, slice_get, slice_set, if◌then◌else◌, IsTrue, arith, ◌<◌}
+use Rattle.std.proofs.Common.{◌≡◌, refl, ap, ◌∙◌, subst, ℕ, zero, suc, ◌==◌, Bool, true, false, List, [], ◌∷◌, length, Option, Some, None, slice_get, slice_set, if◌then◌else◌, IsTrue, arith, ◌<◌}
 use Rattle.std.proofs.lemmas.Bool.{eqb-true, eq-eqb, ne_eqb}
 use Rattle.std.specs.Option.{option_and_then}
 use Rattle.rapid_model.specs.declared.sort.Sort.{Sort}
 use Rattle.typed_trees.specs.Plain.{TypedTree}
 use Rattle.typed_trees.specs.declared.datum.Datum.{Datum}
 use Rattle.rapid_meaning.specs.Data.{Frame, frame_at, with_datum, with_frame}
-use Rattle.task_typing.specs.Kinds.{Cell, Holds, Lends}
+use Rattle.task_typing.specs.Kinds.{Cell, Holds}
 use Rattle.task_typing.specs.States.{IsInCell, AreInCells, AreFrames, cells_at}
 use Rattle.task_typing.specs.WellTyped.{is_datum_of}
 

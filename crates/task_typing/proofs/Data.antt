@@ -1,7 +1,6 @@
 -- Data of types: parts of them, and the data of a task read and written at a place.
-use Rattle.std.proofs.Common.{◌≡◌, ◌⊎◌, inl, inr, ⊎_elim, refl, sym, ap, ◌∙◌, subst, ℕ, Bool, true, false, ◌&&◌, nat_le, nat_lt, List, [], ◌∷◌, Option, Some, None, slice_get, slice_set, IsTrue}
+use Rattle.std.proofs.Common.{◌≡◌, ◌⊎◌, inl, inr, ⊎_elim, refl, sym, ap, ◌∙◌, subst, ℕ, Bool, true, false, ◌&&◌, nat_le, nat_lt, List, [], Option, Some, slice_get, IsTrue}
 use Rattle.std.specs.Option.{option_and_then, option_map}
-use Rattle.std.proofs.lemmas.Bool.{and_parts}
 use Rattle.rapid_num.specs.declared.shape.Shape.{Shape}
 use Rattle.rapid_model.specs.Paths.{has_sort, num_where, part_sort}
 use Rattle.rapid_model.specs.Sorts.{has_values}
@@ -14,7 +13,6 @@ use Rattle.rapid_values.specs.Values.{part_of, put_part}
 use Rattle.typed_trees.specs.Plain.{TypedTree}
 use Rattle.typed_trees.specs.declared.datum.Datum.{Datum}
 use Rattle.typed_trees.specs.declared.datum.Datum.TheVariants as datums
-use Rattle.typed_trees.specs.declared.datum.Root.{Root}
 use Rattle.typed_trees.specs.declared.datum.Root.TheVariants as roots
 use Rattle.rapid_meaning.specs.Data.{Data, Frame, datum_at, frame_at, put_at, put_in_frame, with_datum, with_frame}
 use Rattle.rapid_meaning.specs.Places.{part_in, put_in}
@@ -142,7 +140,7 @@ pub datum_put : (whole : Sort) (part : PartName) (sort : Sort) (x new : Datum) �
 datum_put whole part sort x new is e also =
     ⊎_elim
     (λ w. let own : IsTrue (is_datum_of whole new) = subst (λ (y : Sort). IsTrue (is_datum_of y new)) (sym w.1) also in
-     (new, subst (λ (p : PartName). put_in p new x ≡ Some new) (sym w.0) (whole_put whole x new is own), own))
+    (new, subst (λ (p : PartName). put_in p new x ≡ Some new) (sym w.0) (whole_put whole x new is own), own))
     (λ v. valued_put whole part sort x new v.0 v.1 is e also) (whole_or_valued whole part sort e)
 
 -- what the data hold at a place of their own

@@ -1,10 +1,8 @@
 -- Expressions, places and arguments.
-use Rattle.std.proofs.Common.{◌≡◌, refl, sym, ap, ◌∙◌, subst, ℕ, zero, suc, ◌+◌, ◌*◌, ◌-◌, ◌<◌, ◌≤◌, Bool, true, false, not, ◌||◌, ◌++◌, ℤ, pos, neg_ℤ, nat_abs, ◌*ℤ◌, List, [], ◌∷◌, length, map, flat_map, Option, Some, None, slice_get, if◌then◌else◌, IsTrue, arith}
+use Rattle.std.proofs.Common.{◌≡◌, refl, sym, subst, ℕ, ◌*◌, ◌<◌, Bool, true, false, not, ◌||◌, ◌++◌, ℤ, pos, neg_ℤ, nat_abs, ◌*ℤ◌, List, [], ◌∷◌, length, map, flat_map, Option, Some, None, slice_get, if◌then◌else◌, IsTrue}
 use Rattle.std.specs.Prelude.{⊤}
 use Rattle.rapid_num.specs.Arithmetic.{whole_part}
-use Rattle.rapid_num.specs.declared.joints.Joints.{Joints}
-use Rattle.rapid_model.specs.Lengths.{is_full}
-use Rattle.rapid_model.specs.Paths.{has_sort, part_sort}
+use Rattle.rapid_model.specs.Paths.{has_sort}
 use Rattle.rapid_model.specs.declared.answer.Answer.TheVariants as answers
 use Rattle.rapid_model.specs.declared.function.Function.{Function}
 use Rattle.rapid_model.specs.declared.function.Function.TheVariants as functions
@@ -34,15 +32,15 @@ use Rattle.rapid_meaning.specs.Layouts.{length_at}
 use Rattle.rapid_meaning.specs.Places.{indexed, part_at, read_value, rooted, test_and_set}
 use Rattle.rapid_meaning.specs.Values.{between, num_in, of_bit, opposite, text_in, whole, with_sign}
 use Rattle.rapid_builtins.specs.declared.need.Need.TheVariants as needs
-use Rattle.task_typing.specs.Expressions.{AreArgs, AreComponents, AreSteps, IsArg, IsArray, IsExpr, IsPlace, IsRoot}
+use Rattle.task_typing.specs.Expressions.{AreArgs, AreComponents, AreSteps, IsArg, IsArray, IsExpr, IsPlace}
 use Rattle.task_typing.specs.Kinds.{Cell, Holds, Lends, cells_of, kind_by, kind_of, kinds_of, local_cells, need_by, need_of}
 use Rattle.task_typing.specs.States.{AreInCells}
 use Rattle.task_typing.proofs.Forms.{bool_form, num_form, text_form}
 use Rattle.task_typing.proofs.Loads.{read_safe, test_safe}
 use Rattle.task_typing.proofs.Operators.{AreMade, between_safe, made}
 use Rattle.task_typing.proofs.Places.{Inside, IsRooted, IsThere, indexed_safe, num_safe, part_safe, root_len, rooted_safe, scene}
-use Rattle.task_typing.proofs.Safe.{Answered, Anything, IsQuiet, Safe, safe_any, safe_asks, safe_gives, safe_goes, safe_or, safe_reads, safe_then}
-use Rattle.task_typing.proofs.Scene.{Ghost, IsEnd, IsPart, IsResult, IsResultBy, Scene}
+use Rattle.task_typing.proofs.Safe.{Answered, Anything, Safe, safe_any, safe_asks, safe_gives, safe_goes, safe_or, safe_reads, safe_then}
+use Rattle.task_typing.proofs.Scene.{IsResult, IsResultBy, Scene}
 
 -- a value of a type
 abbrev pub HasSort : Sort → Value → Type 0
@@ -180,7 +178,7 @@ shown_safe : (s : Scene) (v w : Value) → HasSort sorts.Num v → HasSort sorts
 shown_safe s v w hv hw =
     safe_then s Anything (HasSort sorts.Text) (num_in v) (λ n. num_in w >>= λ count. Gives (values.Text (num_text n (decimals_of count)))) (num_safe s v hv)
     (λ n _. safe_then s Anything (HasSort sorts.Text) (num_in w) (λ count. Gives (values.Text (num_text n (decimals_of count)))) (num_safe s w hw)
-     (λ count _. safe_gives s (HasSort sorts.Text) (values.Text (num_text n (decimals_of count))) refl))
+    (λ count _. safe_gives s (HasSort sorts.Text) (values.Text (num_text n (decimals_of count))) refl))
 
 builtin_safe : (i : Inside) (function : Function) (args : TypedArgs) → IsTrue (not (function_needs_arm function) || i.c.arm) → ArgsSafe i args
     → AreArgs i.c (kinds_of i.routine) args (function_needs function) → Safe (scene i) (HasSort (function_result function)) (builtin i.c.tree i.routine function args)
@@ -195,15 +193,15 @@ builtin_safe i functions.CJointT args arm safe are = no_arg i args arm are
 builtin_safe i functions.TestDI args arm safe are =
     signal_arg i functions.TestDI false sorts.Bool args are
     (λ signal few. safe_then (scene i) Anything (HasSort sorts.Bool) (read_signal signal) (λ bit. Gives (values.Bool bit)) (signal_safe (scene i) signal few)
-     (λ bit _. safe_gives (scene i) (HasSort sorts.Bool) (values.Bool bit) refl))
+    (λ bit _. safe_gives (scene i) (HasSort sorts.Bool) (values.Bool bit) refl))
 builtin_safe i functions.DOutput args arm safe are =
     signal_arg i functions.DOutput true sorts.Num args are
     (λ signal few. safe_then (scene i) Anything (HasSort sorts.Num) (read_signal signal) (λ bit. Gives (of_bit bit)) (signal_safe (scene i) signal few)
-     (λ bit _. safe_gives (scene i) (HasSort sorts.Num) (of_bit bit) (bit_of_sort sorts.Num bit refl)))
+    (λ bit _. safe_gives (scene i) (HasSort sorts.Num) (of_bit bit) (bit_of_sort sorts.Num bit refl)))
 builtin_safe i functions.TestAndSet args arm safe are =
     place_arg i functions.TestAndSet sorts.Bool sorts.Bool args safe are
     (λ q is. safe_then (scene i) Anything (HasSort sorts.Bool) (test_and_set q) (λ met. Gives (values.Bool met)) (test_safe (scene i) q is)
-     (λ met _. safe_gives (scene i) (HasSort sorts.Bool) (values.Bool met) refl))
+    (λ met _. safe_gives (scene i) (HasSort sorts.Bool) (values.Bool met) refl))
 
 -- the arguments of a call are in the cells of its parameters
 abbrev pub AreArgsOf : Scene → List Cell → List Datum → Type 0
@@ -214,7 +212,7 @@ given_step : (i : Inside) (sort : Sort) (arg : TypedArg) (more : TypedArgs) (cel
 given_step i sort (Given e) more cells safe is rest =
     safe_then (scene i) (HasSort sort) (AreArgsOf (scene i) (Holds sort ∷ cells)) (expr i.c.tree i.routine e) (λ v. arguments i.c.tree i.routine more >>= λ xs. Gives (datums.Plain v ∷ xs)) (safe sort is)
     (λ v h. safe_then (scene i) (AreArgsOf (scene i) cells) (AreArgsOf (scene i) (Holds sort ∷ cells)) (arguments i.c.tree i.routine more) (λ xs. Gives (datums.Plain v ∷ xs)) rest
-     (λ xs are. safe_gives (scene i) (AreArgsOf (scene i) (Holds sort ∷ cells)) (datums.Plain v ∷ xs) (h, are)))
+    (λ xs are. safe_gives (scene i) (AreArgsOf (scene i) (Holds sort ∷ cells)) (datums.Plain v ∷ xs) (h, are)))
 given_step i sort arg more cells safe is rest = absurd is
 
 lent_step : (i : Inside) (sort : Sort) (p : TypedPlace) (more : TypedArgs) (cells : List Cell) → ArgSafe i (Lent p) → IsPlace i.c (kinds_of i.routine) p sort
@@ -222,7 +220,7 @@ lent_step : (i : Inside) (sort : Sort) (p : TypedPlace) (more : TypedArgs) (cell
 lent_step i sort p more cells safe is rest =
     safe_then (scene i) (λ q. IsThere (scene i) q sort) (AreArgsOf (scene i) (Lends sort ∷ cells)) (place i.c.tree i.routine p) (λ q. arguments i.c.tree i.routine more >>= λ xs. Gives (datums.Place q ∷ xs)) (safe sort is)
     (λ q there. safe_then (scene i) (AreArgsOf (scene i) cells) (AreArgsOf (scene i) (Lends sort ∷ cells)) (arguments i.c.tree i.routine more) (λ xs. Gives (datums.Place q ∷ xs)) rest
-     (λ xs are. safe_gives (scene i) (AreArgsOf (scene i) (Lends sort ∷ cells)) (datums.Place q ∷ xs) (there, are)))
+    (λ xs are. safe_gives (scene i) (AreArgsOf (scene i) (Lends sort ∷ cells)) (datums.Place q ∷ xs) (there, are)))
 
 arg_step : (i : Inside) (mode : Mode) (sort : Sort) (arg : TypedArg) (more : TypedArgs) (cells : List Cell) → ArgSafe i arg → IsArg i.c (kinds_of i.routine) arg (need_by mode sort)
     → Safe (scene i) (AreArgsOf (scene i) cells) (arguments i.c.tree i.routine more)
@@ -271,7 +269,7 @@ mutual
       safe_then (scene i) (AreArgsOf (scene i) (flat_map cells_of (map kind_of is.1.params))) (HasSort sort) (arguments i.c.tree i.routine args) (λ xs. calls called xs >>= returned)
       (args_safe i is.1.params args (all_safe i args) is.5)
       (λ xs are. safe_then (scene i) (λ flow. IsResult (slice_get i.c.tree.routines called) flow) (HasSort sort) (calls called xs) returned (call_safe i called is.1 xs is.2 are)
-       (λ flow ends. returned_safe (scene i) (slice_get i.c.tree.routines called) is.1 sort flow is.2 is.3 is.4 ends))
+      (λ flow ends. returned_safe (scene i) (slice_get i.c.tree.routines called) is.1 sort flow is.2 is.3 is.4 ends))
   expr_safe i (trees.Not at own e) sort is =
       safe_then (scene i) (HasSort sorts.Bool) (HasSort sort) (expr i.c.tree i.routine e) opposite (expr_safe i e sorts.Bool is.2) (λ v h. opposite_safe (scene i) sort v is.1 h)
   expr_safe i (trees.Signed at own minus e) sort is =
@@ -286,7 +284,7 @@ mutual
   exprs_safe i (MoreExprs e es) (component ∷ cs) are =
       safe_then (scene i) (HasSort component.sort) (λ vs. AreMade vs (component ∷ cs)) (expr i.c.tree i.routine e) (λ v. exprs i.c.tree i.routine es >>= λ vs. Gives (v ∷ vs)) (expr_safe i e component.sort are.0)
       (λ v h. safe_then (scene i) (λ vs. AreMade vs cs) (λ vs. AreMade vs (component ∷ cs)) (exprs i.c.tree i.routine es) (λ vs. Gives (v ∷ vs)) (exprs_safe i es cs are.1)
-       (λ vs more. safe_gives (scene i) (λ ws. AreMade ws (component ∷ cs)) (v ∷ vs) (h, more)))
+      (λ vs more. safe_gives (scene i) (λ ws. AreMade ws (component ∷ cs)) (v ∷ vs) (h, more)))
 
   pub steps_safe : (i : Inside) (steps : TypedSteps) (first sort : Sort) → AreSteps i.c (kinds_of i.routine) steps first sort → (v : Value) → HasSort first v
       → Safe (scene i) (HasSort sort) (along i.c.tree i.routine steps v)
@@ -303,8 +301,8 @@ mutual
       safe_then (scene i) (λ q. IsRooted (scene i) q is.1 (Some is.2)) (λ q. IsThere (scene i) q sort) (rooted i.c.tree i.routine root)
       (λ q. expr i.c.tree i.routine e >>= λ v. indexed (length_at i.c.tree i.routine root) q v >>= part_at part) (rooted_safe i root is.1 (Some is.2) is.3)
       (λ q there. safe_then (scene i) (HasSort sorts.Num) (λ r. IsThere (scene i) r sort) (expr i.c.tree i.routine e) (λ v. indexed (length_at i.c.tree i.routine root) q v >>= part_at part) (expr_safe i e sorts.Num is.5)
-       (λ v h. safe_then (scene i) (λ r. IsThere (scene i) r is.1) (λ r. IsThere (scene i) r sort) (indexed (length_at i.c.tree i.routine root) q v) (part_at part)
-        (indexed_safe (scene i) q is.1 is.2 (length_at i.c.tree i.routine root) v (root_len i root is.1 (Some is.2) is.3) there h) (λ r found. part_safe (scene i) r is.1 sort part found is.4)))
+      (λ v h. safe_then (scene i) (λ r. IsThere (scene i) r is.1) (λ r. IsThere (scene i) r sort) (indexed (length_at i.c.tree i.routine root) q v) (part_at part)
+      (indexed_safe (scene i) q is.1 is.2 (length_at i.c.tree i.routine root) v (root_len i root is.1 (Some is.2) is.3) there h) (λ r found. part_safe (scene i) r is.1 sort part found is.4)))
 
   pub one_safe : (i : Inside) (arg : TypedArg) → ArgSafe i arg
   one_safe i (Given e) = λ sort is. expr_safe i e sort is

@@ -1,5 +1,5 @@
 -- The forms of values by their types.
-use Rattle.std.proofs.Common.{◌≡◌, refl, sym, subst, ℕ, zero, suc, Bool, true, false, ◌&&◌, ℤ, List, [], ◌∷◌, length, IsTrue, ◌==◌, nat_eq, arith}
+use Rattle.std.proofs.Common.{◌≡◌, refl, ℕ, Bool, ℤ, List, [], ◌∷◌, length, IsTrue}
 use Rattle.std.proofs.lemmas.Bool.{eqb-true}
 use Rattle.rapid_num.specs.declared.joints.Joints.{Joints}
 use Rattle.rapid_model.specs.Paths.{has_sort}

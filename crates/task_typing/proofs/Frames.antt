@@ -1,17 +1,15 @@
 -- The data of a routine as it is called, and those of the modules as the task begins.
-use Rattle.std.proofs.Common.{◌≡◌, refl, sym, ap, ◌∙◌, subst, ℕ, zero, suc, ◌+◌, ◌*◌, List, [], ◌∷◌, ◌++◌, length, map, replicate, flat_map, All, IsTrue, arith}
-use Rattle.std.specs.Prelude.{⊤}
+use Rattle.std.proofs.Common.{◌≡◌, refl, sym, subst, ℕ, zero, suc, ◌*◌, List, [], ◌∷◌, ◌++◌, length, map, replicate, flat_map, All, IsTrue, arith}
 use Rattle.std.proofs.lemmas.Grind.{flat_map-append}
 use Rattle.rapid_model.specs.Sorts.{width}
 use Rattle.rapid_model.specs.declared.sort.Sort.{Sort}
-use Rattle.rapid_model.specs.declared.sort.Sort.TheVariants as sorts
 use Rattle.typed_trees.specs.Plain.{TypedLocal, TypedRoutine, TypedSlot, TypedTree}
 use Rattle.typed_trees.specs.declared.datum.Datum.{Datum}
 use Rattle.typed_trees.specs.declared.datum.Datum.TheVariants.{Plain}
 use Rattle.rapid_meaning.specs.Data.{Frame, below_first}
 use Rattle.rapid_meaning.specs.Frames.{first_values}
 use Rattle.rapid_meaning.specs.Values.{whole}
-use Rattle.task_typing.specs.Kinds.{Cell, Holds, Kind, Owns, Counts, cells_of, kind_of, kinds_of, local_cells, slot_kind}
+use Rattle.task_typing.specs.Kinds.{Cell, Holds, Kind, Owns, Counts, cells_of, kind_of, local_cells, slot_kind}
 use Rattle.task_typing.specs.States.{AreFrames, AreInCells}
 use Rattle.task_typing.specs.WellTyped.{AreFirst, is_datum_of}
 use Rattle.task_typing.proofs.Rows.{all_first}
@@ -64,7 +62,7 @@ frame_in tree frames routine args all are =
     (subst (λ (cells : List Cell). AreInCells tree frames (flat_map cells_of (map kind_of routine.params) ++ cells) (args ++ first_values routine)) (sym (flat_map-append cells_of own loops))
     (in_both tree frames (flat_map cells_of (map kind_of routine.params)) (flat_map cells_of own ++ flat_map cells_of loops) args (first_values routine) are
     (in_both tree frames (flat_map cells_of own) (flat_map cells_of loops) (flat_map (λ (row : TypedLocal). row.first) routine.locals) (replicate (3 * routine.loops) (Plain (whole 0)))
-     (locals_in tree frames routine.locals all) (loops_in tree frames routine.loops))))
+    (locals_in tree frames routine.locals all) (loops_in tree frames routine.loops))))
 
 pub frames_below : (tree : TypedTree) (cells : List Cell) (frames : List (List Cell)) (fs : List Frame) → AreFrames tree (cells ∷ frames) fs → AreFrames tree frames (below_first fs)
 frames_below tree cells frames [] are = absurd are

@@ -1,12 +1,10 @@
 -- Reading and writing at a place of a type.
-use Rattle.std.proofs.Common.{◌≡◌, ◌⊎◌, refl, sym, ap, ◌∙◌, subst, ℕ, Bool, true, false, List, Option, Some, None, is_some, IsTrue}
+use Rattle.std.proofs.Common.{◌≡◌, refl, sym, ap, ◌∙◌, subst, ℕ, Bool, true, false, Option, Some, is_some, IsTrue}
 use Rattle.std.specs.Prelude.{⊤}
-use Rattle.std.specs.Option.{option_and_then, option_map}
-use Rattle.rapid_model.specs.Fits.{Fitting, fits_pers, fits_request}
-use Rattle.rapid_model.specs.Own.{is_trap}
+use Rattle.std.specs.Option.{option_and_then}
+use Rattle.rapid_model.specs.Fits.{fits_pers}
 use Rattle.rapid_model.specs.Paths.{fits_part, has_sort, part_sort}
 use Rattle.rapid_model.specs.Sorts.{has_values}
-use Rattle.rapid_model.specs.declared.answer.Answer.{Answer}
 use Rattle.rapid_model.specs.declared.answer.Answer.TheVariants as answers
 use Rattle.rapid_model.specs.declared.part_name.PartName.{PartName}
 use Rattle.rapid_model.specs.declared.path.Path.{Path}
@@ -20,17 +18,17 @@ use Rattle.typed_trees.specs.declared.datum.Datum.TheVariants as datums
 use Rattle.typed_trees.specs.declared.datum.Lvalue.{Lvalue}
 use Rattle.typed_trees.specs.declared.datum.Root.{Root}
 use Rattle.typed_trees.specs.declared.datum.Root.TheVariants as roots
-use Rattle.rapid_meaning.specs.Answering.{fitting_of, sort_of_pers}
+use Rattle.rapid_meaning.specs.Answering.{sort_of_pers}
 use Rattle.rapid_meaning.specs.Data.{Data, datum_at, put_at}
 use Rattle.rapid_meaning.specs.Doings.{Gives, ◌>>=◌, done, or_misfit, tells, when_ok}
 use Rattle.rapid_meaning.specs.Places.{load, load_from, part_in, path_of, put_in, read_value, set_unless, store, store_at, test_and_set, test_at, when_read, when_tested, write_value, writes_at}
 use Rattle.rapid_meaning.specs.Values.{mark_in, truth_in, value_in}
-use Rattle.task_typing.specs.States.{IsPers, IsRootOf}
+use Rattle.task_typing.specs.States.{IsRootOf}
 use Rattle.task_typing.specs.WellTyped.{is_datum_of, is_marked}
 use Rattle.task_typing.proofs.Data.{datum_part, datum_put, frame_datum, frame_put, mark_form, part_valued, plain_form, slot_datum, slot_put}
 use Rattle.task_typing.proofs.Forms.{bool_form}
 use Rattle.task_typing.proofs.Places.{IsThere}
-use Rattle.task_typing.proofs.Safe.{Answered, Anything, IsQuiet, Safe, safe_any, safe_asks, safe_done, safe_gives, safe_or, safe_reads, safe_then, safe_writes}
+use Rattle.task_typing.proofs.Safe.{Answered, Anything, Safe, safe_any, safe_asks, safe_done, safe_gives, safe_or, safe_reads, safe_then, safe_writes}
 use Rattle.task_typing.proofs.Meets.{Meets}
 use Rattle.task_typing.proofs.Scene.{InScene, Scene, rules_of}
 use Rattle.task_typing.proofs.Told.{calm}
@@ -45,9 +43,11 @@ is_inner whole part sort e = ap is_some e
 read_answered : (s : Scene) (pers index : ℕ) (part : PartName) (whole sort : Sort) → IsRootOf s.c.tree s.frames (roots.Pers pers index) whole → part_sort whole part ≡ Some sort
     → Answered s (λ x. IsTrue (is_datum_of sort x)) (ReadP pers (path_of index part)) when_read
 read_answered s pers index part whole sort is e trapped (answers.Val v) fits full =
-    let own : sort_of_pers s.c.tree.pers_of s.c.tree.pers pers ≡ Some whole = s.facts.sorts pers is.0 is.1 ∙ ap Some is.3 in
-    (refl, safe_gives s (λ x. IsTrue (is_datum_of sort x)) (datums.Plain v)
-    (sym (fits_inner whole part sort v e) ∙ ap (λ (o : Option Sort). fits_pers o part v) (sym own) ∙ fits))
+    let own : sort_of_pers s.c.tree.pers_of s.c.tree.pers pers ≡ Some whole = s.facts.sorts pers is.0 is.1 ∙ ap Some is.3 in (
+      refl,
+      safe_gives s (λ x. IsTrue (is_datum_of sort x)) (datums.Plain v)
+          (sym (fits_inner whole part sort v e) ∙ ap (λ (o : Option Sort). fits_pers o part v) (sym own) ∙ fits),
+    )
 read_answered s pers index part whole sort is e trapped a fits full = absurd cc
 
 -- reads a datum of the place's type
@@ -56,15 +56,15 @@ load_at : (s : Scene) (root : Root) (part : PartName) (whole sort : Sort) → Is
 load_at s (roots.Slot slot) part whole sort is e =
     safe_reads s (λ x. IsTrue (is_datum_of sort x)) (λ d. or_misfit (option_and_then (part_in part) (datum_at (roots.Slot slot) d)))
     (λ d state.
-        let held : (x : Datum) × (datum_at (roots.Slot slot) d ≡ Some x) × IsTrue (is_datum_of whole x) = slot_datum s.c.tree s.trapped s.frames d slot whole state is in
-        let inner : (x : Datum) × (part_in part held.0 ≡ Some x) × IsTrue (is_datum_of sort x) = datum_part whole part sort held.0 held.2 e in
-        safe_or s (λ x. IsTrue (is_datum_of sort x)) (option_and_then (part_in part) (datum_at (roots.Slot slot) d)) inner.0 (ap (option_and_then (part_in part)) held.1 ∙ inner.1) inner.2)
+    let held : (x : Datum) × (datum_at (roots.Slot slot) d ≡ Some x) × IsTrue (is_datum_of whole x) = slot_datum s.c.tree s.trapped s.frames d slot whole state is in
+    let inner : (x : Datum) × (part_in part held.0 ≡ Some x) × IsTrue (is_datum_of sort x) = datum_part whole part sort held.0 held.2 e in
+    safe_or s (λ x. IsTrue (is_datum_of sort x)) (option_and_then (part_in part) (datum_at (roots.Slot slot) d)) inner.0 (ap (option_and_then (part_in part)) held.1 ∙ inner.1) inner.2)
 load_at s (roots.Frame k at) part whole sort is e =
     safe_reads s (λ x. IsTrue (is_datum_of sort x)) (λ d. or_misfit (option_and_then (part_in part) (datum_at (roots.Frame k at) d)))
     (λ d state.
-        let held : (x : Datum) × (datum_at (roots.Frame k at) d ≡ Some x) × IsTrue (is_datum_of whole x) = frame_datum s.c.tree s.trapped s.frames d k at whole state is in
-        let inner : (x : Datum) × (part_in part held.0 ≡ Some x) × IsTrue (is_datum_of sort x) = datum_part whole part sort held.0 held.2 e in
-        safe_or s (λ x. IsTrue (is_datum_of sort x)) (option_and_then (part_in part) (datum_at (roots.Frame k at) d)) inner.0 (ap (option_and_then (part_in part)) held.1 ∙ inner.1) inner.2)
+    let held : (x : Datum) × (datum_at (roots.Frame k at) d ≡ Some x) × IsTrue (is_datum_of whole x) = frame_datum s.c.tree s.trapped s.frames d k at whole state is in
+    let inner : (x : Datum) × (part_in part held.0 ≡ Some x) × IsTrue (is_datum_of sort x) = datum_part whole part sort held.0 held.2 e in
+    safe_or s (λ x. IsTrue (is_datum_of sort x)) (option_and_then (part_in part) (datum_at (roots.Frame k at) d)) inner.0 (ap (option_and_then (part_in part)) held.1 ∙ inner.1) inner.2)
 load_at s (roots.Pers pers index) part whole sort is e =
     safe_asks s (λ x. IsTrue (is_datum_of sort x)) (ReadP pers (path_of index part)) when_read (record { no_rise = refl; no_hold = refl; no_leave = refl })
     (λ d. (is.0, is.1, is.2, subst (λ (y : Sort). IsTrue (is_some (part_sort y part))) (sym is.3) (is_inner whole part sort e)))
@@ -114,9 +114,9 @@ store_there s (roots.Pers pers index) part whole sort new is e also =
     let holds : IsTrue (has_values sort) = part_valued whole part sort (subst (λ (y : Sort). IsTrue (has_values y)) is.3 (s.facts.valued pers is.0 is.1)) e in
     safe_then s (λ v. IsTrue (has_sort sort v)) Anything (value_in new) (λ v. tells (WriteP pers (path_of index part) v)) (value_safe s sort new holds also)
     (λ v typed.
-        safe_asks s Anything (WriteP pers (path_of index part) v) when_ok (record { no_rise = refl; no_hold = refl; no_leave = refl })
-        (λ d. (is.0, is.1, is.2, subst (λ (y : Sort). IsTrue (fits_part y part v)) (sym is.3) (fits_inner whole part sort v e ∙ typed)))
-        (ok_answered s pers (path_of index part) v))
+    safe_asks s Anything (WriteP pers (path_of index part) v) when_ok (record { no_rise = refl; no_hold = refl; no_leave = refl })
+    (λ d. (is.0, is.1, is.2, subst (λ (y : Sort). IsTrue (fits_part y part v)) (sym is.3) (fits_inner whole part sort v e ∙ typed)))
+    (ok_answered s pers (path_of index part) v))
 
 pub store_safe : (s : Scene) (q : Lvalue) (sort : Sort) (new : Datum) → IsThere s q sort → IsTrue (is_datum_of sort new) → Safe s Anything (store q new)
 store_safe s q sort new is also = store_there s q.root q.part is.0 sort new is.1 is.2 also

@@ -1,11 +1,10 @@
 -- Looks, at which a trap may run, and waits that hold.
-use Rattle.std.proofs.Common.{◌≡◌, refl, sym, ap, ◌∙◌, subst, ℕ, Bool, true, false, not, ◌&&◌, List, [], ◌∷◌, map, flat_map, Option, Some, None, slice_get, IsTrue}
-use Rattle.std.specs.Prelude.{⊤}
+use Rattle.std.proofs.Common.{◌≡◌, refl, sym, ◌∙◌, subst, ℕ, Bool, true, false, not, ◌&&◌, List, [], ◌∷◌, map, flat_map, Option, Some, None, slice_get, IsTrue}
 use Rattle.std.proofs.lemmas.Bool.{and_parts}
 use Rattle.rapid_model.specs.Fits.{fits_request}
 use Rattle.rapid_model.specs.declared.answer.Answer.{Answer}
 use Rattle.rapid_model.specs.declared.answer.Answer.TheVariants as answers
-use Rattle.rapid_model.specs.declared.fate.Fault.TheVariants.{TrapFlood, Unhandled}
+use Rattle.rapid_model.specs.declared.fate.Fault.TheVariants.{TrapFlood}
 use Rattle.rapid_model.specs.declared.request.Request.TheVariants as requests
 use Rattle.raw_trees.specs.declared.raw_routine.RoutineKind.{RoutineKind}
 use Rattle.raw_trees.specs.declared.raw_routine.RoutineKind.TheVariants as kinds
@@ -13,9 +12,8 @@ use Rattle.typed_trees.specs.Plain.{TypedParam, TypedRoutine, TypedTree}
 use Rattle.rapid_meaning.specs.Answering.{fitting_of, is_trap_row}
 use Rattle.rapid_meaning.specs.Data.{Data, Frame, seen_in, with_seen}
 use Rattle.rapid_meaning.specs.Doings.{Asks, Doing, Raises, ◌>>◌, after, change, goes_to, tells, when_ok}
-use Rattle.rapid_meaning.specs.Flows.{Flow, Part, Call, Where}
+use Rattle.rapid_meaning.specs.Flows.{Flow, Part, Where}
 use Rattle.rapid_meaning.specs.Looks.{hold, interrupted, left, look, looked, place_of}
-use Rattle.task_typing.specs.Full.{is_full_answer}
 use Rattle.task_typing.specs.Kinds.{Cell, cells_of, kind_of}
 use Rattle.task_typing.specs.Setting.{Setting}
 use Rattle.task_typing.specs.States.{AreFrames, AreInCells, IsState}
@@ -23,7 +21,7 @@ use Rattle.task_typing.specs.WellTyped.{IsRoutine, TakesByKind}
 use Rattle.task_typing.proofs.Meets.{Meets}
 use Rattle.task_typing.proofs.Rows.{all_at}
 use Rattle.task_typing.proofs.Safe.{Anything, Safe, safe_change, safe_fault, safe_then, scene_of}
-use Rattle.task_typing.proofs.Scene.{Facts, Ghost, InScene, IsDue, IsEnd, IsPart, frames_in, rules_of}
+use Rattle.task_typing.proofs.Scene.{Facts, Ghost, IsEnd, IsPart, frames_in, rules_of}
 use Rattle.task_typing.proofs.Told.{Told, calm, calm_itself, told_after}
 
 -- goes on as a part does
@@ -96,7 +94,7 @@ looked_goes : (c : Setting) (facts : Facts c) (g : Ghost) (again : Part) (go : D
 looked_goes c facts g again go (answers.Go seen) d part safe is fits =
     safe_then (scene_of c facts g again) Anything (IsEnd c g again) (change (λ e. record e { frames = with_seen seen e.frames })) (λ _. go)
     (safe_change (scene_of c facts g again) (λ e. record e { frames = with_seen seen e.frames })
-     (λ e ie. record { slots = ie.slots; frames_are = seen_frames c.tree (frames_in g again) e.frames seen ie.frames_are; in_trap = ie.in_trap }))
+    (λ e ie. record { slots = ie.slots; frames_are = seen_frames c.tree (frames_in g again) e.frames seen ie.frames_are; in_trap = ie.in_trap }))
     (λ _ _. safe) d is
 looked_goes c facts g again go (answers.Trap number trap) d part safe is fits = interrupted_goes c facts g again trap d part is fits
 looked_goes c facts g again go answers.Flood d part safe is fits = safe_fault (scene_of c facts g again) (IsEnd c g again) TrapFlood d is

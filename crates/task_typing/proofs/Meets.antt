@@ -1,6 +1,6 @@
 -- What holds of a doing, from some data on: it never misfits, what it asks is well asked, and what it gives, and each part that it
 -- does, keeps what is said of it.
-use Rattle.std.proofs.Common.{◌≡◌, refl, subst, ℕ, Bool, true, false, IsTrue}
+use Rattle.std.proofs.Common.{◌≡◌, subst, ℕ, IsTrue}
 use Rattle.rapid_model.specs.Fits.{fits_request}
 use Rattle.rapid_model.specs.Own.{is_rise}
 use Rattle.rapid_model.specs.declared.answer.Answer.{Answer}
@@ -57,6 +57,10 @@ meets_after rules P E Q F (Ends fate) f h t d mf mh m = m
 meets_after rules P E Q F Misfit f h t d mf mh m = m
 meets_after rules P E Q F (Reads k) f h t d mf mh m = meets_after rules P E Q F (k d) f h t d mf mh m
 meets_after rules P E Q F (Writes e more) f h t d mf mh m = meets_after rules P E Q F more f h t e mf mh m
-meets_after rules P E Q F (Does p k g) f h t d mf mh m =
-    (m.0, m.1, m.2, λ flow e ends. meets_after rules P E Q F (k flow) f h (calm e) e mf mh (m.3 flow e ends),
-     λ n e fails. meets_after rules P E Q F (g n) f h (calm e) e mf mh (m.4 n e fails))
+meets_after rules P E Q F (Does p k g) f h t d mf mh m = (
+  m.0,
+  m.1,
+  m.2,
+  λ flow e ends. meets_after rules P E Q F (k flow) f h (calm e) e mf mh (m.3 flow e ends),
+  λ n e fails. meets_after rules P E Q F (g n) f h (calm e) e mf mh (m.4 n e fails),
+)

@@ -1,5 +1,5 @@
 -- What operators come to is of the type that they name, and so are values that components make.
-use Rattle.std.proofs.Common.{◌≡◌, ◌⊎◌, ⊎_elim, refl, sym, ap, ◌∙◌, subst, ℕ, zero, suc, ◌≤◌, ◌==◌, Bool, true, false, ◌&&◌, ◌||◌, ◌++◌, not, nat_le, ℤ, pos, int_lt, List, [], ◌∷◌, length, Option, Some, None, if◌then◌else◌, IsTrue, arith, length-append}
+use Rattle.std.proofs.Common.{◌≡◌, ◌⊎◌, ⊎_elim, refl, sym, ap, ◌∙◌, subst, ℕ, suc, ◌≤◌, Bool, true, false, ◌++◌, not, nat_le, ℤ, pos, List, [], ◌∷◌, length, Option, Some, None, if◌then◌else◌, IsTrue, arith, length-append}
 use Rattle.std.specs.Prelude.{⊤}
 use Rattle.std.specs.Option.{option_map}
 use Rattle.std.specs.Ordering.{int_eq}
@@ -14,14 +14,14 @@ use Rattle.rapid_model.specs.declared.value.Value.TheVariants as values
 use Rattle.raw_trees.specs.declared.raw_expr.Operator.{Operator}
 use Rattle.raw_trees.specs.declared.raw_expr.Operator.TheVariants as operators
 use Rattle.rapid_operators.specs.Equality.{are_alike, same}
-use Rattle.rapid_operators.specs.Operators.{apply, joined, num_or_fault, unless_zero}
+use Rattle.rapid_operators.specs.Operators.{apply, num_or_fault}
 use Rattle.rapid_operators.specs.declared.applied.Applied.{Applied}
 use Rattle.rapid_operators.specs.declared.applied.Applied.TheVariants as applies
 use Rattle.rapid_values.specs.Components.{Component, components}
 use Rattle.rapid_values.specs.Values.{made_of, nums_of, so_many, with_axes}
 use Rattle.rapid_meaning.specs.Doings.{Doing, ◌>>=◌}
 use Rattle.rapid_meaning.specs.Values.{applied, between, in_range}
-use Rattle.task_typing.specs.Operations.{Operates, is_compared}
+use Rattle.task_typing.specs.Operations.{Operates}
 use Rattle.task_typing.proofs.Forms.{alike, bool_form, ext_form, num_form, rob_form, text_form}
 use Rattle.task_typing.proofs.Safe.{Safe, safe_fault, safe_gives, safe_raises, safe_then}
 use Rattle.task_typing.proofs.Scene.{Scene}
@@ -184,9 +184,11 @@ nums_made count make sort vs cs are nums many is =
 target_made : (v w : Value) → IsTrue (has_sort sorts.RobJoint v) → IsTrue (has_sort sorts.ExtJoint w) → IsMade (made_of sorts.JointTarget (v ∷ w ∷ [])) sorts.JointTarget
 target_made v w hv hw =
     let f : (l : List ℤ) × (v ≡ values.Rob l) × (length l ≡ 6) = rob_form v hv in
-    let g : (l : List ℤ) × (w ≡ values.Ext l) × (length l ≡ 6) = ext_form w hw in
-    (with_axes (f.0 ++ g.0), ap (λ (x : Value). made_of sorts.JointTarget (x ∷ w ∷ [])) f.1 ∙ ap (λ (x : Value). made_of sorts.JointTarget (values.Rob f.0 ∷ x ∷ [])) g.1,
-     eq-eqb (length (f.0 ++ g.0)) 12 (omega (arith, length-append f.0 g.0, f.2, g.2)))
+    let g : (l : List ℤ) × (w ≡ values.Ext l) × (length l ≡ 6) = ext_form w hw in (
+      with_axes (f.0 ++ g.0),
+      ap (λ (x : Value). made_of sorts.JointTarget (x ∷ w ∷ [])) f.1 ∙ ap (λ (x : Value). made_of sorts.JointTarget (values.Rob f.0 ∷ x ∷ [])) g.1,
+      eq-eqb (length (f.0 ++ g.0)) 12 (omega (arith, length-append f.0 g.0, f.2, g.2)),
+    )
 
 pair_made : (vs : List Value) → AreMade vs (components sorts.JointTarget) → IsMade (made_of sorts.JointTarget vs) sorts.JointTarget
 pair_made (v ∷ w ∷ []) are = target_made v w are.0 are.1.0

@@ -1,7 +1,7 @@
 -- Parts of values keep their types.
-use Rattle.std.proofs.Common.{◌≡◌, refl, sym, ap, ◌∙◌, subst, ℕ, zero, suc, ◌+◌, ◌-◌, ◌<◌, ◌≤◌, Bool, true, false, ◌&&◌, nat_lt, nat_le, nat_eq, ◌==◌, ℤ, List, [], ◌∷◌, ◌++◌, length, take, drop, slice_get, slice_set, Option, Some, None, if◌then◌else◌, IsTrue, arith, length-append}
+use Rattle.std.proofs.Common.{◌≡◌, refl, sym, ap, ◌∙◌, subst, ℕ, zero, suc, ◌-◌, ◌<◌, ◌≤◌, Bool, true, false, ◌&&◌, nat_lt, nat_le, ℤ, List, [], ◌∷◌, ◌++◌, length, take, drop, slice_set, Option, Some, None, if◌then◌else◌, IsTrue, arith, length-append}
 use Rattle.std.specs.Option.{option_map}
-use Rattle.std.proofs.lemmas.Bool.{ltb-true, ltb-false, lt-ltb, le-ltb, leb-true, eq-eqb, and_parts}
+use Rattle.std.proofs.lemmas.Bool.{ltb-true, lt-ltb, le-ltb, leb-true, eq-eqb, and_parts}
 use Rattle.std.proofs.lemmas.List.{length-set, length-take, length-drop}
 use Rattle.rapid_num.specs.declared.joints.Joints.{Joints}
 use Rattle.rapid_model.specs.Paths.{has_sort, part_sort, num_where}
@@ -126,12 +126,18 @@ speed_is l four = eq-eqb (length l) 4 four
 -- the part of a value is of the part's type
 target_part : (j : Joints) (part : PartName) (sort : Sort) → length j.axis ≡ 12 → part_sort sorts.JointTarget part ≡ Some sort → Found (part_of (values.Target j) part) sort
 target_part j parts.Whole sort many e = (values.Target j, refl, subst (λ (x : Sort). IsTrue (has_sort x (values.Target j))) (some_same sorts.JointTarget sort e) (target_is j.axis many))
-target_part j parts.Robax sort many e =
-    (values.Rob (take 6 j.axis), refl, subst (λ (x : Sort). IsTrue (has_sort x (values.Rob (take 6 j.axis)))) (some_same sorts.RobJoint sort e)
-    (rob_is (take 6 j.axis) (omega (arith, length-take 6 j.axis, many))))
-target_part j parts.Extax sort many e =
-    (values.Ext (drop 6 j.axis), refl, subst (λ (x : Sort). IsTrue (has_sort x (values.Ext (drop 6 j.axis)))) (some_same sorts.ExtJoint sort e)
-    (ext_is (drop 6 j.axis) (omega (arith, length-drop 6 j.axis, many))))
+target_part j parts.Robax sort many e = (
+  values.Rob (take 6 j.axis),
+  refl,
+  subst (λ (x : Sort). IsTrue (has_sort x (values.Rob (take 6 j.axis)))) (some_same sorts.RobJoint sort e)
+      (rob_is (take 6 j.axis) (omega (arith, length-take 6 j.axis, many))),
+)
+target_part j parts.Extax sort many e = (
+  values.Ext (drop 6 j.axis),
+  refl,
+  subst (λ (x : Sort). IsTrue (has_sort x (values.Ext (drop 6 j.axis)))) (some_same sorts.ExtJoint sort e)
+      (ext_is (drop 6 j.axis) (omega (arith, length-drop 6 j.axis, many))),
+)
 target_part j (parts.Axis n) sort many e =
     let there : (nat_lt n 12 ≡ true) × (sort ≡ sorts.Num) = num_there (nat_lt n 12) sort e in
     found_num j.axis n sort (omega (arith, ltb-true n 12 there.0, many)) there.1
@@ -193,13 +199,17 @@ target_put : (j : Joints) (part : PartName) (sort : Sort) (new : Value) → leng
     → Found (put_part (values.Target j) part new) sorts.JointTarget
 target_put j parts.Whole sort new many e h = (new, refl, subst (λ (x : Sort). IsTrue (has_sort x new)) (sym (some_same sorts.JointTarget sort e)) h)
 target_put j parts.Robax sort new many e h =
-    let f : (l : List ℤ) × (new ≡ values.Rob l) × (length l ≡ 6) = rob_form new (subst (λ (x : Sort). IsTrue (has_sort x new)) (sym (some_same sorts.RobJoint sort e)) h) in
-    (with_axes (f.0 ++ drop 6 j.axis), ap (λ (x : Value). put_part (values.Target j) parts.Robax x) f.1,
-     target_is (f.0 ++ drop 6 j.axis) (omega (arith, length-append f.0 (drop 6 j.axis), length-drop 6 j.axis, many, f.2)))
+    let f : (l : List ℤ) × (new ≡ values.Rob l) × (length l ≡ 6) = rob_form new (subst (λ (x : Sort). IsTrue (has_sort x new)) (sym (some_same sorts.RobJoint sort e)) h) in (
+      with_axes (f.0 ++ drop 6 j.axis),
+      ap (λ (x : Value). put_part (values.Target j) parts.Robax x) f.1,
+      target_is (f.0 ++ drop 6 j.axis) (omega (arith, length-append f.0 (drop 6 j.axis), length-drop 6 j.axis, many, f.2)),
+    )
 target_put j parts.Extax sort new many e h =
-    let f : (l : List ℤ) × (new ≡ values.Ext l) × (length l ≡ 6) = ext_form new (subst (λ (x : Sort). IsTrue (has_sort x new)) (sym (some_same sorts.ExtJoint sort e)) h) in
-    (with_axes (take 6 j.axis ++ f.0), ap (λ (x : Value). put_part (values.Target j) parts.Extax x) f.1,
-     target_is (take 6 j.axis ++ f.0) (omega (arith, length-append (take 6 j.axis) f.0, length-take 6 j.axis, many, f.2)))
+    let f : (l : List ℤ) × (new ≡ values.Ext l) × (length l ≡ 6) = ext_form new (subst (λ (x : Sort). IsTrue (has_sort x new)) (sym (some_same sorts.ExtJoint sort e)) h) in (
+      with_axes (take 6 j.axis ++ f.0),
+      ap (λ (x : Value). put_part (values.Target j) parts.Extax x) f.1,
+      target_is (take 6 j.axis ++ f.0) (omega (arith, length-append (take 6 j.axis) f.0, length-take 6 j.axis, many, f.2)),
+    )
 target_put j (parts.Axis n) sort new many e h =
     let there : (nat_lt n 12 ≡ true) × (sort ≡ sorts.Num) = num_there (nat_lt n 12) sort e in
     made (with_num j.axis n new) with_axes 12 sorts.JointTarget target_is

@@ -1,6 +1,5 @@
 -- Places of data, from their typed forms.
-use Rattle.std.proofs.Common.{◌≡◌, refl, sym, ap, ◌∙◌, subst, ℕ, zero, suc, ◌+◌, ◌-◌, ◌%◌, ◌/◌, ◌<◌, ◌≤◌, ◌==◌, Bool, true, false, ◌&&◌, nat_le, ℤ, pos, negsuc, List, [], ◌∷◌, length, map, replicate, flat_map, Option, Some, None, slice_get, if◌then◌else◌, IsTrue, arith}
-use Rattle.std.specs.Prelude.{⊤}
+use Rattle.std.proofs.Common.{◌≡◌, refl, sym, ap, ◌∙◌, subst, ℕ, ◌+◌, ◌-◌, ◌%◌, ◌/◌, ◌<◌, ◌≤◌, ◌==◌, Bool, true, false, ◌&&◌, nat_le, ℤ, pos, negsuc, List, [], ◌∷◌, length, Option, Some, None, slice_get, if◌then◌else◌, IsTrue, arith}
 use Rattle.std.specs.Option.{option_and_then, option_map}
 use Rattle.std.proofs.lemmas.Bool.{leb-true, le-leb, and_parts}
 use Rattle.std.proofs.lemmas.List.{length-replicate}
@@ -8,7 +7,6 @@ use Rattle.rapid_model.specs.Sorts.{width}
 use Rattle.rapid_model.specs.Paths.{has_element, has_sort, part_sort}
 use Rattle.rapid_model.specs.declared.fate.Fault.TheVariants.{IndexRange}
 use Rattle.rapid_model.specs.declared.part_name.PartName.{PartName}
-use Rattle.rapid_model.specs.declared.part_name.PartName.TheVariants as parts
 use Rattle.rapid_model.specs.declared.sort.Sort.{Sort}
 use Rattle.rapid_model.specs.declared.sort.Sort.TheVariants as sorts
 use Rattle.rapid_model.specs.declared.value.Value.{Value}
@@ -30,7 +28,7 @@ use Rattle.rapid_meaning.specs.Values.{num_in}
 use Rattle.task_typing.specs.Expressions.{IsOwn, IsRoot}
 use Rattle.task_typing.specs.Kinds.{Cell, Holds, Lends, Kind, Owns, Refers, Counts, cells_of, kinds_of, local_cells}
 use Rattle.task_typing.specs.Setting.{Setting}
-use Rattle.task_typing.specs.States.{AreFrames, IsInCell, IsLvalue, IsPers, IsRootOf, cells_at}
+use Rattle.task_typing.specs.States.{AreFrames, IsInCell, IsLvalue, IsRootOf, cells_at}
 use Rattle.task_typing.proofs.Cells.{HasCells, as_deep, cell_read, deeper, has_cells, top_frame}
 use Rattle.task_typing.proofs.Forms.{num_form}
 use Rattle.task_typing.proofs.Parts.{inner_part}
@@ -133,9 +131,9 @@ ref_safe : (i : Inside) (row : ℕ) (sort : Sort) → slice_get (kinds_of i.rout
 ref_safe i row sort e d is =
     let same : local_start i.routine row + 0 ≡ local_start i.routine row = omega arith in
     let cell : slice_get (local_cells i.routine) (local_start i.routine row) ≡ Some (Lends sort) =
-        subst (λ (n : ℕ). slice_get (local_cells i.routine) n ≡ Some (Lends sort)) same (local_row i.routine row 0 (Refers sort) (Lends sort) e refl (omega arith)) in
+    subst (λ (n : ℕ). slice_get (local_cells i.routine) n ≡ Some (Lends sort)) same (local_row i.routine row 0 (Refers sort) (Lends sort) e refl (omega arith)) in
     let kept : (q : Lvalue) × (kept_place (local_start i.routine row) d.frames ≡ Some q) × IsLvalue i.c.tree i.below q sort =
-        kept_there i.c.tree (local_cells i.routine) i.below d.frames (local_start i.routine row) sort is.frames_are cell in
+    kept_there i.c.tree (local_cells i.routine) i.below d.frames (local_start i.routine row) sort is.frames_are cell in
     safe_or (scene i) (λ q. IsThere (scene i) q sort) (kept_place (local_start i.routine row) d.frames) kept.0 kept.1 (deeper_lvalue i.c.tree i.below (local_cells i.routine) kept.0 sort kept.2)
 
 slot_rooted : (s : Scene) (row : ℕ) (slot : TypedSlot) (len : Option ℕ) → slice_get s.c.tree.slots row ≡ Some slot → slot.len ≡ len
@@ -155,9 +153,16 @@ pers_rooted : (s : Scene) (row number : ℕ) (p : TypedPers) (len : Option ℕ) 
     → IsRooted s (at_root (roots.Pers number 0)) p.sort len
 pers_rooted s row number p None is e n =
     (p.sort, (p, record { row = row; numbered = is; there = e }, subst (λ (l : Option ℕ). IsTrue (has_element l 0)) (sym n) refl, refl), refl)
-pers_rooted s row number p (Some len) is e n = λ index low high.
-    (p.sort, (p, record { row = row; numbered = is; there = e },
-     subst (λ (l : Option ℕ). IsTrue (has_element l index)) (sym n) (rw (le-leb 1 index low, le-leb index len high) refl), refl), refl)
+pers_rooted s row number p (Some len) is e n = λ index low high. (
+  p.sort,
+  (
+    p,
+    record { row = row; numbered = is; there = e },
+    subst (λ (l : Option ℕ). IsTrue (has_element l index)) (sym n) (rw (le-leb 1 index low, le-leb index len high) refl),
+    refl,
+  ),
+  refl,
+)
 
 pub rooted_safe : (i : Inside) (root : TreeRoot) (sort : Sort) (len : Option ℕ) → IsRoot i.c.tree (kinds_of i.routine) root sort len
     → Safe (scene i) (λ q. IsRooted (scene i) q sort len) (rooted i.c.tree i.routine root)
@@ -197,7 +202,7 @@ number_within : (len : ℕ) (n : ℤ) (k : ℕ) → element_number len n ≡ Som
 number_within len (pos n) k e =
     found_within (n % 1_000 == 0 && nat_le 1 (n / 1_000) && nat_le (n / 1_000) len) (n / 1_000) k len
     (λ t. let both : ((n % 1_000 == 0 && nat_le 1 (n / 1_000)) ≡ true) × (nat_le (n / 1_000) len ≡ true) = and_parts (n % 1_000 == 0 && nat_le 1 (n / 1_000)) (nat_le (n / 1_000) len) t in
-     (leb-true 1 (n / 1_000) (and_parts (n % 1_000 == 0) (nat_le 1 (n / 1_000)) both.0).1, leb-true (n / 1_000) len both.1)) e
+    (leb-true 1 (n / 1_000) (and_parts (n % 1_000 == 0) (nat_le 1 (n / 1_000)) both.0).1, leb-true (n / 1_000) len both.1)) e
 number_within len (negsuc n) k e = absurd cc
 
 element_safe : (s : Scene) (q : Lvalue) (sort : Sort) (len : ℕ) (o : Option ℕ) → IsRooted s q sort (Some len) → ((k : ℕ) → o ≡ Some k → (1 ≤ k) × (k ≤ len))

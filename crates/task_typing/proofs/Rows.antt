@@ -1,6 +1,5 @@
 -- Rows, and the places that they take.
-use Rattle.std.proofs.Common.{◌≡◌, refl, sym, ap, ◌∙◌, subst, ℕ, zero, suc, ◌+◌, ◌*◌, ◌-◌, ◌<◌, ◌≤◌, Bool, List, [], ◌∷◌, ◌++◌, length, map, take, replicate, flat_map, sum, All, Option, Some, None, slice_get, IsTrue, arith}
-use Rattle.std.specs.Prelude.{⊤}
+use Rattle.std.proofs.Common.{◌≡◌, refl, sym, ap, ◌∙◌, subst, ℕ, zero, suc, ◌+◌, ◌<◌, List, [], ◌∷◌, ◌++◌, length, map, take, replicate, flat_map, sum, All, Option, Some, None, slice_get, arith}
 use Rattle.std.specs.Option.{option_and_then}
 use Rattle.std.proofs.lemmas.List.{length-replicate}
 use Rattle.std.proofs.lemmas.List.Sums.{sum_by-cons}
@@ -10,9 +9,9 @@ use Rattle.raw_trees.specs.declared.raw_routine.Mode.{Mode}
 use Rattle.raw_trees.specs.declared.raw_routine.Mode.TheVariants as modes
 use Rattle.typed_trees.specs.Plain.{TypedLocal, TypedParam, TypedRoutine, TypedSlot, TypedTree}
 use Rattle.typed_trees.specs.declared.expr.TreeRoot.TheVariants as tree_roots
-use Rattle.rapid_meaning.specs.Layouts.{length_at, local_start, local_widths, slot_start, slot_widths}
+use Rattle.rapid_meaning.specs.Layouts.{length_at, local_start, slot_start}
 use Rattle.task_typing.specs.Expressions.{IsOwn}
-use Rattle.task_typing.specs.Kinds.{Cell, Holds, Kind, Owns, Refers, Counts, cells_of, kind_by, kind_of, kinds_of, local_cells, slot_cells, slot_kind}
+use Rattle.task_typing.specs.Kinds.{Cell, Holds, Kind, Owns, Counts, cells_of, kind_by, kind_of, kinds_of, local_cells, slot_cells, slot_kind}
 
 pub all_first : {A : Type 0} (P : A → Type 0) (x : A) (xs : List A) → All P (x ∷ xs) → P x × All P xs
 all_first P x xs all = (all 0 x (omega arith), λ k d few. all (suc k) d (omega (arith, few)))

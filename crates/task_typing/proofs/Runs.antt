@@ -1,5 +1,5 @@
 -- What holds of doings holds of what they come to.
-use Rattle.std.proofs.Common.{◌≡◌, refl, ℕ, zero, suc, Bool, true, false, List, [], ◌∷◌, if◌then◌else◌, IsTrue}
+use Rattle.std.proofs.Common.{refl, ℕ, zero, suc, Bool, true, false, List, [], ◌∷◌, if◌then◌else◌, IsTrue}
 use Rattle.std.specs.Prelude.{⊤}
 use Rattle.rapid_model.specs.Fits.{Fitting, fits_request}
 use Rattle.rapid_model.specs.declared.answer.Answer.{Answer}
@@ -9,7 +9,7 @@ use Rattle.rapid_meaning.specs.Answering.{Outcome, Gave, Raised, Asking, Ended, 
 use Rattle.rapid_meaning.specs.Calls.{part}
 use Rattle.rapid_meaning.specs.Data.{Data}
 use Rattle.rapid_meaning.specs.Doings.{Doing, Gives, Raises, Asks, Ends, Misfit, Reads, Writes, Does}
-use Rattle.rapid_meaning.specs.Flows.{Flow, Part}
+use Rattle.rapid_meaning.specs.Flows.{Part}
 use Rattle.rapid_meaning.specs.Runs.{deep}
 use Rattle.task_typing.specs.Full.{AreFull}
 use Rattle.task_typing.proofs.Meets.{Rules, Meets}

@@ -1,5 +1,5 @@
 -- Doings that keep the data of their types, and give what is said of them.
-use Rattle.std.proofs.Common.{◌≡◌, refl, sym, ap, ◌∙◌, subst, ℕ, Bool, true, false, List, Option, Some, None, if◌then◌else◌, IsTrue}
+use Rattle.std.proofs.Common.{◌≡◌, refl, sym, ap, ◌∙◌, subst, ℕ, Bool, true, false, Option, Some, if◌then◌else◌, IsTrue}
 use Rattle.std.specs.Prelude.{⊤}
 use Rattle.rapid_model.specs.Fits.{fits_request}
 use Rattle.rapid_model.specs.Own.{is_hold, is_leave, is_rise, is_trap}
@@ -10,14 +10,13 @@ use Rattle.rapid_model.specs.declared.fate.Fault.{Fault}
 use Rattle.rapid_model.specs.declared.request.Request.{Request}
 use Rattle.rapid_meaning.specs.Answering.{fitting_of}
 use Rattle.rapid_meaning.specs.Data.{Data}
-use Rattle.rapid_meaning.specs.Doings.{Doing, Gives, Raises, Asks, Ends, Reads, Writes, Does, ◌>>=◌, ◌>>◌, after, change, done, fault, goes_to, or_misfit}
+use Rattle.rapid_meaning.specs.Doings.{Doing, Gives, Raises, Asks, Ends, Reads, Does, ◌>>=◌, after, change, done, fault, goes_to, or_misfit}
 use Rattle.rapid_meaning.specs.Flows.{Flow, Part}
 use Rattle.task_typing.specs.Asked.{IsAsked}
 use Rattle.task_typing.specs.Full.{is_full_answer}
 use Rattle.task_typing.specs.Setting.{Setting}
-use Rattle.task_typing.specs.States.{IsState}
 use Rattle.task_typing.proofs.Meets.{Meets, meets_after}
-use Rattle.task_typing.proofs.Scene.{Facts, Ghost, InScene, IsDue, IsEnd, IsPart, Scene, frames_in, rules_of}
+use Rattle.task_typing.proofs.Scene.{Facts, Ghost, InScene, IsEnd, IsPart, Scene, frames_in, rules_of}
 use Rattle.task_typing.proofs.Told.{Told, calm, calm_itself, told_after}
 
 abbrev pub Safe : {A : Type 0} → Scene → (A → Type 0) → Doing A → Type 0
@@ -76,7 +75,7 @@ quiet_told : (request : Request) (a : Answer) (d : Data) → IsQuiet request →
 quiet_told request a d quiet untrapped =
     ap (λ (b : Bool). let t : Told = record { held = b; trapped = d.trapped } in t) (sym quiet.no_hold)
     ∙ ap (λ (b : Bool). let t : Told = record { held = is_hold request; trapped = b } in t)
-      (ap (λ (b : Bool). if b then false else d.trapped) (sym quiet.no_leave) ∙ ap (λ (b : Bool). if b then true else if is_leave request then false else d.trapped) (sym untrapped))
+    (ap (λ (b : Bool). if b then false else d.trapped) (sym quiet.no_leave) ∙ ap (λ (b : Bool). if b then true else if is_leave request then false else d.trapped) (sym untrapped))
 
 -- each answer that fits is no trap, and goes on well
 abbrev pub Answered : {A : Type 0} → Scene → (A → Type 0) → Request → (Answer → Doing A) → Type 0

@@ -1,8 +1,7 @@
 -- Statements and lists of them.
-use Rattle.std.proofs.Common.{◌≡◌, ◌⊎◌, ⊎_elim, inl, inr, refl, sym, ap, ◌∙◌, subst, ℕ, ◌+◌, ◌<◌, ◌/◌, ◌%◌, ◌==◌, ◌&&◌, nat_le, Bool, true, false, ℤ, pos, negsuc, int_lt, neg_ℤ, List, [], ◌∷◌, length, map, flat_map, Option, Some, None, is_some, slice_get, if◌then◌else◌, IsTrue, arith}
+use Rattle.std.proofs.Common.{◌≡◌, ◌⊎◌, ⊎_elim, refl, sym, subst, ℕ, ◌+◌, ◌<◌, ◌/◌, ◌%◌, ◌==◌, ◌&&◌, nat_le, Bool, true, false, ℤ, pos, negsuc, int_lt, neg_ℤ, List, [], ◌∷◌, map, flat_map, Option, Some, None, is_some, slice_get, if◌then◌else◌, IsTrue, arith}
 use Rattle.std.specs.Prelude.{⊤}
 use Rattle.rapid_num.specs.Arithmetic.{sum_of}
-use Rattle.rapid_model.specs.Paths.{has_sort}
 use Rattle.rapid_model.specs.declared.fate.Fate.TheVariants as fates
 use Rattle.rapid_model.specs.declared.fate.Fault.TheVariants.{RaiseRange}
 use Rattle.rapid_model.specs.declared.sort.Sort.{Sort}
@@ -13,25 +12,22 @@ use Rattle.raw_trees.specs.declared.raw_expr.Operator.TheVariants as operators
 use Rattle.rapid_operators.specs.Operators.{apply}
 use Rattle.typed_trees.specs.Plain as trees
 use Rattle.typed_trees.specs.Plain.{TypedArms, TypedCases, TypedElse, TypedExpr, TypedExprs, TypedRoutine, TypedStmt, TypedStmts, NoExprs, MoreExprs, NoStmts, MoreStmts, NoArms, MoreArms, NoCases, MoreCases, NoElse, Else}
-use Rattle.typed_trees.specs.declared.datum.Datum.{Datum}
 use Rattle.typed_trees.specs.declared.datum.Datum.TheVariants as datums
-use Rattle.typed_trees.specs.declared.datum.Lvalue.{Lvalue}
 use Rattle.rapid_meaning.specs.Doings.{Act, Doing, Ends, Gives, Raises, ◌>>=◌, ◌>>◌, after, calls, change, fault, goes_to}
 use Rattle.rapid_meaning.specs.Errors.{failed, failed_in, header, parted, raised_again}
 use Rattle.rapid_meaning.specs.Expressions.{arguments, expr, place}
-use Rattle.rapid_meaning.specs.Flows.{Flow, Normal, Jumps, Returns, Retries, Skips, Errors, Unguarded, Guarded, InPart, Where, Part, Attempt, Turn, Rest}
+use Rattle.rapid_meaning.specs.Flows.{Flow, Normal, Jumps, Returns, Retries, Skips, Errors, Unguarded, Guarded, InPart, Where, Attempt, Turn, Rest}
 use Rattle.rapid_meaning.specs.Instructions.{instructed, needed, num, options, truth}
 use Rattle.rapid_meaning.specs.Interrupts.{connect, number_at}
 use Rattle.rapid_meaning.specs.Layouts.{local_start}
 use Rattle.rapid_meaning.specs.Lists.{behind, ended, items, jumped, rest}
-use Rattle.rapid_meaning.specs.Looks.{hold, look}
+use Rattle.rapid_meaning.specs.Looks.{look}
 use Rattle.rapid_meaning.specs.Loops.{bounds, counted, counter, counter_place, counts_on, has_passed, set_counter, step_of, turn_due}
 use Rattle.rapid_meaning.specs.Places.{own_place, read_value, write_value}
 use Rattle.rapid_meaning.specs.Statements.{again_behind, and_then, assign, byte_of, call, chosen, connects, done_or_held, follows, goes_on, inner, inner_or_not, is_among, raised, selected, stmt, turn, turned}
 use Rattle.rapid_meaning.specs.Values.{applied, num_in, truth_in}
 use Rattle.rapid_meaning.specs.Doings as doings
 use Rattle.task_typing.specs.Expressions.{AreArgs, IsExpr, IsPlace}
-use Rattle.task_typing.specs.Instructions.{IsInstruction}
 use Rattle.task_typing.specs.Kinds.{Counts, Holds, Kind, cells_of, kind_of, kinds_of, need_of}
 use Rattle.task_typing.specs.Operations.{is_compared}
 use Rattle.task_typing.specs.Setting.{Setting}
@@ -45,8 +41,8 @@ use Rattle.task_typing.proofs.Looks.{hold_safe, look_safe}
 use Rattle.task_typing.proofs.Operators.{apply_is, applied_safe}
 use Rattle.task_typing.proofs.Places.{Inside, IsThere, num_safe, own_safe, row_cell, scene}
 use Rattle.task_typing.proofs.Rows.{at_repeated}
-use Rattle.task_typing.proofs.Safe.{Anything, Safe, safe_after, safe_any, safe_change, safe_does, safe_done, safe_ends, safe_fault, safe_gives, safe_goes, safe_raises, safe_reads, safe_then, scene_of}
-use Rattle.task_typing.proofs.Scene.{AreErrors, Facts, Ghost, IsEnd, IsFlow, IsFor, IsPart, IsResult, Scene, around_of, is_in_part, rules_of}
+use Rattle.task_typing.proofs.Safe.{Anything, Safe, safe_after, safe_any, safe_change, safe_does, safe_ends, safe_fault, safe_gives, safe_goes, safe_raises, safe_reads, safe_then}
+use Rattle.task_typing.proofs.Scene.{AreErrors, Facts, Ghost, IsFlow, IsFor, IsPart, IsResult, Scene, around_of, is_in_part}
 
 -- within the routine of a part
 abbrev pub inside_of : (c : Setting) → Facts c → Ghost → TypedRoutine → Inside
@@ -81,7 +77,7 @@ failed_by c facts g w s (Guarded list) error part are =
     (λ _. doings.Does (Rest (record w { errors = InPart error }) list list) (parted w s error) Raises)
     (safe_change (place_of c facts g w) (λ d. record d { errno = error }) (λ d is. record { slots = is.slots; frames_are = is.frames_are; in_trap = is.in_trap }))
     (λ _ _. safe_does c facts (record { trapped = g.trapped; frames = g.frames; lists = [] }) (Rest (record w { errors = InPart error }) list list) (IsFlow (around_of w g.lists)) (parted w s error) Raises
-     (tt, are, are) (λ flow ends. parted_safe c facts g w s error flow part ends) (safe_raises (place_of c facts g w) (IsFlow (around_of w g.lists))))
+    (tt, are, are) (λ flow ends. parted_safe c facts g w s error flow part ends) (safe_raises (place_of c facts g w) (IsFlow (around_of w g.lists))))
 
 pub header_safe : {A : Type 0} (c : Setting) (facts : Facts c) (g : Ghost) (w : Where) (s : TypedStmt) (P : A → Type 0) (own : Doing A) (next : A → Doing Flow) → IsPart c g (Attempt w s)
     → Safe (place_of c facts g w) P own → ((v : A) → P v → Flows c facts g w (next v)) → Flows c facts g w (header w s own next)
@@ -143,7 +139,7 @@ chosen_safe i around (MoreArms e list more) other same are is =
     safe_then (scene i) Anything (IsElse i.c around) (truth i.c.tree i.routine e) (λ b. if b then Gives (Else list) else chosen i.c.tree i.routine more other)
     (truth_expr i e (subst (λ (ks : List Kind). IsExpr i.c ks e sorts.Bool) same are.0))
     (λ b _. when_safe (scene i) (IsElse i.c around) b (Gives (Else list)) (chosen i.c.tree i.routine more other) (λ _. safe_gives (scene i) (IsElse i.c around) (Else list) are.1)
-     (λ _. chosen_safe i around more other same are.2 is))
+    (λ _. chosen_safe i around more other same are.2 is))
 
 among_safe : (i : Inside) (sort : Sort) (v : Value) (es : TypedExprs) → IsTrue (is_compared sort) → HasSort sort v → AreCaseValues i.c (kinds_of i.routine) es sort
     → Safe (scene i) Anything (is_among i.c.tree i.routine v es)
@@ -152,9 +148,9 @@ among_safe i sort v (MoreExprs e es) compared h are =
     safe_then (scene i) (HasSort sort) Anything (expr i.c.tree i.routine e)
     (λ w. applied (apply operators.Equal v w) >>= λ equal. truth_in equal >>= λ b. if b then Gives true else is_among i.c.tree i.routine v es) (expr_safe i e sort are.0)
     (λ w hw. safe_then (scene i) (HasSort sorts.Bool) Anything (applied (apply operators.Equal v w)) (λ equal. truth_in equal >>= λ b. if b then Gives true else is_among i.c.tree i.routine v es)
-     (applied_safe (scene i) sorts.Bool (apply operators.Equal v w) (apply_is operators.Equal sort sorts.Bool v w (compared, refl) h hw))
-     (λ equal he. safe_then (scene i) Anything Anything (truth_in equal) (λ b. if b then Gives true else is_among i.c.tree i.routine v es) (truth_safe (scene i) equal he)
-      (λ b _. when_safe (scene i) Anything b (Gives true) (is_among i.c.tree i.routine v es) (λ _. safe_any (scene i) true) (λ _. among_safe i sort v es compared h are.1))))
+    (applied_safe (scene i) sorts.Bool (apply operators.Equal v w) (apply_is operators.Equal sort sorts.Bool v w (compared, refl) h hw))
+    (λ equal he. safe_then (scene i) Anything Anything (truth_in equal) (λ b. if b then Gives true else is_among i.c.tree i.routine v es) (truth_safe (scene i) equal he)
+    (λ b _. when_safe (scene i) Anything b (Gives true) (is_among i.c.tree i.routine v es) (λ _. safe_any (scene i) true) (λ _. among_safe i sort v es compared h are.1))))
 
 selected_safe : (i : Inside) (around : Around) (sort : Sort) (v : Value) (cases : TypedCases) (other : TypedElse) → around.places ≡ kinds_of i.routine → IsTrue (is_compared sort) → HasSort sort v
     → AreCases i.c around cases sort → IsElse i.c around other → Safe (scene i) (IsElse i.c around) (selected i.c.tree i.routine v cases other)
@@ -163,7 +159,7 @@ selected_safe i around sort v (MoreCases es list more) other same compared h are
     safe_then (scene i) Anything (IsElse i.c around) (is_among i.c.tree i.routine v es) (λ b. if b then Gives (Else list) else selected i.c.tree i.routine v more other)
     (among_safe i sort v es compared h (subst (λ (ks : List Kind). AreCaseValues i.c ks es sort) same are.0))
     (λ b _. when_safe (scene i) (IsElse i.c around) b (Gives (Else list)) (selected i.c.tree i.routine v more other) (λ _. safe_gives (scene i) (IsElse i.c around) (Else list) are.1)
-     (λ _. selected_safe i around sort v more other same compared h are.2 is))
+    (λ _. selected_safe i around sort v more other same compared h are.2 is))
 
 -- the three data of a FOR
 counter_place_safe : (i : Inside) (local which : ℕ) → slice_get (kinds_of i.routine) local ≡ Some Counts → which < 3 → Safe (scene i) (λ q. IsThere (scene i) q sorts.Num) (counter_place i.routine local which)
@@ -191,10 +187,10 @@ bounds_safe i local first last step e ifirst ilast istep =
     let stores : ℤ → ℤ → ℤ → Act = λ from to by. set_counter i.routine local 2 by >> (set_counter i.routine local 1 to >> set_counter i.routine local 0 from) in
     safe_then (scene i) Anything Anything (num i.c.tree i.routine first) (λ from. num i.c.tree i.routine last >>= λ to. step_of i.c.tree i.routine from to step >>= λ by. stores from to by) (num_expr i first ifirst)
     (λ from _. safe_then (scene i) Anything Anything (num i.c.tree i.routine last) (λ to. step_of i.c.tree i.routine from to step >>= λ by. stores from to by) (num_expr i last ilast)
-     (λ to _. safe_then (scene i) Anything Anything (step_of i.c.tree i.routine from to step) (λ by. stores from to by) (step_safe i from to step istep)
-      (λ by _. safe_then (scene i) Anything Anything (set_counter i.routine local 2 by) (λ _. set_counter i.routine local 1 to >> set_counter i.routine local 0 from) (set_safe i local 2 by e (omega arith))
-       (λ _ _. safe_then (scene i) Anything Anything (set_counter i.routine local 1 to) (λ _. set_counter i.routine local 0 from) (set_safe i local 1 to e (omega arith))
-        (λ _ _. set_safe i local 0 from e (omega arith))))))
+    (λ to _. safe_then (scene i) Anything Anything (step_of i.c.tree i.routine from to step) (λ by. stores from to by) (step_safe i from to step istep)
+    (λ by _. safe_then (scene i) Anything Anything (set_counter i.routine local 2 by) (λ _. set_counter i.routine local 1 to >> set_counter i.routine local 0 from) (set_safe i local 2 by e (omega arith))
+    (λ _ _. safe_then (scene i) Anything Anything (set_counter i.routine local 1 to) (λ _. set_counter i.routine local 0 from) (set_safe i local 1 to e (omega arith))
+    (λ _ _. set_safe i local 0 from e (omega arith))))))
 
 -- the next turn of a FOR
 due_safe : (c : Setting) (facts : Facts c) (g : Ghost) (w : Where) (s : TypedStmt) (local : ℕ) → slice_get (kinds_of w.routine) local ≡ Some Counts → IsPart c g (Turn w s)
@@ -204,11 +200,11 @@ due_safe c facts g w s local e part =
     (λ variable. counter w.routine local 1 >>= λ last. counter w.routine local 2 >>= λ step. if has_passed variable last step then Gives Normal else goes_to (Turn w s))
     (counter_safe (inside_of c facts g w.routine) local 0 e (omega arith))
     (λ variable _. safe_then (place_of c facts g w) Anything (IsFlow (around_of w g.lists)) (counter w.routine local 1)
-     (λ last. counter w.routine local 2 >>= λ step. if has_passed variable last step then Gives Normal else goes_to (Turn w s)) (counter_safe (inside_of c facts g w.routine) local 1 e (omega arith))
-     (λ last _. safe_then (place_of c facts g w) Anything (IsFlow (around_of w g.lists)) (counter w.routine local 2)
-      (λ step. if has_passed variable last step then Gives Normal else goes_to (Turn w s)) (counter_safe (inside_of c facts g w.routine) local 2 e (omega arith))
-      (λ step _. when_safe (place_of c facts g w) (IsFlow (around_of w g.lists)) (has_passed variable last step) (Gives Normal) (goes_to (Turn w s)) (λ _. goes_normal c facts g w)
-       (λ _. safe_goes c facts g (Turn w s) part))))
+    (λ last. counter w.routine local 2 >>= λ step. if has_passed variable last step then Gives Normal else goes_to (Turn w s)) (counter_safe (inside_of c facts g w.routine) local 1 e (omega arith))
+    (λ last _. safe_then (place_of c facts g w) Anything (IsFlow (around_of w g.lists)) (counter w.routine local 2)
+    (λ step. if has_passed variable last step then Gives Normal else goes_to (Turn w s)) (counter_safe (inside_of c facts g w.routine) local 2 e (omega arith))
+    (λ step _. when_safe (place_of c facts g w) (IsFlow (around_of w g.lists)) (has_passed variable last step) (Gives Normal) (goes_to (Turn w s)) (λ _. goes_normal c facts g w)
+    (λ _. safe_goes c facts g (Turn w s) part))))
 
 counted_safe : (c : Setting) (facts : Facts c) (g : Ghost) (w : Where) (s : TypedStmt) (local : ℕ) (o : Option ℤ) → slice_get (kinds_of w.routine) local ≡ Some Counts → IsPart c g (Turn w s)
     → Flows c facts g w (counted w s local o)
@@ -223,7 +219,7 @@ counts_safe c facts g w s local e part =
     safe_then (place_of c facts g w) Anything (IsFlow (around_of w g.lists)) (counter w.routine local 0) (λ variable. counter w.routine local 2 >>= λ step. counted w s local (sum_of variable step))
     (counter_safe (inside_of c facts g w.routine) local 0 e (omega arith))
     (λ variable _. safe_then (place_of c facts g w) Anything (IsFlow (around_of w g.lists)) (counter w.routine local 2) (λ step. counted w s local (sum_of variable step))
-     (counter_safe (inside_of c facts g w.routine) local 2 e (omega arith)) (λ step _. counted_safe c facts g w s local (sum_of variable step) e part))
+    (counter_safe (inside_of c facts g w.routine) local 2 e (omega arith)) (λ step _. counted_safe c facts g w s local (sum_of variable step) e part))
 
 turned_safe : (c : Setting) (facts : Facts c) (g : Ghost) (w : Where) (s t : TypedStmt) → IsPart c g (Turn w s) → IsFor t → IsStmt c (around_of w g.lists) t → Flows c facts g w (turned w s t)
 turned_safe c facts g w s (trees.For at local first last step list) part loops is =
@@ -275,13 +271,13 @@ follows_safe c facts g w s (trees.For at local first last step list) part is loo
 follows_safe c facts g w s (trees.While at e list) part is loops =
     header_safe c facts g w s Anything (truth c.tree w.routine e) (λ b. if b then again_behind w s list else Gives Normal) part (truth_expr (inside_of c facts g w.routine) e is.0)
     (λ b _. when_safe (place_of c facts g w) (IsFlow (around_of w g.lists)) b (again_behind w s list) (Gives Normal)
-     (λ _. safe_then (place_of c facts g w) (IsFlow (around_of w g.lists)) (IsFlow (around_of w g.lists)) (inner w list) (and_then (goes_to (Attempt w s))) (inner_safe c facts g w list part.0 is.1)
-      (λ flow ends. then_safe c facts g w (goes_to (Attempt w s)) flow (safe_goes c facts g (Attempt w s) part) ends))
-     (λ _. goes_normal c facts g w))
+    (λ _. safe_then (place_of c facts g w) (IsFlow (around_of w g.lists)) (IsFlow (around_of w g.lists)) (inner w list) (and_then (goes_to (Attempt w s))) (inner_safe c facts g w list part.0 is.1)
+    (λ flow ends. then_safe c facts g w (goes_to (Attempt w s)) flow (safe_goes c facts g (Attempt w s) part) ends))
+    (λ _. goes_normal c facts g w))
 follows_safe c facts g w s (trees.Test at e cases other) part is loops =
     header_safe c facts g w s (IsElse c (around_of w g.lists)) (expr c.tree w.routine e >>= λ v. selected c.tree w.routine v cases other) (inner_or_not w) part
     (safe_then (place_of c facts g w) (HasSort is.0) (IsElse c (around_of w g.lists)) (expr c.tree w.routine e) (λ v. selected c.tree w.routine v cases other) (expr_safe (inside_of c facts g w.routine) e is.0 is.2)
-     (λ v h. selected_safe (inside_of c facts g w.routine) (around_of w g.lists) is.0 v cases other refl is.1 h is.3 is.4))
+    (λ v h. selected_safe (inside_of c facts g w.routine) (around_of w g.lists) is.0 v cases other refl is.1 h is.3 is.4))
     (λ list typed. other_safe c facts g w list part.0 typed)
 
 -- a statement, from its Look on

@@ -1,11 +1,10 @@
 -- A well typed task asks or has ended, and its data are of their types.
-use Rattle.std.proofs.Common.{◌≡◌, refl, sym, ap, ◌∙◌, subst, ℕ, zero, suc, ◌<◌, ◌==◌, Bool, true, false, List, [], ◌∷◌, length, map, flat_map, Option, Some, None, slice_get, if◌then◌else◌, IsTrue, arith}
+use Rattle.std.proofs.Common.{◌≡◌, refl, sym, ap, ◌∙◌, subst, ℕ, zero, suc, ◌<◌, ◌==◌, Bool, true, false, List, [], ◌∷◌, length, map, flat_map, Option, Some, slice_get, if◌then◌else◌, IsTrue, arith}
 use Rattle.std.specs.Prelude.{⊤}
 use Rattle.std.proofs.lemmas.Bool.{eqb-true, eq-eqb}
 use Rattle.std.proofs.lemmas.Option.{slice_get_within}
 use Rattle.rapid_model.specs.CellData.{CellData}
 use Rattle.rapid_model.specs.declared.answer.Answer.{Answer}
-use Rattle.rapid_model.specs.declared.fate.Fate.{Fate}
 use Rattle.rapid_model.specs.declared.pers_cell.PersCell.{PersCell}
 use Rattle.rapid_model.specs.Sorts.{has_values}
 use Rattle.rapid_model.specs.declared.request.Request.{Request}
@@ -14,7 +13,6 @@ use Rattle.rapid_model.specs.declared.sort.Sort.{Sort}
 use Rattle.typed_trees.specs.Plain.{TypedParam, TypedPers, TypedTree}
 use Rattle.rapid_meaning.specs.Answering.{Outcome, Gave, Raised, Asking, Ended, Misfits, Unfit, NoFuel, sort_of_pers}
 use Rattle.rapid_meaning.specs.Data.{Data}
-use Rattle.rapid_meaning.specs.Flows.{Call}
 use Rattle.rapid_meaning.specs.Frames.{initial}
 use Rattle.rapid_meaning.specs.Runs.{FitsSteps, asked_after, data_after, data_in, deep, next_of, state_after, task}
 use Rattle.rapid_meaning.proofs.Fuel.{enough}
@@ -22,10 +20,10 @@ use Rattle.rapid_meaning.proofs.Growth.{fit_runs}
 use Rattle.task_typing.specs.Asked.{IsAsked}
 use Rattle.task_typing.specs.Full.{AreFull}
 use Rattle.task_typing.specs.Goes.{AreTyped, Goes}
-use Rattle.task_typing.specs.Kinds.{Cell, cells_of, kind_of}
+use Rattle.task_typing.specs.Kinds.{cells_of, kind_of}
 use Rattle.task_typing.specs.Numbered.{IsOne, Numbered}
 use Rattle.task_typing.specs.Setting.{Setting}
-use Rattle.task_typing.specs.States.{AreInCells, IsPers, IsState}
+use Rattle.task_typing.specs.States.{AreInCells, IsState}
 use Rattle.task_typing.specs.WellTyped.{WellTyped}
 use Rattle.task_typing.proofs.Calls.{keeps}
 use Rattle.task_typing.proofs.Frames.{slots_in}
@@ -71,7 +69,7 @@ facts_of signals arm cell number tree typed numbered = record {
       let own : IsOne cell p n = numbered.pers is.row n p is.numbered is.there in
       sort_found tree.pers_of tree.pers is.row n p
       (λ k q e f. let other : IsOne cell q n = numbered.pers k n q e f in
-       sym other.same_sort ∙ ap (λ (x : PersCell). x.sort) (one_row other.cell_row own.cell_row (slice_get cell.pers n) other.there own.there) ∙ own.same_sort) is.numbered is.there;
+      sym other.same_sort ∙ ap (λ (x : PersCell). x.sort) (one_row other.cell_row own.cell_row (slice_get cell.pers n) other.there own.there) ∙ own.same_sort) is.numbered is.there;
   valued = λ n p is. all_at (λ (q : TypedPers). IsTrue (has_values q.sort)) tree.pers is.row p typed.pers is.there;
   routines = typed.routines;
   meetings = λ row few. there_is tree.meeting_of row (omega (arith, few, numbered.as_many_meetings));

@@ -1,5 +1,5 @@
 -- What a well typed task asks.
-use Rattle.std.specs.Prelude.{◌≡◌, ℕ, ◌<◌, ◌^◌, true, IsTrue, is_some, List, length, Some, slice_get, ⊤}
+use Rattle.std.specs.Prelude.{◌≡◌, ℕ, ◌<◌, true, IsTrue, is_some, Some, slice_get, ⊤}
 use Rattle.rapid_num.specs.Reach.{is_position}
 use Rattle.rapid_model.specs.Paths.{fits_part, has_element, part_sort}
 use Rattle.rapid_model.specs.Requests.{may_tell}

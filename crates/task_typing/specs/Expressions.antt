@@ -12,7 +12,7 @@ use Rattle.raw_trees.specs.declared.raw_routine.RoutineKind.TheVariants.{Func}
 use Rattle.rapid_builtins.specs.Calls.{function_needs, function_needs_arm, function_result}
 use Rattle.rapid_builtins.specs.declared.need.Need.{Need}
 use Rattle.rapid_builtins.specs.declared.need.Need.TheVariants as needs
-use Rattle.typed_trees.specs.Plain.{TypedArg, TypedArgs, TypedExpr, TypedExprs, TypedHeld, TypedPers, TypedPlace, TypedRoutine, TypedSlot, TypedSteps, TypedTree, Known, ErrorNumber, SignalValue, Stored, Group, Aggregate, Builtin, Invoke, Not, Signed, Chain, NoExprs, MoreExprs, NoSteps, MoreSteps, NotHeld, Held, PlaceOf, Given, Lent, OfSignal, OfMeeting, Itself, NoArgs, MoreArgs}
+use Rattle.typed_trees.specs.Plain.{TypedArg, TypedArgs, TypedExpr, TypedExprs, TypedPers, TypedPlace, TypedRoutine, TypedSlot, TypedSteps, TypedTree, Known, ErrorNumber, SignalValue, Stored, Group, Aggregate, Builtin, Invoke, Not, Signed, Chain, NoExprs, MoreExprs, NoSteps, MoreSteps, NotHeld, Held, PlaceOf, Given, Lent, OfSignal, OfMeeting, Itself, NoArgs, MoreArgs}
 use Rattle.typed_trees.specs.declared.expr.TreeRoot.{TreeRoot}
 use Rattle.typed_trees.specs.declared.expr.TreeRoot.TheVariants as roots
 use Rattle.task_typing.specs.Kinds.{Kind, Owns, Refers, Counts, need_of}

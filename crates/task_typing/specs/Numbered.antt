@@ -1,5 +1,5 @@
 -- What the numbers keep that a cell gave a task's persistents and meetings.
-use Rattle.std.specs.Prelude.{◌≡◌, ℕ, ◌<◌, List, length, map, Some, slice_get}
+use Rattle.std.specs.Prelude.{◌≡◌, ℕ, ◌<◌, length, map, Some, slice_get}
 use Rattle.rapid_model.specs.CellData.{CellData}
 use Rattle.rapid_model.specs.declared.pers_cell.PersCell.{PersCell}
 use Rattle.rapid_model.specs.declared.task_row.TaskRow.{TaskRow}
