@@ -1,7 +1,8 @@
 -- What instructions do of places, numbers, signals, zones and moves.
-use Rattle.std.proofs.Common.{◌≡◌, refl, sym, ap, subst, ℕ, zero, suc, ◌+◌, ◌-◌, ◌<◌, ◌≤◌, Bool, true, false, not, ℤ, pos, int_lt, List, ◌∷◌, length, Option, Some, None, Result, Ok, Err, slice_get, position, bytes_eq, if◌then◌else◌, IsTrue, arith}
+use Rattle.std.proofs.Common.{◌≡◌, refl, sym, ap, subst, ℕ, zero, suc, ◌+◌, ◌-◌, ◌^◌, ◌<◌, ◌≤◌, Bool, true, false, not, ℤ, pos, int_lt, List, [], ◌∷◌, length, Option, Some, None, Result, Ok, Err, slice_get, position, bytes_eq, if◌then◌else◌, IsTrue, arith}
 use Rattle.std.specs.Prelude.{⊤}
 use Rattle.std.specs.Option.{option_map}
+use Rattle.std.proofs.lemmas.List.Quantifiers.{position-Some}
 use Rattle.std.specs.Ordering.{int_eq}
 use Rattle.rapid_num.specs.Reach.{is_position, is_reachable}
 use Rattle.rapid_num.specs.declared.joints.Joints.{Joints}
@@ -44,6 +45,7 @@ use Rattle.task_typing.specs.Expressions.{IsArray, IsExpr, IsPersName}
 use Rattle.task_typing.specs.Kinds.{kinds_of}
 use Rattle.task_typing.specs.States.{IsPers}
 use Rattle.task_typing.specs.WellTyped.{is_datum_of, is_marked}
+use Rattle.task_typing.proofs.Bits.{positive, with_task_below}
 use Rattle.task_typing.proofs.Data.{shape_form}
 use Rattle.task_typing.proofs.Expressions.{HasSort, expr_safe, signal_safe, text_safe}
 use Rattle.task_typing.proofs.Forms.{num_form, speed_form, target_form, tasks_form}
@@ -204,30 +206,34 @@ array_place i (PlaceOf root NotHeld parts.Whole own) sort are = (
 array_place i (PlaceOf root NotHeld part own) sort are = absurd are
 array_place i (PlaceOf root (Held e) part own) sort are = absurd are
 
-task_safe : (s : Scene) (o : Option ℕ) → Safe s Anything (task_or_fault o)
-task_safe s None = safe_fault {A = ℕ} s Anything faults.TaskName
-task_safe s (Some task) = safe_any s task
+task_safe : (s : Scene) (o : Option ℕ) (n : ℕ) → ((k : ℕ) → o ≡ Some k → k < n) → Safe s (λ task. task < n) (task_or_fault o)
+task_safe s None n few = safe_fault s (λ (task : ℕ). task < n) faults.TaskName
+task_safe s (Some task) n few = safe_gives s (λ (k : ℕ). k < n) task (few task refl)
 
 name_text : (s : Scene) (v : Value) → HasSort sorts.Tasks v → Safe s Anything (text_in v)
 name_text s v h = let f : (t : List ℕ) × (v ≡ values.Text t) = tasks_form v h in subst (λ (x : Value). Safe s Anything (text_in x)) (sym f.1) (safe_any s f.0)
 
 listed_safe : (s : Scene) (names : List (List ℕ)) (q : Lvalue) (len : ℕ) → IsRooted s q sorts.Tasks (Some len) → (left number set : ℕ) → 1 ≤ number → number + left ≤ len + 1
-    → Safe s Anything (with_tasks names q left number set)
+    → set < 2 ^ length names → Safe s (λ tasks. tasks < 2 ^ length names) (with_tasks names q left number set)
 unfolding with_tasks
-listed_safe s names q len is zero number set low high = safe_any s set
-listed_safe s names q len is (suc left) number set low high =
-    safe_then s (HasSort sorts.Tasks) Anything (read_value (element_of q number))
+listed_safe s names q len is zero number set low high under = safe_gives s (λ (tasks : ℕ). tasks < 2 ^ length names) set under
+listed_safe s names q len is (suc left) number set low high under =
+    safe_then s (HasSort sorts.Tasks) (λ (tasks : ℕ). tasks < 2 ^ length names) (read_value (element_of q number))
     (λ v. text_in v >>= λ name. task_or_fault (position (bytes_eq name) names) >>= λ task. with_tasks names q left (number + 1) (with_task task set))
     (read_safe s (element_of q number) sorts.Tasks refl (is number low (omega (arith, high))))
-    (λ v h. safe_then s Anything Anything (text_in v) (λ name. task_or_fault (position (bytes_eq name) names) >>= λ task. with_tasks names q left (number + 1) (with_task task set)) (name_text s v h)
-    (λ name _. safe_then s Anything Anything (task_or_fault (position (bytes_eq name) names)) (λ task. with_tasks names q left (number + 1) (with_task task set)) (task_safe s (position (bytes_eq name) names))
-    (λ task _. listed_safe s names q len is left (number + 1) (with_task task set) (omega (arith, low)) (omega (arith, high)))))
+    (λ v h. safe_then s Anything (λ (tasks : ℕ). tasks < 2 ^ length names) (text_in v) (λ name. task_or_fault (position (bytes_eq name) names) >>= λ task. with_tasks names q left (number + 1) (with_task task set)) (name_text s v h)
+     (λ name _. safe_then s (λ (task : ℕ). task < length names) (λ (tasks : ℕ). tasks < 2 ^ length names) (task_or_fault (position (bytes_eq name) names)) (λ task. with_tasks names q left (number + 1) (with_task task set))
+      (task_safe s (position (bytes_eq name) names) (length names) (λ k e. (position-Some (bytes_eq name) names k [] e).0))
+      (λ task few. listed_safe s names q len is left (number + 1) (with_task task set) (omega (arith, low)) (omega (arith, high)) (with_task_below (length names) task set few under))))
 
-pub tasks_safe : (s : Scene) (names : List (List ℕ)) (q : Lvalue) (o : Option ℕ) (len : ℕ) → o ≡ Some len → IsRooted s q sorts.Tasks (Some len) → Safe s Anything (tasks_in names q o)
-tasks_safe s names q o len e is = subst (λ (x : Option ℕ). Safe s Anything (tasks_in names q x)) (sym e) (listed_safe s names q len is len 1 0 (omega arith) (omega arith))
+pub tasks_safe : (s : Scene) (names : List (List ℕ)) (q : Lvalue) (o : Option ℕ) (len : ℕ) → o ≡ Some len → IsRooted s q sorts.Tasks (Some len)
+    → Safe s (λ tasks. tasks < 2 ^ length names) (tasks_in names q o)
+tasks_safe s names q o len e is =
+    subst (λ (x : Option ℕ). Safe s (λ tasks. tasks < 2 ^ length names) (tasks_in names q x)) (sym e)
+    (listed_safe s names q len is len 1 0 (omega arith) (omega arith) (positive (length names)))
 
-pub arrive_safe : (s : Scene) (row meeting tasks : ℕ) → slice_get s.c.tree.meeting_of row ≡ Some meeting → Safe s Anything (arrive meeting tasks)
-arrive_safe s row meeting tasks e = safe_asks s Anything (requests.Arrive meeting tasks) when_arrived (record { no_rise = refl; no_hold = refl; no_leave = refl }) (λ d. (row, e)) answered
+pub arrive_safe : (s : Scene) (row meeting tasks : ℕ) → slice_get s.c.tree.meeting_of row ≡ Some meeting → tasks < 2 ^ length s.c.tree.tasks → Safe s Anything (arrive meeting tasks)
+arrive_safe s row meeting tasks e under = safe_asks s Anything (requests.Arrive meeting tasks) when_arrived (record { no_rise = refl; no_hold = refl; no_leave = refl }) (λ d. (row, e, under)) answered
   where
     answered : Answered s Anything (requests.Arrive meeting tasks) when_arrived
     answered trapped answers.Met fits full = (refl, safe_any s true)

@@ -1,5 +1,5 @@
 -- Instructions.
-use Rattle.std.proofs.Common.{◌≡◌, ⊎_elim, refl, sym, ap, ◌∙◌, subst, ℕ, ◌<◌, ◌≤◌, Bool, true, false, ℤ, pos, List, [], ◌∷◌, codes, length, Option, Some, slice_get, IsTrue, arith, ◌||◌, not}
+use Rattle.std.proofs.Common.{◌≡◌, ⊎_elim, refl, sym, ap, ◌∙◌, subst, ℕ, ◌^◌, ◌<◌, ◌≤◌, Bool, true, false, ℤ, pos, List, [], ◌∷◌, codes, length, Option, Some, slice_get, IsTrue, arith, ◌||◌, not}
 use Rattle.std.specs.Prelude.{⊤}
 use Rattle.rapid_num.specs.Arithmetic.{sum_of, difference_of}
 use Rattle.rapid_model.specs.declared.instruction.Instruction.{Instruction}
@@ -102,8 +102,9 @@ meets i number list few are =
     (safe_or (scene i) (λ m. m ≡ named.0) (slice_get i.c.tree.meeting_of number) named.0 named.1 refl)
     (λ meeting same. safe_then (scene i) (λ q. IsRooted (scene i) q sorts.Tasks (Some array.0)) Anything (place i.c.tree i.routine list)
     (λ q. tasks_in i.c.tree.tasks q (lent_length i.c.tree i.routine list) >>= arrive meeting) array.2
-    (λ q rooted. on i (tasks_in i.c.tree.tasks q (lent_length i.c.tree i.routine list)) (arrive meeting) (tasks_safe (scene i) i.c.tree.tasks q (lent_length i.c.tree i.routine list) array.0 array.1 rooted)
-    (λ tasks. arrive_safe (scene i) number meeting tasks (named.1 ∙ ap Some (sym same)))))
+    (λ q rooted. safe_then (scene i) (λ (tasks : ℕ). tasks < 2 ^ length i.c.tree.tasks) Anything (tasks_in i.c.tree.tasks q (lent_length i.c.tree i.routine list)) (arrive meeting)
+    (tasks_safe (scene i) i.c.tree.tasks q (lent_length i.c.tree i.routine list) array.0 array.1 rooted)
+    (λ tasks under. arrive_safe (scene i) number meeting tasks (named.1 ∙ ap Some (sym same)) under)))
 
 -- what stands behind the text of TPWrite
 shown_num : (i : Inside) (e : TypedExpr) → IsExpr i.c (kinds_of i.routine) e sorts.Num → (name : List ℕ) → name ≡ codes "Num"

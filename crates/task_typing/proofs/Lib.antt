@@ -13,6 +13,7 @@ pub mod Loads
 pub mod Operators
 pub mod Expressions
 pub mod Shapes
+pub mod Bits
 pub mod Acts
 pub mod Instructions
 pub mod Looks
@@ -20,3 +21,5 @@ pub mod Statements
 pub mod Frames
 pub mod Calls
 pub mod Whole
+pub mod Suits
+mod Examples

@@ -1,5 +1,5 @@
 -- What a well typed task asks.
-use Rattle.std.specs.Prelude.{◌≡◌, ℕ, ◌<◌, true, IsTrue, is_some, Some, slice_get, ⊤}
+use Rattle.std.specs.Prelude.{◌≡◌, ℕ, ◌<◌, ◌^◌, length, true, IsTrue, is_some, Some, slice_get, ⊤}
 use Rattle.rapid_num.specs.Reach.{is_position}
 use Rattle.rapid_model.specs.Paths.{fits_part, has_element, part_sort}
 use Rattle.rapid_model.specs.Requests.{may_tell}
@@ -35,7 +35,7 @@ IsAsked c d (requests.ZoneTie old temporary shape signal value) = ⊥
 IsAsked c d (requests.ZoneOn zone) = IsTrue c.arm
 IsAsked c d (requests.ZoneOff zone) = IsTrue c.arm
 IsAsked c d (requests.ZoneFree zone) = IsTrue c.arm
-IsAsked c d (requests.Arrive meeting tasks) = (row : ℕ) × (slice_get c.tree.meeting_of row ≡ Some meeting)
+IsAsked c d (requests.Arrive meeting tasks) = (row : ℕ) × (slice_get c.tree.meeting_of row ≡ Some meeting) × (tasks < 2 ^ length c.tree.tasks)
 IsAsked c d (requests.Input index) = ⊥
 IsAsked c d (requests.End fate) = IsTrue (may_tell fate)
 IsAsked c d _ = ⊤
