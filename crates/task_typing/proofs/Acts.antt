@@ -222,9 +222,9 @@ listed_safe s names q len is (suc left) number set low high under =
     (λ v. text_in v >>= λ name. task_or_fault (position (bytes_eq name) names) >>= λ task. with_tasks names q left (number + 1) (with_task task set))
     (read_safe s (element_of q number) sorts.Tasks refl (is number low (omega (arith, high))))
     (λ v h. safe_then s Anything (λ (tasks : ℕ). tasks < 2 ^ length names) (text_in v) (λ name. task_or_fault (position (bytes_eq name) names) >>= λ task. with_tasks names q left (number + 1) (with_task task set)) (name_text s v h)
-     (λ name _. safe_then s (λ (task : ℕ). task < length names) (λ (tasks : ℕ). tasks < 2 ^ length names) (task_or_fault (position (bytes_eq name) names)) (λ task. with_tasks names q left (number + 1) (with_task task set))
-      (task_safe s (position (bytes_eq name) names) (length names) (λ k e. (position-Some (bytes_eq name) names k [] e).0))
-      (λ task few. listed_safe s names q len is left (number + 1) (with_task task set) (omega (arith, low)) (omega (arith, high)) (with_task_below (length names) task set few under))))
+    (λ name _. safe_then s (λ (task : ℕ). task < length names) (λ (tasks : ℕ). tasks < 2 ^ length names) (task_or_fault (position (bytes_eq name) names)) (λ task. with_tasks names q left (number + 1) (with_task task set))
+    (task_safe s (position (bytes_eq name) names) (length names) (λ k e. (position-Some (bytes_eq name) names k [] e).0))
+    (λ task few. listed_safe s names q len is left (number + 1) (with_task task set) (omega (arith, low)) (omega (arith, high)) (with_task_below (length names) task set few under))))
 
 pub tasks_safe : (s : Scene) (names : List (List ℕ)) (q : Lvalue) (o : Option ℕ) (len : ℕ) → o ≡ Some len → IsRooted s q sorts.Tasks (Some len)
     → Safe s (λ tasks. tasks < 2 ^ length names) (tasks_in names q o)

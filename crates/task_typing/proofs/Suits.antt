@@ -62,11 +62,11 @@ suits cell number row mine c d (requests.ReadP pers path) signals arm numbered t
 suits cell number row mine c d (requests.WriteP pers path value) signals arm numbered trapped asked =
     of_row cell number c.tree pers asked.0 (λ sort len. (has_element len path.index && is_some (part_sort sort path.part)) && fits_part sort path.part value) numbered asked.1
     (both (has_element asked.0.len path.index && is_some (part_sort asked.0.sort path.part)) (fits_part asked.0.sort path.part value)
-     (both (has_element asked.0.len path.index) (is_some (part_sort asked.0.sort path.part)) asked.2 (fits_some asked.0.sort path.part value asked.3)) asked.3)
+    (both (has_element asked.0.len path.index) (is_some (part_sort asked.0.sort path.part)) asked.2 (fits_some asked.0.sort path.part value asked.3)) asked.3)
 suits cell number row mine c d (requests.TestSet pers path) signals arm numbered trapped asked =
     of_row cell number c.tree pers asked.0 (λ sort len. (has_element len path.index && is_some (part_sort sort path.part)) && is_bool (part_sort sort path.part)) numbered asked.1
     (both (has_element asked.0.len path.index && is_some (part_sort asked.0.sort path.part)) (is_bool (part_sort asked.0.sort path.part))
-     (both (has_element asked.0.len path.index) (is_some (part_sort asked.0.sort path.part)) asked.2 (ap is_some asked.3)) (ap is_bool asked.3))
+    (both (has_element asked.0.len path.index) (is_some (part_sort asked.0.sort path.part)) asked.2 (ap is_some asked.3)) (ap is_bool asked.3))
 suits cell number row mine c d (requests.ReadS signal) signals arm numbered trapped asked = lt-ltb signal (length cell.signals) (omega (arith, asked, signals))
 suits cell number row mine c d (requests.WriteS signal value) signals arm numbered trapped asked = lt-ltb signal (length cell.signals) (omega (arith, asked, signals))
 suits cell number row mine c d requests.Position signals arm numbered trapped asked = sym arm ∙ asked
