@@ -1,0 +1,77 @@
+-- A task that is well typed and numbered: it sets a num of its module, in a FOR, and says a text.
+use Rattle.std.proofs.Common.{◌≡◌, refl, ℕ, zero, suc, ◌<◌, true, false, IsTrue, List, [], ◌∷◌, All, Some, None, codes, arith}
+use Rattle.rapid_model.specs.CellData.{CellData}
+use Rattle.rapid_model.specs.declared.instruction.Instruction.TheVariants as instructions
+use Rattle.rapid_model.specs.declared.sort.Sort.TheVariants as sorts
+use Rattle.rapid_model.specs.declared.task_row.TaskRow.{TaskRow}
+use Rattle.rapid_model.specs.Sorts.{has_values}
+use Rattle.typed_trees.specs.Plain.{TypedLocal, TypedPers, TypedRoutine, TypedSlot, TypedStmt, TypedTree, For, stmts_of}
+use Rattle.typed_trees.specs.declared.datum.Datum.TheVariants.{Plain}
+use Rattle.typed_trees.specs.declared.expr.TreeRoot.TheVariants as roots
+use Rattle.rapid_meaning.proofs.Trees.{assigns, module_num, num, num_row, number, proc, says, stored, task_of, whole_of}
+use Rattle.task_typing.specs.Kinds.{Counts}
+use Rattle.task_typing.specs.Numbered.{Numbered}
+use Rattle.task_typing.specs.Setting.{Setting}
+use Rattle.task_typing.specs.Statements.{AreStmts}
+use Rattle.task_typing.specs.WellTyped.{AreFirst, IsRoutine, WellTyped, around_in, is_datum_of}
+
+all_none : {A : Type 0} (P : A → Type 0) → All P []
+all_none P k d few = absurd (omega (arith, few))
+
+all_more : {A : Type 0} (P : A → Type 0) (x : A) (xs : List A) → P x → All P xs → All P (x ∷ xs)
+all_more P x xs p all zero d few = p
+all_more P x xs p all (suc k) d few = all k d (omega (arith, few))
+
+-- FOR i FROM 1 TO 3 DO x := i; ENDFOR TPWrite "done";
+counts : TypedStmt
+counts = For 0 0 (num 1) (num 3) None (stmts_of (assigns (module_num 0) (stored (whole_of (roots.Local 0) sorts.Num)) ∷ []))
+
+main : TypedRoutine
+unfolding counts
+main = record (proc (counts ∷ says (codes "done") ∷ [])) { loops = 1 }
+
+tree : TypedTree
+unfolding main
+tree = task_of (num_row 0 ∷ []) (main ∷ [])
+
+first_is : AreFirst sorts.Num None (Plain (number 0) ∷ [])
+first_is = (refl, all_more (λ x. IsTrue (is_datum_of sorts.Num x)) (Plain (number 0)) [] refl (all_none (λ x. IsTrue (is_datum_of sorts.Num x))))
+
+abbrev setting : Setting
+unfolding tree
+setting = record { signals = 0; arm = false; tree = tree }
+
+list_is : AreStmts setting (around_in main false main.list) main.list
+unfolding tree setting
+list_is = (
+  (refl, (refl, refl), (refl, refl), tt, ((sorts.Num, refl, (refl, sorts.Num, (num_row 0, refl, refl, refl), refl), (refl, refl, (refl, sorts.Num, (Counts, refl, (refl, refl)), refl))), tt)),
+  (record { arm = refl; are_needed = ((refl, refl), tt); are_options = tt; chosen = omega arith }, tt),
+)
+
+main_is : IsRoutine setting main
+unfolding main
+main_is = record { locals = all_none (λ (row : TypedLocal). AreFirst row.sort row.len row.first); list = list_is; handler = tt; takes = tt }
+
+well_typed : WellTyped 0 false tree
+unfolding tree setting
+well_typed = record {
+  slots = all_more (λ (row : TypedSlot). AreFirst row.sort row.len row.first) (num_row 0) [] first_is (all_none (λ (row : TypedSlot). AreFirst row.sort row.len row.first));
+  pers = all_none (λ (row : TypedPers). IsTrue (has_values row.sort));
+  routines = all_more (IsRoutine setting) main [] main_is (all_none (IsRoutine setting));
+  main = record { routine = main; there = refl; procedure = refl; takes_nothing = refl };
+}
+
+cell : CellData
+cell = record { steps = 100; tasks = record { name = codes "A"; arm = None } ∷ []; signals = []; pers = []; meetings = []; zones = []; inputs = [] }
+
+numbered : Numbered cell 0 tree
+unfolding tree cell
+numbered = record {
+  task_row = record { name = codes "A"; arm = None };
+  there = refl;
+  tasks = refl;
+  as_many_pers = refl;
+  pers = λ row number p e f. absurd cc;
+  as_many_meetings = refl;
+  meetings = λ row number e. absurd cc;
+}

@@ -1,0 +1,25 @@
+pub mod Told
+pub mod Meets
+pub mod Runs
+pub mod Forms
+pub mod Parts
+pub mod Cells
+pub mod Rows
+pub mod Scene
+pub mod Safe
+pub mod Places
+pub mod Data
+pub mod Loads
+pub mod Operators
+pub mod Expressions
+pub mod Shapes
+pub mod Bits
+pub mod Acts
+pub mod Instructions
+pub mod Looks
+pub mod Statements
+pub mod Frames
+pub mod Calls
+pub mod Whole
+pub mod Suits
+mod Examples

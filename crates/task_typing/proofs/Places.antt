@@ -1,0 +1,222 @@
+-- Places of data, from their typed forms.
+use Rattle.std.proofs.Common.{◌≡◌, refl, sym, ap, ◌∙◌, subst, ℕ, ◌+◌, ◌-◌, ◌%◌, ◌/◌, ◌<◌, ◌≤◌, ◌==◌, Bool, true, false, ◌&&◌, nat_le, ℤ, pos, negsuc, List, [], ◌∷◌, length, Option, Some, None, slice_get, if◌then◌else◌, IsTrue, arith}
+use Rattle.std.specs.Option.{option_and_then, option_map}
+use Rattle.std.proofs.lemmas.Bool.{leb-true, le-leb, and_parts}
+use Rattle.std.proofs.lemmas.List.{length-replicate}
+use Rattle.rapid_model.specs.Sorts.{width}
+use Rattle.rapid_model.specs.Paths.{has_element, has_sort, part_sort}
+use Rattle.rapid_model.specs.declared.fate.Fault.TheVariants.{IndexRange}
+use Rattle.rapid_model.specs.declared.part_name.PartName.{PartName}
+use Rattle.rapid_model.specs.declared.sort.Sort.{Sort}
+use Rattle.rapid_model.specs.declared.sort.Sort.TheVariants as sorts
+use Rattle.rapid_model.specs.declared.value.Value.{Value}
+use Rattle.rapid_model.specs.declared.value.Value.TheVariants as values
+use Rattle.constant_meaning.specs.Constants.{element_number}
+use Rattle.typed_trees.specs.Plain.{TypedPers, TypedRoutine, TypedSlot, TypedTree}
+use Rattle.typed_trees.specs.declared.datum.Datum.{Datum}
+use Rattle.typed_trees.specs.declared.datum.Datum.TheVariants as datums
+use Rattle.typed_trees.specs.declared.datum.Lvalue.{Lvalue}
+use Rattle.typed_trees.specs.declared.datum.Root.{Root}
+use Rattle.typed_trees.specs.declared.datum.Root.TheVariants as roots
+use Rattle.typed_trees.specs.declared.expr.TreeRoot.{TreeRoot}
+use Rattle.typed_trees.specs.declared.expr.TreeRoot.TheVariants as tree_roots
+use Rattle.rapid_meaning.specs.Data.{Data, Frame}
+use Rattle.rapid_meaning.specs.Doings.{or_misfit}
+use Rattle.rapid_meaning.specs.Layouts.{length_at, local_start, slot_start}
+use Rattle.rapid_meaning.specs.Places.{at_root, element_of, element_or_fault, indexed, kept_place, own_place, part_at, part_within, place_in, rooted}
+use Rattle.rapid_meaning.specs.Values.{num_in}
+use Rattle.task_typing.specs.Expressions.{IsOwn, IsRoot}
+use Rattle.task_typing.specs.Kinds.{Cell, Holds, Lends, Kind, Owns, Refers, Counts, cells_of, kinds_of, local_cells}
+use Rattle.task_typing.specs.Setting.{Setting}
+use Rattle.task_typing.specs.States.{AreFrames, IsInCell, IsLvalue, IsRootOf, cells_at}
+use Rattle.task_typing.proofs.Cells.{HasCells, as_deep, cell_read, deeper, has_cells, top_frame}
+use Rattle.task_typing.proofs.Forms.{num_form}
+use Rattle.task_typing.proofs.Parts.{inner_part}
+use Rattle.task_typing.proofs.Rows.{at_repeated, cell_count, local_len, local_row, slot_row}
+use Rattle.task_typing.proofs.Safe.{Anything, Safe, safe_any, safe_fault, safe_gives, safe_or, safe_reads, safe_then}
+use Rattle.task_typing.proofs.Scene.{Facts, InScene, Scene}
+
+-- within a routine, with these frames below
+pub record Inside : Type 0 where
+  pub c : Setting
+  pub facts : Facts c
+  pub trapped : Bool
+  pub routine : TypedRoutine
+  pub below : List (List Cell)
+
+abbrev pub scene : Inside → Scene
+scene i = record { c = i.c; facts = i.facts; trapped = i.trapped; frames = local_cells i.routine ∷ i.below }
+
+-- a place of this type in a scene
+abbrev pub IsThere : Scene → Lvalue → Sort → Type 0
+IsThere s q sort = IsLvalue s.c.tree s.frames q sort
+
+-- a datum of this type, or an array of this length with elements of it
+abbrev pub IsRooted : Scene → Lvalue → Sort → Option ℕ → Type 0
+IsRooted s q sort None = IsThere s q sort
+IsRooted s q sort (Some len) = (number : ℕ) → 1 ≤ number → number ≤ len → IsThere s (element_of q number) sort
+
+own_there : (tree : TypedTree) (cells : List Cell) (below : List (List Cell)) (fs : List Frame) (at : ℕ) → AreFrames tree (cells ∷ below) fs
+    → own_place at fs ≡ Some (at_root (roots.Frame (length below) at))
+own_there tree cells below [] at are = absurd are
+own_there tree cells below (f ∷ fs) at are = ap (λ (n : ℕ). Some (at_root (roots.Frame n at))) (sym (as_deep tree below fs are.1))
+
+-- a place of the routine's own
+pub own_safe : (i : Inside) (P : Lvalue → Type 0) (at : ℕ) → P (at_root (roots.Frame (length i.below) at)) → (d : Data) → InScene (scene i) d
+    → Safe (scene i) P (or_misfit (own_place at d.frames))
+own_safe i P at p d is = safe_or (scene i) P (own_place at d.frames) (at_root (roots.Frame (length i.below) at)) (own_there i.c.tree (local_cells i.routine) i.below d.frames at is.frames_are) p
+
+top_cell : (i : Inside) (at : ℕ) (sort : Sort) → slice_get (local_cells i.routine) at ≡ Some (Holds sort) → IsThere (scene i) (at_root (roots.Frame (length i.below) at)) sort
+top_cell i at sort e =
+    (sort, ap (λ (o : Option (List Cell)). option_and_then (λ cells. slice_get cells at) o) (top_frame i.below (local_cells i.routine)) ∙ e, refl)
+
+-- a place of a row of the routine
+pub row_cell : (i : Inside) (row k : ℕ) (kind : Kind) (sort : Sort) → slice_get (kinds_of i.routine) row ≡ Some kind → slice_get (cells_of kind) k ≡ Some (Holds sort) → k < cell_count kind
+    → IsThere (scene i) (at_root (roots.Frame (length i.below) (local_start i.routine row + k))) sort
+row_cell i row k kind sort e at few = top_cell i (local_start i.routine row + k) sort (local_row i.routine row k kind (Holds sort) e at few)
+
+first_cell : (i : Inside) (row : ℕ) (kind : Kind) (sort : Sort) → slice_get (kinds_of i.routine) row ≡ Some kind → slice_get (cells_of kind) 0 ≡ Some (Holds sort) → 0 < cell_count kind
+    → IsThere (scene i) (at_root (roots.Frame (length i.below) (local_start i.routine row))) sort
+first_cell i row kind sort e at few =
+    let same : local_start i.routine row + 0 ≡ local_start i.routine row = omega arith in
+    subst (λ (n : ℕ). IsThere (scene i) (at_root (roots.Frame (length i.below) n)) sort) same (row_cell i row 0 kind sort e at few)
+
+owned : (i : Inside) (row : ℕ) (sort : Sort) (len : Option ℕ) → slice_get (kinds_of i.routine) row ≡ Some (Owns sort len)
+    → IsRooted (scene i) (at_root (roots.Frame (length i.below) (local_start i.routine row))) sort len
+owned i row sort None e = first_cell i row (Owns sort None) sort e refl (omega arith)
+owned i row sort (Some len) e = λ number low high.
+    let few : number - 1 < len = omega (arith, low, high) in
+    row_cell i row (number - 1) (Owns sort (Some len)) sort e (at_repeated len (number - 1) (Holds sort) few)
+    (subst (λ (n : ℕ). number - 1 < n) (sym (length-replicate len (Holds sort))) few)
+
+own_rooted : (i : Inside) (row : ℕ) (kind : Kind) (sort : Sort) (len : Option ℕ) → slice_get (kinds_of i.routine) row ≡ Some kind → IsOwn kind sort len
+    → IsRooted (scene i) (at_root (roots.Frame (length i.below) (local_start i.routine row))) sort len
+own_rooted i row (Owns own n) sort len e is =
+    subst (λ (x : Sort). IsRooted (scene i) (at_root (roots.Frame (length i.below) (local_start i.routine row))) x len) is.0
+    (subst (λ (x : Option ℕ). IsRooted (scene i) (at_root (roots.Frame (length i.below) (local_start i.routine row))) own x) is.1 (owned i row own n e))
+own_rooted i row (Refers own) sort len e is = absurd is
+own_rooted i row Counts sort len e is =
+    subst (λ (x : Sort). IsRooted (scene i) (at_root (roots.Frame (length i.below) (local_start i.routine row))) x len) (sym is.0)
+    (subst (λ (x : Option ℕ). IsRooted (scene i) (at_root (roots.Frame (length i.below) (local_start i.routine row))) sorts.Num x) (sym is.1)
+    (first_cell i row Counts sorts.Num e refl (omega arith)))
+
+-- a place below a frame
+deeper_root : (tree : TypedTree) (frames : List (List Cell)) (top : List Cell) (root : Root) (sort : Sort) → IsRootOf tree frames root sort → IsRootOf tree (top ∷ frames) root sort
+deeper_root tree frames top (roots.Slot slot) sort is = is
+deeper_root tree frames top (roots.Frame k at) sort is =
+    let has : HasCells (cells_at frames k) at sort = has_cells (cells_at frames k) at sort is in
+    ap (λ (o : Option (List Cell)). option_and_then (λ cells. slice_get cells at) o) (deeper frames top k has.cells has.there) ∙ has.holds
+deeper_root tree frames top (roots.Pers pers index) sort is = is
+
+pub deeper_lvalue : (tree : TypedTree) (frames : List (List Cell)) (top : List Cell) (q : Lvalue) (sort : Sort) → IsLvalue tree frames q sort → IsLvalue tree (top ∷ frames) q sort
+deeper_lvalue tree frames top q sort is = (is.0, deeper_root tree frames top q.root is.0 is.1, is.2)
+
+lent_form : (tree : TypedTree) (frames : List (List Cell)) (sort : Sort) (x : Datum) → IsInCell tree frames (Lends sort) x → (q : Lvalue) × (x ≡ datums.Place q) × IsLvalue tree frames q sort
+lent_form tree frames sort (datums.Place q) is = (q, refl, is)
+lent_form tree frames sort (datums.Plain v) is = absurd is
+lent_form tree frames sort (datums.Mark n) is = absurd is
+lent_form tree frames sort (datums.Shape shape) is = absurd is
+
+-- the place that is kept in a frame
+kept_there : (tree : TypedTree) (cells : List Cell) (below : List (List Cell)) (fs : List Frame) (at : ℕ) (sort : Sort) → AreFrames tree (cells ∷ below) fs
+    → slice_get cells at ≡ Some (Lends sort) → (q : Lvalue) × (kept_place at fs ≡ Some q) × IsLvalue tree below q sort
+kept_there tree cells below [] at sort are e = absurd are
+kept_there tree cells below (f ∷ fs) at sort are e =
+    let read : (x : Datum) × (slice_get f.values at ≡ Some x) × IsInCell tree below (Lends sort) x = cell_read tree below cells f.values at (Lends sort) are.0 e in
+    let form : (q : Lvalue) × (read.0 ≡ datums.Place q) × IsLvalue tree below q sort = lent_form tree below sort read.0 read.2 in
+    (form.0, ap (option_and_then place_in) read.1 ∙ ap place_in form.1, form.2)
+
+ref_safe : (i : Inside) (row : ℕ) (sort : Sort) → slice_get (kinds_of i.routine) row ≡ Some (Refers sort) → (d : Data) → InScene (scene i) d
+    → Safe (scene i) (λ q. IsThere (scene i) q sort) (or_misfit (kept_place (local_start i.routine row) d.frames))
+ref_safe i row sort e d is =
+    let same : local_start i.routine row + 0 ≡ local_start i.routine row = omega arith in
+    let cell : slice_get (local_cells i.routine) (local_start i.routine row) ≡ Some (Lends sort) =
+    subst (λ (n : ℕ). slice_get (local_cells i.routine) n ≡ Some (Lends sort)) same (local_row i.routine row 0 (Refers sort) (Lends sort) e refl (omega arith)) in
+    let kept : (q : Lvalue) × (kept_place (local_start i.routine row) d.frames ≡ Some q) × IsLvalue i.c.tree i.below q sort =
+    kept_there i.c.tree (local_cells i.routine) i.below d.frames (local_start i.routine row) sort is.frames_are cell in
+    safe_or (scene i) (λ q. IsThere (scene i) q sort) (kept_place (local_start i.routine row) d.frames) kept.0 kept.1 (deeper_lvalue i.c.tree i.below (local_cells i.routine) kept.0 sort kept.2)
+
+slot_rooted : (s : Scene) (row : ℕ) (slot : TypedSlot) (len : Option ℕ) → slice_get s.c.tree.slots row ≡ Some slot → slot.len ≡ len
+    → IsRooted s (at_root (roots.Slot (slot_start s.c.tree row))) slot.sort len
+slot_rooted s row slot None e n =
+    let same : slot_start s.c.tree row + 0 ≡ slot_start s.c.tree row = omega arith in
+    (slot.sort, subst (λ (k : ℕ). IsRootOf s.c.tree s.frames (roots.Slot k) slot.sort) same (slot_row s.c.tree row 0 slot e (one_wide slot.len n)), refl)
+  where
+    one_wide : (l : Option ℕ) → l ≡ None → 0 < width l
+    one_wide None is = omega arith
+    one_wide (Some k) is = absurd cc
+slot_rooted s row slot (Some len) e n = λ number low high.
+    let wide : width slot.len ≡ len = ap width n in
+    (slot.sort, slot_row s.c.tree row (number - 1) slot e (omega (arith, wide, low, high)), refl)
+
+pers_rooted : (s : Scene) (row number : ℕ) (p : TypedPers) (len : Option ℕ) → slice_get s.c.tree.pers_of row ≡ Some number → slice_get s.c.tree.pers row ≡ Some p → p.len ≡ len
+    → IsRooted s (at_root (roots.Pers number 0)) p.sort len
+pers_rooted s row number p None is e n =
+    (p.sort, (p, record { row = row; numbered = is; there = e }, subst (λ (l : Option ℕ). IsTrue (has_element l 0)) (sym n) refl, refl), refl)
+pers_rooted s row number p (Some len) is e n = λ index low high. (
+  p.sort,
+  (
+    p,
+    record { row = row; numbered = is; there = e },
+    subst (λ (l : Option ℕ). IsTrue (has_element l index)) (sym n) (rw (le-leb 1 index low, le-leb index len high) refl),
+    refl,
+  ),
+  refl,
+)
+
+pub rooted_safe : (i : Inside) (root : TreeRoot) (sort : Sort) (len : Option ℕ) → IsRoot i.c.tree (kinds_of i.routine) root sort len
+    → Safe (scene i) (λ q. IsRooted (scene i) q sort len) (rooted i.c.tree i.routine root)
+rooted_safe i (tree_roots.Slot row) sort len is =
+    safe_gives (scene i) (λ q. IsRooted (scene i) q sort len) (at_root (roots.Slot (slot_start i.c.tree row)))
+    (subst (λ (x : Sort). IsRooted (scene i) (at_root (roots.Slot (slot_start i.c.tree row))) x len) is.2 (slot_rooted (scene i) row is.0 len is.1 is.3))
+rooted_safe i (tree_roots.Local row) sort len is =
+    safe_reads (scene i) (λ q. IsRooted (scene i) q sort len) (λ d. or_misfit (own_place (local_start i.routine row) d.frames))
+    (own_safe i (λ q. IsRooted (scene i) q sort len) (local_start i.routine row) (own_rooted i row is.0 sort len is.1 is.2))
+rooted_safe i (tree_roots.Ref row) sort len is =
+    subst (λ (l : Option ℕ). Safe (scene i) (λ q. IsRooted (scene i) q sort l) (rooted i.c.tree i.routine (tree_roots.Ref row))) (sym is.1)
+    (safe_reads (scene i) (λ q. IsThere (scene i) q sort) (λ d. or_misfit (kept_place (local_start i.routine row) d.frames)) (ref_safe i row sort is.0))
+rooted_safe i (tree_roots.Pers row) sort len is =
+    let number : (n : ℕ) × (slice_get i.c.tree.pers_of row ≡ Some n) = i.facts.numbers row is.0 is.1 in
+    safe_or (scene i) (λ q. IsRooted (scene i) q sort len) (option_map (λ pers. at_root (roots.Pers pers 0)) (slice_get i.c.tree.pers_of row)) (at_root (roots.Pers number.0 0))
+    (ap (option_map (λ pers. at_root (roots.Pers pers 0))) number.1)
+    (subst (λ (x : Sort). IsRooted (scene i) (at_root (roots.Pers number.0 0)) x len) is.2 (pers_rooted (scene i) row number.0 is.0 len number.1 is.1 is.3))
+
+pub root_len : (i : Inside) (root : TreeRoot) (sort : Sort) (len : Option ℕ) → IsRoot i.c.tree (kinds_of i.routine) root sort len → length_at i.c.tree i.routine root ≡ len
+root_len i (tree_roots.Slot row) sort len is = ap (λ (o : Option TypedSlot). option_and_then (λ s. s.len) o) is.1 ∙ is.3
+root_len i (tree_roots.Local row) sort len is = local_len i.c.tree i.routine row is.0 sort len is.1 is.2
+root_len i (tree_roots.Ref row) sort len is = sym is.1
+root_len i (tree_roots.Pers row) sort len is = ap (λ (o : Option TypedPers). option_and_then (λ p. p.len) o) is.1 ∙ is.3
+
+pub part_safe : (s : Scene) (q : Lvalue) (whole sort : Sort) (part : PartName) → IsThere s q whole → part_sort whole part ≡ Some sort → Safe s (λ r. IsThere s r sort) (part_at part q)
+part_safe s q whole sort part is e =
+    let inner : (p : PartName) × (part_within q.part part ≡ Some p) × (part_sort is.0 p ≡ Some sort) = inner_part is.0 whole sort q.part part is.2 e in
+    safe_or s (λ r. IsThere s r sort) (option_map (λ x. record q { part = x }) (part_within q.part part)) (record q { part = inner.0 })
+    (ap (option_map (λ x. record q { part = x })) inner.1) (is.0, is.1, inner.2)
+
+-- an index that is found lies in the array
+found_within : (t : Bool) (m k len : ℕ) → (t ≡ true → (1 ≤ m) × (m ≤ len)) → (if t then Some m else None) ≡ Some k → (1 ≤ k) × (k ≤ len)
+found_within true m k len is e = let same : m ≡ k = cc in subst (λ (x : ℕ). (1 ≤ x) × (x ≤ len)) same (is refl)
+found_within false m k len is e = absurd cc
+
+number_within : (len : ℕ) (n : ℤ) (k : ℕ) → element_number len n ≡ Some k → (1 ≤ k) × (k ≤ len)
+number_within len (pos n) k e =
+    found_within (n % 1_000 == 0 && nat_le 1 (n / 1_000) && nat_le (n / 1_000) len) (n / 1_000) k len
+    (λ t. let both : ((n % 1_000 == 0 && nat_le 1 (n / 1_000)) ≡ true) × (nat_le (n / 1_000) len ≡ true) = and_parts (n % 1_000 == 0 && nat_le 1 (n / 1_000)) (nat_le (n / 1_000) len) t in
+    (leb-true 1 (n / 1_000) (and_parts (n % 1_000 == 0) (nat_le 1 (n / 1_000)) both.0).1, leb-true (n / 1_000) len both.1)) e
+number_within len (negsuc n) k e = absurd cc
+
+element_safe : (s : Scene) (q : Lvalue) (sort : Sort) (len : ℕ) (o : Option ℕ) → IsRooted s q sort (Some len) → ((k : ℕ) → o ≡ Some k → (1 ≤ k) × (k ≤ len))
+    → Safe s (λ r. IsThere s r sort) (element_or_fault q o)
+element_safe s q sort len None rooted within = safe_fault s (λ r. IsThere s r sort) IndexRange
+element_safe s q sort len (Some k) rooted within =
+    let is : (1 ≤ k) × (k ≤ len) = within k refl in safe_gives s (λ r. IsThere s r sort) (element_of q k) (rooted k is.0 is.1)
+
+pub num_safe : (s : Scene) (v : Value) → IsTrue (has_sort sorts.Num v) → Safe s Anything (num_in v)
+num_safe s v h = let f : (n : ℤ) × (v ≡ values.Num n) = num_form v h in subst (λ (x : Value). Safe s Anything (num_in x)) (sym f.1) (safe_any s f.0)
+
+pub indexed_safe : (s : Scene) (q : Lvalue) (sort : Sort) (len : ℕ) (o : Option ℕ) (v : Value) → o ≡ Some len → IsRooted s q sort (Some len) → IsTrue (has_sort sorts.Num v)
+    → Safe s (λ r. IsThere s r sort) (indexed o q v)
+indexed_safe s q sort len o v e rooted h =
+    subst (λ (x : Option ℕ). Safe s (λ r. IsThere s r sort) (indexed x q v)) (sym e)
+    (safe_then s Anything (λ r. IsThere s r sort) (num_in v) (λ n. element_or_fault q (element_number len n)) (num_safe s v h)
+    (λ n _. element_safe s q sort len (element_number len n) rooted (number_within len n)))

@@ -1,0 +1,41 @@
+-- What a well typed task asks.
+use Rattle.std.specs.Prelude.{◌≡◌, ℕ, ◌<◌, ◌^◌, length, true, IsTrue, is_some, Some, slice_get, ⊤}
+use Rattle.rapid_num.specs.Reach.{is_position}
+use Rattle.rapid_model.specs.Paths.{fits_part, has_element, part_sort}
+use Rattle.rapid_model.specs.Requests.{may_tell}
+use Rattle.rapid_model.specs.declared.request.Request.{Request}
+use Rattle.rapid_model.specs.declared.request.Request.TheVariants as requests
+use Rattle.rapid_model.specs.declared.sort.Sort.TheVariants as sorts
+use Rattle.rapid_model.specs.declared.watched.Watched.{Watched}
+use Rattle.rapid_model.specs.declared.watched.Watched.TheVariants as watched
+use Rattle.typed_trees.specs.Plain.{TypedPers}
+use Rattle.rapid_meaning.specs.Data.{Data}
+use Rattle.task_typing.specs.Setting.{Setting}
+use Rattle.task_typing.specs.States.{IsPers}
+
+-- a signal of the cell, or a persistent of the tree
+abbrev pub CanWatch : Setting → Watched → Type 0
+CanWatch c (watched.Signal signal value) = signal < c.signals
+CanWatch c (watched.Pers pers) = (p : TypedPers) × IsPers c.tree pers p
+
+-- A request of what is there, with these data: elements and parts that a persistent has and values of their types, signals, an
+-- arm's only where there is one, meetings and tasks that are listed, Leave only in a trap.
+abbrev pub IsAsked : Setting → Data → Request → Type 0
+IsAsked c d (requests.ReadP pers path) = (p : TypedPers) × IsPers c.tree pers p × IsTrue (has_element p.len path.index) × IsTrue (is_some (part_sort p.sort path.part))
+IsAsked c d (requests.WriteP pers path value) = (p : TypedPers) × IsPers c.tree pers p × IsTrue (has_element p.len path.index) × IsTrue (fits_part p.sort path.part value)
+IsAsked c d (requests.TestSet pers path) = (p : TypedPers) × IsPers c.tree pers p × IsTrue (has_element p.len path.index) × (part_sort p.sort path.part ≡ Some sorts.Bool)
+IsAsked c d (requests.ReadS signal) = signal < c.signals
+IsAsked c d (requests.WriteS signal value) = signal < c.signals
+IsAsked c d requests.Position = IsTrue c.arm
+IsAsked c d (requests.Setpoint to) = IsTrue c.arm × IsTrue (is_position to)
+IsAsked c d (requests.Order number on single) = CanWatch c on
+IsAsked c d requests.Leave = d.trapped ≡ true
+IsAsked c d (requests.ZoneSet old temporary shape) = IsTrue c.arm
+IsAsked c d (requests.ZoneTie old temporary shape signal value) = ⊥
+IsAsked c d (requests.ZoneOn zone) = IsTrue c.arm
+IsAsked c d (requests.ZoneOff zone) = IsTrue c.arm
+IsAsked c d (requests.ZoneFree zone) = IsTrue c.arm
+IsAsked c d (requests.Arrive meeting tasks) = (row : ℕ) × (slice_get c.tree.meeting_of row ≡ Some meeting) × (tasks < 2 ^ length c.tree.tasks)
+IsAsked c d (requests.Input index) = ⊥
+IsAsked c d (requests.End fate) = IsTrue (may_tell fate)
+IsAsked c d _ = ⊤

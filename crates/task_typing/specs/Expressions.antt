@@ -1,0 +1,108 @@
+-- When the typed forms of expressions are well typed, one line a form, by the kinds of the routine's rows. An expression has the
+-- type that its form names.
+use Rattle.std.specs.Prelude.{◌≡◌, ℕ, ◌<◌, ◌≤◌, Bool, true, false, not, ◌||◌, IsTrue, List, [], ◌∷◌, length, map, Option, Some, None, slice_get, ⊤}
+use Rattle.rapid_model.specs.Paths.{has_sort, part_sort}
+use Rattle.rapid_model.specs.Sorts.{has_values}
+use Rattle.rapid_model.specs.declared.part_name.PartName.TheVariants as parts
+use Rattle.rapid_model.specs.declared.predefined.Predefined.TheVariants as predefineds
+use Rattle.rapid_model.specs.declared.sort.Sort.{Sort}
+use Rattle.rapid_model.specs.declared.sort.Sort.TheVariants as sorts
+use Rattle.rapid_values.specs.Components.{Component, components}
+use Rattle.raw_trees.specs.declared.raw_routine.RoutineKind.TheVariants.{Func}
+use Rattle.rapid_builtins.specs.Calls.{function_needs, function_needs_arm, function_result}
+use Rattle.rapid_builtins.specs.declared.need.Need.{Need}
+use Rattle.rapid_builtins.specs.declared.need.Need.TheVariants as needs
+use Rattle.typed_trees.specs.Plain.{TypedArg, TypedArgs, TypedExpr, TypedExprs, TypedPers, TypedPlace, TypedRoutine, TypedSlot, TypedSteps, TypedTree, Known, ErrorNumber, SignalValue, Stored, Group, Aggregate, Builtin, Invoke, Not, Signed, Chain, NoExprs, MoreExprs, NoSteps, MoreSteps, NotHeld, Held, PlaceOf, Given, Lent, OfSignal, OfMeeting, Itself, NoArgs, MoreArgs}
+use Rattle.typed_trees.specs.declared.expr.TreeRoot.{TreeRoot}
+use Rattle.typed_trees.specs.declared.expr.TreeRoot.TheVariants as roots
+use Rattle.task_typing.specs.Kinds.{Kind, Owns, Refers, Counts, need_of}
+use Rattle.task_typing.specs.Operations.{Operates}
+use Rattle.task_typing.specs.Setting.{Setting}
+
+-- a row of the routine's own data
+abbrev pub IsOwn : Kind → Sort → Option ℕ → Type 0
+IsOwn (Owns own length) sort len = (own ≡ sort) × (length ≡ len)
+IsOwn (Refers own) sort len = ⊥
+IsOwn Counts sort len = (sort ≡ sorts.Num) × (len ≡ None)
+
+-- what a root names is of this type, and an array of this length where it is one
+abbrev pub IsRoot : TypedTree → List Kind → TreeRoot → Sort → Option ℕ → Type 0
+IsRoot tree kinds (roots.Slot row) sort len = (s : TypedSlot) × (slice_get tree.slots row ≡ Some s) × (s.sort ≡ sort) × (s.len ≡ len)
+IsRoot tree kinds (roots.Local row) sort len = (kind : Kind) × (slice_get kinds row ≡ Some kind) × IsOwn kind sort len
+IsRoot tree kinds (roots.Ref row) sort len = (slice_get kinds row ≡ Some (Refers sort)) × (len ≡ None)
+IsRoot tree kinds (roots.Pers row) sort len = (p : TypedPers) × (slice_get tree.pers row ≡ Some p) × (p.sort ≡ sort) × (p.len ≡ len)
+
+-- an array without an index
+abbrev pub IsArray : Setting → List Kind → TypedPlace → Sort → Type 0
+IsArray c kinds (PlaceOf root NotHeld parts.Whole own) sort = (own ≡ sort) × (len : ℕ) × IsRoot c.tree kinds root sort (Some len)
+IsArray c kinds _ sort = ⊥
+
+-- the name of a persistent, an array or none
+abbrev pub IsPersName : Setting → TypedPlace → Type 0
+IsPersName c (PlaceOf (roots.Pers row) NotHeld parts.Whole own) = (p : TypedPers) × (slice_get c.tree.pers row ≡ Some p) × (p.sort ≡ own)
+IsPersName c _ = ⊥
+
+-- types of the variables of world zones
+abbrev pub is_zone : Sort → Bool
+is_zone sorts.WzTemporary = true
+is_zone sorts.WzStationary = true
+is_zone _ = false
+
+abbrev mutual
+  pub IsExpr : Setting → List Kind → TypedExpr → Sort → Type 0
+  IsExpr c kinds (Known at own v) sort = (own ≡ sort) × IsTrue (has_sort sort v)
+  IsExpr c kinds (ErrorNumber at own) sort = (own ≡ sort) × (sort ≡ sorts.Num)
+  IsExpr c kinds (SignalValue at own signal) sort = (own ≡ sort) × (sort ≡ sorts.Num) × (signal < c.signals)
+  IsExpr c kinds (Stored at own p) sort = (own ≡ sort) × IsTrue (has_values sort) × IsPlace c kinds p sort
+  IsExpr c kinds (Group at own e) sort = (own ≡ sort) × IsExpr c kinds e sort
+  IsExpr c kinds (Aggregate at own es) sort = (own ≡ sort) × (1 ≤ length (components own)) × AreComponents c kinds es (components own)
+  IsExpr c kinds (Builtin at own function args) sort =
+      (own ≡ sort) × (function_result function ≡ sort) × IsTrue (not (function_needs_arm function) || c.arm) × AreArgs c kinds args (function_needs function)
+  IsExpr c kinds (Invoke at own called args) sort =
+      (own ≡ sort) × (routine : TypedRoutine) × (slice_get c.tree.routines called ≡ Some routine) × (routine.kind ≡ Func) × (routine.result ≡ Some sort)
+      × AreArgs c kinds args (map need_of routine.params)
+  IsExpr c kinds (Not at own e) sort = (own ≡ sort) × (sort ≡ sorts.Bool) × IsExpr c kinds e sorts.Bool
+  IsExpr c kinds (Signed at own minus e) sort = (own ≡ sort) × (sort ≡ sorts.Num) × IsExpr c kinds e sorts.Num
+  IsExpr c kinds (Chain at own e steps) sort = (own ≡ sort) × (first : Sort) × IsExpr c kinds e first × AreSteps c kinds steps first sort
+
+  -- the elements of brackets, each of its component's type
+  pub AreComponents : Setting → List Kind → TypedExprs → List Component → Type 0
+  AreComponents c kinds NoExprs [] = ⊤
+  AreComponents c kinds (MoreExprs e es) (component ∷ more) = IsExpr c kinds e component.sort × AreComponents c kinds es more
+  AreComponents c kinds _ _ = ⊥
+
+  -- operators behind operands of the first type, that come to a value of the second
+  pub AreSteps : Setting → List Kind → TypedSteps → Sort → Sort → Type 0
+  AreSteps c kinds NoSteps first sort = first ≡ sort
+  AreSteps c kinds (MoreSteps o e steps) first sort = (next : Sort) × Operates o first next × IsExpr c kinds e first × AreSteps c kinds steps next sort
+
+  -- a place of a type: a datum that is no array, or an element of one that is, or a part of these
+  pub IsPlace : Setting → List Kind → TypedPlace → Sort → Type 0
+  IsPlace c kinds (PlaceOf root NotHeld part own) sort = (own ≡ sort) × (whole : Sort) × IsRoot c.tree kinds root whole None × (part_sort whole part ≡ Some sort)
+  IsPlace c kinds (PlaceOf root (Held e) part own) sort =
+      (own ≡ sort) × (whole : Sort) × (len : ℕ) × IsRoot c.tree kinds root whole (Some len) × (part_sort whole part ≡ Some sort) × IsExpr c kinds e sorts.Num
+
+  -- an argument is what its callee needs
+  pub IsArg : Setting → List Kind → TypedArg → Need → Type 0
+  IsArg c kinds (Given e) (needs.Value sort) = IsExpr c kinds e sort
+  IsArg c kinds (Given e) needs.One = IsExpr c kinds e sorts.Num
+  IsArg c kinds (Lent p) (needs.Var sort) = IsPlace c kinds p sort
+  IsArg c kinds (Lent p) (needs.Pers sort) = IsPlace c kinds p sort
+  IsArg c kinds (Lent p) (needs.VarOrPers sort) = IsPlace c kinds p sort
+  IsArg c kinds (Lent p) (needs.Written sort) = IsPlace c kinds p sort
+  IsArg c kinds (Lent p) (needs.Place sort) = IsPlace c kinds p sort
+  IsArg c kinds (Lent p) needs.WorldZone = (sort : Sort) × IsTrue (is_zone sort) × IsPlace c kinds p sort
+  IsArg c kinds (Lent p) needs.Array = (sort : Sort) × IsTrue (has_values sort) × IsArray c kinds p sort
+  IsArg c kinds (Lent p) needs.TaskList = IsArray c kinds p sorts.Tasks
+  IsArg c kinds (Lent p) needs.PersName = IsPersName c p
+  IsArg c kinds (OfSignal signal) (needs.Signal output) = signal < c.signals
+  IsArg c kinds (OfMeeting meeting) needs.Meeting = meeting < length c.tree.meetings
+  IsArg c kinds (Itself name) needs.Fine = name ≡ predefineds.Fine
+  IsArg c kinds (Itself name) needs.Tool = name ≡ predefineds.Tool0
+  IsArg c kinds (Itself name) needs.WorkObject = name ≡ predefineds.Wobj0
+  IsArg c kinds _ _ = ⊥
+
+  pub AreArgs : Setting → List Kind → TypedArgs → List Need → Type 0
+  AreArgs c kinds NoArgs [] = ⊤
+  AreArgs c kinds (MoreArgs arg more) (need ∷ others) = IsArg c kinds arg need × AreArgs c kinds more others
+  AreArgs c kinds _ _ = ⊥

@@ -1,0 +1,12 @@
+pub mod Setting
+pub mod Kinds
+pub mod Operations
+pub mod Expressions
+pub mod Instructions
+pub mod Statements
+pub mod WellTyped
+pub mod Numbered
+pub mod States
+pub mod Asked
+pub mod Full
+pub mod Goes

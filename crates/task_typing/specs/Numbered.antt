@@ -1,0 +1,24 @@
+-- What the numbers keep that a cell gave a task's persistents and meetings.
+use Rattle.std.specs.Prelude.{◌≡◌, ℕ, ◌<◌, length, map, Some, slice_get}
+use Rattle.rapid_model.specs.CellData.{CellData}
+use Rattle.rapid_model.specs.declared.pers_cell.PersCell.{PersCell}
+use Rattle.rapid_model.specs.declared.task_row.TaskRow.{TaskRow}
+use Rattle.typed_trees.specs.Plain.{TypedPers, TypedTree}
+
+-- a row of the tree is the cell's persistent of this number, of the same type and length
+pub record IsOne (cell : CellData) (row : TypedPers) (number : ℕ) : Type 0 where
+  pub cell_row : PersCell
+  pub there : slice_get cell.pers number ≡ Some cell_row
+  pub same_sort : cell_row.sort ≡ row.sort
+  pub same_len : cell_row.len ≡ row.len
+
+-- The tree of this task of a cell: each of its persistents and meetings has a number of the cell, and its list of tasks is the
+-- cell's.
+pub record Numbered (cell : CellData) (task : ℕ) (tree : TypedTree) : Type 0 where
+  pub task_row : TaskRow
+  pub there : slice_get cell.tasks task ≡ Some task_row
+  pub tasks : tree.tasks ≡ map (λ row. row.name) cell.tasks
+  pub as_many_pers : length tree.pers_of ≡ length tree.pers
+  pub pers : (row number : ℕ) (p : TypedPers) → slice_get tree.pers_of row ≡ Some number → slice_get tree.pers row ≡ Some p → IsOne cell p number
+  pub as_many_meetings : length tree.meeting_of ≡ length tree.meetings
+  pub meetings : (row number : ℕ) → slice_get tree.meeting_of row ≡ Some number → number < length cell.meetings

@@ -1,0 +1,35 @@
+-- The types of operands (RAPID Overview, expressions).
+use Rattle.std.specs.Prelude.{◌≡◌, ◌⊎◌, Bool, true, false, IsTrue}
+use Rattle.rapid_model.specs.declared.sort.Sort.{Sort}
+use Rattle.rapid_model.specs.declared.sort.Sort.TheVariants as sorts
+use Rattle.raw_trees.specs.declared.raw_expr.Operator.{Operator}
+use Rattle.raw_trees.specs.declared.raw_expr.Operator.TheVariants as operators
+
+-- types whose values are compared
+abbrev pub is_compared : Sort → Bool
+is_compared sorts.Num = true
+is_compared sorts.Bool = true
+is_compared sorts.Text = true
+is_compared sorts.RobJoint = true
+is_compared sorts.ExtJoint = true
+is_compared sorts.JointTarget = true
+is_compared sorts.SpeedData = true
+is_compared _ = false
+
+-- an operator between operands of the first type comes to a value of the second
+abbrev pub Operates : Operator → Sort → Sort → Type 0
+Operates operators.Equal left sort = IsTrue (is_compared left) × (sort ≡ sorts.Bool)
+Operates operators.NotEqual left sort = IsTrue (is_compared left) × (sort ≡ sorts.Bool)
+Operates operators.And left sort = (left ≡ sorts.Bool) × (sort ≡ sorts.Bool)
+Operates operators.Or left sort = (left ≡ sorts.Bool) × (sort ≡ sorts.Bool)
+Operates operators.Xor left sort = (left ≡ sorts.Bool) × (sort ≡ sorts.Bool)
+Operates operators.Less left sort = (left ≡ sorts.Num) × (sort ≡ sorts.Bool)
+Operates operators.Greater left sort = (left ≡ sorts.Num) × (sort ≡ sorts.Bool)
+Operates operators.LessEqual left sort = (left ≡ sorts.Num) × (sort ≡ sorts.Bool)
+Operates operators.GreaterEqual left sort = (left ≡ sorts.Num) × (sort ≡ sorts.Bool)
+Operates operators.Add left sort = ((left ≡ sorts.Num) ⊎ (left ≡ sorts.Text)) × (sort ≡ left)
+Operates operators.Sub left sort = (left ≡ sorts.Num) × (sort ≡ sorts.Num)
+Operates operators.Mul left sort = (left ≡ sorts.Num) × (sort ≡ sorts.Num)
+Operates operators.Div left sort = (left ≡ sorts.Num) × (sort ≡ sorts.Num)
+Operates operators.IntDiv left sort = (left ≡ sorts.Num) × (sort ≡ sorts.Num)
+Operates operators.Mod left sort = (left ≡ sorts.Num) × (sort ≡ sorts.Num)

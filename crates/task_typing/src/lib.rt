@@ -1,0 +1,7 @@
+//! When the tree of a checked task is well typed, as facts on the tree alone, and that a well typed task never does what its
+//! meaning leaves out.
+#![tactic(auto)]
+
+mod laws;
+
+pub use laws::{requests_suit_the_task, well_typed_tasks_go_on};
