@@ -1,9 +1,7 @@
 -- A task that is well typed and numbered: it sets a num of its module, in a FOR, and says a text.
-use Rattle.std.proofs.Common.{◌≡◌, refl, ℕ, zero, suc, ◌<◌, true, false, IsTrue, List, [], ◌∷◌, All, Some, None, codes, arith}
+use Rattle.std.proofs.Common.{refl, zero, suc, false, IsTrue, List, [], ◌∷◌, All, None, codes, arith}
 use Rattle.rapid_model.specs.CellData.{CellData}
-use Rattle.rapid_model.specs.declared.instruction.Instruction.TheVariants as instructions
 use Rattle.rapid_model.specs.declared.sort.Sort.TheVariants as sorts
-use Rattle.rapid_model.specs.declared.task_row.TaskRow.{TaskRow}
 use Rattle.rapid_model.specs.Sorts.{has_values}
 use Rattle.typed_trees.specs.Plain.{TypedLocal, TypedPers, TypedRoutine, TypedSlot, TypedStmt, TypedTree, For, stmts_of}
 use Rattle.typed_trees.specs.declared.datum.Datum.TheVariants.{Plain}

@@ -1,12 +1,12 @@
 -- What a well typed task asks suits it.
-use Rattle.std.proofs.Common.{◌≡◌, refl, sym, ap, ◌∙◌, subst, ℕ, ◌<◌, ◌^◌, Bool, true, false, ◌&&◌, nat_lt, List, length, map, Option, Some, None, is_some, slice_get, IsTrue, arith}
+use Rattle.std.proofs.Common.{◌≡◌, refl, sym, ap, ◌∙◌, subst, ℕ, ◌<◌, ◌^◌, Bool, true, false, ◌&&◌, nat_lt, List, length, Option, Some, None, is_some, slice_get, IsTrue, arith}
 use Rattle.std.proofs.lemmas.List.{length-map}
 use Rattle.std.proofs.lemmas.Bool.{lt-ltb}
 use Rattle.std.proofs.lemmas.Option.{slice_get_within}
 use Rattle.rapid_num.specs.Reach.{is_position}
 use Rattle.rapid_model.specs.CellData.{CellData}
 use Rattle.rapid_model.specs.Own.{is_trapped}
-use Rattle.rapid_model.specs.Paths.{fits_part, has_element, has_path, part_sort}
+use Rattle.rapid_model.specs.Paths.{fits_part, has_element, part_sort}
 use Rattle.rapid_model.specs.Requests.{can_watch, is_bool, of_pers, suits_task}
 use Rattle.rapid_model.specs.declared.event.Event.{Event}
 use Rattle.rapid_model.specs.declared.part_name.PartName.{PartName}
@@ -14,7 +14,6 @@ use Rattle.rapid_model.specs.declared.pers_cell.PersCell.{PersCell}
 use Rattle.rapid_model.specs.declared.request.Request.{Request}
 use Rattle.rapid_model.specs.declared.request.Request.TheVariants as requests
 use Rattle.rapid_model.specs.declared.sort.Sort.{Sort}
-use Rattle.rapid_model.specs.declared.sort.Sort.TheVariants as sorts
 use Rattle.rapid_model.specs.declared.task_row.TaskRow.{TaskRow}
 use Rattle.rapid_model.specs.declared.value.Value.{Value}
 use Rattle.rapid_model.specs.declared.watched.Watched.{Watched}
