@@ -1,5 +1,5 @@
 -- What the boards of the tests keep.
-use Rattle.std.specs.Prelude.{◌≡◌, ◌≤◌, ℕ, List, map, length}
+use Rattle.std.specs.Prelude.{◌≡◌, ◌≤◌, ℕ, List, map}
 use Rattle.std.specs.List.{All}
 use Rattle.rapid_model.specs.declared.sort.Sort.{Sort}
 use Rattle.persist_store.specs.Stores.{PersData}

@@ -103,10 +103,14 @@ fn touches_two(
     Some(touches(&joints(from.0, from.1, 0)?, &joints(to.0, to.1, 0)?, &shape))
 }
 
-/// Whether a segment of axis 1 touches the zone that two bound positions make.
+/// Whether a segment of axis 1 touches the zone that two bound positions make for an arm of six axes, of which axis 1 alone
+/// has limits.
 fn touches_made(inside: bool, low: i64, high: i64, from: i64, to: i64) -> Option<bool> {
-    let low = joints(low, NONE, NONE)?;
-    let high = joints(high, NONE, NONE)?;
+    let limits = bound(low, high)?;
+    let mut low = joints(NONE, NONE, NONE)?;
+    let mut high = low;
+    low.axis[0] = limits.low;
+    high.axis[0] = limits.high;
     let shape = make_shape(inside, &low, &high, 6).ok()?;
     Some(touches(&joints(from, 0, 0)?, &joints(to, 0, 0)?, &shape))
 }

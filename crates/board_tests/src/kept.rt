@@ -30,6 +30,7 @@ impl Model for Kept {
 }
 
 impl Kept {
+    #[tactic(auto, using(crate::proofs::Sorts::first_sorts))]
     pub(crate) fn new(alloc: Global) -> Result<Kept, Fail> {
         let cell = board_cell(alloc)?;
         let store = Store::new(alloc, &cell).ok().ok_or("memory")?;
@@ -37,6 +38,7 @@ impl Kept {
     }
 
     /// Whether the part of an element is this value; or, where none is wanted, whether there is no such element.
+    #[tactic(auto, using(crate::proofs::Sorts::sort_at))]
     pub(crate) fn reads(&self, pers: u32, path: &Path, wanted: Option<Written>) -> bool {
         if !has_part(pers, path.part) {
             return false;

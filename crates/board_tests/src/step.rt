@@ -1,7 +1,7 @@
 use trap_dispatch::{ConnectFault, Due, OrderFault};
 
 /// A step of a task with interrupts, with what comes of it.
-#[derive(Clone, Copy, Debug)]
+#[derive(Clone, Copy)]
 pub(crate) enum Step {
     /// A variable with this number is connected with a trap.
     Connect {

@@ -2,7 +2,7 @@ use rapid_model::{Text, Value};
 use rapid_num::Num;
 
 /// A value of a row, its nums in thousandths.
-#[derive(Clone, Copy, Debug)]
+#[derive(Clone, Copy)]
 pub(crate) enum Written {
     Num(i64),
     Bool(bool),
