@@ -1,4 +1,4 @@
-ghost use Rattle.std.specs.Prelude.{◌≡◌, ◌≤◌, ◌+◌, ◌++◌, ◌↔◌, ◌==◌, filter, length, nat_lt, take, not, true, false, IfOk, IsSome, IsNone, IsErr, IsTrue, IsSomeAnd, OnOk, OnErr, Err};
+ghost use Rattle.std.specs.Prelude.{◌≡◌, ◌≤◌, ◌+◌, ◌++◌, ◌↔◌, ◌==◌, filter, length, nat_lt, take, not, true, false, IfOk, IsSome, IsNone, IsErr, IsSomeAnd, OnOk, OnErr, Err};
 ghost use Rattle.circular_buffer.specs.Buffer.{buffer};
 ghost use Rattle.trap_dispatch.specs.Firing.{connected_at};
 ghost use Rattle.trap_dispatch.specs.Queues.{turned};

@@ -1,0 +1,101 @@
+ghost use Rattle.std.specs.Prelude.{◌≡◌, ◌<◌, ◌↔◌, None, replicate, slice_index_or, IfOk, IfSome, IsOk, IsTrue, OnOk, OnErr};
+ghost use Rattle.world_zones.specs.Zones.{given, is_temporary, own_shape, set_answer, switched, with_zone, zone_at};
+ghost use Rattle.world_zones.specs.First.{IsFirstPlace, Stops};
+
+use crate::no_zone::NoZone;
+use crate::own_zone::{OwnZone, free_place, own_shape, zone_at};
+use crate::stopping::stops;
+use crate::zone_fault::ZoneFault;
+use rapid_num::{Joints, Shape};
+use std::marker::Model;
+
+/// The zones of one arm. Contracts see its ten places, place n - 1 for the number n.
+#[derive(Debug, Drop)]
+pub(crate) struct ArmZones {
+    zones: [Option<OwnZone>; 10],
+}
+
+impl Model for ArmZones {
+    ghost use Rattle.std.specs.Prelude.{◌≡◌, length, List, Option};
+    ghost use Rattle.world_zones.specs.declared.own_zone.OwnZone.{OwnZone};
+
+    ghost Value = { List (Option OwnZone) };
+
+    ghost view = { λ a. a.zones };
+
+    ghost invariant = { λ a. length a.zones ≡ 10 };
+}
+
+impl ArmZones {
+    /// The arm has no zone.
+    pub(crate) fn new() -> ArmZones
+        ensures { result ≡ replicate 10 None }
+    {
+        ArmZones { zones: [None; 10] }
+    }
+
+    /// Gives the arm a zone, which is on.
+    pub(crate) fn set(&mut self, old: u8, temporary: bool, shape: &Shape) -> Result<u8, ZoneFault>
+        ensures answer { result ≡ set_answer self.old old }
+        ensures ok { IfOk result (λ number. self.new ≡ with_zone self.old number (given temporary shape.now)) }
+        ensures err { OnErr result (self.new ≡ self.old) }
+    {
+        if zone_at(&self.zones, old).is_some() {
+            return Err(ZoneFault::ZoneUsed);
+        }
+        match free_place(&self.zones[..]) {
+            Some(place) => {
+                self.zones[place] = Some(OwnZone {
+                    temporary,
+                    on: true,
+                    shape: *shape,
+                });
+                Ok(place as u8 + 1)
+            }
+            None => Err(ZoneFault::ZoneFull),
+        }
+    }
+
+    /// Switches a temporary zone on or off.
+    pub(crate) fn switch(&mut self, number: u8, on: bool) -> Result<(), NoZone>
+        ensures temporary { IsOk result ↔ IsTrue (is_temporary (zone_at self.old number)) }
+        ensures ok { OnOk result (self.new ≡ with_zone self.old number (switched on (zone_at self.old number))) }
+        ensures err { OnErr result (self.new ≡ self.old) }
+    {
+        match zone_at(&self.zones, number) {
+            Some(zone) if zone.temporary => {
+                self.zones[number as usize - 1] = Some(OwnZone { on, ..zone });
+                Ok(())
+            }
+            _ => Err(NoZone),
+        }
+    }
+
+    /// Takes a temporary zone from the arm.
+    pub(crate) fn free(&mut self, number: u8) -> Result<(), NoZone>
+        ensures temporary { IsOk result ↔ IsTrue (is_temporary (zone_at self.old number)) }
+        ensures ok { OnOk result (self.new ≡ with_zone self.old number None) }
+        ensures err { OnErr result (self.new ≡ self.old) }
+    {
+        match zone_at(&self.zones, number) {
+            Some(zone) if zone.temporary => {
+                self.zones[number as usize - 1] = None;
+                Ok(())
+            }
+            _ => Err(NoZone),
+        }
+    }
+
+    /// The first place whose zone stops the segment.
+    pub(crate) fn first_touched(&self, p: &Joints, q: &Joints) -> Option<usize>
+        ensures there { IfSome result (λ place. place < 10) }
+        ensures first { IsFirstPlace (λ place. Stops p.now q.now (own_shape (slice_index_or self.now place None))) result }
+    {
+        for place in 0..10 {
+            if stops(own_shape(self.zones[place]), p, q) {
+                return Some(place);
+            }
+        }
+        None
+    }
+}

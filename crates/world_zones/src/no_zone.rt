@@ -1,0 +1,3 @@
+/// The arm has no temporary zone of this number.
+#[derive(Clone, Copy, Debug, PartialEq, Eq)]
+pub struct NoZone;

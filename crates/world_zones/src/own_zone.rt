@@ -1,0 +1,42 @@
+ghost use Rattle.std.specs.Prelude.{◌≡◌, ◌<◌, is_none, length, IfSome};
+ghost use Rattle.std.specs.List.{position_from};
+ghost use Rattle.world_zones.specs.Zones.{own_shape, zone_at};
+
+use rapid_num::Shape;
+
+/// A zone that a task gave for its arm: temporary or stationary, switched on or off (RAPID Instructions: WZLimSup, WZDisable,
+/// WZEnable).
+#[derive(Clone, Copy, Debug, PartialEq, Eq)]
+pub struct OwnZone {
+    pub temporary: bool,
+    pub on: bool,
+    pub shape: Shape,
+}
+
+/// The zone of the number, from 1 to 10; no other number has one.
+pub(crate) fn zone_at(zones: &[Option<OwnZone>; 10], number: u8) -> Option<OwnZone>
+    ensures { result ≡ zone_at zones.now number }
+{
+    if number == 0 || number > 10 {
+        return None;
+    }
+    zones[number as usize - 1]
+}
+
+/// The first free place.
+pub(crate) fn free_place(zones: &[Option<OwnZone>]) -> Option<usize>
+    ensures there { IfSome result (λ place. place < length zones.now) }
+    ensures first { result ≡ position_from is_none 0 zones.now }
+{
+    zones.iter().position(|place| place.is_none())
+}
+
+/// The shape of the zone, if there is one and it is on.
+pub(crate) fn own_shape(zone: Option<OwnZone>) -> Option<Shape>
+    ensures { result ≡ own_shape zone }
+{
+    match zone {
+        Some(zone) if zone.on => Some(zone.shape),
+        _ => None,
+    }
+}

@@ -1,0 +1,178 @@
+ghost use Rattle.std.specs.Prelude.{◌≡◌, ◌<◌, ◌≤◌, ◌↔◌, true, false, None, All, length, map, replicate, slice_get, IfOk, IsOk, IsTrue, IfSome, IfNone, OnOk, OnErr};
+ghost use Rattle.rapid_model.specs.declared.zone_name.ZoneName.{ZoneName as TheZoneName};
+ghost use Rattle.world_zones.specs.First.{IsFirstPlace, Stops};
+ghost use Rattle.world_zones.specs.Touched.{IsFirstTouched, IsTouched};
+ghost use Rattle.world_zones.specs.Zones.{arm_at, before_all, given, is_temporary, no_zones, set_answer, shape_of_cell, switched, with_arm, with_zone, zone_at, zone_of};
+
+use crate::arm_zones::ArmZones;
+use crate::cell_zone::{CellZone, cell_shape};
+use crate::no_zone::NoZone;
+use crate::stopping::stops;
+use crate::zone_fault::ZoneFault;
+use rapid_model::{Cell, SignalValues, ZoneName, ZoneRow};
+use rapid_num::{Joints, Memory, Shape};
+use std::alloc::{AllocError, Global};
+use std::marker::Model;
+
+/// The zones of a cell. Contracts see those of each task's arm, ten places a task, and those of the cell in script order. A call
+/// changes the zones of its task's arm, and no other's. No call but `new` takes memory (RAPID Instructions: WZLimSup, WZDisable,
+/// WZEnable, WZFree).
+#[derive(Debug, Drop)]
+pub struct Zones {
+    arms: Vec<ArmZones>,
+    cell: Vec<CellZone>,
+}
+
+impl Model for Zones {
+    ghost use Rattle.std.specs.Prelude.{◌≤◌, length};
+    ghost use Rattle.world_zones.specs.Zones.{ZonesData};
+
+    ghost Value = { ZonesData };
+
+    ghost view = { λ z. record { arms = z.arms.items; cell = z.cell.items } };
+
+    // A zone of the cell is named by a u8.
+    ghost invariant = { λ z. length z.cell.items ≤ 16 };
+}
+
+impl Zones {
+    /// No arm has a zone yet; the cell has its own.
+    pub fn new(alloc: Global, cell: &Cell) -> Result<Zones, Memory>
+        ensures { IfOk result (λ z. z ≡ before_all cell.now) }
+    {
+        match starts(alloc, cell) {
+            Ok(zones) => Ok(zones),
+            Err(_) => Err(Memory),
+        }
+    }
+
+    /// Gives the task's arm a zone, which is on, with the least free number, from 1 to 10: `ZoneUsed` exactly where the old number
+    /// is a zone of the arm, else `ZoneFull` exactly where the arm has ten.
+    pub fn set(
+        &mut self,
+        task: u32,
+        old: u8,
+        temporary: bool,
+        shape: &Shape,
+    ) -> Result<u8, ZoneFault>
+        requires task { task < length self.old.arms }
+        ensures answer { result ≡ set_answer (arm_at self.old task) old }
+        ensures ok { IfOk result (λ number. self.new ≡ with_arm self.old task (with_zone (arm_at self.old task) number (given temporary shape.now))) }
+        ensures err { OnErr result (self.new ≡ self.old) }
+    {
+        self.arms[task as usize].set(old, temporary, shape)
+    }
+
+    /// Switches a temporary zone off: `NoZone` exactly where the arm has no temporary zone of that number.
+    pub fn disable(&mut self, task: u32, zone: u8) -> Result<(), NoZone>
+        requires task { task < length self.old.arms }
+        ensures temporary { IsOk result ↔ IsTrue (is_temporary (zone_at (arm_at self.old task) zone)) }
+        ensures ok { OnOk result (self.new ≡ with_arm self.old task (with_zone (arm_at self.old task) zone (switched false (zone_at (arm_at self.old task) zone)))) }
+        ensures err { OnErr result (self.new ≡ self.old) }
+    {
+        self.arms[task as usize].switch(zone, false)
+    }
+
+    /// Switches a temporary zone on: `NoZone` exactly where the arm has no temporary zone of that number.
+    pub fn enable(&mut self, task: u32, zone: u8) -> Result<(), NoZone>
+        requires task { task < length self.old.arms }
+        ensures temporary { IsOk result ↔ IsTrue (is_temporary (zone_at (arm_at self.old task) zone)) }
+        ensures ok { OnOk result (self.new ≡ with_arm self.old task (with_zone (arm_at self.old task) zone (switched true (zone_at (arm_at self.old task) zone)))) }
+        ensures err { OnErr result (self.new ≡ self.old) }
+    {
+        self.arms[task as usize].switch(zone, true)
+    }
+
+    /// Takes a temporary zone from the arm, and its number is free: `NoZone` exactly where the arm has no temporary zone of that
+    /// number.
+    pub fn free(&mut self, task: u32, zone: u8) -> Result<(), NoZone>
+        requires task { task < length self.old.arms }
+        ensures temporary { IsOk result ↔ IsTrue (is_temporary (zone_at (arm_at self.old task) zone)) }
+        ensures ok { OnOk result (self.new ≡ with_arm self.old task (with_zone (arm_at self.old task) zone None)) }
+        ensures err { OnErr result (self.new ≡ self.old) }
+    {
+        self.arms[task as usize].free(zone)
+    }
+
+    /// The first zone that watches the task's arm and that it touches on its way from `p` to `q`: its own zones that are on, by
+    /// number, and then the cell's whose signal has its value, in script order. Each signal that a zone of the cell names is there.
+    pub fn blocks<V: SignalValues>(
+        &self,
+        task: u32,
+        p: &Joints,
+        q: &Joints,
+        signals: &V,
+    ) -> Option<ZoneName>
+        requires task { task < length self.now.arms }
+        requires signals { All (λ zone. zone.signal < length (V.values signals.now)) self.now.cell }
+        ensures some { IfSome result (IsFirstTouched self.now task (V.values signals.now) p.now q.now) }
+        ensures none { IfNone result ((zone : TheZoneName) → ¬ IsTouched self.now task (V.values signals.now) p.now q.now zone) }
+    {
+        match self.arms[task as usize].first_touched(p, q) {
+            Some(place) => Some(ZoneName::Own(place as u8 + 1)),
+            None => match first_of_cell(self.cell.as_slice(), task, p, q, signals) {
+                Some(place) => Some(ZoneName::Cell(place as u8)),
+                None => None,
+            },
+        }
+    }
+}
+
+/// The first zone of the cell that stops the task's arm.
+fn first_of_cell<V: SignalValues>(
+    cell: &[CellZone],
+    task: u32,
+    p: &Joints,
+    q: &Joints,
+    signals: &V,
+) -> Option<usize>
+    requires signals { All (λ zone. zone.signal < length (V.values signals.now)) cell.now }
+    ensures there { IfSome result (λ place. place < length cell.now) }
+    ensures first { IsFirstPlace (λ place. Stops p.now q.now (shape_of_cell task (V.values signals.now) (slice_get cell.now place))) result }
+{
+    for place in 0..cell.len() {
+        if stops(cell_shape(&cell[place], task, signals), p, q) {
+            return Some(place);
+        }
+    }
+    None
+}
+
+/// No arm has a zone.
+fn starts(alloc: Global, cell: &Cell) -> Result<Zones, AllocError>
+    ensures { IfOk result (λ z. z ≡ before_all cell.now) }
+{
+    let arms = arms(alloc, cell.tasks.len())?;
+    let cell = of_cell(alloc, cell.zones.as_slice())?;
+    Ok(Zones { arms, cell })
+}
+
+/// So many arms with no zone.
+fn arms(alloc: Global, count: usize) -> Result<Vec<ArmZones>, AllocError>
+    ensures { IfOk result (λ arms. arms.items ≡ replicate count no_zones) }
+{
+    let mut arms = Vec::new(alloc);
+    for _arm in 0..count {
+        arms.push(ArmZones::new())?;
+    }
+    Ok(arms)
+}
+
+/// The zones of the cell, in script order.
+fn of_cell(alloc: Global, rows: &[ZoneRow]) -> Result<Vec<CellZone>, AllocError>
+    ensures { IfOk result (λ cell. cell.items ≡ map zone_of rows.now) }
+{
+    rows.iter().map(|row| zone_of(row)).collect(alloc)
+}
+
+/// A zone of the cell as its row has it.
+fn zone_of(row: &ZoneRow) -> CellZone
+    ensures { result ≡ zone_of row.now }
+{
+    CellZone {
+        task: row.task,
+        shape: row.shape,
+        signal: row.signal,
+        value: row.value,
+    }
+}
