@@ -9,7 +9,8 @@ use Rattle.rapid_model.specs.declared.answer.Answer.{Answer}
 use Rattle.rapid_model.specs.declared.event.Event.{Event}
 use Rattle.rapid_model.specs.declared.request.Request.{Request}
 use Rattle.rapid_model.specs.declared.value.Value.{Value}
-use Rattle.rapid_operators.specs.Equality.{same, same_truth}
+use Rattle.rapid_model.specs.Truths.{same_truth}
+use Rattle.rapid_operators.specs.Equality.{same}
 use Rattle.rapid_operators.proofs.Equalities.{same_decides}
 use Rattle.cell_meaning.specs.Changes.{is_change, changes_signal, changes_persistent, arrives_anew, changes_from, changes_by_others}
 use Rattle.cell_meaning.specs.Stored.{signals_with, signals_after, persistents_with, persistents_after}

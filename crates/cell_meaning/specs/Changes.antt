@@ -5,7 +5,8 @@ use Rattle.rapid_model.specs.CellData.{CellData}
 use Rattle.rapid_model.specs.declared.event.Event.{Event}
 use Rattle.rapid_model.specs.declared.request.Request.{Request}
 use Rattle.rapid_model.specs.declared.request.Request.TheVariants.{Arrive}
-use Rattle.rapid_operators.specs.Equality.{same, same_truth}
+use Rattle.rapid_model.specs.Truths.{same_truth}
+use Rattle.rapid_operators.specs.Equality.{same}
 use Rattle.cell_meaning.specs.Meetings.{is_waiting}
 use Rattle.cell_meaning.specs.Stored.{signals_after, persistents_after}
 

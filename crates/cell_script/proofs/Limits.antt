@@ -5,7 +5,7 @@ use Rattle.std.specs.List.{list_all}
 use Rattle.std.proofs.Math.Seq.{take-append_seam, drop-append_seam}
 use Rattle.std.proofs.lemmas.Bool.{and_parts, and_from, eqb-true}
 use Rattle.toml.specs.Data.{Data, as_str, as_integer, as_bool}
-use Rattle.rapid_num.specs.Reach.{is_in_reach, is_absent, absent_axes, is_position}
+use Rattle.rapid_num.specs.Reach.{is_in_reach, are_absent, absent_axes, is_position}
 use Rattle.rapid_num.specs.declared.joints.Joints.{Joints}
 use Rattle.rapid_model.specs.Limits.{is_within, holds_where_there, is_start, is_signal}
 use Rattle.rapid_model.specs.Names.{is_name}
@@ -57,7 +57,7 @@ position : (angles : List ℤ) (arm : Joints) → list_all is_in_reach angles �
 position angles arm reach six e =
     let front : take 6 arm.axis ≡ angles = rw (e, ← six) (take-append_seam angles absent_axes) in
     let back : drop 6 arm.axis ≡ absent_axes = rw (e, ← six) (drop-append_seam angles absent_axes) in
-    and_from (list_all is_in_reach (take 6 arm.axis)) (list_all is_absent (drop 6 arm.axis)) (rw front reach) (rw back)
+    and_from (list_all is_in_reach (take 6 arm.axis)) (are_absent (drop 6 arm.axis)) (rw front reach) (rw back)
 
 arm_keeps : (key : List ℕ) (d : Data) → Keeps (λ arm. is_position arm ≡ true) (arm_at key d)
 arm_keeps key d =

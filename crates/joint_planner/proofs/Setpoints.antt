@@ -5,7 +5,7 @@ use Rattle.std.proofs.lemmas.Bool.{and_parts, and_from}
 use Rattle.std.proofs.lemmas.Int.{ints}
 use Rattle.std.proofs.lemmas.Bool.Decides.{nat_tests}
 use Rattle.rapid_num.specs.Arithmetic.{rounded_ratio}
-use Rattle.rapid_num.specs.Reach.{is_in_reach, is_absent, is_reachable, is_position}
+use Rattle.rapid_num.specs.Reach.{is_in_reach, are_absent, is_reachable, is_position}
 use Rattle.rapid_num.specs.declared.joints.Joints.{Joints}
 use Rattle.joint_planner.specs.Setpoints.{step_of, setpoint}
 use Rattle.joint_planner.proofs.Rounding.{rounded_ratio-on_way, rounded_ratio-whole, nat_abs-on_way}
@@ -70,8 +70,8 @@ setpoint_reach p q n j from to first last = step_of-reach 6 p.axis q.axis n j fr
 -- from a position each setpoint is one
 pub setpoint_position : (p q : Joints) (n j : ℕ) → IsTrue (is_position p) → IsTrue (is_reachable q) → 1 ≤ j → j ≤ n → IsTrue (is_position (setpoint p q n j))
 setpoint_position p q n j from to first last =
-    let start = and_parts (is_reachable p) (list_all is_absent (drop 6 p.axis)) from in
-    and_from _ _ (setpoint_reach p q n j start.0 to first last) (ap (list_all is_absent) (drop-step_of 6 p.axis q.axis n j) ∙ start.1)
+    let start = and_parts (is_reachable p) (are_absent (drop 6 p.axis)) from in
+    and_from _ _ (setpoint_reach p q n j start.0 to first last) (ap are_absent (drop-step_of 6 p.axis q.axis n j) ∙ start.1)
 
 -- a setpoint has the start's number of axes
 pub length-setpoint : (p q : Joints) (n j : ℕ) → length (setpoint p q n j).axis ≡ length p.axis

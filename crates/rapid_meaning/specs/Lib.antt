@@ -12,7 +12,6 @@ pub mod Looks
 pub mod Signals
 pub mod Meetings
 pub mod Interrupts
-pub mod Shapes
 pub mod Zones
 pub mod Moves
 pub mod Instructions

@@ -27,20 +27,28 @@ set_counter routine local which n = do
   p ← counter_place routine local which
   write_value p (values.Num n)
 
--- the step: where none is given, 1, or -1 where the first value is the greater
-abbrev pub step_of : TypedTree → TypedRoutine → ℤ → ℤ → Option TypedExpr → Doing ℤ
-step_of tree routine first last None = Gives (if int_lt last first then neg_ℤ (pos 1_000) else pos 1_000)
-step_of tree routine first last (Some e) = num tree routine e
+-- the step where none is given: 1, or -1 where the first value is the greater
+abbrev pub direction : ℤ → ℤ → ℤ
+direction first last = if int_lt last first then neg_ℤ (pos 1_000) else pos 1_000
 
--- the bounds and the step, all evaluated before any is stored
+-- The bounds and the step. All that is given is evaluated before any is stored; where no step is, it is found from the two
+-- others as they are stored.
 abbrev pub bounds : TypedTree → TypedRoutine → ℕ → TypedExpr → TypedExpr → Option TypedExpr → Act
-bounds tree routine local first last step = do
+bounds tree routine local first last (Some step) = do
   from ← num tree routine first
   to ← num tree routine last
-  by ← step_of tree routine from to step
+  by ← num tree routine step
   set_counter routine local 2 by
   set_counter routine local 1 to
   set_counter routine local 0 from
+bounds tree routine local first last None = do
+  from ← num tree routine first
+  to ← num tree routine last
+  set_counter routine local 1 to
+  set_counter routine local 0 from
+  variable ← counter routine local 0
+  limit ← counter routine local 1
+  set_counter routine local 2 (direction variable limit)
 
 -- the variable has passed the last value; a step of zero counts up
 abbrev pub has_passed : ℤ → ℤ → ℤ → Bool

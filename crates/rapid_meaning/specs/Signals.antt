@@ -1,6 +1,6 @@
 -- Signals (RAPID Instructions: Set, Reset, SetDO, WaitDI, WaitDO).
 use Rattle.std.specs.Prelude.{ℕ, Bool}
-use Rattle.rapid_operators.specs.Equality.{same_truth}
+use Rattle.rapid_model.specs.Truths.{same_truth}
 use Rattle.rapid_model.specs.declared.answer.Answer.{Answer}
 use Rattle.rapid_model.specs.declared.answer.Answer.TheVariants as answers
 use Rattle.rapid_model.specs.declared.fate.Fault.TheVariants.{TiedOutput}

@@ -1,11 +1,14 @@
 -- World zones (RAPID Instructions: WZLimJointDef, WZHomeJointDef, WZLimSup, WZDisable, WZEnable, WZFree).
-use Rattle.std.specs.Prelude.{ℕ, Bool, ◌||◌, ℤ, List, [], ◌∷◌, Option, None, Some, Result, Ok, Err, if◌then◌else◌}
+use Rattle.std.specs.Prelude.{ℕ, Bool, ◌||◌, ℤ, pos, List, [], ◌∷◌, Option, None, Some, Result, Ok, Err, if◌then◌else◌}
 use Rattle.std.specs.Option.{option_and_then, option_map}
 use Rattle.rapid_num.specs.Arithmetic.{sum_of, difference_of}
 use Rattle.rapid_num.specs.declared.joints.Joints.{Joints}
 use Rattle.rapid_num.specs.declared.shape.Shape.{Shape}
 use Rattle.rapid_model.specs.declared.answer.Answer.{Answer}
 use Rattle.rapid_model.specs.declared.answer.Answer.TheVariants as answers
+use Rattle.joint_clip.specs.Shapes.{made_shape, no_limit}
+use Rattle.joint_clip.specs.declared.shape_fault.ShapeFault.{ShapeFault}
+use Rattle.joint_clip.specs.declared.shape_fault.ShapeFault.TheVariants as shape_faults
 use Rattle.rapid_model.specs.declared.fate.Fault.{Fault}
 use Rattle.rapid_model.specs.declared.fate.Fault.TheVariants as faults
 use Rattle.rapid_model.specs.declared.request.Request.{Request}
@@ -14,20 +17,27 @@ use Rattle.typed_trees.specs.declared.datum.Datum.TheVariants as datums
 use Rattle.typed_trees.specs.declared.datum.Lvalue.{Lvalue}
 use Rattle.rapid_meaning.specs.Doings.{Doing, Gives, Misfit, Asks, Act, ◌>>=◌, done, fault}
 use Rattle.rapid_meaning.specs.Places.{load, store}
-use Rattle.rapid_meaning.specs.Shapes.{made_shape, no_limit, unlimited}
 use Rattle.rapid_meaning.specs.Values.{shape_in}
 
 -- an arm has axes 1 to 6
 abbrev pub arm_axes : ℕ
 arm_axes = 6
 
-abbrev pub shaped : Lvalue → Result Shape Fault → Act
+abbrev pub fault_of : ShapeFault → Fault
+fault_of shape_faults.ExtAxis = faults.ExtAxis
+fault_of shape_faults.ZoneShape = faults.ZoneShape
+
+abbrev pub shaped : Lvalue → Result Shape ShapeFault → Act
 shaped place (Ok shape) = store place (datums.Shape (Some shape))
-shaped place (Err why) = fault why
+shaped place (Err why) = fault (fault_of why)
 
 -- stores the shape of a low and a high position
 abbrev pub define : Lvalue → Bool → Joints → Joints → Act
 define place inside low high = shaped place (made_shape inside low high arm_axes)
+
+-- 9E9
+abbrev pub unlimited : ℤ
+unlimited = pos 9_000_000_000_000
 
 -- the bound of an axis below and above its middle; none of both where the middle or the delta is 9E9
 abbrev pub home_low : ℤ → ℤ → Option ℤ

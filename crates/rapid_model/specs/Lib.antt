@@ -10,3 +10,4 @@ pub mod Own
 pub mod Fits
 pub mod Requests
 pub mod RuleNames
+pub mod Truths

@@ -1,5 +1,5 @@
 -- Where an arm may be.
-use Rattle.std.specs.Prelude.{◌&&◌, Bool, false, nat_le, ℤ, pos, negsuc, nat_abs, List, replicate, take, drop, ◌==◌}
+use Rattle.std.specs.Prelude.{◌&&◌, Bool, false, nat_le, ℤ, pos, negsuc, nat_abs, List, length, replicate, take, drop, ◌==◌}
 use Rattle.std.specs.List.{list_all}
 use Rattle.rapid_num.specs.declared.joints.Joints.{Joints}
 
@@ -12,6 +12,10 @@ abbrev pub is_absent : ℤ → Bool
 is_absent (pos n) = n == 9_000_000_000_000
 is_absent (negsuc n) = false
 
+-- six external axes, none of them there
+abbrev pub are_absent : List ℤ → Bool
+are_absent angles = length angles == 6 && list_all is_absent angles
+
 -- external axes that are not given
 abbrev pub absent_axes : List ℤ
 absent_axes = replicate 6 (pos 9_000_000_000_000)
@@ -20,6 +24,6 @@ absent_axes = replicate 6 (pos 9_000_000_000_000)
 abbrev pub is_reachable : Joints → Bool
 is_reachable joints = list_all is_in_reach (take 6 joints.axis)
 
--- a position of an arm without external axes
+-- a position of an arm without external axes: axes 1 to 6 in reach, and six that are not there
 abbrev pub is_position : Joints → Bool
-is_position joints = is_reachable joints && list_all is_absent (drop 6 joints.axis)
+is_position joints = is_reachable joints && are_absent (drop 6 joints.axis)

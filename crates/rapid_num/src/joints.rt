@@ -1,6 +1,6 @@
 ghost use Rattle.std.specs.Prelude.{◌≡◌};
 ghost use Rattle.std.specs.List.{list_all};
-ghost use Rattle.rapid_num.specs.Reach.{is_in_reach, is_absent, is_reachable, is_position};
+ghost use Rattle.rapid_num.specs.Reach.{is_in_reach, is_absent, are_absent, is_reachable, is_position};
 
 use crate::num::Num;
 
@@ -35,6 +35,12 @@ fn is_in_reach(angle: Num) -> bool
 }
 
 fn are_absent(axes: &[Num]) -> bool
+    ensures { result ≡ are_absent axes.now }
+{
+    axes.len() == 6 && none_is_given(axes)
+}
+
+fn none_is_given(axes: &[Num]) -> bool
     ensures { result ≡ list_all is_absent axes.now }
 {
     axes.iter().all(|axis| is_absent(*axis))

@@ -8,7 +8,8 @@ use Rattle.std.proofs.lemmas.Slice.Eq.{slice_eq-Decides, bytes_eq-Decides}
 use Rattle.rapid_num.specs.declared.joints.Joints.{Joints}
 use Rattle.rapid_model.specs.declared.value.Value.{Value}
 use Rattle.rapid_model.specs.declared.value.Value.TheVariants as values
-use Rattle.rapid_operators.specs.Equality.{same, same_truth, same_nums}
+use Rattle.rapid_model.specs.Truths.{same_truth}
+use Rattle.rapid_operators.specs.Equality.{same, same_nums}
 
 same_nums_pointwise : (ms ns : List ℤ) → same_nums ms ns ≡ pointwise int_eq ms ns
 same_nums_pointwise [] [] = refl

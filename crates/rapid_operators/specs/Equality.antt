@@ -1,12 +1,9 @@
 -- When two values are equal.
-use Rattle.std.specs.Prelude.{Bool, true, false, not, ◌&&◌, ℤ, List, [], ◌∷◌, bytes_eq}
+use Rattle.std.specs.Prelude.{Bool, true, false, ◌&&◌, ℤ, List, [], ◌∷◌, bytes_eq}
 use Rattle.std.specs.Ordering.{int_eq}
+use Rattle.rapid_model.specs.Truths.{same_truth}
 use Rattle.rapid_model.specs.declared.value.Value.{Value}
 use Rattle.rapid_model.specs.declared.value.Value.TheVariants as values
-
-abbrev pub same_truth : Bool → Bool → Bool
-same_truth true b = b
-same_truth false b = not b
 
 abbrev pub same_nums : List ℤ → List ℤ → Bool
 same_nums [] [] = true

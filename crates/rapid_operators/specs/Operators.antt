@@ -8,7 +8,8 @@ use Rattle.rapid_model.specs.declared.value.Value.{Value}
 use Rattle.rapid_model.specs.declared.value.Value.TheVariants as values
 use Rattle.rapid_operators.specs.declared.applied.Applied.{Applied}
 use Rattle.rapid_operators.specs.declared.applied.Applied.TheVariants.{Gives, Raises, OutOfRange, Unfit}
-use Rattle.rapid_operators.specs.Equality.{same, are_alike, same_truth}
+use Rattle.rapid_model.specs.Truths.{same_truth}
+use Rattle.rapid_operators.specs.Equality.{same, are_alike}
 
 -- a num, where it is in range
 abbrev pub num_or_fault : Option ℤ → Applied

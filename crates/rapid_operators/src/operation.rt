@@ -1,6 +1,7 @@
 //! Operators on values (RAPID Overview, expressions; RAPID Kernel, operators).
 ghost use Rattle.std.specs.Prelude.{◌≡◌, if◌then◌else◌};
-ghost use Rattle.rapid_operators.specs.Equality.{are_alike, same, same_truth};
+ghost use Rattle.rapid_model.specs.Truths.{same_truth};
+ghost use Rattle.rapid_operators.specs.Equality.{are_alike, same};
 ghost use Rattle.rapid_operators.specs.Operators.{apply, of_form, of_truths};
 
 use crate::applied::Applied;

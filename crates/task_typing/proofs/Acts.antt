@@ -35,11 +35,12 @@ use Rattle.rapid_meaning.specs.Interrupts.{asks_of_number, connect, number_at, o
 use Rattle.rapid_meaning.specs.Meetings.{arrive, task_or_fault, tasks_in, when_arrived, with_task, with_tasks}
 use Rattle.rapid_meaning.specs.Moves.{cap_of, move, move_from, setpoints, still, when_given}
 use Rattle.rapid_meaning.specs.Places.{at_root, element_of, load, part_at, part_within, read_value, rooted}
-use Rattle.rapid_meaning.specs.Shapes.{made_shape}
 use Rattle.rapid_meaning.specs.Signals.{has_value, when_written, write_signal}
 use Rattle.rapid_meaning.specs.Values.{bit_in, mark_in, num_in, shape_in, target_in, text_in, tool_speed_in, truth_in}
-use Rattle.rapid_meaning.specs.Zones.{arm_axes, asks_of_zone, define, define_home, defined, home_high, home_low, on_axes, position_or_fault, shape_at, shaped, supervise, when_numbered, when_zoned}
-use Rattle.rapid_operators.specs.Equality.{same_truth}
+use Rattle.joint_clip.specs.Shapes.{made_shape}
+use Rattle.joint_clip.specs.declared.shape_fault.ShapeFault.{ShapeFault}
+use Rattle.rapid_meaning.specs.Zones.{fault_of, arm_axes, asks_of_zone, define, define_home, defined, home_high, home_low, on_axes, position_or_fault, shape_at, shaped, supervise, when_numbered, when_zoned}
+use Rattle.rapid_model.specs.Truths.{same_truth}
 use Rattle.task_typing.specs.Asked.{CanWatch}
 use Rattle.task_typing.specs.Expressions.{IsArray, IsExpr, IsPersName}
 use Rattle.task_typing.specs.Kinds.{kinds_of}
@@ -241,9 +242,9 @@ arrive_safe s row meeting tasks e under = safe_asks s Anything (requests.Arrive 
     answered trapped a fits full = absurd cc
 
 -- zones
-shaped_safe : (s : Scene) (q : Lvalue) (r : Result Shape Fault) → IsThere s q sorts.ShapeData → Safe s Anything (shaped q r)
+shaped_safe : (s : Scene) (q : Lvalue) (r : Result Shape ShapeFault) → IsThere s q sorts.ShapeData → Safe s Anything (shaped q r)
 shaped_safe s q (Ok shape) is = store_safe s q sorts.ShapeData (datums.Shape (Some shape)) is refl
-shaped_safe s q (Err why) is = safe_fault {A = ⊤} s Anything why
+shaped_safe s q (Err why) is = safe_fault {A = ⊤} s Anything (fault_of why)
 
 pub define_safe : (s : Scene) (q : Lvalue) (inside : Bool) (low high : Joints) → IsThere s q sorts.ShapeData → Safe s Anything (define q inside low high)
 define_safe s q inside low high is = shaped_safe s q (made_shape inside low high arm_axes) is

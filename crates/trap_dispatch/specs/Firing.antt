@@ -1,6 +1,7 @@
 -- Which interrupts an event's changes fire (RAPID Instructions: ISignalDI, ISignalDO, IPers).
 use Rattle.std.specs.Prelude.{ℕ, ◌-◌, Bool, true, false, not, ◌&&◌, ◌==◌, if◌then◌else◌, List, length, filter, slice_index_or, Option, None, Some}
 use Rattle.std.specs.List.{list_any, range_with_len}
+use Rattle.rapid_model.specs.Truths.{same_truth}
 use Rattle.rapid_model.specs.declared.watched.Watched.{Watched}
 use Rattle.rapid_model.specs.declared.watched.Watched.TheVariants.{Signal, Pers}
 use Rattle.trap_dispatch.specs.declared.connected.Connected.{Connected}
@@ -10,13 +11,9 @@ use Rattle.trap_dispatch.specs.declared.order.Order.{Order}
 abbrev pub connected_at : List (Option Connected) → ℕ → Option Connected
 connected_at numbers number = if number == 0 then None else slice_index_or numbers (number - 1) None
 
-abbrev pub is_equal : Bool → Bool → Bool
-is_equal true b = b
-is_equal false b = not b
-
 -- a change is the one that is watched
 abbrev pub is_change : Watched → Watched → Bool
-is_change (Signal s v) (Signal t w) = s == t && is_equal v w
+is_change (Signal s v) (Signal t w) = s == t && same_truth v w
 is_change (Pers p) (Pers q) = p == q
 is_change _ _ = false
 

@@ -27,6 +27,13 @@ impl BoxedShape {
         Ok(BoxedShape { shape })
     }
 
+    /// An equal shape, which lies apart from this one. Its error says that memory was refused.
+    pub fn copy(&self, alloc: Global) -> Result<BoxedShape, AllocError>
+        ensures { IfOk result (λ b. b ≡ self.now) }
+    {
+        BoxedShape::new(alloc, *self.shape)
+    }
+
     /// The shape.
     pub fn shape(&self) -> &Shape
         ensures { result.now ≡ self.now }

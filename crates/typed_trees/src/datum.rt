@@ -1,7 +1,10 @@
 //! What the places of a task's data hold.
 
+ghost use Rattle.std.specs.Prelude.{◌≡◌, IfOk};
+
 use crate::boxed_shape::BoxedShape;
 use rapid_model::{PartName, Value};
+use std::alloc::{AllocError, Global};
 
 /// Where a datum begins: a place among a task's module data, a place among the data of a frame, or an element of a
 /// persistent, whose index is 0 where it is no array.
@@ -30,4 +33,19 @@ pub enum Datum {
     Shape(Option<BoxedShape>),
     /// What a reference parameter stands for.
     Place(Lvalue),
+}
+
+impl Datum {
+    /// An equal datum. Its error says that memory was refused.
+    pub fn copy(&self, alloc: Global) -> Result<Datum, AllocError>
+        ensures { IfOk result (λ d. d ≡ self.now) }
+    {
+        match self {
+            Datum::Plain(value) => Ok(Datum::Plain(value.copy())),
+            Datum::Mark(number) => Ok(Datum::Mark(*number)),
+            Datum::Shape(None) => Ok(Datum::Shape(None)),
+            Datum::Shape(Some(shape)) => Ok(Datum::Shape(Some(shape.copy(alloc)?))),
+            Datum::Place(place) => Ok(Datum::Place(*place)),
+        }
+    }
 }

@@ -1,6 +1,8 @@
-ghost use Rattle.std.specs.Prelude.{◌≡◌, replicate};
+ghost use Rattle.std.specs.Prelude.{◌≡◌, ◌++◌, length, replicate, slice_get, OnOk};
+ghost use Rattle.typed_trees.specs.First.{all_of};
 
 use crate::datum::Datum;
+use std::alloc::{AllocError, Global};
 use std::marker::Model;
 
 /// The first data of a datum's elements, in order. Where a declaration gives no value all are alike, and only one is kept.
@@ -45,4 +47,44 @@ impl FirstData {
         let kept = Kept::Alike(datum, count);
         FirstData { kept }
     }
+
+    /// How many they are.
+    pub fn len(&self) -> usize
+        ensures { result ≡ length self.now }
+    {
+        match &self.kept {
+            Kept::Given(first) => first.len(),
+            Kept::Alike(_, count) => *count,
+        }
+    }
+
+    /// Appends a copy of each, in order. Its error says that memory was refused.
+    pub fn append_to(&self, alloc: Global, to: &mut Vec<Datum>) -> Result<(), AllocError>
+        ensures { OnOk result (to.new.items ≡ to.old.items ++ self.now) }
+    {
+        match &self.kept {
+            Kept::Given(first) => append_each(alloc, first, to),
+            Kept::Alike(datum, count) => append_alike(alloc, datum, *count, to),
+        }
+    }
+}
+
+/// Appends a copy of each datum. Its error says that memory was refused.
+fn append_each(alloc: Global, first: &[Datum], to: &mut Vec<Datum>) -> Result<(), AllocError>
+    ensures { OnOk result (to.new.items ≡ to.old.items ++ first.now) }
+{
+    for datum in first {
+        to.push(datum.copy(alloc)?)?;
+    }
+    Ok(())
+}
+
+/// Appends so many copies of a datum. Its error says that memory was refused.
+fn append_alike(alloc: Global, datum: &Datum, count: usize, to: &mut Vec<Datum>) -> Result<(), AllocError>
+    ensures { OnOk result (to.new.items ≡ to.old.items ++ replicate count datum.now) }
+{
+    for _copy in 0..count {
+        to.push(datum.copy(alloc)?)?;
+    }
+    Ok(())
 }

@@ -2,6 +2,7 @@
 use Rattle.std.specs.Prelude.{ℕ, ◌+◌, ◌-◌, Bool, true, false, not, ◌&&◌, ◌==◌, if◌then◌else◌, List, length, map, replicate, slice_index_or, slice_set, Option, None, Some, is_some, is_none, Result, Ok, Err}
 use Rattle.std.specs.List.{position_from}
 use Rattle.rapid_num.specs.declared.shape.Shape.{Shape}
+use Rattle.rapid_model.specs.Truths.{same_truth}
 use Rattle.rapid_model.specs.CellData.{CellData}
 use Rattle.rapid_model.specs.declared.zone_row.ZoneRow.{ZoneRow}
 use Rattle.world_zones.specs.declared.cell_zone.CellZone.{CellZone}
@@ -68,13 +69,9 @@ abbrev pub own_shape : Option OwnZone → Option Shape
 own_shape None = None
 own_shape (Some zone) = if zone.on then Some zone.shape else None
 
-abbrev pub is_equal : Bool → Bool → Bool
-is_equal true b = b
-is_equal false b = not b
-
 -- the shape of a zone of the cell, if it watches the task's arm: while its signal has its value
 abbrev pub cell_shape : ℕ → List Bool → CellZone → Option Shape
-cell_shape task signals zone = if (zone.task == task) && is_equal (slice_index_or signals zone.signal false) zone.value then Some zone.shape else None
+cell_shape task signals zone = if (zone.task == task) && same_truth (slice_index_or signals zone.signal false) zone.value then Some zone.shape else None
 
 abbrev pub shape_of_cell : ℕ → List Bool → Option CellZone → Option Shape
 shape_of_cell task signals None = None
