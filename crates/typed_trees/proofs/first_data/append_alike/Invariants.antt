@@ -1,5 +1,5 @@
 use Rattle.std.proofs.Common.{◌≡◌, ◌++◌, replicate}
 use Rattle.typed_trees.proofs.first_data.append_alike.Given as goal
 
-abbrev pub invariant-loop-_copy : goal.invariant-loop-_copy
-invariant-loop-_copy l = l.to.items ≡ l.initial.to.items ++ replicate l._copy l.datum
+abbrev pub invariant-loop-copy : goal.invariant-loop-copy
+invariant-loop-copy l = l.to.items ≡ l.initial.to.items ++ replicate l._copy l.datum
