@@ -1,0 +1,2 @@
+//! That compiled code asks what its tree asks: laws alone.
+#![tactic(auto)]
