@@ -1,2 +1,3 @@
 pub mod Sim
 pub mod Same
+pub mod Spots
