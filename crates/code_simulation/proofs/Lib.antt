@@ -1,3 +1,14 @@
 pub mod Sim
 pub mod Same
 pub mod Spots
+pub mod Bodies
+pub mod Claims
+pub mod CodeOf
+pub mod Past
+pub mod Expressions
+pub mod Looks
+pub mod Recovery
+pub mod Statements
+pub mod Lists
+pub mod Routines
+pub mod Whole

@@ -156,22 +156,27 @@ sim_ends {A = A} {t = t} fate {next = next} {failed = failed} = record {
 }
 
 comes_when : {A : Type 0} (t : Target) (b : Bool) (x : Doing Conf) (o : Outcome A) (next : A → Doing Conf) (failed : ℕ → Doing Conf) (d : Data) (left : List Answer) (k : ℕ)
-    → (Fine (followed t k next failed o) → Comes t x d left (followed t k next failed o)) → Fine (followed t k next failed (if b then o else Unfit))
+    → (IsTrue b → Fine (followed t k next failed o) → Comes t x d left (followed t k next failed o)) → Fine (followed t k next failed (if b then o else Unfit))
     → (j : ℕ) × (joined (if b then performed t.by no_part x d left else Unfit) (λ c e rest. exec t.by t.code j c e rest) (λ n e rest. Misfits) ≡ followed t k next failed (if b then o else Unfit))
-comes_when t true x o next failed d left k comes fine = comes fine
+comes_when t true x o next failed d left k comes fine = comes refl fine
 comes_when t false x o next failed d left k comes fine = (zero, refl)
 
-asks_by : {A : Type 0} (t : Target) (run : Run) (request : Request) (s : Answer → Doing Conf) (m : Answer → Doing A) (next : A → Doing Conf) (failed : ℕ → Doing Conf)
-    → ((a : Answer) → Sim t run (s a) (m a) next failed) → (d : Data) (left : List Answer) (k : ℕ)
+asked_by : {A : Type 0} (t : Target) (run : Run) (request : Request) (s : Answer → Doing Conf) (m : Answer → Doing A) (next : A → Doing Conf) (failed : ℕ → Doing Conf)
+    → ((a : Answer) (trapped : Bool) → IsTrue (fits_request (t.by trapped) request a) → Sim t run (s a) (m a) next failed) → (d : Data) (left : List Answer) (k : ℕ)
     → Fine (followed t k next failed (performed t.by run (Asks request m) d left)) → Comes t (Asks request s) d left (followed t k next failed (performed t.by run (Asks request m) d left))
 unfolding performed
-asks_by t run request s m next failed more d [] k fine = (zero, refl)
-asks_by t run request s m next failed more d (a ∷ left) k fine =
-    comes_when t (fits_request (t.by d.trapped) request a) (s a) (performed t.by run (m a) d left) next failed d left k (λ good. (more a).by d left k good) fine
+asked_by t run request s m next failed more d [] k fine = (zero, refl)
+asked_by t run request s m next failed more d (a ∷ left) k fine =
+    comes_when t (fits_request (t.by d.trapped) request a) (s a) (performed t.by run (m a) d left) next failed d left k (λ fits good. (more a d.trapped fits).by d left k good) fine
+
+-- by an answer that fits
+pub sim_asked : {A : Type 0} {t : Target} {run : Run} (request : Request) {s : Answer → Doing Conf} {m : Answer → Doing A} {next : A → Doing Conf} {failed : ℕ → Doing Conf}
+    → ((a : Answer) (trapped : Bool) → IsTrue (fits_request (t.by trapped) request a) → Sim t run (s a) (m a) next failed) → Sim t run (Asks request s) (Asks request m) next failed
+sim_asked {t = t} {run = run} request {s = s} {m = m} {next = next} {failed = failed} more = record { by = λ d left k fine. asked_by t run request s m next failed more d left k fine }
 
 pub sim_asks : {A : Type 0} {t : Target} {run : Run} (request : Request) {s : Answer → Doing Conf} {m : Answer → Doing A} {next : A → Doing Conf} {failed : ℕ → Doing Conf}
     → ((a : Answer) → Sim t run (s a) (m a) next failed) → Sim t run (Asks request s) (Asks request m) next failed
-sim_asks {t = t} {run = run} request {s = s} {m = m} {next = next} {failed = failed} more = record { by = λ d left k fine. asks_by t run request s m next failed more d left k fine }
+sim_asks request more = sim_asked request (λ a trapped fits. more a)
 
 -- a part of the program, and what follows it
 pub sim_does : {A : Type 0} {t : Target} {run : Run} {s : Doing Conf} {p : Part} {f : Flow → Doing A} {r : ℕ → Doing A}
