@@ -14,7 +14,7 @@ use Rattle.stack_code.specs.Placed.{Own, Placed}
 use Rattle.stack_code.specs.Raising.{back_to, handler_of, raised_to}
 use Rattle.stack_code.specs.Sizes.{arms_size, bounds_size, cases_size, expr_size, stmt_size, stmts_size, values_size}
 use Rattle.stack_code.specs.StmtLayouts.{label_at, own_of, stmt_code, stmts_code}
-use Rattle.code_simulation.specs.Calls.{StmtCalls, StmtsCalls, Takes}
+use Rattle.code_simulation.specs.Calls.{IsProcedure, StmtCalls, StmtsCalls, Takes}
 use Rattle.code_simulation.proofs.Bodies.{Body, begins, lands, leaving, value_of}
 use Rattle.code_simulation.proofs.Sim.{SimPart, Target}
 use Rattle.code_simulation.proofs.Spots.{HasAt}
@@ -91,11 +91,14 @@ turn_at routine pc local first last step = pc + 1 + bounds_size routine local fi
 pub record Claims (t : Target) (tree : TypedTree) (run : Run) : Type 0 where
   pub calls : (routine : ℕ) (args : List Datum) (saved : List Saved) → Takes tree routine (length args)
       → SimPart t run (enter t.code routine args saved) (Call routine args) (λ flow. back_to saved (value_of flow)) (raised_to t.code saved)
+  -- a PROC gives nothing
+  pub procedures : (routine : ℕ) (args : List Datum) (saved : List Saved) → Takes tree routine (length args) → IsProcedure tree routine
+      → SimPart t run (enter t.code routine args saved) (Call routine args) (λ flow. back_to saved None) (raised_to t.code saved)
   pub attempts : (b : Body) (pc : ℕ) (s : TypedStmt) → Stands t tree b b.stands.errors → StmtAt t tree b pc s
       → SimPart t run (begins b pc) (Attempt b.stands s) (lands b (pc + stmt_size tree b.stands.routine s)) (leaving t b)
   pub turns : (b : Body) (pc : ℕ) (at local : ℕ) (first last : TypedExpr) (step : Option TypedExpr) (list : TypedStmts) → Stands t tree b b.stands.errors
       → StmtAt t tree b pc (trees.For at local first last step list)
       → SimPart t run (begins b (turn_at b.stands.routine pc local first last step)) (Turn b.stands (trees.For at local first last step list))
-        (lands b (pc + stmt_size tree b.stands.routine (trees.For at local first last step list))) (leaving t b)
+      (lands b (pc + stmt_size tree b.stands.routine (trees.For at local first last step list))) (leaving t b)
   pub rests : (b : Body) (pc more_pc end : ℕ) (whole more : TypedStmts) → Stands t tree b b.stands.errors → ListAt t tree b pc end whole → ListAt t tree b more_pc end more
       → SimPart t run (begins b more_pc) (Rest b.stands whole more) (lands b end) (leaving t b)

@@ -5,10 +5,13 @@ pub mod Bodies
 pub mod Claims
 pub mod CodeOf
 pub mod Past
+pub mod Operands
 pub mod Expressions
+pub mod Arguments
 pub mod Looks
 pub mod Recovery
 pub mod Statements
 pub mod Lists
 pub mod Routines
+pub mod Procedures
 pub mod Whole

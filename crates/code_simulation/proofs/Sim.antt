@@ -36,12 +36,12 @@ followed t k next failed o = joined o (λ v e left. goes_on t k (next v) e left)
 -- Code from s on comes to what m comes to, followed by code from next on, or from failed on where m raises an error.
 pub record Sim {A : Type 0} (t : Target) (run : Run) (s : Doing Conf) (m : Doing A) (next : A → Doing Conf) (failed : ℕ → Doing Conf) : Type 0 where
   pub by : (d : Data) (left : List Answer) (k : ℕ) → Fine (followed t k next failed (performed t.by run m d left))
-    → (j : ℕ) × (goes_on t j s d left ≡ followed t k next failed (performed t.by run m d left))
+      → (j : ℕ) × (goes_on t j s d left ≡ followed t k next failed (performed t.by run m d left))
 
 -- the same of a part of the program
 pub record SimPart (t : Target) (run : Run) (s : Doing Conf) (p : Part) (next : Flow → Doing Conf) (failed : ℕ → Doing Conf) : Type 0 where
   pub by : (d : Data) (left : List Answer) (k : ℕ) → Fine (followed t k next failed (run p d left))
-    → (j : ℕ) × (goes_on t j s d left ≡ followed t k next failed (run p d left))
+      → (j : ℕ) × (goes_on t j s d left ≡ followed t k next failed (run p d left))
 
 -- outcomes
 
@@ -99,12 +99,12 @@ pub sim_after : {A B : Type 0} {t : Target} {run : Run} {s : Doing Conf} {m : Do
     → Sim t run s (after m f r) next failed
 sim_after {t = t} {run = run} {s = s} {m = m} {f = f} {r = r} between raised {next = next} {failed = failed} first second third = record {
   by = λ d left k fine.
-    let same = followed_after t run k next failed m f r d left in
-    let come = chain t s between raised d left (performed t.by run m d left)
+      let same = followed_after t run k next failed m f r d left in
+      let come = chain t s between raised d left (performed t.by run m d left)
       (λ v e rest. followed t k next failed (performed t.by run (f v) e rest)) (λ n e rest. followed t k next failed (performed t.by run (r n) e rest))
       (λ j good. first.by d left j good) (λ v e rest good. (second v).by e rest k good) (λ n e rest good. (third n).by e rest k good)
       (subst (λ (x : Outcome ⊤). Fine x) same fine) in
-    (come.0, come.1 ∙ sym same);
+      (come.0, come.1 ∙ sym same);
 }
 
 pub sim_gives : {A : Type 0} {t : Target} {run : Run} (v : A) {next : A → Doing Conf} {failed : ℕ → Doing Conf} → Sim t run (next v) (Gives v) next failed
@@ -150,9 +150,11 @@ told_joined {A} {B} by fate d (a ∷ left) f h = joined_when {A = A} {B = B} (fi
 pub sim_ends : {A : Type 0} {t : Target} {run : Run} (fate : Fate) {next : A → Doing Conf} {failed : ℕ → Doing Conf} → Sim t run (Ends fate) (Ends fate) next failed
 unfolding performed
 sim_ends {A = A} {t = t} fate {next = next} {failed = failed} = record {
-  by = λ d left k fine.
-    (zero, told_joined {A = Conf} {B = ⊤} t.by fate d left (λ c e rest. exec t.by t.code zero c e rest) (λ n e rest. Misfits)
-    ∙ sym (told_joined {A = A} {B = ⊤} t.by fate d left (λ v e rest. goes_on t k (next v) e rest) (λ n e rest. goes_on t k (failed n) e rest)));
+  by = λ d left k fine. (
+    zero,
+    told_joined {A = Conf} {B = ⊤} t.by fate d left (λ c e rest. exec t.by t.code zero c e rest) (λ n e rest. Misfits)
+        ∙ sym (told_joined {A = A} {B = ⊤} t.by fate d left (λ v e rest. goes_on t k (next v) e rest) (λ n e rest. goes_on t k (failed n) e rest)),
+  );
 }
 
 comes_when : {A : Type 0} (t : Target) (b : Bool) (x : Doing Conf) (o : Outcome A) (next : A → Doing Conf) (failed : ℕ → Doing Conf) (d : Data) (left : List Answer) (k : ℕ)
@@ -186,12 +188,12 @@ pub sim_does : {A : Type 0} {t : Target} {run : Run} {s : Doing Conf} {p : Part}
 unfolding performed
 sim_does {t = t} {run = run} {s = s} {p = p} {f = f} {r = r} ends raises {next = next} {failed = failed} first second third = record {
   by = λ d left k fine.
-    let same = followed_joined t k next failed (run p d left) (λ flow e rest. performed t.by run (f flow) e rest) (λ n e rest. performed t.by run (r n) e rest) in
-    let come = chain t s ends raises d left (run p d left)
+      let same = followed_joined t k next failed (run p d left) (λ flow e rest. performed t.by run (f flow) e rest) (λ n e rest. performed t.by run (r n) e rest) in
+      let come = chain t s ends raises d left (run p d left)
       (λ flow e rest. followed t k next failed (performed t.by run (f flow) e rest)) (λ n e rest. followed t k next failed (performed t.by run (r n) e rest))
       (λ j good. first.by d left j good) (λ flow e rest good. (second flow).by e rest k good) (λ n e rest good. (third n).by e rest k good)
       (subst (λ (x : Outcome ⊤). Fine x) same fine) in
-    (come.0, come.1 ∙ sym same);
+      (come.0, come.1 ∙ sym same);
 }
 
 -- parts of the program, so many one in another
@@ -245,6 +247,6 @@ pub sim_step : {A : Type 0} {t : Target} {run : Run} {c : Conf} {m : Doing A} {n
 unfolding performed exec
 sim_step {t = t} {c = c} room sim = record {
   by = λ d left k fine.
-    let come = sim.by d left k fine in
-    (suc come.0, within (nat_le (length c.stack) t.code.deepest) (goes_on t come.0 (step t.code c) d left) room ∙ come.1);
+      let come = sim.by d left k fine in
+      (suc come.0, within (nat_le (length c.stack) t.code.deepest) (goes_on t come.0 (step t.code c) d left) room ∙ come.1);
 }

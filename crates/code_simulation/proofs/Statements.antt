@@ -17,5 +17,5 @@ stmt_sim t tree run code claims b pc s stands at = ?
 pub turn_sim : (t : Target) (tree : TypedTree) (run : Run) → IsCodeOf tree t → Claims t tree run → (b : Body) (pc : ℕ) (at local : ℕ) (first last : TypedExpr) (step : Option TypedExpr) (list : TypedStmts)
     → Stands t tree b b.stands.errors → StmtAt t tree b pc (trees.For at local first last step list)
     → Sim t run (begins b (turn_at b.stands.routine pc local first last step)) (turn b.stands (trees.For at local first last step list))
-      (lands b (pc + stmt_size tree b.stands.routine (trees.For at local first last step list))) (leaving t b)
+    (lands b (pc + stmt_size tree b.stands.routine (trees.For at local first last step list))) (leaving t b)
 turn_sim t tree run code claims b pc at local first last step list stands place = ?

@@ -1,5 +1,6 @@
--- Calls give as many arguments as their routines have parameters.
+-- Calls give as many arguments as their routines have parameters, and those that are statements are of PROCs.
 use Rattle.std.specs.Prelude.{◌≡◌, ℕ, ◌+◌, Option, None, Some, slice_get, length, ⊤}
+use Rattle.raw_trees.specs.declared.raw_routine.RoutineKind.TheVariants as kinds
 use Rattle.typed_trees.specs.Plain as trees
 use Rattle.typed_trees.specs.Plain.{TypedArg, TypedArgs, TypedArgument, TypedArms, TypedCases, TypedElse, TypedExpr, TypedExprs, TypedHeld, TypedPlace, TypedRoutine, TypedSteps, TypedStmt, TypedStmts, TypedTree, NoExprs, MoreExprs, NoSteps, MoreSteps, NotHeld, Held, PlaceOf, Given, Lent, OfSignal, OfMeeting, Itself, Optional, NoArgument, Argument, NoArgs, MoreArgs, NoStmts, MoreStmts, NoArms, MoreArms, NoCases, MoreCases, NoElse, Else}
 
@@ -11,7 +12,11 @@ args_count (MoreArgs arg more) = 1 + args_count more
 abbrev pub Takes : TypedTree → ℕ → ℕ → Type 0
 Takes tree called count = (routine : TypedRoutine) → slice_get tree.routines called ≡ Some routine → count ≡ length routine.params
 
--- in each form, each call of a routine gives as many arguments as it takes
+-- the routine of this number, if there is one, is a PROC
+abbrev pub IsProcedure : TypedTree → ℕ → Type 0
+IsProcedure tree called = (routine : TypedRoutine) → slice_get tree.routines called ≡ Some routine → routine.kind ≡ kinds.Proc
+
+-- in each form, each call of a routine gives as many arguments as it takes, and one that is a statement is of a PROC
 abbrev mutual
   pub ExprCalls : TypedTree → TypedExpr → Type 0
   ExprCalls tree (trees.Known at sort v) = ⊤
@@ -65,7 +70,7 @@ abbrev mutual
   pub StmtCalls : TypedTree → TypedStmt → Type 0
   StmtCalls tree (trees.Assign at p e) = PlaceCalls tree p × ExprCalls tree e
   StmtCalls tree (trees.Instruct at instruction args) = ArgsCalls tree args
-  StmtCalls tree (trees.Call at called args) = Takes tree called (args_count args) × ArgsCalls tree args
+  StmtCalls tree (trees.Call at called args) = Takes tree called (args_count args) × ArgsCalls tree args × IsProcedure tree called
   StmtCalls tree (trees.Label at label) = ⊤
   StmtCalls tree (trees.Goto at label) = ⊤
   StmtCalls tree (trees.Return at value) = MaybeCalls tree value

@@ -45,7 +45,7 @@ abbrev pub PartCalls : TypedTree → Option TypedStmts → Type 0
 PartCalls tree None = ⊤
 PartCalls tree (Some list) = StmtsCalls tree list
 
--- A routine: its calls give as many arguments as are taken, its labels are numbered in text order from 0 on, and it has no parameters
+-- A routine: its calls give as many arguments as are taken, and statements call PROCs; its labels are numbered in text order from 0 on, and it has no parameters
 -- if it is a TRAP.
 pub record IsOrderlyRoutine (tree : TypedTree) (routine : TypedRoutine) : Type 0 where
   pub list : StmtsCalls tree routine.list

@@ -1,0 +1,44 @@
+-- Arguments of calls of routines, and the calls.
+use Rattle.std.proofs.Common.{◌≡◌, ℕ, ◌+◌, ◌≤◌, List, length}
+use Rattle.typed_trees.specs.Plain.{TypedArgs}
+use Rattle.typed_trees.specs.declared.datum.Datum.{Datum}
+use Rattle.rapid_meaning.specs.Doings.{Doing, Raises, after}
+use Rattle.rapid_meaning.specs.Expressions.{arguments}
+use Rattle.rapid_meaning.specs.Flows.{Flow}
+use Rattle.rapid_meaning.specs.Statements.{call}
+use Rattle.stack_code.specs.Confs.{Conf}
+use Rattle.stack_code.specs.ExprLayouts.{args_code, put}
+use Rattle.stack_code.specs.Needs.{args_need}
+use Rattle.stack_code.specs.Placed.{Placed}
+use Rattle.stack_code.specs.Raising.{with_result}
+use Rattle.stack_code.specs.Sizes.{args_size}
+use Rattle.stack_code.specs.declared.op.Op.TheVariants as ops
+use Rattle.code_simulation.specs.Calls.{ArgsCalls, IsProcedure, Takes, args_count}
+use Rattle.code_simulation.proofs.Bodies.{value_of}
+use Rattle.code_simulation.proofs.Claims.{Claims}
+use Rattle.code_simulation.proofs.CodeOf.{IsCodeOf}
+use Rattle.code_simulation.proofs.Operands.{pushed}
+use Rattle.code_simulation.proofs.Sim.{Sim}
+use Rattle.code_simulation.proofs.Spots.{Holds, Spot, failing, standing}
+
+-- the arguments, and what follows them, where there are as many as the call gives, and there is room for them
+pub args_sim : (s : Spot) → IsCodeOf s.tree s.target → Claims s.target s.tree s.run → (pc end : ℕ) (stack : List Datum) (args : TypedArgs) (ps : List Placed)
+    (k : List Datum → Doing Flow) (next : Flow → Doing Conf) → ArgsCalls s.tree args → Holds s pc (args_code s.tree s.routine s.own pc args ps)
+    → length stack + args_need args ≤ s.target.code.deepest → pc + args_size args ≡ end
+    → ((xs : List Datum) → length xs ≡ args_count args → length stack + length xs ≤ s.target.code.deepest → Sim s.target s.run (standing s end (pushed xs stack)) (k xs) next (failing s))
+    → Sim s.target s.run (standing s pc stack) (after (arguments s.tree s.routine args) k Raises) next (failing s)
+args_sim s code claims pc end stack args ps k next calls there room past more = ?
+
+-- the arguments and the call, with what it gives, if it gives something
+pub call_sim : (s : Spot) → IsCodeOf s.tree s.target → Claims s.target s.tree s.run → (pc end : ℕ) (stack : List Datum) (called : ℕ) (args : TypedArgs) (ps : List Placed)
+    → Takes s.tree called (args_count args) → ArgsCalls s.tree args → Holds s pc (args_code s.tree s.routine s.own pc args (put s.own (ops.Call called) ps))
+    → length stack + args_need args ≤ s.target.code.deepest → pc + args_size args + 1 ≡ end
+    → Sim s.target s.run (standing s pc stack) (call s.tree s.routine called args) (λ flow. standing s end (with_result (value_of flow) stack)) (failing s)
+call_sim s code claims pc end stack called args ps takes calls there room past = ?
+
+-- the same of a PROC, which gives nothing
+pub procedure_sim : (s : Spot) → IsCodeOf s.tree s.target → Claims s.target s.tree s.run → (pc end : ℕ) (stack : List Datum) (called : ℕ) (args : TypedArgs) (ps : List Placed)
+    → Takes s.tree called (args_count args) → IsProcedure s.tree called → ArgsCalls s.tree args → Holds s pc (args_code s.tree s.routine s.own pc args (put s.own (ops.Call called) ps))
+    → length stack + args_need args ≤ s.target.code.deepest → pc + args_size args + 1 ≡ end
+    → Sim s.target s.run (standing s pc stack) (call s.tree s.routine called args) (λ flow. standing s end stack) (failing s)
+procedure_sim s code claims pc end stack called args ps takes kind calls there room past = ?
