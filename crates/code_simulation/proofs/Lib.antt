@@ -5,6 +5,13 @@ pub mod Bodies
 pub mod Claims
 pub mod CodeOf
 pub mod Past
+pub mod Alone
+pub mod Ops
+pub mod PlaceOps
+pub mod ValueOps
+pub mod Calling
+pub mod Packs
+pub mod Rooms
 pub mod Operands
 pub mod Expressions
 pub mod Arguments
