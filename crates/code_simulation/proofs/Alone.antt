@@ -1,11 +1,10 @@
 -- What does no part of a program, among what operations do.
-use Rattle.std.proofs.Common.{ℕ, Bool, true, false, ℤ, Option, None, Some}
+use Rattle.std.proofs.Common.{ℕ, Bool, true, false, Option, None, Some}
 use Rattle.rapid_model.specs.declared.answer.Answer.{Answer}
 use Rattle.rapid_model.specs.declared.answer.Answer.TheVariants as answers
 use Rattle.rapid_model.specs.declared.function.Function.{Function}
 use Rattle.rapid_model.specs.declared.function.Function.TheVariants as functions
 use Rattle.rapid_model.specs.declared.part_name.PartName.{PartName}
-use Rattle.rapid_model.specs.declared.request.Request.{Request}
 use Rattle.rapid_model.specs.declared.value.Value.{Value}
 use Rattle.rapid_model.specs.declared.value.Value.TheVariants as values
 use Rattle.rapid_operators.specs.declared.applied.Applied.{Applied}

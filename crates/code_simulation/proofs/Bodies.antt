@@ -1,12 +1,10 @@
 -- A routine under way: where its statements lead, and where its errors go.
-use Rattle.std.proofs.Common.{◌≡◌, ℕ, ◌≤◌, List, [], Option, None, Some}
+use Rattle.std.proofs.Common.{ℕ, List, [], Option, None, Some}
 use Rattle.rapid_model.specs.declared.value.Value.{Value}
-use Rattle.typed_trees.specs.Plain as trees
-use Rattle.typed_trees.specs.Plain.{TypedStmts, TypedTree}
+use Rattle.typed_trees.specs.Plain.{TypedTree}
 use Rattle.rapid_meaning.specs.Answering.{Run}
 use Rattle.rapid_meaning.specs.Doings.{Doing, Gives, Misfit}
 use Rattle.rapid_meaning.specs.Flows.{Flow, Normal, Jumps, Returns, Retries, Skips, Where}
-use Rattle.stack_code.specs.CodeData.{CodeData}
 use Rattle.stack_code.specs.Confs.{Conf, Failed, Running, Saved, behind_part, conf}
 use Rattle.stack_code.specs.Placed.{Own}
 use Rattle.stack_code.specs.Raising.{raised_out, returned}

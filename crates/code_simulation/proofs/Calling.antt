@@ -1,5 +1,5 @@
 -- The call of a routine, whose arguments are the topmost operands.
-use Rattle.std.proofs.Common.{◌≡◌, refl, sym, ap, ◌∙◌, ℕ, ◌+◌, ◌-◌, ◌≤◌, ◌<◌, ◌&&◌, ◌⊎◌, inl, inr, nat_le, nat_lt, Bool, true, false, List, [], ◌∷◌, ◌++◌, length, take, drop, reverse, Option, None, Some, slice_get, if◌then◌else◌, arith}
+use Rattle.std.proofs.Common.{◌≡◌, refl, sym, ap, ◌∙◌, ℕ, ◌+◌, ◌-◌, ◌≤◌, ◌<◌, ◌&&◌, ◌⊎◌, inl, inr, nat_le, nat_lt, Bool, true, false, List, [], ◌∷◌, length, take, drop, reverse, Option, None, Some, slice_get, if◌then◌else◌, arith}
 use Rattle.std.proofs.Math.Nat.{min-eq_left, min-eq_right}
 use Rattle.std.proofs.lemmas.Bool.{cases_lt, lt-leb}
 use Rattle.std.proofs.lemmas.List.{length-append}
@@ -7,7 +7,7 @@ use Rattle.rapid_model.specs.declared.fate.Fault.TheVariants.{DepthLimit}
 use Rattle.rapid_model.specs.declared.value.Value.{Value}
 use Rattle.typed_trees.specs.Plain.{TypedRoutine}
 use Rattle.typed_trees.specs.declared.datum.Datum.{Datum}
-use Rattle.rapid_meaning.specs.Data.{Data, Frame, values_in}
+use Rattle.rapid_meaning.specs.Data.{Frame, values_in}
 use Rattle.rapid_meaning.specs.Doings.{Gives, Raises, Reads, Writes, Act, ◌>>=◌, after, calls, done, fault, or_misfit}
 use Rattle.rapid_meaning.specs.Flows.{Flow, Call}
 use Rattle.rapid_meaning.specs.Frames.{has_room}
@@ -49,7 +49,7 @@ too_deep : (code : CodeData) (routine : ℕ) (row : RoutineRow) (args : List Dat
 unfolding after
 too_deep code routine row args saved many = λ i. Reads (λ d.
     after (refused (has_room d.frames (frame_in code row args)) (Writes (record d { frames = frame_in code row args ∷ d.frames }) done)
-      (no_room d.frames (frame_in code row args) (omega (arith, length-append args (take (row.values - row.args) (drop row.first code.firsts))))) i)
+    (no_room d.frames (frame_in code row args) (omega (arith, length-append args (take (row.values - row.args) (drop row.first code.firsts))))) i)
     (λ _. Gives (conf row.entry [] (begun routine) saved)) Raises)
 
 -- what a call pops, and what it enters

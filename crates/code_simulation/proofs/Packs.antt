@@ -12,8 +12,7 @@ use Rattle.rapid_values.specs.Values.{made_of, nums_of, so_many}
 use Rattle.typed_trees.specs.declared.datum.Datum.{Datum}
 use Rattle.typed_trees.specs.declared.datum.Datum.TheVariants.{Plain}
 use Rattle.rapid_meaning.specs.Doings.{Doing, Gives, Raises, ◌>>=◌, after, or_misfit}
-use Rattle.stack_code.specs.Confs.{Conf}
-use Rattle.stack_code.specs.Operands.{on_many, on_values, values_in}
+use Rattle.stack_code.specs.Operands.{on_values, values_in}
 use Rattle.stack_code.specs.Steps.{act, pushes}
 use Rattle.stack_code.specs.declared.op.Op.TheVariants as ops
 use Rattle.code_simulation.proofs.Alone.{or_misfit_alone}

@@ -22,7 +22,7 @@ use Rattle.code_simulation.proofs.Alone.{indexed_alone, load_alone, or_misfit_al
 use Rattle.code_simulation.proofs.Ops.{OpAt, ends_at}
 use Rattle.code_simulation.proofs.Same.{same, sim_same}
 use Rattle.code_simulation.proofs.Sim.{Sim, sim_gives, sim_misfit, sim_raises, sim_to}
-use Rattle.code_simulation.proofs.Spots.{Holds, Pushes, Spot, failing, pushes_to, sim_op, standing}
+use Rattle.code_simulation.proofs.Spots.{Holds, Pushes, Spot, failing, sim_op, standing}
 
 -- roots
 

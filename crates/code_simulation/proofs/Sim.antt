@@ -1,5 +1,5 @@
 -- What code comes to beside a doing of the source, and how such facts are put together.
-use Rattle.std.proofs.Common.{◌≡◌, refl, sym, ap, ◌∙◌, subst, ℕ, zero, suc, ◌≤◌, nat_le, Bool, true, false, List, [], ◌∷◌, length, if◌then◌else◌, IsTrue}
+use Rattle.std.proofs.Common.{◌≡◌, refl, sym, ap, ◌∙◌, subst, ℕ, zero, suc, nat_le, Bool, true, false, List, [], ◌∷◌, length, if◌then◌else◌, IsTrue}
 use Rattle.std.specs.Prelude.{⊤}
 use Rattle.rapid_model.specs.Fits.{Fitting, fits_request}
 use Rattle.rapid_model.specs.declared.answer.Answer.{Answer}

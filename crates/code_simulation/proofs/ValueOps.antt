@@ -1,5 +1,5 @@
 -- Operations on values: operators, functions and signals.
-use Rattle.std.proofs.Common.{ℕ, ◌+◌, ◌≤◌, Bool, true, false, List, ◌∷◌, length, Option, None, Some, arith}
+use Rattle.std.proofs.Common.{ℕ, ◌+◌, ◌≤◌, Bool, true, false, List, ◌∷◌, length, Option, Some, arith}
 use Rattle.std.specs.Option.{unwrap_or}
 use Rattle.rapid_model.specs.declared.function.Function.{Function}
 use Rattle.rapid_model.specs.declared.function.Function.TheVariants as functions
@@ -144,7 +144,7 @@ of_array_sim s pc stack function len there room = sim_misfit
 -- a signal is compared with 1
 compared : (s : Spot) (pc : ℕ) (stack : List Datum) (bit : Bool)
     → Sim s.target s.run (act (here s pc (Plain (whole 1) ∷ Plain (of_bit bit) ∷ stack)) (ops.Binary operators.Equal)) (Gives (values.Bool bit))
-      (λ v. standing s (pc + 1) (Plain v ∷ stack)) (failing s)
+    (λ v. standing s (pc + 1) (Plain v ∷ stack)) (failing s)
 unfolding after
 compared s pc stack true = sim_gives (values.Bool true)
 compared s pc stack false = sim_gives (values.Bool false)

@@ -1,6 +1,5 @@
 -- Each part of a program, so many one in another, and the whole task.
 use Rattle.std.proofs.Common.{ℕ, zero, suc}
-use Rattle.typed_trees.specs.Plain as trees
 use Rattle.typed_trees.specs.Plain.{TypedTree}
 use Rattle.rapid_meaning.specs.Runs.{deep}
 use Rattle.code_simulation.specs.Orderly.{IsOrderly}
