@@ -5,6 +5,7 @@ pub mod Bodies
 pub mod Claims
 pub mod CodeOf
 pub mod Past
+pub mod PastStmts
 pub mod Alone
 pub mod Ops
 pub mod PlaceOps
