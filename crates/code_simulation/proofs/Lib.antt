@@ -4,6 +4,7 @@ pub mod Spots
 pub mod Bodies
 pub mod Claims
 pub mod CodeOf
+pub mod Compiles
 pub mod Past
 pub mod PastStmts
 pub mod Alone

@@ -1,15 +1,15 @@
 -- What stands behind the code of a statement, of a list, and of a routine.
-use Rattle.std.proofs.Common.{◌≡◌, ℕ, ◌+◌, List, [], ◌∷◌, Option, None, Some, arith}
+use Rattle.std.proofs.Common.{ℕ, ◌+◌, List, [], ◌∷◌, Option, None, Some, arith}
 use Rattle.raw_trees.specs.declared.raw_expr.Operator.TheVariants as operators
 use Rattle.typed_trees.specs.Plain as trees
 use Rattle.typed_trees.specs.Plain.{TypedArms, TypedCases, TypedElse, TypedExprs, TypedRoutine, TypedStmt, TypedStmts, TypedTree, NoExprs, MoreExprs, NoStmts, MoreStmts, NoArms, MoreArms, NoCases, MoreCases, NoElse, Else}
 use Rattle.rapid_meaning.specs.Layouts.{local_start}
 use Rattle.stack_code.specs.CodeData.{CodeData}
 use Rattle.stack_code.specs.Compiled.{end_op, own_end, part_code, part_size, part_start, routine_code, routine_labels, routine_size}
-use Rattle.stack_code.specs.ExprLayouts.{args_code, expr_code, place_code, put}
+use Rattle.stack_code.specs.ExprLayouts.{put}
 use Rattle.stack_code.specs.Pieces.{Piece, OfExpr, OfPlace, OfArgs, Does, Waits, GoesTo, Chooses, bounds_pieces, pieces}
 use Rattle.stack_code.specs.Placed.{Own, Placed}
-use Rattle.stack_code.specs.Sizes.{args_size, arms_size, bounds_size, cases_size, else_size, expr_size, piece_size, pieces_size, place_size, stmt_size, stmts_size, values_size}
+use Rattle.stack_code.specs.Sizes.{args_size, arms_size, bounds_size, cases_size, else_size, expr_size, pieces_size, place_size, stmt_size, stmts_size, values_size}
 use Rattle.stack_code.specs.StmtLayouts.{arms_code, cases_code, else_code, own_of, pieces_code, stmt_code, stmts_code, values_code}
 use Rattle.stack_code.specs.declared.op.Op.TheVariants as ops
 use Rattle.code_simulation.proofs.Past.{past_args, past_expr, past_place}
