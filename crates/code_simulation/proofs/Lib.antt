@@ -23,4 +23,5 @@ pub mod Statements
 pub mod Lists
 pub mod Routines
 pub mod Procedures
+pub mod Operations
 pub mod Whole
