@@ -4,6 +4,7 @@ pub mod Spots
 pub mod Bodies
 pub mod Claims
 pub mod CodeOf
+pub mod Compiles
 pub mod Past
 pub mod PastStmts
 pub mod Alone
@@ -22,4 +23,5 @@ pub mod Statements
 pub mod Lists
 pub mod Routines
 pub mod Procedures
+pub mod Operations
 pub mod Whole

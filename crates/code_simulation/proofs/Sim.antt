@@ -142,7 +142,7 @@ joined_when : {A B : Type 0} (b : Bool) (o : Outcome A) (f : A → Data → List
 joined_when true o f h = refl
 joined_when false o f h = refl
 
-told_joined : {A B : Type 0} (by : Bool → Fitting) (fate : Fate) (d : Data) (left : List Answer) (f : A → Data → List Answer → Outcome B) (h : ℕ → Data → List Answer → Outcome B)
+pub told_joined : {A B : Type 0} (by : Bool → Fitting) (fate : Fate) (d : Data) (left : List Answer) (f : A → Data → List Answer → Outcome B) (h : ℕ → Data → List Answer → Outcome B)
     → joined (told {A = A} by fate d left) f h ≡ told {A = B} by fate d left
 told_joined by fate d [] f h = refl
 told_joined {A} {B} by fate d (a ∷ left) f h = joined_when {A = A} {B = B} (fits_request (by d.trapped) (End fate) a) (Ended d) f h
