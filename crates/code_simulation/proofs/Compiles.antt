@@ -18,7 +18,7 @@ use Rattle.stack_code.specs.Placed.{Placed, placed_at}
 use Rattle.error_recovery.proofs.Rows.{placed_there}
 use Rattle.code_simulation.specs.Orderly.{IsOrderly, IsOrderlyRoutine}
 use Rattle.code_simulation.proofs.CodeOf.{Found, IsCodeOf}
-use Rattle.code_simulation.proofs.PastStmts.{past_routine}
+use Rattle.code_simulation.proofs.PastRoutines.{past_routine}
 use Rattle.code_simulation.proofs.Sim.{Target}
 use Rattle.code_simulation.proofs.Spots.{HasAt, moved}
 

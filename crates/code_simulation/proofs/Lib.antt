@@ -7,6 +7,7 @@ pub mod CodeOf
 pub mod Compiles
 pub mod Past
 pub mod PastStmts
+pub mod PastRoutines
 pub mod Alone
 pub mod Ops
 pub mod PlaceOps

@@ -1,11 +1,10 @@
 -- What stands behind the code of a statement, of a list, and of a routine.
-use Rattle.std.proofs.Common.{ℕ, ◌+◌, List, [], ◌∷◌, Option, None, Some, arith}
+use Rattle.std.proofs.Common.{ℕ, ◌+◌, List, [], ◌∷◌, arith}
 use Rattle.raw_trees.specs.declared.raw_expr.Operator.TheVariants as operators
 use Rattle.typed_trees.specs.Plain as trees
 use Rattle.typed_trees.specs.Plain.{TypedArms, TypedCases, TypedElse, TypedExprs, TypedRoutine, TypedStmt, TypedStmts, TypedTree, NoExprs, MoreExprs, NoStmts, MoreStmts, NoArms, MoreArms, NoCases, MoreCases, NoElse, Else}
 use Rattle.rapid_meaning.specs.Layouts.{local_start}
 use Rattle.stack_code.specs.CodeData.{CodeData}
-use Rattle.stack_code.specs.Compiled.{end_op, own_end, part_code, part_size, part_start, routine_code, routine_labels, routine_size}
 use Rattle.stack_code.specs.ExprLayouts.{put}
 use Rattle.stack_code.specs.Pieces.{Piece, OfExpr, OfPlace, OfArgs, Does, Waits, GoesTo, Chooses, bounds_pieces, pieces}
 use Rattle.stack_code.specs.Placed.{Own, Placed}
@@ -133,19 +132,3 @@ mutual
       → HasAt code pc (else_code tree routine labels pc other ps) → HasAt code (pc + else_size tree routine other) ps
   past_else code tree routine labels pc NoElse ps h = moved code pc (pc + 0) ps (omega arith) h
   past_else code tree routine labels pc (Else list) ps h = past_stmts code tree routine labels pc list ps h
-
-pub past_part : (code : CodeData) (tree : TypedTree) (routine : TypedRoutine) (labels : List ℕ) (pc : ℕ) (part : Option TypedStmts) (ps : List Placed)
-    → HasAt code pc (part_code tree routine labels pc part ps) → HasAt code (pc + part_size tree routine part) ps
-past_part code tree routine labels pc None ps h = moved code pc (pc + 0) ps (omega arith) h
-past_part code tree routine labels pc (Some list) ps h =
-    moved code (pc + stmts_size tree routine list + 1) (pc + (stmts_size tree routine list + 1)) ps (omega arith)
-    (past_stmts code tree routine labels pc list (put (own_end routine (pc + stmts_size tree routine list)) ops.Again ps) h).1
-
-pub past_routine : (code : CodeData) (tree : TypedTree) (routine : TypedRoutine) (pc : ℕ) (ps : List Placed)
-    → HasAt code pc (routine_code tree pc routine ps) → HasAt code (pc + routine_size tree routine) ps
-past_routine code tree routine pc ps h =
-    moved code (pc + stmts_size tree routine routine.list + 1 + part_size tree routine routine.handler) (pc + (stmts_size tree routine routine.list + 1 + part_size tree routine routine.handler)) ps (omega arith)
-    (past_part code tree routine (routine_labels tree routine pc) (part_start tree routine pc) routine.handler ps
-    (past_stmts code tree routine (routine_labels tree routine pc) pc routine.list
-    (put (own_end routine (pc + stmts_size tree routine routine.list)) (end_op routine.kind)
-    (part_code tree routine (routine_labels tree routine pc) (part_start tree routine pc) routine.handler ps)) h).1)
