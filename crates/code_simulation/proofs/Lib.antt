@@ -22,6 +22,7 @@ pub mod Looks
 pub mod Recovery
 pub mod Statements
 pub mod Lists
+pub mod LabelPlaces
 pub mod Routines
 pub mod Procedures
 pub mod Operations
