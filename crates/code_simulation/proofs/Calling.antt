@@ -37,10 +37,10 @@ and_false : (b c : Bool) → c ≡ false → (b && c) ≡ false
 and_false true c e = e
 and_false false c e = refl
 
-no_room : (frames : List Frame) (frame : Frame) → 20_000 < length frame.values → has_room frames frame ≡ false
+pub no_room : (frames : List Frame) (frame : Frame) → 20_000 < length frame.values → has_room frames frame ≡ false
 no_room frames frame many = and_false (nat_lt (length frames) 32) (nat_le (values_in frames + length frame.values) 20_000) (outside (length frame.values) (values_in frames) many)
 
-refused : (b : Bool) (m : Act) → b ≡ false → (if b then m else fault DepthLimit) ≡ fault DepthLimit
+pub refused : (b : Bool) (m : Act) → b ≡ false → (if b then m else fault DepthLimit) ≡ fault DepthLimit
 refused true m e = cc
 refused false m e = refl
 
