@@ -44,7 +44,8 @@ left_goes : (c : Setting) (g : Ghost) (again : Part) (e : Data) → IsPart c g a
 unfolding after
 left_goes c g again e part free is = (
   record { rises = refl; same = refl; asked = record { asked = is.in_trap; trapped = true; frames = frames_in g again; state = is } },
-  λ a fits full. left_answered c g again e a part free is fits,
+  refl,
+  λ a fits. left_answered c g again e a part free is fits,
 )
 
 -- the routine of a trap
@@ -107,7 +108,8 @@ look_safe c facts g again w byte go part safe =
     (safe_change (scene_of c facts g again) (λ d. record d { place = place_of w byte }) (λ d is. record { slots = is.slots; frames_are = is.frames_are; in_trap = is.in_trap }))
     (λ _ _ d is. (
       record { rises = refl; same = refl; asked = record { asked = tt; trapped = g.trapped; frames = frames_in g again; state = is } },
-      λ a fits full. looked_goes c facts g again go a d part safe is fits,
+      refl,
+      λ a fits. looked_goes c facts g again go a d part safe is fits,
     ))
 
 -- a wait holds and rises
@@ -124,7 +126,8 @@ held_answered : (c : Setting) (g : Ghost) (again : Part) (d : Data) (seen : ℕ)
 unfolding after
 held_answered c g again d seen answers.Ok part is fits = (
   record { rises = refl; same = refl; asked = record { asked = tt; trapped = g.trapped; frames = frames_in g again; state = is } },
-  λ a fits full. risen_answered c g again d a part is fits,
+  refl,
+  λ a fits. risen_answered c g again d a part is fits,
 )
 held_answered c g again d seen a part is fits = absurd cc
 
@@ -132,5 +135,6 @@ pub hold_safe : (c : Setting) (facts : Facts c) (g : Ghost) (again : Part) → I
 unfolding after
 hold_safe c facts g again part d is = (
   record { rises = refl; same = refl; asked = record { asked = tt; trapped = g.trapped; frames = frames_in g again; state = is } },
-  λ a fits full. held_answered c g again d (seen_in d.frames) a part is fits,
+  refl,
+  λ a fits. held_answered c g again d (seen_in d.frames) a part is fits,
 )

@@ -18,7 +18,6 @@ use Rattle.rapid_meaning.specs.Runs.{FitsSteps, asked_after, data_after, data_in
 use Rattle.rapid_meaning.proofs.Fuel.{enough}
 use Rattle.rapid_meaning.proofs.Growth.{fit_runs}
 use Rattle.task_typing.specs.Asked.{IsAsked}
-use Rattle.task_typing.specs.Full.{AreFull}
 use Rattle.task_typing.specs.Goes.{AreTyped, Goes}
 use Rattle.task_typing.specs.Kinds.{cells_of, kind_of}
 use Rattle.task_typing.specs.Numbered.{IsOne, Numbered}
@@ -95,28 +94,28 @@ task_meets signals arm tree typed = (
 abbrev ComesTo : Setting → Outcome ⊤ → Type 0
 ComesTo c o = Comes (rules_of c) (λ (v : ⊤) d. ⊥) (λ n d. ⊥) o
 
-state_comes : (signals : ℕ) (arm : Bool) (cell : CellData) (number : ℕ) (tree : TypedTree) (answers : List Answer) → WellTyped signals arm tree → Numbered cell number tree → AreFull answers
+state_comes : (signals : ℕ) (arm : Bool) (cell : CellData) (number : ℕ) (tree : TypedTree) (answers : List Answer) → WellTyped signals arm tree → Numbered cell number tree
     → ComesTo (record { signals = signals; arm = arm; tree = tree }) (state_after tree answers)
 unfolding state_after
-state_comes signals arm cell number tree answers typed numbered full =
+state_comes signals arm cell number tree answers typed numbered =
     let c : Setting = record { signals = signals; arm = arm; tree = tree } in
     performed_comes (rules_of c) (deep tree (suc (length answers))) (deep_comes (rules_of c) (keeps c (facts_of signals arm cell number tree typed numbered)) (suc (length answers)))
-    (λ (v : ⊤) d. ⊥) (λ n d. ⊥) (task tree) (calm (initial tree)) (initial tree) answers full (task_meets signals arm tree typed)
+    (λ (v : ⊤) d. ⊥) (λ n d. ⊥) (task tree) (calm (initial tree)) (initial tree) answers (task_meets signals arm tree typed)
 
 goes_from : (c : Setting) (o : Outcome ⊤) → ComesTo c o → (o ≡ Unfit → ⊥) → (o ≡ NoFuel → ⊥) → Goes (next_of o)
 goes_from c (Asking request d) comes fit fuel = tt
 goes_from c (Ended d) comes fit fuel = tt
-goes_from c (Gave v d left) comes fit fuel = comes.0
-goes_from c (Raised n d left) comes fit fuel = comes.0
+goes_from c (Gave v d left) comes fit fuel = comes
+goes_from c (Raised n d left) comes fit fuel = comes
 goes_from c Misfits comes fit fuel = comes
 goes_from c Unfit comes fit fuel = fit refl
 goes_from c NoFuel comes fit fuel = absurd (fuel refl)
 
 pub goes : (signals : ℕ) (arm : Bool) (cell : CellData) (number : ℕ) (tree : TypedTree) (answers : List Answer) → WellTyped signals arm tree → Numbered cell number tree
-    → FitsSteps tree answers → AreFull answers → Goes (asked_after tree answers)
+    → FitsSteps tree answers → Goes (asked_after tree answers)
 unfolding asked_after
-goes signals arm cell number tree answers typed numbered fits full =
-    goes_from (record { signals = signals; arm = arm; tree = tree }) (state_after tree answers) (state_comes signals arm cell number tree answers typed numbered full)
+goes signals arm cell number tree answers typed numbered fits =
+    goes_from (record { signals = signals; arm = arm; tree = tree }) (state_after tree answers) (state_comes signals arm cell number tree answers typed numbered)
     (fit_runs tree answers fits) (enough tree answers)
 
 due_typed : (c : Setting) (d : Data) (request : Request) → IsDue c d request → AreTyped c.tree d
@@ -132,15 +131,15 @@ typed_from c Unfit d comes is = absurd cc
 typed_from c NoFuel d comes is = absurd cc
 
 pub typed_data : (signals : ℕ) (arm : Bool) (cell : CellData) (number : ℕ) (tree : TypedTree) (answers : List Answer) (d : Data) → WellTyped signals arm tree → Numbered cell number tree
-    → AreFull answers → data_after tree answers ≡ Some d → AreTyped tree d
+    → data_after tree answers ≡ Some d → AreTyped tree d
 unfolding data_after
-typed_data signals arm cell number tree answers d typed numbered full is =
-    typed_from (record { signals = signals; arm = arm; tree = tree }) (state_after tree answers) d (state_comes signals arm cell number tree answers typed numbered full) is
+typed_data signals arm cell number tree answers d typed numbered is =
+    typed_from (record { signals = signals; arm = arm; tree = tree }) (state_after tree answers) d (state_comes signals arm cell number tree answers typed numbered) is
 
 asked_from : (c : Setting) (o : Outcome ⊤) (request : Request) (d : Data) → ComesTo c o → o ≡ Asking request d → IsAsked c d request
 asked_from c o request d comes is = let due : IsDue c d request = subst (λ (x : Outcome ⊤). ComesTo c x) is comes in due.asked
 
 pub asked : (signals : ℕ) (arm : Bool) (cell : CellData) (number : ℕ) (tree : TypedTree) (answers : List Answer) (request : Request) (d : Data) → WellTyped signals arm tree
-    → Numbered cell number tree → AreFull answers → state_after tree answers ≡ Asking request d → IsAsked (record { signals = signals; arm = arm; tree = tree }) d request
-asked signals arm cell number tree answers request d typed numbered full is =
-    asked_from (record { signals = signals; arm = arm; tree = tree }) (state_after tree answers) request d (state_comes signals arm cell number tree answers typed numbered full) is
+    → Numbered cell number tree → state_after tree answers ≡ Asking request d → IsAsked (record { signals = signals; arm = arm; tree = tree }) d request
+asked signals arm cell number tree answers request d typed numbered is =
+    asked_from (record { signals = signals; arm = arm; tree = tree }) (state_after tree answers) request d (state_comes signals arm cell number tree answers typed numbered) is
