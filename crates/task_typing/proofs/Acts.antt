@@ -2,6 +2,7 @@
 use Rattle.std.proofs.Common.{◌≡◌, refl, sym, ap, subst, ℕ, zero, suc, ◌+◌, ◌-◌, ◌^◌, ◌<◌, ◌≤◌, Bool, true, false, not, ℤ, pos, int_lt, List, [], ◌∷◌, length, Option, Some, None, Result, Ok, Err, slice_get, position, bytes_eq, if◌then◌else◌, IsTrue, arith}
 use Rattle.std.specs.Prelude.{⊤}
 use Rattle.std.specs.Option.{option_map}
+use Rattle.std.proofs.lemmas.Bool.{not-false}
 use Rattle.std.proofs.lemmas.List.Quantifiers.{position-Some}
 use Rattle.std.specs.Ordering.{int_eq}
 use Rattle.rapid_num.specs.Reach.{is_position, is_reachable}
@@ -333,14 +334,10 @@ moved_answered s target cap arm to trapped (answers.At start) fits =
     (refl, setpoints_safe s start target (setpoint_count start target cap) (setpoint_count start target cap) arm fits to (omega arith))
 moved_answered s target cap arm to trapped a fits = absurd cc
 
-reached : (b : Bool) → not b ≡ false → b ≡ true
-reached true e = refl
-reached false e = absurd cc
-
 pub move_safe : (s : Scene) (target : Joints) (speed : ℤ) → IsTrue s.c.arm → Safe s Anything (move target speed)
 move_safe s target speed arm =
     when_safe s Anything (not (is_reachable target)) (fault faults.JointRange) (if not (int_lt (pos 0) speed) then fault faults.Speed else Asks requests.Position (move_from target (cap_of speed)))
     (λ _. safe_fault {A = ⊤} s Anything faults.JointRange)
     (λ there. when_safe s Anything (not (int_lt (pos 0) speed)) (fault faults.Speed) (Asks requests.Position (move_from target (cap_of speed))) (λ _. safe_fault {A = ⊤} s Anything faults.Speed)
     (λ _. safe_asks s Anything requests.Position (move_from target (cap_of speed)) (record { no_rise = refl; no_hold = refl; no_leave = refl; no_end = refl }) (λ d. arm)
-    (moved_answered s target (cap_of speed) arm (reached (is_reachable target) there))))
+    (moved_answered s target (cap_of speed) arm (not-false (is_reachable target) there))))

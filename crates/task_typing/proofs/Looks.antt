@@ -1,6 +1,6 @@
 -- Looks, at which a trap may run, and waits that hold.
-use Rattle.std.proofs.Common.{◌≡◌, refl, sym, ◌∙◌, subst, ℕ, Bool, true, false, not, ◌&&◌, List, [], ◌∷◌, map, flat_map, Option, Some, None, slice_get, IsTrue}
-use Rattle.std.proofs.lemmas.Bool.{and_parts}
+use Rattle.std.proofs.Common.{◌≡◌, refl, sym, ◌∙◌, subst, ℕ, true, false, not, ◌&&◌, List, [], ◌∷◌, map, flat_map, Option, Some, None, slice_get, IsTrue}
+use Rattle.std.proofs.lemmas.Bool.{and_parts, not-true}
 use Rattle.rapid_model.specs.Fits.{fits_request}
 use Rattle.rapid_model.specs.declared.answer.Answer.{Answer}
 use Rattle.rapid_model.specs.declared.answer.Answer.TheVariants as answers
@@ -64,10 +64,6 @@ takes_nothing tree frames routine trap takes =
     let none : routine.params ≡ [] = subst (λ (k : RoutineKind). TakesByKind k routine.params) trap takes in
     subst (λ (ps : List TypedParam). AreInCells tree frames (flat_map cells_of (map kind_of ps)) []) (sym none) tt
 
-not_so : (b : Bool) → IsTrue (not b) → b ≡ false
-not_so true is = absurd cc
-not_so false is = refl
-
 -- a trap runs on the spot
 interrupted_goes : (c : Setting) (facts : Facts c) (g : Ghost) (again : Part) (trap : ℕ) (d : Data) → IsPart c g again → IsState c.tree g.trapped (frames_in g again) d
     → IsTrue (is_trap_row (slice_get c.tree.routines trap) && not d.trapped) → Goes c g again (interrupted again trap) (record { held = false; trapped = true }) d
@@ -76,7 +72,7 @@ interrupted_goes c facts g again trap d part is fits =
     let both : IsTrue (is_trap_row (slice_get c.tree.routines trap)) × IsTrue (not d.trapped) = and_parts (is_trap_row (slice_get c.tree.routines trap)) (not d.trapped) fits in
     let there : (routine : TypedRoutine) × (slice_get c.tree.routines trap ≡ Some routine) × (routine.kind ≡ kinds.Trap) = trap_there (slice_get c.tree.routines trap) both.0 in
     let routine : IsRoutine c there.0 = all_at (IsRoutine c) c.tree.routines trap there.0 facts.routines there.1 in
-    let free : g.trapped ≡ false = sym is.in_trap ∙ not_so d.trapped both.1 in (
+    let free : g.trapped ≡ false = sym is.in_trap ∙ not-true d.trapped both.1 in (
       record { not_held = refl; same = refl },
       record { trapped = true; frames = frames_in g again; lists = [] },
       ((there.0, there.1, takes_nothing c.tree (frames_in g again) there.0 there.2 routine.takes), record { slots = is.slots; frames_are = is.frames_are; in_trap = refl }),

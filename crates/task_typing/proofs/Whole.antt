@@ -1,5 +1,5 @@
 -- A well typed task asks or has ended, and its data are of their types.
-use Rattle.std.proofs.Common.{◌≡◌, refl, sym, ap, ◌∙◌, subst, ℕ, zero, suc, ◌<◌, ◌==◌, Bool, true, false, List, [], ◌∷◌, length, map, flat_map, Option, Some, slice_get, if◌then◌else◌, IsTrue, arith}
+use Rattle.std.proofs.Common.{◌≡◌, refl, sym, ap, ◌∙◌, subst, ℕ, zero, suc, ◌<◌, ◌==◌, Bool, true, false, List, [], ◌∷◌, ◌++◌, length, map, flat_map, Option, Some, slice_get, if◌then◌else◌, IsTrue, arith, length-append}
 use Rattle.std.specs.Prelude.{⊤}
 use Rattle.std.proofs.lemmas.Bool.{eqb-true, eq-eqb}
 use Rattle.std.proofs.lemmas.Option.{slice_get_within}
@@ -11,7 +11,7 @@ use Rattle.rapid_model.specs.declared.request.Request.{Request}
 use Rattle.rapid_model.specs.declared.request.Request.TheVariants.{End}
 use Rattle.rapid_model.specs.declared.sort.Sort.{Sort}
 use Rattle.typed_trees.specs.Plain.{TypedParam, TypedPers, TypedTree}
-use Rattle.rapid_meaning.specs.Answering.{Outcome, Gave, Raised, Asking, Ended, Misfits, Unfit, NoFuel, sort_of_pers}
+use Rattle.rapid_meaning.specs.Answering.{Outcome, Gave, Raised, Asking, Ended, Misfits, Unfit, NoFuel, fitting_of, performed, sort_of_pers}
 use Rattle.rapid_meaning.specs.Data.{Data}
 use Rattle.rapid_meaning.specs.Frames.{initial}
 use Rattle.rapid_meaning.specs.Runs.{FitsSteps, asked_after, data_after, data_in, deep, next_of, state_after, task}
@@ -28,8 +28,9 @@ use Rattle.task_typing.proofs.Calls.{keeps}
 use Rattle.task_typing.proofs.Frames.{slots_in}
 use Rattle.task_typing.proofs.Meets.{Meets}
 use Rattle.task_typing.proofs.Rows.{all_at}
-use Rattle.task_typing.proofs.Runs.{Comes, deep_comes, performed_comes}
+use Rattle.task_typing.proofs.Runs.{Comes, Keeps, deep_comes, performed_comes}
 use Rattle.task_typing.proofs.Scene.{Facts, IsDue, rules_of}
+use Rattle.task_typing.proofs.Steps.{Follows, Stands, deep_follows, deep_stands, performed_follows, performed_stands}
 use Rattle.task_typing.proofs.Told.{calm, calm_itself}
 
 there_is : {A : Type 0} (xs : List A) (k : ℕ) → k < length xs → (x : A) × (slice_get xs k ≡ Some x)
@@ -91,16 +92,38 @@ task_meets signals arm tree typed = (
 )
 
 -- what a task comes to: it gives nothing, and raises nothing
-abbrev ComesTo : Setting → Outcome ⊤ → Type 0
+abbrev pub ComesTo : Setting → Outcome ⊤ → Type 0
 ComesTo c o = Comes (rules_of c) (λ (v : ⊤) d. ⊥) (λ n d. ⊥) o
 
-state_comes : (signals : ℕ) (arm : Bool) (cell : CellData) (number : ℕ) (tree : TypedTree) (answers : List Answer) → WellTyped signals arm tree → Numbered cell number tree
+pub state_comes : (signals : ℕ) (arm : Bool) (cell : CellData) (number : ℕ) (tree : TypedTree) (answers : List Answer) → WellTyped signals arm tree → Numbered cell number tree
     → ComesTo (record { signals = signals; arm = arm; tree = tree }) (state_after tree answers)
 unfolding state_after
 state_comes signals arm cell number tree answers typed numbered =
     let c : Setting = record { signals = signals; arm = arm; tree = tree } in
     performed_comes (rules_of c) (deep tree (suc (length answers))) (deep_comes (rules_of c) (keeps c (facts_of signals arm cell number tree typed numbered)) (suc (length answers)))
     (λ (v : ⊤) d. ⊥) (λ n d. ⊥) (task tree) (calm (initial tree)) (initial tree) answers (task_meets signals arm tree typed)
+
+-- with no answer it stands as it began, and with one answer more as its events then tell
+pub first_stands : (signals : ℕ) (arm : Bool) (cell : CellData) (number : ℕ) (tree : TypedTree) → WellTyped signals arm tree → Numbered cell number tree
+    → Stands (rules_of (record { signals = signals; arm = arm; tree = tree })) (λ (v : ⊤) d. ⊥) (λ n d. ⊥) (calm (initial tree)) (state_after tree [])
+unfolding state_after
+first_stands signals arm cell number tree typed numbered =
+    let c : Setting = record { signals = signals; arm = arm; tree = tree } in
+    performed_stands (rules_of c) (deep tree 1) (deep_stands (rules_of c) (keeps c (facts_of signals arm cell number tree typed numbered)) 1)
+    (λ (v : ⊤) d. ⊥) (λ n d. ⊥) (task tree) (calm (initial tree)) (initial tree) (task_meets signals arm tree typed)
+
+pub next_follows : (signals : ℕ) (arm : Bool) (cell : CellData) (number : ℕ) (tree : TypedTree) (answers : List Answer) (a : Answer) → WellTyped signals arm tree → Numbered cell number tree
+    → Follows (rules_of (record { signals = signals; arm = arm; tree = tree })) (λ (v : ⊤) d. ⊥) (λ n d. ⊥) a (state_after tree answers) (state_after tree (answers ++ a ∷ []))
+unfolding state_after
+next_follows signals arm cell number tree answers a typed numbered =
+    let c : Setting = record { signals = signals; arm = arm; tree = tree } in
+    let kept : Keeps (rules_of c) = keeps c (facts_of signals arm cell number tree typed numbered) in
+    let n : ℕ = suc (length answers) in
+    let longer : n ≡ length (answers ++ a ∷ []) = omega (arith, length-append answers (a ∷ [])) in
+    subst (λ (k : ℕ). Follows (rules_of c) (λ (v : ⊤) d. ⊥) (λ m d. ⊥) a (performed (fitting_of tree) (deep tree n) (task tree) (initial tree) answers)
+    (performed (fitting_of tree) (deep tree (suc k)) (task tree) (initial tree) (answers ++ a ∷ []))) longer
+    (performed_follows (rules_of c) a (deep tree n) (deep tree (suc n)) (deep_follows (rules_of c) kept a n) (deep_stands (rules_of c) kept (suc n))
+    (λ (v : ⊤) d. ⊥) (λ m d. ⊥) (task tree) (calm (initial tree)) (initial tree) answers (task_meets signals arm tree typed))
 
 goes_from : (c : Setting) (o : Outcome ⊤) → ComesTo c o → (o ≡ Unfit → ⊥) → (o ≡ NoFuel → ⊥) → Goes (next_of o)
 goes_from c (Asking request d) comes fit fuel = tt

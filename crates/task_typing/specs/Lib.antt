@@ -9,3 +9,4 @@ pub mod Numbered
 pub mod States
 pub mod Asked
 pub mod Goes
+pub mod OwnEvents
