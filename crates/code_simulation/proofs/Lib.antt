@@ -24,5 +24,6 @@ pub mod Statements
 pub mod Lists
 pub mod Routines
 pub mod Procedures
+pub mod WellTyped
 pub mod Operations
 pub mod Whole
