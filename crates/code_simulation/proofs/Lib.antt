@@ -25,5 +25,6 @@ pub mod Lists
 pub mod LabelPlaces
 pub mod Routines
 pub mod Procedures
+pub mod WellTyped
 pub mod Operations
 pub mod Whole

@@ -1,6 +1,7 @@
 -- Each part of a program, so many one in another, and the whole task.
 use Rattle.std.proofs.Common.{◌≡◌, refl, sym, ap, ◌∙◌, subst, ℕ, zero, suc, Bool, List, [], ◌∷◌, length}
-use Rattle.std.specs.Prelude.{⊤}
+use Rattle.std.specs.Prelude.{All, ⊤}
+use Rattle.rapid_model.specs.CellData.{CellData}
 use Rattle.rapid_model.specs.Fits.{Fitting}
 use Rattle.rapid_model.specs.declared.answer.Answer.{Answer}
 use Rattle.rapid_model.specs.declared.fate.Fate.TheVariants as fates
@@ -11,13 +12,17 @@ use Rattle.rapid_meaning.specs.Data.{Data}
 use Rattle.rapid_meaning.specs.Doings.{Misfit}
 use Rattle.rapid_meaning.specs.Flows.{Flow, Call}
 use Rattle.rapid_meaning.specs.Frames as meanings
-use Rattle.rapid_meaning.specs.Runs.{deep, state_after, task}
+use Rattle.rapid_meaning.specs.Runs.{FitsSteps, asked_after, deep, next_of, state_after, task}
+use Rattle.task_typing.specs.Goes.{Goes}
+use Rattle.task_typing.specs.Numbered.{Numbered}
+use Rattle.task_typing.specs.WellTyped.{WellTyped}
+use Rattle.task_typing.proofs.Whole as typings
 use Rattle.stack_code.specs.CodeRuns.{code_after, fitting_by}
 use Rattle.stack_code.specs.Compiled.{compiled}
 use Rattle.stack_code.specs.Confs.{Started}
 use Rattle.stack_code.specs.Entering.{enter, initial, started}
 use Rattle.stack_code.specs.Raising.{back_to, raised_to}
-use Rattle.code_simulation.specs.Orderly.{IsOrderly}
+use Rattle.code_simulation.specs.Orderly.{IsOrderly, NumbersLabels}
 use Rattle.code_simulation.specs.Standing.{Fine, Simulates, StandsBy}
 use Rattle.code_simulation.proofs.Bodies.{value_of}
 use Rattle.code_simulation.proofs.Claims.{Claims}
@@ -29,6 +34,7 @@ use Rattle.code_simulation.proofs.Operations.{goes_more}
 use Rattle.code_simulation.proofs.Routines.{called_sim}
 use Rattle.code_simulation.proofs.Sim.{Sim, Target, followed, goes_on, part_deep, part_zero, sim_does, sim_ends, told_joined}
 use Rattle.code_simulation.proofs.Statements.{stmt_sim, turn_sim}
+use Rattle.code_simulation.proofs.WellTyped.{orderly}
 
 pub claims : (tree : TypedTree) (t : Target) → IsCodeOf tree t → (n : ℕ) → Claims t tree (deep tree n)
 claims tree t code zero = record {
@@ -91,3 +97,15 @@ simulates tree orderly answers fine =
     task_followed tree t run 0 (meanings.initial tree) answers ∙ ap (λ (by : Bool → Fitting). performed by run (task tree) (meanings.initial tree) answers) code.fits in
     let come = sim.by (meanings.initial tree) answers 0 (subst (λ (o : Outcome ⊤). Fine o) (sym same) fine) in
     (come.0, stands_by tree answers come.0 fine (come.1 ∙ same))
+
+-- what goes is fine
+goes_fine : (o : Outcome ⊤) → Goes (next_of o) → Fine o
+goes_fine (Asking request d) goes = tt
+goes_fine (Ended d) goes = tt
+goes_fine o goes = absurd goes
+
+pub typed_stands : (signals : ℕ) (arm : Bool) (cell : CellData) (number : ℕ) (tree : TypedTree) (answers : List Answer) → WellTyped signals arm tree → Numbered cell number tree
+    → All NumbersLabels tree.routines → FitsSteps tree answers → (k : ℕ) × StandsBy tree answers k
+unfolding asked_after
+typed_stands signals arm cell number tree answers typed numbered labels fits =
+    simulates tree (orderly signals arm tree typed labels) answers (goes_fine (state_after tree answers) (typings.goes signals arm cell number tree answers typed numbered fits))

@@ -45,12 +45,16 @@ abbrev pub PartCalls : TypedTree → Option TypedStmts → Type 0
 PartCalls tree None = ⊤
 PartCalls tree (Some list) = StmtsCalls tree list
 
+-- the labels of a routine's list and of its ERROR part are numbered in text order from 0 on
+abbrev pub NumbersLabels : TypedRoutine → Type 0
+NumbersLabels routine = Counts 0 (stmts_numbers routine.list ++ part_numbers routine.handler)
+
 -- A routine: its calls give as many arguments as are taken, and statements call PROCs; its labels are numbered in text order from 0 on, and it has no parameters
 -- if it is a TRAP.
 pub record IsOrderlyRoutine (tree : TypedTree) (routine : TypedRoutine) : Type 0 where
   pub list : StmtsCalls tree routine.list
   pub part : PartCalls tree routine.handler
-  pub labels : Counts 0 (stmts_numbers routine.list ++ part_numbers routine.handler)
+  pub labels : NumbersLabels routine
   pub traps : IsTrue (is_trap_kind routine.kind) → routine.params ≡ []
 
 -- a tree, whose main takes nothing
