@@ -2,6 +2,9 @@
 use Rattle.std.proofs.Common.{◌≡◌, refl, sym, ap, ◌∙◌, ℕ, Bool, true, false, IsTrue, get_or, List, [], ◌∷◌, inl, inr, length, map, Option, None, Some, slice_get, arith}
 use Rattle.std.specs.Prelude.{All}
 use Rattle.std.proofs.lemmas.List.{length-map}
+use Rattle.rapid_model.specs.declared.instruction.Instruction.{Instruction}
+use Rattle.rapid_model.specs.declared.instruction.Instruction.TheVariants as instructions
+use Rattle.rapid_model.specs.declared.part_name.PartName.TheVariants as parts
 use Rattle.rapid_model.specs.declared.sort.Sort.{Sort}
 use Rattle.rapid_values.specs.Components.{Component, components}
 use Rattle.raw_trees.specs.declared.raw_routine.RoutineKind.{RoutineKind}
@@ -21,7 +24,7 @@ use Rattle.task_typing.specs.Kinds.{Kind, need_of}
 use Rattle.task_typing.specs.Setting.{Setting}
 use Rattle.task_typing.specs.Statements.{Around, AreArms, AreCaseValues, AreCases, AreStmts, IsElse, IsStep, IsStmt, into}
 use Rattle.task_typing.specs.WellTyped.{IsHandler, IsMain, IsRoutine, TakesByKind, WellTyped, around_in}
-use Rattle.code_simulation.specs.Calls.{ArgCalls, ArgsCalls, ArgumentCalls, ArmsCalls, CasesCalls, ElseCalls, ExprCalls, ExprsCalls, IsProcedure, MaybeCalls, PlaceCalls, StepsCalls, StmtCalls, StmtsCalls, Takes, args_count}
+use Rattle.code_simulation.specs.Calls.{ArgCalls, ArgsCalls, ArgumentCalls, ArmsCalls, CasesCalls, ElseCalls, ExprCalls, ExprsCalls, IsBare, IsProcedure, MaybeCalls, PlaceCalls, StepsCalls, StmtCalls, StmtsCalls, Takes, args_count}
 use Rattle.code_simulation.specs.Orderly.{IsOrderly, IsOrderlyRoutine, NumbersLabels, PartCalls}
 
 -- the routine of a number is one
@@ -123,6 +126,24 @@ given_calls c kinds (MoreArgs arg more) (need ∷ list) rows are others = (arg_c
 
 -- statements
 
+bare_name : (c : Setting) (kinds : List Kind) (arg : TypedArg) (more : List TypedArg) → IsArg c kinds arg needs.PersName → IsBare instructions.IPers (arg ∷ more)
+bare_name c kinds (Lent (PlaceOf (roots.Pers row) NotHeld parts.Whole own)) more is = tt
+bare_name c kinds (Lent p) more is = absurd is
+bare_name c kinds arg more is = absurd is
+
+bare_list : (c : Setting) (kinds : List Kind) (number arg : TypedArg) (more : List TypedArg) → IsArg c kinds arg needs.TaskList → IsBare instructions.WaitSyncTask (number ∷ arg ∷ more)
+bare_list c kinds number (Lent (PlaceOf root NotHeld parts.Whole own)) more is = tt
+bare_list c kinds number (Lent p) more is = absurd is
+bare_list c kinds number arg more is = absurd is
+
+bare : (c : Setting) (kinds : List Kind) (instruction : Instruction) (args : List TypedArg) → AreNeeded c kinds args (instruction_needs instruction) → IsBare instruction args
+bare c kinds instructions.IPers [] are = tt
+bare c kinds instructions.IPers (arg ∷ more) are = bare_name c kinds arg more are.0
+bare c kinds instructions.WaitSyncTask [] are = tt
+bare c kinds instructions.WaitSyncTask (arg ∷ []) are = tt
+bare c kinds instructions.WaitSyncTask (number ∷ arg ∷ more) are = bare_list c kinds number arg more are.1.0
+bare c kinds instruction args are = tt
+
 maybe_calls : (c : Setting) (kinds : List Kind) (step : Option TypedExpr) → IsStep c kinds step → MaybeCalls c.tree step
 maybe_calls c kinds None is = tt
 maybe_calls c kinds (Some e) is = expr_calls c kinds e _ is
@@ -137,8 +158,10 @@ procedure tree called routine there kind other found = ap (λ (r : TypedRoutine)
 mutual
   stmt_calls : (c : Setting) (around : Around) (s : TypedStmt) → IsStmt c around s → StmtCalls c.tree s
   stmt_calls c around (trees.Assign at p e) is = (place_calls c around.places p is.0 is.2, expr_calls c around.places e is.0 is.3)
-  stmt_calls c around (trees.Instruct at instruction args) is =
-      given_calls c around.places args (instruction_needs instruction) (builtins.options instruction) is.are_needed is.are_options
+  stmt_calls c around (trees.Instruct at instruction args) is = (
+    given_calls c around.places args (instruction_needs instruction) (builtins.options instruction) is.are_needed is.are_options,
+    bare c around.places instruction (needed args) is.are_needed,
+  )
   stmt_calls c around (trees.Call at called args) is =
       (takes c around.places called is.0 args is.1 is.3, args_calls c around.places args (map need_of is.0.params) is.3, procedure c.tree called is.0 is.1 is.2)
   stmt_calls c around (trees.Label at label) is = tt

@@ -1,8 +1,13 @@
 -- Calls give as many arguments as their routines have parameters, and those that are statements are of PROCs.
-use Rattle.std.specs.Prelude.{◌≡◌, ℕ, ◌+◌, Option, None, Some, slice_get, length, ⊤}
+use Rattle.std.specs.Prelude.{◌≡◌, ℕ, ◌+◌, List, ◌∷◌, Option, None, Some, slice_get, length, ⊤}
+use Rattle.rapid_model.specs.declared.instruction.Instruction.{Instruction}
+use Rattle.rapid_model.specs.declared.instruction.Instruction.TheVariants as instructions
+use Rattle.rapid_model.specs.declared.part_name.PartName.TheVariants as parts
 use Rattle.raw_trees.specs.declared.raw_routine.RoutineKind.TheVariants as kinds
 use Rattle.typed_trees.specs.Plain as trees
 use Rattle.typed_trees.specs.Plain.{TypedArg, TypedArgs, TypedArgument, TypedArms, TypedCases, TypedElse, TypedExpr, TypedExprs, TypedHeld, TypedPlace, TypedRoutine, TypedSteps, TypedStmt, TypedStmts, TypedTree, NoExprs, MoreExprs, NoSteps, MoreSteps, NotHeld, Held, PlaceOf, Given, Lent, OfSignal, OfMeeting, Itself, Optional, NoArgument, Argument, NoArgs, MoreArgs, NoStmts, MoreStmts, NoArms, MoreArms, NoCases, MoreCases, NoElse, Else}
+use Rattle.typed_trees.specs.declared.expr.TreeRoot.TheVariants as roots
+use Rattle.rapid_meaning.specs.Instructions.{needed}
 
 abbrev pub args_count : TypedArgs → ℕ
 args_count NoArgs = 0
@@ -15,6 +20,14 @@ Takes tree called count = (routine : TypedRoutine) → slice_get tree.routines c
 -- the routine of this number, if there is one, is a PROC
 abbrev pub IsProcedure : TypedTree → ℕ → Type 0
 IsProcedure tree called = (routine : TypedRoutine) → slice_get tree.routines called ≡ Some routine → routine.kind ≡ kinds.Proc
+
+-- what IPers watches and the list of WaitSyncTask are named alone
+abbrev pub IsBare : Instruction → List TypedArg → Type 0
+IsBare instructions.IPers (Lent (PlaceOf (roots.Pers row) NotHeld parts.Whole sort) ∷ more) = ⊤
+IsBare instructions.IPers (arg ∷ more) = ⊥
+IsBare instructions.WaitSyncTask (number ∷ Lent (PlaceOf root NotHeld parts.Whole sort) ∷ more) = ⊤
+IsBare instructions.WaitSyncTask (number ∷ arg ∷ more) = ⊥
+IsBare instruction args = ⊤
 
 -- in each form, each call of a routine gives as many arguments as it takes, and one that is a statement is of a PROC
 abbrev mutual
@@ -69,7 +82,7 @@ MaybeCalls tree (Some e) = ExprCalls tree e
 abbrev mutual
   pub StmtCalls : TypedTree → TypedStmt → Type 0
   StmtCalls tree (trees.Assign at p e) = PlaceCalls tree p × ExprCalls tree e
-  StmtCalls tree (trees.Instruct at instruction args) = ArgsCalls tree args
+  StmtCalls tree (trees.Instruct at instruction args) = ArgsCalls tree args × IsBare instruction (needed args)
   StmtCalls tree (trees.Call at called args) = Takes tree called (args_count args) × ArgsCalls tree args × IsProcedure tree called
   StmtCalls tree (trees.Label at label) = ⊤
   StmtCalls tree (trees.Goto at label) = ⊤
