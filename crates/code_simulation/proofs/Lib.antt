@@ -18,6 +18,7 @@ pub mod Rooms
 pub mod Operands
 pub mod Expressions
 pub mod Arguments
+pub mod InstructionsAlone
 pub mod InstructionSteps
 pub mod Looks
 pub mod Recovery
