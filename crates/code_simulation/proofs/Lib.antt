@@ -20,6 +20,7 @@ pub mod Expressions
 pub mod Arguments
 pub mod InstructionsAlone
 pub mod InstructionSteps
+pub mod Instructions
 pub mod Looks
 pub mod Recovery
 pub mod Statements
