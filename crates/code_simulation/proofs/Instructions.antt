@@ -154,3 +154,103 @@ set_to_goes s code claims labels pc signal e ps calls there room =
     (read_then s code claims pc [] e (pieces_code s.tree s.routine labels s.own (pc + expr_size e) (Does (ops.PutSignal signal) ∷ []) ps) bit_in (λ b. write_signal signal b >> ready) calls there (omega (arith, room))
     (λ v. done_by_two s (pc + expr_size e) (Plain v ∷ []) (ops.PutSignal signal) (bit_in v) (λ b. write_signal signal b) behind.0 (omega (arith, room)) refl
     (no_part_then (bit_in v) (λ b. write_signal signal b) (bit_alone v) (λ b. write_alone signal b))))
+
+-- waits for signals
+
+-- two values of signals, compared
+compared : (s : Spot) (pc : ℕ) (b bit : Bool) → OpAt s pc (ops.Binary operators.Equal) → 2 ≤ s.target.code.deepest → OpAt s (pc + 1) (ops.Wait s.own.retry)
+    → Sim s.target s.run (standing s pc (Plain (of_bit bit) ∷ Plain (of_bit b) ∷ [])) (Gives (same_truth b bit)) (settles s (pc + 1 + 1)) (failing s)
+unfolding after
+compared s pc true true there room wait = sim_op s pc _ (ops.Binary operators.Equal) there room (wait_by s (pc + 1) true wait (omega (arith, room)))
+compared s pc true false there room wait = sim_op s pc _ (ops.Binary operators.Equal) there room (wait_by s (pc + 1) false wait (omega (arith, room)))
+compared s pc false true there room wait = sim_op s pc _ (ops.Binary operators.Equal) there room (wait_by s (pc + 1) false wait (omega (arith, room)))
+compared s pc false false there room wait = sim_op s pc _ (ops.Binary operators.Equal) there room (wait_by s (pc + 1) true wait (omega (arith, room)))
+
+pub wait_for_goes : (s : Spot) → IsCodeOf s.tree s.target → Claims s.target s.tree s.run → (labels : List ℕ) (pc signal : ℕ) (e : TypedExpr) (ps : List Placed) → ExprCalls s.tree e
+    → Goes s labels pc (OfExpr e ∷ Does ops.Bit ∷ Does (ops.GetSignal signal) ∷ Does (ops.Binary operators.Equal) ∷ Waits ∷ []) ps (bit s.tree s.routine e >>= λ b. has_value signal b)
+unfolding pieces_code pieces_need pieces_size after
+wait_for_goes s code claims labels pc signal e ps calls there room =
+    settled s (standing s pc []) (bit s.tree s.routine e >>= λ b. has_value signal b) (pc + expr_size e + 1 + 1 + 1 + 1) (pc + (expr_size e + (1 + (1 + (1 + (1 + 0)))))) (omega arith)
+    (bit_then s code claims labels pc e (Does (ops.GetSignal signal) ∷ Does (ops.Binary operators.Equal) ∷ Waits ∷ []) ps (λ b. has_value signal b) (settles s (pc + expr_size e + 1 + 1 + 1 + 1)) calls there
+    (omega (arith, room)) (omega (arith, room))
+    (λ b here_on. sim_op s (pc + expr_size e + 1) (Plain (of_bit b) ∷ []) (ops.GetSignal signal) here_on.0 (omega (arith, room))
+    (sim_same (read_signal signal) (signal_alone signal) (λ bit. compared s (pc + expr_size e + 1 + 1) b bit here_on.1.0 (omega (arith, room)) here_on.1.1.0) (λ n. sim_raises n))))
+
+pub until_goes : (s : Spot) → IsCodeOf s.tree s.target → Claims s.target s.tree s.run → (labels : List ℕ) (pc : ℕ) (e : TypedExpr) (ps : List Placed) → ExprCalls s.tree e
+    → Goes s labels pc (OfExpr e ∷ Waits ∷ []) ps (truth s.tree s.routine e)
+unfolding pieces_code pieces_need pieces_size
+until_goes s code claims labels pc e ps calls there room =
+    let behind = past_expr s.target.code s.tree s.routine s.own pc e (pieces_code s.tree s.routine labels s.own (pc + expr_size e) (Waits ∷ []) ps) there in
+    settled s (standing s pc []) (truth s.tree s.routine e) (pc + expr_size e + 1) (pc + (expr_size e + (1 + 0))) (omega arith)
+    (expr_then s code claims pc [] e (pieces_code s.tree s.routine labels s.own (pc + expr_size e) (Waits ∷ []) ps) truth_in calls there (omega (arith, room))
+    (λ v. waited v behind.0))
+  where
+    waited : (v : Value) → OpAt s (pc + expr_size e) (ops.Wait s.own.retry) → Sim s.target s.run (standing s (pc + expr_size e) (Plain v ∷ [])) (truth_in v) (settles s (pc + expr_size e + 1)) (failing s)
+    waited (values.Bool b) at = wait_by s (pc + expr_size e) b at (omega (arith, room))
+    waited v at = sim_misfit
+
+pub time_goes : (s : Spot) → IsCodeOf s.tree s.target → Claims s.target s.tree s.run → (labels : List ℕ) (pc : ℕ) (e : TypedExpr) (ps : List Placed) → ExprCalls s.tree e
+    → Goes s labels pc (OfExpr e ∷ Does ops.Drop ∷ []) ps (num s.tree s.routine e >> ready)
+unfolding pieces_code pieces_need pieces_size
+time_goes s code claims labels pc e ps calls there room =
+    let behind = past_expr s.target.code s.tree s.routine s.own pc e (pieces_code s.tree s.routine labels s.own (pc + expr_size e) (Does ops.Drop ∷ []) ps) there in
+    settled s (standing s pc []) (num s.tree s.routine e >> ready) (pc + expr_size e + 1) (pc + (expr_size e + (1 + 0))) (omega arith)
+    (read_then s code claims pc [] e (pieces_code s.tree s.routine labels s.own (pc + expr_size e) (Does ops.Drop ∷ []) ps) num_in (λ _. ready) calls there (omega (arith, room))
+    (of_num s (λ v. standing s (pc + expr_size e) (Plain v ∷ [])) (λ _. ready) (λ n. sim_op s (pc + expr_size e) _ ops.Drop behind.0 (omega (arith, room)) (sim_gives true))))
+
+pub test_goes : (s : Spot) → IsCodeOf s.tree s.target → Claims s.target s.tree s.run → (labels : List ℕ) (pc : ℕ) (p : TypedPlace) (ps : List Placed) → PlaceCalls s.tree p
+    → Goes s labels pc (OfPlace p ∷ Does ops.TestSet ∷ Waits ∷ []) ps (place s.tree s.routine p >>= λ q. test_and_set q)
+unfolding pieces_code pieces_need pieces_size
+test_goes s code claims labels pc p ps calls there room =
+    let behind = past_place s.target.code s.tree s.routine s.own pc p (pieces_code s.tree s.routine labels s.own (pc + place_size p) (Does ops.TestSet ∷ Waits ∷ []) ps) there in
+    settled s (standing s pc []) (place s.tree s.routine p >>= λ q. test_and_set q) (pc + place_size p + 1 + 1) (pc + (place_size p + (1 + (1 + 0)))) (omega arith)
+    (place_then s code claims pc [] p (pieces_code s.tree s.routine labels s.own (pc + place_size p) (Does ops.TestSet ∷ Waits ∷ []) ps) (λ q. test_and_set q) calls there (omega (arith, room))
+    (λ q. sim_op s (pc + place_size p) (Place q ∷ []) ops.TestSet behind.0 (omega (arith, room))
+    (through (test_and_set q) (test_alone q) (λ b. wait_by s (pc + place_size p + 1) b behind.1.0 (omega (arith, room))) (λ n. sim_raises n))))
+
+-- texts for the operator
+
+pub say_goes : (s : Spot) → IsCodeOf s.tree s.target → Claims s.target s.tree s.run → (labels : List ℕ) (pc : ℕ) (e : TypedExpr) (ps : List Placed) → ExprCalls s.tree e
+    → Goes s labels pc (OfExpr e ∷ Does (ops.Say kinds.None) ∷ []) ps (text s.tree s.routine e >>= λ t. tells (requests.Say t tails.None) >> ready)
+unfolding pieces_code pieces_need pieces_size after
+say_goes s code claims labels pc e ps calls there room =
+    let behind = past_expr s.target.code s.tree s.routine s.own pc e (pieces_code s.tree s.routine labels s.own (pc + expr_size e) (Does (ops.Say kinds.None) ∷ []) ps) there in
+    settled s (standing s pc []) (text s.tree s.routine e >>= λ t. tells (requests.Say t tails.None) >> ready) (pc + expr_size e + 1) (pc + (expr_size e + (1 + 0))) (omega arith)
+    (read_then s code claims pc [] e (pieces_code s.tree s.routine labels s.own (pc + expr_size e) (Does (ops.Say kinds.None) ∷ []) ps) text_in (λ t. tells (requests.Say t tails.None) >> ready) calls there (omega (arith, room))
+    (of_text s (λ v. standing s (pc + expr_size e) (Plain v ∷ [])) (λ t. tells (requests.Say t tails.None) >> ready)
+    (λ t. done_by s (pc + expr_size e) (Plain (values.Text t) ∷ []) (ops.Say kinds.None) (tells (requests.Say t tails.None)) behind.0 (omega (arith, room)) refl (tells_alone (requests.Say t tails.None)))))
+
+pub say_num_goes : (s : Spot) → IsCodeOf s.tree s.target → Claims s.target s.tree s.run → (labels : List ℕ) (pc : ℕ) (e f : TypedExpr) (ps : List Placed) → ExprCalls s.tree e → ExprCalls s.tree f
+    → Goes s labels pc (OfExpr e ∷ OfExpr f ∷ Does (ops.Say kinds.Num) ∷ []) ps
+    (text s.tree s.routine e >>= λ t. (num s.tree s.routine f >>= λ n. Gives (tails.Num n)) >>= λ more. tells (requests.Say t more) >> ready)
+unfolding pieces_code pieces_need pieces_size after
+say_num_goes s code claims labels pc e f ps calls others there room =
+    let rest = pieces_code s.tree s.routine labels s.own (pc + expr_size e) (OfExpr f ∷ Does (ops.Say kinds.Num) ∷ []) ps in
+    let behind = past_expr s.target.code s.tree s.routine s.own pc e (pieces_code s.tree s.routine labels s.own (pc + expr_size e) (OfExpr f ∷ Does (ops.Say kinds.Num) ∷ []) ps) there in
+    let last = past_expr s.target.code s.tree s.routine s.own (pc + expr_size e) f (pieces_code s.tree s.routine labels s.own (pc + expr_size e + expr_size f) (Does (ops.Say kinds.Num) ∷ []) ps) behind in
+    settled s (standing s pc []) _ (pc + expr_size e + expr_size f + 1) (pc + (expr_size e + (expr_size f + (1 + 0)))) (omega arith)
+    (read_then s code claims pc [] e (pieces_code s.tree s.routine labels s.own (pc + expr_size e) (OfExpr f ∷ Does (ops.Say kinds.Num) ∷ []) ps) text_in
+    (λ t. (num s.tree s.routine f >>= λ n. Gives (tails.Num n)) >>= λ more. tells (requests.Say t more) >> ready) calls there (omega (arith, room))
+    (of_text s (λ v. standing s (pc + expr_size e) (Plain v ∷ [])) (λ t. (num s.tree s.routine f >>= λ n. Gives (tails.Num n)) >>= λ more. tells (requests.Say t more) >> ready)
+    (λ t. sim_assoc (num s.tree s.routine f) (λ n. Gives (tails.Num n)) (λ more. tells (requests.Say t more) >> ready) Raises
+    (read_then s code claims (pc + expr_size e) (Plain (values.Text t) ∷ []) f (pieces_code s.tree s.routine labels s.own (pc + expr_size e + expr_size f) (Does (ops.Say kinds.Num) ∷ []) ps) num_in
+    (λ n. tells (requests.Say t (tails.Num n)) >> ready) others behind (omega (arith, room))
+    (of_num s (λ v. standing s (pc + expr_size e + expr_size f) (Plain v ∷ Plain (values.Text t) ∷ [])) (λ n. tells (requests.Say t (tails.Num n)) >> ready)
+    (λ n. done_by s (pc + expr_size e + expr_size f) (Plain (values.Num n) ∷ Plain (values.Text t) ∷ []) (ops.Say kinds.Num) (tells (requests.Say t (tails.Num n))) last.0 (omega (arith, room)) refl (tells_alone (requests.Say t (tails.Num n)))))))))
+
+pub say_bool_goes : (s : Spot) → IsCodeOf s.tree s.target → Claims s.target s.tree s.run → (labels : List ℕ) (pc : ℕ) (e f : TypedExpr) (ps : List Placed) → ExprCalls s.tree e → ExprCalls s.tree f
+    → Goes s labels pc (OfExpr e ∷ OfExpr f ∷ Does (ops.Say kinds.Bool) ∷ []) ps
+    (text s.tree s.routine e >>= λ t. (truth s.tree s.routine f >>= λ b. Gives (tails.Bool b)) >>= λ more. tells (requests.Say t more) >> ready)
+unfolding pieces_code pieces_need pieces_size after
+say_bool_goes s code claims labels pc e f ps calls others there room =
+    let behind = past_expr s.target.code s.tree s.routine s.own pc e (pieces_code s.tree s.routine labels s.own (pc + expr_size e) (OfExpr f ∷ Does (ops.Say kinds.Bool) ∷ []) ps) there in
+    let last = past_expr s.target.code s.tree s.routine s.own (pc + expr_size e) f (pieces_code s.tree s.routine labels s.own (pc + expr_size e + expr_size f) (Does (ops.Say kinds.Bool) ∷ []) ps) behind in
+    settled s (standing s pc []) _ (pc + expr_size e + expr_size f + 1) (pc + (expr_size e + (expr_size f + (1 + 0)))) (omega arith)
+    (read_then s code claims pc [] e (pieces_code s.tree s.routine labels s.own (pc + expr_size e) (OfExpr f ∷ Does (ops.Say kinds.Bool) ∷ []) ps) text_in
+    (λ t. (truth s.tree s.routine f >>= λ b. Gives (tails.Bool b)) >>= λ more. tells (requests.Say t more) >> ready) calls there (omega (arith, room))
+    (of_text s (λ v. standing s (pc + expr_size e) (Plain v ∷ [])) (λ t. (truth s.tree s.routine f >>= λ b. Gives (tails.Bool b)) >>= λ more. tells (requests.Say t more) >> ready)
+    (λ t. sim_assoc (truth s.tree s.routine f) (λ b. Gives (tails.Bool b)) (λ more. tells (requests.Say t more) >> ready) Raises
+    (read_then s code claims (pc + expr_size e) (Plain (values.Text t) ∷ []) f (pieces_code s.tree s.routine labels s.own (pc + expr_size e + expr_size f) (Does (ops.Say kinds.Bool) ∷ []) ps) truth_in
+    (λ b. tells (requests.Say t (tails.Bool b)) >> ready) others behind (omega (arith, room))
+    (of_truth s (λ v. standing s (pc + expr_size e + expr_size f) (Plain v ∷ Plain (values.Text t) ∷ [])) (λ b. tells (requests.Say t (tails.Bool b)) >> ready)
+    (λ b. done_by s (pc + expr_size e + expr_size f) (Plain (values.Bool b) ∷ Plain (values.Text t) ∷ []) (ops.Say kinds.Bool) (tells (requests.Say t (tails.Bool b))) last.0 (omega (arith, room)) refl (tells_alone (requests.Say t (tails.Bool b)))))))))
