@@ -20,6 +20,7 @@ pub mod Expressions
 pub mod Arguments
 pub mod Looks
 pub mod Recovery
+pub mod Instructs
 pub mod Statements
 pub mod Lists
 pub mod LabelPlaces
