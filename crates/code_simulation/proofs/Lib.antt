@@ -20,6 +20,15 @@ pub mod Expressions
 pub mod Arguments
 pub mod Looks
 pub mod Recovery
+pub mod BehindLook
+pub mod Plains
+pub mod Leaves
+pub mod InnerLists
+pub mod Truths
+pub mod Branches
+pub mod Elses
+pub mod Arms
+pub mod Cases
 pub mod Instructs
 pub mod Statements
 pub mod Lists
