@@ -23,6 +23,16 @@ pub mod InstructionSteps
 pub mod Instructions
 pub mod Looks
 pub mod Recovery
+pub mod BehindLook
+pub mod Plains
+pub mod Leaves
+pub mod InnerLists
+pub mod Truths
+pub mod Branches
+pub mod Elses
+pub mod Arms
+pub mod Cases
+pub mod Instructs
 pub mod Statements
 pub mod Lists
 pub mod LabelPlaces

@@ -67,3 +67,11 @@ mutual
   builtin_needs function (MoreArgs (OfSignal signal) NoArgs) = signal_needs function
   builtin_needs function (MoreArgs (Lent p) NoArgs) = place_needs p
   builtin_needs function other = omega arith
+
+-- of what is needed one after another
+
+pub first_room : (a b deepest : ℕ) → max a b ≤ deepest → a ≤ deepest
+first_room a b deepest room = omega (arith, le-max_left a b)
+
+pub second_room : (a b deepest : ℕ) → max a b ≤ deepest → b ≤ deepest
+second_room a b deepest room = omega (arith, le-max_right a b)
