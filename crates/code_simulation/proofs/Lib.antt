@@ -21,6 +21,7 @@ pub mod Arguments
 pub mod InstructionsAlone
 pub mod InstructionSteps
 pub mod Instructions
+pub mod Instructed
 pub mod Looks
 pub mod Recovery
 pub mod BehindLook
