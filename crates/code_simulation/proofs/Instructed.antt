@@ -43,6 +43,7 @@ use Rattle.code_simulation.proofs.InstructionsAlone.{define_alone, home_alone, n
 use Rattle.code_simulation.proofs.Same.{no_part_then}
 use Rattle.code_simulation.proofs.Sim.{Sim, after_after, sim_from, sim_gives, sim_misfit, sim_to}
 use Rattle.code_simulation.proofs.Spots.{Spot, failing, here, standing}
+use Rattle.code_simulation.proofs.Syncs.{sync_goes}
 
 -- the calls in a list of arguments
 abbrev pub AreCalls : TypedTree → List TypedArg → Type 0
@@ -72,13 +73,6 @@ said_goes s code claims labels pc e [] ps calls others = say_goes s code claims 
 said_goes s code claims labels pc e (Optional name (Argument (Given f)) ∷ []) ps calls others = tail_goes s code claims labels pc e f (bytes_eq name (codes "Num")) ps calls others.0
 said_goes s code claims labels pc e given ps calls others =
     λ there room. read_then s code claims pc [] e ps text_in _ calls there (omega (arith, room)) (of_text s (λ v. standing s (pc + expr_size e) (Plain v ∷ [])) _ (λ t. sim_misfit))
-
--- a meeting of the tasks that a list names
-sync_goes : (s : Spot) → IsCodeOf s.tree s.target → Claims s.target s.tree s.run → (labels : List ℕ) (pc number : ℕ) (root : TreeRoot) (sort : Sort) (ps : List Placed)
-    → Goes s labels pc (tasks_of s.tree s.routine (PlaceOf root NotHeld parts.Whole sort) (Does (ops.Arrive (meeting_number s.tree number)) ∷ Waits ∷ [])) ps
-    (or_misfit (slice_get s.tree.meeting_of number) >>= λ meeting. place s.tree s.routine (PlaceOf root NotHeld parts.Whole sort) >>= λ q.
-    tasks_in s.tree.tasks q (lent_length s.tree s.routine (PlaceOf root NotHeld parts.Whole sort)) >>= λ tasks. arrive meeting tasks)
-sync_goes s code claims labels pc number root sort ps there room = ?
 
 erase_goes : (s : Spot) (labels : List ℕ) (pc : ℕ) (ps : List Placed) → Goes s labels pc [] ps ready
 unfolding pieces_size
@@ -122,7 +116,7 @@ instructed_goes s code claims labels pc instructions.WaitDO (OfSignal signal ∷
 instructed_goes s code claims labels pc instructions.WaitUntil (Given e ∷ []) given ps calls others bare = until_goes s code claims labels pc e ps calls.0
 instructed_goes s code claims labels pc instructions.WaitTime (Given e ∷ []) given ps calls others bare = time_goes s code claims labels pc e ps calls.0
 instructed_goes s code claims labels pc instructions.WaitTestAndSet (Lent p ∷ []) given ps calls others bare = test_goes s code claims labels pc p ps calls.0
-instructed_goes s code claims labels pc instructions.WaitSyncTask (OfMeeting number ∷ Lent (PlaceOf root NotHeld parts.Whole sort) ∷ []) given ps calls others bare = sync_goes s code claims labels pc number root sort ps
+instructed_goes s code claims labels pc instructions.WaitSyncTask (OfMeeting number ∷ Lent (PlaceOf root NotHeld parts.Whole sort) ∷ []) given ps calls others bare = sync_goes s code labels pc number root sort ps
 instructed_goes s code claims labels pc instructions.WaitSyncTask (OfMeeting number ∷ Lent p ∷ []) given ps calls others bare = absurd bare
 instructed_goes s code claims labels pc instructions.TPWrite (Given e ∷ []) given ps calls others bare = said_goes s code claims labels pc e given ps calls.0 others
 instructed_goes s code claims labels pc instructions.TPErase [] given ps calls others bare = erase_goes s labels pc ps

@@ -75,19 +75,19 @@ Goes s labels pc list ps m =
     Holds s pc (pieces_code s.tree s.routine labels s.own pc list ps) → pieces_need 0 list ≤ s.target.code.deepest
     → Sim s.target s.run (standing s pc []) m (settles s (pc + pieces_size list)) (failing s)
 
-settled : (s : Spot) (x : Doing Conf) (m : Doing Bool) (a b : ℕ) → a ≡ b → Sim s.target s.run x m (settles s a) (failing s) → Sim s.target s.run x m (settles s b) (failing s)
+pub settled : (s : Spot) (x : Doing Conf) (m : Doing Bool) (a b : ℕ) → a ≡ b → Sim s.target s.run x m (settles s a) (failing s) → Sim s.target s.run x m (settles s b) (failing s)
 settled s x m a b e sim = subst (λ (end : ℕ). Sim s.target s.run x m (settles s end) (failing s)) e sim
 
 -- waits
 
 -- what is known of a wait is on the stack
-wait_by : (s : Spot) (pc : ℕ) (b : Bool) → OpAt s pc (ops.Wait s.own.retry) → 1 ≤ s.target.code.deepest
+pub wait_by : (s : Spot) (pc : ℕ) (b : Bool) → OpAt s pc (ops.Wait s.own.retry) → 1 ≤ s.target.code.deepest
     → Sim s.target s.run (standing s pc (Plain (values.Bool b) ∷ [])) (Gives b) (settles s (pc + 1)) (failing s)
 unfolding after
 wait_by s pc b there room = sim_op s pc (Plain (values.Bool b) ∷ []) (ops.Wait s.own.retry) there room (sim_gives b)
 
 -- a doing, and what follows what it gives
-through : {A : Type 0} {t : Target} {run : Run} (m : Doing A) {x : A → Doing Conf} {q : ℕ → Doing Conf} {next : A → Doing Conf} {failed : ℕ → Doing Conf} → NoPart m
+pub through : {A : Type 0} {t : Target} {run : Run} (m : Doing A) {x : A → Doing Conf} {q : ℕ → Doing Conf} {next : A → Doing Conf} {failed : ℕ → Doing Conf} → NoPart m
     → ((v : A) → Sim t run (x v) (Gives v) next failed) → ((n : ℕ) → Sim t run (q n) (Raises n) next failed) → Sim t run (after m x q) m next failed
 unfolding after
 through (Gives v) own more raised = more v

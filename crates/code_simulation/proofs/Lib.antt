@@ -21,6 +21,7 @@ pub mod Arguments
 pub mod InstructionsAlone
 pub mod InstructionSteps
 pub mod Instructions
+pub mod Syncs
 pub mod Instructed
 pub mod Looks
 pub mod Recovery

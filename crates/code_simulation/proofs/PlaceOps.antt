@@ -59,7 +59,7 @@ whole_within : (part : PartName) → part_within part parts.Whole ≡ Some part
 whole_within parts.Whole = refl
 whole_within part = refl
 
-whole_at : (p : Lvalue) → part_at parts.Whole p ≡ Gives p
+pub whole_at : (p : Lvalue) → part_at parts.Whole p ≡ Gives p
 whole_at p = ap (λ (x : Option PartName). or_misfit (option_map (λ (inner : PartName). record p { part = inner }) x)) (whole_within p.part)
 
 pub part_sim : (s : Spot) (pc : ℕ) (stack : List Datum) (part : PartName) (ps : List Placed) (p : Lvalue) → Holds s pc (part_code s.own part ps)

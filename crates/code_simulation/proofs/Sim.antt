@@ -157,7 +157,7 @@ sim_ends {A = A} {t = t} fate {next = next} {failed = failed} = record {
   );
 }
 
-comes_when : {A : Type 0} (t : Target) (b : Bool) (x : Doing Conf) (o : Outcome A) (next : A → Doing Conf) (failed : ℕ → Doing Conf) (d : Data) (left : List Answer) (k : ℕ)
+pub comes_when : {A : Type 0} (t : Target) (b : Bool) (x : Doing Conf) (o : Outcome A) (next : A → Doing Conf) (failed : ℕ → Doing Conf) (d : Data) (left : List Answer) (k : ℕ)
     → (IsTrue b → Fine (followed t k next failed o) → Comes t x d left (followed t k next failed o)) → Fine (followed t k next failed (if b then o else Unfit))
     → (j : ℕ) × (joined (if b then performed t.by no_part x d left else Unfit) (λ c e rest. exec t.by t.code j c e rest) (λ n e rest. Misfits) ≡ followed t k next failed (if b then o else Unfit))
 comes_when t true x o next failed d left k comes fine = comes refl fine
