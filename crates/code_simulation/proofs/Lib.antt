@@ -31,6 +31,7 @@ pub mod Arms
 pub mod Cases
 pub mod Calm
 pub mod Turns
+pub mod Bounds
 pub mod Fors
 pub mod Instructs
 pub mod Statements
