@@ -34,6 +34,10 @@ pub mod Branches
 pub mod Elses
 pub mod Arms
 pub mod Cases
+pub mod Calm
+pub mod Turns
+pub mod Bounds
+pub mod Fors
 pub mod Instructs
 pub mod Statements
 pub mod Lists

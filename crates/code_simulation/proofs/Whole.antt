@@ -33,7 +33,8 @@ use Rattle.code_simulation.proofs.Procedures.{procedure_called}
 use Rattle.code_simulation.proofs.Operations.{goes_more}
 use Rattle.code_simulation.proofs.Routines.{called_sim}
 use Rattle.code_simulation.proofs.Sim.{Sim, Target, followed, goes_on, part_deep, part_zero, sim_does, sim_ends, told_joined}
-use Rattle.code_simulation.proofs.Statements.{stmt_sim, turn_sim}
+use Rattle.code_simulation.proofs.Statements.{stmt_sim}
+use Rattle.code_simulation.proofs.Turns.{turn_sim}
 use Rattle.code_simulation.proofs.WellTyped.{orderly}
 
 pub claims : (tree : TypedTree) (t : Target) → IsCodeOf tree t → (n : ℕ) → Claims t tree (deep tree n)
