@@ -66,7 +66,7 @@ arms_sim t tree run code claims b from s stands place pc end (MoreArms e list mo
     let next : ℕ = x + stmts_size tree b.stands.routine list + 1 in
     let behind : List Placed = put own (ops.Jump own.next) (arms_code tree b.stands.routine b.labels own next more ps) in
     let inside : HasAt t.code x (stmts_code tree b.stands.routine b.labels x list behind) =
-        (past_expr t.code tree b.stands.routine own pc e (put own (ops.JumpFalse next) (stmts_code tree b.stands.routine b.labels x list behind)) there).1 in
+    (past_expr t.code tree b.stands.routine own pc e (put own (ops.JumpFalse next) (stmts_code tree b.stands.routine b.labels x list behind)) there).1 in
     let jump = past_stmts t.code tree b.stands.routine b.labels x list behind inside in
     let rooms = second_room (expr_need e) (max (stmts_need tree b.stands.routine list) (arms_need tree b.stands.routine more)) t.code.deepest room in
     let needed : 0 + expr_need e ≤ t.code.deepest = omega (arith, first_room (expr_need e) (max (stmts_need tree b.stands.routine list) (arms_need tree b.stands.routine more)) t.code.deepest room) in

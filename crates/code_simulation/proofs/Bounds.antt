@@ -31,7 +31,7 @@ use Rattle.code_simulation.proofs.Ops.{OpAt, ends_at}
 use Rattle.code_simulation.proofs.Past.{past_expr}
 use Rattle.code_simulation.proofs.PlaceOps.{load_sim}
 use Rattle.code_simulation.proofs.Plains.{store_sim}
-use Rattle.code_simulation.proofs.Rooms.{expr_needs, first_room, second_room}
+use Rattle.code_simulation.proofs.Rooms.{first_room, second_room}
 use Rattle.code_simulation.proofs.Same.{same}
 use Rattle.code_simulation.proofs.Sim.{Sim, sim_gives, sim_misfit, sim_then, sim_to}
 use Rattle.code_simulation.proofs.Spots.{Holds, Pushes, Spot, failing, sim_op, standing}

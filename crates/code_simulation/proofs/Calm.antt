@@ -8,11 +8,10 @@ use Rattle.rapid_model.specs.declared.value.Value.{Value}
 use Rattle.rapid_model.specs.declared.value.Value.TheVariants as values
 use Rattle.typed_trees.specs.declared.datum.Datum.{Datum}
 use Rattle.typed_trees.specs.declared.datum.Datum.TheVariants as datums
-use Rattle.typed_trees.specs.declared.datum.Lvalue.{Lvalue}
 use Rattle.typed_trees.specs.declared.datum.Root.{Root}
 use Rattle.typed_trees.specs.declared.datum.Root.TheVariants as roots
 use Rattle.rapid_meaning.specs.Data.{Data}
-use Rattle.rapid_meaning.specs.Doings.{Doing, Gives, Raises, Asks, Ends, Misfit, Reads, Writes, Does, after, or_misfit, when_ok}
+use Rattle.rapid_meaning.specs.Doings.{Doing, Gives, Raises, Asks, Ends, Misfit, Reads, Writes, Does, after, or_misfit}
 use Rattle.rapid_meaning.specs.Places.{load, load_from, own_place, read_value, store_at, when_read, write_value, writes_at}
 use Rattle.rapid_meaning.specs.Values.{num_in, value_in}
 use Rattle.stack_code.specs.Steps.{counter_at, set_counter_at}

@@ -24,7 +24,7 @@ use Rattle.code_simulation.specs.Calls.{CasesCalls, ExprsCalls}
 use Rattle.code_simulation.proofs.Alone.{applied_alone}
 use Rattle.code_simulation.proofs.Arms.{arm_list}
 use Rattle.code_simulation.proofs.BehindLook.{BehindLook, spot_at}
-use Rattle.code_simulation.proofs.Bodies.{Body, begins, lands, leaving}
+use Rattle.code_simulation.proofs.Bodies.{Body, lands, leaving}
 use Rattle.code_simulation.proofs.Claims.{CasesLabels, Claims, ListAt, Stands, StmtAt}
 use Rattle.code_simulation.proofs.CodeOf.{IsCodeOf}
 use Rattle.code_simulation.proofs.Elses.{else_sim}

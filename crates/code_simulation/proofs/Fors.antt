@@ -30,7 +30,7 @@ for_sim t tree run code claims b pc at local first last step list stands place =
     let k : ℕ = local_start b.stands.routine local in
     let x : ℕ = pc + 1 + bounds_size b.stands.routine local first last step in
     header_sim t tree run claims b pc s stands place (begins b (pc + 1)) (bounds tree b.stands.routine local first last step) (λ _. turn_due b.stands s local)
-    (λ _. begins b (pc + 1 + bounds_size b.stands.routine local first last step)) 
+    (λ _. begins b (pc + 1 + bounds_size b.stands.routine local first last step))
     (bounds_sim (spot_at t tree run b pc s) code claims b.labels (pc + 1) local first last step (put own (ops.Turn k own.next) (put own ops.Look (stmts_code tree b.stands.routine b.labels (x + 1 + 1) list
     (put own (ops.Step k x) place.behind)))) place.calls.0 place.calls.1 place.calls.2 place.code.1
     (first_room (pieces_need 0 (bounds_pieces k first last step)) (stmts_need tree b.stands.routine list) t.code.deepest place.room))

@@ -12,9 +12,8 @@ use Rattle.typed_trees.specs.declared.datum.Datum.{Datum}
 use Rattle.typed_trees.specs.declared.datum.Datum.TheVariants.{Plain, Mark, Place}
 use Rattle.typed_trees.specs.declared.datum.Lvalue.{Lvalue}
 use Rattle.rapid_meaning.specs.Answering.{Run}
-use Rattle.rapid_meaning.specs.Doings.{Act, Gives, Raises, ◌>>=◌, after, fault}
+use Rattle.rapid_meaning.specs.Doings.{Act, Raises, ◌>>=◌, after, fault}
 use Rattle.rapid_meaning.specs.Expressions.{expr}
-use Rattle.rapid_meaning.specs.Flows.{Normal}
 use Rattle.rapid_meaning.specs.Interrupts.{connect, when_connected}
 use Rattle.rapid_meaning.specs.Places.{load, store}
 use Rattle.rapid_meaning.specs.Statements.{assign, call, connects, goes_on, raised}
@@ -32,12 +31,12 @@ use Rattle.code_simulation.proofs.Bodies.{Body, begins}
 use Rattle.code_simulation.proofs.Claims.{Claims, Stands, StmtAt}
 use Rattle.code_simulation.proofs.CodeOf.{IsCodeOf}
 use Rattle.code_simulation.proofs.Expressions.{expr_sim, place_sim}
-use Rattle.code_simulation.proofs.Ops.{OpAt, ends_at}
+use Rattle.code_simulation.proofs.Ops.{OpAt}
 use Rattle.code_simulation.proofs.Past.{past_expr, past_place}
 use Rattle.code_simulation.proofs.Recovery.{header_sim}
-use Rattle.code_simulation.proofs.Rooms.{expr_needs, first_room, place_needs, second_room}
+use Rattle.code_simulation.proofs.Rooms.{expr_needs, first_room, second_room}
 use Rattle.code_simulation.proofs.Same.{NoPart, same, sim_same}
-use Rattle.code_simulation.proofs.Sim.{Sim, Target, sim_assoc, sim_gives, sim_misfit, sim_raises, sim_then}
+use Rattle.code_simulation.proofs.Sim.{Sim, Target, sim_assoc, sim_misfit, sim_raises, sim_then}
 use Rattle.code_simulation.proofs.Spots.{Spot, failing, sim_op, standing}
 
 pub store_sim : (s : Spot) (pc : ℕ) (stack : List Datum) (p : Lvalue) (x : Datum) → OpAt s pc ops.Store → length (x ∷ Place p ∷ stack) ≤ s.target.code.deepest

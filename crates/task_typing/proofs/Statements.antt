@@ -14,7 +14,7 @@ use Rattle.typed_trees.specs.Plain as trees
 use Rattle.typed_trees.specs.Plain.{TypedArms, TypedCases, TypedElse, TypedExpr, TypedExprs, TypedRoutine, TypedStmt, TypedStmts, NoExprs, MoreExprs, NoStmts, MoreStmts, NoArms, MoreArms, NoCases, MoreCases, NoElse, Else}
 use Rattle.typed_trees.specs.declared.datum.Datum.TheVariants as datums
 use Rattle.typed_trees.specs.declared.datum.Lvalue.{Lvalue}
-use Rattle.rapid_meaning.specs.Doings.{Act, Doing, Ends, Gives, Raises, ◌>>=◌, ◌>>◌, after, calls, change, fault, goes_to}
+use Rattle.rapid_meaning.specs.Doings.{Doing, Ends, Gives, Raises, ◌>>=◌, ◌>>◌, after, calls, change, fault, goes_to}
 use Rattle.rapid_meaning.specs.Errors.{failed, failed_in, header, parted, raised_again}
 use Rattle.rapid_meaning.specs.Expressions.{arguments, expr, place}
 use Rattle.rapid_meaning.specs.Flows.{Flow, Normal, Jumps, Returns, Retries, Skips, Errors, Unguarded, Guarded, InPart, Where, Attempt, Turn, Rest}
