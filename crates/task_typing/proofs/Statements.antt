@@ -1,5 +1,5 @@
 -- Statements and lists of them.
-use Rattle.std.proofs.Common.{◌≡◌, ◌⊎◌, ⊎_elim, refl, sym, subst, ℕ, ◌+◌, ◌<◌, ◌/◌, ◌%◌, ◌==◌, ◌&&◌, nat_le, Bool, true, false, ℤ, pos, negsuc, List, [], ◌∷◌, map, flat_map, Option, Some, None, is_some, slice_get, if◌then◌else◌, IsTrue, arith}
+use Rattle.std.proofs.Common.{◌≡◌, ◌⊎◌, ⊎_elim, refl, sym, ap, ◌∙◌, subst, ℕ, ◌+◌, ◌<◌, ◌/◌, ◌%◌, ◌==◌, ◌&&◌, nat_le, Bool, true, false, ℤ, pos, negsuc, List, [], ◌∷◌, map, flat_map, Option, Some, None, is_some, slice_get, if◌then◌else◌, IsTrue, arith}
 use Rattle.std.specs.Prelude.{⊤}
 use Rattle.rapid_num.specs.Arithmetic.{sum_of}
 use Rattle.rapid_model.specs.declared.fate.Fate.TheVariants as fates
@@ -14,6 +14,7 @@ use Rattle.typed_trees.specs.Plain as trees
 use Rattle.typed_trees.specs.Plain.{TypedArms, TypedCases, TypedElse, TypedExpr, TypedExprs, TypedRoutine, TypedStmt, TypedStmts, NoExprs, MoreExprs, NoStmts, MoreStmts, NoArms, MoreArms, NoCases, MoreCases, NoElse, Else}
 use Rattle.typed_trees.specs.declared.datum.Datum.TheVariants as datums
 use Rattle.typed_trees.specs.declared.datum.Lvalue.{Lvalue}
+use Rattle.rapid_meaning.specs.Answering.{is_trap_kind, is_trap_row}
 use Rattle.rapid_meaning.specs.Doings.{Doing, Ends, Gives, Raises, ◌>>=◌, ◌>>◌, after, calls, change, fault, goes_to}
 use Rattle.rapid_meaning.specs.Errors.{failed, failed_in, header, parted, raised_again}
 use Rattle.rapid_meaning.specs.Expressions.{arguments, expr, place}
@@ -127,10 +128,10 @@ again_safe c facts g w (InPart entered) is = safe_raises (place_of c facts g w) 
 again_safe c facts g w Unguarded is = absurd cc
 again_safe c facts g w (Guarded list) is = absurd cc
 
-connects_safe : (i : Inside) (p : trees.TypedPlace) (trap : ℕ) → IsPlace i.c (kinds_of i.routine) p sorts.IntNum → Safe (scene i) Anything (connects i.c.tree i.routine p trap)
-connects_safe i p trap is =
+connects_safe : (i : Inside) (p : trees.TypedPlace) (trap : ℕ) → IsTrue (is_trap_row (slice_get i.c.tree.routines trap)) → IsPlace i.c (kinds_of i.routine) p sorts.IntNum → Safe (scene i) Anything (connects i.c.tree i.routine p trap)
+connects_safe i p trap there is =
     safe_then (scene i) (λ q. IsThere (scene i) q sorts.IntNum) Anything (place i.c.tree i.routine p) (λ q. number_at q >>= λ old. connect q old trap) (place_safe i p sorts.IntNum is)
-    (λ q at. safe_then (scene i) Anything Anything (number_at q) (λ old. connect q old trap) (number_safe (scene i) q sorts.IntNum refl at) (λ old _. connect_safe (scene i) q old trap at))
+    (λ q at. safe_then (scene i) Anything Anything (number_at q) (λ old. connect q old trap) (number_safe (scene i) q sorts.IntNum refl at) (λ old _. connect_safe (scene i) q old trap there at))
 
 -- IF and TEST choose a list
 chosen_safe : (i : Inside) (around : Around) (arms : TypedArms) (other : TypedElse) → around.places ≡ kinds_of i.routine → AreArms i.c around arms → IsElse i.c around other
@@ -285,7 +286,7 @@ follows_safe c facts g w s (trees.Raise at (Some e)) part is loops =
 follows_safe c facts g w s (trees.Retry at) part is loops = safe_gives (place_of c facts g w) (IsFlow (around_of w g.lists)) Retries is
 follows_safe c facts g w s (trees.TryNext at) part is loops = safe_gives (place_of c facts g w) (IsFlow (around_of w g.lists)) Skips is
 follows_safe c facts g w s (trees.Connect at p trap) part is loops =
-    header_safe c facts g w s Anything (connects c.tree w.routine p trap) goes_on part (connects_safe (inside_of c facts g w.routine) p trap is.0) (λ _ _. goes_normal c facts g w)
+    header_safe c facts g w s Anything (connects c.tree w.routine p trap) goes_on part (connects_safe (inside_of c facts g w.routine) p trap (ap is_trap_row is.2 ∙ ap is_trap_kind is.3) is.0) (λ _ _. goes_normal c facts g w)
 follows_safe c facts g w s (trees.If at arms other) part is loops =
     header_safe c facts g w s (IsElse c (around_of w g.lists)) (chosen c.tree w.routine arms other) (inner_or_not w) part
     (chosen_safe (inside_of c facts g w.routine) (around_of w g.lists) arms other refl is.0 is.1) (λ list typed. other_safe c facts g w list part.0 typed)
