@@ -78,7 +78,7 @@ module _ (c : Setting) (kinds : List Kind) (s : Site) (suits : Suits c kinds s) 
   one_right e IsValue arg right (t, value, is) = subst (λ (x : TypedArg). IsArg c kinds x needs.One) (sym is) (one_typed e t (right (one_dimension e) t value))
 
   -- a part at the place of its root
-  part_right : (name : PlainName) (held : trees.TypedHeld) (indexed : Bool) (components : List PlainName) (p : NamedPart) (root : TreeRoot) (access : Access)
+  pub part_right : (name : PlainName) (held : trees.TypedHeld) (indexed : Bool) (components : List PlainName) (p : NamedPart) (root : TreeRoot) (access : Access)
       → rules.IsPlace s false name indexed held components p → Stands p.source root access → IsHeld c kinds indexed held
       → IsPlace c kinds (trees.PlaceOf root p.index p.part p.sort) p.sort
   part_right name held indexed components p root access is stands index =

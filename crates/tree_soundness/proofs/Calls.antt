@@ -1,5 +1,5 @@
 -- The arguments of calls of functions and procedures: as many as are needed, each as it is needed.
-use Rattle.std.proofs.Common.{◌≡◌, ℕ, ◌+◌, Bool, true, not, ◌||◌, ◌==◌, List, [], ◌∷◌, length, drop, Option, Some, refl, sym, subst, ◌∙◌, nat_le, length-drop, arith}
+use Rattle.std.proofs.Common.{◌≡◌, ℕ, ◌+◌, Bool, true, not, ◌||◌, ◌==◌, List, [], ◌∷◌, length, map, drop, Option, Some, refl, sym, subst, ◌∙◌, nat_le, slice_get, length-drop, arith}
 use Rattle.std.proofs.lemmas.Bool.{and_parts, eqb-true}
 use Rattle.raw_trees.specs.Plain.{PlainArgs, PlainName, Needed, Optional, NoArgs, MoreArgs}
 use Rattle.raw_trees.specs.declared.raw_routine.RoutineKind.{RoutineKind}
@@ -9,7 +9,7 @@ use Rattle.rapid_model.specs.declared.sort.Sort.{Sort}
 use Rattle.rapid_builtins.specs.Calls.{OptionRow, function_needs_arm, function_result, option_named}
 use Rattle.rapid_builtins.specs.declared.need.Need.{Need}
 use Rattle.typed_trees.specs.Plain as trees
-use Rattle.typed_trees.specs.Plain.{TypedArg, TypedArgs}
+use Rattle.typed_trees.specs.Plain.{TypedArg, TypedArgs, TypedRoutine}
 use Rattle.data_scopes.specs.declared.meant.Meant.{Meant}
 use Rattle.data_scopes.specs.declared.meant.Meant.TheVariants as meants
 use Rattle.data_scopes.specs.Called.{kind_of, params_of, result_of}
@@ -21,7 +21,7 @@ use Rattle.expr_types.specs.Calls.{Called, Signature, Taking, after, all_in, fun
 use Rattle.expr_types.specs.Typing.{invoked, sort_of}
 use Rattle.typing_rules.specs.Calls.{IsCall, IsFunction, IsFunctionMeant, IsRoutine}
 use Rattle.task_typing.specs.Expressions.{AreArgs, IsExpr}
-use Rattle.task_typing.specs.Kinds.{Kind}
+use Rattle.task_typing.specs.Kinds.{Kind, need_of}
 use Rattle.task_typing.specs.Setting.{Setting}
 use Rattle.tree_soundness.proofs.Named.{IsCallable, Suits}
 use Rattle.tree_soundness.proofs.Taken.{AreTaken, IsOptionTaken, IsTakenBy}
@@ -75,6 +75,19 @@ module _ (c : Setting) (kinds : List Kind) where
           subst (AreArgs c kinds us) (sym there.params) (args_right args (taking signature) us refl (counted signature call) taken),
         ))
     routine_right number _ _ called is_kind is_result is = absurd is
+
+    -- a call of a procedure
+    pub procedure_right : (number : ℕ) → kind_of s.names.rows number ≡ Some routines.Proc → AreTaken c kinds args (taking (routine_signature (params_of s.names.rows number))) us
+        → IsCall s (routine_signature (params_of s.names.rows number)) args
+        → (routine : TypedRoutine) × (slice_get c.tree.routines number ≡ Some routine) × (routine.kind ≡ routines.Proc) × AreArgs c kinds us (map need_of routine.params)
+    procedure_right number is_kind taken call =
+        let there : IsCallable c s.names.rows number routines.Proc = suits.routines number routines.Proc is_kind in
+        let signature : Signature = routine_signature (params_of s.names.rows number) in (
+          there.routine,
+          there.there,
+          there.same_kind,
+          subst (AreArgs c kinds us) (sym there.params) (args_right args (taking signature) us refl (counted signature call) taken),
+        )
 
     function_right : (meant : Option Meant) (called : Called) → IsFunctionMeant s meant called → IsRight called
     function_right (Some (meants.Function f)) called is = subst IsRight (sym is) (builtin_right f)

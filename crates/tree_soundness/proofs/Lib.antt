@@ -5,3 +5,6 @@ pub mod Arguments
 pub mod Taken
 pub mod Calls
 pub mod Expressions
+pub mod Instructions
+pub mod Labels
+pub mod Statements
