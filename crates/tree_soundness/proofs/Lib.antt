@@ -8,3 +8,6 @@ pub mod Expressions
 pub mod Instructions
 pub mod Labels
 pub mod Statements
+pub mod Lists
+pub mod Scalars
+pub mod Rows
