@@ -11,3 +11,7 @@ pub mod Statements
 pub mod Lists
 pub mod Scalars
 pub mod Rows
+pub mod Full
+pub mod Routines
+pub mod RowKinds
+pub mod Facts

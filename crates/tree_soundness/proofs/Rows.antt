@@ -70,7 +70,7 @@ then_grow a b c g h = record {
   routines = λ k x is. h.routines k x (g.routines k x is);
 }
 
-abbrev rows_by : Rows → Bool → Bool → DatumRow → Rows
+abbrev pub rows_by : Rows → Bool → Bool → DatumRow → Rows
 rows_by rows scalar pers row =
     if scalar then record { consts = rows.consts ++ row ∷ []; slots = rows.slots; pers = rows.pers; routines = rows.routines }
     else if pers then record { consts = rows.consts; slots = rows.slots; pers = rows.pers ++ row ∷ []; routines = rows.routines }
@@ -113,7 +113,7 @@ module _ (tables : Tables) where
       let h = locals_later number routine ds (before ++ row ∷ []) past rest in
       record { later = row ∷ h.later; is = h.is ∙ append_assoc before (row ∷ []) h.later }
 
-  params_long : (number routine : ℕ) (ps : List PlainParam) (before past : List ParamRow) → AreParamRows tables number routine ps before past → length past ≡ length before + length ps
+  pub params_long : (number routine : ℕ) (ps : List PlainParam) (before past : List ParamRow) → AreParamRows tables number routine ps before past → length past ≡ length before + length ps
   params_long number routine [] before past is = let e = ap length is in omega (arith, e)
   params_long number routine (p ∷ ps) before past (sort, is_sort, rest) =
       let row : ParamRow = record { mode = p.mode; sort = sort } in
@@ -133,7 +133,7 @@ initial_alike names number routine known sort d i (has, is_len, are_values) = le
 sort_there : (rows all : List DatumRow) (row : DatumRow) (n : ℕ) → IsFront (rows ++ row ∷ []) all → n ≡ length rows → sort_in (slice_get all n) ≡ row.sort
 sort_there rows all row n front e = ap sort_in (ap (slice_get all) e ∙ front (length rows) row (get_last rows row))
 
-place_behind : (row : RoutineRow) (k n : ℕ) → n ≡ length row.params + k → place_row row n ≡ slice_get row.locals k
+pub place_behind : (row : RoutineRow) (k n : ℕ) → n ≡ length row.params + k → place_row row n ≡ slice_get row.locals k
 place_behind row k n e =
     let le : length row.params ≤ n = omega (arith, e) in
     let past : nat_lt n (length row.params) ≡ false = le-ltb n (length row.params) le in
