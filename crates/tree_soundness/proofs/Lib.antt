@@ -15,3 +15,5 @@ pub mod Full
 pub mod Routines
 pub mod RowKinds
 pub mod Facts
+pub mod Data
+pub mod Tree

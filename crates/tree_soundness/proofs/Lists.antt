@@ -1,7 +1,9 @@
 -- Lists that are alike, place by place.
 use Rattle.std.proofs.Common.{◌≡◌, ◌⊎◌, inl, inr, ℕ, zero, suc, ◌+◌, List, [], ◌∷◌, ◌++◌, length, set, Some, slice_get, refl, ap, sym, subst, ◌∙◌, length-append, append_assoc, arith}
+use Rattle.std.specs.List.{All}
 use Rattle.std.proofs.Math.Logic.{⊎_map}
 use Rattle.std.proofs.lemmas.List.{append-nil}
+use Rattle.std.proofs.lemmas.List.Elements.{All-cons, All-nil}
 use Rattle.std.proofs.lemmas.Option.{slice_get_within}
 use Rattle.name_laws.specs.Declared.{AreEach}
 use Rattle.name_laws.proofs.Items.{IsFront}
@@ -87,6 +89,24 @@ from_at R first (w ∷ xs) (z ∷ ys) (suc k) y h is =
     let e : (first + 1) + k ≡ first + suc k = omega arith in
     record { x = o.x; is = o.is; such = subst (λ n. R n o.x y) e o.such }
 
+-- and the other way round
+pub record FromTo {A B : Type 0} (R : ℕ → A → B → Type 0) (ys : List B) (n k : ℕ) (x : A) : Type 0 where
+  pub y : B
+  pub is : slice_get ys k ≡ Some y
+  pub such : R n x y
+
+pub from_to : {A B : Type 0} (R : ℕ → A → B → Type 0) (first : ℕ) (xs : List A) (ys : List B) (k : ℕ) (x : A) → AreFrom R first xs ys → slice_get xs k ≡ Some x → FromTo R ys (first + k) k x
+from_to R first [] ys k x h is = absurd cc
+from_to R first (w ∷ xs) [] k x h is = absurd h
+from_to R first (w ∷ xs) (z ∷ ys) zero x h is =
+    let same : w ≡ x = cc in
+    let e : first ≡ first + 0 = omega arith in
+    record { y = z; is = refl; such = subst (λ n. R n x z) e (subst (λ v. R first v z) same h.0) }
+from_to R first (w ∷ xs) (z ∷ ys) (suc k) x h is =
+    let o = from_to R (first + 1) xs ys k x h.1 is in
+    let e : (first + 1) + k ≡ first + suc k = omega arith in
+    record { y = o.y; is = o.is; such = subst (λ n. R n x o.y) e o.such }
+
 pub from_length : {A B : Type 0} (R : ℕ → A → B → Type 0) (first : ℕ) (xs : List A) (ys : List B) → AreFrom R first xs ys → length xs ≡ length ys
 from_length R first [] [] h = refl
 from_length R first [] (y ∷ ys) h = absurd h
@@ -123,3 +143,7 @@ then_behind R xs more before middle past a b =
 
 pub all_behind : {A B : Type 0} (R : ℕ → A → B → Type 0) (xs : List A) (past : List B) → Behind R xs [] past → AreFrom R 0 xs past
 all_behind R xs past b = subst (AreFrom R 0 xs) (sym b.is) b.each
+
+pub all_of : {A : Type 0} (P : A → Type 0) (xs : List A) → ((k : ℕ) (x : A) → slice_get xs k ≡ Some x → P x) → All P xs
+all_of P [] h = All-nil P
+all_of P (x ∷ xs) h = All-cons P x xs (h 0 x refl) (all_of P xs (λ k y is. h (suc k) y is))

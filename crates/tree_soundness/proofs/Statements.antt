@@ -37,7 +37,7 @@ use Rattle.tree_soundness.proofs.Named.{Right, Suits}
 use Rattle.tree_soundness.proofs.Sorts.{compared}
 
 -- the number of the next FOR does not fall
-stmts_grow : (body : Body) (list : PlainStmts) (around : bodies.Around) (next : ℕ) (ts : TypedStmts) (past : ℕ) → AreTypedStmts body list around next ts past → next ≤ past
+pub stmts_grow : (body : Body) (list : PlainStmts) (around : bodies.Around) (next : ℕ) (ts : TypedStmts) (past : ℕ) → AreTypedStmts body list around next ts past → next ≤ past
 stmts_grow body list around next ts past are =
     let counted = stmts_next body list around None next (record { tree = ts; next = past }) ((stmts_law body list around next (record { tree = ts; next = past })).1 are) in
     omega (arith, counted)
