@@ -17,3 +17,5 @@ pub mod RowKinds
 pub mod Facts
 pub mod Data
 pub mod Tree
+pub mod SameRows
+pub mod Grammar
