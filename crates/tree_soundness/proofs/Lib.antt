@@ -19,3 +19,7 @@ pub mod Data
 pub mod Tree
 pub mod SameRows
 pub mod Grammar
+pub mod CellPers
+pub mod CellMeetings
+pub mod Cells
+pub mod Accepted
