@@ -1,0 +1,2 @@
+//! Laws alone: what is right is what the meaning needs.
+#![tactic(auto)]
