@@ -75,12 +75,15 @@ look_sim t tree run code claims b pc own byte again go next failed there place a
   where
     h : code_steps.Here
     h = here (spot_of t tree run b own) pc []
+
     placed : At → Doing Conf
     placed at = change (λ d. record d { place = Some at }) >> Asks Look (code_steps.looked h)
+
     answered : (a : Answer) (trapped : Bool) → IsTrue (fits_request (t.by trapped) Look a) → Sim t run (code_steps.looked h a) (source.looked again go a) next failed
     answered (answers.Go seen) trapped fits = sim_calm (change (λ d. record d { frames = with_seen seen d.frames })) Raises Raises (λ d. tt) (λ _. go_sim)
     answered (answers.Trap number trap) trapped fits = trapped_sim t tree run claims b pc trap again next failed (trap_takes tree t number trap trapped code fits) again_part
     answered answers.Flood trapped fits = sim_ends (fates.Fault TrapFlood)
     answered _ trapped fits = sim_misfit
+
     asks : Sim t run (placed (at_byte b.stands.routine byte)) (look b.stands byte again go) next failed
     asks = sim_calm (change (λ d. record d { place = place_of b.stands byte })) Raises Raises (λ d. tt) (λ _. sim_asked Look answered)

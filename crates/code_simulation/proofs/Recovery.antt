@@ -51,8 +51,10 @@ failed_by t tree run claims b pc s (Guarded list) part stands at error =
   where
     end : ℕ
     end = part.0 + stmts_size tree b.stands.routine list
+
     behind_it : Own → Flow → Doing Conf
     behind_it own = lands (part_body b own error) end
+
     list_at : (own : Own) → ListAt t tree (part_body b own error) part.0 end list
     list_at own = record {
       behind = put (own_end b.stands.routine end) ops.Again part.3.behind;
@@ -62,21 +64,26 @@ failed_by t tree run claims b pc s (Guarded list) part stands at error =
       room = part.3.room;
       past = refl;
     }
+
     itself : behind_part b.frame ≡ b.frame
     itself = ap (λ (f : Option Failed). let x : Running = record { routine = b.frame.routine; failed = f } in x) (sym part.2)
+
     again : (own : Own) → own ≡ own_of tree b.stands.routine pc s → Sim t run (behind_it own Retries) (goes_to (Attempt b.stands s)) (lands b (pc + stmt_size tree b.stands.routine s)) (leaving t b)
     again own e =
         sim_from (ap₂ (λ (frame : Running) (x : Own). Gives (conf x.retry [] frame b.saved)) itself e)
         (again_sim (begins b pc) (Attempt b.stands s) (lands b (pc + stmt_size tree b.stands.routine s)) (leaving t b) (claims.attempts b pc s stands at))
+
     past : (own : Own) → own ≡ own_of tree b.stands.routine pc s → Sim t run (behind_it own Skips) (Gives Normal) (lands b (pc + stmt_size tree b.stands.routine s)) (leaving t b)
     past own e =
         sim_from (ap₂ (λ (frame : Running) (x : Own). Gives (conf x.next [] frame b.saved)) itself e) (sim_gives Normal)
+
     ends : (own : Own) → own ≡ own_of tree b.stands.routine pc s → (flow : Flow) → Sim t run (behind_it own flow) (parted b.stands s error flow) (lands b (pc + stmt_size tree b.stands.routine s)) (leaving t b)
     ends own e Normal = fell_through t tree run b own end error (lands b (pc + stmt_size tree b.stands.routine s)) (past_stmts t.code tree b.stands.routine b.labels part.0 list (put (own_end b.stands.routine end) ops.Again part.3.behind) part.3.code).0
     ends own e (Jumps label) = sim_misfit
     ends own e (Returns v) = sim_gives (Returns v)
     ends own e Retries = again own e
     ends own e Skips = past own e
+
     in_it : (own : Own) → Sim t run (Gives (conf part.0 [] (in_part b.frame (own_of tree b.stands.routine pc s) error) b.saved))
         (Does (Rest (record b.stands { errors = InPart error }) list list) (parted b.stands s error) Raises) (lands b (pc + stmt_size tree b.stands.routine s)) (leaving t b)
     in_it _ =

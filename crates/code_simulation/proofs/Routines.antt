@@ -85,6 +85,7 @@ big_values args firsts others kept first count many there counts all big = by_ar
     whole =
         length-append args (take (many - count) (drop first kept))
         ∙ ap (λ (n : ℕ). length args + n) (length-take (many - count) (drop first kept) ∙ ap (λ (n : ℕ). min (many - count) n) (ap length there ∙ length-append firsts others))
+
     by_args : (20_000 < length args) ⊎ (length args ≤ 20_000) → 20_000 < length (args ++ take (many - count) (drop first kept))
     by_args (inl much) = omega (arith, whole)
     by_args (inr few) =
@@ -210,7 +211,6 @@ routine_called t tree run code claims number args saved value takes wants = by_r
     by_row (Some routine) e =
         let found = code.found number routine e in
         sim_from (enters_row t.code number args saved (routine_row found.entry found.first routine) found.row) (entered_sim t tree run code claims number routine found args saved value (wants routine e) (takes routine e) (cases_lt 65_535 (length routine.params + length (first_values routine))))
-
 
 pub called_sim : (t : Target) (tree : TypedTree) (run : Run) → IsCodeOf tree t → Claims t tree run → (routine : ℕ) (args : List Datum) (saved : List Saved) → Takes tree routine (length args)
     → Sim t run (enter t.code routine args saved) (called tree args (slice_get tree.routines routine)) (λ flow. back_to saved (value_of flow)) (raised_to t.code saved)
