@@ -16,6 +16,6 @@ mod texts;
 
 pub use action::quiet;
 pub use command::Action;
-pub use laws::verdict_is_one;
+pub use laws::{verdict_is_one, verdicts_refuse_input};
 pub use refused::{ModuleRule, Refused};
 pub use report::Report;

@@ -55,7 +55,7 @@ pub(crate) fn load_texts<S: Shelf>(alloc: Global, shelf: &mut S, modules: &[Ment
     ensures within { All IsWithin result.texts.items }
     ensures few { length result.texts.items ≤ length modules.now }
     ensures whole { result.failed ≡ None → length result.texts.items ≡ length modules.now }
-    ensures unread { IfSome result.failed (IsUnread (length result.texts.items + 1)) }
+    ensures unread { IfSome result.failed (λ refused. IsUnread (length result.texts.items + 1) refused × (length result.texts.items < length modules.now)) }
     // In the words of what was told before the script was read.
     ensures told { (told : Told) → S.told shelf.old ≡ Some (after_reads 1 told) → AreTexts (told_reads told) 1 (names_in_turn modules.now) (bytes_of result.texts.items) result.failed }
 {
