@@ -1,4 +1,4 @@
-ghost use Rattle.std.specs.Prelude.{◌≡◌, ◌+◌, IfOk, map, length, take};
+ghost use Rattle.std.specs.Prelude.{◌≡◌, ◌+◌, ◌≤◌, IfOk, map, length, take};
 ghost use Rattle.rapid_model.specs.CellData.{CellData};
 ghost use Rattle.typed_trees.specs.Views.{view_tree};
 ghost use Rattle.controller.specs.Accepted.{rule_refusal, names_in, typed_task, typed_tasks, modules_before, checked};

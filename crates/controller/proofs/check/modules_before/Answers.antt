@@ -18,7 +18,7 @@ loop-k-preserved c =
     let few = few_each c.as_slice-tasks.result.now c.loop-k.k c.index-tasks-k.result
     (subst (λ (ts : List ScriptTask). IsTrue (list_all is_task ts)) (sym same) c.steps-steps.ensures.limits.tasks) lt c.index-tasks-k.is in
     counting_more c.as_slice-tasks.result.now c.loop-k.k c.loop-k.before _ c.index-tasks-k.result lt c.index-tasks-k.is few c.loop-k.invariant
-    (ap (λ (n : ℕ). c.loop-k.before + n) (c.len.ensures ∙ ap (λ (t : ScriptTask). length t.modules) (sym c.index-tasks-k.is)))
+    (ap (λ (n : ℕ). c.loop-k.before + n) (c.len-before.ensures ∙ ap (λ (t : ScriptTask). length t.modules) (sym c.index-tasks-k.is)))
 
 pub returns-clause-is : goal.returns-clause-is
 returns-clause-is c =

@@ -2,6 +2,7 @@ use Rattle.std.proofs.Common.{ℕ, ◌≡◌, ◌≢◌, ◌<◌, ◌≤◌, ◌
 use Rattle.std.specs.Prelude.{Option}
 use Rattle.std.proofs.Math.Seq.{take-add}
 use Rattle.std.proofs.lemmas.List.{take-append-drop, take_all}
+use Rattle.std.proofs.lemmas.Result.{err_from_is_err_and}
 use Rattle.outside.specs.declared.call.Call.{Call}
 use Rattle.outside.proofs.Counting.{Rose-since}
 use Rattle.controller.specs.Sends.{Leaves, SendsLines, SendsSome}
@@ -72,16 +73,18 @@ calls_part xs i a b c lt f s = record {
 
 pub loop-at-preserved : goal.loop-at-preserved
 loop-at-preserved g c =
-    let fits : c.in-Ok.taken ≤ length c.args.piece.now - c.loop-at.at = let h = c.in-Ok.ensures.takes_at_most_all in omega (arith, h, length-rest c.args.piece.now c.loop-at.at) in
+    let fits : c.in_ok-at.field-0 ≤ length c.args.piece.now - c.loop-at.at = let h = c.in_ok-at.ensures.takes_at_most_all in omega (arith, h, length-rest c.args.piece.now c.loop-at.at) in
     record {
       within = let lt = c.loop-at-test.true in omega (arith, fits, lt);
-      bytes = one_more c.args.piece.now c.loop-at.at c.in-Ok.taken _ _ _ c.loop-at.invariant.bytes c.in-Ok.ensures.told_after;
-      calls = call_more c.args.piece.now c.loop-at.at c.in-Ok.taken _ _ _ c.in-Ok.ensures.takes_some fits c.loop-at.invariant.calls c.in-Ok.ensures.called;
-      faults = let h = c.in-Ok.ensures.faults_never_fall in omega (arith, h);
+      bytes = one_more c.args.piece.now c.loop-at.at c.in_ok-at.field-0 _ _ _ c.loop-at.invariant.bytes c.in_ok-at.ensures.told_after;
+      calls = call_more c.args.piece.now c.loop-at.at c.in_ok-at.field-0 _ _ _ c.in_ok-at.ensures.takes_some fits c.loop-at.invariant.calls c.in_ok-at.ensures.called;
+      faults = let h = c.in_ok-at.ensures.faults_never_fall in omega (arith, h);
     }
 
-pub returns-in-Err : goal.returns-in-Err
-returns-in-Err g c = record {
+pub returns-in_err-at : goal.returns-in_err-at
+returns-in_err-at g c =
+    let p = err_from_is_err_and c.from_residual.result c.from_residual.ensures.1 in
+    rw (p.1) (record {
   bytes = record {
     front = take c.loop-at.at c.args.piece.now;
     proper = record {
@@ -89,12 +92,12 @@ returns-in-Err g c = record {
       lacks = rest_some c.args.piece.now c.loop-at.at c.loop-at-test.true;
       whole = append-nil c.args.piece.now ∙ sym (take-append-drop c.loop-at.at c.args.piece.now);
     };
-    gained = none_more (take c.loop-at.at c.args.piece.now) _ _ _ c.loop-at.invariant.bytes c.in-Err.ensures.told_after;
+    gained = none_more (take c.loop-at.at c.args.piece.now) _ _ _ c.loop-at.invariant.bytes c.in_err-at.ensures.told_after;
   };
-  calls = calls_part c.args.piece.now c.loop-at.at _ _ _ c.loop-at-test.true c.loop-at.invariant.calls c.in-Err.ensures.called;
-  rose = Rose-since _ _ _ c.loop-at.invariant.faults c.in-Err.ensures.faults_never_fall c.in-Err.ensures.failed_only_where_faults_rose;
-  faults = let h = c.in-Err.ensures.faults_never_fall in omega (arith, h);
-}
+  calls = calls_part c.args.piece.now c.loop-at.at _ _ _ c.loop-at-test.true c.loop-at.invariant.calls c.in_err-at.ensures.called;
+  rose = Rose-since _ _ _ c.loop-at.invariant.faults c.in_err-at.ensures.faults_never_fall c.in_err-at.ensures.failed_only_where_faults_rose;
+  faults = let h = c.in_err-at.ensures.faults_never_fall in omega (arith, h);
+})
 
 pub returns : goal.returns
 returns g c = record {

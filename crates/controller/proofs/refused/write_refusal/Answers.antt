@@ -15,7 +15,7 @@ returns-in-Script g c =
 pub returns-in-Module : goal.returns-in-Module
 returns-in-Module g c =
     in_five _ _ _ _ _ _ _ _ (module_pieces c.args.name.now _ _ _ c.in-Module.file c.in-Module.place c.in-Module.rule c.args.refused.now c.in-Module.is c.as_bytes-name.ensures.value
-    (c.as_bytes-at.ensures.value ∙ c.as_str.ensures.value ∙ c.push_place.ensures) c.module_rule.ensures)
+    (c.as_bytes-at.ensures.value ∙ c.as_str.ensures.value ∙ c.push_place.ensures) c.name-in-Module.ensures)
     c.write_rule-in-Module.ensures
 
 pub returns-in-Read : goal.returns-in-Read
