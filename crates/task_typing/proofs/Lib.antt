@@ -27,3 +27,4 @@ pub mod Events
 pub mod Own
 pub mod Until
 mod Examples
+mod Needed

@@ -40,13 +40,13 @@ same_sort t pers p is =
 
 tree_fits : (t : Task) (mine : List Event) (d : Data) (request : Request) (a : Answer) → IsAsked (setting_of t) d request → is_trapped mine ≡ d.trapped → AreTraps t.tree mine
     → IsTrue (fits_request (fitting_in t.cell mine) request a) → IsTrue (fits_request (fitting_of t.tree d.trapped) request a)
-tree_fits t mine d requests.Look (answers.Trap number trap) asked trapped traps fits =
+tree_fits t mine d requests.Look (answers.Trap number trap) may trapped traps fits =
     let both = and_parts (has_connected mine trap) (not (is_trapped mine)) fits in
     and_from (is_trap_row (slice_get t.tree.routines trap)) (not d.trapped) (traps trap both.0) (ap not (sym trapped) ∙ both.1)
-tree_fits t mine d requests.Look a asked trapped traps fits = fits
-tree_fits t mine d (requests.ReadP pers path) (answers.Val v) asked trapped traps fits = subst (λ (o : Option Sort). IsTrue (fits_pers o path.part v)) (same_sort t pers asked.0 asked.1) fits
-tree_fits t mine d (requests.ReadP pers path) a asked trapped traps fits = fits
-tree_fits t mine d request a asked trapped traps fits = fits
+tree_fits t mine d requests.Look a may trapped traps fits = fits
+tree_fits t mine d (requests.ReadP pers path) (answers.Val v) may trapped traps fits = subst (λ (o : Option Sort). IsTrue (fits_pers o path.part v)) (same_sort t pers may.0 may.1) fits
+tree_fits t mine d (requests.ReadP pers path) a may trapped traps fits = fits
+tree_fits t mine d request a may trapped traps fits = fits
 
 told_fits : (t : Task) (before : List Answer) (mine : List Event) (tells : Tells t.tree before mine) (a : Answer) → IsTrue (fits_request (fitting_in t.cell mine) tells.request a)
     → IsTrue (fits_request (fitting_of t.tree tells.standing.trapped) tells.request a)
