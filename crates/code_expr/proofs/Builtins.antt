@@ -1,0 +1,122 @@
+-- Calls of predefined functions, by the forms of their arguments.
+use Rattle.std.proofs.Common.{◌≡◌, ℕ, ◌+◌, ◌≤◌, List, [], ◌∷◌, length, get_or, map, refl, sym, ap, ◌∙◌, arith}
+use Rattle.std.specs.Option.{unwrap_or}
+use Rattle.rapid_model.specs.declared.function.Function.{Function}
+use Rattle.rapid_model.specs.declared.function.Function.TheVariants as functions
+use Rattle.rapid_meaning.specs.Layouts.{length_at}
+use Rattle.stack_code.specs.ExprLayouts.{args_code, builtin_code, put, signal_code}
+use Rattle.stack_code.specs.Needs.{args_need, builtin_need, expr_need, place_need, signal_need}
+use Rattle.stack_code.specs.Pieces.{push}
+use Rattle.stack_code.specs.Placed.{Own, Placed}
+use Rattle.stack_code.specs.Sizes.{args_size, builtin_size, signal_size}
+use Rattle.stack_code.specs.declared.op.Op.TheVariants as ops
+use Rattle.typed_trees.specs.Plain as trees
+use Rattle.typed_trees.specs.Plain.{TypedArg, TypedArgs, TypedExpr, TypedPlace, TypedRoutine, TypedTree, Given, Lent, OfSignal, OfMeeting, Itself, Optional, PlaceOf, NotHeld, Held, MoreArgs, NoArgs, args_of}
+use Rattle.typed_trees.specs.Views.{view_arg}
+use Rattle.typed_trees.specs.declared.expr.Arg.{Arg}
+use Rattle.code_expr.specs.BuiltinForms.{form_of}
+use Rattle.code_expr.specs.declared.builtin_form.BuiltinForm.{BuiltinForm}
+use Rattle.code_expr.specs.declared.builtin_form.BuiltinForm.TheVariants.{Nothing, Values, Signal, Place, Array, Other}
+
+-- two arguments
+pub two_args : (list : List Arg) (a b : Arg) → length list ≡ 2 → a ≡ get_or list 0 a → b ≡ get_or list 1 b → args_of (map view_arg list) ≡ MoreArgs (view_arg a) (MoreArgs (view_arg b) NoArgs)
+two_args [] a b count first second = absurd (omega (arith, count))
+two_args (x ∷ []) a b count first second = absurd (omega (arith, count))
+two_args (x ∷ y ∷ []) a b count first second = ap (λ z. MoreArgs (view_arg z) (MoreArgs (view_arg y) NoArgs)) (sym first) ∙ ap (λ z. MoreArgs (view_arg a) (MoreArgs (view_arg z) NoArgs)) (sym second)
+two_args (x ∷ y ∷ z ∷ list) a b count first second = absurd (omega (arith, count))
+
+-- three or more
+many_form : (a b c : TypedArg) (more : TypedArgs) → form_of (MoreArgs a (MoreArgs b (MoreArgs c more))) ≡ Other
+many_form (Given e) (Given f) c more = refl
+many_form (Given e) b c more = refl
+many_form (Lent (PlaceOf root index part sort)) b c more = refl
+many_form a b c more = refl
+
+pub many_args : (list : List Arg) → 3 ≤ length list → form_of (args_of (map view_arg list)) ≡ Other
+many_args [] count = absurd (omega (arith, count))
+many_args (x ∷ []) count = absurd (omega (arith, count))
+many_args (x ∷ y ∷ []) count = absurd (omega (arith, count))
+many_args (x ∷ y ∷ z ∷ list) count = many_form (view_arg x) (view_arg y) (view_arg z) (args_of (map view_arg list))
+
+-- how many operations a call has whose arguments have so many
+abbrev pub size_in : Function → BuiltinForm → ℕ → ℕ
+size_in function Nothing size = 1
+size_in function Values size = size + 1
+size_in function (Signal signal) size = signal_size function
+size_in function Place size = size + 1
+size_in function (Array root) size = 1
+size_in function Other size = 0
+
+pub size_by_form : (function : Function) (args : TypedArgs) → builtin_size function args ≡ size_in function (form_of args) (args_size args)
+size_by_form function NoArgs = refl
+size_by_form function (MoreArgs (Given e) NoArgs) = omega arith
+size_by_form function (MoreArgs (Given e) (MoreArgs (Given f) NoArgs)) = omega arith
+size_by_form function (MoreArgs (OfSignal signal) NoArgs) = refl
+size_by_form function (MoreArgs (Lent p) NoArgs) = omega arith
+size_by_form function (MoreArgs (Lent (PlaceOf root index part sort)) (MoreArgs one NoArgs)) = refl
+size_by_form function other = refl
+
+-- its code, before what follows it
+abbrev pub code_in : TypedTree → TypedRoutine → Own → Function → BuiltinForm → (List Placed → List Placed) → List Placed → List Placed
+code_in tree routine own function Nothing args ps = put own ops.Here ps
+code_in tree routine own function Values args ps = args (put own (ops.Func function) ps)
+code_in tree routine own function (Signal signal) args ps = signal_code own function signal ps
+code_in tree routine own function Place args ps = args (put own ops.TestSet ps)
+code_in tree routine own function (Array root) args ps = put own (push (unwrap_or (length_at tree routine root) 0)) ps
+code_in tree routine own function Other args ps = ps
+
+pub code_by_form : (tree : TypedTree) (routine : TypedRoutine) (own : Own) (pc : ℕ) (function : Function) (args : TypedArgs) (ps : List Placed) →
+    builtin_code tree routine own pc function args ps ≡ code_in tree routine own function (form_of args) (args_code tree routine own pc args) ps
+code_by_form tree routine own pc function NoArgs ps = refl
+code_by_form tree routine own pc function (MoreArgs (Given e) NoArgs) ps = refl
+code_by_form tree routine own pc function (MoreArgs (Given e) (MoreArgs (Given f) NoArgs)) ps = refl
+code_by_form tree routine own pc function (MoreArgs (OfSignal signal) NoArgs) ps = refl
+code_by_form tree routine own pc function (MoreArgs (Lent p) NoArgs) ps = refl
+code_by_form tree routine own pc function (MoreArgs (Lent (PlaceOf root index part sort)) (MoreArgs one NoArgs)) ps = refl
+code_by_form tree routine own pc function other ps = refl
+
+-- a value and a place lie on the stack at last
+place_on_stack : (p : TypedPlace) → 1 ≤ place_need p
+place_on_stack (PlaceOf root NotHeld part sort) = omega arith
+place_on_stack (PlaceOf root (Held e) part sort) = omega arith
+
+signal_on_stack : (function : Function) → 1 ≤ signal_need function
+signal_on_stack functions.TestDI = omega arith
+signal_on_stack function = omega arith
+
+mutual
+  value_on_stack : (e : TypedExpr) → 1 ≤ expr_need e
+  value_on_stack (trees.Known at sort v) = omega arith
+  value_on_stack (trees.ErrorNumber at sort) = omega arith
+  value_on_stack (trees.SignalValue at sort signal) = omega arith
+  value_on_stack (trees.Stored at sort p) = place_on_stack p
+  value_on_stack (trees.Group at sort e) = value_on_stack e
+  value_on_stack (trees.Aggregate at sort es) = omega arith
+  value_on_stack (trees.Builtin at sort function args) = result_on_stack function args
+  value_on_stack (trees.Invoke at sort called args) = omega arith
+  value_on_stack (trees.Not at sort e) = value_on_stack e
+  value_on_stack (trees.Signed at sort minus e) = value_on_stack e
+  value_on_stack (trees.Chain at sort e steps) = omega (arith, value_on_stack e)
+
+  result_on_stack : (function : Function) (args : TypedArgs) → 1 ≤ builtin_need function args
+  result_on_stack function (MoreArgs (Given e) NoArgs) = value_on_stack e
+  result_on_stack function (MoreArgs (Given e) (MoreArgs (Given f) NoArgs)) = omega (arith, value_on_stack e)
+  result_on_stack function (MoreArgs (OfSignal signal) NoArgs) = signal_on_stack function
+  result_on_stack function (MoreArgs (Lent p) NoArgs) = place_on_stack p
+  result_on_stack function other = omega arith
+
+-- how many operands a call needs whose arguments need so many
+abbrev pub need_in : Function → BuiltinForm → ℕ → ℕ
+need_in function Values need = need
+need_in function (Signal signal) need = signal_need function
+need_in function Place need = need
+need_in function form need = 1
+
+pub need_by_form : (function : Function) (args : TypedArgs) → builtin_need function args ≡ need_in function (form_of args) (args_need args)
+need_by_form function NoArgs = refl
+need_by_form function (MoreArgs (Given e) NoArgs) = omega (arith, value_on_stack e)
+need_by_form function (MoreArgs (Given e) (MoreArgs (Given f) NoArgs)) = omega (arith, value_on_stack f)
+need_by_form function (MoreArgs (OfSignal signal) NoArgs) = refl
+need_by_form function (MoreArgs (Lent p) NoArgs) = omega (arith, place_on_stack p)
+need_by_form function (MoreArgs (Lent (PlaceOf root index part sort)) (MoreArgs one NoArgs)) = refl
+need_by_form function other = refl

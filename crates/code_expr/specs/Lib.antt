@@ -1,0 +1,5 @@
+pub mod Adds
+pub mod BuiltinForms
+pub mod Contexts
+pub mod Follows
+pub mod Starts

@@ -1,0 +1,110 @@
+//! Operations of the smallest parts of expressions.
+
+ghost use Rattle.std.specs.Prelude.{◌≡◌, ◌*◌, pos, OnOk};
+ghost use Rattle.rapid_model.specs.declared.sort.Sort.{Sort};
+ghost use Rattle.stack_code.specs.ExprLayouts.{part_code, put, sign_code, signal_code};
+ghost use Rattle.stack_code.specs.Pieces;
+ghost use Rattle.stack_code.specs.Placed.{Own};
+ghost use Rattle.stack_code.specs.Sizes.{part_size, sign_size, signal_size};
+ghost use Rattle.stack_code.specs.declared.op.Op.TheVariants as ops;
+ghost use Rattle.code_expr.specs.Adds.{Adds, AddsPlace};
+
+use crate::block::Block;
+use crate::context::Context;
+use rapid_model::{Function, PartName};
+use rapid_num::Num;
+use raw_trees::Operator;
+use stack_code::{Op, Pushed, UnaryOp};
+use std::alloc::AllocError;
+use typed_trees::TreeRoot;
+
+/// A count as a num.
+fn whole(count: u16) -> Num
+    ensures { result ≡ pos (count * 1_000) }
+{
+    match Num::new(i64::from(count) * 1_000) {
+        Some(number) => number,
+        None => unreachable!(),
+    }
+}
+
+/// Pushes so many, as a num.
+pub fn push(count: u16) -> Op
+    ensures { result ≡ Pieces.push count }
+{
+    Op::Push(Pushed::number(whole(count)))
+}
+
+/// Pushes -1.
+pub fn push_down() -> Op
+    ensures { result ≡ Pieces.push_down }
+{
+    match Num::new(-1_000) {
+        Some(number) => Op::Push(Pushed::number(number)),
+        None => unreachable!(),
+    }
+}
+
+/// Narrows a place to a part; the whole needs no operation. Its error says that memory was refused.
+pub(crate) fn add_part(part: PartName, code: &mut Block) -> Result<(), AllocError>
+    ensures { OnOk result ((own : Own) → Adds own code.old code.new (part_size part) (λ pc ps. part_code own part ps)) }
+{
+    match part {
+        PartName::Whole => Ok(()),
+        _ => code.put(Op::Part(part)),
+    }
+}
+
+/// A leading sign: a plus needs no operation. Its error says that memory was refused.
+pub(crate) fn add_sign(minus: bool, code: &mut Block) -> Result<(), AllocError>
+    ensures { OnOk result ((own : Own) → Adds own code.old code.new (sign_size minus) (λ pc ps. sign_code own minus ps)) }
+{
+    if minus {
+        code.put(Op::Unary(UnaryOp::Minus))
+    } else {
+        Ok(())
+    }
+}
+
+/// A predefined function of a signal. Its error says that memory was refused.
+pub(crate) fn add_signal(
+    function: Function,
+    signal: u32,
+    code: &mut Block,
+) -> Result<(), AllocError>
+    ensures { OnOk result ((own : Own) → Adds own code.old code.new (signal_size function) (λ pc ps. signal_code own function signal ps)) }
+{
+    code.put(Op::GetSignal(signal))?;
+    match function {
+        Function::TestDI => {
+            code.put(push(1))?;
+            code.put(Op::Binary(Operator::Equal))
+        }
+        _ => Ok(()),
+    }
+}
+
+/// An element of an array, by its number from 1. Its error says that memory was refused.
+pub fn add_element(
+    context: &Context<'_>,
+    root: TreeRoot,
+    part: PartName,
+    number: u16,
+    code: &mut Block,
+) -> Result<(), AllocError>
+    ensures { OnOk result ((own : Own) (sort : Sort) → AddsPlace own context.now code.old code.new (Pieces.element root part sort number)) }
+{
+    code.put(context.root_op(root))?;
+    code.put(push(number))?;
+    code.put(context.index_op(root))?;
+    add_part(part, code)
+}
+
+/// A copy of the left operand, a jump by it, and without the jump it is dropped. Its error says that memory was refused.
+pub(crate) fn add_skip(jump: Op, code: &mut Block) -> Result<(), AllocError>
+    ensures { OnOk result ((own : Own) → Adds own code.old code.new 3 (λ pc ps. put own ops.Dup (put own jump (put own ops.Drop ps)))) }
+{
+    code.put(Op::Dup)?;
+    code.put(jump)?;
+    code.put(Op::Drop)
+}

@@ -1,0 +1,151 @@
+//! How many operations expressions have. Each error says that they are 2^32 or more.
+
+ghost use Rattle.std.specs.Prelude.{◌≡◌, ℕ, ◌≤◌, IfOk, map};
+ghost use Rattle.rapid_model.specs.declared.sort.Sort.{Sort};
+ghost use Rattle.typed_trees.specs.declared.expr.TreeRoot.{TreeRoot};
+ghost use Rattle.stack_code.specs.Pieces;
+ghost use Rattle.typed_trees.specs.Plain.{MoreArgs, NoArgs, args_of, exprs_of, steps_of};
+ghost use Rattle.typed_trees.specs.Views.{view_arg, view_expr, view_place, view_step};
+ghost use Rattle.stack_code.specs.Sizes;
+
+use crate::builtin_form::{BuiltinForm, form_of};
+use crate::numbers::sum;
+use rapid_model::{Function, PartName};
+use raw_trees::Operator;
+use std::alloc::AllocError;
+use typed_trees::{Arg, Expr, ExprForm, TreePlace};
+
+/// How many operations an expression has.
+#[cycle(sizes)]
+pub fn expr_size(expr: &Expr) -> Result<u32, AllocError>
+    ensures { IfOk result (λ size. size ≡ Sizes.expr_size (view_expr expr.now)) }
+{
+    match &expr.form {
+        ExprForm::Number(_) | ExprForm::Const(_) | ExprForm::Errno | ExprForm::Signal(_) => Ok(1),
+        ExprForm::Place(place) => sum(place_size(place)?, 1),
+        ExprForm::Group(inner) => expr_size(inner),
+        ExprForm::Aggregate(values) => sum(exprs_size(values)?, 1),
+        ExprForm::Builtin { function, args } => builtin_size(*function, args),
+        ExprForm::Call { args, .. } => sum(args_size(args)?, 1),
+        ExprForm::Not(operand) => sum(expr_size(operand)?, 1),
+        ExprForm::Signed { minus, operand } => sum(expr_size(operand)?, sign_size(*minus)),
+        ExprForm::Chain { first, rest } => sum(expr_size(first)?, steps_size(rest)?),
+    }
+}
+
+/// How many operations the expressions of a list have.
+#[cycle(sizes)]
+fn exprs_size(exprs: &Vec<Expr>) -> Result<u32, AllocError>
+    ensures { IfOk result (λ size. size ≡ Sizes.exprs_size (exprs_of (map view_expr exprs.now.items))) }
+{
+    let mut size = 0;
+    for expr in exprs {
+        size = sum(size, expr_size(expr)?)?;
+    }
+    Ok(size)
+}
+
+/// How many operations operators have with their right operands.
+#[cycle(sizes)]
+fn steps_size(steps: &Vec<(Operator, Expr)>) -> Result<u32, AllocError>
+    ensures { IfOk result (λ size. size ≡ Sizes.steps_size (steps_of (map view_step steps.now.items))) }
+{
+    let mut size = 0;
+    for (operator, operand) in steps {
+        size = sum(size, sum(operator_size(*operator), expr_size(operand)?)?)?;
+    }
+    Ok(size)
+}
+
+/// How many operations a place has.
+#[cycle(sizes)]
+pub fn place_size(place: &TreePlace) -> Result<u32, AllocError>
+    ensures { IfOk result (λ size. size ≡ Sizes.place_size (view_place place.now)) }
+{
+    match &place.index {
+        None => Ok(1 + part_size(place.part)),
+        Some(index) => sum(expr_size(index)?, 2 + part_size(place.part)),
+    }
+}
+
+/// How many operations the arguments of a call have.
+#[cycle(sizes)]
+pub fn args_size(args: &Vec<Arg>) -> Result<u32, AllocError>
+    ensures { IfOk result (λ size. size ≡ Sizes.args_size (args_of (map view_arg args.now.items))) }
+{
+    let mut size = 0;
+    for arg in args {
+        size = sum(size, arg_size(arg)?)?;
+    }
+    Ok(size)
+}
+
+/// How many operations an argument has.
+#[cycle(sizes)]
+fn arg_size(arg: &Arg) -> Result<u32, AllocError>
+    ensures { IfOk result (λ size. size ≡ Sizes.args_size (MoreArgs (view_arg arg.now) NoArgs)) }
+{
+    match arg {
+        Arg::Value(value) => expr_size(value),
+        Arg::Place(place) => place_size(place),
+        _ => Ok(0),
+    }
+}
+
+/// How many operations the call of a predefined function has.
+#[cycle(sizes)]
+fn builtin_size(function: Function, args: &Vec<Arg>) -> Result<u32, AllocError>
+    ensures { IfOk result (λ size. size ≡ Sizes.builtin_size function (args_of (map view_arg args.now.items))) }
+{
+    match form_of(args) {
+        BuiltinForm::Nothing | BuiltinForm::Array(_) => Ok(1),
+        BuiltinForm::Values | BuiltinForm::Place => sum(args_size(args)?, 1),
+        BuiltinForm::Signal(_) => Ok(signal_size(function)),
+        BuiltinForm::Other => Ok(0),
+    }
+}
+
+/// How many operations an element of an array has, its index being a number.
+pub fn element_size(part: PartName) -> u32
+    ensures { (root : TreeRoot) (sort : Sort) (number : ℕ) → result ≡ Sizes.place_size (Pieces.element root part sort number) }
+{
+    3 + part_size(part)
+}
+
+/// How many operations the part of a place has: none where it is the whole.
+fn part_size(part: PartName) -> u32
+    ensures value { result ≡ Sizes.part_size part }
+    ensures small { result ≤ 1 }
+{
+    match part {
+        PartName::Whole => 0,
+        _ => 1,
+    }
+}
+
+/// How many operations an operator has besides its right operand.
+pub(crate) fn operator_size(operator: Operator) -> u32
+    ensures { result ≡ Sizes.operator_size operator }
+{
+    match operator {
+        Operator::And | Operator::Or => 3,
+        _ => 1,
+    }
+}
+
+/// How many operations a leading sign has.
+fn sign_size(minus: bool) -> u32
+    ensures { result ≡ Sizes.sign_size minus }
+{
+    if minus { 1 } else { 0 }
+}
+
+/// How many operations a predefined function of a signal has.
+fn signal_size(function: Function) -> u32
+    ensures { result ≡ Sizes.signal_size function }
+{
+    match function {
+        Function::TestDI => 3,
+        _ => 1,
+    }
+}
