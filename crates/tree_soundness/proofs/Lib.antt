@@ -23,3 +23,6 @@ pub mod CellPers
 pub mod CellMeetings
 pub mod Cells
 pub mod Accepted
+pub mod LabelNumbers
+pub mod Ascending
+pub mod TextLabels
