@@ -23,6 +23,7 @@ use Rattle.named_data.specs.Data.{NamedPart, whole_of}
 use Rattle.named_data.specs.Rules.{Site}
 use Rattle.named_data.specs.Wants.{same_sort}
 use Rattle.expr_types.specs.Arguments.{has_direction, is_held, is_one, lends, one_dimension, takes}
+use Rattle.cell_assembly.proofs.SoundInfo.{same_sort_is}
 use Rattle.typing_rules.specs.Calls.{Indexes, IsArgument, IsLent, IsMeeting, IsPersName, IsPlaceArg, IsReference, IsSignal, IsValueArg, IsWhole, Stands, Values}
 use Rattle.typing_rules.specs.Names as rules
 use Rattle.task_typing.specs.Expressions.{IsArg, IsArray, IsExpr, IsPlace, is_zone}
@@ -30,7 +31,6 @@ use Rattle.task_typing.specs.Kinds.{Kind}
 use Rattle.task_typing.specs.Setting.{Setting}
 use Rattle.tree_soundness.proofs.Named.{Right, Suits}
 use Rattle.tree_soundness.proofs.Places.{Holds, IsHeld, array_typed, part_typed, place_typed}
-use Rattle.tree_soundness.proofs.Sorts.{sorts_same}
 
 -- whether a place has an index
 abbrev pub is_indexed : PlainExpr → Bool
@@ -150,19 +150,19 @@ module _ (c : Setting) (kinds : List Kind) (s : Site) (suits : Suits c kinds s) 
       → IsArgument s need e IsValue IsIndexed arg → IsArg c kinds arg need
   argument_right (needs.Value sort) e IsValue IsIndexed arg value index h = value_right IsValue sort arg value h
   argument_right (needs.Signal output) e IsValue IsIndexed arg value index h = signal_right output e arg h
-  argument_right (needs.Var sort) e IsValue IsIndexed arg value index h = lent_right (needs.Var sort) sort e IsIndexed arg index (λ own. sorts_same own sort) (λ place typed. typed) h
-  argument_right (needs.Pers sort) e IsValue IsIndexed arg value index h = lent_right (needs.Pers sort) sort e IsIndexed arg index (λ own. sorts_same own sort) (λ place typed. typed) h
-  argument_right (needs.VarOrPers sort) e IsValue IsIndexed arg value index h = lent_right (needs.VarOrPers sort) sort e IsIndexed arg index (λ own. sorts_same own sort) (λ place typed. typed) h
-  argument_right (needs.Written sort) e IsValue IsIndexed arg value index h = lent_right (needs.Written sort) sort e IsIndexed arg index (λ own. sorts_same own sort) (λ place typed. typed) h
+  argument_right (needs.Var sort) e IsValue IsIndexed arg value index h = lent_right (needs.Var sort) sort e IsIndexed arg index (λ own. same_sort_is own sort) (λ place typed. typed) h
+  argument_right (needs.Pers sort) e IsValue IsIndexed arg value index h = lent_right (needs.Pers sort) sort e IsIndexed arg index (λ own. same_sort_is own sort) (λ place typed. typed) h
+  argument_right (needs.VarOrPers sort) e IsValue IsIndexed arg value index h = lent_right (needs.VarOrPers sort) sort e IsIndexed arg index (λ own. same_sort_is own sort) (λ place typed. typed) h
+  argument_right (needs.Written sort) e IsValue IsIndexed arg value index h = lent_right (needs.Written sort) sort e IsIndexed arg index (λ own. same_sort_is own sort) (λ place typed. typed) h
   argument_right needs.WorldZone e IsValue IsIndexed arg value index h = zone_right e IsIndexed arg index h
   argument_right (needs.Place sort) e IsValue IsIndexed arg value index h =
       place_right (λ x. IsArg c kinds x (needs.Place sort)) (λ access p. same_sort p.sort sort) e IsIndexed arg index
-      (λ place access p fits typed. subst (IsPlace c kinds place) (sorts_same p.sort sort fits) typed) h
+      (λ place access p fits typed. subst (IsPlace c kinds place) (same_sort_is p.sort sort fits) typed) h
   argument_right needs.Array e IsValue IsIndexed arg value index h =
       whole_right (λ x. IsArg c kinds x needs.Array) has_values e IsIndexed arg index (λ place sort valued typed. (sort, valued, typed)) h
   argument_right needs.TaskList e IsValue IsIndexed arg value index h =
       whole_right (λ x. IsArg c kinds x needs.TaskList) (same_sort sorts.Tasks) e IsIndexed arg index
-      (λ place sort fits typed. subst (IsArray c kinds place) (sym (sorts_same sorts.Tasks sort fits)) typed) h
+      (λ place sort fits typed. subst (IsArray c kinds place) (sym (same_sort_is sorts.Tasks sort fits)) typed) h
   argument_right needs.One e IsValue IsIndexed arg value index h = one_right e IsValue arg value h
   argument_right needs.Fine e IsValue IsIndexed arg value index (bare, is) = subst (λ (x : TypedArg). IsArg c kinds x needs.Fine) (sym is) refl
   argument_right needs.Tool e IsValue IsIndexed arg value index (bare, is) = subst (λ (x : TypedArg). IsArg c kinds x needs.Tool) (sym is) refl

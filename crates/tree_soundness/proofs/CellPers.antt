@@ -1,27 +1,21 @@
 -- The numbers of persistents that a cell gives its trees: each is that of a persistent of the row's type and length.
-use Rattle.std.proofs.Common.{◌≡◌, ℕ, zero, suc, ◌+◌, Bool, true, false, not, ◌&&◌, ◌==◌, nat_le, List, [], ◌∷◌, ◌++◌, length, set, Option, Some, None, slice_get, Ok, refl, sym, ap, subst, ◌∙◌, if◌then◌else◌, append_assoc}
-use Rattle.std.proofs.lemmas.Bool.{and_parts, eqb-true}
+use Rattle.std.proofs.Common.{◌≡◌, ℕ, zero, suc, ◌+◌, Bool, true, false, not, ◌&&◌, nat_le, List, [], ◌∷◌, ◌++◌, length, set, Option, Some, None, slice_get, Ok, refl, sym, ap, subst, ◌∙◌, if◌then◌else◌, append_assoc}
+use Rattle.std.proofs.lemmas.Bool.{and_parts}
 use Rattle.std.proofs.lemmas.List.{append-nil}
 use Rattle.std.proofs.lemmas.Option.{slice_get_within}
 use Rattle.rapid_model.specs.Sorts.{width}
 use Rattle.rapid_model.specs.declared.pers_value.PersValue.{PersValue}
 use Rattle.rapid_model.specs.declared.script_rule.ScriptRule.TheVariants.{Kind, Range, Twice}
-use Rattle.rapid_model.specs.declared.sort.Sort.{Sort}
 use Rattle.typed_trees.specs.Plain.{TypedPers, TypedTree}
 use Rattle.rule_checks.specs.Checks.{must}
 use Rattle.rule_checks.proofs.Steps.{behind, ok_same}
 use Rattle.data_scopes.proofs.Keeping.{set_same}
 use Rattle.named_data.specs.Wants.{same_sort}
 use Rattle.cell_assembly.specs.Cells.{Making, Numbered, PersInfo, PersTables, added, all_pers, at_value, element, fits_index, global_number, global_pers, has_sort, is_told, join, joined, new_pers, one_pers, same_len, tell, tell_all, tell_global, tell_to, trees_pers, with_declared, with_list, with_told}
+use Rattle.cell_assembly.proofs.SoundInfo.{same_len_is, same_sort_is}
 use Rattle.name_laws.specs.Declared.{AreEach}
 use Rattle.name_laws.proofs.Items.{get_last}
 use Rattle.tree_soundness.proofs.Lists.{front_append}
-use Rattle.tree_soundness.proofs.Sorts.{sorts_same}
-
-lens_same : (a b : Option ℕ) → same_len a b ≡ true → a ≡ b
-lens_same None None e = refl
-lens_same (Some m) (Some n) e = ap Some (eqb-true m n e)
-lens_same _ _ e = cc
 
 -- a persistent keeps its type and its length
 pub record IsKept (qs : List PersInfo) (k : ℕ) (p : PersInfo) : Type 0 where
@@ -105,7 +99,7 @@ join_step n task row number None m there e = subst (Stepped n row) (ok_same (add
 join_step n task row number (Some p) m there e =
     let both = held (same_sort p.sort row.sort && same_len p.len row.len) (joined n number (with_declared p row)) m _ e (λ z err. cc) in
     let parts = and_parts (same_sort p.sort row.sort) (same_len p.len row.len) both.0 in
-    subst (Stepped n row) both.1 (joined_step n number p row there (sorts_same p.sort row.sort parts.0) (lens_same p.len row.len parts.1))
+    subst (Stepped n row) both.1 (joined_step n number p row there (same_sort_is p.sort row.sort parts.0) (same_len_is p.len row.len parts.1))
 
 global_step : (n : Numbered) (task : ℕ) (row : TypedPers) (number : Option ℕ) (m : Numbered) → global_pers n task row number ≡ Ok m → Stepped n row m
 global_step n task row None m e = subst (Stepped n row) (ok_same (added n (new_pers None row)) m e) (added_step n (new_pers None row) row refl refl)

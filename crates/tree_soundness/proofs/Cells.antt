@@ -1,8 +1,8 @@
 -- The trees of a made cell have the cell's numbers.
 use Rattle.std.proofs.Common.{◌≡◌, ℕ, zero, suc, ◌<◌, Bool, List, [], ◌∷◌, length, map, Some, slice_get, Ok, refl, sym, ap, subst, ◌∙◌, arith}
 use Rattle.std.specs.Option.{option_map}
-use Rattle.std.proofs.lemmas.List.{length-map}
 use Rattle.std.proofs.lemmas.Option.{slice_get_within, slice_get-map}
+use Rattle.rapid_model.specs.CellData.{CellData}
 use Rattle.rapid_model.specs.ScriptData.{ScriptData, row_of}
 use Rattle.rapid_model.specs.declared.script_task.ScriptTask.{ScriptTask}
 use Rattle.rapid_model.specs.declared.task_row.TaskRow.{TaskRow}
@@ -12,7 +12,7 @@ use Rattle.cell_assembly.specs.Cells.{MeetingTables, PersInfo, cell_tables, tabl
 use Rattle.cell_assembly.specs.Made.{MadeCell, cell_of, make_cell, numbered, pers_cell, with_numbers}
 use Rattle.name_laws.specs.Declared.{AreEach}
 use Rattle.name_laws.proofs.Tree.{each_length}
-use Rattle.task_typing.specs.Numbered.{Numbered}
+use Rattle.task_typing.specs.Numbered.{IsOne, Numbered}
 use Rattle.task_typing.specs.WellTyped.{WellTyped}
 use Rattle.task_typing.proofs.Rows.{all_at}
 use Rattle.tree_soundness.proofs.CellMeetings.{MeetingsOf, meetings_numbered}
@@ -71,6 +71,15 @@ names_same : (tasks : List ScriptTask) → map (λ (row : TaskRow). row.name) (m
 names_same [] = refl
 names_same (task ∷ tasks) = ap (λ l. task.name ∷ l) (names_same tasks)
 
+-- a persistent by its number in the cell
+one_right : (cell : CellData) (ps : List PersInfo) (row : TypedPers) (number : ℕ) → cell.pers ≡ map pers_cell ps → IsOf ps row number → IsOne cell row number
+one_right cell ps row number are h = record {
+  cell_row = pers_cell h.p;
+  there = ap (λ l. slice_get l number) are ∙ slice_get-map pers_cell ps number ∙ ap (option_map pers_cell) h.is;
+  same_sort = h.same_sort;
+  same_len = h.same_length;
+}
+
 module _ (script : ScriptData) (trees : List TypedTree) (made : MadeCell) (made_is : make_cell script trees ≡ Ok made) where
   abbrev all : IsMade script trees made
   all = is_made script trees made made_is
@@ -102,13 +111,7 @@ module _ (script : ScriptData) (trees : List TypedTree) (made : MadeCell) (made_
         pers = λ row number pers is so.
             let found = partner (IsOf all.pers) t.before.pers t.pers_of row pers each so in
             let same : found.y ≡ number = let e : Some found.y ≡ Some number = sym found.is ∙ is in cc in
-            let of : IsOf all.pers pers number = subst (IsOf all.pers pers) same found.such in
-            record {
-              cell_row = pers_cell of.p;
-              there = slice_get-map pers_cell all.pers number ∙ ap (option_map pers_cell) of.is;
-              same_sort = of.same_sort;
-              same_len = of.same_length;
-            };
+            one_right _ all.pers pers number refl (subst (IsOf all.pers pers) same found.such);
         as_many_meetings = meet.as_many;
         meetings = λ row number is. all_at (λ (n : ℕ). n < length met.names) t.meeting_of row number meet.below is;
       }))
@@ -124,6 +127,13 @@ module _ (script : ScriptData) (trees : List TypedTree) (made : MadeCell) (made_
   pub made_named : (k : ℕ) (tree : TypedTree) (names : List (List ℕ)) → slice_get made.trees k ≡ Some tree → ((before : TypedTree) → slice_get trees k ≡ Some before → before.tasks ≡ names) → tree.tasks ≡ names
   made_named k tree names is named =
       let t = tree_made k tree is in ap (λ (x : TypedTree). x.tasks) t.is ∙ named t.before t.is_tree
+
+  -- and its routines
+  pub made_routines : (k : ℕ) (before tree : TypedTree) → slice_get trees k ≡ Some before → slice_get made.trees k ≡ Some tree → tree.routines ≡ before.routines
+  made_routines k before tree there is =
+      let t = tree_made k tree is in
+      let same : t.before ≡ before = let e : Some t.before ≡ Some before = sym t.is_tree ∙ there in cc in
+      ap (λ (x : TypedTree). x.routines) t.is ∙ ap (λ (x : TypedTree). x.routines) same
 
   pub made_of : (k : ℕ) (tree : TypedTree) → slice_get made.trees k ≡ Some tree → (before : TypedTree) × (slice_get trees k ≡ Some before)
   made_of k tree is = let t = tree_made k tree is in (t.before, t.is_tree)

@@ -1,24 +1,21 @@
 -- First data and kept values are full ones of their types.
-use Rattle.std.proofs.Common.{◌≡◌, ℕ, zero, suc, ◌+◌, Bool, true, false, ◌&&◌, List, [], ◌∷◌, ◌++◌, length, map, replicate, set, Option, Some, None, slice_get, refl, sym, ap, subst, ◌∙◌, if◌then◌else◌, IsTrue}
+use Rattle.std.proofs.Common.{◌≡◌, ℕ, zero, suc, Bool, true, false, List, [], ◌∷◌, length, map, replicate, Option, Some, None, slice_get, refl, sym, ap, subst, ◌∙◌, if◌then◌else◌, IsTrue}
 use Rattle.std.specs.List.{All, list_all}
 use Rattle.std.proofs.Math.Logic.{⊎_elim}
 use Rattle.std.proofs.lemmas.Bool.{and_from, and_parts}
 use Rattle.std.proofs.lemmas.List.{length-map, length-replicate}
 use Rattle.std.proofs.lemmas.List.Elements.{All-cons, All-nil, All-push, All-replicate}
-use Rattle.raw_trees.specs.Plain.{PlainDatum, PlainExpr, PlainExprs, PlainModule, PlainParam, Aggregate, Group, NoExprs, MoreExprs}
+use Rattle.raw_trees.specs.Plain.{PlainDatum, PlainExpr, PlainExprs, PlainModule, Aggregate, Group, NoExprs, MoreExprs}
 use Rattle.rapid_model.specs.Lengths.{is_full}
-use Rattle.rapid_model.specs.Limits.{holds_where_there}
 use Rattle.rapid_model.specs.Paths.{has_sort}
 use Rattle.rapid_model.specs.Sorts.{is_value_of, width}
 use Rattle.rapid_model.specs.declared.signal_row.SignalRow.{SignalRow}
 use Rattle.rapid_model.specs.declared.sort.Sort.{Sort}
 use Rattle.rapid_model.specs.declared.sort.Sort.TheVariants as sorts
 use Rattle.rapid_model.specs.declared.value.Value.{Value}
-use Rattle.typed_trees.specs.Plain as trees
-use Rattle.typed_trees.specs.Plain.{TypedExpr, TypedExprs, TypedLocal, TypedSlot}
-use Rattle.typed_trees.specs.declared.datum.Datum.{Datum}
+use Rattle.typed_trees.specs.Plain.{TypedExprs, TypedLocal, TypedSlot}
 use Rattle.typed_trees.specs.declared.datum.Datum.TheVariants as datums
-use Rattle.constant_meaning.specs.Constants.{Elements, Outcomes, constant_value, constant_values}
+use Rattle.constant_meaning.specs.Constants.{Elements, Outcomes}
 use Rattle.constant_meaning.specs.declared.outcome.Outcome.{Outcome}
 use Rattle.data_scopes.specs.declared.data_row.DatumRow.{DatumRow}
 use Rattle.data_scopes.specs.Numbers.{is_const, is_scalar_const}
@@ -26,7 +23,8 @@ use Rattle.data_scopes.specs.Scopes.{Names}
 use Rattle.data_scopes.proofs.All.{all_more}
 use Rattle.named_data.specs.declared.wanted.Wanted.TheVariants.{Is}
 use Rattle.named_data.specs.Rules.{Site}
-use Rattle.decl_types.specs.Data.{Inner, Progress, entered, inner_row, keeping, known_elements, left, of_modules, with_const, with_local, with_pers, with_slot}
+use Rattle.decl_types.specs.Data.{Inner, Progress, inner_row, keeping, known_elements, of_modules}
+use Rattle.decl_types.specs.Parts.{with_inner_const, with_inner_row}
 use Rattle.decl_types.specs.Values.{Initial, first_data, site_of, start_datum}
 use Rattle.typing_rules.specs.Data.{AreArrayElements, AreArrayValues, AreBrackets, AreInitialValues, AreValues, IsInitial, IsSingle}
 use Rattle.task_typing.specs.Kinds.{Kind}
@@ -168,17 +166,8 @@ module _ (modules : List PlainModule) (signals : List SignalRow) (c : Setting) (
           (values_right c (kinds_at c.tree routine) s (suits modules signals c names facts other like kept s.spot) known slots locals sort i.len e ws are)
 
   local_valued : (slots : List (Option (List Value))) (d : PlainDatum) (n : Inner) (i : Initial) (row : DatumRow) (scalar : Bool) → (scalar ≡ true → slice_get consts n.consts ≡ Some row) → AreGiven row.sort i.len i.values
-      → InnerValued consts slots n → InnerValued consts slots (if scalar then record {
-        names = keeping n.names n.consts i.values;
-        consts = n.consts + 1;
-        known = n.known ++ None ∷ [];
-        rows = n.rows ++ inner_row d row.sort i ∷ [];
-      } else record {
-        names = n.names;
-        consts = n.consts;
-        known = n.known ++ known_elements (is_const d.kind) i.values ∷ [];
-        rows = n.rows ++ inner_row d row.sort i ∷ [];
-      })
+      → InnerValued consts slots n
+      → InnerValued consts slots (if scalar then with_inner_row (with_inner_const n i.values) (inner_row d row.sort i) false i else with_inner_row n (inner_row d row.sort i) (is_const d.kind) i)
   local_valued slots d n i row true there given h = record {
     kept = keeping_kept consts n.names n.consts row i.len i.values (there refl) given h.kept;
     modules = h.modules;

@@ -1,13 +1,11 @@
 -- Names stand for what the tree of their modules has, at each spot.
-use Rattle.std.proofs.Common.{◌≡◌, inl, inr, ℕ, ◌+◌, ◌-◌, ◌<◌, Bool, true, false, List, [], ◌∷◌, ◌++◌, length, map, replicate, Option, Some, None, is_some, slice_get, refl, sym, ap, subst, ◌∙◌, if◌then◌else◌, IsTrue, nat_lt, length-append, arith}
+use Rattle.std.proofs.Common.{◌≡◌, ℕ, ◌+◌, ◌-◌, ◌<◌, Bool, true, false, List, [], length, map, Option, Some, None, is_some, slice_get, refl, sym, ap, subst, ◌∙◌, if◌then◌else◌, IsTrue, nat_lt, arith}
 use Rattle.std.specs.Option.{option_and_then, option_map}
 use Rattle.std.proofs.Math.Logic.{⊎_elim}
 use Rattle.std.proofs.lemmas.Bool.{lt-ltb}
-use Rattle.std.proofs.lemmas.List.{length-map}
 use Rattle.std.proofs.lemmas.Option.{slice_get_within}
-use Rattle.raw_trees.specs.Plain.{PlainModule, PlainName}
+use Rattle.raw_trees.specs.Plain.{PlainModule}
 use Rattle.raw_trees.specs.declared.raw_routine.Mode.{Mode}
-use Rattle.raw_trees.specs.declared.raw_routine.Mode.TheVariants as modes
 use Rattle.raw_trees.specs.declared.raw_routine.RoutineKind.{RoutineKind}
 use Rattle.rapid_model.specs.Limits.{holds_where_there}
 use Rattle.rapid_model.specs.Paths.{has_sort}
@@ -15,7 +13,6 @@ use Rattle.rapid_model.specs.declared.predefined.Predefined.{Predefined}
 use Rattle.rapid_model.specs.declared.predefined.Predefined.TheVariants as predefineds
 use Rattle.rapid_model.specs.declared.signal_row.SignalRow.{SignalRow}
 use Rattle.rapid_model.specs.declared.sort.Sort.{Sort}
-use Rattle.rapid_model.specs.declared.sort.Sort.TheVariants as sorts
 use Rattle.rapid_model.specs.declared.value.Value.{Value}
 use Rattle.rapid_builtins.specs.Data.{predefined_datum}
 use Rattle.typed_trees.specs.Plain.{TypedLocal, TypedParam, TypedRoutine, TypedTree}
@@ -26,23 +23,21 @@ use Rattle.data_scopes.specs.declared.data_row.DatumRow.{DatumRow}
 use Rattle.data_scopes.specs.declared.data_row.ParamRow.{ParamRow}
 use Rattle.data_scopes.specs.declared.meant.Meant.{Meant}
 use Rattle.data_scopes.specs.declared.meant.Meant.TheVariants as meants
-use Rattle.data_scopes.specs.Called.{kind_of, local_of, param_of, params_in, params_of, place_row, places_in, places_of, result_of, value_row}
+use Rattle.data_scopes.specs.Called.{kind_of, local_of, param_of, params_in, place_row, places_in, places_of, value_row}
 use Rattle.data_scopes.specs.Meetings.{is_meeting, meetings_before}
 use Rattle.data_scopes.specs.Scopes.{Names, RoutineRow, Rows, meaning}
 use Rattle.named_data.specs.declared.named.NamedDatum.{NamedDatum}
 use Rattle.named_data.specs.Rules.{Site}
 use Rattle.expr_types.specs.Calls as calls
-use Rattle.typing_rules.specs.Names.{IsConstant, IsDatum, IsKnown, IsMeant, IsParameter, IsPersistent, IsPredefined, IsStored}
+use Rattle.typing_rules.specs.Names.{IsConstant, IsKnown, IsMeant, IsParameter, IsPersistent, IsPredefined, IsStored}
 use Rattle.name_laws.specs.Declared.{AreEach}
-use Rattle.name_laws.specs.Meant.{HasItsRow, Inside, is_by_value}
-use Rattle.name_laws.specs.Meant as means
+use Rattle.name_laws.specs.Meant.{HasItsRow, Inside}
 use Rattle.name_laws.proofs.Tree.{each_length}
 use Rattle.task_typing.specs.Expressions.{IsRoot}
 use Rattle.task_typing.specs.Kinds.{Counts, Kind, Owns, Refers, kind_by, kind_of as kind_in, kinds_of}
 use Rattle.task_typing.specs.Setting.{Setting}
-use Rattle.task_typing.proofs.Rows.{at_left, at_repeated, at_right}
 use Rattle.tree_soundness.proofs.RowKinds.{local_kind, loop_kind, param_kind, reference_kind, value_kind}
-use Rattle.tree_soundness.proofs.Lists.{origin, partner}
+use Rattle.tree_soundness.proofs.Lists.{origin, partner, some_same}
 use Rattle.tree_soundness.proofs.Named.{IsCallable, Suits}
 use Rattle.tree_soundness.proofs.Places.{Holds}
 use Rattle.tree_soundness.proofs.Routines.{ParamAlike, RoutineAlike, needs_alike}
@@ -85,9 +80,6 @@ place_first : (row : RoutineRow) (k : ℕ) (p : ParamRow) → slice_get row.para
 place_first row k p is =
     let within : nat_lt k (length row.params) ≡ true = lt-ltb k (length row.params) (slice_get_within row.params k p is) in
     ap (λ (b : Bool). if b then option_map value_row (slice_get row.params k) else slice_get row.locals (k - length row.params)) within ∙ ap (option_map value_row) is
-
-some_same : {A : Type 0} (x y : A) → Some x ≡ Some y → x ≡ y
-some_same x y e = cc
 
 module _ (modules : List PlainModule) (signals : List SignalRow) (c : Setting) (names : Names) (facts : Facts modules signals c names) (other : Names) (like : IsLike names other)
     (kept : Kept names.rows.consts other.kept) (spot : Spot) where
@@ -138,8 +130,7 @@ module _ (modules : List PlainModule) (signals : List SignalRow) (c : Setting) (
     value_at place row p e is kind =
         let o = origin ParamAlike a.row.params t.params place p a.alike.params is in
         let same : value_row o.x ≡ row = some_same (value_row o.x) row (sym (place_first a.row place o.x o.is) ∙ e) in
-        let sort : p.sort ≡ row.sort = o.such.1 ∙ ap (λ x. x.sort) same in
-        (
+        let sort : p.sort ≡ row.sort = o.such.1 ∙ ap (λ x. x.sort) same in (
           None,
           (Owns p.sort None, ap (λ (ks : List Kind). slice_get ks place) a.kinds_are ∙ param_kind t place p is ∙ ap Some kind, (sort, refl)),
           ap (λ x. x.array) same,
@@ -149,8 +140,7 @@ module _ (modules : List PlainModule) (signals : List SignalRow) (c : Setting) (
     datum_at place k row l e behind is =
         let o = origin LocalAlike a.row.locals t.locals k l a.alike.locals is in
         let long = each_length ParamAlike a.row.params t.params a.alike.params in
-        let same : o.x ≡ row = some_same o.x row (sym (place_behind a.row k place (omega (arith, behind, long)) ∙ o.is) ∙ e) in
-        (
+        let same : o.x ≡ row = some_same o.x row (sym (place_behind a.row k place (omega (arith, behind, long)) ∙ o.is) ∙ e) in (
           l.len,
           (Owns l.sort l.len, ap (λ (ks : List Kind). slice_get ks place) a.kinds_are ∙ local_kind t k place l behind is, (o.such.0 ∙ ap (λ x. x.sort) same, refl)),
           o.such.1 ∙ ap (λ x. x.array) same,

@@ -1,5 +1,5 @@
 -- Values that are known before the run are full.
-use Rattle.std.proofs.Common.{◌≡◌, ℕ, zero, suc, ◌-◌, Bool, true, false, not, ◌&&◌, ◌==◌, nat_lt, ℤ, pos, int_lt, List, [], ◌∷◌, ◌++◌, length, take, drop, Option, Some, None, slice_get, refl, sym, ap, subst, ◌∙◌, if◌then◌else◌, IsTrue, nat_le, length-append, arith}
+use Rattle.std.proofs.Common.{◌≡◌, ℕ, zero, suc, ◌-◌, Bool, true, false, ◌&&◌, ◌==◌, nat_lt, ℤ, pos, List, [], ◌∷◌, ◌++◌, length, take, drop, Option, Some, None, slice_get, refl, if◌then◌else◌, nat_le, length-append, arith}
 use Rattle.std.specs.List.{list_all}
 use Rattle.std.specs.Option.{option_and_then, option_map}
 use Rattle.std.specs.Ordering.{int_eq}
@@ -18,9 +18,9 @@ use Rattle.rapid_model.specs.declared.value.Value.TheVariants as values
 use Rattle.raw_trees.specs.declared.raw_expr.Operator.{Operator}
 use Rattle.raw_trees.specs.declared.raw_expr.Operator.TheVariants as operators
 use Rattle.rapid_operators.specs.Equality.{are_alike}
-use Rattle.rapid_operators.specs.Operators.{apply, num_or_fault, of_form, of_nums, of_texts, of_truths, unless_zero}
+use Rattle.rapid_operators.specs.Operators.{apply, num_or_fault, of_form, of_nums, of_texts, of_truths}
 use Rattle.rapid_operators.specs.declared.applied.Applied.{Applied}
-use Rattle.rapid_operators.specs.declared.applied.Applied.TheVariants.{Gives, Raises, OutOfRange, Unfit}
+use Rattle.rapid_operators.specs.declared.applied.Applied.TheVariants.{Gives, Raises, Unfit}
 use Rattle.rapid_values.specs.Components.{Component}
 use Rattle.rapid_values.specs.Values.{made_of, num_at, nums_of, part_of, so_many}
 use Rattle.typed_trees.specs.Plain.{TypedExpr, TypedExprs, TypedSteps, Known, ErrorNumber, SignalValue, Stored, Group, Aggregate, Builtin, Invoke, Not, Signed, Chain, NoExprs, MoreExprs, NoSteps, MoreSteps, NotHeld, Held, PlaceOf}

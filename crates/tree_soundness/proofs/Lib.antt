@@ -22,7 +22,7 @@ pub mod Grammar
 pub mod CellPers
 pub mod CellMeetings
 pub mod Cells
-pub mod Accepted
 pub mod LabelNumbers
 pub mod Ascending
 pub mod TextLabels
+pub mod Accepted

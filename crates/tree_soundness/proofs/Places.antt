@@ -24,9 +24,7 @@ use Rattle.task_typing.specs.Expressions.{IsArray, IsExpr, IsPlace, IsRoot}
 use Rattle.task_typing.specs.Kinds.{Kind}
 use Rattle.task_typing.specs.Setting.{Setting}
 use Rattle.task_typing.proofs.Parts.{value_part}
-
-some_same : {A : Type 0} (x y : A) → Some x ≡ Some y → x ≡ y
-some_same x y e = cc
+use Rattle.tree_soundness.proofs.Lists.{some_same}
 
 -- each component is a part of the whole, and has its type
 abbrev AreParts : Sort → List Component → Type 0

@@ -1,7 +1,7 @@
 -- The routines of the tree: which declaration each is of, and that its row among the names is alike.
-use Rattle.std.proofs.Common.{◌≡◌, ℕ, zero, suc, ◌+◌, Bool, true, false, List, [], ◌∷◌, ◌++◌, length, map, Option, Some, None, slice_get, refl, sym, ap, subst, ◌∙◌, if◌then◌else◌, length-append, append_assoc, arith}
+use Rattle.std.proofs.Common.{◌≡◌, ℕ, suc, ◌+◌, Bool, true, false, List, [], ◌∷◌, ◌++◌, length, map, Option, Some, None, slice_get, refl, sym, ap, subst, ◌∙◌, if◌then◌else◌, arith}
 use Rattle.std.specs.Option.{option_and_then, option_map}
-use Rattle.std.proofs.lemmas.List.{append-nil}
+use Rattle.std.proofs.lemmas.Option.{get_or_from_slice_get, slice_get_within}
 use Rattle.raw_trees.specs.Plain.{PlainItem, PlainModule, PlainParam, PlainRoutine, Datum, Routine}
 use Rattle.raw_trees.specs.declared.raw_routine.Mode.{Mode}
 use Rattle.raw_trees.specs.declared.raw_routine.Mode.TheVariants as modes
@@ -9,14 +9,14 @@ use Rattle.rapid_model.specs.declared.sort.Sort.{Sort}
 use Rattle.typed_trees.specs.Plain.{TypedLocal, TypedParam, TypedRoutine}
 use Rattle.data_scopes.specs.declared.data_row.DatumRow.{DatumRow}
 use Rattle.data_scopes.specs.declared.data_row.ParamRow.{ParamRow}
-use Rattle.data_scopes.specs.Called.{params_in, params_of, result_of}
+use Rattle.data_scopes.specs.Called.{params_in}
 use Rattle.data_scopes.specs.Numbers.{is_pers, is_scalar_const}
-use Rattle.data_scopes.specs.Rows.{with_datum}
-use Rattle.data_scopes.specs.Scopes.{Names, RoutineRow, Rows, Tables, list_at}
+use Rattle.data_scopes.specs.Scopes.{Names, RoutineRow, Rows, Tables}
 use Rattle.expr_types.specs.Calls as calls
 use Rattle.expr_types.specs.Calls.{by_mode}
+use Rattle.data_scopes.proofs.ListAt.{list_at-there}
 use Rattle.stmt_types.specs.Task.{is_main, main_among, routines_in, routines_of, typed_params}
-use Rattle.typing_rules.specs.DeclaredNames.{AreItemRows, AreModuleRows, IsItemRow, IsRoutineRow}
+use Rattle.typing_rules.specs.DeclaredNames.{AreItemRows, AreModuleRows, IsRoutineRow}
 use Rattle.typing_rules.specs.Tasks.{AreItemRoutines, AreRoutines, IsRoutine}
 use Rattle.name_laws.specs.Declared.{AreEach}
 use Rattle.task_typing.specs.Kinds.{need_by, need_of}
@@ -54,11 +54,6 @@ needs_alike (row ∷ rows) (p ∷ ps) h =
     let one : need_of p ≡ calls.need_of row = ap (λ (m : Mode). need_by m p.sort) h.0.0 ∙ ap (need_by row.mode) h.0.1 ∙ same_need row.mode row.sort in
     let more = needs_alike rows ps h.1 in
     cc
-
-list_there : {A : Type 0} (lists : List (List A)) (k : ℕ) (list : List A) → slice_get lists k ≡ Some list → list_at lists k ≡ list
-list_there [] k list is = absurd cc
-list_there (x ∷ xs) zero list is = cc
-list_there (x ∷ xs) (suc k) list is = list_there xs k list is
 
 module _ (tables : Tables) where
   -- the row of a routine in a module of some number
@@ -112,7 +107,7 @@ module _ (names : Names) (locals : List (List TypedLocal)) where
         let many : length row.params ≡ 0 + length r.params = ap (λ x. length x.params) is_row ∙ params_long tables of_row.number k r.params [] params are_params in
         let long : length r.params ≡ length row.params = omega (arith, many) in
         let same_params : t.params ≡ typed_params r.params row.params = ap (λ x. x.params) is ∙ ap (λ o. typed_params r.params (params_in o)) there in
-        let same_locals : t.locals ≡ mine.y = ap (λ x. x.locals) is ∙ list_there locals k mine.y mine.is in
+        let same_locals : t.locals ≡ mine.y = ap (λ x. x.locals) is ∙ list_at-there locals k mine.y (slice_get_within locals k mine.y mine.is) (sym (get_or_from_slice_get locals k mine.y mine.y mine.is)) in
         record {
           kind = ap (λ x. x.kind) is ∙ sym (ap (λ x. x.kind) is_row);
           result = ap (λ x. x.result) is ∙ ap (option_and_then (λ x. x.result)) there;

@@ -11,10 +11,11 @@ use Rattle.constant_meaning.specs.Constants.{Elements}
 use Rattle.data_scopes.specs.declared.data_row.DatumRow.{DatumRow}
 use Rattle.data_scopes.specs.declared.data_row.ParamRow.{ParamRow}
 use Rattle.data_scopes.specs.Called.{local_of, place_row, value_row}
-use Rattle.data_scopes.specs.Numbers.{is_pers, is_scalar_const}
+use Rattle.data_scopes.specs.Numbers.{is_const, is_pers, is_scalar_const}
 use Rattle.data_scopes.specs.Rows.{scalar_rows, since_of, with_routine}
 use Rattle.data_scopes.specs.Scopes.{Names, RoutineRow, Rows, Tables}
-use Rattle.decl_types.specs.Data.{Inner, Progress, entered, inner_row, keeping, left, of_modules, sort_in, with_const, with_local, with_pers, with_slot}
+use Rattle.decl_types.specs.Data.{Inner, Progress, entered, inner_row, keeping, known_elements, left, of_modules, sort_in, with_const, with_local, with_pers, with_slot}
+use Rattle.decl_types.specs.Parts.{with_inner_const, with_inner_row}
 use Rattle.decl_types.specs.Values.{Initial}
 use Rattle.typing_rules.specs.Data.{AreItemsData, AreLocalsData, AreModulesData, ByKind, IsInitial, IsItemData, IsLen}
 use Rattle.typing_rules.specs.DeclaredNames.{AreItemRows, AreLocalRows, AreModuleRows, AreParamRows, IsItemRow, IsRoutineRow}
@@ -209,19 +210,9 @@ module _ (tables : Tables) (names : Names) (K : Progress → Type 0) (L : List (
     pub consts : n.consts ≡ length rows.consts + length (scalar_rows before)
     pub held : L slots n
 
-  abbrev local_by : Inner → PlainDatum → Sort → Initial → Bool → Option (List Value) → Inner
-  local_by n d sort i scalar elements =
-      if scalar then record {
-        names = keeping n.names n.consts i.values;
-        consts = n.consts + 1;
-        known = n.known ++ None ∷ [];
-        rows = n.rows ++ inner_row d sort i ∷ [];
-      } else record {
-        names = n.names;
-        consts = n.consts;
-        known = n.known ++ elements ∷ [];
-        rows = n.rows ++ inner_row d sort i ∷ [];
-      }
+  abbrev local_by : Inner → PlainDatum → Sort → Initial → Bool → Inner
+  local_by n d sort i scalar =
+      if scalar then with_inner_row (with_inner_const n i.values) (inner_row d sort i) false i else with_inner_row n (inner_row d sort i) (is_const d.kind) i
 
   record Added (n : Inner) (t : TypedLocal) (more : ℕ) (m : Inner) : Type 0 where
     pub like : IsLike names m.names
@@ -229,10 +220,9 @@ module _ (tables : Tables) (names : Names) (K : Progress → Type 0) (L : List (
     pub longer : length m.known ≡ length n.known + 1
     pub consts : m.consts ≡ n.consts + more
 
-  local_added : (n : Inner) (d : PlainDatum) (sort : Sort) (i : Initial) (scalar : Bool) (elements : Option (List Value)) → IsLike names n.names
-      → Added n (inner_row d sort i) (one_if scalar) (local_by n d sort i scalar elements)
-  local_added n d sort i true elements like = record { like = keeping_like names n.names n.consts i.values like; rows = refl; longer = length-append n.known (None ∷ []); consts = refl }
-  local_added n d sort i false elements like = record { like = like; rows = refl; longer = length-append n.known (elements ∷ []); consts = omega arith }
+  local_added : (n : Inner) (d : PlainDatum) (sort : Sort) (i : Initial) (scalar : Bool) → IsLike names n.names → Added n (inner_row d sort i) (one_if scalar) (local_by n d sort i scalar)
+  local_added n d sort i true like = record { like = keeping_like names n.names n.consts i.values like; rows = refl; longer = length-append n.known (None ∷ []); consts = refl }
+  local_added n d sort i false like = record { like = like; rows = refl; longer = length-append n.known (known_elements (is_const d.kind) i.values ∷ []); consts = omega arith }
 
   module _ (rows : Rows) (row : RoutineRow) (number routine : ℕ) (slots : List (Option (List Value))) (there : slice_get names.rows.routines routine ≡ Some row)
       (consts_there : IsFront (rows.consts ++ scalar_rows row.locals) names.rows.consts) where
@@ -256,7 +246,7 @@ module _ (tables : Tables) (names : Names) (K : Progress → Type 0) (L : List (
         (at_right rows.consts (scalar_rows row.locals) (length (scalar_rows before)) ∙ ap (λ (ls : List DatumRow). slice_get (scalar_rows ls) (length (scalar_rows before))) are ∙ scalar_there before later f (scalar ∙ is)) in
         let first : IsInitial n.names number (Some routine) known f.sort d i = subst (λ (s : Sort). IsInitial n.names number (Some routine) known s d i) used initial in
         subst (λ (s : Sort). Within rows row slots (before ++ f ∷ []) (with_local n d s i)) (sym used)
-        (next before f d n i h (local_added n d f.sort i (is_scalar_const d) _ h.like) (sym (ap one_if scalar))
+        (next before f d n i h (local_added n d f.sort i (is_scalar_const d) h.like) (sym (ap one_if scalar))
         (initial_alike n.names number (Some routine) known f.sort d i first ∙ sym array) (visits.on_local number routine slots d n i f h.like const_there first h.held))
       where
         next : (before : List DatumRow) (f : DatumRow) (d : PlainDatum) (n : Inner) (i : Initial) → Within rows row slots before n → Added n (inner_row d f.sort i) (one_if (is_scalar_const d)) (with_local n d f.sort i)

@@ -1,5 +1,5 @@
 -- A tree that is well typed stays so with other numbers of its persistents and meetings.
-use Rattle.std.proofs.Common.{◌≡◌, inl, inr, ℕ, Bool, true, false, List, [], ◌∷◌, length, map, Option, Some, None, refl}
+use Rattle.std.proofs.Common.{inl, inr, ℕ, Bool, true, false, List, [], ◌∷◌, map, Option, Some, None}
 use Rattle.std.proofs.lemmas.List.Elements.{All-weaker}
 use Rattle.rapid_model.specs.declared.part_name.PartName.TheVariants as parts
 use Rattle.rapid_model.specs.declared.sort.Sort.{Sort}
@@ -14,7 +14,7 @@ use Rattle.typed_trees.specs.declared.expr.TreeRoot.TheVariants as roots
 use Rattle.cell_assembly.specs.Made.{with_numbers}
 use Rattle.rapid_meaning.specs.Instructions.{needed, options}
 use Rattle.task_typing.specs.Expressions.{AreArgs, AreComponents, AreSteps, IsArg, IsArray, IsExpr, IsPersName, IsPlace, IsRoot}
-use Rattle.task_typing.specs.Instructions.{AreNeeded, AreOptions, IsInstruction, IsOption, IsOptionArg}
+use Rattle.task_typing.specs.Instructions.{AreNeeded, AreOptions, IsOption, IsOptionArg}
 use Rattle.task_typing.specs.Kinds.{Kind, need_of}
 use Rattle.task_typing.specs.Setting.{Setting}
 use Rattle.task_typing.specs.Statements.{AreArms, AreCaseValues, AreCases, AreStmts, Around, IsElse, IsStep, IsStmt, into}

@@ -7,25 +7,10 @@ use Rattle.rapid_model.specs.declared.sort.Sort.TheVariants as sorts
 use Rattle.named_data.specs.declared.wanted.Wanted.{Wanted}
 use Rattle.named_data.specs.declared.wanted.Wanted.TheVariants.{Any, Brackets, Is, Same, Fits, Nothing, Reference, ReferenceTo, Meeting}
 use Rattle.named_data.specs.Wants as wants
-use Rattle.named_data.specs.Wants.{comes_to, fits, hands_on, inside, needed_components, needed_sort, same_sort, suits}
+use Rattle.named_data.specs.Wants.{comes_to, fits, hands_on, inside, needed_components, needed_sort, suits}
 use Rattle.named_data.specs.Data.{is_none}
+use Rattle.cell_assembly.proofs.SoundInfo.{same_sort_is}
 use Rattle.task_typing.specs.Operations.{Operates, is_compared}
-
-pub sorts_same : (a b : Sort) → same_sort a b ≡ true → a ≡ b
-sorts_same sorts.Num sorts.Num e = refl
-sorts_same sorts.Bool sorts.Bool e = refl
-sorts_same sorts.Text sorts.Text e = refl
-sorts_same sorts.RobJoint sorts.RobJoint e = refl
-sorts_same sorts.ExtJoint sorts.ExtJoint e = refl
-sorts_same sorts.JointTarget sorts.JointTarget e = refl
-sorts_same sorts.SpeedData sorts.SpeedData e = refl
-sorts_same sorts.Tasks sorts.Tasks e = refl
-sorts_same sorts.IntNum sorts.IntNum e = refl
-sorts_same sorts.SyncIdent sorts.SyncIdent e = refl
-sorts_same sorts.ShapeData sorts.ShapeData e = refl
-sorts_same sorts.WzTemporary sorts.WzTemporary e = refl
-sorts_same sorts.WzStationary sorts.WzStationary e = refl
-sorts_same _ _ e = cc
 
 pub compared : (sort : Sort) → wants.is_compared sort ≡ true → IsTrue (is_compared sort)
 compared sorts.Num e = refl
@@ -46,8 +31,8 @@ IsWanted Nothing sort = ⊥
 IsWanted _ sort = Unit {0}
 
 pub is_wanted : (want : Wanted) (sort : Sort) → fits want sort ≡ true → IsWanted want sort
-is_wanted (Is wanted) sort e = sorts_same sort wanted e
-is_wanted (Same wanted) sort e = sorts_same sort wanted e
+is_wanted (Is wanted) sort e = same_sort_is sort wanted e
+is_wanted (Same wanted) sort e = same_sort_is sort wanted e
 is_wanted (Fits operator) sort e = e
 is_wanted Nothing sort e = absurd cc
 is_wanted _ sort e = tt
@@ -75,18 +60,18 @@ wanted_brackets _ e = tt
 pub operates : (o : Operator) (left : Sort) → suits o left ≡ true → Operates o left (comes_to o left)
 operates operators.Equal left e = (compared left e, refl)
 operates operators.NotEqual left e = (compared left e, refl)
-operates operators.And left e = (sorts_same left sorts.Bool e, refl)
-operates operators.Or left e = (sorts_same left sorts.Bool e, refl)
-operates operators.Xor left e = (sorts_same left sorts.Bool e, refl)
-operates operators.Less left e = (sorts_same left sorts.Num e, refl)
-operates operators.Greater left e = (sorts_same left sorts.Num e, refl)
-operates operators.LessEqual left e = (sorts_same left sorts.Num e, refl)
-operates operators.GreaterEqual left e = (sorts_same left sorts.Num e, refl)
+operates operators.And left e = (same_sort_is left sorts.Bool e, refl)
+operates operators.Or left e = (same_sort_is left sorts.Bool e, refl)
+operates operators.Xor left e = (same_sort_is left sorts.Bool e, refl)
+operates operators.Less left e = (same_sort_is left sorts.Num e, refl)
+operates operators.Greater left e = (same_sort_is left sorts.Num e, refl)
+operates operators.LessEqual left e = (same_sort_is left sorts.Num e, refl)
+operates operators.GreaterEqual left e = (same_sort_is left sorts.Num e, refl)
 operates operators.Add sorts.Num e = (inl refl, refl)
 operates operators.Add sorts.Text e = (inr refl, refl)
 operates operators.Add _ e = absurd cc
-operates operators.Sub left e = (sorts_same left sorts.Num e, refl)
-operates operators.Mul left e = (sorts_same left sorts.Num e, refl)
-operates operators.Div left e = (sorts_same left sorts.Num e, refl)
-operates operators.IntDiv left e = (sorts_same left sorts.Num e, refl)
-operates operators.Mod left e = (sorts_same left sorts.Num e, refl)
+operates operators.Sub left e = (same_sort_is left sorts.Num e, refl)
+operates operators.Mul left e = (same_sort_is left sorts.Num e, refl)
+operates operators.Div left e = (same_sort_is left sorts.Num e, refl)
+operates operators.IntDiv left e = (same_sort_is left sorts.Num e, refl)
+operates operators.Mod left e = (same_sort_is left sorts.Num e, refl)

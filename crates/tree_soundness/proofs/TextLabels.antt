@@ -2,7 +2,7 @@
 use Rattle.std.proofs.Common.{◌≡◌, ℕ, zero, suc, List, [], ◌∷◌, ◌++◌, map, Option, Some, None, Ok, refl, sym, ap, subst, ◌∙◌, append_assoc}
 use Rattle.std.specs.List.{All}
 use Rattle.std.proofs.Math.Logic.{⊎_elim}
-use Rattle.std.proofs.lemmas.List.Elements.{All-append, All-cons, All-head, All-nil, All-tail}
+use Rattle.std.proofs.lemmas.List.Elements.{All-append, All-cons, All-head, All-nil, All-tail, All-weaker}
 use Rattle.raw_trees.specs.Plain.{PlainExpr, PlainItem, PlainModule, PlainName, PlainStmt, Datum, Routine, arms_of, cases_of, else_of, stmts_of}
 use Rattle.rapid_lexer.specs.Tokens.{Lexeme}
 use Rattle.rapid_forms.specs.declared.sign.Sign.TheVariants as signs
@@ -14,6 +14,7 @@ use Rattle.module_parser.specs.Modules.{ModuleText}
 use Rattle.body_types.specs.Labels.{labels_in, labels_in_arms, labels_in_cases, labels_in_else, labels_in_routine, labels_of}
 use Rattle.stmt_types.specs.Task.{routines_in, routines_of}
 use Rattle.name_laws.specs.Jumps.{LabelsApart}
+use Rattle.tree_soundness.specs.Accepted.{AreRead}
 use Rattle.tree_soundness.proofs.Ascending.{Ascend, Each, Under, apart, both, bytes_of, former, halves, latter, made_of, none_under, one_of, perhaps, places, some_of, tiled}
 
 -- a label's name stands at its token
@@ -145,7 +146,7 @@ body_each n =
     (perhaps _ labels_of_list labels_of_part refl (λ x. refl) (made_of _ behind (λ x. labels_of_list x.1) labels_of_list (λ at x. refl) (latter _ _ labels_of_list (list_each n)))))
 
 abbrev of_item : PlainItem → List PlainName
-of_item (Datum local task d at) = []
+of_item (Datum own task d at) = []
 of_item (Routine r) = labels_in_routine r
 
 routine_each : (n : ℕ) → Each (routine n) of_item
@@ -167,7 +168,7 @@ item_each n i ts h =
     (λ others. ⊎_elim (λ (x, whole, is). subst (λ k. Under (of_item k) ts) (sym is) (none_under ts)) (λ here. routine_each n i ts here) others) h
 
 more_apart : (i : PlainItem) (items : List PlainItem) (low high : ℕ) → Ascend low (bytes_of (of_item i)) high → All LabelsApart (routines_in items) → All LabelsApart (routines_in (i ∷ items))
-more_apart (Datum local task d at) items low high h k = k
+more_apart (Datum own task d at) items low high h k = k
 more_apart (Routine r) items low high h k = All-append LabelsApart (r ∷ []) (routines_in items) (All-cons LabelsApart r [] (apart low (bytes_of (labels_in_routine r)) high h) (All-nil LabelsApart)) k
 
 items_apart : (n : ℕ) (items : List PlainItem) (ts : List Lexeme) (low high : ℕ) → WholeEach (item n) items ts → Ascend low (places ts) high → All LabelsApart (routines_in items)
@@ -177,15 +178,19 @@ items_apart n (i ∷ items) ts low high (u, v, is, first, rest) h =
     more_apart i items low parts.middle (item_each n i u first low parts.middle parts.front) (items_apart n items v parts.middle high rest parts.back)
 
 -- of the module that a text spells
-pub read_apart : (source : List ℕ) (m : PlainModule) → ModuleText source (Ok m) → All LabelsApart (routines_in m.items)
+read_apart : (source : List ℕ) (m : PlainModule) → ModuleText source (Ok m) → All LabelsApart (routines_in m.items)
 unfolding «module» made seq many
-read_apart source m (ts, tiles, (x, (u, v, is, word, (u1, v1, is1, name, (u2, v2, is2, attributes, (u3, v3, is3, items, end)))), is_m)) =
+read_apart source m (ts, tiles, (x, (u, v, is, word, (u1, v1, is1, title, (u2, v2, is2, attributes, (u3, v3, is3, items, end)))), is_m)) =
     let behind_word = halves _ ts u v _ is (tiled source ts tiles) in
     let behind_name = halves _ v u1 v1 _ is1 behind_word.back in
     let behind_attributes = halves _ v1 u2 v2 _ is2 behind_name.back in
     let of_items = halves _ v2 u3 v3 _ is3 behind_attributes.back in
     subst (λ (k : PlainModule). All LabelsApart (routines_in k.items)) (sym is_m) (items_apart _ x.1.1.1.0 u3 _ _ items of_items.front)
 
-pub all_apart : (modules : List PlainModule) → All (λ (m : PlainModule). All LabelsApart (routines_in m.items)) modules → All LabelsApart (routines_of modules)
+all_apart : (modules : List PlainModule) → All (λ (m : PlainModule). All LabelsApart (routines_in m.items)) modules → All LabelsApart (routines_of modules)
 all_apart [] h = All-nil LabelsApart
 all_apart (m ∷ ms) h = let Those = λ (k : PlainModule). All LabelsApart (routines_in k.items) in All-append LabelsApart (routines_in m.items) (routines_of ms) (All-head Those m ms h) (all_apart ms (All-tail Those m ms h))
+
+pub labels_apart : (modules : List PlainModule) → AreRead modules → All LabelsApart (routines_of modules)
+labels_apart modules read =
+    all_apart modules (All-weaker (λ (m : PlainModule). (source : List ℕ) × ModuleText source (Ok m)) (λ (m : PlainModule). All LabelsApart (routines_in m.items)) (λ m spelled. read_apart spelled.0 m spelled.1) modules read)

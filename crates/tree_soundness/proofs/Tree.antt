@@ -14,14 +14,11 @@ use Rattle.raw_trees.specs.declared.raw_routine.RoutineKind.TheVariants as routi
 use Rattle.rapid_model.specs.Limits.{holds_where_there, is_within}
 use Rattle.rapid_model.specs.Sorts.{has_values}
 use Rattle.rapid_model.specs.declared.signal_row.SignalRow.{SignalRow}
-use Rattle.rapid_model.specs.declared.sort.Sort.{Sort}
 use Rattle.rapid_model.specs.declared.value.Value.{Value}
-use Rattle.typed_trees.specs.Plain.{TypedLocal, TypedPers, TypedRoutine, TypedSlot, TypedStmts, TypedTree}
+use Rattle.typed_trees.specs.Plain.{TypedPers, TypedRoutine, TypedStmts, TypedTree}
 use Rattle.typed_trees.specs.Sound.{fits, is_sound}
-use Rattle.data_scopes.specs.declared.data_row.DatumRow.{DatumRow}
 use Rattle.data_scopes.specs.declared.data_row.ParamRow.{ParamRow}
 use Rattle.data_scopes.specs.Called.{params_of, result_of}
-use Rattle.data_scopes.specs.Naming.{names_of}
 use Rattle.data_scopes.specs.Numbers.{tables_of}
 use Rattle.data_scopes.specs.Rows.{no_rows}
 use Rattle.data_scopes.specs.Meetings.{meetings_before}
@@ -40,7 +37,7 @@ use Rattle.name_laws.specs.Jumps.{JumpsLand, Land, LandInElse, error_part}
 use Rattle.name_laws.proofs.Means.{has_its_row}
 use Rattle.name_laws.proofs.RoutineJumps.{jumps_right}
 use Rattle.name_laws.proofs.Tree.{meetings_checked, task_checked}
-use Rattle.task_typing.specs.Kinds.{Counts, Kind, kinds_of}
+use Rattle.task_typing.specs.Kinds.{Counts, Kind}
 use Rattle.task_typing.specs.Setting.{Setting}
 use Rattle.task_typing.specs.Statements.{AreStmts, Around}
 use Rattle.task_typing.proofs.Rows.{all_at}
@@ -53,7 +50,7 @@ use Rattle.tree_soundness.proofs.Labels.{owned}
 use Rattle.tree_soundness.proofs.Lists.{AreFrom, all_behind, all_of, from_at, from_to, origin}
 use Rattle.tree_soundness.proofs.Named.{Suits}
 use Rattle.tree_soundness.proofs.Routines.{IsRowOf, IsTypedOf, RoutineAlike, main_there, modules_rows, modules_typed, routines_alike}
-use Rattle.tree_soundness.proofs.Rows.{Aligned, Grows, IsLike, LocalsAlike, PersAlike, SlotAlike, Visits, modules_aligned}
+use Rattle.tree_soundness.proofs.Rows.{Aligned, Grows, LocalsAlike, PersAlike, SlotAlike, Visits, modules_aligned}
 use Rattle.tree_soundness.proofs.Statements.{inside, stmts_grow, stmts_right}
 
 -- nothing is asked of the data
