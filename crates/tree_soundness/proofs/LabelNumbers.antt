@@ -1,5 +1,5 @@
 -- The labels of a typed routine are numbered in text order.
-use Rattle.std.proofs.Common.{◌≡◌, ℕ, zero, suc, ◌+◌, ◌==◌, Bool, true, false, List, [], ◌∷◌, ◌++◌, length, map, Option, Some, None, slice_get, refl, sym, ap, subst, ◌∙◌, if◌then◌else◌, bytes_eq, length-append, append_assoc, arith}
+use Rattle.std.proofs.Common.{◌≡◌, ℕ, zero, suc, ◌+◌, ◌==◌, Bool, true, false, List, [], ◌∷◌, ◌++◌, length, map, Option, Some, None, slice_get, refl, sym, ap, subst, ◌∙◌, if◌then◌else◌, length-append, append_assoc, arith}
 use Rattle.std.specs.List.{All}
 use Rattle.std.specs.Str.{str_to_ascii_lowercase}
 use Rattle.std.proofs.lemmas.Bool.Decides.{Decides-eqb}
@@ -15,7 +15,7 @@ use Rattle.stmt_types.specs.Task.{body_of, routines_of}
 use Rattle.typing_rules.specs.Tasks.{IsHandler, IsRoutine, IsTyped}
 use Rattle.typing_rules.proofs.StatementLaws.{stmts_law}
 use Rattle.name_laws.specs.Jumps.{AreApart, IsApart, LabelsApart, error_part, numbers_in, numbers_in_arms, numbers_in_cases, numbers_in_else, numbers_of}
-use Rattle.name_laws.proofs.Jumps.{AreFirst, ElseDone, ListDone, appended, first_append, list_done, numbered}
+use Rattle.name_laws.proofs.Jumps.{AreFirst, appended, first_append, list_done, numbered}
 use Rattle.task_typing.proofs.Rows.{all_at}
 use Rattle.code_simulation.specs.Orderly.{Counts, NumbersLabels, arms_numbers, cases_numbers, else_numbers, part_numbers, stmt_numbers, stmts_numbers}
 use Rattle.tree_soundness.proofs.Lists.{all_behind, all_of, between, from_at}
@@ -84,7 +84,7 @@ counted labels before [] is first apart = tt
 counted labels before (l ∷ ls) is first apart = (
   placed labels (length before) l first.0 (ap (λ x. slice_get x (length before)) is ∙ between before ls l) apart,
   subst (λ (n : ℕ). Counts n (numbered labels ls)) (longer before l)
-  (counted labels (before ++ l ∷ []) ls (is ∙ sym (append_assoc before (l ∷ []) ls)) first.1 apart),
+      (counted labels (before ++ l ∷ []) ls (is ∙ sym (append_assoc before (l ∷ []) ls)) first.1 apart),
 )
 
 -- the labels of an ERROR part
@@ -93,7 +93,7 @@ handler_done : (body : Body) (handler : Option (List Raw.PlainStmt)) (next : ℕ
 handler_done body None next h past (is, same) = (ap (λ x. numbers_in_else (error_part x)) is, tt)
 handler_done body (Some list) next h past (ts, are, is) =
     let d = list_done body (stmts_of list) (into (outside true) (stmts_of list)) next (record { tree = ts; next = past })
-        ((stmts_law body (stmts_of list) (into (outside true) (stmts_of list)) next (record { tree = ts; next = past })).1 are) in
+    ((stmts_law body (stmts_of list) (into (outside true) (stmts_of list)) next (record { tree = ts; next = past })).1 are) in
     (ap (λ x. numbers_in_else (error_part x)) is ∙ d.all, d.first)
 
 routine_counts : (names : Names) (locals : List (List TypedLocal)) (number k : ℕ) (r : PlainRoutine) (t : TypedRoutine) → IsRoutine names locals number k r t → LabelsApart r → NumbersLabels t

@@ -1,15 +1,14 @@
 -- The labels of a routine that a text spells stand at different bytes.
-use Rattle.std.proofs.Common.{◌≡◌, ℕ, zero, suc, List, [], ◌∷◌, ◌++◌, map, Option, Some, None, Ok, refl, sym, ap, subst, ◌∙◌, append_assoc}
+use Rattle.std.proofs.Common.{◌≡◌, ℕ, zero, suc, List, [], ◌∷◌, ◌++◌, Option, Some, None, Ok, refl, sym, ap, subst, ◌∙◌, append_assoc}
 use Rattle.std.specs.List.{All}
 use Rattle.std.proofs.Math.Logic.{⊎_elim}
 use Rattle.std.proofs.lemmas.List.Elements.{All-append, All-cons, All-head, All-nil, All-tail, All-weaker}
 use Rattle.raw_trees.specs.Plain.{PlainExpr, PlainItem, PlainModule, PlainName, PlainStmt, Datum, Routine, arms_of, cases_of, else_of, stmts_of}
 use Rattle.rapid_lexer.specs.Tokens.{Lexeme}
-use Rattle.rapid_forms.specs.declared.sign.Sign.TheVariants as signs
-use Rattle.rapid_forms.specs.Forms.{Form, WholeEach, either, made, many, nothing, one, optional, place, seq}
-use Rattle.expr_parser.specs.Grammar.{Inside, behind, expr_of, exprs, first_and_more, inside, mark, name, name_tree, none_or, place as place_form}
-use Rattle.stmt_parser.specs.Grammar.{arm, arm_tree, assign_tree, branches, call_tree, case, case_tree, choice, connect_tree, exit_tree, for_tree, goto_tree, if_one_tree, if_tree, label_tree, list, list_of, loop_for, loop_while, raise_tree, retry_tree, return_tree, simple, stmt_of, stmts, test_tree, try_next_tree, while_tree}
-use Rattle.module_parser.specs.Grammar.{Body, body, datum_item, func_tree, item, local, params, proc_tree, routine, task_item, trap_tree, «module»}
+use Rattle.rapid_forms.specs.Forms.{Form, WholeEach, either, made, many, nothing, one, place, seq}
+use Rattle.expr_parser.specs.Grammar.{Inside, behind, first_and_more, inside, name, none_or}
+use Rattle.stmt_parser.specs.Grammar.{arm, arm_tree, branches, case, case_tree, choice, for_tree, if_one_tree, if_tree, label_tree, list, list_of, loop_for, loop_while, simple, stmt_of, stmts, test_tree, while_tree}
+use Rattle.module_parser.specs.Grammar.{Body, body, func_tree, item, proc_tree, routine, trap_tree, «module»}
 use Rattle.module_parser.specs.Modules.{ModuleText}
 use Rattle.body_types.specs.Labels.{labels_in, labels_in_arms, labels_in_cases, labels_in_else, labels_in_routine, labels_of}
 use Rattle.stmt_types.specs.Task.{routines_in, routines_of}
