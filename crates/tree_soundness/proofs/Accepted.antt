@@ -1,5 +1,6 @@
 -- The trees of an accepted cell are well typed, and have its numbers.
 use Rattle.std.proofs.Common.{◌≡◌, ℕ, zero, suc, Bool, List, [], ◌∷◌, length, map, is_some, Some, slice_get, Ok, refl, sym, ap, subst, ◌∙◌}
+use Rattle.std.specs.List.{All}
 use Rattle.std.specs.Option.{option_map}
 use Rattle.std.proofs.lemmas.Option.{slice_get-map}
 use Rattle.rapid_model.specs.ScriptData.{ScriptData, row_of}
@@ -14,8 +15,15 @@ use Rattle.typing_rules.proofs.TaskLaws.{task_law}
 use Rattle.cell_assembly.specs.Made.{MadeCell}
 use Rattle.task_typing.specs.Numbered.{Numbered}
 use Rattle.task_typing.specs.WellTyped.{WellTyped}
+use Rattle.rapid_model.specs.declared.answer.Answer.{Answer}
+use Rattle.rapid_meaning.specs.Runs.{FitsSteps}
+use Rattle.code_simulation.specs.Orderly.{NumbersLabels}
+use Rattle.code_simulation.specs.Standing.{StandsBy}
+use Rattle.code_simulation.proofs.Whole.{typed_stands}
+use Rattle.tree_soundness.proofs.LabelNumbers.{labels_count}
+use Rattle.tree_soundness.proofs.TextLabels.{labels_apart}
 use Rattle.tree_soundness.specs.Accepted.{AreChecked, AreRead, IsAccepted}
-use Rattle.tree_soundness.proofs.Cells.{made_named, made_of, made_right, made_typed, signals_are, tasks_are}
+use Rattle.tree_soundness.proofs.Cells.{made_named, made_routines, made_of, made_right, made_typed, signals_are, tasks_are}
 use Rattle.tree_soundness.proofs.Grammar.{traps_take}
 use Rattle.tree_soundness.proofs.Tree.{tree_right}
 
@@ -49,12 +57,13 @@ row_there tasks rows k task are there = ap (λ (l : List TaskRow). slice_get l k
 names_are : (modules : List PlainModule) (tasks : List (List ℕ)) (signals : List SignalRow) (arm : Bool) (tree : TypedTree) → IsTyped modules tasks signals arm tree → tree.tasks ≡ tasks
 names_are modules tasks signals arm tree typed = ap (λ (x : TypedTree). x.tasks) typed.is_tree
 
--- a tree of an accepted cell
+-- a tree of an accepted cell; code rests on the numbers of its labels
 pub record IsRight (made : MadeCell) (number : ℕ) (tree : TypedTree) : Type 0 where
   pub row : TaskRow
   pub there : slice_get made.cell.tasks number ≡ Some row
   pub typed : WellTyped (length made.cell.signals) (is_some row.arm) tree
   pub numbered : Numbered made.cell number tree
+  pub labels : All NumbersLabels tree.routines
 
 pub accepted_right : (script : ScriptData) (made : MadeCell) (number : ℕ) (tree : TypedTree) → IsAccepted script made → slice_get made.trees number ≡ Some tree → IsRight made number tree
 accepted_right script made number tree accepted is =
@@ -74,4 +83,14 @@ accepted_right script made number tree accepted is =
       there = row_there script.tasks made.cell.tasks number checked.task (tasks_are script trees made accepted.is_made) checked.there;
       typed = subst (λ (l : List SignalRow). WellTyped (length l) (is_some checked.task.arm) tree) (sym (signals_are script trees made accepted.is_made)) stayed;
       numbered = made_right script trees made accepted.is_made number tree (checked_length script script.tasks accepted.modules trees accepted.are_checked) is named;
+      labels =
+          subst (All NumbersLabels) (sym (made_routines script trees made accepted.is_made number before.0 tree before.1 is))
+          (labels_count checked.modules names script.signals (is_some checked.task.arm) before.0 typed (labels_apart checked.modules checked.read));
     }
+
+-- so its code stands as it does
+pub runs_as_code : (script : ScriptData) (made : MadeCell) (number : ℕ) (tree : TypedTree) (answers : List Answer) → IsAccepted script made → slice_get made.trees number ≡ Some tree → FitsSteps tree answers
+    → (k : ℕ) × StandsBy tree answers k
+runs_as_code script made number tree answers accepted there fits =
+    let h = accepted_right script made number tree accepted there in
+    typed_stands (length made.cell.signals) (is_some h.row.arm) made.cell number tree answers h.typed h.numbered h.labels fits

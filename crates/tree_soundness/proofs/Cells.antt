@@ -128,6 +128,13 @@ module _ (script : ScriptData) (trees : List TypedTree) (made : MadeCell) (made_
   made_named k tree names is named =
       let t = tree_made k tree is in ap (λ (x : TypedTree). x.tasks) t.is ∙ named t.before t.is_tree
 
+  -- and its routines
+  pub made_routines : (k : ℕ) (before tree : TypedTree) → slice_get trees k ≡ Some before → slice_get made.trees k ≡ Some tree → tree.routines ≡ before.routines
+  made_routines k before tree there is =
+      let t = tree_made k tree is in
+      let same : t.before ≡ before = let e : Some t.before ≡ Some before = sym t.is_tree ∙ there in cc in
+      ap (λ (x : TypedTree). x.routines) t.is ∙ ap (λ (x : TypedTree). x.routines) same
+
   pub made_of : (k : ℕ) (tree : TypedTree) → slice_get made.trees k ≡ Some tree → (before : TypedTree) × (slice_get trees k ≡ Some before)
   made_of k tree is = let t = tree_made k tree is in (t.before, t.is_tree)
 

@@ -22,4 +22,7 @@ pub mod Grammar
 pub mod CellPers
 pub mod CellMeetings
 pub mod Cells
+pub mod LabelNumbers
+pub mod Ascending
+pub mod TextLabels
 pub mod Accepted

@@ -1,4 +1,4 @@
-ghost use Rattle.std.specs.Prelude.{◌≡◌, ℕ, Bool, false, IsTrue, List, length, map, is_some, Ok, Some, slice_get};
+ghost use Rattle.std.specs.Prelude.{◌≡◌, ℕ, Bool, false, IsTrue, List, All, length, map, is_some, Ok, Some, slice_get};
 ghost use Rattle.rapid_model.specs.Own.{has_ended};
 ghost use Rattle.rapid_model.specs.Requests.{suits_actor};
 ghost use Rattle.rapid_model.specs.ScriptData.{ScriptData};
@@ -10,6 +10,7 @@ ghost use Rattle.rapid_model.specs.declared.signal_row.SignalRow.{SignalRow};
 ghost use Rattle.rapid_model.specs.declared.task_row.TaskRow.{TaskRow};
 ghost use Rattle.raw_trees.specs.Plain.{PlainModule};
 ghost use Rattle.typed_trees.specs.Plain.{TypedTree};
+ghost use Rattle.stmt_types.specs.Task.{routines_of};
 ghost use Rattle.typing_rules.specs.Tasks.{IsTyped};
 ghost use Rattle.cell_assembly.specs.Made.{MadeCell, make_cell};
 ghost use Rattle.rapid_meaning.specs.Runs.{FitsSteps, asks, asked_after};
@@ -17,6 +18,9 @@ ghost use Rattle.task_typing.specs.Goes.{Goes};
 ghost use Rattle.task_typing.specs.Numbered.{Numbered};
 ghost use Rattle.task_typing.specs.OwnEvents.{AreFit, AreOwn, own_events};
 ghost use Rattle.task_typing.specs.WellTyped.{WellTyped};
+ghost use Rattle.name_laws.specs.Jumps.{LabelsApart};
+ghost use Rattle.code_simulation.specs.Orderly.{NumbersLabels};
+ghost use Rattle.code_simulation.specs.Standing.{StandsBy};
 ghost use Rattle.tree_soundness.specs.Accepted.{AreRead, IsAccepted};
 ghost use Rattle.tree_soundness.specs.Traps.{TrapsTakeNothing};
 
@@ -48,4 +52,21 @@ pub fn accepted_tasks_go_on()
     ensures goes { (script : ScriptData) (made : MadeCell) (number : ℕ) (tree : TypedTree) (answers : List Answer) → IsAccepted script made → slice_get made.trees number ≡ Some tree → FitsSteps tree answers → Goes (asked_after tree answers) }
     ensures until { (script : ScriptData) (made : MadeCell) (number : ℕ) (tree : TypedTree) (mine : List Event) → IsAccepted script made → slice_get made.trees number ≡ Some tree → AreOwn number tree mine → AreFit made.cell mine → has_ended mine ≡ false → (request : Request) × (asked_after tree (map (λ (e : Event). e.answer) mine) ≡ asks request) }
     ensures suits { (script : ScriptData) (made : MadeCell) (number : ℕ) (tree : TypedTree) (answers : List Answer) (request : Request) → IsAccepted script made → slice_get made.trees number ≡ Some tree → asked_after tree answers ≡ asks request → IsTrue (suits_actor made.cell number (own_events number tree answers) request) }
+{}
+
+/// A law: a tree that is right by the typing rules has the labels of each of its routines numbered in text order, from 0 through its
+/// list and its ERROR part. The labels of a routine stand at different bytes, which holds of all modules that are read from texts.
+pub fn accepted_trees_number_their_labels()
+    ensures { (modules : List PlainModule) (tasks : List (List ℕ)) (signals : List SignalRow) (arm : Bool) (tree : TypedTree) → IsTyped modules tasks signals arm tree → All LabelsApart (routines_of modules) → All NumbersLabels tree.routines }
+{}
+
+/// A law: in modules that texts spell, the labels of each routine stand at different bytes.
+pub fn read_labels_stand_apart()
+    ensures { (modules : List PlainModule) → AreRead modules → All LabelsApart (routines_of modules) }
+{}
+
+/// A law: the compiled code of each tree of an accepted cell stands as the tree does, after whatever answers fit step by step: by
+/// some number of operations, and by any more, it asks the same or has ended too, with the same data.
+pub fn accepted_tasks_run_as_code()
+    ensures { (script : ScriptData) (made : MadeCell) (number : ℕ) (tree : TypedTree) (answers : List Answer) → IsAccepted script made → slice_get made.trees number ≡ Some tree → FitsSteps tree answers → (k : ℕ) × StandsBy tree answers k }
 {}
