@@ -60,12 +60,11 @@ texts_given gave file (name ∷ names) [] last (Some refused) at within few whol
     here (inl memory) = inl memory
     here (inr is) =
         inr (ap (λ (o : Option (List ℕ)). text_of file module_limit o) (ap (λ (n : ℕ). gave n name) (sym same) ∙ at 0 name) ∙ ap (λ (n : ℕ). text_of n module_limit last) (sym same) ∙ is)
-texts_given gave file (name ∷ names) (text ∷ texts) last failed at within few whole stops =
-    (
-      ap (λ (o : Option (List ℕ)). text_of file module_limit o) (ap (λ (n : ℕ). gave n name) (first file) ∙ at 0 name) ∙ text_within file module_limit text.items (within 0 text (omega arith)),
-      texts_given gave (file + 1) names texts last failed (λ k other. ap (λ (n : ℕ). gave n other) (next file k) ∙ at (suc k) other) (All-tail IsWithin text texts within) (omega (arith, few))
+texts_given gave file (name ∷ names) (text ∷ texts) last failed at within few whole stops = (
+  ap (λ (o : Option (List ℕ)). text_of file module_limit o) (ap (λ (n : ℕ). gave n name) (first file) ∙ at 0 name) ∙ text_within file module_limit text.items (within 0 text (omega arith)),
+  texts_given gave (file + 1) names texts last failed (λ k other. ap (λ (n : ℕ). gave n other) (next file k) ∙ at (suc k) other) (All-tail IsWithin text texts within) (omega (arith, few))
       (λ none. let all = whole none in omega (arith, all)) (later failed stops),
-    )
+)
   where
     first : (n : ℕ) → n ≡ n + 0
     first n = omega arith

@@ -72,7 +72,12 @@ fn print_fate<O: Sink>(out: &mut O, name: &NameText, fate: &Fate) -> Result<(), 
 }
 
 /// Writes three pieces in order.
-pub(crate) fn write_three<E: Sink>(err: &mut E, head: &[u8], middle: &[u8], tail: &[u8]) -> Result<(), Failed>
+pub(crate) fn write_three<E: Sink>(
+    err: &mut E,
+    head: &[u8],
+    middle: &[u8],
+    tail: &[u8],
+) -> Result<(), Failed>
     ensures { Writes (head.now ∷ middle.now ∷ tail.now ∷ []) result (sunk E.told E.calls E.faults err.old err.new) }
 {
     write_all(err, head)?;

@@ -85,19 +85,19 @@ pub returns-in_err-at : goal.returns-in_err-at
 returns-in_err-at g c =
     let p = err_from_is_err_and c.from_residual.result c.from_residual.ensures.1 in
     rw (p.1) (record {
-  bytes = record {
-    front = take c.loop-at.at c.args.piece.now;
-    proper = record {
-      rest = drop c.loop-at.at c.args.piece.now;
-      lacks = rest_some c.args.piece.now c.loop-at.at c.loop-at-test.true;
-      whole = append-nil c.args.piece.now ∙ sym (take-append-drop c.loop-at.at c.args.piece.now);
-    };
-    gained = none_more (take c.loop-at.at c.args.piece.now) _ _ _ c.loop-at.invariant.bytes c.in_err-at.ensures.told_after;
-  };
-  calls = calls_part c.args.piece.now c.loop-at.at _ _ _ c.loop-at-test.true c.loop-at.invariant.calls c.in_err-at.ensures.called;
-  rose = Rose-since _ _ _ c.loop-at.invariant.faults c.in_err-at.ensures.faults_never_fall c.in_err-at.ensures.failed_only_where_faults_rose;
-  faults = let h = c.in_err-at.ensures.faults_never_fall in omega (arith, h);
-})
+      bytes = record {
+        front = take c.loop-at.at c.args.piece.now;
+        proper = record {
+          rest = drop c.loop-at.at c.args.piece.now;
+          lacks = rest_some c.args.piece.now c.loop-at.at c.loop-at-test.true;
+          whole = append-nil c.args.piece.now ∙ sym (take-append-drop c.loop-at.at c.args.piece.now);
+        };
+        gained = none_more (take c.loop-at.at c.args.piece.now) _ _ _ c.loop-at.invariant.bytes c.in_err-at.ensures.told_after;
+      };
+      calls = calls_part c.args.piece.now c.loop-at.at _ _ _ c.loop-at-test.true c.loop-at.invariant.calls c.in_err-at.ensures.called;
+      rose = Rose-since _ _ _ c.loop-at.invariant.faults c.in_err-at.ensures.faults_never_fall c.in_err-at.ensures.failed_only_where_faults_rose;
+      faults = let h = c.in_err-at.ensures.faults_never_fall in omega (arith, h);
+    })
 
 pub returns : goal.returns
 returns g c = record {
