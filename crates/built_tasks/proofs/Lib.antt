@@ -7,3 +7,5 @@ pub mod Steps
 pub mod Places
 pub mod Routines
 mod Examples
+pub mod Arms
+pub mod Trees

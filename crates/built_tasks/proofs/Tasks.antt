@@ -33,14 +33,14 @@ use Rattle.built_tasks.proofs.Alike.{Alike, after_silent, over, told_joined}
 use Rattle.built_tasks.proofs.Statements.{IsRunning, NoTraps, items_alike}
 
 -- main alone, all of whose statements are built
-record IsBuilt (tree : TypedTree) : Type 0 where
-  main : TypedRoutine
-  routines : tree.routines ≡ main ∷ []
-  number : tree.main ≡ 0
-  kind : is_procedure main.kind ≡ true
-  locals : main.locals ≡ []
-  loops : main.loops ≡ 0
-  list : unbuilt_stmt main.list ≡ None
+pub record IsBuilt (tree : TypedTree) : Type 0 where
+  pub main : TypedRoutine
+  pub routines : tree.routines ≡ main ∷ []
+  pub number : tree.main ≡ 0
+  pub kind : is_procedure main.kind ≡ true
+  pub locals : main.locals ≡ []
+  pub loops : main.loops ≡ 0
+  pub list : unbuilt_stmt main.list ≡ None
 
 neither : {A : Type 0} (a b : Option A) → option_or a b ≡ None → (a ≡ None) × (b ≡ None)
 neither None b is = (refl, is)
@@ -95,7 +95,7 @@ among_built tree main [] number are is = cc
 among_built tree zero (routine ∷ more) number are is = main_built tree routine more are number is
 among_built tree (suc main) (routine ∷ more) number are is = cc
 
-is_built : (tree : TypedTree) → first_unbuilt tree ≡ None → IsBuilt tree
+pub is_built : (tree : TypedTree) → first_unbuilt tree ≡ None → IsBuilt tree
 unfolding first_unbuilt
 is_built tree is = among_built tree tree.main tree.routines refl refl is
 

@@ -12,4 +12,4 @@ mod moves;
 pub use at::At;
 pub use build::build_task;
 pub use fault::BuildFault;
-pub use laws::built_tasks_ask_as_their_moves;
+pub use laws::{built_moves_need_an_arm, built_tasks_ask_as_their_moves};
