@@ -25,9 +25,9 @@ pub building_more : (ms : List declared_mention.Mention) (modules : Modules) (k 
 building_more ms modules k builds more d text bytes tree build paired whole lt same_text same p equal here pushed =
     let same_length = paired.same in
     let one : suc k ≡ k + 1 = omega arith in
-    let reads : drop k (reads_in modules) ≡ read text tree ∷ drop (k + 1) (reads_in modules) =
-    drop-read modules.texts.now modules.trees.now k text tree (omega (arith, same_length, whole)) (omega (arith, whole)) same_text same
-    ∙ ap (λ (n : ℕ). read text tree ∷ drop n (reads_in modules)) one in
+    let reads : drop k (reads_in modules) ≡ read (modules.first + k) text tree ∷ drop (k + 1) (reads_in modules) =
+    drop-read modules.first modules.texts.now modules.trees.now k text tree (omega (arith, same_length, whole)) (omega (arith, whole)) same_text same
+    ∙ ap (λ (n : ℕ). read (modules.first + k) text tree ∷ drop n (reads_in modules)) one in
     let is_built : BuildOf (mention_of (get_or ms k d)) text.items (view_module tree) (build_of build) =
     subst (λ (bs : List ℕ). BuildOf (mention_of (get_or ms k d)) bs (view_module tree) (build_of build)) equal here in
     record {
@@ -46,7 +46,7 @@ building_more ms modules k builds more d text bytes tree build paired whole lt s
 pub building_ends : (ms : List declared_mention.Mention) (modules : Modules) (k : ℕ) (builds : List declared_build.Build) → ArePaired modules → length modules.trees.now ≡ length ms → length ms ≤ k
     → Building ms (reads_in modules) k builds → AreBuilds (map mention_of ms) (reads_in modules) (map build_of builds)
 building_ends ms modules k builds paired whole past p =
-    let many = length-reads modules.texts.now modules.trees.now paired.same in
+    let many = length-reads modules.first modules.texts.now modules.trees.now paired.same in
     let none : drop k (reads_in modules) ≡ [] = drop-past (reads_in modules) k (omega (arith, many, whole)) in
     subst (λ (bs : List Build). AreBuilds (map mention_of ms) (reads_in modules) bs) (append-nil (map build_of builds))
     (p.goes_on []

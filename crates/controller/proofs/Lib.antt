@@ -3,6 +3,8 @@ pub mod Options
 pub mod Lists
 pub mod Picking
 pub mod Mentions
+pub mod Untold
+pub mod GivenReads
 pub mod Loads
 pub mod ReadModules
 pub mod Parsing
@@ -22,3 +24,4 @@ pub mod Exits
 pub mod Causes
 pub mod OneBuilt
 pub mod OneVerdict
+pub mod Refusing

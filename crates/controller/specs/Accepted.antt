@@ -1,7 +1,6 @@
 -- What command words and files come to: the first refusal; or what is checked; or the cell and the trees of its tasks.
-use Rattle.std.specs.Prelude.{◌≡◌, ℕ, zero, suc, ◌+◌, ◌-◌, ◌⊎◌, take, drop, slice_get, Bool, true, false, not, nat_lt, List, [], ◌∷◌, ◌++◌, length, map, codes, Option, Some, None, is_some, Result, Ok, Err, ◌==◌, if◌then◌else◌}
+use Rattle.std.specs.Prelude.{◌≡◌, ℕ, zero, suc, ◌+◌, ◌⊎◌, take, drop, slice_get, Bool, true, false, not, nat_lt, List, [], ◌∷◌, ◌++◌, length, map, codes, Option, Some, None, is_some, Result, Ok, Err, ◌==◌, if◌then◌else◌}
 use Rattle.std.specs.Option.{option_map, option_or}
-use Rattle.outside.specs.Told.{Told, found, after_reads}
 use Rattle.rapid_model.specs.CellData.{CellData}
 use Rattle.rapid_model.specs.ScriptData.{ScriptData, module_names}
 use Rattle.rapid_model.specs.declared.script_rule.ScriptRule.TheVariants as rules
@@ -25,11 +24,11 @@ use Rattle.rapid_forms.specs.declared.fault.SyntaxFault.TheVariants as faults
 use Rattle.module_parser.specs.Modules.{ModuleText}
 use Rattle.built_forms.specs.Built.{BuildsTo, item_place}
 use Rattle.controller.specs.declared.command.Action.{Action}
-use Rattle.controller.specs.declared.command.Action.TheVariants.{Round}
+use Rattle.controller.specs.declared.command.Action.TheVariants.{Check, Round}
 use Rattle.controller.specs.declared.refused.Refused.{Refused}
 use Rattle.controller.specs.declared.refused.Refused.TheVariants.{Words, Script, Module, Memory}
 use Rattle.controller.specs.declared.refused.ModuleRule.TheVariants.{Lex, Syntax, «Type», NotBuilt}
-use Rattle.controller.specs.Files.{text_of}
+use Rattle.controller.specs.Files.{Reads, text_of}
 use Rattle.controller.specs.Words.{refused_place, script_name, plain_words, first_action}
 
 -- the most bytes of a script and of a module
@@ -47,8 +46,8 @@ pub data Verdict : Type 0 where
   runs : List (List ℕ) → CellData → List Tree → Verdict
 
 -- what the read of a file of this number comes to
-abbrev pub file_text : Told → ℕ → ℕ → List ℕ → Result (List ℕ) Refused
-file_text told file limit name = text_of file limit (found (after_reads file told) name)
+abbrev pub file_text : Reads → ℕ → ℕ → List ℕ → Result (List ℕ) Refused
+file_text gave file limit name = text_of file limit (gave file name)
 
 -- the line and the column of a byte
 abbrev pub place_at : List ℕ → ℕ → Place
@@ -106,15 +105,16 @@ abbrev pub BuildOf : Mention → List ℕ → PlainModule → Build → Type 0
 BuildOf m text raw (Ok tree) = BuiltAs m raw (Ok tree)
 BuildOf m text raw (Err place) = (at : ℕ) × BuiltAs m raw (Err at) × (place ≡ place_at text at)
 
--- a module that is read: its text, and what the text spells
+-- a module that is read: the number of its file, its text, and what the text spells
 pub record ReadModule : Type 0 where
+  pub file : ℕ
   pub text : List ℕ
   pub raw : PlainModule
 
 -- what a text comes to: a refusal by its fault; or the module that it spells
 abbrev pub ModuleOf : ℕ → List ℕ → Result ReadModule Refused → Type 0
 ModuleOf file text (Err refused) = (fault : SyntaxFault) × ModuleText text (Err fault) × (refused ≡ fault_refusal file text fault)
-ModuleOf file text (Ok read) = (read.text ≡ text) × ModuleText text (Ok read.raw)
+ModuleOf file text (Ok read) = (read.file ≡ file) × (read.text ≡ text) × ModuleText text (Ok read.raw)
 
 -- the module in the file of this number
 abbrev pub ModuleIn : ℕ → Result (List ℕ) Refused → Result ReadModule Refused → Type 0
@@ -122,34 +122,40 @@ ModuleIn file (Err refused) verdict = verdict ≡ Err refused
 ModuleIn file (Ok text) verdict = ModuleOf file text verdict
 
 -- the modules of these names, the first of which has this number; or the first refusal
-abbrev pub ModulesOf : Told → ℕ → List (List ℕ) → Result (List ReadModule) Refused → Type 0
-ModulesOf told file [] verdict = verdict ≡ Ok []
-ModulesOf told file (name ∷ names) (Err refused) =
-    ModuleIn file (file_text told file module_limit name) (Err refused)
-    ⊎ ((read : ReadModule) × ModuleIn file (file_text told file module_limit name) (Ok read) × ModulesOf told (file + 1) names (Err refused))
-ModulesOf told file (name ∷ names) (Ok []) = ⊥
-ModulesOf told file (name ∷ names) (Ok (read ∷ reads)) =
-    ModuleIn file (file_text told file module_limit name) (Ok read) × ModulesOf told (file + 1) names (Ok reads)
+abbrev pub ModulesOf : Reads → ℕ → List (List ℕ) → Result (List ReadModule) Refused → Type 0
+ModulesOf gave file [] verdict = verdict ≡ Ok []
+ModulesOf gave file (name ∷ names) (Err refused) =
+    ModuleIn file (file_text gave file module_limit name) (Err refused)
+    ⊎ ((read : ReadModule) × ModuleIn file (file_text gave file module_limit name) (Ok read) × ModulesOf gave (file + 1) names (Err refused))
+ModulesOf gave file (name ∷ names) (Ok []) = ⊥
+ModulesOf gave file (name ∷ names) (Ok (read ∷ reads)) =
+    ModuleIn file (file_text gave file module_limit name) (Ok read) × ModulesOf gave (file + 1) names (Ok reads)
 
+-- the text of a module, where there is one, and the number of its file
 abbrev pub read_text : Option ReadModule → List ℕ
 read_text (Some read) = read.text
 read_text None = []
 
--- the refusal by a rule of names and types, in the module of this number among these; the first of them is in this file
-abbrev pub rule_refusal : ℕ → List ReadModule → ℕ → ℕ → TypeRule → Refused
-rule_refusal file reads number at rule = Module (file + number) (place_at (read_text (slice_get reads number)) at) («Type» rule)
+abbrev pub read_file : Option ReadModule → ℕ
+read_file (Some read) = read.file
+read_file None = 0
 
-abbrev pub or_refused : ℕ → List ReadModule → Checked TypedTree → Result TypedTree Refused
-or_refused file reads (Ok tree) = Ok tree
-or_refused file reads (Err broken) = Err (rule_refusal file reads broken.«module» broken.at broken.rule)
+-- the refusal by a rule of names and types, in the module of this number among these
+abbrev pub rule_refusal : List ReadModule → ℕ → ℕ → TypeRule → Refused
+rule_refusal reads number at rule =
+    let read = slice_get reads number in Module (read_file read) (place_at (read_text read) at) («Type» rule)
+
+abbrev pub or_refused : List ReadModule → Checked TypedTree → Result TypedTree Refused
+or_refused reads (Ok tree) = Ok tree
+or_refused reads (Err broken) = Err (rule_refusal reads broken.«module» broken.at broken.rule)
 
 abbrev pub names_in : List ScriptTask → List (List ℕ)
 names_in tasks = map (λ task. task.name) tasks
 
--- the typed tree of a task, whose modules these are, the first of them in this file
-abbrev pub typed_task : ScriptData → ScriptTask → ℕ → List ReadModule → Result TypedTree Refused
-typed_task script task file reads =
-    or_refused file reads (task_of (map (λ read. read.raw) reads) (names_in script.tasks) script.signals (is_some task.arm))
+-- the typed tree of a task, whose modules these are
+abbrev pub typed_task : ScriptData → ScriptTask → List ReadModule → Result TypedTree Refused
+typed_task script task reads =
+    or_refused reads (task_of (map (λ read. read.raw) reads) (names_in script.tasks) script.signals (is_some task.arm))
 
 abbrev pub with_tree : TypedTree → Result (List TypedTree) Refused → Result (List TypedTree) Refused
 with_tree tree (Ok trees) = Ok (tree ∷ trees)
@@ -160,22 +166,22 @@ abbrev pub then_trees : Result TypedTree Refused → Result (List TypedTree) Ref
 then_trees (Ok tree) more = with_tree tree more
 then_trees (Err refused) more = Err refused
 
--- the typed trees of these tasks, each with as many of the modules as it names; the first module is in this file
-abbrev pub typed_tasks : ScriptData → List ScriptTask → ℕ → List ReadModule → Result (List TypedTree) Refused
-typed_tasks script [] file reads = Ok []
-typed_tasks script (task ∷ tasks) file reads =
+-- the typed trees of these tasks, each with as many of the modules as it names
+abbrev pub typed_tasks : ScriptData → List ScriptTask → List ReadModule → Result (List TypedTree) Refused
+typed_tasks script [] reads = Ok []
+typed_tasks script (task ∷ tasks) reads =
     let count = length task.modules in
-    then_trees (typed_task script task file (take count reads)) (typed_tasks script tasks (file + count) (drop count reads))
+    then_trees (typed_task script task (take count reads)) (typed_tasks script tasks (drop count reads))
 
--- the file of the first module of the task of this number
-abbrev pub first_file : List ScriptTask → ℕ → ℕ
-first_file [] number = 1
-first_file (task ∷ tasks) zero = 1
-first_file (task ∷ tasks) (suc number) = length task.modules + first_file tasks number
+-- how many modules the tasks before the one of this number have
+abbrev pub modules_before : List ScriptTask → ℕ → ℕ
+modules_before [] number = 0
+modules_before (task ∷ tasks) zero = 0
+modules_before (task ∷ tasks) (suc number) = length task.modules + modules_before tasks number
 
 -- why no cell is made of the trees: the later of two declarations that differ, or a value of the script
 abbrev pub cell_refusal : ScriptData → List ReadModule → CellBreak → Refused
-cell_refusal script reads (Clash task number at) = rule_refusal 1 reads ((first_file script.tasks task - 1) + number) at PersType
+cell_refusal script reads (Clash task number at) = rule_refusal reads (modules_before script.tasks task + number) at PersType
 cell_refusal script reads (InScript key rule) = Script key rule
 
 abbrev pub cell_or_refused : ScriptData → List ReadModule → Making MadeCell → Result CellData Refused
@@ -189,7 +195,7 @@ cell_from script reads (Err refused) = Err refused
 -- The cell of a script and of its modules; or the first refusal of these: by names and types, task by task; then by what the
 -- tasks share; then by the script's values of persistents.
 abbrev pub checked : ScriptData → List ReadModule → Result CellData Refused
-checked script reads = cell_from script reads (typed_tasks script script.tasks 1 reads)
+checked script reads = cell_from script reads (typed_tasks script script.tasks reads)
 
 -- the first key of the script that is there and not built
 abbrev pub unbuilt_key : ScriptData → Option (List ℕ)
@@ -225,12 +231,14 @@ abbrev pub unless_refused : List (List ℕ) → Option Refused → Verdict → V
 unless_refused names (Some refused) verdict = refuses names refused
 unless_refused names None verdict = verdict
 
--- what the action comes to where all is accepted and this is the cell: a run needs what is built
+-- what the action comes to where all is accepted and this is the cell: a run needs what is built; words without an action are
+-- refused
 abbrev pub ActionDecides : Option Action → List (List ℕ) → ScriptData → List ReadModule → CellData → Verdict → Type 0
 ActionDecides (Some Round) names script reads cell verdict =
     (builds : List Build) × AreBuilds (mentions script.tasks) reads builds
     × (verdict ≡ unless_refused names (not_built script builds) (runs names cell (trees_of builds)))
-ActionDecides _ names script reads cell verdict = verdict ≡ accepts names
+ActionDecides (Some Check) names script reads cell verdict = verdict ≡ accepts names
+ActionDecides None names script reads cell verdict = ⊥
 
 abbrev pub CheckedDecides : Option Action → List (List ℕ) → ScriptData → List ReadModule → Result CellData Refused → Verdict → Type 0
 CheckedDecides action names script reads (Err refused) verdict = verdict ≡ refuses names refused
@@ -245,22 +253,22 @@ abbrev pub names_of : List ℕ → ScriptData → List (List ℕ)
 names_of name script = name ∷ module_names script.tasks
 
 -- what the script's text comes to
-abbrev pub ScriptDecides : Option Action → Told → List ℕ → Read ScriptData → Verdict → Type 0
-ScriptDecides action told name (Err broken) verdict = verdict ≡ refuses (name ∷ []) (Script broken.key broken.rule)
-ScriptDecides action told name (Ok script) verdict =
-    (modules : Result (List ReadModule) Refused) × ModulesOf told 1 (module_names script.tasks) modules
+abbrev pub ScriptDecides : Option Action → Reads → List ℕ → Read ScriptData → Verdict → Type 0
+ScriptDecides action gave name (Err broken) verdict = verdict ≡ refuses (name ∷ []) (Script broken.key broken.rule)
+ScriptDecides action gave name (Ok script) verdict =
+    (modules : Result (List ReadModule) Refused) × ModulesOf gave 1 (module_names script.tasks) modules
     × ModulesDecide action (names_of name script) script modules verdict
 
-abbrev pub FileDecides : Option Action → Told → List ℕ → Result (List ℕ) Refused → Verdict → Type 0
-FileDecides action told name (Err refused) verdict = verdict ≡ refuses (name ∷ []) refused
-FileDecides action told name (Ok text) verdict =
-    (script : Read ScriptData) × ScriptOf text script × ScriptDecides action told name script verdict
+abbrev pub FileDecides : Option Action → Reads → List ℕ → Result (List ℕ) Refused → Verdict → Type 0
+FileDecides action gave name (Err refused) verdict = verdict ≡ refuses (name ∷ []) refused
+FileDecides action gave name (Ok text) verdict =
+    (script : Read ScriptData) × ScriptOf text script × ScriptDecides action gave name script verdict
 
-abbrev pub WordsDecide : Told → List (List ℕ) → Option ℕ → Verdict → Type 0
-WordsDecide told words (Some place) verdict = verdict ≡ refuses [] (Words place)
-WordsDecide told words None verdict =
-    FileDecides (first_action (plain_words words)) told (script_name words) (file_text told 0 script_limit (script_name words)) verdict
+abbrev pub WordsDecide : Reads → List (List ℕ) → Option ℕ → Verdict → Type 0
+WordsDecide gave words (Some place) verdict = verdict ≡ refuses [] (Words place)
+WordsDecide gave words None verdict =
+    FileDecides (first_action (plain_words words)) gave (script_name words) (file_text gave 0 script_limit (script_name words)) verdict
 
--- what the words and the told files come to
-pub record Accepted (words : List (List ℕ)) (told : Told) (verdict : Verdict) : Type 0 where
-  pub decides : WordsDecide told words (refused_place words) verdict
+-- what the words and the files come to, of which the reads gave these
+pub record Accepted (words : List (List ℕ)) (gave : Reads) (verdict : Verdict) : Type 0 where
+  pub decides : WordsDecide gave words (refused_place words) verdict

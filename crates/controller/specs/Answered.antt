@@ -13,7 +13,7 @@ use Rattle.controller.specs.declared.refused.Refused.TheVariants.{Write, Memory}
 use Rattle.rapid_model.specs.ScriptData.{ScriptData}
 use Rattle.controller.specs.declared.command.Action.{Action}
 use Rattle.controller.specs.declared.command.Action.TheVariants.{Round}
-use Rattle.controller.specs.Words.{plain_words, first_action}
+use Rattle.controller.specs.Files.{Reads, told_reads}
 use Rattle.controller.specs.Accepted.{Verdict, refuses, accepts, runs, Accepted, ReadModule, checked, ActionDecides, CheckedDecides}
 use Rattle.controller.specs.Refusals.{status_of, refusal_line}
 use Rattle.controller.specs.Runs.{IsRun, run_status}
@@ -120,19 +120,15 @@ AnswersReads action names script reads report out err =
 abbrev pub AnswersBuilt : List (List ℕ) → ScriptData → List ReadModule → CellData → Report → Sunk → Sunk → Type 0
 AnswersBuilt names script reads cell report out err = AnswersSome (ActionDecides (Some Round) names script reads cell) report out err
 
--- what is no refusal is what the action comes to for some script and modules
-abbrev pub ForSomeTexts : Option Action → Verdict → Type 0
-ForSomeTexts action (refuses names refused) = Unit {0}
-ForSomeTexts action verdict =
-    (names : List (List ℕ)) × (script : ScriptData) × (reads : List ReadModule) × CheckedDecides action names script reads (checked script reads) verdict
+-- A verdict on the words and the files: on what each read finds of a shelf that tells its files; of a shelf that tells nothing,
+-- on what some reads gave.
+abbrev pub IsVerdict : List (List ℕ) → Option Told → Verdict → Type 0
+IsVerdict words (Some files) verdict = Accepted words (told_reads files) verdict
+IsVerdict words None verdict = (gave : Reads) × Accepted words gave verdict
 
--- The report answers what the words and the files come to, where the shelf tells its files; whatever it tells, the report
--- answers a refusal, or what the words' action comes to for some script and modules. Want of memory aside.
+-- The report answers what the words and the files come to, want of memory aside.
 abbrev pub AnswersWords : List (List ℕ) → Option Told → Report → Sunk → Sunk → Type 0
-AnswersWords words told report out err =
-    IsOutOfMemory report out err
-    ⊎ ((verdict : Verdict) × Answers verdict report out err × ForSomeTexts (first_action (plain_words words)) verdict
-    × IfSome told (λ files. Accepted words files verdict))
+AnswersWords words told report out err = AnswersSome (IsVerdict words told) report out err
 
 -- the words as bytes
 abbrev pub word_bytes : List (Bor (List ℕ)) → List (List ℕ)

@@ -27,6 +27,7 @@ use Rattle.typed_trees.specs.declared.datum.Lvalue.{Lvalue}
 use Rattle.typed_trees.specs.declared.datum.Root.{Root}
 use Rattle.typed_trees.specs.declared.datum.Root.TheVariants as roots
 use Rattle.typed_trees.specs.declared.expr.TreeRoot.TheVariants as tree_roots
+use Rattle.rapid_meaning.specs.Answering.{is_trap_row}
 use Rattle.rapid_meaning.specs.Doings.{Act, Asks, Doing, Gives, ◌>>=◌, ◌>>◌, done, fault, tells, when_ok}
 use Rattle.rapid_meaning.specs.Expressions.{expr, lent_length, place}
 use Rattle.rapid_meaning.specs.Functions.{read_signal}
@@ -172,8 +173,8 @@ connected_answered s q old trap is trapped answers.Already fits = (refl, safe_ra
 connected_answered s q old trap is trapped answers.NoMore fits = (refl, safe_raises {A = ⊤} s Anything 105)
 connected_answered s q old trap is trapped a fits = absurd cc
 
-pub connect_safe : (s : Scene) (q : Lvalue) (old trap : ℕ) → IsThere s q sorts.IntNum → Safe s Anything (connect q old trap)
-connect_safe s q old trap is = safe_asks s Anything (requests.Connect old trap) (when_connected q) (record { no_rise = refl; no_hold = refl; no_leave = refl; no_end = refl }) (λ d. tt) (connected_answered s q old trap is)
+pub connect_safe : (s : Scene) (q : Lvalue) (old trap : ℕ) → IsTrue (is_trap_row (slice_get s.c.tree.routines trap)) → IsThere s q sorts.IntNum → Safe s Anything (connect q old trap)
+connect_safe s q old trap there is = safe_asks s Anything (requests.Connect old trap) (when_connected q) (record { no_rise = refl; no_hold = refl; no_leave = refl; no_end = refl }) (λ d. there) (connected_answered s q old trap is)
 
 -- the whole of a persistent
 abbrev pub IsPersAt : Scene → Lvalue → Type 0

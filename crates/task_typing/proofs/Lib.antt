@@ -23,5 +23,7 @@ pub mod Frames
 pub mod Calls
 pub mod Whole
 pub mod Suits
+pub mod Events
 pub mod Own
+pub mod Until
 mod Examples

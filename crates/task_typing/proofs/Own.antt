@@ -1,20 +1,15 @@
 -- A task's own events tell how it stands: held just after Hold, in a trap as its data say, and at no End.
-use Rattle.std.proofs.Common.{◌≡◌, refl, sym, ap, ◌∙◌, subst, ℕ, ◌+◌, ◌==◌, Bool, true, false, not, ◌&&◌, cond, List, [], ◌∷◌, ◌++◌, length, map, Option, Some, None, is_some, slice_get, if◌then◌else◌, IsTrue, arith, append_assoc}
-use Rattle.std.specs.Prelude.{⊤, count_by}
-use Rattle.std.specs.Option.{option_or}
-use Rattle.std.proofs.lemmas.Bool.{and_parts, eq-eqb, ne_eqb, not-true}
+use Rattle.std.proofs.Common.{◌≡◌, refl, sym, ap, ◌∙◌, subst, ℕ, Bool, true, false, not, ◌&&◌, List, [], ◌∷◌, ◌++◌, length, map, Option, Some, None, is_some, slice_get, IsTrue, append_assoc}
+use Rattle.std.specs.Prelude.{⊤}
 use Rattle.std.proofs.lemmas.List.{append-nil}
-use Rattle.std.proofs.lemmas.List.Sums.{sum_by_push}
 use Rattle.rapid_model.specs.CellData.{CellData}
-use Rattle.rapid_model.specs.Fits.{Fitting, fits_request}
-use Rattle.rapid_model.specs.Own.{end_of, fate_told, has_ended, is_held, is_hold, is_leave, is_rise, is_trap, is_trapped}
+use Rattle.rapid_model.specs.Fits.{fits_request}
+use Rattle.rapid_model.specs.Own.{fate_told, has_ended, is_held, is_rise, is_trapped}
 use Rattle.rapid_model.specs.Requests.{goes_with, suits_actor, suits_task}
 use Rattle.rapid_model.specs.declared.answer.Answer.{Answer}
-use Rattle.rapid_model.specs.declared.answer.Answer.TheVariants as answers
 use Rattle.rapid_model.specs.declared.event.Event.{Event}
 use Rattle.rapid_model.specs.declared.fate.Fate.{Fate}
 use Rattle.rapid_model.specs.declared.request.Request.{Request}
-use Rattle.rapid_model.specs.declared.request.Request.TheVariants as requests
 use Rattle.rapid_model.specs.declared.task_row.TaskRow.{TaskRow}
 use Rattle.typed_trees.specs.Plain.{TypedTree}
 use Rattle.rapid_meaning.specs.Answering.{Outcome, Gave, Raised, Asking, Ended, Misfits, Unfit, NoFuel, fitting_of}
@@ -28,61 +23,13 @@ use Rattle.task_typing.specs.Numbered.{Numbered}
 use Rattle.task_typing.specs.OwnEvents.{AreOwn, event_of, events_behind, own_events}
 use Rattle.task_typing.specs.Setting.{Setting}
 use Rattle.task_typing.specs.WellTyped.{WellTyped}
+use Rattle.task_typing.proofs.Events.{AreTraps, IsBalanced, balanced_last, going_last, held_last, in_order, told_trapped, traps_last}
 use Rattle.task_typing.proofs.Meets.{Due}
 use Rattle.task_typing.proofs.Scene.{rules_of}
 use Rattle.task_typing.proofs.Steps.{Behind, Follows, Stands}
 use Rattle.task_typing.proofs.Suits.{suits}
-use Rattle.task_typing.proofs.Told.{Told, calm, told_after, trapped_after}
+use Rattle.task_typing.proofs.Told.{Told, calm, told_after}
 use Rattle.task_typing.proofs.Whole.{ComesTo, asked, first_stands, next_follows, state_comes}
-
--- ---- one event more
-
-held_last : (mine : List Event) (e : Event) → is_held (mine ++ e ∷ []) ≡ is_hold e.request
-held_last [] e = refl
-held_last (x ∷ []) e = refl
-held_last (x ∷ y ∷ more) e = held_last (y ∷ more) e
-
-ended_or : (told : Option Fate) (first last : Option Fate) → (is_some first ≡ false → is_some last ≡ false) → is_some (option_or told first) ≡ false → is_some (option_or told last) ≡ false
-ended_or None first last more e = more e
-ended_or (Some fate) first last more e = absurd cc
-
-going_last : (mine : List Event) (e : Event) → fate_told e.request ≡ None → has_ended mine ≡ false → has_ended (mine ++ e ∷ []) ≡ false
-going_last [] e told going = ap (λ (o : Option Fate). is_some (option_or o None)) told
-going_last (x ∷ more) e told going = ended_or (fate_told x.request) (end_of more) (end_of (more ++ e ∷ [])) (going_last more e told) going
-
--- as many traps were left as begun, but for one that is under way
-abbrev IsBalanced : List Event → Bool → Type 0
-IsBalanced mine trapped = count_by (λ (e : Event). is_trap e.answer) mine ≡ count_by (λ (e : Event). is_leave e.request) mine + cond trapped 1 0
-
-by_counts : (begun left : ℕ) (trapped : Bool) → begun ≡ left + cond trapped 1 0 → not (begun == left) ≡ trapped
-by_counts begun left true e = ap not (ne_eqb begun left (λ (same : begun ≡ left). omega (arith, e, same)))
-by_counts begun left false e = ap not (eq-eqb begun left (omega (arith, e)))
-
--- a trap begins outside traps, at a Look, and is left within
-abbrev pub IsOrdered : Bool → Bool → Bool → Type 0
-IsOrdered trap leave trapped = (trap ≡ true → (leave ≡ false) × (trapped ≡ false)) × (leave ≡ true → trapped ≡ true)
-
-count_next : (begun left : ℕ) (trap leave trapped : Bool) → IsOrdered trap leave trapped → begun ≡ left + cond trapped 1 0
-    → begun + cond trap 1 0 ≡ (left + cond leave 1 0) + cond (if trap then true else if leave then false else trapped) 1 0
-count_next begun left true true trapped ordered e = let no : true ≡ false = (ordered.0 refl).0 in absurd cc
-count_next begun left true false true ordered e = let no : true ≡ false = (ordered.0 refl).1 in absurd cc
-count_next begun left true false false ordered e = omega (arith, e)
-count_next begun left false true true ordered e = omega (arith, e)
-count_next begun left false true false ordered e = let no : false ≡ true = ordered.1 refl in absurd cc
-count_next begun left false false true ordered e = omega (arith, e)
-count_next begun left false false false ordered e = omega (arith, e)
-
-balanced_last : (mine : List Event) (e : Event) (trapped : Bool) → IsOrdered (is_trap e.answer) (is_leave e.request) trapped → IsBalanced mine trapped
-    → IsBalanced (mine ++ e ∷ []) (trapped_after trapped e.request e.answer)
-balanced_last mine e trapped ordered balanced =
-    sum_by_push (λ (x : Event). cond (is_trap x.answer) 1 0) mine e
-    ∙ count_next (count_by (λ (x : Event). is_trap x.answer) mine) (count_by (λ (x : Event). is_leave x.request) mine) (is_trap e.answer) (is_leave e.request) trapped ordered balanced
-    ∙ ap (λ (n : ℕ). n + cond (trapped_after trapped e.request e.answer) 1 0) (sym (sum_by_push (λ (x : Event). cond (is_leave x.request) 1 0) mine e))
-
-trap_fits : (by : Fitting) (request : Request) (a : Answer) → IsTrue (fits_request by request a) → is_trap a ≡ true → (is_leave request ≡ false) × (by.trapped ≡ false)
-trap_fits by requests.Look (answers.Trap number trap) fits is = (refl, not-true by.trapped (and_parts (by.traps trap) (not by.trapped) fits).1)
-trap_fits by request (answers.Trap number trap) fits is = absurd cc
-trap_fits by request a fits is = absurd cc
 
 -- ---- a task that is well typed and numbered
 
@@ -95,7 +42,7 @@ pub record Task : Type 0 where
   pub typed : WellTyped signals arm tree
   pub numbered : Numbered cell number tree
 
-abbrev setting_of : Task → Setting
+abbrev pub setting_of : Task → Setting
 setting_of t = record { signals = t.signals; arm = t.arm; tree = t.tree }
 
 -- something is asked
@@ -132,7 +79,7 @@ fits_last t before a request d true asking e later = refl
 fits_last t before a request d false asking e later =
     let over : Unfit ≡ Asking later.request later.standing = sym (refuses t.tree before a request d asking e) ∙ later.is in absurd cc
 
--- these events tell how the task stands after these answers
+-- these events tell how the task stands after these answers, as it asks
 pub record Tells (tree : TypedTree) (answers : List Answer) (mine : List Event) : Type 0 where
   pub request : Request
   pub standing : Data
@@ -140,32 +87,82 @@ pub record Tells (tree : TypedTree) (answers : List Answer) (mine : List Event) 
   pub held : is_held mine ≡ is_rise request
   pub balanced : IsBalanced mine standing.trapped
   pub going : has_ended mine ≡ false
+  pub traps : AreTraps tree mine
 
-first_told : (t : Task) → IsAsking (state_after t.tree []) → Tells t.tree [] []
-first_told t first =
-    let due : Due (rules_of (setting_of t)) (calm (initial t.tree)) first.standing first.request =
-    subst (λ (o : Outcome ⊤). Stands (rules_of (setting_of t)) (λ (v : ⊤) d. ⊥) (λ n d. ⊥) (calm (initial t.tree)) o) first.is
-    (first_stands t.signals t.arm t.cell t.number t.tree t.typed t.numbered) in
+abbrev pub StandsSo : Task → Told → Outcome ⊤ → Type 0
+StandsSo t told o = Stands (rules_of (setting_of t)) (λ (v : ⊤) d. ⊥) (λ n d. ⊥) told o
+
+-- what stands so asks
+pub record IsDueSo (t : Task) (told : Told) (o : Outcome ⊤) : Type 0 where
+  pub request : Request
+  pub standing : Data
+  pub is : o ≡ Asking request standing
+  pub due : Due (rules_of (setting_of t)) told standing request
+
+due_of : (t : Task) (told : Told) (answers : List Answer) (o : Outcome ⊤) → state_after t.tree answers ≡ o → StandsSo t told o → IsDueSo t told o
+due_of t told answers (Asking request d) e stands = record { request = request; standing = d; is = refl; due = stands }
+due_of t told answers (Gave v d left) e stands = absurd stands.2
+due_of t told answers (Raised n d left) e stands = absurd stands.2
+due_of t told answers (Ended d) e stands = absurd stands
+due_of t told answers Misfits e stands = absurd stands
+due_of t told answers Unfit e stands = absurd stands
+due_of t told answers NoFuel e stands = absurd (enough t.tree answers e)
+
+pub due_after : (t : Task) (told : Told) (answers : List Answer) → StandsSo t told (state_after t.tree answers) → IsDueSo t told (state_after t.tree answers)
+due_after t told answers stands = due_of t told answers (state_after t.tree answers) refl stands
+
+pub first_told : (t : Task) → Tells t.tree [] []
+first_told t =
+    let first : IsDueSo t (calm (initial t.tree)) (state_after t.tree []) =
+    due_after t (calm (initial t.tree)) [] (first_stands t.signals t.arm t.cell t.number t.tree t.typed t.numbered) in
     record {
       request = first.request;
       standing = first.standing;
       asking = first.is;
-      held = sym due.rises;
-      balanced = subst (λ (b : Bool). IsBalanced [] b) due.same refl;
+      held = sym first.due.rises;
+      balanced = subst (λ (b : Bool). IsBalanced [] b) first.due.same refl;
       going = refl;
+      traps = λ trap no. absurd cc;
+    }
+
+-- the event with which the task goes on
+abbrev pub event_now : (t : Task) (before : List Answer) (mine : List Event) → Tells t.tree before mine → Answer → Event
+event_now t before mine tells a = record { actor = t.number; request = tells.request; answer = a }
+
+pub behind_next : (t : Task) (before : List Answer) (a : Answer) (mine : List Event) (tells : Tells t.tree before mine)
+    → IsTrue (fits_request (fitting_of t.tree tells.standing.trapped) tells.request a)
+    → Behind (rules_of (setting_of t)) (λ (v : ⊤) d. ⊥) (λ n d. ⊥) (fate_told tells.request) (told_after (calm tells.standing) tells.request a) tells.standing
+    (state_after t.tree (before ++ a ∷ []))
+behind_next t before a mine tells fits =
+    let follows : Follows (rules_of (setting_of t)) (λ (v : ⊤) x. ⊥) (λ n x. ⊥) a (Asking tells.request tells.standing) (state_after t.tree (before ++ a ∷ [])) =
+    subst (λ (o : Outcome ⊤). Follows (rules_of (setting_of t)) (λ (v : ⊤) x. ⊥) (λ n x. ⊥) a o (state_after t.tree (before ++ a ∷ []))) tells.asking
+    (next_follows t.signals t.arm t.cell t.number t.tree before a t.typed t.numbered) in
+    follows fits
+
+pub told_next : (t : Task) (before : List Answer) (a : Answer) (mine : List Event) (tells : Tells t.tree before mine)
+    → IsTrue (fits_request (fitting_of t.tree tells.standing.trapped) tells.request a) → fate_told tells.request ≡ None
+    → IsDueSo t (told_after (calm tells.standing) tells.request a) (state_after t.tree (before ++ a ∷ [])) → Tells t.tree (before ++ a ∷ []) (mine ++ event_now t before mine tells a ∷ [])
+told_next t before a mine tells fits untold next =
+    let d : Data = tells.standing in
+    let e : Event = event_now t before mine tells a in
+    let may : IsAsked (setting_of t) d tells.request = asked t.signals t.arm t.cell t.number t.tree before tells.request d t.typed t.numbered tells.asking in
+    record {
+      request = next.request;
+      standing = next.standing;
+      asking = next.is;
+      held = held_last mine e ∙ sym next.due.rises;
+      balanced = subst (λ (b : Bool). IsBalanced (mine ++ e ∷ []) b) next.due.same (balanced_last mine e d.trapped (in_order (setting_of t) d tells.request a may fits) tells.balanced);
+      going = going_last mine e untold tells.going;
+      traps = traps_last (setting_of t) d mine e may tells.traps;
     }
 
 -- behind a request that has a fate the task has ended
-behind_last : (t : Task) (told : Told) (fate : Option Fate) (d e : Data) (request : Request) → Behind (rules_of (setting_of t)) (λ (v : ⊤) x. ⊥) (λ n x. ⊥) fate told d (Asking request e)
-    → (fate ≡ None) × Due (rules_of (setting_of t)) told e request
-behind_last t told None d e request behind = (refl, behind)
-behind_last t told (Some fate) d e request behind = absurd cc
+behind_last : (t : Task) (told : Told) (fate : Option Fate) (d : Data) (o : Outcome ⊤) → IsAsking o → Behind (rules_of (setting_of t)) (λ (v : ⊤) x. ⊥) (λ n x. ⊥) fate told d o
+    → (fate ≡ None) × StandsSo t told o
+behind_last t told None d o later behind = (refl, behind)
+behind_last t told (Some fate) d o later behind = let over : Ended d ≡ Asking later.request later.standing = sym behind ∙ later.is in absurd cc
 
-in_trap : (c : Setting) (d : Data) (request : Request) → IsAsked c d request → is_leave request ≡ true → d.trapped ≡ true
-in_trap c d requests.Leave asked is = asked
-in_trap c d request asked is = absurd cc
-
-asks_it : (tree : TypedTree) (answers : List Answer) (request : Request) (d : Data) → state_after tree answers ≡ Asking request d → asked_after tree answers ≡ asks request
+pub asks_it : (tree : TypedTree) (answers : List Answer) (request : Request) (d : Data) → state_after tree answers ≡ Asking request d → asked_after tree answers ≡ asks request
 unfolding asked_after
 asks_it tree answers request d e = ap next_of e
 
@@ -174,26 +171,13 @@ next_told : (t : Task) (before : List Answer) (a : Answer) (mine : List Event) �
 next_told t before a mine tells later =
     let request : Request = tells.request in
     let d : Data = tells.standing in
-    let e : Event = record { actor = t.number; request = request; answer = a } in
+    let told : Told = told_after (calm d) request a in
     let fits : IsTrue (fits_request (fitting_of t.tree d.trapped) request a) =
     fits_last t before a request d (fits_request (fitting_of t.tree d.trapped) request a) tells.asking refl later in
-    let follows : Follows (rules_of (setting_of t)) (λ (v : ⊤) x. ⊥) (λ n x. ⊥) a (Asking request d) (Asking later.request later.standing) =
-    subst (λ (o : Outcome ⊤). Follows (rules_of (setting_of t)) (λ (v : ⊤) x. ⊥) (λ n x. ⊥) a (Asking request d) o) later.is
-    (subst (λ (o : Outcome ⊤). Follows (rules_of (setting_of t)) (λ (v : ⊤) x. ⊥) (λ n x. ⊥) a o (state_after t.tree (before ++ a ∷ []))) tells.asking
-    (next_follows t.signals t.arm t.cell t.number t.tree before a t.typed t.numbered)) in
-    let last : (fate_told request ≡ None) × Due (rules_of (setting_of t)) (told_after (calm d) request a) later.standing later.request =
-    behind_last t (told_after (calm d) request a) (fate_told request) d later.standing later.request (follows fits) in
-    let may : IsAsked (setting_of t) d request = asked t.signals t.arm t.cell t.number t.tree before request d t.typed t.numbered tells.asking in
-    let ordered : IsOrdered (is_trap a) (is_leave request) d.trapped = (λ trap. trap_fits (fitting_of t.tree d.trapped) request a fits trap, λ leave. in_trap (setting_of t) d request may leave) in
+    let last : (fate_told request ≡ None) × StandsSo t told (state_after t.tree (before ++ a ∷ [])) =
+    behind_last t told (fate_told request) d (state_after t.tree (before ++ a ∷ [])) later (behind_next t before a mine tells fits) in
     subst (λ (next : Next). Tells t.tree (before ++ a ∷ []) (mine ++ event_of t.number next a)) (sym (asks_it t.tree before request d tells.asking))
-    (record {
-      request = later.request;
-      standing = later.standing;
-      asking = later.is;
-      held = held_last mine e ∙ sym last.1.rises;
-      balanced = subst (λ (b : Bool). IsBalanced (mine ++ e ∷ []) b) last.1.same (balanced_last mine e d.trapped ordered tells.balanced);
-      going = going_last mine e last.0 tells.going;
-    })
+    (told_next t before a mine tells fits last.0 (due_after t told (before ++ a ∷ []) last.1))
 
 all_told : (t : Task) (left before : List Answer) (mine : List Event) → Tells t.tree before mine → IsAsking (state_after t.tree (before ++ left))
     → Tells t.tree (before ++ left) (mine ++ events_behind t.number t.tree before left)
@@ -207,7 +191,7 @@ all_told t (a ∷ left) before mine tells later =
     (subst (λ (x : List Event). Tells t.tree ((before ++ a ∷ []) ++ left) x) (append_assoc mine one (events_behind t.number t.tree (before ++ a ∷ []) left)) told)
 
 pub own_told : (t : Task) (answers : List Answer) → IsAsking (state_after t.tree answers) → Tells t.tree answers (own_events t.number t.tree answers)
-own_told t answers later = all_told t answers [] [] (first_told t (asked_within t answers [] later)) later
+own_told t answers later = all_told t answers [] [] (first_told t) later
 
 -- ---- what may be asked
 
@@ -240,7 +224,7 @@ may_be_asked cell number row tree answers request there typed numbered asking =
     let tells : Tells tree answers mine = own_told t answers (record { request = request; standing = now.0; is = now.1 }) in
     let same : (tells.request ≡ request) × (tells.standing ≡ now.0) = same_asked (state_after tree answers) tells.request request tells.standing now.0 tells.asking now.1 in
     let trapped : is_trapped mine ≡ now.0.trapped =
-    by_counts (count_by (λ (e : Event). is_trap e.answer) mine) (count_by (λ (e : Event). is_leave e.request) mine) tells.standing.trapped tells.balanced ∙ ap (λ (d : Data). d.trapped) same.1 in
+    told_trapped mine tells.standing.trapped tells.balanced ∙ ap (λ (d : Data). d.trapped) same.1 in
     rw there
     (all_of (has_ended mine) (is_held mine) (is_rise request) (suits_task cell row mine request) tells.going (tells.held ∙ ap is_rise same.0)
     (suits cell number row mine (setting_of t) now.0 request refl refl numbered trapped (asked (length cell.signals) (is_some row.arm) cell number tree answers request now.0 typed numbered now.1)))

@@ -22,7 +22,8 @@ abbrev pub Stands : {A : Type 0} → (rules : Rules) → (A → Data → Type 0)
 Stands rules P E t (Gave v d left) = (left ≡ []) × IsCalm t d × P v d
 Stands rules P E t (Raised n d left) = (left ≡ []) × IsCalm t d × E n d
 Stands rules P E t (Asking request d) = Due rules t d request
-Stands rules P E t _ = ⊤
+Stands rules P E t NoFuel = ⊤
+Stands rules P E t _ = ⊥
 
 stands_joined : {A B : Type 0} (rules : Rules) (P : A → Data → Type 0) (E : ℕ → Data → Type 0) (Q : B → Data → Type 0) (F : ℕ → Data → Type 0)
     (t : Told) (o : Outcome A) (f : A → Data → List Answer → Outcome B) (h : ℕ → Data → List Answer → Outcome B)
@@ -33,9 +34,9 @@ stands_joined rules P E Q F t (Gave v d left) f h sf sh s =
 stands_joined rules P E Q F t (Raised n d left) f h sf sh s =
     subst (λ (x : List Answer). Stands rules Q F t (h n d x)) (sym s.0) (subst (λ (x : Told). Stands rules Q F x (h n d [])) (is_calm t d s.1) (sh n d s.2))
 stands_joined rules P E Q F t (Asking request d) f h sf sh s = s
-stands_joined rules P E Q F t (Ended d) f h sf sh s = tt
-stands_joined rules P E Q F t Misfits f h sf sh s = tt
-stands_joined rules P E Q F t Unfit f h sf sh s = tt
+stands_joined rules P E Q F t (Ended d) f h sf sh s = s
+stands_joined rules P E Q F t Misfits f h sf sh s = s
+stands_joined rules P E Q F t Unfit f h sf sh s = s
 stands_joined rules P E Q F t NoFuel f h sf sh s = tt
 
 abbrev pub RunStands : Rules → Run → Type 0
@@ -48,7 +49,7 @@ performed_stands rules run good P E (Gives v) t d m = (refl, m.0, m.1)
 performed_stands rules run good P E (Raises n) t d m = (refl, m.0, m.1)
 performed_stands rules run good P E (Asks request k) t d m = m.0
 performed_stands rules run good P E (Ends fate) t d m = m
-performed_stands rules run good P E Misfit t d m = tt
+performed_stands rules run good P E Misfit t d m = m
 performed_stands rules run good P E (Reads k) t d m = performed_stands rules run good P E (k d) t d m
 performed_stands rules run good P E (Writes e more) t d m = performed_stands rules run good P E more t e m
 performed_stands rules run good P E (Does p k h) t d m =

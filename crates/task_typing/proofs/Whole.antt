@@ -61,7 +61,7 @@ sort_found (n ∷ ns) (r ∷ rs) row number p one numbered there =
 one_row : (x y : PersCell) (o : Option PersCell) → o ≡ Some x → o ≡ Some y → x ≡ y
 one_row x y o e f = cc
 
-facts_of : (signals : ℕ) (arm : Bool) (cell : CellData) (number : ℕ) (tree : TypedTree) → WellTyped signals arm tree → Numbered cell number tree
+pub facts_of : (signals : ℕ) (arm : Bool) (cell : CellData) (number : ℕ) (tree : TypedTree) → WellTyped signals arm tree → Numbered cell number tree
     → Facts (record { signals = signals; arm = arm; tree = tree })
 facts_of signals arm cell number tree typed numbered = record {
   numbers = λ row p e. let few : row < length tree.pers = slice_get_within tree.pers row p e in there_is tree.pers_of row (omega (arith, few, numbered.as_many_pers));

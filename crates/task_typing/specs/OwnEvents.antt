@@ -1,5 +1,7 @@
 -- A task's own events: what it asks, each request with the answer that it gets.
-use Rattle.std.specs.Prelude.{◌≡◌, ℕ, List, [], ◌∷◌, ◌++◌, map}
+use Rattle.std.specs.Prelude.{◌≡◌, ℕ, List, [], ◌∷◌, ◌++◌, map, IsTrue}
+use Rattle.rapid_model.specs.CellData.{CellData}
+use Rattle.rapid_model.specs.Fits.{fitting_in, fits_request}
 use Rattle.rapid_model.specs.declared.answer.Answer.{Answer}
 use Rattle.rapid_model.specs.declared.event.Event.{Event}
 use Rattle.typed_trees.specs.Plain.{TypedTree}
@@ -23,3 +25,7 @@ own_events actor tree answers = events_behind actor tree [] answers
 pub record AreOwn (actor : ℕ) (tree : TypedTree) (mine : List Event) : Type 0 where
   pub its : (before after : List Event) (e : Event) → mine ≡ before ++ e ∷ after → e.actor ≡ actor
   pub due : (before after : List Event) (e : Event) → mine ≡ before ++ e ∷ after → asked_after tree (map (λ (x : Event). x.answer) before) ≡ asks e.request
+
+-- each answer fits its request, by the cell and by the events before it
+pub record AreFit (cell : CellData) (mine : List Event) : Type 0 where
+  pub at : (before after : List Event) (e : Event) → mine ≡ before ++ e ∷ after → IsTrue (fits_request (fitting_in cell before) e.request e.answer)

@@ -1,5 +1,6 @@
-ghost use Rattle.std.specs.Prelude.{◌≡◌, ℕ, Bool, IsTrue, List, length, map, is_some, Some, slice_get};
+ghost use Rattle.std.specs.Prelude.{◌≡◌, ℕ, Bool, false, IsTrue, List, length, map, is_some, Some, slice_get};
 ghost use Rattle.rapid_model.specs.CellData.{CellData};
+ghost use Rattle.rapid_model.specs.Own.{has_ended};
 ghost use Rattle.rapid_model.specs.Requests.{suits_actor};
 ghost use Rattle.rapid_model.specs.declared.answer.Answer.{Answer};
 ghost use Rattle.rapid_model.specs.declared.event.Event.{Event};
@@ -12,7 +13,7 @@ ghost use Rattle.rapid_meaning.specs.Runs.{FitsSteps, asks, asked_after, data_af
 ghost use Rattle.task_typing.specs.Asked.{IsAsked};
 ghost use Rattle.task_typing.specs.Goes.{AreTyped, Goes};
 ghost use Rattle.task_typing.specs.Numbered.{Numbered};
-ghost use Rattle.task_typing.specs.OwnEvents.{AreOwn, own_events};
+ghost use Rattle.task_typing.specs.OwnEvents.{AreFit, AreOwn, own_events};
 ghost use Rattle.task_typing.specs.WellTyped.{WellTyped};
 
 /// A law: a well typed task with its cell's numbers asks or has ended, after whatever answers fit step by step; its data are of
@@ -31,4 +32,11 @@ pub fn well_typed_tasks_go_on()
 pub fn requests_suit_the_task()
     ensures suits { (cell : CellData) (number : ℕ) (row : TaskRow) (tree : TypedTree) (answers : List Answer) (request : Request) → slice_get cell.tasks number ≡ Some row → WellTyped (length cell.signals) (is_some row.arm) tree → Numbered cell number tree → asked_after tree answers ≡ asks request → IsTrue (suits_actor cell number (own_events number tree answers) request) }
     ensures own { (number : ℕ) (tree : TypedTree) (mine : List Event) → AreOwn number tree mine → mine ≡ own_events number tree (map (λ (e : Event). e.answer) mine) }
+{}
+
+/// A law: where a well typed task with its cell's numbers has own events whose answers fit by the cell, they fit by its tree; and
+/// it asks on until its End.
+pub fn tasks_ask_until_their_end()
+    ensures fits { (signals : ℕ) (arm : Bool) (cell : CellData) (number : ℕ) (tree : TypedTree) (mine : List Event) → WellTyped signals arm tree → Numbered cell number tree → AreOwn number tree mine → AreFit cell mine → FitsSteps tree (map (λ (e : Event). e.answer) mine) }
+    ensures asks { (signals : ℕ) (arm : Bool) (cell : CellData) (number : ℕ) (tree : TypedTree) (mine : List Event) → WellTyped signals arm tree → Numbered cell number tree → AreOwn number tree mine → AreFit cell mine → has_ended mine ≡ false → (request : Request) × (asked_after tree (map (λ (e : Event). e.answer) mine) ≡ asks request) }
 {}

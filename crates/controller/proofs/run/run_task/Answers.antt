@@ -7,7 +7,7 @@ use Rattle.controller.proofs.run.run_task.Goals as goal
 
 pub run_round-requires-clause-crew : goal.run_round-requires-clause-crew
 run_round-requires-clause-crew c =
-    crew_of_one c.args.cell _ _ c.args.tree c.requires c.in-Ok.ensures (ap (λ (x : CoreData). x.cell) c.in-Ok-new.ensures.ok)
+    crew_of_one c.args.cell _ _ c.args.tree c.requires c.in_ok-machines.ensures (ap (λ (x : CoreData). x.cell) c.in-Ok.ensures.ok)
 
 pub run_round-requires-clause-asks : goal.run_round-requires-clause-asks
-run_round-requires-clause-asks c = trees_ask_as_trees (trees_of c.in-Ok.machines.items)
+run_round-requires-clause-asks c = trees_ask_as_trees (trees_of c.in_ok-machines.machines.items)
