@@ -3,7 +3,6 @@ use Rattle.std.proofs.Common.{◌≡◌, ℕ, zero, suc, ◌+◌, ◌*◌, ◌<�
 use Rattle.std.proofs.lemmas.List.{map-append}
 use Rattle.std.specs.Prelude.{Option, Some, Result, Ok, Err, IsTrue, IfSome, IfErr, is_some, slice_get}
 use Rattle.std.specs.List.{list_all}
-use Rattle.rapid_model.specs.CellData.{CellData}
 use Rattle.rapid_model.specs.ScriptData.{ScriptData, is_task}
 use Rattle.rapid_model.specs.declared.script_task.ScriptTask.{ScriptTask}
 use Rattle.typed_trees.specs.Plain.{TypedTree}
@@ -31,7 +30,7 @@ use Rattle.controller.specs.Accepted.{ReadModule, place_at, read_text, read_file
 use Rattle.controller.specs.Files.{IsDoneFault}
 use Rattle.controller.specs.Loaded.{reads_in, ArePaired, IsRuleRefusal}
 use Rattle.controller.proofs.Lists.{drop-element}
-use Rattle.controller.proofs.Mentions.{task_modules, first_of_all, rest_of_all}
+use Rattle.controller.proofs.ModuleFiles.{task_modules, first_of_all, rest_of_all}
 
 -- with these before further trees
 abbrev pub with_trees : List TypedTree → Result (List TypedTree) Refused → Result (List TypedTree) Refused
@@ -187,4 +186,4 @@ pub checks_told : (old new : ℕ) (script : ScriptData) (reads : List ReadModule
 checks_told old new script reads told refused (inl memory) is = subst (λ (o : Option Refused). IfSome o (IsDoneFault old new)) (sym (is ∙ ap Some memory)) tt
 checks_told old new script reads told refused (inr found) is =
     subst (λ (o : Option Refused). IfSome o (IsDoneFault old new)) (sym is)
-    (subst (λ (r : Result CellData Refused). IfErr r (IsDoneFault old new)) found (checks_refuse (IsDoneFault old new) (λ key rule. tt) (λ file place rule. tt) script reads))
+    (subst (λ (r : Result MadeCell Refused). IfErr r (IsDoneFault old new)) found (checks_refuse (IsDoneFault old new) (λ key rule. tt) (λ file place rule. tt) script reads))

@@ -1,5 +1,6 @@
 -- Each way in which a call ends answers its words and files.
 use Rattle.std.proofs.Common.{◌≡◌, ℕ, List, [], ◌∷◌, Option, Some, None, Result, Ok, Err, map, refl, ap, sym, ◌∙◌, subst, ◌⊎◌, inl, inr}
+use Rattle.std.specs.Borrow.{Bor}
 use Rattle.std.specs.Prelude.{IfSome, Vec}
 use Rattle.std.specs.declared.alloc.Global.{Global}
 use Rattle.raw_trees.specs.declared.raw_module.RawModule.{RawModule}
@@ -7,22 +8,21 @@ use Rattle.outside.specs.Count.{Rose}
 use Rattle.outside.specs.Told.{Told, found}
 use Rattle.rapid_model.specs.CellData.{CellData}
 use Rattle.rapid_model.specs.ScriptData.{ScriptData, module_names}
-use Rattle.rapid_model.specs.declared.tree.Tree.{Tree}
+use Rattle.typed_trees.specs.Plain.{TypedTree}
+use Rattle.cell_assembly.specs.Made.{MadeCell}
 use Rattle.controller.specs.declared.command.Action.{Action}
 use Rattle.controller.specs.declared.command.Action.TheVariants.{Check}
-use Rattle.controller.specs.declared.mention.Mention as declared_mention
 use Rattle.controller.specs.declared.report.Report.{Report}
 use Rattle.controller.specs.declared.refused.Refused.{Refused}
 use Rattle.controller.specs.declared.refused.Refused.TheVariants.{Words, Memory}
 use Rattle.controller.specs.Words.{refused_place, plain_words, first_action, script_name}
 use Rattle.controller.specs.Files.{Reads, told_reads, text_of}
-use Rattle.controller.specs.Loaded.{mention_of, names_in_turn, file_names, bytes_of, reads_of, IsScriptIn, TextsDecide}
-use Rattle.controller.specs.Accepted.{Verdict, refuses, accepts, runs, Accepted, Build, ReadModule, script_limit, file_text, mentions, ModulesOf, checked, AreBuilds, not_built, trees_of, unless_refused, ActionDecides, CheckedDecides, ModulesDecide, FileDecides, WordsDecide}
+use Rattle.controller.specs.Loaded.{names_in_turn, file_names, bytes_of, reads_of, IsScriptIn, TextsDecide}
+use Rattle.controller.specs.Accepted.{Verdict, refuses, accepts, runs, Accepted, ReadModule, script_limit, file_text, ModulesOf, checked, not_built, unless_refused, ActionDecides, CheckedDecides, ModulesDecide, FileDecides, WordsDecide}
 use Rattle.controller.specs.Printed.{Sunk}
 use Rattle.controller.specs.Answered.{IsRefused, IsPrinted, IsCutShort, Answers, AnswersAccepted, AnswersReads, AnswersBuilt, IsOutOfMemory, RunsOrMemory, AnswersSome, AnswersWords}
 use Rattle.controller.proofs.GivenReads.{AreFrom, script_given, GivesAll}
 use Rattle.controller.proofs.Loads.{modules_from_texts}
-use Rattle.controller.proofs.Mentions.{names_are}
 
 -- a refusal for want of memory speaks of no file
 out_of_memory : (names : List (List ℕ)) (refused : Refused) (report : Report) (out err : Sunk) → refused ≡ Memory → IsRefused names refused report out err → IsOutOfMemory report out err
@@ -86,24 +86,23 @@ script_refused words told name refused report out err taken is r here some =
     words_answered words told g.gave report out err g.from (script_refused_in words g.gave name refused report out err taken is r g.script_is)
 
 -- the words, the script and its modules, as they are read
-pub record IsRead (words : List (List ℕ)) (name : List ℕ) (script : ScriptData) (ms : List declared_mention.Mention) : Type 0 where
+pub record IsRead (words : List (List ℕ)) (name : List ℕ) (script : ScriptData) (ms : List (Bor (List ℕ))) : Type 0 where
   pub taken : refused_place words ≡ None
   pub name_is : name ≡ script_name words
-  pub mentioned : map mention_of ms ≡ mentions script.tasks
+  pub named : names_in_turn ms ≡ module_names script.tasks
 
 -- what the words and files come to, from what the modules come to
-modules_decide : (words : List (List ℕ)) (gave : Reads) (name : List ℕ) (script : ScriptData) (ms : List declared_mention.Mention) (modules : Result (List ReadModule) Refused) (verdict : Verdict)
+modules_decide : (words : List (List ℕ)) (gave : Reads) (name : List ℕ) (script : ScriptData) (ms : List (Bor (List ℕ))) (modules : Result (List ReadModule) Refused) (verdict : Verdict)
     → IsRead words name script ms → IsScriptIn (file_text gave 0 script_limit name) (Ok script) → ModulesOf gave 1 (names_in_turn ms) modules
     → ModulesDecide (first_action (plain_words words)) (file_names name ms) script modules verdict → Accepted words gave verdict
 modules_decide words gave name script ms modules verdict r s d decides =
-    let named : names_in_turn ms ≡ module_names script.tasks = names_are ms script.tasks r.mentioned in
     words_decide words gave name (Ok s.0) verdict r.taken r.name_is s.1 (
       Ok script,
       s.2,
       (
         modules,
-        subst (λ (ns : List (List ℕ)). ModulesOf gave 1 ns modules) named d,
-        subst (λ (ns : List (List ℕ)). ModulesDecide (first_action (plain_words words)) (name ∷ ns) script modules verdict) named decides,
+        subst (λ (ns : List (List ℕ)). ModulesOf gave 1 ns modules) r.named d,
+        subst (λ (ns : List (List ℕ)). ModulesDecide (first_action (plain_words words)) (name ∷ ns) script modules verdict) r.named decides,
       ),
     )
 
@@ -111,7 +110,7 @@ modules_decide words gave name script ms modules verdict r s d decides =
 abbrev pub AreRefused : List (List ℕ) → Option Refused → Refused → Type 0
 AreRefused texts failed refused = (refused ≡ Memory) ⊎ TextsDecide 1 texts failed (Err refused)
 
-module_refused_in : (words : List (List ℕ)) (gave : Reads) (name : List ℕ) (script : ScriptData) (ms : List declared_mention.Mention) (refused : Refused) (report : Report) (out err : Sunk)
+module_refused_in : (words : List (List ℕ)) (gave : Reads) (name : List ℕ) (script : ScriptData) (ms : List (Bor (List ℕ))) (refused : Refused) (report : Report) (out err : Sunk)
     → IsRead words name script ms → IsScriptIn (file_text gave 0 script_limit name) (Ok script) → IsRefused (file_names name ms) refused report out err
     → (let all : Result (List ReadModule) Refused = Err refused in all ≡ Err Memory) ⊎ ModulesOf gave 1 (names_in_turn ms) (Err refused) → AnswersSome (Accepted words gave) report out err
 module_refused_in words gave name script ms refused report out err r s t (inl memory) = let e : refused ≡ Memory = cc in inl (out_of_memory (file_names name ms) refused report out err e t)
@@ -119,7 +118,7 @@ module_refused_in words gave name script ms refused report out err r s t (inr d)
     inr (refuses (file_names name ms) refused, modules_decide words gave name script ms (Err refused) (refuses (file_names name ms) refused) r s d refl, t)
 
 -- a module is refused
-pub module_refused : (words : List (List ℕ)) (told : Option Told) (name : List ℕ) (script : ScriptData) (ms : List declared_mention.Mention) (texts : List (List ℕ)) (failed : Option Refused) (refused : Refused)
+pub module_refused : (words : List (List ℕ)) (told : Option Told) (name : List ℕ) (script : ScriptData) (ms : List (Bor (List ℕ))) (texts : List (List ℕ)) (failed : Option Refused) (refused : Refused)
     (report : Report) (out err : Sunk) → IsRead words name script ms → GivesAll told name script (names_in_turn ms) texts failed → IsRefused (file_names name ms) refused report out err
     → AreRefused texts failed refused → AnswersWords words told report out err
 module_refused words told name script ms texts failed refused report out err r g t (inl memory) = inl (out_of_memory (file_names name ms) refused report out err memory t)
@@ -127,7 +126,7 @@ module_refused words told name script ms texts failed refused report out err r g
     words_answered words told g.gave report out err g.from (module_refused_in words g.gave name script ms refused report out err r g.script_is t
     (modules_from_texts g.gave 1 (names_in_turn ms) texts failed (Err refused) g.texts_are d))
 
-read_whole : (words : List (List ℕ)) (gave : Reads) (name : List ℕ) (action : Option Action) (script : ScriptData) (ms : List declared_mention.Mention) (reads : List ReadModule) (verdict : Verdict)
+read_whole : (words : List (List ℕ)) (gave : Reads) (name : List ℕ) (action : Option Action) (script : ScriptData) (ms : List (Bor (List ℕ))) (reads : List ReadModule) (verdict : Verdict)
     → IsRead words name script ms → IsScriptIn (file_text gave 0 script_limit name) (Ok script) → first_action (plain_words words) ≡ action
     → (let all : Result (List ReadModule) Refused = Ok reads in all ≡ Err Memory) ⊎ ModulesOf gave 1 (names_in_turn ms) (Ok reads) → CheckedDecides action (file_names name ms) script reads (checked script reads) verdict
     → Accepted words gave verdict
@@ -137,7 +136,7 @@ read_whole words gave name action script ms reads verdict r s asked (inr d) deci
     (subst (λ (a : Option Action). CheckedDecides a (file_names name ms) script reads (checked script reads) verdict) (sym asked) decides)
 
 -- all is read
-pub all_read : (words : List (List ℕ)) (told : Option Told) (name : List ℕ) (action : Option Action) (script : ScriptData) (ms : List declared_mention.Mention) (texts : List (List ℕ)) (failed : Option Refused)
+pub all_read : (words : List (List ℕ)) (told : Option Told) (name : List ℕ) (action : Option Action) (script : ScriptData) (ms : List (Bor (List ℕ))) (texts : List (List ℕ)) (failed : Option Refused)
     (reads : List ReadModule) (report : Report) (out err : Sunk) → IsRead words name script ms → GivesAll told name script (names_in_turn ms) texts failed → first_action (plain_words words) ≡ action
     → TextsDecide 1 texts failed (Ok reads) → AnswersReads action (file_names name ms) script reads report out err → AnswersWords words told report out err
 all_read words told name action script ms texts failed reads report out err r g asked d (inl memory) = inl memory
@@ -165,7 +164,7 @@ check_refused names action script reads refused report out err (inl memory) r = 
 check_refused names action script reads refused report out err (inr found) r =
     inr (
       refuses names refused,
-      subst (λ (made : Result CellData Refused). CheckedDecides action names script reads made (refuses names refused)) (sym found) refl,
+      subst (λ (made : Result MadeCell Refused). CheckedDecides action names script reads made (refuses names refused)) (sym found) refl,
       r,
     )
 
@@ -174,47 +173,39 @@ accepted_answers names report out err (inl a) = inl a
 accepted_answers names report out err (inr a) = inr a.0
 
 -- all is accepted
-pub all_accepted : (names : List (List ℕ)) (action : Action) (script : ScriptData) (reads : List ReadModule) (cell : CellData) (report : Report) (out err : Sunk) → action ≡ Check → checked script reads ≡ Ok cell
+pub all_accepted : (names : List (List ℕ)) (action : Action) (script : ScriptData) (reads : List ReadModule) (made : MadeCell) (report : Report) (out err : Sunk) → action ≡ Check → checked script reads ≡ Ok made
     → AnswersAccepted report out err → AnswersReads (Some action) names script reads report out err
-all_accepted names action script reads cell report out err is made a =
+all_accepted names action script reads made report out err is found a =
     inr (
       accepts names,
-      subst (λ (found : Result CellData Refused). CheckedDecides (Some action) names script reads found (accepts names)) (sym made)
-          (subst (λ (x : Action). ActionDecides (Some x) names script reads cell (accepts names)) (sym is) refl),
+      subst (λ (x : Result MadeCell Refused). CheckedDecides (Some action) names script reads x (accepts names)) (sym found)
+          (subst (λ (x : Action). ActionDecides (Some x) names script reads made (accepts names)) (sym is) refl),
       accepted_answers names report out err a,
     )
 
--- something is not built
-pub not_built_refused : (names : List (List ℕ)) (script : ScriptData) (reads : List ReadModule) (cell : CellData) (builds : List Build) (refused : Refused) (report : Report) (out err : Sunk)
-    → AreBuilds (mentions script.tasks) reads builds → not_built script builds ≡ Some refused → IsRefused names refused report out err → AnswersBuilt names script reads cell report out err
-not_built_refused names script reads cell builds refused report out err built is r =
-    inr (
-      refuses names refused,
-      (builds, built, ap (λ (o : Option Refused). unless_refused names o (runs names cell (trees_of builds))) (sym is)),
-      r,
-    )
+-- something is not built, or memory was refused
+pub build_refused : (names : List (List ℕ)) (script : ScriptData) (reads : List ReadModule) (made : MadeCell) (refused : Refused) (report : Report) (out err : Sunk)
+    → (refused ≡ Memory) ⊎ (not_built script reads made.trees ≡ Some refused) → IsRefused names refused report out err → AnswersBuilt names script reads made report out err
+build_refused names script reads made refused report out err (inl memory) r = inl (out_of_memory names refused report out err memory r)
+build_refused names script reads made refused report out err (inr is) r =
+    inr (refuses names refused, ap (λ (o : Option Refused). unless_refused names o (runs names made.cell made.trees)) (sym is), r)
 
 -- a run that was cut short, with other names
-cut_with_names : (names : List (List ℕ)) (cell : CellData) (trees : List Tree) (report : Report) (out err : Sunk) → IsCutShort [] cell trees report out err → IsCutShort names cell trees report out err
+cut_with_names : (names : List (List ℕ)) (cell : CellData) (trees : List TypedTree) (report : Report) (out err : Sunk) → IsCutShort [] cell trees report out err → IsCutShort names cell trees report out err
 cut_with_names names cell trees report out err c = record { run = c.run; refused_is = c.refused_is; status = c.status; printed = c.printed; calls = c.calls; told = c.told }
 
--- the task is run
-pub task_run : (names : List (List ℕ)) (script : ScriptData) (reads : List ReadModule) (cell : CellData) (builds : List Build) (tree : Tree) (report : Report) (out err : Sunk) → AreBuilds (mentions script.tasks) reads builds
-    → not_built script builds ≡ None → builds ≡ Ok tree ∷ [] → RunsOrMemory cell (tree ∷ []) report out err → AnswersBuilt names script reads cell report out err
-task_run names script reads cell builds tree report out err built none one (inl memory) = inl memory
-task_run names script reads cell builds tree report out err built none one (inr run) =
+-- the tasks are run
+pub tasks_run : (names : List (List ℕ)) (script : ScriptData) (reads : List ReadModule) (made : MadeCell) (report : Report) (out err : Sunk) → not_built script reads made.trees ≡ None
+    → RunsOrMemory made.cell made.trees report out err → AnswersBuilt names script reads made report out err
+tasks_run names script reads made report out err none (inl memory) = inl memory
+tasks_run names script reads made report out err none (inr run) =
     inr (
-      runs names cell (tree ∷ []),
-      (
-        builds,
-        built,
-        ap (λ (bs : List Build). runs names cell (trees_of bs)) (sym one)
-            ∙ ap (λ (o : Option Refused). unless_refused names o (runs names cell (trees_of builds))) (sym none),
-      ),
+      runs names made.cell made.trees,
+      ap (λ (o : Option Refused). unless_refused names o (runs names made.cell made.trees)) (sym none),
       answers run,
     )
   where
-    answers : (IsPrinted cell (tree ∷ []) report out err) ⊎ (IsCutShort [] cell (tree ∷ []) report out err × Rose out.old.faults out.new.faults)
-        → Answers (runs names cell (tree ∷ [])) report out err
+    answers : (IsPrinted made.cell made.trees report out err) ⊎ (IsCutShort [] made.cell made.trees report out err × Rose out.old.faults out.new.faults)
+        → Answers (runs names made.cell made.trees) report out err
     answers (inl p) = inl p
-    answers (inr c) = inr (cut_with_names names cell (tree ∷ []) report out err c.0)
+    answers (inr c) = inr (cut_with_names names made.cell made.trees report out err c.0)

@@ -1,5 +1,6 @@
 -- What the reads of a call gave, as far as loading tells: of a shelf that tells its files, and of one that tells nothing.
 use Rattle.std.proofs.Common.{◌≡◌, ℕ, suc, ◌+◌, ◌<◌, ◌≤◌, List, ◌∷◌, length, get_or, refl, ap, sym, ◌∙◌, subst, arith}
+use Rattle.std.specs.Borrow.{Bor}
 use Rattle.std.specs.Prelude.{Option, Some, None, IfSome, option_map, Result, Ok, Vec, All}
 use Rattle.std.specs.declared.alloc.Global.{Global}
 use Rattle.std.proofs.lemmas.List.{length-map}
@@ -9,7 +10,6 @@ use Rattle.rapid_model.specs.ScriptData.{ScriptData}
 use Rattle.controller.specs.Accepted.{script_limit, module_limit, file_text}
 use Rattle.controller.specs.Files.{Reads, told_reads, text_of, IsUnread}
 use Rattle.controller.specs.Loaded.{names_in_turn, bytes_of, IsWithin, IsScriptIn, AreTexts}
-use Rattle.controller.specs.declared.mention.Mention as declared_mention
 use Rattle.controller.specs.declared.refused.Refused.{Refused}
 use Rattle.controller.proofs.Untold.{Stops, unread_gave, behind, texts_given}
 
@@ -83,10 +83,10 @@ all_given (Some files) later name script names texts failed after here some told
 }
 
 -- the same of the modules that a script names
-pub loaded_names : (ms : List declared_mention.Mention) (texts : List (Vec ℕ Global)) (failed : Option Refused) → All IsWithin texts → length texts ≤ length ms → (failed ≡ None → length texts ≡ length ms)
+pub loaded_names : (ms : List (Bor (List ℕ))) (texts : List (Vec ℕ Global)) (failed : Option Refused) → All IsWithin texts → length texts ≤ length ms → (failed ≡ None → length texts ≡ length ms)
     → IfSome failed (λ refused. IsUnread (length texts + 1) refused × (length texts < length ms)) → AreLoaded (names_in_turn ms) texts failed
 loaded_names ms texts failed within few whole unread =
-    let same : length (names_in_turn ms) ≡ length ms = length-map ms (λ m. m.name.now) in
+    let same : length (names_in_turn ms) ≡ length ms = length-map ms (λ m. m.now) in
     record {
       within = within;
       few = omega (arith, same, few);

@@ -1,5 +1,6 @@
 -- Reading the text of one module after another, from a shelf that tells its files, and from one that tells nothing.
 use Rattle.std.proofs.Common.{◌≡◌, ℕ, ◌+◌, ◌<◌, ◌≤◌, List, [], ◌∷◌, ◌++◌, length, drop, get_or, refl, ap, sym, ◌∙◌, subst, ◌⊎◌, inl, inr, arith, length-drop}
+use Rattle.std.specs.Borrow.{Bor}
 use Rattle.std.proofs.lemmas.List.{append-nil}
 use Rattle.std.proofs.lemmas.Option.{IfSome_then}
 use Rattle.std.specs.Prelude.{Option, Some, None, IfSome, Result, Ok, Err, Vec, All}
@@ -13,7 +14,6 @@ use Rattle.cell_script.specs.declared.fault.ScriptFault.TheVariants.{Rule}
 use Rattle.controller.specs.Accepted.{ReadModule, script_limit, module_limit, file_text, ModuleIn, ModulesOf}
 use Rattle.controller.specs.Files.{Reads, told_reads, text_of, IsUnread, GivesText}
 use Rattle.controller.specs.Loaded.{names_in_turn, bytes_of, IsScriptIn, IsWithin, AreTexts, TextsDecide}
-use Rattle.controller.specs.declared.mention.Mention as declared_mention
 use Rattle.controller.specs.declared.refused.Refused.{Refused}
 use Rattle.controller.specs.declared.refused.Refused.TheVariants as refusals
 use Rattle.controller.proofs.Lists.{drop-at, drop-past}
@@ -52,7 +52,7 @@ pub script_is_read : (text source : List ℕ) (script : ScriptData) → length t
 script_is_read text source script within same of_source = (Some text, (source, text_within 0 script_limit text within ∙ ap Ok (sym same), of_source))
 
 -- amid the modules: the texts before this one are read, and so many reads are told
-pub record Loading (start now : Option Told) (old new : ℕ) (modules : List declared_mention.Mention) (k : ℕ) (texts : List (Vec ℕ Global)) : Type 0 where
+pub record Loading (start now : Option Told) (old new : ℕ) (modules : List (Bor (List ℕ))) (k : ℕ) (texts : List (Vec ℕ Global)) : Type 0 where
   pub faults : old ≤ new
   pub count : length texts ≡ k
   pub within : All IsWithin texts
@@ -67,35 +67,35 @@ here_is now told k name result is text_in =
     subst (λ (o : Option Told). IfSome o (λ t. GivesText (text_of (k + 1) module_limit (found t name)) result)) is text_in
 
 -- a text is not read
-pub loading_fails : (start now : Option Told) (old mid : ℕ) (modules : List declared_mention.Mention) (k : ℕ) (texts : List (Vec ℕ Global)) (d : declared_mention.Mention) (refused : Refused)
-    → k < length modules → Loading start now old mid modules k texts → IfSome now (λ t. GivesText (text_of (k + 1) module_limit (found t (get_or modules k d).name.now)) (Err refused))
+pub loading_fails : (start now : Option Told) (old mid : ℕ) (modules : List (Bor (List ℕ))) (k : ℕ) (texts : List (Vec ℕ Global)) (d : Bor (List ℕ)) (refused : Refused)
+    → k < length modules → Loading start now old mid modules k texts → IfSome now (λ t. GivesText (text_of (k + 1) module_limit (found t (get_or modules k d).now)) (Err refused))
     → (told : Told) → start ≡ Some (after_reads 1 told) → AreTexts (told_reads told) 1 (names_in_turn modules) (bytes_of texts) (Some refused)
 loading_fails start now old mid modules k texts d refused lt p here told first =
     subst (λ (ts : List (List ℕ)). AreTexts (told_reads told) 1 (names_in_turn modules) ts (Some refused)) (append-nil (bytes_of texts))
     (p.read told first [] (Some refused)
-    (subst (λ (ms : List declared_mention.Mention). AreTexts (told_reads told) (k + 1) (names_in_turn ms) [] (Some refused)) (sym (drop-at modules k d lt))
-    (here_is now told k (get_or modules k d).name.now (Err refused) (p.reads told first) here)))
+    (subst (λ (ms : List (Bor (List ℕ))). AreTexts (told_reads told) (k + 1) (names_in_turn ms) [] (Some refused)) (sym (drop-at modules k d lt))
+    (here_is now told k (get_or modules k d).now (Err refused) (p.reads told first) here)))
 
 -- memory is refused for a text
-pub loading_lacks : (start now : Option Told) (old mid : ℕ) (modules : List declared_mention.Mention) (k : ℕ) (texts : List (Vec ℕ Global)) → k < length modules → Loading start now old mid modules k texts
+pub loading_lacks : (start now : Option Told) (old mid : ℕ) (modules : List (Bor (List ℕ))) (k : ℕ) (texts : List (Vec ℕ Global)) → k < length modules → Loading start now old mid modules k texts
     → (told : Told) → start ≡ Some (after_reads 1 told) → AreTexts (told_reads told) 1 (names_in_turn modules) (bytes_of texts) (Some refusals.Memory)
 loading_lacks start now old mid modules k texts lt p told first =
     subst (λ (ts : List (List ℕ)). AreTexts (told_reads told) 1 (names_in_turn modules) ts (Some refusals.Memory)) (append-nil (bytes_of texts))
     (p.read told first [] (Some refusals.Memory) (lacks_there (drop k modules) (some_behind modules k lt)))
   where
-    some_behind : (ms : List declared_mention.Mention) (k : ℕ) → k < length ms → 0 < length (drop k ms)
+    some_behind : (ms : List (Bor (List ℕ))) (k : ℕ) → k < length ms → 0 < length (drop k ms)
     some_behind ms k lt = omega (arith, length-drop k ms)
 
-    lacks_there : (ms : List declared_mention.Mention) → 0 < length ms → AreTexts (told_reads told) (k + 1) (names_in_turn ms) [] (Some refusals.Memory)
+    lacks_there : (ms : List (Bor (List ℕ))) → 0 < length ms → AreTexts (told_reads told) (k + 1) (names_in_turn ms) [] (Some refusals.Memory)
     lacks_there [] none = absurd (omega arith)
     lacks_there (m ∷ ms) some = inl refl
 
 -- all texts are read
-pub loading_ends : (start now : Option Told) (old mid : ℕ) (modules : List declared_mention.Mention) (k : ℕ) (texts : List (Vec ℕ Global)) → length modules ≤ k → Loading start now old mid modules k texts
+pub loading_ends : (start now : Option Told) (old mid : ℕ) (modules : List (Bor (List ℕ))) (k : ℕ) (texts : List (Vec ℕ Global)) → length modules ≤ k → Loading start now old mid modules k texts
     → (told : Told) → start ≡ Some (after_reads 1 told) → AreTexts (told_reads told) 1 (names_in_turn modules) (bytes_of texts) None
 loading_ends start now old mid modules k texts past p told first =
     subst (λ (ts : List (List ℕ)). AreTexts (told_reads told) 1 (names_in_turn modules) ts None) (append-nil (bytes_of texts))
-    (p.read told first [] None (subst (λ (ms : List declared_mention.Mention). AreTexts (told_reads told) (k + 1) (names_in_turn ms) [] None) (sym (drop-past modules k past)) tt))
+    (p.read told first [] None (subst (λ (ms : List (Bor (List ℕ))). AreTexts (told_reads told) (k + 1) (names_in_turn ms) [] None) (sym (drop-past modules k past)) tt))
 
 -- what the texts come to is what the modules come to
 

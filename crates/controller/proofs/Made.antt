@@ -71,7 +71,7 @@ one_tree_each script reads typed trees is same =
 
 -- the cell that is made of them
 pub cell_made : (script : ScriptData) (reads : List ReadModule) (typed trees : List Tree) (made : MadeCell) → typed_tasks script script.tasks reads ≡ Ok (map view_tree typed) → trees ≡ typed
-    → make_cell script (map view_tree trees) ≡ Ok made → checked script reads ≡ Ok made.cell
+    → make_cell script (map view_tree trees) ≡ Ok made → checked script reads ≡ Ok made
 cell_made script reads typed trees made is same makes =
     ap (cell_from script reads) (is ∙ ap (λ (ts : List Tree). Ok (map view_tree ts)) (sym same)) ∙ ap (cell_or_refused script reads) makes
 
@@ -83,19 +83,3 @@ cell_refused script reads typed trees (faults.Clash task number at) refused is s
 cell_refused script reads typed trees (faults.Script key rule) refused is same fails told =
     inr (ap (cell_from script reads) (is ∙ ap (λ (ts : List Tree). Ok (map view_tree ts)) (sym same)) ∙ ap (cell_or_refused script reads) fails ∙ ap Err (sym told))
 cell_refused script reads typed trees faults.Memory refused is same fails told = inl told
-
--- its tasks are those of the script
-
-rows_in : (script : ScriptData) (reads : List ReadModule) (trees : List TypedTree) (making : Making CellTables) (cell : CellData)
-    → cell_or_refused script reads (making >>= (λ t. Ok (record { cell = cell_of script t; trees = numbered trees t.pers_of t.meeting_of }))) ≡ Ok cell → cell.tasks ≡ map row_of script.tasks
-rows_in script reads trees (Ok tables) cell is =
-    let same : cell_of script tables ≡ cell = cc in
-    ap (λ (c : CellData). c.tasks) (sym same)
-rows_in script reads trees (Err broken) cell is = cc
-
-rows_from : (script : ScriptData) (reads : List ReadModule) (trees : Result (List TypedTree) Refused) (cell : CellData) → cell_from script reads trees ≡ Ok cell → cell.tasks ≡ map row_of script.tasks
-rows_from script reads (Ok trees) cell is = rows_in script reads trees (cell_tables script.pers trees) cell is
-rows_from script reads (Err refused) cell is = cc
-
-pub checked_rows : (script : ScriptData) (reads : List ReadModule) (cell : CellData) → checked script reads ≡ Ok cell → cell.tasks ≡ map row_of script.tasks
-checked_rows script reads cell is = rows_from script reads (typed_tasks script script.tasks reads) cell is

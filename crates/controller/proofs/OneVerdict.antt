@@ -1,7 +1,7 @@
 -- Words, and what the reads gave, come to at most one verdict, where a text comes to one module.
 use Rattle.std.proofs.Common.{◌≡◌, ℕ, ◌+◌, List, [], ◌∷◌, refl, Option, Some, None, Result, Ok, Err, ap, sym, ◌∙◌, subst, inl, inr}
 use Rattle.toml.specs.Data.{Members}
-use Rattle.rapid_model.specs.CellData.{CellData}
+use Rattle.cell_assembly.specs.Made.{MadeCell}
 use Rattle.rapid_model.specs.ScriptData.{ScriptData, module_names}
 use Rattle.cell_script.specs.Break.{ScriptBreak, Read}
 use Rattle.cell_script.specs.ScriptOf.{script_of, IsTable, IsNoToml, ScriptOf}
@@ -13,8 +13,7 @@ use Rattle.controller.specs.declared.command.Action.TheVariants.{Check, Round}
 use Rattle.controller.specs.declared.refused.Refused.{Refused}
 use Rattle.controller.specs.Words.{refused_place, plain_words, first_action, script_name}
 use Rattle.controller.specs.Files.{Reads}
-use Rattle.controller.specs.Accepted.{Mention, Build, ReadModule, Verdict, Accepted, script_limit, module_limit, file_text, place_at, fault_refusal, mentions, BuildOf, ModuleOf, ModuleIn, ModulesOf, checked, AreBuilds, not_built, trees_of, unless_refused, runs, ActionDecides, CheckedDecides, ModulesDecide, names_of, ScriptDecides, FileDecides, WordsDecide}
-use Rattle.controller.proofs.OneBuilt.{built_as_one}
+use Rattle.controller.specs.Accepted.{ReadModule, Verdict, Accepted, script_limit, module_limit, file_text, fault_refusal, ModuleOf, ModuleIn, ModulesOf, checked, ActionDecides, CheckedDecides, ModulesDecide, names_of, ScriptDecides, FileDecides, WordsDecide}
 
 -- a text comes to one module or one fault
 abbrev pub OneText : Type 0
@@ -37,30 +36,6 @@ script_one text (Err x) (Err y) (inl a) (inl b) = ap Err (a.is ∙ sym b.is)
 script_one text (Err x) (Err y) (inl a) (inr b) = no_table text x b.0 a b.1
 script_one text (Err x) (Err y) (inr a) (inl b) = no_table text y a.0 b a.1
 script_one text (Err x) (Err y) (inr a) (inr b) = sym a.2 ∙ ap script_of (same_keys text a.0 b.0 a.1 b.1) ∙ b.2
-
--- a module that a text spells is built to one tree, or is not built at one place
-build_one : (m : Mention) (text : List ℕ) (raw : PlainModule) (a b : Build) → BuildOf m text raw a → BuildOf m text raw b → a ≡ b
-build_one m text raw (Ok s) (Ok t) p q =
-    let e : Ok s ≡ Ok t = built_as_one m raw (Ok s) (Ok t) p q in
-    let same : s ≡ t = cc in ap Ok same
-build_one m text raw (Ok s) (Err y) p q = let e : Ok s ≡ Err q.0 = built_as_one m raw (Ok s) (Err q.0) p q.1 in cc
-build_one m text raw (Err x) (Ok t) p q = let e : Ok t ≡ Err p.0 = built_as_one m raw (Ok t) (Err p.0) q p.1 in cc
-build_one m text raw (Err x) (Err y) p q =
-    let e : Err p.0 ≡ Err q.0 = built_as_one m raw (Err p.0) (Err q.0) p.1 q.1 in
-    let same : p.0 ≡ q.0 = cc in
-    ap Err (p.2 ∙ ap (place_at text) same ∙ sym q.2)
-
--- modules that are read are built to one list
-builds_one : (ms : List Mention) (reads : List ReadModule) (bs cs : List Build) → AreBuilds ms reads bs → AreBuilds ms reads cs → bs ≡ cs
-builds_one [] [] [] [] p q = refl
-builds_one [] [] [] (c ∷ cs) p q = absurd q
-builds_one [] [] (b ∷ bs) cs p q = absurd p
-builds_one [] (r ∷ reads) bs cs p q = absurd p
-builds_one (m ∷ ms) [] bs cs p q = absurd p
-builds_one (m ∷ ms) (r ∷ reads) [] cs p q = absurd p
-builds_one (m ∷ ms) (r ∷ reads) (b ∷ bs) [] p q = absurd q
-builds_one (m ∷ ms) (r ∷ reads) (b ∷ bs) (c ∷ cs) p q =
-    ap (λ (x : Build). x ∷ bs) (build_one m r.text r.raw b c p.0 q.0) ∙ ap (λ (xs : List Build). c ∷ xs) (builds_one ms reads bs cs p.1 q.1)
 
 -- a text is one module, or is refused
 read_one : (s t : ReadModule) → s.file ≡ t.file → s.text ≡ t.text → s.raw ≡ t.raw → s ≡ t
@@ -114,17 +89,16 @@ modules_one one gave file (n ∷ ns) (Err x) (Err y) (inr p) (inl q) =
 modules_one one gave file (n ∷ ns) (Err x) (Err y) (inr p) (inr q) = modules_one one gave (file + 1) ns (Err x) (Err y) p.2 q.2
 
 -- what is accepted is done in one way
-action_one : (action : Option Action) (names : List (List ℕ)) (script : ScriptData) (reads : List ReadModule) (cell : CellData) (v w : Verdict) → ActionDecides action names script reads cell v
-    → ActionDecides action names script reads cell w → v ≡ w
-action_one (Some Round) names script reads cell v w p q =
-    p.2 ∙ ap (λ (bs : List Build). unless_refused names (not_built script bs) (runs names cell (trees_of bs))) (builds_one (mentions script.tasks) reads p.0 q.0 p.1 q.1) ∙ sym q.2
-action_one (Some Check) names script reads cell v w p q = p ∙ sym q
-action_one None names script reads cell v w p q = absurd p
+action_one : (action : Option Action) (names : List (List ℕ)) (script : ScriptData) (reads : List ReadModule) (made : MadeCell) (v w : Verdict) → ActionDecides action names script reads made v
+    → ActionDecides action names script reads made w → v ≡ w
+action_one (Some Round) names script reads made v w p q = p ∙ sym q
+action_one (Some Check) names script reads made v w p q = p ∙ sym q
+action_one None names script reads made v w p q = absurd p
 
-checked_one : (action : Option Action) (names : List (List ℕ)) (script : ScriptData) (reads : List ReadModule) (found : Result CellData Refused) (v w : Verdict) → CheckedDecides action names script reads found v
+checked_one : (action : Option Action) (names : List (List ℕ)) (script : ScriptData) (reads : List ReadModule) (found : Result MadeCell Refused) (v w : Verdict) → CheckedDecides action names script reads found v
     → CheckedDecides action names script reads found w → v ≡ w
 checked_one action names script reads (Err refused) v w p q = p ∙ sym q
-checked_one action names script reads (Ok cell) v w p q = action_one action names script reads cell v w p q
+checked_one action names script reads (Ok made) v w p q = action_one action names script reads made v w p q
 
 modules_decide_one : (action : Option Action) (names : List (List ℕ)) (script : ScriptData) (modules : Result (List ReadModule) Refused) (v w : Verdict) → ModulesDecide action names script modules v
     → ModulesDecide action names script modules w → v ≡ w

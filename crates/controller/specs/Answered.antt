@@ -5,7 +5,8 @@ use Rattle.outside.specs.Count.{Rose}
 use Rattle.outside.specs.Told.{Told}
 use Rattle.outside.specs.declared.call.Call.{Call}
 use Rattle.rapid_model.specs.CellData.{CellData}
-use Rattle.rapid_model.specs.declared.tree.Tree.{Tree}
+use Rattle.typed_trees.specs.Plain.{TypedTree}
+use Rattle.cell_assembly.specs.Made.{MadeCell}
 use Rattle.history_text.specs.Lines.{lines_of, output_of}
 use Rattle.controller.specs.declared.report.Report.{Report}
 use Rattle.controller.specs.declared.refused.Refused.{Refused}
@@ -43,7 +44,7 @@ pub record IsRefused (names : List (List ℕ)) (refused : Refused) (report : Rep
   pub told : TakesLine (refusal_line names refused) err
 
 -- run and printed whole: each line by one call of the first sink, and more only where a call took part of it
-pub record IsPrinted (cell : CellData) (trees : List Tree) (report : Report) (out err : Sunk) : Type 0 where
+pub record IsPrinted (cell : CellData) (trees : List TypedTree) (report : Report) (out err : Sunk) : Type 0 where
   pub run : IsRun cell trees report
   pub refused_is : report.refused ≡ None
   pub status : report.status ≡ run_status cell report.history.items
@@ -52,7 +53,7 @@ pub record IsPrinted (cell : CellData) (trees : List Tree) (report : Report) (ou
   pub told : Takes [] err
 
 -- run, and printed in part, since a write failed
-pub record IsCutShort (names : List (List ℕ)) (cell : CellData) (trees : List Tree) (report : Report) (out err : Sunk) : Type 0 where
+pub record IsCutShort (names : List (List ℕ)) (cell : CellData) (trees : List TypedTree) (report : Report) (out err : Sunk) : Type 0 where
   pub run : IsRun cell trees report
   pub refused_is : report.refused ≡ Some Write
   pub status : report.status ≡ status_of Write
@@ -89,7 +90,7 @@ abbrev pub AnswersAccepted : Report → Sunk → Sunk → Type 0
 AnswersAccepted report out err = IsAccepted report out err ⊎ (IsAcceptedInPart report out err × Rose out.old.faults out.new.faults)
 
 -- what a run is answered by; a write fails only where the first sink counted a fault
-abbrev pub AnswersRun : CellData → List Tree → Report → Sunk → Sunk → Type 0
+abbrev pub AnswersRun : CellData → List TypedTree → Report → Sunk → Sunk → Type 0
 AnswersRun cell trees report out err =
     IsPrinted cell trees report out err ⊎ (IsCutShort [] cell trees report out err × Rose out.old.faults out.new.faults)
 
@@ -104,7 +105,7 @@ abbrev pub IsOutOfMemory : Report → Sunk → Sunk → Type 0
 IsOutOfMemory report out err = IsRefused [] Memory report out err
 
 -- a run, want of memory aside
-abbrev pub RunsOrMemory : CellData → List Tree → Report → Sunk → Sunk → Type 0
+abbrev pub RunsOrMemory : CellData → List TypedTree → Report → Sunk → Sunk → Type 0
 RunsOrMemory cell trees report out err = IsOutOfMemory report out err ⊎ AnswersRun cell trees report out err
 
 -- it answers a verdict of which this holds, want of memory aside
@@ -116,9 +117,9 @@ abbrev pub AnswersReads : Option Action → List (List ℕ) → ScriptData → L
 AnswersReads action names script reads report out err =
     AnswersSome (CheckedDecides action names script reads (checked script reads)) report out err
 
--- with all modules accepted and this cell, where they are to run
-abbrev pub AnswersBuilt : List (List ℕ) → ScriptData → List ReadModule → CellData → Report → Sunk → Sunk → Type 0
-AnswersBuilt names script reads cell report out err = AnswersSome (ActionDecides (Some Round) names script reads cell) report out err
+-- with all modules accepted, this cell and its trees, where they are to run
+abbrev pub AnswersBuilt : List (List ℕ) → ScriptData → List ReadModule → MadeCell → Report → Sunk → Sunk → Type 0
+AnswersBuilt names script reads made report out err = AnswersSome (ActionDecides (Some Round) names script reads made) report out err
 
 -- A verdict on the words and the files: on what each read finds of a shelf that tells its files; of a shelf that tells nothing,
 -- on what some reads gave.

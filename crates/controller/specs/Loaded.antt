@@ -1,11 +1,12 @@
 -- What loading a script and its modules comes to, and how contracts see what is loaded.
 use Rattle.std.specs.Prelude.{◌≡◌, ℕ, ◌+◌, ◌≤◌, ◌<◌, ◌^◌, ◌⊎◌, List, [], ◌∷◌, map, length, Option, None, Some, Result, Ok, Err, Vec, All}
+use Rattle.std.specs.Borrow.{Bor}
+use Rattle.std.specs.Option.{option_map}
 use Rattle.std.specs.declared.alloc.Global.{Global}
 use Rattle.rapid_model.specs.ScriptData.{ScriptData}
 use Rattle.rapid_model.specs.declared.tree.Tree.{Tree}
 use Rattle.cell_script.specs.Break.{ScriptBreak}
 use Rattle.cell_script.specs.ScriptOf.{ScriptOf}
-use Rattle.raw_trees.specs.Plain.{PlainModule}
 use Rattle.raw_trees.specs.Views.{view_module}
 use Rattle.raw_trees.specs.declared.raw_module.RawModule.{RawModule}
 use Rattle.module_parser.specs.Modules.{ModuleText}
@@ -14,32 +15,30 @@ use Rattle.rule_checks.specs.declared.fault.TypeFault.TheVariants as types
 use Rattle.cell_assembly.specs.Cells.{Clash}
 use Rattle.cell_assembly.specs.declared.cell_fault.CellFault.{CellFault}
 use Rattle.cell_assembly.specs.declared.cell_fault.CellFault.TheVariants as cells
-use Rattle.built_forms.specs.declared.fault.BuildFault.{BuildFault}
-use Rattle.built_forms.specs.declared.fault.BuildFault.TheVariants as faults
-use Rattle.controller.specs.declared.build.Build as declared_build
-use Rattle.controller.specs.declared.build.Build.TheVariants as kinds
-use Rattle.controller.specs.declared.mention.Mention as declared_mention
+use Rattle.cell_assembly.specs.Made.{MadeCell}
+use Rattle.typed_trees.specs.Plain.{TypedTree}
+use Rattle.typed_trees.specs.Views.{view_tree}
+use Rattle.built_tasks.specs.Moves.{moves_of}
+use Rattle.built_tasks.specs.Unbuilt.{first_unbuilt}
+use Rattle.controller.specs.declared.check.CheckedCell.{CheckedCell}
 use Rattle.controller.specs.declared.modules.Modules.{Modules}
 use Rattle.controller.specs.declared.refused.Refused.{Refused}
 use Rattle.controller.specs.declared.refused.Refused.TheVariants.{Script, Memory}
 use Rattle.controller.specs.Files.{Reads}
-use Rattle.controller.specs.Accepted.{Mention, Build, BuiltAs, ReadModule, ModuleOf, module_limit, file_text, rule_refusal, cell_refusal}
-
--- a mention and a build as contracts see them
-abbrev pub mention_of : declared_mention.Mention → Mention
-mention_of m = record { name = m.name.now; first = m.first; armed = m.armed }
-
-abbrev pub build_of : declared_build.Build → Build
-build_of (kinds.Tree tree) = Ok tree
-build_of (kinds.NotBuilt place) = Err place
+use Rattle.controller.specs.Accepted.{ReadModule, ModuleOf, module_limit, file_text, rule_refusal, cell_refusal, form_refusal, not_built}
+use Rattle.controller.specs.Runs.{AreMoves}
 
 -- the names of the modules' files
-abbrev pub names_in_turn : List declared_mention.Mention → List (List ℕ)
-names_in_turn ms = map (λ m. m.name.now) ms
+abbrev pub names_in_turn : List (Bor (List ℕ)) → List (List ℕ)
+names_in_turn names = map (λ name. name.now) names
 
 -- the names of the files, the script's first
-abbrev pub file_names : List ℕ → List declared_mention.Mention → List (List ℕ)
-file_names script ms = script ∷ names_in_turn ms
+abbrev pub file_names : List ℕ → List (Bor (List ℕ)) → List (List ℕ)
+file_names script names = script ∷ names_in_turn names
+
+-- a cell with its trees
+abbrev pub made_of : CheckedCell → MadeCell
+made_of c = record { cell = c.cell; trees = map view_tree c.trees.items }
 
 -- modules by their texts and trees, the first of them in the file of this number
 abbrev pub reads_of : ℕ → List (Vec ℕ Global) → List RawModule → List ReadModule
@@ -52,6 +51,13 @@ reads_in modules = reads_of modules.first modules.texts.now modules.trees.now
 -- a text is within the limit of a module
 abbrev pub IsWithin : Vec ℕ Global → Type 0
 IsWithin text = length text.items ≤ module_limit
+
+-- a text spells each of the modules
+abbrev pub IsSpelled : ReadModule → Type 0
+IsSpelled read = (source : List ℕ) × ModuleText source (Ok read.raw)
+
+abbrev pub AreSpelled : List ReadModule → Type 0
+AreSpelled reads = All IsSpelled reads
 
 -- each tree has its text, and each file its number
 pub record ArePaired (modules : Modules) : Type 0 where
@@ -110,8 +116,12 @@ IsCellRefusal script reads (cells.Clash task number at) refused = refused ≡ ce
 IsCellRefusal script reads (cells.Script key rule) refused = refused ≡ Script key rule
 IsCellRefusal script reads cells.Memory refused = refused ≡ Memory
 
--- what the module of a mention is built to, as a byte of its text where it is not, want of memory aside
-abbrev pub IsBuiltFor : Mention → PlainModule → Result Tree BuildFault → Type 0
-IsBuiltFor m raw (Ok tree) = BuiltAs m raw (Ok tree)
-IsBuiltFor m raw (Err (faults.NotBuilt at)) = BuiltAs m raw (Err at)
-IsBuiltFor m raw (Err faults.Memory) = Unit {0}
+-- what a task is built to, whose modules these are, want of memory aside
+abbrev pub BuildsOne : List ReadModule → TypedTree → Result Tree Refused → Type 0
+BuildsOne reads tree (Ok moves) = (first_unbuilt tree ≡ None) × (moves ≡ moves_of tree)
+BuildsOne reads tree (Err refused) = (refused ≡ Memory) ⊎ (option_map (form_refusal reads) (first_unbuilt tree) ≡ Some refused)
+
+-- what the tasks of a script are built to, want of memory aside
+abbrev pub BuildsTo : ScriptData → List ReadModule → List TypedTree → Result (Vec Tree Global) Refused → Type 0
+BuildsTo script reads trees (Ok moves) = (not_built script reads trees ≡ None) × AreMoves trees moves.items
+BuildsTo script reads trees (Err refused) = (refused ≡ Memory) ⊎ (not_built script reads trees ≡ Some refused)

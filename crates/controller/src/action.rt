@@ -1,15 +1,14 @@
-ghost use Rattle.std.specs.Prelude.{◌≡◌, ℕ, ◌↔◌, Some, IfSome, map, length};
+ghost use Rattle.std.specs.Prelude.{◌≡◌, ℕ, ◌↔◌, Some, IfSome};
 ghost use Rattle.outside.specs.Count.{Rose};
-ghost use Rattle.controller.specs.Accepted.{mentions};
 ghost use Rattle.controller.specs.Files.{IsDoneFault};
-ghost use Rattle.controller.specs.Loaded.{mention_of, file_names, reads_in, ArePaired};
+ghost use Rattle.controller.specs.Loaded.{file_names, reads_in, ArePaired, AreSpelled};
 ghost use Rattle.controller.specs.Words.{refused_place};
 ghost use Rattle.controller.specs.Printed.{sunk};
 ghost use Rattle.controller.specs.Answered.{AnswersWords, AnswersReads, word_bytes};
 
 use crate::check::check_modules;
 use crate::command::{Action, Command, read_words};
-use crate::mention::{Mention, mentions_of};
+use crate::files::module_files;
 use crate::modules::{Modules, parse_texts};
 use crate::refused::Refused;
 use crate::report::{Report, refuse, refuse_file, report_accepted};
@@ -45,11 +44,11 @@ pub fn quiet<S: Shelf, O: Sink, E: Sink>(
         Ok(script) => script,
         Err(refused) => return refuse_file(alloc, err, command.script, &[], refused),
     };
-    let mentions = match mentions_of(alloc, &script) {
-        Ok(mentions) => mentions,
+    let names = match module_files(alloc, &script) {
+        Ok(names) => names,
         Err(_) => return refuse(alloc, err, "", Refused::Memory),
     };
-    let files = mentions.as_slice();
+    let files = names.as_slice();
     let Texts { texts, failed } = load_texts(alloc, shelf, files);
     match parse_texts(alloc, texts.as_slice(), failed) {
         Ok(trees) => {
@@ -69,19 +68,18 @@ fn do_action<O: Sink, E: Sink>(
     alloc: Global,
     command: &Command<'_>,
     script: &Script,
-    files: &[Mention<'_>],
+    files: &[&str],
     modules: &Modules<'_, '_>,
     out: &mut O,
     err: &mut E,
 ) -> Report
-    requires mentions { map mention_of files.now ≡ mentions script.now.tasks }
     requires paired { ArePaired modules.now }
-    requires whole { length modules.now.trees.now ≡ length files.now }
+    requires spelled { AreSpelled (reads_in modules.now) }
     ensures answers { AnswersReads (Some command.now.action) (file_names command.now.script.now files.now) script.now (reads_in modules.now) result (sunk O.told O.calls O.faults out.old out.new) (sunk E.told E.calls E.faults err.old err.new) }
     ensures causes { IfSome result.refused (IsDoneFault (O.faults out.old) (O.faults out.new)) }
 {
     match check_modules(alloc, script, modules) {
-        Ok(cell) => match command.action {
+        Ok(accepted) => match command.action {
             Action::Check => report_accepted(alloc, out, err),
             Action::Round => {
                 run_built(
@@ -90,7 +88,7 @@ fn do_action<O: Sink, E: Sink>(
                     script,
                     files,
                     modules,
-                    cell,
+                    accepted,
                     out,
                     err,
                 )

@@ -1,112 +1,69 @@
-ghost use Rattle.std.specs.Prelude.{◌≡◌, ◌<◌, ◌≤◌, ◌^◌, ◌++◌, IfOk, map, length, codes, take};
-ghost use Rattle.raw_trees.specs.Views.{view_module};
+ghost use Rattle.std.specs.Prelude.{◌≡◌, ◌≤◌, map, length, codes};
 ghost use Rattle.rapid_model.specs.Printable.{ArePrintable};
-ghost use Rattle.built_forms.specs.declared.fault.BuildFault.TheVariants as faults;
-ghost use Rattle.controller.specs.Accepted.{AreBuilds, BuildOf, unarmed_move, first_byte, not_built, unbuilt_key, unbuilt_module};
-ghost use Rattle.controller.specs.Loaded.{mention_of, build_of, reads_in, ArePaired, IsBuiltFor};
+ghost use Rattle.typed_trees.specs.Views.{view_tree};
+ghost use Rattle.controller.specs.Accepted.{form_refusal, unbuilt_key};
+ghost use Rattle.controller.specs.Loaded.{reads_in, ArePaired, BuildsOne, BuildsTo};
 
-use crate::mention::Mention;
-use crate::modules::{Modules, place_in};
+use crate::modules::{Modules, first_modules, later_modules, module_refusal};
 use crate::refused::{ModuleRule, Refused};
-use built_forms::{BuildFault, build_module};
-use rapid_lexer::Place;
-use rapid_model::{Script, ScriptRule, Text, Tree};
-use raw_trees::{RawItem, RawModule};
-use std::alloc::{AllocError, Global};
+use built_tasks::{At, BuildFault, build_task};
+use rapid_model::{Script, ScriptRule, Text};
+use std::alloc::Global;
+use typed_trees::Tree;
 
-/// What a module is built to.
-#[derive(Debug, Drop)]
-pub(crate) enum Build {
-    /// The tree of its task.
-    Tree(Tree),
-    /// The place of its first form that is not built.
-    NotBuilt(Place),
-}
-
-/// What each module is built to.
-pub(crate) fn builds_of(
+/// The moves of the tasks of a script whose modules are accepted, in script order; or the refusal of what is not built: a key of
+/// the script, then a form of a module.
+pub(crate) fn build_tasks(
     alloc: Global,
-    files: &[Mention<'_>],
+    script: &Script,
     modules: &Modules<'_, '_>,
-) -> Result<Vec<Build>, AllocError>
+    trees: &[Tree],
+) -> Result<Vec<rapid_model::Tree>, Refused>
     requires paired { ArePaired modules.now }
-    requires whole { length modules.now.trees.now ≡ length files.now }
-    ensures { IfOk result (λ builds. AreBuilds (map mention_of files.now) (reads_in modules.now) (map build_of builds.items)) }
-{
-    let mut builds = Vec::new(alloc);
-    for (k, mention) in files.iter().enumerate() {
-        let text = modules.texts[k].as_slice();
-        let build = build_in(alloc, mention, text, &modules.trees[k])?;
-        builds.push(build)?;
-    }
-    Ok(builds)
-}
-
-/// What the module of this text and tree is built to.
-fn build_in(
-    alloc: Global,
-    mention: &Mention<'_>,
-    text: &[u8],
-    tree: &RawModule<'_>,
-) -> Result<Build, AllocError>
-    requires { length text.now < 2 ^ 31 }
-    ensures { IfOk result (λ build. BuildOf (mention_of mention.now) text.now (view_module tree.now) (build_of build)) }
-{
-    match build_for(alloc, mention, tree) {
-        Ok(tree) => Ok(Build::Tree(tree)),
-        Err(BuildFault::NotBuilt(at)) => Ok(Build::NotBuilt(place_in(text, at))),
-        Err(BuildFault::Memory) => Err(AllocError),
-    }
-}
-
-/// The tree of a task's module. `NotBuilt` where it is not the task's first one, where a form of it is not built, or where
-/// it moves an arm that is not there.
-fn build_for(alloc: Global, mention: &Mention<'_>, raw: &RawModule<'_>) -> Result<Tree, BuildFault>
-    ensures { IsBuiltFor (mention_of mention.now) (view_module raw.now) result }
-{
-    if !mention.first {
-        return Err(BuildFault::NotBuilt(first_byte(raw)));
-    }
-    let tree = build_module(alloc, raw)?;
-    match unarmed_move(mention.armed, &tree) {
-        Some(at) => Err(BuildFault::NotBuilt(at)),
-        None => Ok(tree),
-    }
-}
-
-/// The byte of a module's first item, or its first byte.
-fn first_byte(raw: &RawModule<'_>) -> usize
-    ensures { result ≡ first_byte (view_module raw.now).items }
-{
-    match raw.items.first() {
-        Some(RawItem::Datum { at, .. }) => *at,
-        Some(RawItem::Routine(routine)) => routine.at,
-        None => 0,
-    }
-}
-
-/// The byte of the first move of a task that has no arm.
-fn unarmed_move(armed: bool, tree: &Tree) -> Option<usize>
-    ensures { result ≡ unarmed_move armed tree.now.list }
-{
-    if armed {
-        return None;
-    }
-    tree.list.as_slice().first().map(|stmt| stmt.at)
-}
-
-/// The refusal of what is not built: a key of the script, then a form of a module.
-pub(crate) fn not_built(script: &Script, builds: &[Build]) -> Option<Refused>
-    requires { length builds.now < 2 ^ 31 }
-    ensures { result ≡ not_built script.now (map build_of builds.now) }
+    requires one_each { length trees.now ≡ length script.now.tasks }
+    ensures { BuildsTo script.now (reads_in modules.now) (map view_tree trees.now) result }
 {
     if let Some(key) = unbuilt_key(script) {
-        return Some(Refused::Script {
+        return Err(Refused::Script {
             key,
             rule: ScriptRule::NotBuilt,
         });
     }
-    unbuilt_module(builds)
+    let tasks = script.tasks().as_slice();
+    let mut moves = Vec::new(alloc);
+    let mut rest = *modules;
+    for (k, task) in tasks.iter().enumerate() {
+        let count = task.modules.len();
+        let own = first_modules(&rest, count);
+        let built = build_one(alloc, &own, &trees[k])?;
+        moves.push(built)?;
+        rest = later_modules(&rest, count);
+    }
+    Ok(moves)
+}
+
+/// The moves of a task, whose modules these are.
+fn build_one(
+    alloc: Global,
+    modules: &Modules<'_, '_>,
+    tree: &Tree,
+) -> Result<rapid_model::Tree, Refused>
+    requires { ArePaired modules.now }
+    ensures { BuildsOne (reads_in modules.now) (view_tree tree.now) result }
+{
+    match build_task(alloc, tree) {
+        Ok(built) => Ok(built),
+        Err(BuildFault::NotBuilt(at)) => Err(form_refusal(modules, at)),
+        Err(BuildFault::Memory) => Err(Refused::Memory),
+    }
+}
+
+/// The refusal of a form that is not built, in one of these modules of its task.
+fn form_refusal(modules: &Modules<'_, '_>, at: At) -> Refused
+    requires { ArePaired modules.now }
+    ensures { result ≡ form_refusal (reads_in modules.now) at }
+{
+    module_refusal(modules, at.module as usize, at.byte, ModuleRule::NotBuilt)
 }
 
 /// The first key of the script that is there and not built.
@@ -124,23 +81,6 @@ fn unbuilt_key(script: &Script) -> Option<Text>
     } else {
         None
     }
-}
-
-/// The first module that is not built.
-fn unbuilt_module(builds: &[Build]) -> Option<Refused>
-    requires { length builds.now < 2 ^ 31 }
-    ensures { result ≡ unbuilt_module 1 (map build_of builds.now) }
-{
-    for (k, build) in builds.iter().enumerate() {
-        if let Build::NotBuilt(place) = build {
-            return Some(Refused::Module {
-                file: k as u32 + 1,
-                place: *place,
-                rule: ModuleRule::NotBuilt,
-            });
-        }
-    }
-    None
 }
 
 /// The text of a key.

@@ -3,9 +3,9 @@ ghost use Rattle.rapid_model.specs.CellData.{CellData};
 ghost use Rattle.typed_trees.specs.Views.{view_tree};
 ghost use Rattle.controller.specs.Accepted.{rule_refusal, names_in, typed_task, typed_tasks, modules_before, checked};
 ghost use Rattle.controller.specs.Files.{Gives};
-ghost use Rattle.controller.specs.Loaded.{reads_in, ArePaired, IsRuleRefusal, IsCellRefusal};
+ghost use Rattle.controller.specs.Loaded.{made_of, reads_in, ArePaired, IsRuleRefusal, IsCellRefusal};
 
-use crate::modules::{Modules, file_at, first_modules, later_modules, place_in, text_at};
+use crate::modules::{Modules, first_modules, later_modules, module_refusal};
 use crate::refused::{ModuleRule, Refused};
 use cell_assembly::{CellFault, make_cell};
 use data_scopes::Known;
@@ -15,19 +15,27 @@ use std::alloc::{AllocError, Global};
 use stmt_types::check_task;
 use typed_trees::Tree;
 
-/// The cell of a script and of its modules. These are checked by names and types, task by task; then by what the tasks share;
+/// A cell, and the trees of its tasks with its numbers, in script order.
+#[derive(Drop)]
+pub(crate) struct CheckedCell {
+    pub cell: Cell,
+    pub trees: Vec<Tree>,
+}
+
+/// The cell of a script and of its modules, and the trees of its tasks. These are checked by names and types, task by task; then by what the tasks share;
 /// then by the script's values of persistents.
 pub(crate) fn check_modules(
     alloc: Global,
     script: &Script,
     modules: &Modules<'_, '_>,
-) -> Result<Cell, Refused>
+) -> Result<CheckedCell, Refused>
     requires { ArePaired modules.now }
-    ensures { Gives (λ (cell : CellData). cell) (checked script.now (reads_in modules.now)) result }
+    ensures gives { Gives made_of (checked script.now (reads_in modules.now)) result }
+    ensures one_each { IfOk result (λ checked. length checked.trees.items ≡ length script.now.tasks) }
 {
     let mut trees = check_tasks(alloc, script, modules)?;
     match make_cell(alloc, script, &mut trees) {
-        Ok(cell) => Ok(cell),
+        Ok(cell) => Ok(CheckedCell { cell, trees }),
         Err(fault) => Err(cell_refusal(script, modules, fault)),
     }
 }
@@ -104,11 +112,7 @@ fn rule_refusal(modules: &Modules<'_, '_>, number: usize, at: usize, rule: TypeR
     requires { ArePaired modules.now }
     ensures { result ≡ rule_refusal (reads_in modules.now) number at rule }
 {
-    Refused::Module {
-        file: file_at(modules, number),
-        place: place_in(text_at(modules, number), at),
-        rule: ModuleRule::Type(rule),
-    }
+    module_refusal(modules, number, at, ModuleRule::Type(rule))
 }
 
 /// The refusal of a cell by a fault.

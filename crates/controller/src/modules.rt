@@ -1,5 +1,5 @@
 ghost use Rattle.std.specs.Prelude.{◌≡◌, ◌<◌, ◌^◌, ℕ, None, Some, IfOk, IfErr, IfSome, take, drop, length, slice_get, All};
-ghost use Rattle.controller.specs.Accepted.{place_at, fault_refusal, read_file, read_text};
+ghost use Rattle.controller.specs.Accepted.{place_at, fault_refusal, module_refusal, read_file, read_text};
 ghost use Rattle.controller.specs.Files.{IsLoadFault};
 ghost use Rattle.controller.specs.Loaded.{IsWithin, ArePaired, IsParsed, AreParsed, reads_in};
 
@@ -75,7 +75,7 @@ fn refusal(file: u32, text: &[u8], fault: SyntaxFault) -> Refused
 }
 
 /// The line and the column of a byte of a text.
-pub(crate) fn place_in(text: &[u8], at: usize) -> Place
+fn place_in(text: &[u8], at: usize) -> Place
     requires { length text.now < 2 ^ 31 }
     ensures { result ≡ place_at text.now at }
 {
@@ -111,8 +111,25 @@ pub(crate) fn later_modules<'m, 'a>(modules: &Modules<'m, 'a>, count: usize) -> 
     }
 }
 
+/// The refusal by a rule, at a byte of the module of this number, from 0.
+pub(crate) fn module_refusal(
+    modules: &Modules<'_, '_>,
+    number: usize,
+    at: usize,
+    rule: ModuleRule,
+) -> Refused
+    requires { ArePaired modules.now }
+    ensures { result ≡ module_refusal (reads_in modules.now) number at rule }
+{
+    Refused::Module {
+        file: file_at(modules, number),
+        place: place_in(text_at(modules, number), at),
+        rule,
+    }
+}
+
 /// The number of the file of the module of this number, from 0; 0 where there is none.
-pub(crate) fn file_at(modules: &Modules<'_, '_>, number: usize) -> u32
+fn file_at(modules: &Modules<'_, '_>, number: usize) -> u32
     requires { ArePaired modules.now }
     ensures { result ≡ read_file (slice_get (reads_in modules.now) number) }
 {
@@ -124,7 +141,7 @@ pub(crate) fn file_at(modules: &Modules<'_, '_>, number: usize) -> u32
 }
 
 /// The text of the module of this number, from 0; empty where there is none.
-pub(crate) fn text_at<'a>(modules: &Modules<'_, 'a>, number: usize) -> &'a [u8]
+fn text_at<'a>(modules: &Modules<'_, 'a>, number: usize) -> &'a [u8]
     requires { ArePaired modules.now }
     ensures text { result.now ≡ read_text (slice_get (reads_in modules.now) number) }
     ensures short { length result.now < 2 ^ 31 }

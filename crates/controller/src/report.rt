@@ -5,7 +5,6 @@ ghost use Rattle.controller.specs.Printed.{sunk, GainedUnlessFaults};
 ghost use Rattle.controller.specs.Refusals.{status_of, refusal_text, refusal_line, name_at, file_of};
 ghost use Rattle.controller.specs.Answered.{AnswersAccepted};
 
-use crate::mention::Mention;
 use crate::print::write_all;
 use crate::refused::{Refused, tell_refusal};
 use outside::Sink;
@@ -61,7 +60,7 @@ pub(crate) fn refuse_file<E: Sink>(
     alloc: Global,
     err: &mut E,
     script: &str,
-    modules: &[Mention<'_>],
+    modules: &[&str],
     refused: Refused,
 ) -> Report
     ensures refused { result.refused ≡ Some refused }
@@ -74,7 +73,7 @@ pub(crate) fn refuse_file<E: Sink>(
 }
 
 /// The name of the file that a refusal speaks of, where it speaks of one.
-fn told_name<'a>(script: &'a str, modules: &[Mention<'a>], refused: &Refused) -> &'a str
+fn told_name<'a>(script: &'a str, modules: &[&'a str], refused: &Refused) -> &'a str
     ensures { result.now ≡ option_map_or (name_at (file_names script.now modules.now)) (file_of refused.now) [] }
 {
     match refused.file() {
@@ -84,14 +83,14 @@ fn told_name<'a>(script: &'a str, modules: &[Mention<'a>], refused: &Refused) ->
 }
 
 /// The name of the file of this number.
-fn file_name<'a>(script: &'a str, modules: &[Mention<'a>], file: u32) -> &'a str
+fn file_name<'a>(script: &'a str, modules: &[&'a str], file: u32) -> &'a str
     ensures { result.now ≡ name_at (file_names script.now modules.now) file }
 {
     if file == 0 {
         return script;
     }
     match modules.get(file as usize - 1) {
-        Some(mention) => mention.name,
+        Some(name) => name,
         None => "",
     }
 }

@@ -1,21 +1,20 @@
-ghost use Rattle.std.specs.Prelude.{◌≡◌, List, [], ◌∷◌, Ok, IfOk, IfSome, map, length};
+ghost use Rattle.std.specs.Prelude.{◌≡◌, List, Ok, IfOk, IfSome, map, length};
 ghost use Rattle.std.specs.List.{list_any};
-ghost use Rattle.rapid_model.specs.ScriptData.{row_of};
 ghost use Rattle.rapid_model.specs.declared.tree.Tree.{Tree};
+ghost use Rattle.typed_trees.specs.Plain.{TypedTree};
 ghost use Rattle.move_meaning.specs.Runs.{tree_asks};
-ghost use Rattle.move_meaning.specs.Traces.{SuitTasks};
 ghost use Rattle.cell_meaning.specs.Histories.{fates_after};
 ghost use Rattle.cell_meaning.specs.Turns.{IsByTurns};
 ghost use Rattle.task_machine.specs.MachineData.{fresh};
-ghost use Rattle.controller.specs.Accepted.{mentions};
+ghost use Rattle.controller.specs.Accepted.{checked};
 ghost use Rattle.controller.specs.Files.{IsDoneFault};
-ghost use Rattle.controller.specs.Loaded.{mention_of, build_of, file_names, reads_in, ArePaired};
-ghost use Rattle.controller.specs.Runs.{SuitsOne, is_fault, run_status};
+ghost use Rattle.controller.specs.Loaded.{file_names, made_of, reads_in, ArePaired, AreSpelled};
+ghost use Rattle.controller.specs.Runs.{AreMoves, SuitsCell, is_fault, run_status};
 ghost use Rattle.controller.specs.Printed.{sunk};
 ghost use Rattle.controller.specs.Answered.{RunsOrMemory, AnswersRun, AnswersBuilt};
 
-use crate::build::{Build, builds_of, not_built};
-use crate::mention::Mention;
+use crate::build::build_tasks;
+use crate::check::CheckedCell;
 use crate::modules::Modules;
 use crate::print::{print_run, rows_of};
 use crate::refused::{Refused, tell_refusal};
@@ -29,88 +28,71 @@ use std::marker::Brand;
 use task_machine::Machine;
 
 /// Runs the cell of a script whose modules are accepted, unless something of it is not built. `name` is the name of the
-/// script's file.
+/// script's file, `files` are those of the modules.
 pub(crate) fn run_built<O: Sink, E: Sink>(
     alloc: Global,
     name: &str,
     script: &Script,
-    files: &[Mention<'_>],
+    files: &[&str],
     modules: &Modules<'_, '_>,
-    cell: Cell,
+    accepted: CheckedCell,
     out: &mut O,
     err: &mut E,
 ) -> Report
-    requires mentions { map mention_of files.now ≡ mentions script.now.tasks }
     requires paired { ArePaired modules.now }
-    requires whole { length modules.now.trees.now ≡ length files.now }
-    requires tasks { cell.tasks ≡ map row_of script.now.tasks }
-    ensures answers { AnswersBuilt (file_names name.now files.now) script.now (reads_in modules.now) cell result (sunk O.told O.calls O.faults out.old out.new) (sunk E.told E.calls E.faults err.old err.new) }
+    requires spelled { AreSpelled (reads_in modules.now) }
+    requires accepted { checked script.now (reads_in modules.now) ≡ Ok (made_of accepted) }
+    requires one_each { length accepted.trees.items ≡ length script.now.tasks }
+    ensures answers { AnswersBuilt (file_names name.now files.now) script.now (reads_in modules.now) (made_of accepted) result (sunk O.told O.calls O.faults out.old out.new) (sunk E.told E.calls E.faults err.old err.new) }
     ensures causes { IfSome result.refused (IsDoneFault (O.faults out.old) (O.faults out.new)) }
 {
-    let _steps = script.steps();
-    let builds = match builds_of(alloc, files, modules) {
-        Ok(builds) => builds,
-        Err(_) => return refuse(alloc, err, "", Refused::Memory),
-    };
-    match not_built(script, builds.as_slice()) {
-        Some(refused) => refuse_file(alloc, err, name, files, refused),
-        None => run_tree(alloc, cell, only_tree(builds), out, err),
+    let CheckedCell { cell, trees } = accepted;
+    match build_tasks(alloc, script, modules, trees.as_slice()) {
+        Ok(moves) => run_moves(alloc, cell, moves, out, err),
+        Err(refused) => refuse_file(alloc, err, name, files, refused),
     }
 }
 
-/// The tree of the one module.
-fn only_tree(mut builds: Vec<Build>) -> Tree
-    requires { (tree : Tree) × (map build_of builds.items ≡ Ok tree ∷ []) }
-    ensures { map build_of builds.items ≡ Ok result ∷ [] }
-{
-    match builds.pop() {
-        Some(Build::Tree(tree)) => tree,
-        _ => unreachable!(),
-    }
-}
-
-/// Runs the one task of a cell, whose module has this tree, and reports it.
-fn run_tree<O: Sink, E: Sink>(
+/// Runs the tasks of a cell, which have these moves, and reports it.
+fn run_moves<O: Sink, E: Sink>(
     alloc: Global,
     cell: Cell,
-    tree: Tree,
+    moves: Vec<Tree>,
     out: &mut O,
     err: &mut E,
 ) -> Report
-    requires { SuitsOne cell tree }
-    ensures { RunsOrMemory cell (tree ∷ []) result (sunk O.told O.calls O.faults out.old out.new) (sunk E.told E.calls E.faults err.old err.new) }
+    requires { SuitsCell cell moves.items }
+    ensures { (trees : List TypedTree) → AreMoves trees moves.items → RunsOrMemory cell trees result (sunk O.told O.calls O.faults out.old out.new) (sunk E.told E.calls E.faults err.old err.new) }
 {
-    match run_task(alloc, cell, tree) {
+    match run_tasks(alloc, cell, moves) {
         Ok(core) => report_run(core, out, err),
         Err(_) => refuse(alloc, err, "", Refused::Memory),
     }
 }
 
-/// Runs the one task of a cell by turns. All memory is taken before the first event.
-fn run_task(alloc: Global, cell: Cell, tree: Tree) -> Result<Core, AllocError>
-    requires { SuitsOne cell tree }
+/// Runs the tasks of a cell by turns. All memory is taken before the first event.
+fn run_tasks(alloc: Global, cell: Cell, moves: Vec<Tree>) -> Result<Core, AllocError>
+    requires { SuitsCell cell moves.items }
     ensures cell { IfOk result (λ core. core.cell ≡ cell) }
-    ensures by_turns { IfOk result (λ core. IsByTurns (tree_asks (tree ∷ [])) cell core.history) }
+    ensures by_turns { IfOk result (λ core. IsByTurns (tree_asks moves.items) cell core.history) }
 {
-    let machines = crew_of(alloc, tree)?;
+    let machines = crew_of(alloc, moves)?;
     match Core::new(alloc, cell) {
         Ok(core) => Ok(run_round::<Brand>(core, machines).core),
         Err(_) => Err(AllocError),
     }
 }
 
-/// A machine for the one task.
-fn crew_of(alloc: Global, tree: Tree) -> Result<Vec<Machine>, AllocError>
-    ensures { IfOk result (λ machines. machines.items ≡ fresh tree ∷ []) }
+/// A machine for each task.
+fn crew_of(alloc: Global, moves: Vec<Tree>) -> Result<Vec<Machine>, AllocError>
+    ensures { IfOk result (λ machines. machines.items ≡ map fresh moves.items) }
 {
-    let mut machines = Vec::new(alloc);
-    machines.push(Machine::new(tree))?;
-    Ok(machines)
+    moves.into_iter().map(|list| Machine::new(list)).collect(alloc)
 }
 
 /// Prints a run and reports it.
 fn report_run<O: Sink, E: Sink>(core: Core, out: &mut O, err: &mut E) -> Report
-    ensures { (trees : List Tree) → length trees ≡ length core.cell.tasks → SuitTasks trees core.cell → IsByTurns (tree_asks trees) core.cell core.history → AnswersRun core.cell trees result (sunk O.told O.calls O.faults out.old out.new) (sunk E.told E.calls E.faults err.old err.new) }
+    ensures { (trees : List TypedTree) (moves : List Tree) → AreMoves trees moves → SuitsCell core.cell moves → IsByTurns (tree_asks moves) core.cell core.history → AnswersRun core.cell trees result (sunk O.told O.calls O.faults out.old out.new) (sunk E.told E.calls E.faults err.old err.new) }
 {
     // A cell is within its limits.
     prove!(core.cell().steps() > 0);

@@ -4,7 +4,6 @@ ghost use Rattle.controller.specs.Files.{text_of, told_reads, IsLoadFault, IsUnr
 ghost use Rattle.controller.specs.Loaded.{names_in_turn, bytes_of, IsScriptIn, IsWithin, AreTexts};
 ghost use Rattle.controller.specs.Accepted.{script_limit};
 
-use crate::mention::Mention;
 use crate::refused::Refused;
 use cell_script::{ScriptFault, read_script};
 use outside::{Shelf, ShelfFault};
@@ -46,9 +45,9 @@ pub(crate) fn load_script<S: Shelf>(
     }
 }
 
-/// The texts of the modules of these mentions, each in turn: the first file after the script's has number 1. The first one
+/// The texts of the modules in the files of these names, each in turn: the first file after the script's has number 1. The first one
 /// that cannot be read ends it.
-pub(crate) fn load_texts<S: Shelf>(alloc: Global, shelf: &mut S, modules: &[Mention<'_>]) -> Texts
+pub(crate) fn load_texts<S: Shelf>(alloc: Global, shelf: &mut S, modules: &[&str]) -> Texts
     requires { length modules.now < 2 ^ 31 }
     ensures faults { S.faults shelf.old ≤ S.faults shelf.new }
     ensures causes { IfSome result.failed (IsLoadFault (S.faults shelf.old) (S.faults shelf.new)) }
@@ -60,8 +59,8 @@ pub(crate) fn load_texts<S: Shelf>(alloc: Global, shelf: &mut S, modules: &[Ment
     ensures told { (told : Told) → S.told shelf.old ≡ Some (after_reads 1 told) → AreTexts (told_reads told) 1 (names_in_turn modules.now) (bytes_of result.texts.items) result.failed }
 {
     let mut texts = Vec::new(alloc);
-    for (k, mention) in modules.iter().enumerate() {
-        let text = match read_file(alloc, shelf, k as u32 + 1, MODULE_LIMIT, mention.name) {
+    for (k, name) in modules.iter().enumerate() {
+        let text = match read_file(alloc, shelf, k as u32 + 1, MODULE_LIMIT, name) {
             Ok(text) => text,
             Err(refused) => {
                 return Texts {

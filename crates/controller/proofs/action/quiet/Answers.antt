@@ -1,7 +1,7 @@
 use Rattle.std.proofs.Common.{ℕ, List, Vec, Global, ap, map, ◌∙◌, inl, subst, sym, length, arith}
 use Rattle.std.specs.Prelude.{Option, Some, IfSome, ◌≤◌, ◌≡◌, None, ◌+◌, ◌<◌}
 use Rattle.controller.specs.Answered.{word_bytes}
-use Rattle.controller.specs.Loaded.{mention_of, bytes_of, names_in_turn}
+use Rattle.controller.specs.Loaded.{bytes_of, names_in_turn}
 use Rattle.controller.proofs.Gains.{gained_none}
 use Rattle.controller.proofs.Exits.{AreRefused, words_refused, script_refused, module_refused, parsed_here, all_read}
 use Rattle.controller.proofs.GivenReads.{GivesAll, all_given, loaded_names}
@@ -32,16 +32,16 @@ returns-in-Err-load_script-clause-answers g c =
       told = c.refuse_file.ensures.told;
     }) c.in-Err-load_script.ensures.told c.in-Err-load_script.ensures.read
 
-pub returns-in-Err-mentions_of-clause-answers : goal.returns-in-Err-mentions_of-clause-answers
-returns-in-Err-mentions_of-clause-answers g c =
+pub returns-in-Err-module_files-clause-answers : goal.returns-in-Err-module_files-clause-answers
+returns-in-Err-module_files-clause-answers g c =
     inl (record {
-      refused_is = c.refuse-in-Err-mentions_of.ensures.refused;
-      status = c.refuse-in-Err-mentions_of.ensures.status;
-      history = c.refuse-in-Err-mentions_of.ensures.history;
-      fates = c.refuse-in-Err-mentions_of.ensures.fates;
+      refused_is = c.refuse-in-Err-module_files.ensures.refused;
+      status = c.refuse-in-Err-module_files.ensures.status;
+      history = c.refuse-in-Err-module_files.ensures.history;
+      fates = c.refuse-in-Err-module_files.ensures.fates;
       printed = gained_none _;
       calls = gained_none _;
-      told = c.refuse-in-Err-mentions_of.ensures.told;
+      told = c.refuse-in-Err-module_files.ensures.told;
     })
 
 pub returns-in-Ok-parse_texts-clause-answers : goal.returns-in-Ok-parse_texts-clause-answers
@@ -53,7 +53,7 @@ returns-in-Ok-parse_texts-clause-answers g c =
     (record {
       taken = c.in-Ok.ensures.taken;
       name_is = c.in-Ok.ensures.name;
-      mentioned = ap (map mention_of) c.as_slice-files.ensures.value ∙ c.in-Ok-mentions_of.ensures.named;
+      named = ap names_in_turn c.as_slice-files.ensures.value ∙ c.in-Ok-module_files.ensures.named;
     }) given c.in-Ok.ensures.action
     (parsed_here c.load_texts-texts.result.texts.items c.as_slice.result.now c.as_slice-in-Ok-parse_texts.result.now c.in-Ok-parse_texts.trees.items c.as_slice-in-Ok-parse_texts-2.result.now
     c.load_texts-texts.result.failed c.as_slice.ensures.value c.as_slice-in-Ok-parse_texts.ensures.value c.as_slice-in-Ok-parse_texts-2.ensures.value c.in-Ok-parse_texts.ensures.parsed) c.do_action.ensures.answers
@@ -67,7 +67,7 @@ returns-clause-answers g c =
     c.in-Err-parse_texts.refused _ _ _ (record {
       taken = c.in-Ok.ensures.taken;
       name_is = c.in-Ok.ensures.name;
-      mentioned = ap (map mention_of) c.as_slice-files.ensures.value ∙ c.in-Ok-mentions_of.ensures.named;
+      named = ap names_in_turn c.as_slice-files.ensures.value ∙ c.in-Ok-module_files.ensures.named;
     }) given (record {
       refused_is = c.refuse_file-in-Err-parse_texts.ensures.refused;
       status = c.refuse_file-in-Err-parse_texts.ensures.status;

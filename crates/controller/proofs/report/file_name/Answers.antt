@@ -6,7 +6,7 @@ pub returns-in-Some : goal.returns-in-Some
 returns-in-Some c =
     let h = c.in-Some.ensures.lookup in
     let is : (c.args.file - 1) + 1 ≡ c.args.file = omega (arith, c.if-file-eq0.false) in
-    module_named c.args.script.now c.args.modules.now c.args.file (c.args.file - 1) c.in-Some.mention.now is h.3.0 h.1
+    module_named c.args.script.now c.args.modules.now c.args.file (c.args.file - 1) c.in-Some.name.now is h.3.0 h.1
 
 pub returns-in-None : goal.returns-in-None
 returns-in-None c =
