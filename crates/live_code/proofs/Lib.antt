@@ -1,1 +1,4 @@
-
+pub mod Reaching
+pub mod Fitting
+pub mod Living
+pub mod Leading

@@ -1,6 +1,6 @@
--- Code that always goes on: after whatever answers fit step by step it comes, by some number of operations, to a request or has
--- ended. So no operation lacks its operands, and no frame has more of them than the code says.
-use Rattle.std.specs.Prelude.{◌≡◌, ℕ, List, ◌∷◌, ◌++◌, IsTrue, ⊤}
+-- Code that always goes on: after whatever answers fit step by step it comes, by some number of operations and by any more, to a
+-- request or has ended. So no operation lacks its operands, and no frame has more of them than the code says.
+use Rattle.std.specs.Prelude.{◌≡◌, ℕ, ◌+◌, List, ◌∷◌, ◌++◌, IsTrue, ⊤}
 use Rattle.rapid_model.specs.Fits.{fits_request}
 use Rattle.rapid_model.specs.declared.answer.Answer.{Answer}
 use Rattle.rapid_model.specs.declared.request.Request.{Request}
@@ -28,4 +28,4 @@ Stands (Ended d) = ⊤
 Stands outcome = ⊥
 
 pub record IsLive (code : CodeData) : Type 0 where
-  pub goes_on : (answers : List Answer) → CodeFits code answers → (k : ℕ) × Stands (code_after code k answers)
+  pub goes_on : (answers : List Answer) → CodeFits code answers → (k : ℕ) × ((more : ℕ) → Stands (code_after code (k + more) answers))
