@@ -7,11 +7,9 @@ use Rattle.controller.specs.declared.refused.Refused.TheVariants.{Words, Script,
 use Rattle.controller.specs.declared.refused.ModuleRule.{ModuleRule}
 use Rattle.controller.specs.declared.refused.ModuleRule.TheVariants as modules
 use Rattle.rapid_lexer.specs.declared.place.Place.{Place}
-use Rattle.rapid_lexer.specs.declared.fault.LexRule.{LexRule}
-use Rattle.rapid_lexer.specs.declared.fault.LexRule.TheVariants as lexes
+use Rattle.rapid_lexer.specs.Names.{lex_rule_name}
 use Rattle.rule_checks.specs.Names.{type_rule_name}
-use Rattle.rapid_forms.specs.declared.fault.SyntaxRule.{SyntaxRule}
-use Rattle.rapid_forms.specs.declared.fault.SyntaxRule.TheVariants as syntaxes
+use Rattle.rapid_forms.specs.Names.{syntax_rule_name}
 
 abbrev pub status_of : Refused → ℕ
 status_of (Words place) = 2
@@ -21,20 +19,6 @@ status_of (Read file) = 5
 status_of Write = 6
 status_of Memory = 7
 status_of (TooLong file) = 10
-
-abbrev pub lex_rule_name : LexRule → List ℕ
-lex_rule_name lexes.BadByte = codes "BadByte"
-lex_rule_name lexes.OpenString = codes "OpenString"
-lex_rule_name lexes.BadEscape = codes "BadEscape"
-lex_rule_name lexes.LongString = codes "LongString"
-lex_rule_name lexes.LongName = codes "LongName"
-lex_rule_name lexes.BadLiteral = codes "BadLiteral"
-lex_rule_name lexes.OpenHeader = codes "OpenHeader"
-
-abbrev pub syntax_rule_name : SyntaxRule → List ℕ
-syntax_rule_name syntaxes.Syntax = codes "Syntax"
-syntax_rule_name syntaxes.LeftOut = codes "LeftOut"
-syntax_rule_name syntaxes.TooDeep = codes "TooDeep"
 
 abbrev pub module_rule_name : ModuleRule → List ℕ
 module_rule_name (modules.Lex rule) = lex_rule_name rule

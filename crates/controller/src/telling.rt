@@ -1,5 +1,5 @@
 ghost use Rattle.std.specs.Prelude.{◌++◌, ◌≡◌, ◌+◌, ◌≤◌, ◌∷◌, [], codes, decimal, length};
-ghost use Rattle.controller.specs.Refusals.{refusal_text, key_words, place_words, module_rule_name, lex_rule_name, syntax_rule_name};
+ghost use Rattle.controller.specs.Refusals.{refusal_text, key_words, place_words, module_rule_name};
 ghost use Rattle.controller.specs.Printed.{sunk, GainedUnlessFaults};
 ghost use Rattle.controller.specs.Written.{Writes, WritesPieces};
 
@@ -8,8 +8,7 @@ use crate::write::write_all;
 use arrayvec::ArrayString;
 use itoa::Buffer;
 use outside::{Failed, Sink};
-use rapid_forms::SyntaxRule;
-use rapid_lexer::{LexRule, Place};
+use rapid_lexer::Place;
 
 /// Tells a refusal on the second sink. A write that fails there changes nothing else. `name` is the name of the file that
 /// the refusal speaks of, where it speaks of one. Takes no memory.
@@ -71,34 +70,10 @@ fn module_rule(rule: ModuleRule) -> &'static [u8]
     ensures { result.now ≡ module_rule_name rule }
 {
     match rule {
-        ModuleRule::Lex(rule) => lex_rule(rule),
-        ModuleRule::Syntax(rule) => syntax_rule(rule),
+        ModuleRule::Lex(rule) => rule.name(),
+        ModuleRule::Syntax(rule) => rule.name(),
         ModuleRule::Type(rule) => rule.name(),
         ModuleRule::NotBuilt => b"NotBuilt",
-    }
-}
-
-fn lex_rule(rule: LexRule) -> &'static [u8]
-    ensures { result.now ≡ lex_rule_name rule }
-{
-    match rule {
-        LexRule::BadByte => b"BadByte",
-        LexRule::OpenString => b"OpenString",
-        LexRule::BadEscape => b"BadEscape",
-        LexRule::LongString => b"LongString",
-        LexRule::LongName => b"LongName",
-        LexRule::BadLiteral => b"BadLiteral",
-        LexRule::OpenHeader => b"OpenHeader",
-    }
-}
-
-fn syntax_rule(rule: SyntaxRule) -> &'static [u8]
-    ensures { result.now ≡ syntax_rule_name rule }
-{
-    match rule {
-        SyntaxRule::Syntax => b"Syntax",
-        SyntaxRule::LeftOut => b"LeftOut",
-        SyntaxRule::TooDeep => b"TooDeep",
     }
 }
 

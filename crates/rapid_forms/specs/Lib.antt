@@ -1,4 +1,5 @@
 pub mod Signs
 pub mod Forms
+pub mod Names
 pub mod Parsed
 pub mod Reading

@@ -1,6 +1,7 @@
 //! Why tokens are not a form.
 
-ghost use Rattle.std.specs.Prelude.{◌≡◌};
+ghost use Rattle.std.specs.Prelude.{◌≡◌, ◌≤◌, length};
+ghost use Rattle.rapid_forms.specs.Names.{syntax_rule_name};
 ghost use Rattle.rapid_forms.specs.declared.fault.SyntaxFault.TheVariants.{Memory};
 
 use rapid_lexer::LexFault;
@@ -15,6 +16,20 @@ pub enum SyntaxRule {
     LeftOut,
     /// The token opens a 65th level of nesting.
     TooDeep,
+}
+
+impl SyntaxRule {
+    /// The name of the rule, as refusals print it: of at most 7 bytes.
+    pub fn name(self) -> &'static [u8]
+        ensures same { result.now ≡ syntax_rule_name self }
+        ensures short { length result.now ≤ 7 }
+    {
+        match self {
+            SyntaxRule::Syntax => b"Syntax",
+            SyntaxRule::LeftOut => b"LeftOut",
+            SyntaxRule::TooDeep => b"TooDeep",
+        }
+    }
 }
 
 /// Why there is no tree.

@@ -5,6 +5,7 @@ pub mod Strings
 pub mod Gaps
 pub mod Tokens
 pub mod Faults
+pub mod Names
 pub mod Places
 pub mod Scanning
 pub mod Reading

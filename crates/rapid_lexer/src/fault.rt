@@ -1,6 +1,7 @@
 //! Why a text is not made of tokens.
 
-ghost use Rattle.std.specs.Prelude.{◌≡◌};
+ghost use Rattle.std.specs.Prelude.{◌≡◌, ◌≤◌, length};
+ghost use Rattle.rapid_lexer.specs.Names.{lex_rule_name};
 ghost use Rattle.rapid_lexer.specs.declared.fault.TokensFault.TheVariants.{Memory};
 
 use std::alloc::{AllocError, AllocFailed};
@@ -22,6 +23,24 @@ pub enum LexRule {
     BadLiteral,
     /// A header has no end.
     OpenHeader,
+}
+
+impl LexRule {
+    /// The name of the rule, as refusals print it: of at most 10 bytes.
+    pub fn name(self) -> &'static [u8]
+        ensures same { result.now ≡ lex_rule_name self }
+        ensures short { length result.now ≤ 10 }
+    {
+        match self {
+            LexRule::BadByte => b"BadByte",
+            LexRule::OpenString => b"OpenString",
+            LexRule::BadEscape => b"BadEscape",
+            LexRule::LongString => b"LongString",
+            LexRule::LongName => b"LongName",
+            LexRule::BadLiteral => b"BadLiteral",
+            LexRule::OpenHeader => b"OpenHeader",
+        }
+    }
 }
 
 /// A rule, and the byte of the source where it is broken, from 0.

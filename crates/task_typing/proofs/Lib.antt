@@ -1,6 +1,7 @@
 pub mod Told
 pub mod Meets
 pub mod Runs
+pub mod Steps
 pub mod Forms
 pub mod Parts
 pub mod Cells
@@ -22,4 +23,5 @@ pub mod Frames
 pub mod Calls
 pub mod Whole
 pub mod Suits
+pub mod Own
 mod Examples

@@ -1,5 +1,5 @@
 -- Statements and lists of them.
-use Rattle.std.proofs.Common.{◌≡◌, ◌⊎◌, ⊎_elim, refl, sym, subst, ℕ, ◌+◌, ◌<◌, ◌/◌, ◌%◌, ◌==◌, ◌&&◌, nat_le, Bool, true, false, ℤ, pos, negsuc, int_lt, neg_ℤ, List, [], ◌∷◌, map, flat_map, Option, Some, None, is_some, slice_get, if◌then◌else◌, IsTrue, arith}
+use Rattle.std.proofs.Common.{◌≡◌, ◌⊎◌, ⊎_elim, refl, sym, subst, ℕ, ◌+◌, ◌<◌, ◌/◌, ◌%◌, ◌==◌, ◌&&◌, nat_le, Bool, true, false, ℤ, pos, negsuc, List, [], ◌∷◌, map, flat_map, Option, Some, None, is_some, slice_get, if◌then◌else◌, IsTrue, arith}
 use Rattle.std.specs.Prelude.{⊤}
 use Rattle.rapid_num.specs.Arithmetic.{sum_of}
 use Rattle.rapid_model.specs.declared.fate.Fate.TheVariants as fates
@@ -22,7 +22,7 @@ use Rattle.rapid_meaning.specs.Interrupts.{connect, number_at}
 use Rattle.rapid_meaning.specs.Layouts.{local_start}
 use Rattle.rapid_meaning.specs.Lists.{behind, ended, items, jumped, rest}
 use Rattle.rapid_meaning.specs.Looks.{look}
-use Rattle.rapid_meaning.specs.Loops.{bounds, counted, counter, counter_place, counts_on, has_passed, set_counter, step_of, turn_due}
+use Rattle.rapid_meaning.specs.Loops.{bounds, counted, counter, counter_place, counts_on, direction, has_passed, set_counter, turn_due}
 use Rattle.rapid_meaning.specs.Places.{own_place, read_value, write_value}
 use Rattle.rapid_meaning.specs.Statements.{again_behind, and_then, assign, byte_of, call, chosen, connects, done_or_held, follows, goes_on, inner, inner_or_not, is_among, raised, selected, stmt, turn, turned}
 use Rattle.rapid_meaning.specs.Values.{applied, num_in, truth_in}
@@ -177,20 +177,37 @@ set_safe i local which n e few =
     safe_then (scene i) (λ q. IsThere (scene i) q sorts.Num) Anything (counter_place i.routine local which) (λ p. write_value p (values.Num n)) (counter_place_safe i local which e few)
     (λ q at. store_safe (scene i) q sorts.Num (datums.Plain (values.Num n)) at refl)
 
-step_safe : (i : Inside) (first last : ℤ) (step : Option TypedExpr) → IsStep i.c (kinds_of i.routine) step → Safe (scene i) Anything (step_of i.c.tree i.routine first last step)
-step_safe i first last None is = safe_any (scene i) (if int_lt last first then neg_ℤ (pos 1_000) else pos 1_000)
-step_safe i first last (Some e) is = num_expr i e is
+-- the bounds with a step, as they are evaluated
+stored_safe : (i : Inside) (local : ℕ) (from to by : ℤ) → slice_get (kinds_of i.routine) local ≡ Some Counts
+    → Safe (scene i) Anything (set_counter i.routine local 2 by >> (set_counter i.routine local 1 to >> set_counter i.routine local 0 from))
+stored_safe i local from to by e =
+    safe_then (scene i) Anything Anything (set_counter i.routine local 2 by) (λ _. set_counter i.routine local 1 to >> set_counter i.routine local 0 from) (set_safe i local 2 by e (omega arith))
+    (λ _ _. safe_then (scene i) Anything Anything (set_counter i.routine local 1 to) (λ _. set_counter i.routine local 0 from) (set_safe i local 1 to e (omega arith))
+    (λ _ _. set_safe i local 0 from e (omega arith)))
+
+-- a step by the two others, as they are stored
+found_safe : (i : Inside) (local : ℕ) → slice_get (kinds_of i.routine) local ≡ Some Counts
+    → Safe (scene i) Anything (counter i.routine local 0 >>= λ variable. counter i.routine local 1 >>= λ limit. set_counter i.routine local 2 (direction variable limit))
+found_safe i local e =
+    safe_then (scene i) Anything Anything (counter i.routine local 0) (λ variable. counter i.routine local 1 >>= λ limit. set_counter i.routine local 2 (direction variable limit))
+    (counter_safe i local 0 e (omega arith))
+    (λ variable _. safe_then (scene i) Anything Anything (counter i.routine local 1) (λ limit. set_counter i.routine local 2 (direction variable limit)) (counter_safe i local 1 e (omega arith))
+    (λ limit _. set_safe i local 2 (direction variable limit) e (omega arith)))
 
 bounds_safe : (i : Inside) (local : ℕ) (first last : TypedExpr) (step : Option TypedExpr) → slice_get (kinds_of i.routine) local ≡ Some Counts → IsExpr i.c (kinds_of i.routine) first sorts.Num
     → IsExpr i.c (kinds_of i.routine) last sorts.Num → IsStep i.c (kinds_of i.routine) step → Safe (scene i) Anything (bounds i.c.tree i.routine local first last step)
-bounds_safe i local first last step e ifirst ilast istep =
+bounds_safe i local first last (Some step) e ifirst ilast istep =
     let stores : ℤ → ℤ → ℤ → Act = λ from to by. set_counter i.routine local 2 by >> (set_counter i.routine local 1 to >> set_counter i.routine local 0 from) in
-    safe_then (scene i) Anything Anything (num i.c.tree i.routine first) (λ from. num i.c.tree i.routine last >>= λ to. step_of i.c.tree i.routine from to step >>= λ by. stores from to by) (num_expr i first ifirst)
-    (λ from _. safe_then (scene i) Anything Anything (num i.c.tree i.routine last) (λ to. step_of i.c.tree i.routine from to step >>= λ by. stores from to by) (num_expr i last ilast)
-    (λ to _. safe_then (scene i) Anything Anything (step_of i.c.tree i.routine from to step) (λ by. stores from to by) (step_safe i from to step istep)
-    (λ by _. safe_then (scene i) Anything Anything (set_counter i.routine local 2 by) (λ _. set_counter i.routine local 1 to >> set_counter i.routine local 0 from) (set_safe i local 2 by e (omega arith))
-    (λ _ _. safe_then (scene i) Anything Anything (set_counter i.routine local 1 to) (λ _. set_counter i.routine local 0 from) (set_safe i local 1 to e (omega arith))
-    (λ _ _. set_safe i local 0 from e (omega arith))))))
+    safe_then (scene i) Anything Anything (num i.c.tree i.routine first) (λ from. num i.c.tree i.routine last >>= λ to. num i.c.tree i.routine step >>= λ by. stores from to by) (num_expr i first ifirst)
+    (λ from _. safe_then (scene i) Anything Anything (num i.c.tree i.routine last) (λ to. num i.c.tree i.routine step >>= λ by. stores from to by) (num_expr i last ilast)
+    (λ to _. safe_then (scene i) Anything Anything (num i.c.tree i.routine step) (λ by. stores from to by) (num_expr i step istep) (λ by _. stored_safe i local from to by e)))
+bounds_safe i local first last None e ifirst ilast istep =
+    let finds : Act = counter i.routine local 0 >>= λ variable. counter i.routine local 1 >>= λ limit. set_counter i.routine local 2 (direction variable limit) in
+    let stores : ℤ → ℤ → Act = λ from to. set_counter i.routine local 1 to >> (set_counter i.routine local 0 from >> finds) in
+    safe_then (scene i) Anything Anything (num i.c.tree i.routine first) (λ from. num i.c.tree i.routine last >>= λ to. stores from to) (num_expr i first ifirst)
+    (λ from _. safe_then (scene i) Anything Anything (num i.c.tree i.routine last) (λ to. stores from to) (num_expr i last ilast)
+    (λ to _. safe_then (scene i) Anything Anything (set_counter i.routine local 1 to) (λ _. set_counter i.routine local 0 from >> finds) (set_safe i local 1 to e (omega arith))
+    (λ _ _. safe_then (scene i) Anything Anything (set_counter i.routine local 0 from) (λ _. finds) (set_safe i local 0 from e (omega arith)) (λ _ _. found_safe i local e))))
 
 -- the next turn of a FOR
 due_safe : (c : Setting) (facts : Facts c) (g : Ghost) (w : Where) (s : TypedStmt) (local : ℕ) → slice_get (kinds_of w.routine) local ≡ Some Counts → IsPart c g (Turn w s)

@@ -1,7 +1,8 @@
 ghost use Rattle.std.specs.Prelude.{◌≡◌, ◌++◌, length, replicate, slice_get, OnOk};
-ghost use Rattle.typed_trees.specs.First.{all_of};
+ghost use Rattle.typed_trees.specs.First.{all_of, data_in};
 
 use crate::datum::Datum;
+use crate::first_runs::FirstRuns;
 use std::alloc::{AllocError, Global};
 use std::marker::Model;
 
@@ -58,6 +59,16 @@ impl FirstData {
         }
     }
 
+    /// The data as they are kept.
+    pub fn runs(&self) -> FirstRuns<'_>
+        ensures { data_in result ≡ self.now }
+    {
+        match &self.kept {
+            Kept::Given(first) => FirstRuns::Each(first),
+            Kept::Alike(datum, count) => FirstRuns::Alike(datum, *count),
+        }
+    }
+
     /// Appends a copy of each, in order. Its error says that memory was refused.
     pub fn append_to(&self, alloc: Global, to: &mut Vec<Datum>) -> Result<(), AllocError>
         ensures { OnOk result (to.new.items ≡ to.old.items ++ self.now) }
@@ -80,7 +91,12 @@ fn append_each(alloc: Global, first: &[Datum], to: &mut Vec<Datum>) -> Result<()
 }
 
 /// Appends so many copies of a datum. Its error says that memory was refused.
-fn append_alike(alloc: Global, datum: &Datum, count: usize, to: &mut Vec<Datum>) -> Result<(), AllocError>
+fn append_alike(
+    alloc: Global,
+    datum: &Datum,
+    count: usize,
+    to: &mut Vec<Datum>,
+) -> Result<(), AllocError>
     ensures { OnOk result (to.new.items ≡ to.old.items ++ replicate count datum.now) }
 {
     for _copy in 0..count {
