@@ -1,6 +1,6 @@
 MODULE Feeder
 
-  CONST num places := 4;
+  CONST num places := 2;
   CONST num no_place := 41;
   PERS num total := 0;
   VAR num place := 1;
@@ -41,7 +41,7 @@ MODULE Feeder
   PROC main()
     CONNECT part_seen WITH part_comes;
     ISignalDI di_part, 1, part_seen;
-    WHILE total < 10 DO
+    WHILE total < 3 DO
       WaitUntil waiting > 0;
       take_part;
     ENDWHILE
