@@ -44,7 +44,7 @@ pub(crate) fn board_cell(alloc: Global) -> Result<Cell, Fail>
 }
 
 /// The name of this letter alone, a capital or a small one.
-fn name(letter: u8) -> NameText
+pub(crate) fn name(letter: u8) -> NameText
     requires low { 65 ≤ letter }
     requires high { letter ≤ 122 }
     ensures { result ≡ letter ∷ [] }
@@ -54,7 +54,8 @@ fn name(letter: u8) -> NameText
     name
 }
 
-fn signal(letter: u8, start: bool) -> SignalRow
+/// An output that starts so.
+pub(crate) fn signal(letter: u8, start: bool) -> SignalRow
     requires low { 65 ≤ letter }
     requires high { letter ≤ 122 }
     ensures { result.name ≡ letter ∷ [] }

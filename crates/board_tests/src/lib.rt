@@ -1,5 +1,5 @@
-//! Worked rows for what the boards of a cell answer: zones in joint space, persistents, signals, meetings and interrupts. It holds
-//! only tests.
+//! Worked rows for what the boards of a cell answer: zones in joint space, persistents, signals, meetings, interrupts and the
+//! zones of arms. It holds only tests.
 #![tactic(auto)]
 
 #[cfg(test)]
@@ -23,4 +23,12 @@ mod three_tasks;
 #[cfg(test)]
 mod traps;
 #[cfg(test)]
+mod two_arms;
+#[cfg(test)]
 mod written;
+#[cfg(test)]
+mod zone_cell;
+#[cfg(test)]
+mod zone_step;
+#[cfg(test)]
+mod zones;

@@ -51,7 +51,7 @@ new_sound tasks owner row is_task sound =
       told = all_alike (holds_where_there (is_value_of row.sort)) (width row.len) None refl;
     }
 
-same_sort_is : (a b : Sort) → same_sort a b ≡ true → a ≡ b
+pub same_sort_is : (a b : Sort) → same_sort a b ≡ true → a ≡ b
 same_sort_is sorts.Num sorts.Num e = refl
 same_sort_is sorts.Bool sorts.Bool e = refl
 same_sort_is sorts.Text sorts.Text e = refl
@@ -67,7 +67,7 @@ same_sort_is sorts.WzTemporary sorts.WzTemporary e = refl
 same_sort_is sorts.WzStationary sorts.WzStationary e = refl
 same_sort_is _ _ e = cc
 
-same_len_is : (a b : Option ℕ) → same_len a b ≡ true → a ≡ b
+pub same_len_is : (a b : Option ℕ) → same_len a b ≡ true → a ≡ b
 same_len_is None None e = refl
 same_len_is (Some m) (Some n) e = ap Some (eqb-true m n e)
 same_len_is _ _ e = cc
@@ -134,7 +134,7 @@ declared_are_right p None valued right =
     (eq-eqb _ _ (length-replicate (width p.len) (start_of p.sort)))
     (all_alike (is_value_of p.sort) (width p.len) (start_of p.sort) (start_is_right p.sort valued))
 
-over_as_many : (told : List (Option Value)) (vs : List Value) → length told ≡ length vs → length (over told vs) ≡ length vs
+pub over_as_many : (told : List (Option Value)) (vs : List Value) → length told ≡ length vs → length (over told vs) ≡ length vs
 over_as_many [] [] e = refl
 over_as_many [] (v ∷ vs) e = absurd (omega arith)
 over_as_many (t ∷ told) [] e = absurd (omega arith)

@@ -5,4 +5,5 @@ pub mod NoChanges
 pub mod Positions
 pub mod ByTurns
 pub mod Ending
+pub mod Same
 mod Examples

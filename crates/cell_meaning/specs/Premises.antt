@@ -1,5 +1,5 @@
 -- What the laws on whole histories take of those who ask.
-use Rattle.std.specs.Prelude.{◌≡◌, ℕ, ◌<◌, false, List, ◌∷◌, ◌++◌, length, IsTrue}
+use Rattle.std.specs.Prelude.{◌≡◌, ◌↔◌, ℕ, ◌<◌, false, List, ◌∷◌, ◌++◌, length, IsTrue}
 use Rattle.rapid_model.specs.CellData.{CellData}
 use Rattle.rapid_model.specs.Own.{part_of, answers_of, has_ended}
 use Rattle.rapid_model.specs.Requests.{may_ask}
@@ -30,3 +30,7 @@ pub record AsksUntilItsEnd (asks : Asking) (cell : CellData) : Type 0 where
 -- each actor might ask what it asked
 pub record AllMightAsk (cell : CellData) (history : List Event) : Type 0 where
   pub might : (before after : List Event) (e : Event) → history ≡ before ++ e ∷ after → IsTrue (may_ask cell e.actor (part_of e.actor before) e.request)
+
+-- one asks just what the other asks
+pub record AskTheSame (asks other : Asking) : Type 0 where
+  pub same : (actor : ℕ) (answers : List Answer) (request : Request) → asks actor answers request ↔ other actor answers request

@@ -8,7 +8,7 @@ ghost use Rattle.rapid_model.specs.declared.request.Request.{Request};
 ghost use Rattle.cell_meaning.specs.Answers.{answer_after};
 ghost use Rattle.cell_meaning.specs.Histories.{IsLegal, IsWhole};
 ghost use Rattle.cell_meaning.specs.Over.{IsOver};
-ghost use Rattle.cell_meaning.specs.Premises.{OnlyTasksAsk, AsksOne, AsksWhatItMay, AsksUntilItsEnd, AllMightAsk};
+ghost use Rattle.cell_meaning.specs.Premises.{OnlyTasksAsk, AsksOne, AsksWhatItMay, AsksUntilItsEnd, AllMightAsk, AskTheSame};
 ghost use Rattle.cell_meaning.specs.Turns.{IsByTurns};
 
 use crate::askers::Askers;
@@ -32,4 +32,11 @@ pub fn whole_history_is_over<A: Askers>()
 /// A law: an answer of the cell fits its request, where each actor might ask what it asked.
 pub fn answers_fit()
     ensures { (cell : CellData) (history : List Event) (actor : ℕ) (request : Request) → IsCell cell → AllMightAsk cell history → IsTrue (may_ask cell actor (part_of actor history) request) → IsTrue (fits_request (fitting_in cell (part_of actor history)) request (answer_after cell history actor request)) }
+{}
+
+/// A law: where two ask the same, what is legal, whole or the run by turns for one is so for the other.
+pub fn who_ask_the_same_have_the_same_histories<A: Askers, B: Askers>()
+    ensures legal { (cell : CellData) (history : List Event) → AskTheSame A.asks B.asks → IsLegal A.asks cell history → IsLegal B.asks cell history }
+    ensures whole { (cell : CellData) (history : List Event) → AskTheSame A.asks B.asks → IsWhole A.asks cell history → IsWhole B.asks cell history }
+    ensures by_turns { (cell : CellData) (history : List Event) → AskTheSame A.asks B.asks → IsByTurns A.asks cell history → IsByTurns B.asks cell history }
 {}

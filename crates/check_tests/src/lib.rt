@@ -1,6 +1,6 @@
 //! A table of small modules, each with the first rule of names and types that it breaks and its exact place, as the documents of
 //! the language have them, compared with what the controller's `check` tells; a table of scripts, each with the key and the rule;
-//! and small texts, with what the crates of names, types, cells and built forms answer. It holds only tests.
+//! and small texts, with what the crates of names, types, cells and built tasks answer. It holds only tests.
 #![tactic(auto)]
 
 #[cfg(test)]

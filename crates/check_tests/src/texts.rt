@@ -40,11 +40,18 @@ pub fn module_of(alloc: Global, text: &[u8]) -> Result<RawModule<'_>, Fail> {
 pub fn task_of(alloc: Global, text: &[u8]) -> Result<Tree, Fail>
     ensures { IfOk result (λ tree. IsTrue (has_sound_pers (view_tree tree))) }
 {
+    task_with(alloc, text, false)
+}
+
+/// The typed tree of a task, with an arm or without one, that has one module.
+pub fn task_with(alloc: Global, text: &[u8], arm: bool) -> Result<Tree, Fail>
+    ensures { IfOk result (λ tree. IsTrue (has_sound_pers (view_tree tree))) }
+{
     let modules = [module_of(alloc, text)?];
     let known = Known {
         tasks: &[],
         signals: &[],
-        arm: false,
+        arm,
     };
     match check_task(alloc, &modules, &known) {
         Ok(tree) => Ok(tree),

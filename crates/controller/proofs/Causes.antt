@@ -1,11 +1,16 @@
 -- What a refusal by a file says of the words and the sinks: nothing of the words, of reads what was counted, nothing of writes.
-use Rattle.std.proofs.Common.{◌≡◌, ℕ, ◌≤◌, List, Some, None, sym, ◌∙◌, subst}
-use Rattle.std.specs.Prelude.{Option, ◌↔◌}
+use Rattle.std.proofs.Common.{◌≡◌, ℕ, ◌≤◌, List, Some, None, sym, ◌∙◌, subst, inl, inr}
+use Rattle.std.specs.Prelude.{Option, ◌↔◌, IfSome}
 use Rattle.outside.specs.Count.{Rose}
 use Rattle.outside.proofs.Counting.{Rose-since}
+use Rattle.rapid_model.specs.CellData.{CellData}
+use Rattle.typed_trees.specs.Plain.{TypedTree}
 use Rattle.controller.specs.declared.refused.Refused.{Refused}
 use Rattle.controller.specs.declared.refused.Refused.TheVariants.{Words, Read, Write}
-use Rattle.controller.specs.Files.{IsLoadFault}
+use Rattle.controller.specs.declared.report.Report.{Report}
+use Rattle.controller.specs.Answered.{RunsOrMemory}
+use Rattle.controller.specs.Files.{IsDoneFault, IsLoadFault}
+use Rattle.controller.specs.Printed.{Sunk}
 use Rattle.controller.specs.Words.{refused_place}
 
 fault_is : (old new : ℕ) (refused other : Refused) (told : Option Refused) → IsLoadFault old new refused → told ≡ Some refused → told ≡ Some other → IsLoadFault old new other
@@ -26,3 +31,9 @@ read_counted start old new refused told before rise fault is = λ file same.
 
 pub no_write : {A : Type 0} (old new : ℕ) (refused : Refused) (told : Option Refused) → IsLoadFault old new refused → told ≡ Some refused → told ≡ Some Write → A
 no_write old new refused told fault is same = absurd (fault_is old new refused Write told fault is same)
+
+-- what a run is refused for
+pub run_told : (cell : CellData) (trees : List TypedTree) (report : Report) (out err : Sunk) → RunsOrMemory cell trees report out err → IfSome report.refused (IsDoneFault out.old.faults out.new.faults)
+run_told cell trees report out err (inl memory) = subst (λ (o : Option Refused). IfSome o (IsDoneFault out.old.faults out.new.faults)) (sym memory.refused_is) tt
+run_told cell trees report out err (inr (inl printed)) = subst (λ (o : Option Refused). IfSome o (IsDoneFault out.old.faults out.new.faults)) (sym printed.refused_is) tt
+run_told cell trees report out err (inr (inr cut)) = subst (λ (o : Option Refused). IfSome o (IsDoneFault out.old.faults out.new.faults)) (sym cut.0.refused_is) cut.1

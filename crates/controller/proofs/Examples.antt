@@ -1,7 +1,11 @@
 -- The definitions on examples worked by hand.
-use Rattle.std.proofs.Common.{ℕ, [], ◌∷◌, refl, arith}
-use Rattle.std.specs.Prelude.{codes}
+use Rattle.std.proofs.Common.{◌≡◌, ℕ, List, [], ◌∷◌, refl, arith}
+use Rattle.std.specs.Prelude.{codes, Some, None}
+use Rattle.outside.specs.Told.{Told}
 use Rattle.outside.specs.declared.call.Call.{Call}
+use Rattle.controller.specs.declared.refused.Refused.TheVariants.{Words, Read}
+use Rattle.controller.specs.Files.{Reads, told_reads}
+use Rattle.controller.specs.Accepted.{refuses, Accepted}
 use Rattle.controller.specs.Sends.{Leaves, Sends, SendsLines, SendsSome}
 
 abbrev call : ℕ → ℕ → Call
@@ -57,3 +61,34 @@ cut_short = record {
   lacks = omega arith;
   leaves = (refl, omega arith, omega arith, refl);
 }
+
+-- two files, of which the second read fails
+two_files : Told
+two_files = record { files = (codes "c", 1 ∷ 2 ∷ []) ∷ (codes "m", 3 ∷ []) ∷ []; calls = 0; failing = 1 ∷ [] }
+
+first_found : told_reads two_files 0 (codes "c") ≡ Some (1 ∷ 2 ∷ [])
+unfolding two_files
+first_found = refl
+
+second_fails : told_reads two_files 1 (codes "m") ≡ None
+unfolding two_files
+second_fails = refl
+
+third_found : told_reads two_files 2 (codes "m") ≡ Some (3 ∷ [])
+unfolding two_files
+third_found = refl
+
+abbrev check_c : List (List ℕ)
+check_c = codes "check" ∷ codes "c" ∷ []
+
+-- the script's file cannot be read
+nothing_read : Reads
+nothing_read file name = None
+
+script_not_read : Accepted check_c nothing_read (refuses (codes "c" ∷ []) (Read 0))
+unfolding nothing_read
+script_not_read = record { decides = refl }
+
+-- the script's name is missing
+no_name : (gave : Reads) → Accepted (codes "check" ∷ []) gave (refuses [] (Words 1))
+no_name gave = record { decides = refl }

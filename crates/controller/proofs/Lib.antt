@@ -2,15 +2,17 @@ mod Examples
 pub mod Options
 pub mod Lists
 pub mod Picking
-pub mod Mentions
+pub mod ModuleFiles
+pub mod Untold
+pub mod GivenReads
 pub mod Loads
 pub mod ReadModules
 pub mod Parsing
 pub mod Checking
 pub mod Made
 pub mod Building
-pub mod OneArm
-pub mod OneTree
+pub mod Accepting
+pub mod Suiting
 pub mod FileNames
 pub mod Sending
 pub mod Gains
@@ -20,5 +22,5 @@ pub mod Printing
 pub mod Reports
 pub mod Exits
 pub mod Causes
-pub mod OneBuilt
 pub mod OneVerdict
+pub mod Refusing

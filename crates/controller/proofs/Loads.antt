@@ -1,21 +1,23 @@
--- Reading the text of one module after another.
+-- Reading the text of one module after another, from a shelf that tells its files, and from one that tells nothing.
 use Rattle.std.proofs.Common.{◌≡◌, ℕ, ◌+◌, ◌<◌, ◌≤◌, List, [], ◌∷◌, ◌++◌, length, drop, get_or, refl, ap, sym, ◌∙◌, subst, ◌⊎◌, inl, inr, arith, length-drop}
+use Rattle.std.specs.Borrow.{Bor}
 use Rattle.std.proofs.lemmas.List.{append-nil}
 use Rattle.std.proofs.lemmas.Option.{IfSome_then}
 use Rattle.std.specs.Prelude.{Option, Some, None, IfSome, Result, Ok, Err, Vec, All}
 use Rattle.std.specs.declared.alloc.Global.{Global}
 use Rattle.outside.specs.Told.{Told, found, after_reads}
 use Rattle.rapid_model.specs.declared.script_rule.ScriptRule.{ScriptRule}
-use Rattle.cell_script.specs.ScriptOf.{FaultOf}
+use Rattle.rapid_model.specs.ScriptData.{ScriptData}
+use Rattle.cell_script.specs.ScriptOf.{ScriptOf, FaultOf}
 use Rattle.cell_script.specs.declared.fault.ScriptFault.{ScriptFault}
 use Rattle.cell_script.specs.declared.fault.ScriptFault.TheVariants.{Rule}
 use Rattle.controller.specs.Accepted.{ReadModule, script_limit, module_limit, file_text, ModuleIn, ModulesOf}
-use Rattle.controller.specs.Files.{text_of, GivesText}
-use Rattle.controller.specs.Loaded.{names_in_turn, bytes_of, IsScriptIn, IsShort, AreTexts, TextsDecide}
-use Rattle.controller.specs.declared.mention.Mention as declared_mention
+use Rattle.controller.specs.Files.{Reads, told_reads, text_of, IsUnread, GivesText}
+use Rattle.controller.specs.Loaded.{names_in_turn, bytes_of, IsScriptIn, IsWithin, AreTexts, TextsDecide}
 use Rattle.controller.specs.declared.refused.Refused.{Refused}
 use Rattle.controller.specs.declared.refused.Refused.TheVariants as refusals
 use Rattle.controller.proofs.Lists.{drop-at, drop-past}
+use Rattle.controller.proofs.Untold.{Stops, unread_gave, text_within}
 
 -- a text that was read whole, and breaks a rule
 IsScriptIn-Script : (read : Result (List ℕ) Refused) (text source : List ℕ) (fault : ScriptFault) (key : List ℕ) (rule : ScriptRule) → read ≡ Ok text → source ≡ text → FaultOf source fault → fault ≡ Rule key rule
@@ -31,75 +33,93 @@ script_is_refused told name text source fault key rule whole same of_source is =
     IfSome_then told {P = λ t. text_of 0 script_limit (found t name) ≡ Ok text} {Q = λ t. IsScriptIn (text_of 0 script_limit (found t name)) (Err (refusals.Script key rule))} whole
     (λ t read. IsScriptIn-Script (text_of 0 script_limit (found t name)) text source fault key rule read same of_source is)
 
+-- the same of what some read gave, whatever the shelf tells: the file is not read, it breaks a rule, or it is a script
+
+pub script_stops : (refused : Refused) → IsUnread 0 refused → (gave : Option (List ℕ)) × IsScriptIn (text_of 0 script_limit gave) (Err refused)
+script_stops refused is = let found = unread_gave 0 script_limit refused is in (found.0, stops found.0 found.1)
+  where
+    stops : (gave : Option (List ℕ)) → Stops 0 script_limit refused gave → IsScriptIn (text_of 0 script_limit gave) (Err refused)
+    stops gave (inl memory) = inl memory
+    stops gave (inr read) = inr (inl read)
+
+pub script_breaks : (text source : List ℕ) (fault : ScriptFault) (key : List ℕ) (rule : ScriptRule) → length text ≤ script_limit → source ≡ text → FaultOf source fault → fault ≡ Rule key rule
+    → (gave : Option (List ℕ)) × IsScriptIn (text_of 0 script_limit gave) (Err (refusals.Script key rule))
+script_breaks text source fault key rule within same of_source is =
+    (Some text, IsScriptIn-Script (text_of 0 script_limit (Some text)) text source fault key rule (text_within 0 script_limit text within) same of_source is)
+
+pub script_is_read : (text source : List ℕ) (script : ScriptData) → length text ≤ script_limit → source ≡ text → ScriptOf source (Ok script)
+    → (gave : Option (List ℕ)) × IsScriptIn (text_of 0 script_limit gave) (Ok script)
+script_is_read text source script within same of_source = (Some text, (source, text_within 0 script_limit text within ∙ ap Ok (sym same), of_source))
+
 -- amid the modules: the texts before this one are read, and so many reads are told
-pub record Loading (start now : Option Told) (old new : ℕ) (modules : List declared_mention.Mention) (k : ℕ) (texts : List (Vec ℕ Global)) : Type 0 where
+pub record Loading (start now : Option Told) (old new : ℕ) (modules : List (Bor (List ℕ))) (k : ℕ) (texts : List (Vec ℕ Global)) : Type 0 where
   pub faults : old ≤ new
   pub count : length texts ≡ k
-  pub short : All IsShort texts
+  pub within : All IsWithin texts
   pub reads : (told : Told) → start ≡ Some (after_reads 1 told) → now ≡ Some (after_reads (k + 1) told)
   pub read : (told : Told) → start ≡ Some (after_reads 1 told) → (more : List (List ℕ)) (failed : Option Refused)
-      → AreTexts told (k + 1) (names_in_turn (drop k modules)) more failed → AreTexts told 1 (names_in_turn modules) (bytes_of texts ++ more) failed
+      → AreTexts (told_reads told) (k + 1) (names_in_turn (drop k modules)) more failed → AreTexts (told_reads told) 1 (names_in_turn modules) (bytes_of texts ++ more) failed
 
 -- what is told where a module is read
 here_is : (now : Option Told) (told : Told) (k : ℕ) (name : List ℕ) (result : Result (Vec ℕ Global) Refused) → now ≡ Some (after_reads (k + 1) told)
-    → IfSome now (λ t. GivesText (text_of (k + 1) module_limit (found t name)) result) → GivesText (file_text told (k + 1) module_limit name) result
+    → IfSome now (λ t. GivesText (text_of (k + 1) module_limit (found t name)) result) → GivesText (file_text (told_reads told) (k + 1) module_limit name) result
 here_is now told k name result is text_in =
     subst (λ (o : Option Told). IfSome o (λ t. GivesText (text_of (k + 1) module_limit (found t name)) result)) is text_in
 
 -- a text is not read
-pub loading_fails : (start now : Option Told) (old mid : ℕ) (modules : List declared_mention.Mention) (k : ℕ) (texts : List (Vec ℕ Global)) (d : declared_mention.Mention) (refused : Refused)
-    → k < length modules → Loading start now old mid modules k texts → IfSome now (λ t. GivesText (text_of (k + 1) module_limit (found t (get_or modules k d).name.now)) (Err refused))
-    → (told : Told) → start ≡ Some (after_reads 1 told) → AreTexts told 1 (names_in_turn modules) (bytes_of texts) (Some refused)
+pub loading_fails : (start now : Option Told) (old mid : ℕ) (modules : List (Bor (List ℕ))) (k : ℕ) (texts : List (Vec ℕ Global)) (d : Bor (List ℕ)) (refused : Refused)
+    → k < length modules → Loading start now old mid modules k texts → IfSome now (λ t. GivesText (text_of (k + 1) module_limit (found t (get_or modules k d).now)) (Err refused))
+    → (told : Told) → start ≡ Some (after_reads 1 told) → AreTexts (told_reads told) 1 (names_in_turn modules) (bytes_of texts) (Some refused)
 loading_fails start now old mid modules k texts d refused lt p here told first =
-    subst (λ (ts : List (List ℕ)). AreTexts told 1 (names_in_turn modules) ts (Some refused)) (append-nil (bytes_of texts))
+    subst (λ (ts : List (List ℕ)). AreTexts (told_reads told) 1 (names_in_turn modules) ts (Some refused)) (append-nil (bytes_of texts))
     (p.read told first [] (Some refused)
-    (subst (λ (ms : List declared_mention.Mention). AreTexts told (k + 1) (names_in_turn ms) [] (Some refused)) (sym (drop-at modules k d lt))
-    (here_is now told k (get_or modules k d).name.now (Err refused) (p.reads told first) here)))
+    (subst (λ (ms : List (Bor (List ℕ))). AreTexts (told_reads told) (k + 1) (names_in_turn ms) [] (Some refused)) (sym (drop-at modules k d lt))
+    (here_is now told k (get_or modules k d).now (Err refused) (p.reads told first) here)))
 
 -- memory is refused for a text
-pub loading_lacks : (start now : Option Told) (old mid : ℕ) (modules : List declared_mention.Mention) (k : ℕ) (texts : List (Vec ℕ Global)) → k < length modules → Loading start now old mid modules k texts
-    → (told : Told) → start ≡ Some (after_reads 1 told) → AreTexts told 1 (names_in_turn modules) (bytes_of texts) (Some refusals.Memory)
+pub loading_lacks : (start now : Option Told) (old mid : ℕ) (modules : List (Bor (List ℕ))) (k : ℕ) (texts : List (Vec ℕ Global)) → k < length modules → Loading start now old mid modules k texts
+    → (told : Told) → start ≡ Some (after_reads 1 told) → AreTexts (told_reads told) 1 (names_in_turn modules) (bytes_of texts) (Some refusals.Memory)
 loading_lacks start now old mid modules k texts lt p told first =
-    subst (λ (ts : List (List ℕ)). AreTexts told 1 (names_in_turn modules) ts (Some refusals.Memory)) (append-nil (bytes_of texts))
+    subst (λ (ts : List (List ℕ)). AreTexts (told_reads told) 1 (names_in_turn modules) ts (Some refusals.Memory)) (append-nil (bytes_of texts))
     (p.read told first [] (Some refusals.Memory) (lacks_there (drop k modules) (some_behind modules k lt)))
   where
-    some_behind : (ms : List declared_mention.Mention) (k : ℕ) → k < length ms → 0 < length (drop k ms)
+    some_behind : (ms : List (Bor (List ℕ))) (k : ℕ) → k < length ms → 0 < length (drop k ms)
     some_behind ms k lt = omega (arith, length-drop k ms)
 
-    lacks_there : (ms : List declared_mention.Mention) → 0 < length ms → AreTexts told (k + 1) (names_in_turn ms) [] (Some refusals.Memory)
+    lacks_there : (ms : List (Bor (List ℕ))) → 0 < length ms → AreTexts (told_reads told) (k + 1) (names_in_turn ms) [] (Some refusals.Memory)
     lacks_there [] none = absurd (omega arith)
     lacks_there (m ∷ ms) some = inl refl
 
 -- all texts are read
-pub loading_ends : (start now : Option Told) (old mid : ℕ) (modules : List declared_mention.Mention) (k : ℕ) (texts : List (Vec ℕ Global)) → length modules ≤ k → Loading start now old mid modules k texts
-    → (told : Told) → start ≡ Some (after_reads 1 told) → AreTexts told 1 (names_in_turn modules) (bytes_of texts) None
+pub loading_ends : (start now : Option Told) (old mid : ℕ) (modules : List (Bor (List ℕ))) (k : ℕ) (texts : List (Vec ℕ Global)) → length modules ≤ k → Loading start now old mid modules k texts
+    → (told : Told) → start ≡ Some (after_reads 1 told) → AreTexts (told_reads told) 1 (names_in_turn modules) (bytes_of texts) None
 loading_ends start now old mid modules k texts past p told first =
-    subst (λ (ts : List (List ℕ)). AreTexts told 1 (names_in_turn modules) ts None) (append-nil (bytes_of texts))
-    (p.read told first [] None (subst (λ (ms : List declared_mention.Mention). AreTexts told (k + 1) (names_in_turn ms) [] None) (sym (drop-past modules k past)) tt))
+    subst (λ (ts : List (List ℕ)). AreTexts (told_reads told) 1 (names_in_turn modules) ts None) (append-nil (bytes_of texts))
+    (p.read told first [] None (subst (λ (ms : List (Bor (List ℕ))). AreTexts (told_reads told) (k + 1) (names_in_turn ms) [] None) (sym (drop-past modules k past)) tt))
 
 -- what the texts come to is what the modules come to
 
-in_file : (told : Told) (file : ℕ) (name text : List ℕ) (verdict : Result ReadModule Refused) → file_text told file module_limit name ≡ Ok text → ModuleIn file (Ok text) verdict
-    → ModuleIn file (file_text told file module_limit name) verdict
-in_file told file name text verdict is d = subst (λ (read : Result (List ℕ) Refused). ModuleIn file read verdict) (sym is) d
+in_file : (gave : Reads) (file : ℕ) (name text : List ℕ) (verdict : Result ReadModule Refused) → file_text gave file module_limit name ≡ Ok text → ModuleIn file (Ok text) verdict
+    → ModuleIn file (file_text gave file module_limit name) verdict
+in_file gave file name text verdict is d = subst (λ (read : Result (List ℕ) Refused). ModuleIn file read verdict) (sym is) d
 
-pub modules_from_texts : (told : Told) (file : ℕ) (names texts : List (List ℕ)) (failed : Option Refused) (verdict : Result (List ReadModule) Refused) → AreTexts told file names texts failed
-    → TextsDecide file texts failed verdict → (verdict ≡ Err refusals.Memory) ⊎ ModulesOf told file names verdict
-modules_from_texts told file [] [] None verdict a d = inr d
-modules_from_texts told file [] [] (Some r) verdict a d = absurd a
-modules_from_texts told file [] (t ∷ ts) failed verdict a d = absurd a
-modules_from_texts told file (n ∷ ns) [] None verdict a d = absurd a
-modules_from_texts told file (n ∷ ns) [] (Some r) verdict (inl memory) d = inl (d ∙ ap Err memory)
-modules_from_texts told file (n ∷ ns) [] (Some r) verdict (inr failed) d =
-    inr (subst (λ (v : Result (List ReadModule) Refused). ModulesOf told file (n ∷ ns) v) (sym d)
+pub modules_from_texts : (gave : Reads) (file : ℕ) (names texts : List (List ℕ)) (failed : Option Refused) (verdict : Result (List ReadModule) Refused) → AreTexts gave file names texts failed
+    → TextsDecide file texts failed verdict → (verdict ≡ Err refusals.Memory) ⊎ ModulesOf gave file names verdict
+modules_from_texts gave file [] [] None verdict a d = inr d
+modules_from_texts gave file [] [] (Some r) verdict a d = absurd a
+modules_from_texts gave file [] (t ∷ ts) failed verdict a d = absurd a
+modules_from_texts gave file (n ∷ ns) [] None verdict a d = absurd a
+modules_from_texts gave file (n ∷ ns) [] (Some r) verdict (inl memory) d = inl (d ∙ ap Err memory)
+modules_from_texts gave file (n ∷ ns) [] (Some r) verdict (inr failed) d =
+    inr (subst (λ (v : Result (List ReadModule) Refused). ModulesOf gave file (n ∷ ns) v) (sym d)
     (inl (subst (λ (read : Result (List ℕ) Refused). ModuleIn file read (Err r)) (sym failed) refl)))
-modules_from_texts told file (n ∷ ns) (t ∷ ts) failed (Err r) a (inl d) = inr (inl (in_file told file n t (Err r) a.0 d))
-modules_from_texts told file (n ∷ ns) (t ∷ ts) failed (Err r) a (inr d) = elim (modules_from_texts told (file + 1) ns ts failed (Err r) a.1 d.2) [
+modules_from_texts gave file (n ∷ ns) (t ∷ ts) failed (Err r) a (inl d) = inr (inl (in_file gave file n t (Err r) a.0 d))
+modules_from_texts gave file (n ∷ ns) (t ∷ ts) failed (Err r) a (inr d) = elim (modules_from_texts gave (file + 1) ns ts failed (Err r) a.1 d.2) [
   | inl memory ↦ inl memory
-  | inr p ↦ inr (inr (d.0, in_file told file n t (Ok d.0) a.0 d.1, p))
+  | inr p ↦ inr (inr (d.0, in_file gave file n t (Ok d.0) a.0 d.1, p))
 ]
-modules_from_texts told file (n ∷ ns) (t ∷ ts) failed (Ok []) a d = absurd d
-modules_from_texts told file (n ∷ ns) (t ∷ ts) failed (Ok (read ∷ reads)) a d = elim (modules_from_texts told (file + 1) ns ts failed (Ok reads) a.1 d.1) [
+modules_from_texts gave file (n ∷ ns) (t ∷ ts) failed (Ok []) a d = absurd d
+modules_from_texts gave file (n ∷ ns) (t ∷ ts) failed (Ok (read ∷ reads)) a d = elim (modules_from_texts gave (file + 1) ns ts failed (Ok reads) a.1 d.1) [
   | inl memory ↦ cc
-  | inr p ↦ inr (in_file told file n t (Ok read) a.0 d.0, p)
+  | inr p ↦ inr (in_file gave file n t (Ok read) a.0 d.0, p)
 ]

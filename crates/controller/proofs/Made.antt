@@ -1,5 +1,5 @@
 -- The cell of a script and of the trees of its tasks.
-use Rattle.std.proofs.Common.{◌≡◌, ℕ, suc, ◌+◌, List, [], ◌∷◌, length, take, drop, map, refl, ap, sym, ◌∙◌, subst, ◌⊎◌, inl, inr}
+use Rattle.std.proofs.Common.{◌≡◌, ℕ, suc, List, [], ◌∷◌, length, take, drop, map, refl, ap, sym, ◌∙◌, subst, ◌⊎◌, inl, inr}
 use Rattle.std.specs.Prelude.{Result, Ok, Err, IsTrue, is_some}
 use Rattle.std.specs.Cmp.Derive.{both_true}
 use Rattle.std.specs.List.{list_all}
@@ -30,10 +30,10 @@ pub record AreSound (tasks : List ScriptTask) (trees : List TypedTree) : Type 0 
   pub one_each : length trees ≡ length tasks
   pub sound : IsTrue (list_all has_sound_pers trees)
 
-one_sound : (file : ℕ) (reads : List ReadModule) (found : Checked TypedTree) (tree : TypedTree) → ((t : TypedTree) → found ≡ Ok t → IsTrue (has_sound_pers t)) → or_refused file reads found ≡ Ok tree
+one_sound : (reads : List ReadModule) (found : Checked TypedTree) (tree : TypedTree) → ((t : TypedTree) → found ≡ Ok t → IsTrue (has_sound_pers t)) → or_refused reads found ≡ Ok tree
     → IsTrue (has_sound_pers tree)
-one_sound file reads (Ok t) tree each is = let same : t ≡ tree = cc in each tree (ap Ok same)
-one_sound file reads (Err broken) tree each is = cc
+one_sound reads (Ok t) tree each is = let same : t ≡ tree = cc in each tree (ap Ok same)
+one_sound reads (Err broken) tree each is = cc
 
 then_sound : (task : ScriptTask) (tasks : List ScriptTask) (first : Result TypedTree Refused) (more : Result (List TypedTree) Refused) (trees : List TypedTree)
     → ((t : TypedTree) → first ≡ Ok t → IsTrue (has_sound_pers t)) → ((ts : List TypedTree) → more ≡ Ok ts → AreSound tasks ts) → then_trees first more ≡ Ok trees → AreSound (task ∷ tasks) trees
@@ -47,56 +47,39 @@ then_sound task tasks (Ok t) (Ok ts) trees here behind is =
 then_sound task tasks (Ok t) (Err refused) trees here behind is = cc
 then_sound task tasks (Err refused) more trees here behind is = cc
 
-typed_sound : (script : ScriptData) (tasks : List ScriptTask) (file : ℕ) (reads : List ReadModule) (trees : List TypedTree) → typed_tasks script tasks file reads ≡ Ok trees → AreSound tasks trees
-typed_sound script [] file reads trees is =
+typed_sound : (script : ScriptData) (tasks : List ScriptTask) (reads : List ReadModule) (trees : List TypedTree) → typed_tasks script tasks reads ≡ Ok trees → AreSound tasks trees
+typed_sound script [] reads trees is =
     let none : trees ≡ [] = cc in
     subst (λ (xs : List TypedTree). AreSound [] xs) (sym none) (record { one_each = refl; sound = refl })
-typed_sound script (task ∷ tasks) file reads trees is =
+typed_sound script (task ∷ tasks) reads trees is =
     let own = take (length task.modules) reads in
     let raws = map (λ (r : ReadModule). r.raw) own in
-    then_sound task tasks (typed_task script task file own) (typed_tasks script tasks (file + length task.modules) (drop (length task.modules) reads)) trees
-    (λ t e. one_sound file own (task_of raws (names_in script.tasks) script.signals (is_some task.arm)) t
+    then_sound task tasks (typed_task script task own) (typed_tasks script tasks (drop (length task.modules) reads)) trees
+    (λ t e. one_sound own (task_of raws (names_in script.tasks) script.signals (is_some task.arm)) t
     (λ x f. task_sound raws (names_in script.tasks) script.signals (is_some task.arm) x f) e)
-    (λ ts e. typed_sound script tasks (file + length task.modules) (drop (length task.modules) reads) ts e) is
+    (λ ts e. typed_sound script tasks (drop (length task.modules) reads) ts e) is
 
 -- the trees of all tasks, as the cell is made of them
-pub trees_sound : (script : ScriptData) (reads : List ReadModule) (typed trees : List Tree) → typed_tasks script script.tasks 1 reads ≡ Ok (map view_tree typed) → trees ≡ typed
+pub trees_sound : (script : ScriptData) (reads : List ReadModule) (typed trees : List Tree) → typed_tasks script script.tasks reads ≡ Ok (map view_tree typed) → trees ≡ typed
     → IsTrue (list_all has_sound_pers (map view_tree trees))
 trees_sound script reads typed trees is same =
-    subst (λ (ts : List Tree). IsTrue (list_all has_sound_pers (map view_tree ts))) (sym same) (typed_sound script script.tasks 1 reads (map view_tree typed) is).sound
+    subst (λ (ts : List Tree). IsTrue (list_all has_sound_pers (map view_tree ts))) (sym same) (typed_sound script script.tasks reads (map view_tree typed) is).sound
 
-pub one_tree_each : (script : ScriptData) (reads : List ReadModule) (typed trees : List Tree) → typed_tasks script script.tasks 1 reads ≡ Ok (map view_tree typed) → trees ≡ typed → length trees ≡ length script.tasks
+pub one_tree_each : (script : ScriptData) (reads : List ReadModule) (typed trees : List Tree) → typed_tasks script script.tasks reads ≡ Ok (map view_tree typed) → trees ≡ typed → length trees ≡ length script.tasks
 one_tree_each script reads typed trees is same =
-    ap length same ∙ sym (length-map typed view_tree) ∙ (typed_sound script script.tasks 1 reads (map view_tree typed) is).one_each
+    ap length same ∙ sym (length-map typed view_tree) ∙ (typed_sound script script.tasks reads (map view_tree typed) is).one_each
 
 -- the cell that is made of them
-pub cell_made : (script : ScriptData) (reads : List ReadModule) (typed trees : List Tree) (made : MadeCell) → typed_tasks script script.tasks 1 reads ≡ Ok (map view_tree typed) → trees ≡ typed
-    → make_cell script (map view_tree trees) ≡ Ok made → checked script reads ≡ Ok made.cell
+pub cell_made : (script : ScriptData) (reads : List ReadModule) (typed trees : List Tree) (made : MadeCell) → typed_tasks script script.tasks reads ≡ Ok (map view_tree typed) → trees ≡ typed
+    → make_cell script (map view_tree trees) ≡ Ok made → checked script reads ≡ Ok made
 cell_made script reads typed trees made is same makes =
     ap (cell_from script reads) (is ∙ ap (λ (ts : List Tree). Ok (map view_tree ts)) (sym same)) ∙ ap (cell_or_refused script reads) makes
 
 -- or why none is
-pub cell_refused : (script : ScriptData) (reads : List ReadModule) (typed trees : List Tree) (fault : CellFault) (refused : Refused) → typed_tasks script script.tasks 1 reads ≡ Ok (map view_tree typed) → trees ≡ typed
+pub cell_refused : (script : ScriptData) (reads : List ReadModule) (typed trees : List Tree) (fault : CellFault) (refused : Refused) → typed_tasks script script.tasks reads ≡ Ok (map view_tree typed) → trees ≡ typed
     → Fails fault (make_cell script (map view_tree trees)) → IsCellRefusal script reads fault refused → (refused ≡ Memory) ⊎ (checked script reads ≡ Err refused)
-cell_refused script reads typed trees (faults.Clash task number at) refused is same fails (inl memory) = inl memory
-cell_refused script reads typed trees (faults.Clash task number at) refused is same fails (inr told) =
+cell_refused script reads typed trees (faults.Clash task number at) refused is same fails told =
     inr (ap (cell_from script reads) (is ∙ ap (λ (ts : List Tree). Ok (map view_tree ts)) (sym same)) ∙ ap (cell_or_refused script reads) fails ∙ ap Err (sym told))
 cell_refused script reads typed trees (faults.Script key rule) refused is same fails told =
     inr (ap (cell_from script reads) (is ∙ ap (λ (ts : List Tree). Ok (map view_tree ts)) (sym same)) ∙ ap (cell_or_refused script reads) fails ∙ ap Err (sym told))
 cell_refused script reads typed trees faults.Memory refused is same fails told = inl told
-
--- its tasks are those of the script
-
-rows_in : (script : ScriptData) (reads : List ReadModule) (trees : List TypedTree) (making : Making CellTables) (cell : CellData)
-    → cell_or_refused script reads (making >>= (λ t. Ok (record { cell = cell_of script t; trees = numbered trees t.pers_of t.meeting_of }))) ≡ Ok cell → cell.tasks ≡ map row_of script.tasks
-rows_in script reads trees (Ok tables) cell is =
-    let same : cell_of script tables ≡ cell = cc in
-    ap (λ (c : CellData). c.tasks) (sym same)
-rows_in script reads trees (Err broken) cell is = cc
-
-rows_from : (script : ScriptData) (reads : List ReadModule) (trees : Result (List TypedTree) Refused) (cell : CellData) → cell_from script reads trees ≡ Ok cell → cell.tasks ≡ map row_of script.tasks
-rows_from script reads (Ok trees) cell is = rows_in script reads trees (cell_tables script.pers trees) cell is
-rows_from script reads (Err refused) cell is = cc
-
-pub checked_rows : (script : ScriptData) (reads : List ReadModule) (cell : CellData) → checked script reads ≡ Ok cell → cell.tasks ≡ map row_of script.tasks
-checked_rows script reads cell is = rows_from script reads (typed_tasks script script.tasks 1 reads) cell is

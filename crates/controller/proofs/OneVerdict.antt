@@ -1,8 +1,7 @@
--- Words and told files come to at most one verdict, where a text comes to one module.
+-- Words, and what the reads gave, come to at most one verdict, where a text comes to one module.
 use Rattle.std.proofs.Common.{◌≡◌, ℕ, ◌+◌, List, [], ◌∷◌, refl, Option, Some, None, Result, Ok, Err, ap, sym, ◌∙◌, subst, inl, inr}
-use Rattle.outside.specs.Told.{Told}
 use Rattle.toml.specs.Data.{Members}
-use Rattle.rapid_model.specs.CellData.{CellData}
+use Rattle.cell_assembly.specs.Made.{MadeCell}
 use Rattle.rapid_model.specs.ScriptData.{ScriptData, module_names}
 use Rattle.cell_script.specs.Break.{ScriptBreak, Read}
 use Rattle.cell_script.specs.ScriptOf.{script_of, IsTable, IsNoToml, ScriptOf}
@@ -13,8 +12,8 @@ use Rattle.controller.specs.declared.command.Action.{Action}
 use Rattle.controller.specs.declared.command.Action.TheVariants.{Check, Round}
 use Rattle.controller.specs.declared.refused.Refused.{Refused}
 use Rattle.controller.specs.Words.{refused_place, plain_words, first_action, script_name}
-use Rattle.controller.specs.Accepted.{Mention, Build, ReadModule, Verdict, Accepted, script_limit, module_limit, file_text, place_at, fault_refusal, mentions, BuildOf, ModuleOf, ModuleIn, ModulesOf, checked, AreBuilds, not_built, trees_of, unless_refused, runs, ActionDecides, CheckedDecides, ModulesDecide, names_of, ScriptDecides, FileDecides, WordsDecide}
-use Rattle.controller.proofs.OneBuilt.{built_as_one}
+use Rattle.controller.specs.Files.{Reads}
+use Rattle.controller.specs.Accepted.{ReadModule, Verdict, Accepted, script_limit, module_limit, file_text, fault_refusal, ModuleOf, ModuleIn, ModulesOf, checked, ActionDecides, CheckedDecides, ModulesDecide, names_of, ScriptDecides, FileDecides, WordsDecide}
 
 -- a text comes to one module or one fault
 abbrev pub OneText : Type 0
@@ -38,113 +37,90 @@ script_one text (Err x) (Err y) (inl a) (inr b) = no_table text x b.0 a b.1
 script_one text (Err x) (Err y) (inr a) (inl b) = no_table text y a.0 b a.1
 script_one text (Err x) (Err y) (inr a) (inr b) = sym a.2 ∙ ap script_of (same_keys text a.0 b.0 a.1 b.1) ∙ b.2
 
--- a module that a text spells is built to one tree, or is not built at one place
-build_one : (m : Mention) (text : List ℕ) (raw : PlainModule) (a b : Build) → BuildOf m text raw a → BuildOf m text raw b → a ≡ b
-build_one m text raw (Ok s) (Ok t) p q =
-    let e : Ok s ≡ Ok t = built_as_one m raw (Ok s) (Ok t) p q in
-    let same : s ≡ t = cc in ap Ok same
-build_one m text raw (Ok s) (Err y) p q = let e : Ok s ≡ Err q.0 = built_as_one m raw (Ok s) (Err q.0) p q.1 in cc
-build_one m text raw (Err x) (Ok t) p q = let e : Ok t ≡ Err p.0 = built_as_one m raw (Ok t) (Err p.0) q p.1 in cc
-build_one m text raw (Err x) (Err y) p q =
-    let e : Err p.0 ≡ Err q.0 = built_as_one m raw (Err p.0) (Err q.0) p.1 q.1 in
-    let same : p.0 ≡ q.0 = cc in
-    ap Err (p.2 ∙ ap (place_at text) same ∙ sym q.2)
-
--- modules that are read are built to one list
-builds_one : (ms : List Mention) (reads : List ReadModule) (bs cs : List Build) → AreBuilds ms reads bs → AreBuilds ms reads cs → bs ≡ cs
-builds_one [] [] [] [] p q = refl
-builds_one [] [] [] (c ∷ cs) p q = absurd q
-builds_one [] [] (b ∷ bs) cs p q = absurd p
-builds_one [] (r ∷ reads) bs cs p q = absurd p
-builds_one (m ∷ ms) [] bs cs p q = absurd p
-builds_one (m ∷ ms) (r ∷ reads) [] cs p q = absurd p
-builds_one (m ∷ ms) (r ∷ reads) (b ∷ bs) [] p q = absurd q
-builds_one (m ∷ ms) (r ∷ reads) (b ∷ bs) (c ∷ cs) p q =
-    ap (λ (x : Build). x ∷ bs) (build_one m r.text r.raw b c p.0 q.0) ∙ ap (λ (xs : List Build). c ∷ xs) (builds_one ms reads bs cs p.1 q.1)
-
 -- a text is one module, or is refused
-read_one : (s t : ReadModule) → s.text ≡ t.text → s.raw ≡ t.raw → s ≡ t
-read_one s t text raw =
-    ap (λ (x : List ℕ). let m : ReadModule = record { text = x; raw = s.raw } in m) text ∙ ap (λ (x : PlainModule). let m : ReadModule = record { text = t.text; raw = x } in m) raw
+read_one : (s t : ReadModule) → s.file ≡ t.file → s.text ≡ t.text → s.raw ≡ t.raw → s ≡ t
+read_one s t file text raw =
+    ap (λ (n : ℕ). let m : ReadModule = record { file = n; text = s.text; raw = s.raw } in m) file
+    ∙ ap (λ (x : List ℕ). let m : ReadModule = record { file = t.file; text = x; raw = s.raw } in m) text
+    ∙ ap (λ (x : PlainModule). let m : ReadModule = record { file = t.file; text = t.text; raw = x } in m) raw
 
 module_of_one : OneText → (file : ℕ) (text : List ℕ) (a b : Result ReadModule Refused) → ModuleOf file text a → ModuleOf file text b → a ≡ b
 module_of_one one file text (Err x) (Err y) p q =
     let e : Err p.0 ≡ Err q.0 = one text (Err p.0) (Err q.0) p.1 q.1 in
     let same : p.0 ≡ q.0 = cc in
     ap Err (p.2 ∙ ap (fault_refusal file text) same ∙ sym q.2)
-module_of_one one file text (Err x) (Ok t) p q = let e : Ok t.raw ≡ Err p.0 = one text (Ok t.raw) (Err p.0) q.1 p.1 in cc
-module_of_one one file text (Ok s) (Err y) p q = let e : Ok s.raw ≡ Err q.0 = one text (Ok s.raw) (Err q.0) p.1 q.1 in cc
+module_of_one one file text (Err x) (Ok t) p q = let e : Ok t.raw ≡ Err p.0 = one text (Ok t.raw) (Err p.0) q.2 p.1 in cc
+module_of_one one file text (Ok s) (Err y) p q = let e : Ok s.raw ≡ Err q.0 = one text (Ok s.raw) (Err q.0) p.2 q.1 in cc
 module_of_one one file text (Ok s) (Ok t) p q =
-    let e : Ok s.raw ≡ Ok t.raw = one text (Ok s.raw) (Ok t.raw) p.1 q.1 in
+    let e : Ok s.raw ≡ Ok t.raw = one text (Ok s.raw) (Ok t.raw) p.2 q.2 in
     let same : s.raw ≡ t.raw = cc in
-    ap Ok (read_one s t (p.0 ∙ sym q.0) same)
+    ap Ok (read_one s t (p.0 ∙ sym q.0) (p.1 ∙ sym q.1) same)
 
 module_one : OneText → (file : ℕ) (read : Result (List ℕ) Refused) (a b : Result ReadModule Refused) → ModuleIn file read a → ModuleIn file read b → a ≡ b
 module_one one file (Err refused) a b p q = p ∙ sym q
 module_one one file (Ok text) a b p q = module_of_one one file text a b p q
 
-modules_one : OneText → (told : Told) (file : ℕ) (names : List (List ℕ)) (a b : Result (List ReadModule) Refused) → ModulesOf told file names a → ModulesOf told file names b → a ≡ b
-modules_one one told file [] a b p q = p ∙ sym q
-modules_one one told file (n ∷ ns) (Ok []) b p q = absurd p
-modules_one one told file (n ∷ ns) (Ok (s ∷ ss)) (Ok []) p q = absurd q
-modules_one one told file (n ∷ ns) (Ok (s ∷ ss)) (Ok (t ∷ ts)) p q =
-    let e : Ok s ≡ Ok t = module_one one file (file_text told file module_limit n) (Ok s) (Ok t) p.0 q.0 in
-    let f : Ok ss ≡ Ok ts = modules_one one told (file + 1) ns (Ok ss) (Ok ts) p.1 q.1 in
+modules_one : OneText → (gave : Reads) (file : ℕ) (names : List (List ℕ)) (a b : Result (List ReadModule) Refused) → ModulesOf gave file names a → ModulesOf gave file names b → a ≡ b
+modules_one one gave file [] a b p q = p ∙ sym q
+modules_one one gave file (n ∷ ns) (Ok []) b p q = absurd p
+modules_one one gave file (n ∷ ns) (Ok (s ∷ ss)) (Ok []) p q = absurd q
+modules_one one gave file (n ∷ ns) (Ok (s ∷ ss)) (Ok (t ∷ ts)) p q =
+    let e : Ok s ≡ Ok t = module_one one file (file_text gave file module_limit n) (Ok s) (Ok t) p.0 q.0 in
+    let f : Ok ss ≡ Ok ts = modules_one one gave (file + 1) ns (Ok ss) (Ok ts) p.1 q.1 in
     let first : s ≡ t = cc in
     let rest : ss ≡ ts = cc in
     ap (λ (x : ReadModule). Ok (x ∷ ss)) first ∙ ap (λ (xs : List ReadModule). Ok (t ∷ xs)) rest
-modules_one one told file (n ∷ ns) (Ok (s ∷ ss)) (Err y) p (inl q) =
-    let e : Ok s ≡ Err y = module_one one file (file_text told file module_limit n) (Ok s) (Err y) p.0 q in cc
-modules_one one told file (n ∷ ns) (Ok (s ∷ ss)) (Err y) p (inr q) =
-    let e : Ok ss ≡ Err y = modules_one one told (file + 1) ns (Ok ss) (Err y) p.1 q.2 in cc
-modules_one one told file (n ∷ ns) (Err x) (Ok []) p q = absurd q
-modules_one one told file (n ∷ ns) (Err x) (Ok (t ∷ ts)) (inl p) q =
-    let e : Ok t ≡ Err x = module_one one file (file_text told file module_limit n) (Ok t) (Err x) q.0 p in cc
-modules_one one told file (n ∷ ns) (Err x) (Ok (t ∷ ts)) (inr p) q =
-    let e : Ok ts ≡ Err x = modules_one one told (file + 1) ns (Ok ts) (Err x) q.1 p.2 in cc
-modules_one one told file (n ∷ ns) (Err x) (Err y) (inl p) (inl q) =
-    let e : Err x ≡ Err y = module_one one file (file_text told file module_limit n) (Err x) (Err y) p q in
+modules_one one gave file (n ∷ ns) (Ok (s ∷ ss)) (Err y) p (inl q) =
+    let e : Ok s ≡ Err y = module_one one file (file_text gave file module_limit n) (Ok s) (Err y) p.0 q in cc
+modules_one one gave file (n ∷ ns) (Ok (s ∷ ss)) (Err y) p (inr q) =
+    let e : Ok ss ≡ Err y = modules_one one gave (file + 1) ns (Ok ss) (Err y) p.1 q.2 in cc
+modules_one one gave file (n ∷ ns) (Err x) (Ok []) p q = absurd q
+modules_one one gave file (n ∷ ns) (Err x) (Ok (t ∷ ts)) (inl p) q =
+    let e : Ok t ≡ Err x = module_one one file (file_text gave file module_limit n) (Ok t) (Err x) q.0 p in cc
+modules_one one gave file (n ∷ ns) (Err x) (Ok (t ∷ ts)) (inr p) q =
+    let e : Ok ts ≡ Err x = modules_one one gave (file + 1) ns (Ok ts) (Err x) q.1 p.2 in cc
+modules_one one gave file (n ∷ ns) (Err x) (Err y) (inl p) (inl q) =
+    let e : Err x ≡ Err y = module_one one file (file_text gave file module_limit n) (Err x) (Err y) p q in
     let same : x ≡ y = cc in ap Err same
-modules_one one told file (n ∷ ns) (Err x) (Err y) (inl p) (inr q) =
-    let e : Ok q.0 ≡ Err x = module_one one file (file_text told file module_limit n) (Ok q.0) (Err x) q.1 p in cc
-modules_one one told file (n ∷ ns) (Err x) (Err y) (inr p) (inl q) =
-    let e : Ok p.0 ≡ Err y = module_one one file (file_text told file module_limit n) (Ok p.0) (Err y) p.1 q in cc
-modules_one one told file (n ∷ ns) (Err x) (Err y) (inr p) (inr q) = modules_one one told (file + 1) ns (Err x) (Err y) p.2 q.2
+modules_one one gave file (n ∷ ns) (Err x) (Err y) (inl p) (inr q) =
+    let e : Ok q.0 ≡ Err x = module_one one file (file_text gave file module_limit n) (Ok q.0) (Err x) q.1 p in cc
+modules_one one gave file (n ∷ ns) (Err x) (Err y) (inr p) (inl q) =
+    let e : Ok p.0 ≡ Err y = module_one one file (file_text gave file module_limit n) (Ok p.0) (Err y) p.1 q in cc
+modules_one one gave file (n ∷ ns) (Err x) (Err y) (inr p) (inr q) = modules_one one gave (file + 1) ns (Err x) (Err y) p.2 q.2
 
 -- what is accepted is done in one way
-action_one : (action : Option Action) (names : List (List ℕ)) (script : ScriptData) (reads : List ReadModule) (cell : CellData) (v w : Verdict) → ActionDecides action names script reads cell v
-    → ActionDecides action names script reads cell w → v ≡ w
-action_one (Some Round) names script reads cell v w p q =
-    p.2 ∙ ap (λ (bs : List Build). unless_refused names (not_built script bs) (runs names cell (trees_of bs))) (builds_one (mentions script.tasks) reads p.0 q.0 p.1 q.1) ∙ sym q.2
-action_one (Some Check) names script reads cell v w p q = p ∙ sym q
-action_one None names script reads cell v w p q = p ∙ sym q
+action_one : (action : Option Action) (names : List (List ℕ)) (script : ScriptData) (reads : List ReadModule) (made : MadeCell) (v w : Verdict) → ActionDecides action names script reads made v
+    → ActionDecides action names script reads made w → v ≡ w
+action_one (Some Round) names script reads made v w p q = p ∙ sym q
+action_one (Some Check) names script reads made v w p q = p ∙ sym q
+action_one None names script reads made v w p q = absurd p
 
-checked_one : (action : Option Action) (names : List (List ℕ)) (script : ScriptData) (reads : List ReadModule) (found : Result CellData Refused) (v w : Verdict) → CheckedDecides action names script reads found v
+checked_one : (action : Option Action) (names : List (List ℕ)) (script : ScriptData) (reads : List ReadModule) (found : Result MadeCell Refused) (v w : Verdict) → CheckedDecides action names script reads found v
     → CheckedDecides action names script reads found w → v ≡ w
 checked_one action names script reads (Err refused) v w p q = p ∙ sym q
-checked_one action names script reads (Ok cell) v w p q = action_one action names script reads cell v w p q
+checked_one action names script reads (Ok made) v w p q = action_one action names script reads made v w p q
 
 modules_decide_one : (action : Option Action) (names : List (List ℕ)) (script : ScriptData) (modules : Result (List ReadModule) Refused) (v w : Verdict) → ModulesDecide action names script modules v
     → ModulesDecide action names script modules w → v ≡ w
 modules_decide_one action names script (Err refused) v w p q = p ∙ sym q
 modules_decide_one action names script (Ok reads) v w p q = checked_one action names script reads (checked script reads) v w p q
 
-script_decides_one : OneText → (action : Option Action) (told : Told) (name : List ℕ) (script : Read ScriptData) (v w : Verdict) → ScriptDecides action told name script v → ScriptDecides action told name script w → v ≡ w
-script_decides_one one action told name (Err broken) v w p q = p ∙ sym q
-script_decides_one one action told name (Ok script) v w p q =
-    let same : p.0 ≡ q.0 = modules_one one told 1 (module_names script.tasks) p.0 q.0 p.1 q.1 in
+script_decides_one : OneText → (action : Option Action) (gave : Reads) (name : List ℕ) (script : Read ScriptData) (v w : Verdict) → ScriptDecides action gave name script v → ScriptDecides action gave name script w → v ≡ w
+script_decides_one one action gave name (Err broken) v w p q = p ∙ sym q
+script_decides_one one action gave name (Ok script) v w p q =
+    let same : p.0 ≡ q.0 = modules_one one gave 1 (module_names script.tasks) p.0 q.0 p.1 q.1 in
     modules_decide_one action (names_of name script) script q.0 v w (subst (λ (m : Result (List ReadModule) Refused). ModulesDecide action (names_of name script) script m v) same p.2) q.2
 
-file_decides_one : OneText → (action : Option Action) (told : Told) (name : List ℕ) (read : Result (List ℕ) Refused) (v w : Verdict) → FileDecides action told name read v → FileDecides action told name read w → v ≡ w
-file_decides_one one action told name (Err refused) v w p q = p ∙ sym q
-file_decides_one one action told name (Ok text) v w p q =
+file_decides_one : OneText → (action : Option Action) (gave : Reads) (name : List ℕ) (read : Result (List ℕ) Refused) (v w : Verdict) → FileDecides action gave name read v → FileDecides action gave name read w → v ≡ w
+file_decides_one one action gave name (Err refused) v w p q = p ∙ sym q
+file_decides_one one action gave name (Ok text) v w p q =
     let same : p.0 ≡ q.0 = script_one text p.0 q.0 p.1 q.1 in
-    script_decides_one one action told name q.0 v w (subst (λ (s : Read ScriptData). ScriptDecides action told name s v) same p.2) q.2
+    script_decides_one one action gave name q.0 v w (subst (λ (s : Read ScriptData). ScriptDecides action gave name s v) same p.2) q.2
 
-words_decide_one : OneText → (told : Told) (words : List (List ℕ)) (place : Option ℕ) (v w : Verdict) → WordsDecide told words place v → WordsDecide told words place w → v ≡ w
-words_decide_one one told words (Some place) v w p q = p ∙ sym q
-words_decide_one one told words None v w p q =
-    file_decides_one one (first_action (plain_words words)) told (script_name words) (file_text told 0 script_limit (script_name words)) v w p q
+words_decide_one : OneText → (gave : Reads) (words : List (List ℕ)) (place : Option ℕ) (v w : Verdict) → WordsDecide gave words place v → WordsDecide gave words place w → v ≡ w
+words_decide_one one gave words (Some place) v w p q = p ∙ sym q
+words_decide_one one gave words None v w p q =
+    file_decides_one one (first_action (plain_words words)) gave (script_name words) (file_text gave 0 script_limit (script_name words)) v w p q
 
-pub verdict_one : OneText → (words : List (List ℕ)) (told : Told) (v w : Verdict) → Accepted words told v → Accepted words told w → v ≡ w
-verdict_one one words told v w a b = words_decide_one one told words (refused_place words) v w a.decides b.decides
+pub verdict_one : OneText → (words : List (List ℕ)) (gave : Reads) (v w : Verdict) → Accepted words gave v → Accepted words gave w → v ≡ w
+verdict_one one words gave v w a b = words_decide_one one gave words (refused_place words) v w a.decides b.decides

@@ -1,92 +1,117 @@
--- Modules by their texts and trees.
-use Rattle.std.proofs.Common.{◌≡◌, ℕ, zero, suc, ◌-◌, ◌<◌, ◌≤◌, min, List, [], ◌∷◌, ◌++◌, length, take, drop, get_or, map, refl, ap, sym, ◌∙◌, arith}
+-- Modules by their texts and trees, the first of them in a file of this number.
+use Rattle.std.proofs.Common.{◌≡◌, ℕ, zero, suc, ◌+◌, ◌-◌, ◌<◌, ◌≤◌, min, List, [], ◌∷◌, ◌++◌, length, take, drop, get_or, map, refl, ap, sym, ◌∙◌, arith, add-one}
 use Rattle.std.specs.Prelude.{Vec, slice_get}
 use Rattle.std.specs.declared.alloc.Global.{Global}
 use Rattle.raw_trees.specs.Plain.{PlainModule}
 use Rattle.raw_trees.specs.Views.{view_module}
 use Rattle.raw_trees.specs.declared.raw_module.RawModule.{RawModule}
-use Rattle.controller.specs.Accepted.{ReadModule, read_text}
+use Rattle.controller.specs.Accepted.{ReadModule, read_text, read_file}
 use Rattle.controller.specs.Loaded.{reads_of}
 use Rattle.controller.proofs.Lists.{take-min, drop-min, take-rest}
 
-abbrev pub read : Vec ℕ Global → RawModule → ReadModule
-read text tree = record { text = text.items; raw = view_module tree }
+abbrev pub read : ℕ → Vec ℕ Global → RawModule → ReadModule
+read file text tree = record { file = file; text = text.items; raw = view_module tree }
 
-pub reads-none : (texts : List (Vec ℕ Global)) → reads_of texts [] ≡ []
-reads-none [] = refl
-reads-none (text ∷ texts) = refl
+pub reads-none : (file : ℕ) (texts : List (Vec ℕ Global)) → reads_of file texts [] ≡ []
+reads-none file [] = refl
+reads-none file (text ∷ texts) = refl
+
+-- the next file
+next_file : (file k : ℕ) → file + 1 + k ≡ file + suc k
+next_file file k = omega arith
 
 -- one tree more
-pub reads-more : (texts : List (Vec ℕ Global)) (trees : List RawModule) (k : ℕ) (text : Vec ℕ Global) (tree : RawModule) → length trees ≡ k → k < length texts → text ≡ get_or texts k text
-    → reads_of texts (trees ++ tree ∷ []) ≡ reads_of texts trees ++ read text tree ∷ []
-reads-more [] trees k text tree many lt is = absurd (omega arith)
-reads-more (t ∷ texts) [] zero text tree many lt is =
-    ap (λ (v : Vec ℕ Global). read v tree ∷ reads_of texts []) (sym is) ∙ ap (λ (rs : List ReadModule). read text tree ∷ rs) (reads-none texts)
-reads-more (t ∷ texts) [] (suc k) text tree many lt is = absurd (omega arith)
-reads-more (t ∷ texts) (m ∷ trees) zero text tree many lt is = absurd (omega arith)
-reads-more (t ∷ texts) (m ∷ trees) (suc k) text tree many lt is =
-    ap (λ (rs : List ReadModule). read t m ∷ rs) (reads-more texts trees k text tree (omega arith) (omega arith) is)
+pub reads-more : (file : ℕ) (texts : List (Vec ℕ Global)) (trees : List RawModule) (k : ℕ) (text : Vec ℕ Global) (tree : RawModule) → length trees ≡ k → k < length texts → text ≡ get_or texts k text
+    → reads_of file texts (trees ++ tree ∷ []) ≡ reads_of file texts trees ++ read (file + k) text tree ∷ []
+reads-more file [] trees k text tree many lt is = absurd (omega arith)
+reads-more file (t ∷ texts) [] zero text tree many lt is =
+    let here : file ≡ file + 0 = omega arith in
+    ap (λ (v : Vec ℕ Global). read file v tree ∷ reads_of (file + 1) texts []) (sym is) ∙ ap (λ (rs : List ReadModule). read file text tree ∷ rs) (reads-none (file + 1) texts)
+    ∙ ap (λ (n : ℕ). read n text tree ∷ []) here
+reads-more file (t ∷ texts) [] (suc k) text tree many lt is = absurd (omega arith)
+reads-more file (t ∷ texts) (m ∷ trees) zero text tree many lt is = absurd (omega arith)
+reads-more file (t ∷ texts) (m ∷ trees) (suc k) text tree many lt is =
+    ap (λ (rs : List ReadModule). read file t m ∷ rs)
+    (reads-more (file + 1) texts trees k text tree (omega arith) (omega arith) is ∙ ap (λ (n : ℕ). reads_of (file + 1) texts trees ++ read n text tree ∷ []) (next_file file k))
 
-pub take-reads : (n : ℕ) (texts : List (Vec ℕ Global)) (trees : List RawModule) → take n (reads_of texts trees) ≡ reads_of (take n texts) (take n trees)
-take-reads zero texts trees = refl
-take-reads (suc n) [] trees = refl
-take-reads (suc n) (t ∷ texts) [] = refl
-take-reads (suc n) (t ∷ texts) (m ∷ trees) = ap (λ (rs : List ReadModule). read t m ∷ rs) (take-reads n texts trees)
+pub take-reads : (n file : ℕ) (texts : List (Vec ℕ Global)) (trees : List RawModule) → take n (reads_of file texts trees) ≡ reads_of file (take n texts) (take n trees)
+take-reads zero file texts trees = refl
+take-reads (suc n) file [] trees = refl
+take-reads (suc n) file (t ∷ texts) [] = refl
+take-reads (suc n) file (t ∷ texts) (m ∷ trees) = ap (λ (rs : List ReadModule). read file t m ∷ rs) (take-reads n (file + 1) texts trees)
 
-pub drop-reads : (n : ℕ) (texts : List (Vec ℕ Global)) (trees : List RawModule) → drop n (reads_of texts trees) ≡ reads_of (drop n texts) (drop n trees)
-drop-reads zero texts trees = refl
-drop-reads (suc n) [] trees = refl
-drop-reads (suc n) (t ∷ texts) [] = sym (reads-none (drop n texts))
-drop-reads (suc n) (t ∷ texts) (m ∷ trees) = drop-reads n texts trees
+pub drop-reads : (n file : ℕ) (texts : List (Vec ℕ Global)) (trees : List RawModule) → drop n (reads_of file texts trees) ≡ reads_of (file + n) (drop n texts) (drop n trees)
+drop-reads zero file texts trees = let here : file ≡ file + 0 = omega arith in ap (λ (f : ℕ). reads_of f texts trees) here
+drop-reads (suc n) file [] trees = refl
+drop-reads (suc n) file (t ∷ texts) [] = sym (reads-none (file + suc n) (drop n texts))
+drop-reads (suc n) file (t ∷ texts) (m ∷ trees) =
+    drop-reads n (file + 1) texts trees ∙ ap (λ (f : ℕ). reads_of f (drop n texts) (drop n trees)) (next_file file n)
 
 -- the trees alone
-pub raws-of : (texts : List (Vec ℕ Global)) (trees : List RawModule) → length texts ≡ length trees → map (λ (r : ReadModule). r.raw) (reads_of texts trees) ≡ map view_module trees
-raws-of [] [] same = refl
-raws-of [] (m ∷ trees) same = absurd (omega arith)
-raws-of (t ∷ texts) [] same = absurd (omega arith)
-raws-of (t ∷ texts) (m ∷ trees) same = ap (λ (rs : List PlainModule). view_module m ∷ rs) (raws-of texts trees (omega arith))
+pub raws-of : (file : ℕ) (texts : List (Vec ℕ Global)) (trees : List RawModule) → length texts ≡ length trees → map (λ (r : ReadModule). r.raw) (reads_of file texts trees) ≡ map view_module trees
+raws-of file [] [] same = refl
+raws-of file [] (m ∷ trees) same = absurd (omega arith)
+raws-of file (t ∷ texts) [] same = absurd (omega arith)
+raws-of file (t ∷ texts) (m ∷ trees) same = ap (λ (rs : List PlainModule). view_module m ∷ rs) (raws-of (file + 1) texts trees (omega arith))
 
-pub length-reads : (texts : List (Vec ℕ Global)) (trees : List RawModule) → length texts ≡ length trees → length (reads_of texts trees) ≡ length trees
-length-reads [] [] same = refl
-length-reads [] (m ∷ trees) same = absurd (omega arith)
-length-reads (t ∷ texts) [] same = absurd (omega arith)
-length-reads (t ∷ texts) (m ∷ trees) same = ap (λ (n : ℕ). suc n) (length-reads texts trees (omega arith))
+pub length-reads : (file : ℕ) (texts : List (Vec ℕ Global)) (trees : List RawModule) → length texts ≡ length trees → length (reads_of file texts trees) ≡ length trees
+length-reads file [] [] same = refl
+length-reads file [] (m ∷ trees) same = absurd (omega arith)
+length-reads file (t ∷ texts) [] same = absurd (omega arith)
+length-reads file (t ∷ texts) (m ∷ trees) same = ap (λ (n : ℕ). suc n) (length-reads (file + 1) texts trees (omega arith))
 
 -- from a module on
-pub drop-read : (texts : List (Vec ℕ Global)) (trees : List RawModule) (k : ℕ) (text : Vec ℕ Global) (tree : RawModule) → k < length texts → k < length trees → text ≡ get_or texts k text
-    → tree ≡ get_or trees k tree → drop k (reads_of texts trees) ≡ read text tree ∷ drop (suc k) (reads_of texts trees)
-drop-read [] trees k text tree lt fits is same = absurd (omega arith)
-drop-read (t ∷ texts) [] k text tree lt fits is same = absurd (omega arith)
-drop-read (t ∷ texts) (m ∷ trees) zero text tree lt fits is same =
-    ap (λ (v : Vec ℕ Global). read v m ∷ reads_of texts trees) (sym is) ∙ ap (λ (x : RawModule). read text x ∷ reads_of texts trees) (sym same)
-drop-read (t ∷ texts) (m ∷ trees) (suc k) text tree lt fits is same = drop-read texts trees k text tree (omega arith) (omega arith) is same
+pub drop-read : (file : ℕ) (texts : List (Vec ℕ Global)) (trees : List RawModule) (k : ℕ) (text : Vec ℕ Global) (tree : RawModule) → k < length texts → k < length trees → text ≡ get_or texts k text
+    → tree ≡ get_or trees k tree → drop k (reads_of file texts trees) ≡ read (file + k) text tree ∷ drop (suc k) (reads_of file texts trees)
+drop-read file [] trees k text tree lt fits is same = absurd (omega arith)
+drop-read file (t ∷ texts) [] k text tree lt fits is same = absurd (omega arith)
+drop-read file (t ∷ texts) (m ∷ trees) zero text tree lt fits is same =
+    let here : file ≡ file + 0 = omega arith in
+    ap (λ (v : Vec ℕ Global). read file v m ∷ reads_of (file + 1) texts trees) (sym is) ∙ ap (λ (x : RawModule). read file text x ∷ reads_of (file + 1) texts trees) (sym same)
+    ∙ ap (λ (n : ℕ). read n text tree ∷ reads_of (file + 1) texts trees) here
+drop-read file (t ∷ texts) (m ∷ trees) (suc k) text tree lt fits is same =
+    drop-read (file + 1) texts trees k text tree (omega arith) (omega arith) is same
+    ∙ ap (λ (n : ℕ). read n text tree ∷ drop (suc k) (reads_of (file + 1) texts trees)) (next_file file k)
 
--- the text of a module
-pub text_at : (texts : List (Vec ℕ Global)) (trees : List RawModule) (k : ℕ) (text : Vec ℕ Global) → length texts ≡ length trees → k < length texts → text ≡ get_or texts k text
-    → read_text (slice_get (reads_of texts trees) k) ≡ text.items
-text_at [] trees k text same lt is = absurd (omega arith)
-text_at (t ∷ texts) [] k text same lt is = absurd (omega arith)
-text_at (t ∷ texts) (m ∷ trees) zero text same lt is = ap (λ (v : Vec ℕ Global). v.items) (sym is)
-text_at (t ∷ texts) (m ∷ trees) (suc k) text same lt is = text_at texts trees k text (omega arith) (omega arith) is
+-- the text of a module, and the number of its file
 
-pub no_text_at : (texts : List (Vec ℕ Global)) (trees : List RawModule) (k : ℕ) → length texts ≤ k → read_text (slice_get (reads_of texts trees) k) ≡ []
-no_text_at [] trees k past = refl
-no_text_at (t ∷ texts) [] k past = refl
-no_text_at (t ∷ texts) (m ∷ trees) zero past = absurd (omega arith)
-no_text_at (t ∷ texts) (m ∷ trees) (suc k) past = no_text_at texts trees k (omega arith)
+pub text_at : (file : ℕ) (texts : List (Vec ℕ Global)) (trees : List RawModule) (k : ℕ) (text : Vec ℕ Global) → length texts ≡ length trees → k < length texts → text ≡ get_or texts k text
+    → read_text (slice_get (reads_of file texts trees) k) ≡ text.items
+text_at file [] trees k text same lt is = absurd (omega arith)
+text_at file (t ∷ texts) [] k text same lt is = absurd (omega arith)
+text_at file (t ∷ texts) (m ∷ trees) zero text same lt is = ap (λ (v : Vec ℕ Global). v.items) (sym is)
+text_at file (t ∷ texts) (m ∷ trees) (suc k) text same lt is = text_at (file + 1) texts trees k text (omega arith) (omega arith) is
+
+pub no_text_at : (file : ℕ) (texts : List (Vec ℕ Global)) (trees : List RawModule) (k : ℕ) → length texts ≤ k → read_text (slice_get (reads_of file texts trees) k) ≡ []
+no_text_at file [] trees k past = refl
+no_text_at file (t ∷ texts) [] k past = refl
+no_text_at file (t ∷ texts) (m ∷ trees) zero past = absurd (omega arith)
+no_text_at file (t ∷ texts) (m ∷ trees) (suc k) past = no_text_at (file + 1) texts trees k (omega arith)
+
+pub file_at : (file : ℕ) (texts : List (Vec ℕ Global)) (trees : List RawModule) (k : ℕ) → length texts ≡ length trees → k < length texts → read_file (slice_get (reads_of file texts trees) k) ≡ file + k
+file_at file [] trees k same lt = absurd (omega arith)
+file_at file (t ∷ texts) [] k same lt = absurd (omega arith)
+file_at file (t ∷ texts) (m ∷ trees) zero same lt = omega arith
+file_at file (t ∷ texts) (m ∷ trees) (suc k) same lt = file_at (file + 1) texts trees k (omega arith) (omega arith) ∙ next_file file k
+
+pub no_file_at : (file : ℕ) (texts : List (Vec ℕ Global)) (trees : List RawModule) (k : ℕ) → length texts ≤ k → read_file (slice_get (reads_of file texts trees) k) ≡ 0
+no_file_at file [] trees k past = refl
+no_file_at file (t ∷ texts) [] k past = refl
+no_file_at file (t ∷ texts) (m ∷ trees) zero past = absurd (omega arith)
+no_file_at file (t ∷ texts) (m ∷ trees) (suc k) past = no_file_at (file + 1) texts trees k (omega arith)
 
 -- the first ones, and those behind them
 
-pub first_reads : (texts : List (Vec ℕ Global)) (trees : List RawModule) (count n : ℕ) → length texts ≡ length trees → n ≡ min count (length trees)
-    → reads_of (take n texts) (take n trees) ≡ take count (reads_of texts trees)
-first_reads texts trees count n same is =
-    let many = length-reads texts trees same in
-    sym (take-reads n texts trees) ∙ take-min (reads_of texts trees) count n (omega (arith, many, is))
+pub first_reads : (file : ℕ) (texts : List (Vec ℕ Global)) (trees : List RawModule) (count n : ℕ) → length texts ≡ length trees → n ≡ min count (length trees)
+    → reads_of file (take n texts) (take n trees) ≡ take count (reads_of file texts trees)
+first_reads file texts trees count n same is =
+    let many = length-reads file texts trees same in
+    sym (take-reads n file texts trees) ∙ take-min (reads_of file texts trees) count n (omega (arith, many, is))
 
-pub later_reads : (texts : List (Vec ℕ Global)) (trees : List RawModule) (count n : ℕ) → length texts ≡ length trees → n ≡ min count (length trees)
-    → reads_of (take (length texts - n) (drop n texts)) (take (length trees - n) (drop n trees)) ≡ drop count (reads_of texts trees)
-later_reads texts trees count n same is =
-    let many = length-reads texts trees same in
-    ap (λ (ts : List (Vec ℕ Global)). reads_of ts (take (length trees - n) (drop n trees))) (take-rest texts n)
-    ∙ ap (λ (ms : List RawModule). reads_of (drop n texts) ms) (take-rest trees n)
-    ∙ sym (drop-reads n texts trees) ∙ drop-min (reads_of texts trees) count n (omega (arith, many, is))
+pub later_reads : (file : ℕ) (texts : List (Vec ℕ Global)) (trees : List RawModule) (count n : ℕ) → length texts ≡ length trees → n ≡ min count (length trees)
+    → reads_of (file + n) (take (length texts - n) (drop n texts)) (take (length trees - n) (drop n trees)) ≡ drop count (reads_of file texts trees)
+later_reads file texts trees count n same is =
+    let many = length-reads file texts trees same in
+    ap (λ (ts : List (Vec ℕ Global)). reads_of (file + n) ts (take (length trees - n) (drop n trees))) (take-rest texts n)
+    ∙ ap (λ (ms : List RawModule). reads_of (file + n) (drop n texts) ms) (take-rest trees n)
+    ∙ sym (drop-reads n file texts trees) ∙ drop-min (reads_of file texts trees) count n (omega (arith, many, is))

@@ -1,18 +1,15 @@
 -- What command words and files come to: the first refusal; or what is checked; or the cell and the trees of its tasks.
-use Rattle.std.specs.Prelude.{◌≡◌, ℕ, zero, suc, ◌+◌, ◌-◌, ◌⊎◌, take, drop, slice_get, Bool, true, false, not, nat_lt, List, [], ◌∷◌, ◌++◌, length, map, codes, Option, Some, None, is_some, Result, Ok, Err, ◌==◌, if◌then◌else◌}
+use Rattle.std.specs.Prelude.{◌≡◌, ℕ, zero, suc, ◌+◌, ◌⊎◌, take, drop, slice_get, Bool, true, false, not, nat_lt, List, [], ◌∷◌, ◌++◌, length, map, codes, Option, Some, None, is_some, Result, Ok, Err, ◌==◌, if◌then◌else◌}
 use Rattle.std.specs.Option.{option_map, option_or}
-use Rattle.outside.specs.Told.{Told, found, after_reads}
 use Rattle.rapid_model.specs.CellData.{CellData}
 use Rattle.rapid_model.specs.ScriptData.{ScriptData, module_names}
 use Rattle.rapid_model.specs.declared.script_rule.ScriptRule.TheVariants as rules
 use Rattle.rapid_model.specs.declared.script_task.ScriptTask.{ScriptTask}
-use Rattle.rapid_model.specs.declared.tree.Stmt.{Stmt}
-use Rattle.rapid_model.specs.declared.tree.Tree.{Tree}
 use Rattle.cell_script.specs.Break.{Read}
 use Rattle.cell_script.specs.ScriptOf.{ScriptOf}
 use Rattle.rapid_lexer.specs.Places.{line_of, column_of}
 use Rattle.rapid_lexer.specs.declared.place.Place.{Place}
-use Rattle.raw_trees.specs.Plain.{PlainModule, PlainItem}
+use Rattle.raw_trees.specs.Plain.{PlainModule}
 use Rattle.typed_trees.specs.Plain.{TypedTree}
 use Rattle.rule_checks.specs.declared.rule.TypeRule.{TypeRule}
 use Rattle.rule_checks.specs.declared.rule.TypeRule.TheVariants.{PersType}
@@ -23,13 +20,15 @@ use Rattle.cell_assembly.specs.Made.{MadeCell, make_cell}
 use Rattle.rapid_forms.specs.declared.fault.SyntaxFault.{SyntaxFault}
 use Rattle.rapid_forms.specs.declared.fault.SyntaxFault.TheVariants as faults
 use Rattle.module_parser.specs.Modules.{ModuleText}
-use Rattle.built_forms.specs.Built.{BuildsTo, item_place}
+use Rattle.built_tasks.specs.Unbuilt.{first_unbuilt}
+use Rattle.built_tasks.specs.declared.at.At.{At}
 use Rattle.controller.specs.declared.command.Action.{Action}
-use Rattle.controller.specs.declared.command.Action.TheVariants.{Round}
+use Rattle.controller.specs.declared.command.Action.TheVariants.{Check, Round}
 use Rattle.controller.specs.declared.refused.Refused.{Refused}
 use Rattle.controller.specs.declared.refused.Refused.TheVariants.{Words, Script, Module, Memory}
+use Rattle.controller.specs.declared.refused.ModuleRule.{ModuleRule}
 use Rattle.controller.specs.declared.refused.ModuleRule.TheVariants.{Lex, Syntax, «Type», NotBuilt}
-use Rattle.controller.specs.Files.{text_of}
+use Rattle.controller.specs.Files.{Reads, text_of}
 use Rattle.controller.specs.Words.{refused_place, script_name, plain_words, first_action}
 
 -- the most bytes of a script and of a module
@@ -44,11 +43,11 @@ module_limit = 1_048_576
 pub data Verdict : Type 0 where
   refuses : List (List ℕ) → Refused → Verdict
   accepts : List (List ℕ) → Verdict
-  runs : List (List ℕ) → CellData → List Tree → Verdict
+  runs : List (List ℕ) → CellData → List TypedTree → Verdict
 
 -- what the read of a file of this number comes to
-abbrev pub file_text : Told → ℕ → ℕ → List ℕ → Result (List ℕ) Refused
-file_text told file limit name = text_of file limit (found (after_reads file told) name)
+abbrev pub file_text : Reads → ℕ → ℕ → List ℕ → Result (List ℕ) Refused
+file_text gave file limit name = text_of file limit (gave file name)
 
 -- the line and the column of a byte
 abbrev pub place_at : List ℕ → ℕ → Place
@@ -60,61 +59,16 @@ fault_refusal file text (faults.Lex f) = Module file (place_at text f.at) (Lex f
 fault_refusal file text (faults.Rule rule at) = Module file (place_at text at) (Syntax rule)
 fault_refusal file text faults.Memory = Memory
 
--- a module that the script names: its file, whether it is the first one of its task, and whether the task has an arm
-pub record Mention : Type 0 where
-  pub name : List ℕ
-  pub first : Bool
-  pub armed : Bool
-
--- the modules of a task after the first one
-abbrev pub later_mentions : Bool → List (List ℕ) → List Mention
-later_mentions armed names = map (λ name. record { name = name; first = false; armed = armed }) names
-
-abbrev pub mentions_of : Bool → List (List ℕ) → List Mention
-mentions_of armed [] = []
-mentions_of armed (name ∷ names) = record { name = name; first = true; armed = armed } ∷ later_mentions armed names
-
--- the modules that the script names, in the order in which they are read
-abbrev pub mentions : List ScriptTask → List Mention
-mentions [] = []
-mentions (task ∷ tasks) = mentions_of (is_some task.arm) task.modules ++ mentions tasks
-
--- the byte of a module's first item, or its first byte
-abbrev pub first_byte : List PlainItem → ℕ
-first_byte [] = 0
-first_byte (item ∷ items) = item_place item
-
--- the byte of the first move of a task that has no arm
-abbrev pub unarmed_move : Bool → List Stmt → Option ℕ
-unarmed_move armed [] = None
-unarmed_move true (stmt ∷ list) = None
-unarmed_move false (stmt ∷ list) = Some stmt.at
-
--- What is built of a module: the tree of its task; or the byte of its first form that is not built. Built are tasks of
--- one module, and moves of tasks with an arm.
-abbrev pub BuiltAs : Mention → PlainModule → Result Tree ℕ → Type 0
-BuiltAs m raw (Ok tree) = (m.first ≡ true) × BuildsTo raw (Ok tree) × (unarmed_move m.armed tree.list ≡ None)
-BuiltAs m raw (Err at) =
-    ((m.first ≡ false) × (at ≡ first_byte raw.items))
-    ⊎ ((m.first ≡ true) × (BuildsTo raw (Err at) ⊎ ((tree : Tree) × BuildsTo raw (Ok tree) × (unarmed_move m.armed tree.list ≡ Some at))))
-
--- what a module is built to: the tree of its task, or the place of its first form that is not built
-abbrev pub Build : Type 0
-Build = Result Tree Place
-
-abbrev pub BuildOf : Mention → List ℕ → PlainModule → Build → Type 0
-BuildOf m text raw (Ok tree) = BuiltAs m raw (Ok tree)
-BuildOf m text raw (Err place) = (at : ℕ) × BuiltAs m raw (Err at) × (place ≡ place_at text at)
-
--- a module that is read: its text, and what the text spells
+-- a module that is read: the number of its file, its text, and what the text spells
 pub record ReadModule : Type 0 where
+  pub file : ℕ
   pub text : List ℕ
   pub raw : PlainModule
 
 -- what a text comes to: a refusal by its fault; or the module that it spells
 abbrev pub ModuleOf : ℕ → List ℕ → Result ReadModule Refused → Type 0
 ModuleOf file text (Err refused) = (fault : SyntaxFault) × ModuleText text (Err fault) × (refused ≡ fault_refusal file text fault)
-ModuleOf file text (Ok read) = (read.text ≡ text) × ModuleText text (Ok read.raw)
+ModuleOf file text (Ok read) = (read.file ≡ file) × (read.text ≡ text) × ModuleText text (Ok read.raw)
 
 -- the module in the file of this number
 abbrev pub ModuleIn : ℕ → Result (List ℕ) Refused → Result ReadModule Refused → Type 0
@@ -122,34 +76,43 @@ ModuleIn file (Err refused) verdict = verdict ≡ Err refused
 ModuleIn file (Ok text) verdict = ModuleOf file text verdict
 
 -- the modules of these names, the first of which has this number; or the first refusal
-abbrev pub ModulesOf : Told → ℕ → List (List ℕ) → Result (List ReadModule) Refused → Type 0
-ModulesOf told file [] verdict = verdict ≡ Ok []
-ModulesOf told file (name ∷ names) (Err refused) =
-    ModuleIn file (file_text told file module_limit name) (Err refused)
-    ⊎ ((read : ReadModule) × ModuleIn file (file_text told file module_limit name) (Ok read) × ModulesOf told (file + 1) names (Err refused))
-ModulesOf told file (name ∷ names) (Ok []) = ⊥
-ModulesOf told file (name ∷ names) (Ok (read ∷ reads)) =
-    ModuleIn file (file_text told file module_limit name) (Ok read) × ModulesOf told (file + 1) names (Ok reads)
+abbrev pub ModulesOf : Reads → ℕ → List (List ℕ) → Result (List ReadModule) Refused → Type 0
+ModulesOf gave file [] verdict = verdict ≡ Ok []
+ModulesOf gave file (name ∷ names) (Err refused) =
+    ModuleIn file (file_text gave file module_limit name) (Err refused)
+    ⊎ ((read : ReadModule) × ModuleIn file (file_text gave file module_limit name) (Ok read) × ModulesOf gave (file + 1) names (Err refused))
+ModulesOf gave file (name ∷ names) (Ok []) = ⊥
+ModulesOf gave file (name ∷ names) (Ok (read ∷ reads)) =
+    ModuleIn file (file_text gave file module_limit name) (Ok read) × ModulesOf gave (file + 1) names (Ok reads)
 
+-- the text of a module, where there is one, and the number of its file
 abbrev pub read_text : Option ReadModule → List ℕ
 read_text (Some read) = read.text
 read_text None = []
 
--- the refusal by a rule of names and types, in the module of this number among these; the first of them is in this file
-abbrev pub rule_refusal : ℕ → List ReadModule → ℕ → ℕ → TypeRule → Refused
-rule_refusal file reads number at rule = Module (file + number) (place_at (read_text (slice_get reads number)) at) («Type» rule)
+abbrev pub read_file : Option ReadModule → ℕ
+read_file (Some read) = read.file
+read_file None = 0
 
-abbrev pub or_refused : ℕ → List ReadModule → Checked TypedTree → Result TypedTree Refused
-or_refused file reads (Ok tree) = Ok tree
-or_refused file reads (Err broken) = Err (rule_refusal file reads broken.«module» broken.at broken.rule)
+-- the refusal by a rule, at a byte of the module of this number among these
+abbrev pub module_refusal : List ReadModule → ℕ → ℕ → ModuleRule → Refused
+module_refusal reads number at rule = let read = slice_get reads number in Module (read_file read) (place_at (read_text read) at) rule
+
+-- the same by a rule of names and types
+abbrev pub rule_refusal : List ReadModule → ℕ → ℕ → TypeRule → Refused
+rule_refusal reads number at rule = module_refusal reads number at («Type» rule)
+
+abbrev pub or_refused : List ReadModule → Checked TypedTree → Result TypedTree Refused
+or_refused reads (Ok tree) = Ok tree
+or_refused reads (Err broken) = Err (rule_refusal reads broken.«module» broken.at broken.rule)
 
 abbrev pub names_in : List ScriptTask → List (List ℕ)
 names_in tasks = map (λ task. task.name) tasks
 
--- the typed tree of a task, whose modules these are, the first of them in this file
-abbrev pub typed_task : ScriptData → ScriptTask → ℕ → List ReadModule → Result TypedTree Refused
-typed_task script task file reads =
-    or_refused file reads (task_of (map (λ read. read.raw) reads) (names_in script.tasks) script.signals (is_some task.arm))
+-- the typed tree of a task, whose modules these are
+abbrev pub typed_task : ScriptData → ScriptTask → List ReadModule → Result TypedTree Refused
+typed_task script task reads =
+    or_refused reads (task_of (map (λ read. read.raw) reads) (names_in script.tasks) script.signals (is_some task.arm))
 
 abbrev pub with_tree : TypedTree → Result (List TypedTree) Refused → Result (List TypedTree) Refused
 with_tree tree (Ok trees) = Ok (tree ∷ trees)
@@ -160,36 +123,36 @@ abbrev pub then_trees : Result TypedTree Refused → Result (List TypedTree) Ref
 then_trees (Ok tree) more = with_tree tree more
 then_trees (Err refused) more = Err refused
 
--- the typed trees of these tasks, each with as many of the modules as it names; the first module is in this file
-abbrev pub typed_tasks : ScriptData → List ScriptTask → ℕ → List ReadModule → Result (List TypedTree) Refused
-typed_tasks script [] file reads = Ok []
-typed_tasks script (task ∷ tasks) file reads =
+-- the typed trees of these tasks, each with as many of the modules as it names
+abbrev pub typed_tasks : ScriptData → List ScriptTask → List ReadModule → Result (List TypedTree) Refused
+typed_tasks script [] reads = Ok []
+typed_tasks script (task ∷ tasks) reads =
     let count = length task.modules in
-    then_trees (typed_task script task file (take count reads)) (typed_tasks script tasks (file + count) (drop count reads))
+    then_trees (typed_task script task (take count reads)) (typed_tasks script tasks (drop count reads))
 
--- the file of the first module of the task of this number
-abbrev pub first_file : List ScriptTask → ℕ → ℕ
-first_file [] number = 1
-first_file (task ∷ tasks) zero = 1
-first_file (task ∷ tasks) (suc number) = length task.modules + first_file tasks number
+-- how many modules the tasks before the one of this number have
+abbrev pub modules_before : List ScriptTask → ℕ → ℕ
+modules_before [] number = 0
+modules_before (task ∷ tasks) zero = 0
+modules_before (task ∷ tasks) (suc number) = length task.modules + modules_before tasks number
 
 -- why no cell is made of the trees: the later of two declarations that differ, or a value of the script
 abbrev pub cell_refusal : ScriptData → List ReadModule → CellBreak → Refused
-cell_refusal script reads (Clash task number at) = rule_refusal 1 reads ((first_file script.tasks task - 1) + number) at PersType
+cell_refusal script reads (Clash task number at) = rule_refusal reads (modules_before script.tasks task + number) at PersType
 cell_refusal script reads (InScript key rule) = Script key rule
 
-abbrev pub cell_or_refused : ScriptData → List ReadModule → Making MadeCell → Result CellData Refused
-cell_or_refused script reads (Ok made) = Ok made.cell
+abbrev pub cell_or_refused : ScriptData → List ReadModule → Making MadeCell → Result MadeCell Refused
+cell_or_refused script reads (Ok made) = Ok made
 cell_or_refused script reads (Err broken) = Err (cell_refusal script reads broken)
 
-abbrev pub cell_from : ScriptData → List ReadModule → Result (List TypedTree) Refused → Result CellData Refused
+abbrev pub cell_from : ScriptData → List ReadModule → Result (List TypedTree) Refused → Result MadeCell Refused
 cell_from script reads (Ok trees) = cell_or_refused script reads (make_cell script trees)
 cell_from script reads (Err refused) = Err refused
 
--- The cell of a script and of its modules; or the first refusal of these: by names and types, task by task; then by what the
--- tasks share; then by the script's values of persistents.
-abbrev pub checked : ScriptData → List ReadModule → Result CellData Refused
-checked script reads = cell_from script reads (typed_tasks script script.tasks 1 reads)
+-- The cell of a script and of its modules, and the trees of its tasks with its numbers; or the first refusal of these: by names
+-- and types, task by task; then by what the tasks share; then by the script's values of persistents.
+abbrev pub checked : ScriptData → List ReadModule → Result MadeCell Refused
+checked script reads = cell_from script reads (typed_tasks script script.tasks reads)
 
 -- the first key of the script that is there and not built
 abbrev pub unbuilt_key : ScriptData → Option (List ℕ)
@@ -200,41 +163,37 @@ unbuilt_key script =
     else if not (length script.inputs == 0) then Some (codes "input")
     else None
 
--- the first module that is not built, the first of all having this number
-abbrev pub unbuilt_module : ℕ → List Build → Option Refused
-unbuilt_module file [] = None
-unbuilt_module file (Ok tree ∷ builds) = unbuilt_module (file + 1) builds
-unbuilt_module file (Err place ∷ builds) = Some (Module file place NotBuilt)
+-- the refusal of a form that is not built, in one of these modules of its task
+abbrev pub form_refusal : List ReadModule → At → Refused
+form_refusal reads at = module_refusal reads at.«module» at.byte NotBuilt
+
+-- the first form of the modules of these tasks that is not built, each task with its tree and as many of the modules as it names
+abbrev pub unbuilt_form : List ScriptTask → List ReadModule → List TypedTree → Option Refused
+unbuilt_form (task ∷ tasks) reads (tree ∷ trees) =
+    let count = length task.modules in
+    option_or (option_map (form_refusal (take count reads)) (first_unbuilt tree)) (unbuilt_form tasks (drop count reads) trees)
+unbuilt_form _ _ _ = None
 
 -- the refusal of what is not built: a key of the script, then a form of a module
-abbrev pub not_built : ScriptData → List Build → Option Refused
-not_built script builds = option_or (option_map (λ key. Script key rules.NotBuilt) (unbuilt_key script)) (unbuilt_module 1 builds)
-
--- what each module of these mentions is built to
-abbrev pub AreBuilds : List Mention → List ReadModule → List Build → Type 0
-AreBuilds [] [] [] = Unit {0}
-AreBuilds (m ∷ ms) (read ∷ reads) (build ∷ builds) = BuildOf m read.text read.raw build × AreBuilds ms reads builds
-AreBuilds _ _ _ = ⊥
-
-abbrev pub trees_of : List Build → List Tree
-trees_of [] = []
-trees_of (Ok tree ∷ builds) = tree ∷ trees_of builds
-trees_of (Err place ∷ builds) = trees_of builds
+abbrev pub not_built : ScriptData → List ReadModule → List TypedTree → Option Refused
+not_built script reads trees =
+    option_or (option_map (λ key. Script key rules.NotBuilt) (unbuilt_key script)) (unbuilt_form script.tasks reads trees)
 
 abbrev pub unless_refused : List (List ℕ) → Option Refused → Verdict → Verdict
 unless_refused names (Some refused) verdict = refuses names refused
 unless_refused names None verdict = verdict
 
--- what the action comes to where all is accepted and this is the cell: a run needs what is built
-abbrev pub ActionDecides : Option Action → List (List ℕ) → ScriptData → List ReadModule → CellData → Verdict → Type 0
-ActionDecides (Some Round) names script reads cell verdict =
-    (builds : List Build) × AreBuilds (mentions script.tasks) reads builds
-    × (verdict ≡ unless_refused names (not_built script builds) (runs names cell (trees_of builds)))
-ActionDecides _ names script reads cell verdict = verdict ≡ accepts names
+-- what the action comes to where all is accepted, with this cell and these trees: a run needs what is built; words without an
+-- action are refused
+abbrev pub ActionDecides : Option Action → List (List ℕ) → ScriptData → List ReadModule → MadeCell → Verdict → Type 0
+ActionDecides (Some Round) names script reads made verdict =
+    verdict ≡ unless_refused names (not_built script reads made.trees) (runs names made.cell made.trees)
+ActionDecides (Some Check) names script reads made verdict = verdict ≡ accepts names
+ActionDecides None names script reads made verdict = ⊥
 
-abbrev pub CheckedDecides : Option Action → List (List ℕ) → ScriptData → List ReadModule → Result CellData Refused → Verdict → Type 0
+abbrev pub CheckedDecides : Option Action → List (List ℕ) → ScriptData → List ReadModule → Result MadeCell Refused → Verdict → Type 0
 CheckedDecides action names script reads (Err refused) verdict = verdict ≡ refuses names refused
-CheckedDecides action names script reads (Ok cell) verdict = ActionDecides action names script reads cell verdict
+CheckedDecides action names script reads (Ok made) verdict = ActionDecides action names script reads made verdict
 
 -- with the script read, its modules and its cell
 abbrev pub ModulesDecide : Option Action → List (List ℕ) → ScriptData → Result (List ReadModule) Refused → Verdict → Type 0
@@ -245,22 +204,22 @@ abbrev pub names_of : List ℕ → ScriptData → List (List ℕ)
 names_of name script = name ∷ module_names script.tasks
 
 -- what the script's text comes to
-abbrev pub ScriptDecides : Option Action → Told → List ℕ → Read ScriptData → Verdict → Type 0
-ScriptDecides action told name (Err broken) verdict = verdict ≡ refuses (name ∷ []) (Script broken.key broken.rule)
-ScriptDecides action told name (Ok script) verdict =
-    (modules : Result (List ReadModule) Refused) × ModulesOf told 1 (module_names script.tasks) modules
+abbrev pub ScriptDecides : Option Action → Reads → List ℕ → Read ScriptData → Verdict → Type 0
+ScriptDecides action gave name (Err broken) verdict = verdict ≡ refuses (name ∷ []) (Script broken.key broken.rule)
+ScriptDecides action gave name (Ok script) verdict =
+    (modules : Result (List ReadModule) Refused) × ModulesOf gave 1 (module_names script.tasks) modules
     × ModulesDecide action (names_of name script) script modules verdict
 
-abbrev pub FileDecides : Option Action → Told → List ℕ → Result (List ℕ) Refused → Verdict → Type 0
-FileDecides action told name (Err refused) verdict = verdict ≡ refuses (name ∷ []) refused
-FileDecides action told name (Ok text) verdict =
-    (script : Read ScriptData) × ScriptOf text script × ScriptDecides action told name script verdict
+abbrev pub FileDecides : Option Action → Reads → List ℕ → Result (List ℕ) Refused → Verdict → Type 0
+FileDecides action gave name (Err refused) verdict = verdict ≡ refuses (name ∷ []) refused
+FileDecides action gave name (Ok text) verdict =
+    (script : Read ScriptData) × ScriptOf text script × ScriptDecides action gave name script verdict
 
-abbrev pub WordsDecide : Told → List (List ℕ) → Option ℕ → Verdict → Type 0
-WordsDecide told words (Some place) verdict = verdict ≡ refuses [] (Words place)
-WordsDecide told words None verdict =
-    FileDecides (first_action (plain_words words)) told (script_name words) (file_text told 0 script_limit (script_name words)) verdict
+abbrev pub WordsDecide : Reads → List (List ℕ) → Option ℕ → Verdict → Type 0
+WordsDecide gave words (Some place) verdict = verdict ≡ refuses [] (Words place)
+WordsDecide gave words None verdict =
+    FileDecides (first_action (plain_words words)) gave (script_name words) (file_text gave 0 script_limit (script_name words)) verdict
 
--- what the words and the told files come to
-pub record Accepted (words : List (List ℕ)) (told : Told) (verdict : Verdict) : Type 0 where
-  pub decides : WordsDecide told words (refused_place words) verdict
+-- what the words and the files come to, of which the reads gave these
+pub record Accepted (words : List (List ℕ)) (gave : Reads) (verdict : Verdict) : Type 0 where
+  pub decides : WordsDecide gave words (refused_place words) verdict

@@ -5,7 +5,8 @@ use Rattle.outside.specs.Count.{Rose}
 use Rattle.outside.specs.Told.{Told}
 use Rattle.outside.specs.declared.call.Call.{Call}
 use Rattle.rapid_model.specs.CellData.{CellData}
-use Rattle.rapid_model.specs.declared.tree.Tree.{Tree}
+use Rattle.typed_trees.specs.Plain.{TypedTree}
+use Rattle.cell_assembly.specs.Made.{MadeCell}
 use Rattle.history_text.specs.Lines.{lines_of, output_of}
 use Rattle.controller.specs.declared.report.Report.{Report}
 use Rattle.controller.specs.declared.refused.Refused.{Refused}
@@ -13,7 +14,7 @@ use Rattle.controller.specs.declared.refused.Refused.TheVariants.{Write, Memory}
 use Rattle.rapid_model.specs.ScriptData.{ScriptData}
 use Rattle.controller.specs.declared.command.Action.{Action}
 use Rattle.controller.specs.declared.command.Action.TheVariants.{Round}
-use Rattle.controller.specs.Words.{plain_words, first_action}
+use Rattle.controller.specs.Files.{Reads, told_reads}
 use Rattle.controller.specs.Accepted.{Verdict, refuses, accepts, runs, Accepted, ReadModule, checked, ActionDecides, CheckedDecides}
 use Rattle.controller.specs.Refusals.{status_of, refusal_line}
 use Rattle.controller.specs.Runs.{IsRun, run_status}
@@ -43,7 +44,7 @@ pub record IsRefused (names : List (List ℕ)) (refused : Refused) (report : Rep
   pub told : TakesLine (refusal_line names refused) err
 
 -- run and printed whole: each line by one call of the first sink, and more only where a call took part of it
-pub record IsPrinted (cell : CellData) (trees : List Tree) (report : Report) (out err : Sunk) : Type 0 where
+pub record IsPrinted (cell : CellData) (trees : List TypedTree) (report : Report) (out err : Sunk) : Type 0 where
   pub run : IsRun cell trees report
   pub refused_is : report.refused ≡ None
   pub status : report.status ≡ run_status cell report.history.items
@@ -52,7 +53,7 @@ pub record IsPrinted (cell : CellData) (trees : List Tree) (report : Report) (ou
   pub told : Takes [] err
 
 -- run, and printed in part, since a write failed
-pub record IsCutShort (names : List (List ℕ)) (cell : CellData) (trees : List Tree) (report : Report) (out err : Sunk) : Type 0 where
+pub record IsCutShort (names : List (List ℕ)) (cell : CellData) (trees : List TypedTree) (report : Report) (out err : Sunk) : Type 0 where
   pub run : IsRun cell trees report
   pub refused_is : report.refused ≡ Some Write
   pub status : report.status ≡ status_of Write
@@ -89,7 +90,7 @@ abbrev pub AnswersAccepted : Report → Sunk → Sunk → Type 0
 AnswersAccepted report out err = IsAccepted report out err ⊎ (IsAcceptedInPart report out err × Rose out.old.faults out.new.faults)
 
 -- what a run is answered by; a write fails only where the first sink counted a fault
-abbrev pub AnswersRun : CellData → List Tree → Report → Sunk → Sunk → Type 0
+abbrev pub AnswersRun : CellData → List TypedTree → Report → Sunk → Sunk → Type 0
 AnswersRun cell trees report out err =
     IsPrinted cell trees report out err ⊎ (IsCutShort [] cell trees report out err × Rose out.old.faults out.new.faults)
 
@@ -104,7 +105,7 @@ abbrev pub IsOutOfMemory : Report → Sunk → Sunk → Type 0
 IsOutOfMemory report out err = IsRefused [] Memory report out err
 
 -- a run, want of memory aside
-abbrev pub RunsOrMemory : CellData → List Tree → Report → Sunk → Sunk → Type 0
+abbrev pub RunsOrMemory : CellData → List TypedTree → Report → Sunk → Sunk → Type 0
 RunsOrMemory cell trees report out err = IsOutOfMemory report out err ⊎ AnswersRun cell trees report out err
 
 -- it answers a verdict of which this holds, want of memory aside
@@ -116,23 +117,19 @@ abbrev pub AnswersReads : Option Action → List (List ℕ) → ScriptData → L
 AnswersReads action names script reads report out err =
     AnswersSome (CheckedDecides action names script reads (checked script reads)) report out err
 
--- with all modules accepted and this cell, where they are to run
-abbrev pub AnswersBuilt : List (List ℕ) → ScriptData → List ReadModule → CellData → Report → Sunk → Sunk → Type 0
-AnswersBuilt names script reads cell report out err = AnswersSome (ActionDecides (Some Round) names script reads cell) report out err
+-- with all modules accepted, this cell and its trees, where they are to run
+abbrev pub AnswersBuilt : List (List ℕ) → ScriptData → List ReadModule → MadeCell → Report → Sunk → Sunk → Type 0
+AnswersBuilt names script reads made report out err = AnswersSome (ActionDecides (Some Round) names script reads made) report out err
 
--- what is no refusal is what the action comes to for some script and modules
-abbrev pub ForSomeTexts : Option Action → Verdict → Type 0
-ForSomeTexts action (refuses names refused) = Unit {0}
-ForSomeTexts action verdict =
-    (names : List (List ℕ)) × (script : ScriptData) × (reads : List ReadModule) × CheckedDecides action names script reads (checked script reads) verdict
+-- A verdict on the words and the files: on what each read finds of a shelf that tells its files; of a shelf that tells nothing,
+-- on what some reads gave.
+abbrev pub IsVerdict : List (List ℕ) → Option Told → Verdict → Type 0
+IsVerdict words (Some files) verdict = Accepted words (told_reads files) verdict
+IsVerdict words None verdict = (gave : Reads) × Accepted words gave verdict
 
--- The report answers what the words and the files come to, where the shelf tells its files; whatever it tells, the report
--- answers a refusal, or what the words' action comes to for some script and modules. Want of memory aside.
+-- The report answers what the words and the files come to, want of memory aside.
 abbrev pub AnswersWords : List (List ℕ) → Option Told → Report → Sunk → Sunk → Type 0
-AnswersWords words told report out err =
-    IsOutOfMemory report out err
-    ⊎ ((verdict : Verdict) × Answers verdict report out err × ForSomeTexts (first_action (plain_words words)) verdict
-    × IfSome told (λ files. Accepted words files verdict))
+AnswersWords words told report out err = AnswersSome (IsVerdict words told) report out err
 
 -- the words as bytes
 abbrev pub word_bytes : List (Bor (List ℕ)) → List (List ℕ)

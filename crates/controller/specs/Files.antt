@@ -2,10 +2,19 @@
 use Rattle.std.specs.Prelude.{◌≡◌, ℕ, nat_le, ◌⊎◌, List, length, Option, Some, None, Result, Ok, Err, Vec, if◌then◌else◌}
 use Rattle.std.specs.declared.alloc.Global.{Global}
 use Rattle.outside.specs.Count.{Rose}
+use Rattle.outside.specs.Told.{Told, found, after_reads}
 use Rattle.controller.specs.declared.refused.Refused.{Refused}
 use Rattle.controller.specs.declared.refused.Refused.TheVariants.{Words, Script, Module, Read, Write, Memory, TooLong}
 
--- from what is found under its name: it fails, the file is too long, or its bytes
+-- what each read of a call gave, by the number of the file and its name: its bytes, or nothing where the read failed
+abbrev pub Reads : Type 0
+Reads = ℕ → List ℕ → Option (List ℕ)
+
+-- what they give of a shelf that tells its files: each finds what stands there after those before it
+abbrev pub told_reads : Told → Reads
+told_reads told file name = found (after_reads file told) name
+
+-- from what a read gave: it fails, the file is too long, or its bytes
 abbrev pub text_of : ℕ → ℕ → Option (List ℕ) → Result (List ℕ) Refused
 text_of file limit None = Err (Read file)
 text_of file limit (Some bytes) = if nat_le (length bytes) limit then Ok bytes else Err (TooLong file)
@@ -19,6 +28,16 @@ IsLoadFault old new (Read file) = Rose old new
 IsLoadFault old new Write = ⊥
 IsLoadFault old new Memory = Unit {0}
 IsLoadFault old new (TooLong file) = Unit {0}
+
+-- why the file of this number is not read: it cannot be, it is too long, or memory is refused
+abbrev pub IsUnread : ℕ → Refused → Type 0
+IsUnread file (Words place) = ⊥
+IsUnread file (Script key rule) = ⊥
+IsUnread file (Module other place rule) = ⊥
+IsUnread file (Read other) = other ≡ file
+IsUnread file Write = ⊥
+IsUnread file Memory = Unit {0}
+IsUnread file (TooLong other) = other ≡ file
 
 -- what an action is refused for: not for the words, nor for a read; and a write failed only where a fault was counted
 abbrev pub IsDoneFault : ℕ → ℕ → Refused → Type 0

@@ -1,61 +1,69 @@
 -- What loading a script and its modules comes to, and how contracts see what is loaded.
-use Rattle.std.specs.Prelude.{◌≡◌, ℕ, ◌+◌, ◌<◌, ◌^◌, ◌⊎◌, List, [], ◌∷◌, map, length, Option, None, Some, Result, Ok, Err, Vec, All}
+use Rattle.std.specs.Prelude.{◌≡◌, ℕ, ◌+◌, ◌≤◌, ◌<◌, ◌^◌, ◌⊎◌, List, [], ◌∷◌, map, length, Option, None, Some, Result, Ok, Err, Vec, All}
+use Rattle.std.specs.Borrow.{Bor}
+use Rattle.std.specs.Option.{option_map}
 use Rattle.std.specs.declared.alloc.Global.{Global}
-use Rattle.outside.specs.Told.{Told}
 use Rattle.rapid_model.specs.ScriptData.{ScriptData}
 use Rattle.rapid_model.specs.declared.tree.Tree.{Tree}
 use Rattle.cell_script.specs.Break.{ScriptBreak}
 use Rattle.cell_script.specs.ScriptOf.{ScriptOf}
-use Rattle.raw_trees.specs.Plain.{PlainModule}
 use Rattle.raw_trees.specs.Views.{view_module}
 use Rattle.raw_trees.specs.declared.raw_module.RawModule.{RawModule}
+use Rattle.module_parser.specs.Modules.{ModuleText}
 use Rattle.rule_checks.specs.declared.fault.TypeFault.{TypeFault}
 use Rattle.rule_checks.specs.declared.fault.TypeFault.TheVariants as types
 use Rattle.cell_assembly.specs.Cells.{Clash}
 use Rattle.cell_assembly.specs.declared.cell_fault.CellFault.{CellFault}
 use Rattle.cell_assembly.specs.declared.cell_fault.CellFault.TheVariants as cells
-use Rattle.built_forms.specs.declared.fault.BuildFault.{BuildFault}
-use Rattle.built_forms.specs.declared.fault.BuildFault.TheVariants as faults
-use Rattle.controller.specs.declared.build.Build as declared_build
-use Rattle.controller.specs.declared.build.Build.TheVariants as kinds
-use Rattle.controller.specs.declared.mention.Mention as declared_mention
+use Rattle.cell_assembly.specs.Made.{MadeCell}
+use Rattle.typed_trees.specs.Plain.{TypedTree}
+use Rattle.typed_trees.specs.Views.{view_tree}
+use Rattle.built_tasks.specs.Moves.{moves_of}
+use Rattle.built_tasks.specs.Unbuilt.{first_unbuilt}
+use Rattle.controller.specs.declared.check.CheckedCell.{CheckedCell}
 use Rattle.controller.specs.declared.modules.Modules.{Modules}
 use Rattle.controller.specs.declared.refused.Refused.{Refused}
 use Rattle.controller.specs.declared.refused.Refused.TheVariants.{Script, Memory}
-use Rattle.controller.specs.Accepted.{Mention, Build, BuiltAs, ReadModule, ModuleOf, module_limit, file_text, rule_refusal, cell_refusal}
-
--- a mention and a build as contracts see them
-abbrev pub mention_of : declared_mention.Mention → Mention
-mention_of m = record { name = m.name.now; first = m.first; armed = m.armed }
-
-abbrev pub build_of : declared_build.Build → Build
-build_of (kinds.Tree tree) = Ok tree
-build_of (kinds.NotBuilt place) = Err place
+use Rattle.controller.specs.Files.{Reads}
+use Rattle.controller.specs.Accepted.{ReadModule, ModuleOf, module_limit, file_text, rule_refusal, cell_refusal, form_refusal, not_built}
+use Rattle.controller.specs.Runs.{AreMoves}
 
 -- the names of the modules' files
-abbrev pub names_in_turn : List declared_mention.Mention → List (List ℕ)
-names_in_turn ms = map (λ m. m.name.now) ms
+abbrev pub names_in_turn : List (Bor (List ℕ)) → List (List ℕ)
+names_in_turn names = map (λ name. name.now) names
 
 -- the names of the files, the script's first
-abbrev pub file_names : List ℕ → List declared_mention.Mention → List (List ℕ)
-file_names script ms = script ∷ names_in_turn ms
+abbrev pub file_names : List ℕ → List (Bor (List ℕ)) → List (List ℕ)
+file_names script names = script ∷ names_in_turn names
 
--- modules by their texts and trees
-abbrev pub reads_of : List (Vec ℕ Global) → List RawModule → List ReadModule
-reads_of (text ∷ texts) (tree ∷ trees) = record { text = text.items; raw = view_module tree } ∷ reads_of texts trees
-reads_of _ _ = []
+-- a cell with its trees
+abbrev pub made_of : CheckedCell → MadeCell
+made_of c = record { cell = c.cell; trees = map view_tree c.trees.items }
+
+-- modules by their texts and trees, the first of them in the file of this number
+abbrev pub reads_of : ℕ → List (Vec ℕ Global) → List RawModule → List ReadModule
+reads_of file (text ∷ texts) (tree ∷ trees) = record { file = file; text = text.items; raw = view_module tree } ∷ reads_of (file + 1) texts trees
+reads_of _ _ _ = []
 
 abbrev pub reads_in : Modules → List ReadModule
-reads_in modules = reads_of modules.texts.now modules.trees.now
+reads_in modules = reads_of modules.first modules.texts.now modules.trees.now
 
--- a text has fewer bytes than places can count
-abbrev pub IsShort : Vec ℕ Global → Type 0
-IsShort text = length text.items < 2 ^ 31
+-- a text is within the limit of a module
+abbrev pub IsWithin : Vec ℕ Global → Type 0
+IsWithin text = length text.items ≤ module_limit
 
--- each tree has its text
+-- a text spells each of the modules
+abbrev pub IsSpelled : ReadModule → Type 0
+IsSpelled read = (source : List ℕ) × ModuleText source (Ok read.raw)
+
+abbrev pub AreSpelled : List ReadModule → Type 0
+AreSpelled reads = All IsSpelled reads
+
+-- each tree has its text, and each file its number
 pub record ArePaired (modules : Modules) : Type 0 where
   pub same : length modules.texts.now ≡ length modules.trees.now
-  pub short : All IsShort modules.texts.now
+  pub within : All IsWithin modules.texts.now
+  pub files : modules.first + length modules.texts.now < 2 ^ 32
 
 -- the script of what the file's read comes to, want of memory aside
 abbrev pub IsScriptIn : Result (List ℕ) Refused → Result ScriptData Refused → Type 0
@@ -66,11 +74,11 @@ IsScriptIn read (Err refused) =
 
 -- The texts of the files of these names, the first of which has this number, up to the first one that is not read, and why
 -- that one is not. Want of memory aside.
-abbrev pub AreTexts : Told → ℕ → List (List ℕ) → List (List ℕ) → Option Refused → Type 0
-AreTexts told file [] [] None = Unit {0}
-AreTexts told file (name ∷ names) [] (Some refused) = (refused ≡ Memory) ⊎ (file_text told file module_limit name ≡ Err refused)
-AreTexts told file (name ∷ names) (text ∷ texts) failed =
-    (file_text told file module_limit name ≡ Ok text) × AreTexts told (file + 1) names texts failed
+abbrev pub AreTexts : Reads → ℕ → List (List ℕ) → List (List ℕ) → Option Refused → Type 0
+AreTexts gave file [] [] None = Unit {0}
+AreTexts gave file (name ∷ names) [] (Some refused) = (refused ≡ Memory) ⊎ (file_text gave file module_limit name ≡ Err refused)
+AreTexts gave file (name ∷ names) (text ∷ texts) failed =
+    (file_text gave file module_limit name ≡ Ok text) × AreTexts gave (file + 1) names texts failed
 AreTexts _ _ _ _ _ = ⊥
 
 -- what these texts come to, of which the first has this number, with what failed behind them
@@ -87,24 +95,33 @@ TextsDecide file (text ∷ texts) failed (Ok (read ∷ reads)) = ModuleOf file t
 abbrev pub bytes_of : List (Vec ℕ Global) → List (List ℕ)
 bytes_of texts = map (λ v. v.items) texts
 
+-- what one text comes to, want of memory aside
+abbrev pub IsParsed : ℕ → List ℕ → Result RawModule Refused → Type 0
+IsParsed file text (Ok tree) = ModuleText text (Ok (view_module tree))
+IsParsed file text (Err refused) = (refused ≡ Memory) ⊎ ModuleOf file text (Err refused)
+
 -- what the texts come to, want of memory aside
 abbrev pub AreParsed : List (Vec ℕ Global) → Option Refused → Result (Vec RawModule Global) Refused → Type 0
-AreParsed texts failed (Ok trees) = TextsDecide 1 (bytes_of texts) failed (Ok (reads_of texts trees.items))
+AreParsed texts failed (Ok trees) = TextsDecide 1 (bytes_of texts) failed (Ok (reads_of 1 texts trees.items))
 AreParsed texts failed (Err refused) = (refused ≡ Memory) ⊎ TextsDecide 1 (bytes_of texts) failed (Err refused)
 
--- the refusal by a rule of names and types, in one of these modules, want of memory aside
-abbrev pub IsRuleRefusal : ℕ → List ReadModule → TypeFault → Refused → Type 0
-IsRuleRefusal file reads (types.Rule number at rule) refused = (refused ≡ Memory) ⊎ (refused ≡ rule_refusal file reads number at rule)
-IsRuleRefusal file reads types.Memory refused = refused ≡ Memory
+-- the refusal of modules by a rule of names and types, or for want of memory
+abbrev pub IsRuleRefusal : List ReadModule → TypeFault → Refused → Type 0
+IsRuleRefusal reads (types.Rule number at rule) refused = refused ≡ rule_refusal reads number at rule
+IsRuleRefusal reads types.Memory refused = refused ≡ Memory
 
--- the refusal of a cell, want of memory aside
+-- the refusal of a cell, or for want of memory
 abbrev pub IsCellRefusal : ScriptData → List ReadModule → CellFault → Refused → Type 0
-IsCellRefusal script reads (cells.Clash task number at) refused = (refused ≡ Memory) ⊎ (refused ≡ cell_refusal script reads (Clash task number at))
+IsCellRefusal script reads (cells.Clash task number at) refused = refused ≡ cell_refusal script reads (Clash task number at)
 IsCellRefusal script reads (cells.Script key rule) refused = refused ≡ Script key rule
 IsCellRefusal script reads cells.Memory refused = refused ≡ Memory
 
--- what the module of a mention is built to, as a byte of its text where it is not, want of memory aside
-abbrev pub IsBuiltFor : Mention → PlainModule → Result Tree BuildFault → Type 0
-IsBuiltFor m raw (Ok tree) = BuiltAs m raw (Ok tree)
-IsBuiltFor m raw (Err (faults.NotBuilt at)) = BuiltAs m raw (Err at)
-IsBuiltFor m raw (Err faults.Memory) = Unit {0}
+-- what a task is built to, whose modules these are, want of memory aside
+abbrev pub BuildsOne : List ReadModule → TypedTree → Result Tree Refused → Type 0
+BuildsOne reads tree (Ok moves) = (first_unbuilt tree ≡ None) × (moves ≡ moves_of tree)
+BuildsOne reads tree (Err refused) = (refused ≡ Memory) ⊎ (option_map (form_refusal reads) (first_unbuilt tree) ≡ Some refused)
+
+-- what the tasks of a script are built to, want of memory aside
+abbrev pub BuildsTo : ScriptData → List ReadModule → List TypedTree → Result (Vec Tree Global) Refused → Type 0
+BuildsTo script reads trees (Ok moves) = (not_built script reads trees ≡ None) × AreMoves trees moves.items
+BuildsTo script reads trees (Err refused) = (refused ≡ Memory) ⊎ (not_built script reads trees ≡ Some refused)

@@ -1,19 +1,23 @@
 -- The run theorem: what the report of a run tells.
-use Rattle.std.specs.Prelude.{◌≡◌, ℕ, ◌⊎◌, Bool, true, false, List, [], length, IsTrue, is_some, if◌then◌else◌}
-use Rattle.std.specs.List.{list_any, list_all}
+use Rattle.std.specs.Prelude.{◌≡◌, ℕ, Bool, true, false, List, length, map, All, None, if◌then◌else◌}
+use Rattle.std.specs.List.{list_any}
 use Rattle.rapid_model.specs.CellData.{CellData}
 use Rattle.rapid_model.specs.declared.event.Event.{Event}
 use Rattle.rapid_model.specs.declared.fate.Fate.{Fate}
 use Rattle.rapid_model.specs.declared.fate.Fate.TheVariants as fates
 use Rattle.rapid_model.specs.declared.tree.Tree.{Tree}
-use Rattle.move_meaning.specs.Runs.{tree_asks}
+use Rattle.typed_trees.specs.Plain.{TypedTree}
+use Rattle.rapid_meaning.specs.Asking.{tree_asks}
+use Rattle.move_meaning.specs.Traces.{SuitTasks}
+use Rattle.built_tasks.specs.Moves.{moves_of}
+use Rattle.built_tasks.specs.Unbuilt.{first_unbuilt}
 use Rattle.cell_meaning.specs.Histories.{IsLegal, IsWhole, all_ended, is_spent, fates_after}
 use Rattle.cell_meaning.specs.Turns.{IsByTurns}
 use Rattle.controller.specs.declared.report.Report.{Report}
 
 -- The history interleaves whole traces of the tasks' trees, each answer being what one shared cell gives at that point;
 -- it is the run by turns, and the fates follow from it.
-pub record IsRun (cell : CellData) (trees : List Tree) (report : Report) : Type 0 where
+pub record IsRun (cell : CellData) (trees : List TypedTree) (report : Report) : Type 0 where
   pub legal : IsLegal (tree_asks trees) cell report.history.items
   pub whole : IsWhole (tree_asks trees) cell report.history.items
   pub by_turns : IsByTurns (tree_asks trees) cell report.history.items
@@ -32,7 +36,12 @@ run_status cell history =
     else if is_spent cell history then 9
     else 8
 
--- the cell has one task, and it has an arm or nothing to do
-pub record SuitsOne (cell : CellData) (tree : Tree) : Type 0 where
-  pub one : length cell.tasks ≡ 1
-  pub arms : IsTrue (list_all (λ row. is_some row.arm) cell.tasks) ⊎ (tree.list ≡ [])
+-- there is a list of moves for each task of the cell, which asks what that task may ask
+pub record SuitsCell (cell : CellData) (moves : List Tree) : Type 0 where
+  pub one_each : length moves ≡ length cell.tasks
+  pub suit : SuitTasks moves cell
+
+-- all these trees are built, and these are their moves
+pub record AreMoves (trees : List TypedTree) (moves : List Tree) : Type 0 where
+  pub built : All (λ tree. first_unbuilt tree ≡ None) trees
+  pub are : moves ≡ map moves_of trees

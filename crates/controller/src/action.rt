@@ -1,20 +1,21 @@
-ghost use Rattle.std.specs.Prelude.{◌≡◌, ℕ, ◌↔◌, Some};
+ghost use Rattle.std.specs.Prelude.{◌≡◌, ℕ, ◌↔◌, Some, IfSome};
 ghost use Rattle.outside.specs.Count.{Rose};
+ghost use Rattle.controller.specs.Files.{IsDoneFault};
+ghost use Rattle.controller.specs.Loaded.{file_names, reads_in, ArePaired, AreSpelled};
 ghost use Rattle.controller.specs.Words.{refused_place};
 ghost use Rattle.controller.specs.Printed.{sunk};
-ghost use Rattle.controller.specs.Answered.{AnswersWords, word_bytes};
+ghost use Rattle.controller.specs.Answered.{AnswersWords, AnswersReads, word_bytes};
 
-use crate::done::do_action;
-use crate::load::{load_script, load_texts};
-use crate::mention::mentions_of;
-use crate::module_text::parse_texts;
-use crate::modules::Modules;
-use crate::refusal_report::{refuse, refuse_file};
+use crate::check::check_modules;
+use crate::command::{Action, Command, read_words};
+use crate::files::module_files;
+use crate::modules::{Modules, parse_texts};
 use crate::refused::Refused;
-use crate::report::Report;
-use crate::texts::Texts;
-use crate::words::read_words;
+use crate::report::{Report, refuse, refuse_file, report_accepted};
+use crate::run::run_built;
+use crate::texts::{Texts, load_script, load_texts};
 use outside::{Shelf, Sink};
+use rapid_model::Script;
 use std::alloc::Global;
 
 /// Does what the command words say, over the script in the file CELL and the modules that it names. `check CELL` tells
@@ -43,20 +44,56 @@ pub fn quiet<S: Shelf, O: Sink, E: Sink>(
         Ok(script) => script,
         Err(refused) => return refuse_file(alloc, err, command.script, &[], refused),
     };
-    let mentions = match mentions_of(alloc, &script) {
-        Ok(mentions) => mentions,
+    let names = match module_files(alloc, &script) {
+        Ok(names) => names,
         Err(_) => return refuse(alloc, err, "", Refused::Memory),
     };
-    let files = mentions.as_slice();
+    let files = names.as_slice();
     let Texts { texts, failed } = load_texts(alloc, shelf, files);
     match parse_texts(alloc, texts.as_slice(), failed) {
         Ok(trees) => {
             let modules = Modules {
+                first: 1,
                 texts: texts.as_slice(),
                 trees: trees.as_slice(),
             };
             do_action(alloc, &command, &script, files, &modules, out, err)
         }
+        Err(refused) => refuse_file(alloc, err, command.script, files, refused),
+    }
+}
+
+/// Does the action with a script whose modules are all read, unless they break a rule.
+fn do_action<O: Sink, E: Sink>(
+    alloc: Global,
+    command: &Command<'_>,
+    script: &Script,
+    files: &[&str],
+    modules: &Modules<'_, '_>,
+    out: &mut O,
+    err: &mut E,
+) -> Report
+    requires paired { ArePaired modules.now }
+    requires spelled { AreSpelled (reads_in modules.now) }
+    ensures answers { AnswersReads (Some command.now.action) (file_names command.now.script.now files.now) script.now (reads_in modules.now) result (sunk O.told O.calls O.faults out.old out.new) (sunk E.told E.calls E.faults err.old err.new) }
+    ensures causes { IfSome result.refused (IsDoneFault (O.faults out.old) (O.faults out.new)) }
+{
+    match check_modules(alloc, script, modules) {
+        Ok(accepted) => match command.action {
+            Action::Check => report_accepted(alloc, out, err),
+            Action::Round => {
+                run_built(
+                    alloc,
+                    command.script,
+                    script,
+                    files,
+                    modules,
+                    accepted,
+                    out,
+                    err,
+                )
+            }
+        },
         Err(refused) => refuse_file(alloc, err, command.script, files, refused),
     }
 }

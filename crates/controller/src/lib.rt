@@ -3,31 +3,19 @@
 
 mod action;
 mod build;
-mod built;
 mod check;
 mod command;
-mod done;
-mod file;
+mod files;
 mod laws;
-mod load;
-mod mention;
-mod module_text;
 mod modules;
-mod not_built;
 mod print;
-mod refusal_report;
 mod refused;
 mod report;
 mod run;
-mod run_report;
-mod status;
-mod telling;
 mod texts;
-mod words;
-mod write;
 
 pub use action::quiet;
 pub use command::Action;
-pub use laws::verdict_is_one;
+pub use laws::{verdict_is_one, verdicts_refuse_input};
 pub use refused::{ModuleRule, Refused};
 pub use report::Report;

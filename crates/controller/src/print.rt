@@ -5,7 +5,6 @@ ghost use Rattle.history_text.specs.Lines.{line_of, fate_line, fate_lines, lines
 ghost use Rattle.controller.specs.Printed.{sunk};
 ghost use Rattle.controller.specs.Written.{Writes};
 
-use crate::write::write_all;
 use arrayvec::ArrayString;
 use cell_core::Core;
 use history_text::{write_event, write_fate};
@@ -16,10 +15,8 @@ use rapid_model::{Fate, NameText, TaskRow};
 pub(crate) fn print_run<O: Sink>(out: &mut O, core: &Core) -> Result<(), Failed>
     ensures { Writes (lines_of core.now.cell core.now.history (fates_after core.now.cell core.now.history (length core.now.cell.tasks))) result (sunk O.told O.calls O.faults out.old out.new) }
 {
-    match print_events(out, core) {
-        Ok(()) => print_fates(out, core),
-        Err(failed) => Err(failed),
-    }
+    print_events(out, core)?;
+    print_fates(out, core)
 }
 
 /// Prints the lines of the events in order.
@@ -27,10 +24,7 @@ fn print_events<O: Sink>(out: &mut O, core: &Core) -> Result<(), Failed>
     ensures { Writes (map (line_of core.now.cell.tasks) core.now.history) result (sunk O.told O.calls O.faults out.old out.new) }
 {
     for k in 0..core.len() {
-        match print_event(out, core, k) {
-            Ok(()) => {}
-            Err(failed) => return Err(failed),
-        }
+        print_event(out, core, k)?;
     }
     Ok(())
 }
@@ -63,10 +57,7 @@ fn print_fates<O: Sink>(out: &mut O, core: &Core) -> Result<(), Failed>
     let rows = rows_of(core);
     for (task, row) in rows.iter().enumerate() {
         let fate = core.fate(task as u32);
-        match print_fate(out, &row.name, &fate) {
-            Ok(()) => {}
-            Err(failed) => return Err(failed),
-        }
+        print_fate(out, &row.name, &fate)?;
     }
     Ok(())
 }
@@ -78,4 +69,36 @@ fn print_fate<O: Sink>(out: &mut O, name: &NameText, fate: &Fate) -> Result<(), 
     let mut line = ArrayString::new();
     write_fate(name, fate, &mut line);
     write_all(out, line.as_str().as_bytes())
+}
+
+/// Writes three pieces in order.
+pub(crate) fn write_three<E: Sink>(
+    err: &mut E,
+    head: &[u8],
+    middle: &[u8],
+    tail: &[u8],
+) -> Result<(), Failed>
+    ensures { Writes (head.now ∷ middle.now ∷ tail.now ∷ []) result (sunk E.told E.calls E.faults err.old err.new) }
+{
+    write_all(err, head)?;
+    write_two(err, middle, tail)
+}
+
+/// Writes two pieces in order.
+pub(crate) fn write_two<E: Sink>(err: &mut E, first: &[u8], second: &[u8]) -> Result<(), Failed>
+    ensures { Writes (first.now ∷ second.now ∷ []) result (sunk E.told E.calls E.faults err.old err.new) }
+{
+    write_all(err, first)?;
+    write_all(err, second)
+}
+
+/// Writes all bytes of a piece: one `write`, and more only where a write took part of it.
+pub(crate) fn write_all<O: Sink>(out: &mut O, piece: &[u8]) -> Result<(), Failed>
+    ensures { Writes (piece.now ∷ []) result (sunk O.told O.calls O.faults out.old out.new) }
+{
+    let mut at = 0;
+    while at < piece.len() {
+        at += out.write(&piece[at..])?;
+    }
+    Ok(())
 }

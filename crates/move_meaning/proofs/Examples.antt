@@ -6,7 +6,7 @@ use Rattle.rapid_num.specs.declared.joints.Joints.{Joints}
 use Rattle.joint_planner.specs.Setpoints.{greatest_change, step_of}
 use Rattle.rapid_model.specs.declared.answer.Answer.TheVariants as answers
 use Rattle.rapid_model.specs.declared.fate.Fate.TheVariants as fates
-use Rattle.rapid_model.specs.declared.fate.Fault.TheVariants.{JointRange, TrapFlood, ZoneStop}
+use Rattle.rapid_model.specs.declared.fate.Fault.TheVariants.{JointRange, Speed, TrapFlood, ZoneStop}
 use Rattle.rapid_model.specs.declared.request.Request.TheVariants.{Look, Position, Setpoint, End}
 use Rattle.rapid_model.specs.declared.tree.Tree.{Tree}
 use Rattle.rapid_model.specs.declared.tree.Form.TheVariants.{Move}
@@ -49,6 +49,11 @@ over = refl
 out_of_reach : asked_after (moves_to (pos 721_000)) (answers.Go 0 ∷ []) ≡ asks (End (fates.Fault JointRange))
 unfolding ask and_then setpoints move_from perform attempt perform_list when_given when_let asked_after greatest_change step_of
 out_of_reach = refl
+
+-- a speed of zero
+without_speed : asked_after (record { list = record { at = 21; form = Move (joints_at (pos 2500)) (pos 0) } ∷ [] }) (answers.Go 0 ∷ []) ≡ asks (End (fates.Fault Speed))
+unfolding ask and_then setpoints move_from perform attempt perform_list when_given when_let asked_after greatest_change step_of
+without_speed = refl
 
 misfit : asked_after (moves_to (pos 2500)) (answers.Given ∷ []) ≡ unfit
 unfolding ask and_then setpoints move_from perform attempt perform_list when_given when_let asked_after greatest_change step_of

@@ -1,7 +1,7 @@
 -- What more answers make of doing a part of a task: what is over stays, what is due is what any task may ask, and after an
 -- answer that fits it the task goes on.
 use Rattle.std.proofs.Common.{◌≡◌, ℕ, zero, suc, ◌-◌, ◌≤◌, Bool, true, false, List, [], ◌∷◌, ◌++◌, refl, ap, sym, ◌∙◌, subst, arith}
-use Rattle.std.specs.Prelude.{IsTrue, if◌then◌else◌}
+use Rattle.std.specs.Prelude.{pos, int_lt, IsTrue, if◌then◌else◌}
 use Rattle.std.proofs.lemmas.Bool.{false≢true}
 use Rattle.rapid_num.specs.Reach.{is_reachable, is_position}
 use Rattle.rapid_num.specs.declared.joints.Joints.{Joints}
@@ -12,7 +12,7 @@ use Rattle.rapid_model.specs.declared.answer.Answer.{Answer}
 use Rattle.rapid_model.specs.declared.answer.Answer.TheVariants as answers
 use Rattle.rapid_model.specs.declared.fate.Fate.{Fate}
 use Rattle.rapid_model.specs.declared.fate.Fate.TheVariants as fates
-use Rattle.rapid_model.specs.declared.fate.Fault.TheVariants.{JointRange, TrapFlood, ZoneStop}
+use Rattle.rapid_model.specs.declared.fate.Fault.TheVariants.{JointRange, Speed, TrapFlood, ZoneStop}
 use Rattle.rapid_model.specs.declared.request.Request.{Request}
 use Rattle.rapid_model.specs.declared.request.Request.TheVariants.{Look, Position, Setpoint}
 use Rattle.rapid_model.specs.declared.tree.Stmt.{Stmt}
@@ -177,12 +177,15 @@ pub perform_grows : (form : Form) → Grows (perform form)
 unfolding perform
 perform_grows (Move target speed) =
     chosen_grows (is_reachable target) _ _
-    (λ to. ask_grows Position (move_from target (cap_of speed)) tt (move_from_grows target (cap_of speed) to) (move_from_opens target (cap_of speed)))
+    (λ to. chosen_grows (int_lt (pos 0) speed) _ _
+    (λ above. ask_grows Position (move_from target (cap_of speed)) tt (move_from_grows target (cap_of speed) to) (move_from_opens target (cap_of speed)))
+    (end_with_grows (fates.Fault Speed) refl))
     (end_with_grows (fates.Fault JointRange) refl)
 
 perform_opens : (form : Form) → Opens (perform form)
 unfolding perform
-perform_opens (Move target speed) = chosen_opens (is_reachable target) _ _ (ask_opens Position (move_from target (cap_of speed))) (λ no. refl)
+perform_opens (Move target speed) =
+    chosen_opens (is_reachable target) _ _ (chosen_opens (int_lt (pos 0) speed) _ _ (ask_opens Position (move_from target (cap_of speed))) (λ no. refl)) (λ no. refl)
 
 pub attempt_grows : (form : Form) → Grows (attempt form)
 unfolding attempt

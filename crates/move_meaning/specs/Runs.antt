@@ -1,4 +1,4 @@
--- What a task asks next, after the answers that it got so far.
+-- What the task of a list of moves asks next, after the answers that it got so far.
 use Rattle.std.specs.Prelude.{◌≡◌, ℕ, List, [], ◌∷◌, IsSomeAnd, slice_get}
 use Rattle.rapid_model.specs.declared.answer.Answer.{Answer}
 use Rattle.rapid_model.specs.declared.fate.Fate.{Fate}

@@ -1,5 +1,5 @@
--- What the statements of a task ask (RAPID Overview, program execution; RAPID Instructions: MoveAbsJ).
-use Rattle.std.specs.Prelude.{ℕ, zero, suc, ◌-◌, ◌/◌, max, ℤ, nat_abs, List, [], ◌∷◌, if◌then◌else◌}
+-- What a list of moves asks (RAPID Overview, program execution; RAPID Instructions: MoveAbsJ).
+use Rattle.std.specs.Prelude.{ℕ, zero, suc, ◌-◌, ◌/◌, max, ℤ, pos, int_lt, nat_abs, List, [], ◌∷◌, if◌then◌else◌}
 use Rattle.rapid_num.specs.Reach.{is_reachable, is_position}
 use Rattle.rapid_num.specs.declared.joints.Joints.{Joints}
 use Rattle.joint_planner.specs.Setpoints.{setpoint_count, setpoint}
@@ -7,7 +7,7 @@ use Rattle.rapid_model.specs.declared.answer.Answer.{Answer}
 use Rattle.rapid_model.specs.declared.answer.Answer.TheVariants as answers
 use Rattle.rapid_model.specs.declared.fate.Fate.{Fate}
 use Rattle.rapid_model.specs.declared.fate.Fate.TheVariants as fates
-use Rattle.rapid_model.specs.declared.fate.Fault.TheVariants.{JointRange, TrapFlood, ZoneStop}
+use Rattle.rapid_model.specs.declared.fate.Fault.TheVariants.{JointRange, Speed, TrapFlood, ZoneStop}
 use Rattle.rapid_model.specs.declared.request.Request.TheVariants.{Look, Position, Setpoint}
 use Rattle.rapid_model.specs.declared.tree.Stmt.{Stmt}
 use Rattle.rapid_model.specs.declared.tree.Form.{Form}
@@ -44,10 +44,12 @@ move_from target cap (answers.At start) =
     else (λ rest. unfit)
 move_from target cap _ = λ rest. unfit
 
--- what a statement does once it may begin
+-- what a statement does once it may begin: a target out of reach, and then a speed that is not above 0, ends the task
 unfoldable pub perform : Form → Doing
 perform (Move target speed) =
-    if is_reachable target then ask Position (move_from target (cap_of speed)) else end_with (fates.Fault JointRange)
+    if is_reachable target then
+    (if int_lt (pos 0) speed then ask Position (move_from target (cap_of speed)) else end_with (fates.Fault Speed))
+    else end_with (fates.Fault JointRange)
 
 -- goes on where the answer lets the statement begin; too many waiting interrupts end the task
 unfoldable pub when_let : Doing → Answer → Doing

@@ -1,4 +1,5 @@
-//! What trees of moves ask: the definitions that the run theorem cites, and the laws on who asks what.
+//! What a list of moves asks, which is all that a machine runs so far: the meaning of such a list alone, and the laws on who asks
+//! what. What a task means is said by rapid_meaning.
 #![tactic(auto)]
 
 mod laws;

@@ -62,7 +62,7 @@ module _ (rows : Rows) where
     pub longer : length m.known ≡ length n.known + 1
     pub same : m.names.rows ≡ n.names.rows
 
-  abbrev local_by : Inner → PlainDatum → Sort → Initial → Bool → Option (List Value) → Inner
+  abbrev pub local_by : Inner → PlainDatum → Sort → Initial → Bool → Option (List Value) → Inner
   local_by n d sort i scalar elements =
       if scalar then record {
         names = keeping n.names n.consts i.values;
@@ -157,7 +157,7 @@ module _ (rows : Rows) where
   abbrev Done : Tally → (Progress → Type 0) → Progress → Progress → Type 0
   Done c In p q = AreCounted c q × Grow p q × In q
 
-  abbrev datum_by : ℕ → Bool → PlainDatum → Progress → Bool → Bool → Checked Progress
+  abbrev pub datum_by : ℕ → Bool → PlainDatum → Progress → Bool → Bool → Checked Progress
   datum_by number own d p scalar pers =
       if scalar then datum_const number d p
       else if pers then datum_pers number own d p

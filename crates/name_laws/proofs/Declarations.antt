@@ -130,13 +130,13 @@ module _ (tables : Tables) where
   row_later rows more number c (Datum local task d at) g h = datum_later rows more number c d (is_scalar_const d) (is_pers d.kind) g h
   row_later rows more number c (Routine r) g (row, is, typed) = (row, g.routines c.routines row is, typed)
 
-  abbrev rows_by : Rows → Bool → Bool → DatumRow → Rows
+  abbrev pub rows_by : Rows → Bool → Bool → DatumRow → Rows
   rows_by rows scalar pers row =
       if scalar then record { consts = rows.consts ++ row ∷ []; slots = rows.slots; pers = rows.pers; routines = rows.routines }
       else if pers then record { consts = rows.consts; slots = rows.slots; pers = rows.pers ++ row ∷ []; routines = rows.routines }
       else record { consts = rows.consts; slots = rows.slots ++ row ∷ []; pers = rows.pers; routines = rows.routines }
 
-  stays : {A : Type 0} (xs : List A) → IsFront xs xs
+  pub stays : {A : Type 0} (xs : List A) → IsFront xs xs
   stays xs k x is = is
 
   datum_stepped : (number : ℕ) (c : Tally) (d : PlainDatum) (rows : Rows) (row : DatumRow) (scalar pers : Bool) → AreCounted c rows → IsDatumRow number None d row →

@@ -1,11 +1,12 @@
 -- The GOTOs of statements go to labels of their own list or of a list around.
-use Rattle.std.proofs.Common.{◌≡◌, ℕ, suc, ◌+◌, ◌==◌, Bool, true, false, not, ◌||◌, List, [], ◌∷◌, ◌++◌, map, Option, Some, None, Ok, slice_get, refl, sym, ap, subst, ◌∙◌, if◌then◌else◌, bytes_eq, arith}
+use Rattle.std.proofs.Common.{◌≡◌, ℕ, zero, suc, ◌+◌, ◌==◌, Bool, true, false, not, ◌||◌, List, [], ◌∷◌, ◌++◌, map, Option, Some, None, Ok, slice_get, refl, sym, ap, subst, ◌∙◌, if◌then◌else◌, bytes_eq, arith}
 use Rattle.std.specs.List.{Contains, list_any}
 use Rattle.std.specs.Option.{option_map}
 use Rattle.std.specs.Str.{str_to_ascii_lowercase}
 use Rattle.std.proofs.lemmas.Bool.Decides.{Decides-eqb}
 use Rattle.std.proofs.lemmas.List.{map-append}
 use Rattle.std.proofs.lemmas.List.Elements.{Contains-append_right}
+use Rattle.std.proofs.lemmas.Option.{slice_get-map}
 use Rattle.std.proofs.lemmas.Slice.Eq.{bytes_eq-Decides}
 use Rattle.raw_trees.specs.Plain as Raw
 use Rattle.raw_trees.specs.Plain.{PlainName, PlainExpr, PlainPlace, PlainArgs, PlainStmt, PlainStmts, PlainArms, PlainCases, PlainElse, Assign, Call, Label, Goto, Return, Exit, Raise, Retry, TryNext, Connect, If, IfOne, For, While, Test, NoStmts, MoreStmts, NoArms, MoreArms, NoCases, MoreCases, NoElse, Else, stmts_of, else_of}
@@ -33,7 +34,7 @@ use Rattle.expr_types.specs.Typing.{typed, call_arguments, sort_of}
 use Rattle.body_types.specs.Bodies.{Body, Around, Typed, outside, site, into, into_loop, target, place_sort, name_of, no_signal, is_function, trap_meant, assigned, called, call_meant, procedure, labelled, jumped, returned, returned_value, raised, in_handler, connected, bounds, case_values, then_next, stmt, stmts, branches, choices, otherwise}
 use Rattle.body_types.specs.Labels.{own_labels, names_label, labels_of, labels_in, labels_in_arms, labels_in_cases, labels_in_else, label_number, is_first, is_visible}
 use Rattle.stmt_types.specs.Task.{handler_of}
-use Rattle.name_laws.specs.Jumps.{own_label, own, numbers_of, numbers_in, numbers_in_arms, numbers_in_cases, numbers_in_else, Lands, Land, LandInArms, LandInCases, LandInElse, error_part, IsApart, AreApart}
+use Rattle.name_laws.specs.Jumps.{own_label, own, numbers_of, numbers_in, numbers_in_arms, numbers_in_cases, numbers_in_else, Lands, Land, LandInArms, LandInCases, LandInElse, error_part, IsApart, AreApart, AreInOrder}
 
 -- a form without labels, jumps and lists
 record IsSimple (t : TypedStmt) : Type 0 where
@@ -145,6 +146,37 @@ module _ (labels : List PlainName) where
   pub all_apart : (ls : List PlainName) → AreFirst labels ls → AreApart (map (λ x. x.at) ls) → AreApart (numbered labels ls)
   all_apart [] fs h = tt
   all_apart (l ∷ ls) fs h = (one_apart l ls fs.0 fs.1 h.0, all_apart ls fs.1 h.1)
+
+-- what stands at one place alone
+not_behind : (n : ℕ) (ns : List ℕ) (k : ℕ) → IsApart n ns → slice_get ns k ≡ Some n → ⊥
+not_behind n [] k apart at = absurd (cc at)
+not_behind n (m ∷ ns) zero apart at = let e : m ≡ n = cc at in apart.0 (sym e)
+not_behind n (m ∷ ns) (suc k) apart at = not_behind n ns k apart.1 at
+
+one_place : (ns : List ℕ) (i j n : ℕ) → AreApart ns → slice_get ns i ≡ Some n → slice_get ns j ≡ Some n → i ≡ j
+one_place [] i j n apart at also = absurd (cc at)
+one_place (m ∷ ns) zero zero n apart at also = refl
+one_place (m ∷ ns) zero (suc j) n apart at also = let e : m ≡ n = cc at in absurd (not_behind m ns j apart.0 (also ∙ ap Some (sym e)))
+one_place (m ∷ ns) (suc i) zero n apart at also = let e : m ≡ n = cc also in absurd (not_behind m ns i apart.0 (at ∙ ap Some (sym e)))
+one_place (m ∷ ns) (suc i) (suc j) n apart at also = ap suc (one_place ns i j n apart.1 at also)
+
+first_there : (labels ls : List PlainName) (k : ℕ) (l : PlainName) → AreFirst labels ls → slice_get ls k ≡ Some l → is_first l labels ≡ true
+first_there labels [] k l fs at = absurd (cc at)
+first_there labels (m ∷ ls) zero l fs at = let e : m ≡ l = cc at in subst (λ x. is_first x labels ≡ true) e fs.0
+first_there labels (m ∷ ls) (suc k) l fs at = first_there labels ls k l fs.1 at
+
+-- first labels that stand apart are numbered in their order
+pub in_order : (labels : List PlainName) → AreFirst labels labels → AreApart (map (λ x. x.at) labels) → AreInOrder (numbered labels labels)
+in_order labels fs apart place n at = there (slice_get labels place) refl (sym (slice_get-map (number labels) labels place) ∙ at)
+  where
+    there : (o : Option PlainName) → slice_get labels place ≡ o → option_map (number labels) o ≡ Some n → n ≡ place
+    there None is e = absurd (cc e)
+    there (Some l) is e =
+        let same : number labels l ≡ n = cc e in
+        let here : slice_get (map (λ (x : PlainName). x.at) labels) place ≡ Some l.at = slice_get-map (λ (x : PlainName). x.at) labels place ∙ ap (option_map (λ (x : PlainName). x.at)) is in
+        let also : slice_get (map (λ (x : PlainName). x.at) labels) n ≡ Some l.at =
+        slice_get-map (λ (x : PlainName). x.at) labels n ∙ ap (at_in labels) (sym same) ∙ first_at l labels (first_there labels labels place l fs is) in
+        one_place (map (λ (x : PlainName). x.at) labels) n place l.at apart also here
 
 -- the label that a statement is
 abbrev first_label : PlainStmt → List PlainName

@@ -11,3 +11,7 @@ pub mod RoutineJumps
 pub mod Bodies
 pub mod Tree
 pub mod Means
+pub mod ConstRows
+pub mod ConstValues
+pub mod Sources
+pub mod ConstMeans

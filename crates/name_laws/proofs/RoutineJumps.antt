@@ -15,9 +15,9 @@ use Rattle.body_types.specs.Bodies.{outside, stmts, into}
 use Rattle.body_types.specs.Labels.{labels_in, labels_in_else, labels_in_routine}
 use Rattle.stmt_types.specs.Task.{task_of, handler_of, body_of, typed_routine, item_bodies, items_bodies, bodies, main_or, top, main_among, routines_of, most_values, tree_of}
 use Rattle.name_laws.specs.Declared.{StandsIn}
-use Rattle.name_laws.specs.Jumps.{JumpsLand, AreApart, LabelsApart, labels_of_routine}
+use Rattle.name_laws.specs.Jumps.{JumpsLand, AreApart, AreInOrder, LabelsApart, labels_of_routine}
 use Rattle.name_laws.proofs.Items.{Rest, rest_all, rest_first, rest_more}
-use Rattle.name_laws.proofs.Jumps.{numbered, AreFirst, first_append, appended, all_apart, list_done, within, handler_done}
+use Rattle.name_laws.proofs.Jumps.{numbered, AreFirst, first_append, appended, all_apart, in_order, list_done, within, handler_done}
 use Rattle.name_laws.proofs.Meetings.{last_or}
 
 -- of the GOTOs and labels of a typed routine
@@ -81,6 +81,7 @@ module _ (modules : List PlainModule) (names : Names) (locals : List (List Typed
 pub record IsRight (modules : List PlainModule) (t : TypedRoutine) : Type 0 where
   pub lands : JumpsLand t
   pub once : ((number : ℕ) (r : PlainRoutine) → StandsIn modules number (Routine r) → LabelsApart r) → AreApart (labels_of_routine t)
+  pub in_text_order : ((number : ℕ) (r : PlainRoutine) → StandsIn modules number (Routine r) → LabelsApart r) → AreInOrder (labels_of_routine t)
 
 pub jumps_right : (modules : List PlainModule) (tasks : List (List ℕ)) (signals : List SignalRow) (arm : Bool) (tree : TypedTree) → task_of modules tasks signals arm ≡ Ok tree →
     (k : ℕ) (t : TypedRoutine) → slice_get tree.routines k ≡ Some t → IsRight modules t
@@ -98,4 +99,5 @@ jumps_right modules tasks signals arm tree e k t is =
     record {
       lands = one.right.lands;
       once = λ apart. subst AreApart (sym one.right.all) (all_apart labels labels one.right.first (apart one.number one.r one.stands));
+      in_text_order = λ apart. subst AreInOrder (sym one.right.all) (in_order labels one.right.first (apart one.number one.r one.stands));
     })))))

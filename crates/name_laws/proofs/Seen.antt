@@ -1,5 +1,5 @@
 -- Each entry of the scopes of a task's modules is that of a declaration, of which this is true where it stands.
-use Rattle.std.proofs.Common.{◌≡◌, ◌⊎◌, inl, inr, ℕ, zero, suc, ◌+◌, Bool, true, false, List, [], ◌∷◌, ◌++◌, length, Option, Some, None, slice_get, refl, subst, if◌then◌else◌, bytes_eq, arith}
+use Rattle.std.proofs.Common.{◌≡◌, ◌⊎◌, inl, inr, ℕ, zero, suc, ◌+◌, Bool, true, false, List, [], ◌∷◌, ◌++◌, length, Option, Some, None, slice_get, refl, ap, subst, if◌then◌else◌, bytes_eq, arith}
 use Rattle.std.specs.Str.{str_to_ascii_lowercase}
 use Rattle.std.proofs.lemmas.Slice.Eq.{bytes_eq-Decides}
 use Rattle.raw_trees.specs.Plain.{PlainDatum, PlainParam, PlainRoutine, PlainItem, PlainModule, Datum, Routine}
@@ -10,6 +10,7 @@ use Rattle.data_scopes.specs.Loops.{loops_in_routine}
 use Rattle.data_scopes.specs.Numbers.{Tally, is_pers, is_scalar_const, is_local, item_name, item_meant, after_datum, after_item, after_items, param_meant, declare_params, local_meant, declare_locals, routine_scope, own_items, task_items, routine_scopes, task_scope, own_scopes, inner_scopes, items_loops, all_loops, signal_scope, no_counts}
 use Rattle.data_scopes.specs.Scopes.{Scope, Loop, declare, list_at, loop_named, named_or}
 use Rattle.data_scopes.proofs.Within.{after_by}
+use Rattle.name_laws.proofs.ConstRows.{before_more, consts_before}
 use Rattle.name_laws.proofs.Entries.{Holds, EachHolds, holds_declare}
 use Rattle.name_laws.proofs.Items.{Fact, AllItems, AllModules, Rest, rest_all, rest_first, rest_more}
 
@@ -21,42 +22,48 @@ pub record ParamEntry (r : PlainRoutine) (key : List ℕ) (meant : Meant) : Type
   pub named : key ≡ str_to_ascii_lowercase p.name.text
   pub means : meant ≡ param_meant place p.mode
 
--- a datum of a routine, by its place behind the parameters
-pub record LocalEntry (r : PlainRoutine) (key : List ℕ) (meant : Meant) : Type 0 where
+-- a datum of a routine, by its place behind the parameters, and by how many CONSTs stand before it
+pub record LocalEntry (first : ℕ) (r : PlainRoutine) (key : List ℕ) (meant : Meant) : Type 0 where
   pub place : ℕ
   pub consts : ℕ
   pub d : PlainDatum
   pub is_datum : slice_get r.locals place ≡ Some d
   pub named : key ≡ str_to_ascii_lowercase d.name.text
+  pub counted : consts ≡ first + consts_before place r.locals
   pub means : meant ≡ local_meant (length r.params + place) consts d
 
-abbrev pub PlaceEntry : PlainRoutine → List ℕ → Meant → Type 0
-PlaceEntry r key meant = ParamEntry r key meant ⊎ LocalEntry r key meant
+abbrev pub PlaceEntry : ℕ → PlainRoutine → List ℕ → Meant → Type 0
+PlaceEntry first r key meant = ParamEntry r key meant ⊎ LocalEntry first r key meant
 
-params_entered : (r : PlainRoutine) (place : ℕ) (ps : List PlainParam) (scope : Scope) → Rest r.params place ps → Holds (PlaceEntry r) scope → Holds (PlaceEntry r) (declare_params place ps scope)
-params_entered r place [] scope rest all = all
-params_entered r place (p ∷ ps) scope rest all =
-    params_entered r (place + 1) ps _ (rest_more r.params place p ps rest)
-    (holds_declare (PlaceEntry r) p.name.text (param_meant place p.mode) scope
+params_entered : (first : ℕ) (r : PlainRoutine) (place : ℕ) (ps : List PlainParam) (scope : Scope) → Rest r.params place ps → Holds (PlaceEntry first r) scope → Holds (PlaceEntry first r) (declare_params place ps scope)
+params_entered first r place [] scope rest all = all
+params_entered first r place (p ∷ ps) scope rest all =
+    params_entered first r (place + 1) ps _ (rest_more r.params place p ps rest)
+    (holds_declare (PlaceEntry first r) p.name.text (param_meant place p.mode) scope
     (inl (record { place = place; p = p; is_param = rest_first r.params place p ps rest; named = refl; means = refl })) all)
 
-locals_entered : (r : PlainRoutine) (place consts : ℕ) (ds : List PlainDatum) (scope : Scope) → Rest r.locals place ds → Holds (PlaceEntry r) scope → Holds (PlaceEntry r) (declare_locals (length r.params + place) consts ds scope)
-locals_entered r place consts [] scope rest all = all
-locals_entered r place consts (d ∷ ds) scope rest all =
-    let next = consts + (if is_scalar_const d then 1 else 0) in
+locals_entered : (first : ℕ) (r : PlainRoutine) (place consts : ℕ) (ds : List PlainDatum) (scope : Scope) → Rest r.locals place ds → consts ≡ first + consts_before place r.locals → Holds (PlaceEntry first r) scope
+    → Holds (PlaceEntry first r) (declare_locals (length r.params + place) consts ds scope)
+locals_entered first r place consts [] scope rest counted all = all
+locals_entered first r place consts (d ∷ ds) scope rest counted all =
+    let one : ℕ = if is_scalar_const d then 1 else 0 in
+    let next = consts + one in
     let entered = declare d.name.text (local_meant (length r.params + place) consts d) scope in
+    let there = rest_first r.locals place d ds rest in
     let e : length r.params + (place + 1) ≡ (length r.params + place) + 1 = omega arith in
-    subst (λ n. Holds (PlaceEntry r) (declare_locals n next ds entered)) e
-    (locals_entered r (place + 1) next ds entered (rest_more r.locals place d ds rest)
-    (holds_declare (PlaceEntry r) d.name.text (local_meant (length r.params + place) consts d) scope
-    (inr (record { place = place; consts = consts; d = d; is_datum = rest_first r.locals place d ds rest; named = refl; means = refl })) all))
+    let step : place + 1 ≡ suc place = omega arith in
+    let more : consts + one ≡ first + consts_before (place + 1) r.locals = omega (arith, counted, before_more r.locals place d there, ap (λ k. consts_before k r.locals) step) in
+    subst (λ n. Holds (PlaceEntry first r) (declare_locals n next ds entered)) e
+    (locals_entered first r (place + 1) next ds entered (rest_more r.locals place d ds rest) more
+    (holds_declare (PlaceEntry first r) d.name.text (local_meant (length r.params + place) consts d) scope
+    (inr (record { place = place; consts = consts; d = d; is_datum = there; named = refl; counted = counted; means = refl })) all))
 
-routine_entered : (c : Tally) (r : PlainRoutine) → Holds (PlaceEntry r) (routine_scope c r)
+routine_entered : (c : Tally) (r : PlainRoutine) → Holds (PlaceEntry c.consts r) (routine_scope c r)
 routine_entered c r =
     let params = declare_params 0 r.params [] in
     let e : length r.params + 0 ≡ length r.params = omega arith in
-    subst (λ n. Holds (PlaceEntry r) (declare_locals n c.consts r.locals params)) e
-    (locals_entered r 0 c.consts r.locals params (rest_all r.locals) (params_entered r 0 r.params [] (rest_all r.params) tt))
+    subst (λ n. Holds (PlaceEntry c.consts r) (declare_locals n c.consts r.locals params)) e
+    (locals_entered c.consts r 0 c.consts r.locals params (rest_all r.locals) (omega arith) (params_entered c.consts r 0 r.params [] (rest_all r.params) tt))
 
 -- entries that are such by one test are by another
 holds_more : (P Q : List ℕ → Meant → Type 0) (scope : Scope) → ((key : List ℕ) (meant : Meant) → P key meant → Q key meant) → Holds P scope → Holds Q scope
@@ -90,7 +97,7 @@ module _ (A : Fact) where
     pub r : PlainRoutine
     pub holds : A number c (Routine r)
     pub is_it : c.routines ≡ routine
-    pub entry : PlaceEntry r key meant
+    pub entry : PlaceEntry c.consts r key meant
 
   own_if : (number : ℕ) (c : Tally) (item : PlainItem) (scope : Scope) (b : Bool) → is_local item ≡ b → A number c item → Holds (ItemEntry true number) scope →
       Holds (ItemEntry true number) (if b then declare (item_name item).text (item_meant c item) scope else scope)
@@ -131,7 +138,7 @@ module _ (A : Fact) where
       subst (λ n. EachHolds InnerEntry n (routine_scopes (after_datum c d) items ++ rest)) (no_routine c (is_scalar_const d) (is_pers d.kind))
       (inner_entered number (after_datum c d) items rest h.1 all)
   inner_entered number c (Routine r ∷ items) rest h all = (
-    holds_more (PlaceEntry r) (InnerEntry c.routines) (routine_scope c r)
+    holds_more (PlaceEntry c.consts r) (InnerEntry c.routines) (routine_scope c r)
         (λ key meant entry. record { number = number; c = c; r = r; holds = h.0; is_it = refl; entry = entry })
         (routine_entered c r),
     inner_entered number (after_item c (Routine r)) items rest h.1 all,

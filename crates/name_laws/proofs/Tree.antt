@@ -58,7 +58,7 @@ module _ (tables : Tables) (number around : ℕ) where
   params_rows (p ∷ ps) (row ∷ rows) h = (record { name = refl; mode = h.0.mode; sort = h.0.sort }, params_rows ps rows h.1)
 
   module _ (rows : Rows) (row : RoutineRow) (n : ℕ) (found : slice_get rows.routines around ≡ Some row) (as_many : n ≡ length row.params) where
-    local_sort : (place : ℕ) (d : DatumRow) → slice_get row.locals place ≡ Some d → sort_in (local_of rows (Some around) (n + place)) ≡ d.sort
+    pub local_sort : (place : ℕ) (d : DatumRow) → slice_get row.locals place ≡ Some d → sort_in (local_of rows (Some around) (n + place)) ≡ d.sort
     local_sort place d is =
         ap (λ o. sort_in (option_and_then (λ r. place_row r (n + place)) o)) found
         ∙ ap sort_in (place_found row n place as_many ∙ is)
@@ -197,11 +197,11 @@ none_alike : (rows : List DatumRow) → AreAlike [] rows
 none_alike rows k row is = absurd (cc)
 
 -- the rows of names, one for each declaration
-record HaveRows (modules : List PlainModule) (signals : List SignalRow) (rows : Rows) : Type 0 where
+pub record HaveRows (modules : List PlainModule) (signals : List SignalRow) (rows : Rows) : Type 0 where
   pub counted : (after_modules no_counts modules).slots ≡ length rows.slots
   pub all : AllModules (declared.RowIn (tables_of modules signals) rows) 0 no_counts modules
 
-rows_of_names : (modules : List PlainModule) (signals : List SignalRow) (arm : Bool) (names : Names) → names_of modules signals arm ≡ Ok names → HaveRows modules signals names.rows
+pub rows_of_names : (modules : List PlainModule) (signals : List SignalRow) (arm : Bool) (names : Names) → names_of modules signals arm ≡ Ok names → HaveRows modules signals names.rows
 rows_of_names modules signals arm names e =
     let tables = tables_of modules signals in
     let P : Type 0 = HaveRows modules signals names.rows in

@@ -1,5 +1,5 @@
--- To which labels the GOTOs of a typed routine go, and that no label is another one.
-use Rattle.std.specs.Prelude.{◌≢◌, ℕ, List, [], ◌∷◌, ◌++◌, map, Option, Some, None}
+-- To which labels the GOTOs of a typed routine go, that no label is another one, and how labels are numbered.
+use Rattle.std.specs.Prelude.{◌≡◌, ◌≢◌, ℕ, List, [], ◌∷◌, ◌++◌, map, Option, Some, None, slice_get}
 use Rattle.std.specs.List.{Contains}
 use Rattle.raw_trees.specs.Plain.{PlainRoutine}
 use Rattle.typed_trees.specs.Plain.{TypedStmt, TypedStmts, TypedArms, TypedCases, TypedElse, TypedRoutine, Label, Goto, If, IfOne, For, While, Test, NoStmts, MoreStmts, NoArms, MoreArms, NoCases, MoreCases, NoElse, Else}
@@ -86,6 +86,10 @@ IsApart x (y ∷ ys) = (x ≢ y) × IsApart x ys
 abbrev pub AreApart : List ℕ → Type 0
 AreApart [] = Unit {0}
 AreApart (x ∷ xs) = IsApart x xs × AreApart xs
+
+-- each number is its place, from 0
+abbrev pub AreInOrder : List ℕ → Type 0
+AreInOrder numbers = (place number : ℕ) → slice_get numbers place ≡ Some number → number ≡ place
 
 -- the labels of a routine stand at different bytes, as those of each text do
 abbrev pub LabelsApart : PlainRoutine → Type 0

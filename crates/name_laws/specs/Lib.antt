@@ -3,3 +3,4 @@ pub mod Rows
 pub mod Meant
 pub mod Meetings
 pub mod Jumps
+pub mod Constants

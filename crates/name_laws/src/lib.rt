@@ -13,9 +13,11 @@ ghost use Rattle.data_scopes.specs.Meetings.{is_meeting};
 ghost use Rattle.data_scopes.specs.Naming.{names_of};
 ghost use Rattle.data_scopes.specs.Numbers.{tables_of};
 ghost use Rattle.data_scopes.specs.Scopes.{Names, meaning};
+ghost use Rattle.decl_types.specs.Data.{Progress, beginning, data_of};
 ghost use Rattle.stmt_types.specs.Task.{task_of};
+ghost use Rattle.name_laws.specs.Constants.{IsConst};
 ghost use Rattle.name_laws.specs.Declared.{StandsIn};
-ghost use Rattle.name_laws.specs.Jumps.{AreApart, JumpsLand, LabelsApart, labels_of_routine};
+ghost use Rattle.name_laws.specs.Jumps.{AreApart, AreInOrder, JumpsLand, LabelsApart, labels_of_routine};
 ghost use Rattle.name_laws.specs.Meant.{HasItsRow};
 ghost use Rattle.name_laws.specs.Meetings.{IsMeeting};
 
@@ -25,9 +27,12 @@ pub fn numbers_have_their_rows()
     ensures { (modules : List PlainModule) (tasks : List (List ℕ)) (signals : List SignalRow) (arm : Bool) (tree : TypedTree) → task_of modules tasks signals arm ≡ Ok tree → (spot : Spot) (name : List ℕ) (meant : Meant) → meaning (tables_of modules signals) spot name ≡ Some meant → HasItsRow modules signals tree spot name meant }
 {}
 
-/// The number of a CONST that is no array, of a module or of a routine, has a place among the values that are kept.
+/// The number of a CONST that is no array, of a module or of a routine, has a place among the values that are kept; it is that of a
+/// declaration of the name that is seen there; its row is the one of that declaration, and so is the value that is kept for it once
+/// the data of the modules are checked.
 pub fn constants_have_their_places()
-    ensures { (modules : List PlainModule) (signals : List SignalRow) (arm : Bool) (names : Names) → names_of modules signals arm ≡ Ok names → (spot : Spot) (name : List ℕ) (k : ℕ) → meaning (tables_of modules signals) spot name ≡ Some (meants.Const k) → (k < length names.kept) × (k < length names.rows.consts) }
+    ensures places { (modules : List PlainModule) (signals : List SignalRow) (arm : Bool) (names : Names) → names_of modules signals arm ≡ Ok names → (spot : Spot) (name : List ℕ) (k : ℕ) → meaning (tables_of modules signals) spot name ≡ Some (meants.Const k) → (k < length names.kept) × (k < length names.rows.consts) }
+    ensures which { (modules : List PlainModule) (tasks : List (List ℕ)) (signals : List SignalRow) (arm : Bool) (tree : TypedTree) (names : Names) (p : Progress) → task_of modules tasks signals arm ≡ Ok tree → names_of modules signals arm ≡ Ok names → data_of 0 modules (beginning names) ≡ Ok p → (spot : Spot) (name : List ℕ) (k : ℕ) → meaning (tables_of modules signals) spot name ≡ Some (meants.Const k) → IsConst modules signals tree p.names spot name k }
 {}
 
 /// Where a VAR is a meeting, its row in the tree is a syncident's, and the tree's meeting of the number that is counted there has
@@ -37,8 +42,9 @@ pub fn meetings_have_their_names()
 {}
 
 /// Each GOTO of a checked routine goes to a label that stands in its own list or in one around it; and where the labels of the
-/// routines stand at different bytes, as in each text, no label of a routine is another one.
+/// routines stand at different bytes, as in each text, no label of a routine is another one, and they are numbered in text order.
 pub fn jumps_have_one_label()
     ensures lands { (modules : List PlainModule) (tasks : List (List ℕ)) (signals : List SignalRow) (arm : Bool) (tree : TypedTree) → task_of modules tasks signals arm ≡ Ok tree → (routine : ℕ) (t : TypedRoutine) → slice_get tree.routines routine ≡ Some t → JumpsLand t }
     ensures once { (modules : List PlainModule) (tasks : List (List ℕ)) (signals : List SignalRow) (arm : Bool) (tree : TypedTree) → task_of modules tasks signals arm ≡ Ok tree → ((number : ℕ) (r : PlainRoutine) → StandsIn modules number (Routine r) → LabelsApart r) → (routine : ℕ) (t : TypedRoutine) → slice_get tree.routines routine ≡ Some t → AreApart (labels_of_routine t) }
+    ensures in_text_order { (modules : List PlainModule) (tasks : List (List ℕ)) (signals : List SignalRow) (arm : Bool) (tree : TypedTree) → task_of modules tasks signals arm ≡ Ok tree → ((number : ℕ) (r : PlainRoutine) → StandsIn modules number (Routine r) → LabelsApart r) → (routine : ℕ) (t : TypedRoutine) → slice_get tree.routines routine ≡ Some t → AreInOrder (labels_of_routine t) }
 {}

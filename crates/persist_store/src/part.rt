@@ -1,4 +1,4 @@
-ghost use Rattle.std.specs.Prelude.{◌≡◌, ◌<◌, length, IsTrue};
+ghost use Rattle.std.specs.Prelude.{◌<◌, length, IsTrue};
 ghost use Rattle.rapid_model.specs.Paths.{fits_part, has_element};
 ghost use Rattle.persist_store.specs.Stores.{IsStored, row_at};
 

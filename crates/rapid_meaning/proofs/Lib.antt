@@ -9,3 +9,4 @@ pub mod Composing
 pub mod ConstantsAgree
 mod ConstantArrays
 pub mod Setpoints
+pub mod Asking

@@ -22,3 +22,4 @@ pub mod Frames
 pub mod Calls
 pub mod Runs
 pub mod Constants
+pub mod Asking

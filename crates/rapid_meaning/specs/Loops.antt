@@ -31,24 +31,30 @@ set_counter routine local which n = do
 abbrev pub direction : ℤ → ℤ → ℤ
 direction first last = if int_lt last first then neg_ℤ (pos 1_000) else pos 1_000
 
--- The bounds and the step. All that is given is evaluated before any is stored; where no step is, it is found from the two
--- others as they are stored.
+-- The bounds and the step. As in an assignment, each place comes before its value. All that is given is evaluated before any
+-- is stored; where no step is, it is found from the two others as they are stored.
 abbrev pub bounds : TypedTree → TypedRoutine → ℕ → TypedExpr → TypedExpr → Option TypedExpr → Act
 bounds tree routine local first last (Some step) = do
+  variable ← counter_place routine local 0
   from ← num tree routine first
+  limit ← counter_place routine local 1
   to ← num tree routine last
+  increment ← counter_place routine local 2
   by ← num tree routine step
-  set_counter routine local 2 by
-  set_counter routine local 1 to
-  set_counter routine local 0 from
+  write_value increment (values.Num by)
+  write_value limit (values.Num to)
+  write_value variable (values.Num from)
 bounds tree routine local first last None = do
+  variable ← counter_place routine local 0
   from ← num tree routine first
+  limit ← counter_place routine local 1
   to ← num tree routine last
-  set_counter routine local 1 to
-  set_counter routine local 0 from
-  variable ← counter routine local 0
-  limit ← counter routine local 1
-  set_counter routine local 2 (direction variable limit)
+  write_value limit (values.Num to)
+  write_value variable (values.Num from)
+  increment ← counter_place routine local 2
+  begins ← counter routine local 0
+  ends ← counter routine local 1
+  write_value increment (values.Num (direction begins ends))
 
 -- the variable has passed the last value; a step of zero counts up
 abbrev pub has_passed : ℤ → ℤ → ℤ → Bool

@@ -12,6 +12,7 @@ ghost use Rattle.constant_meaning.specs.Constants.{Elements, constant_value};
 ghost use Rattle.constant_meaning.specs.declared.outcome.Outcome.TheVariants as constant;
 ghost use Rattle.typed_trees.specs.Plain.{TypedExpr, TypedRoutine, TypedTree};
 ghost use Rattle.rapid_meaning.specs.Answering.{Asking, Ended, Gave, NoFuel, Run, Unfit, fitting_of, performed};
+ghost use Rattle.rapid_meaning.specs.Asking.{tree_asks};
 ghost use Rattle.rapid_meaning.specs.Constants.{HoldsArrays};
 ghost use Rattle.rapid_meaning.specs.Data.{Data};
 ghost use Rattle.rapid_meaning.specs.Expressions.{expr};
@@ -45,4 +46,10 @@ pub fn constants_come_to_their_values()
 /// A law: from where the arm is, a move asks for each planned setpoint in turn.
 pub fn moves_are_planned()
     ensures { (by : Bool → Fitting) (run : Run) (start target : Joints) (speed : ℤ) (given : ℕ) (d : Data) → IsTrue (is_position start) → IsTrue (is_reachable target) → IsTrue (int_lt (pos 0) speed) → given < setpoint_count start target (cap_of speed) → performed by run (move target speed) d (At start ∷ replicate given Given) ≡ Asking (Setpoint (setpoint start target (setpoint_count start target (cap_of speed)) (given + 1))) d }
+{}
+
+/// A law: after given answers a task asks one request at most, and none but the tasks ask.
+pub fn tasks_ask_one_request()
+    ensures one { (trees : List TypedTree) (actor : ℕ) (answers : List Answer) (r r' : Request) → tree_asks trees actor answers r → tree_asks trees actor answers r' → r ≡ r' }
+    ensures within { (trees : List TypedTree) (actor : ℕ) (answers : List Answer) (request : Request) → tree_asks trees actor answers request → actor < length trees }
 {}

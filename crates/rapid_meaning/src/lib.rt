@@ -3,4 +3,7 @@
 
 mod laws;
 
-pub use laws::{constants_come_to_their_values, fuel_is_enough, moves_are_planned, runs_go_on};
+pub use laws::{
+    constants_come_to_their_values, fuel_is_enough, moves_are_planned, runs_go_on,
+    tasks_ask_one_request,
+};

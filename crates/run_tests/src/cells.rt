@@ -29,7 +29,7 @@ const ANY_LAYOUT: &[u8] =
     b"%%%\nVERSION:1\n%%%\nmodule m proc MAIN() movEabsj [[1, 0x0, 0b0,0,0,0],\n[9e9,9E+09,9e9,9e9,9e9,9e9]] \\noeoffs, V1000, FINE, tool0; ! done\nendproc endmodule\n";
 
 /// Modules, each with the place and the rule of its refusal.
-static REFUSED: [(&[u8], &[u8]); 19] = [
+static REFUSED: [(&[u8], &[u8]); 20] = [
     (ASSIGNS, b"3:1 NoName\n"),
     (
         b"MODULE M\nPROC main()\nMoveAbsJ [[0,0,0,0,0,0],[9E9,9E9,9E9,9E9,9E9,9E9]]\\NoEOffs, v5, fine, tool0;\n! no move\n  TPErase;\nENDPROC\nENDMODULE\n",
@@ -37,7 +37,11 @@ static REFUSED: [(&[u8], &[u8]); 19] = [
     ),
     (b"\nMODULE M\nENDMODULE\n", b"1:1 NoMain\n"),
     (
-        b"MODULE M\nVAR num n;\nPROC main()\nENDPROC\nENDMODULE\n",
+        b"MODULE M\nVAR num n;\nPROC main()\n  n := 1;\nENDPROC\nENDMODULE\n",
+        b"4:3 NotBuilt\n",
+    ),
+    (
+        b"MODULE M\nPROC main()\nVAR num n;\nENDPROC\nENDMODULE\n",
         b"2:1 NotBuilt\n",
     ),
     (
@@ -107,6 +111,18 @@ const PERS_NUM: &[u8] = b"MODULE M\nPERS num n := 1;\nPROC main()\nENDPROC\nENDM
 const PERS_STRING: &[u8] = b"MODULE M\nPERS string n := \"a\";\nPROC main()\nENDPROC\nENDMODULE\n";
 
 const NO_ITEMS: &[u8] = b"MODULE N\nENDMODULE\n";
+
+/// Data of a module, of which a move takes the constants.
+const DATA: &[u8] =
+    b"MODULE N\nCONST num far := 1.25;\nVAR intnum i;\nPERS string s := \"a\";\nCONST speeddata slow := [2*500,500,5000,1000];\nENDMODULE\n";
+
+const MOVES_BY_DATA: &[u8] =
+    b"MODULE M\nPROC main()\nMoveAbsJ [[2*far,0,0,0,0,0],[9E9,9E9,9E9,9E9,9E9,9E9]], slow, fine, tool0 \\WObj:=wobj0;\nENDPROC\nENDMODULE\n";
+
+const NO_SPEED: &[u8] =
+    b"MODULE M\nPROC main()\nMoveAbsJ [[1,0,0,0,0,0],[9E9,9E9,9E9,9E9,9E9,9E9]], [0,500,5000,1000], fine, tool0;\nENDPROC\nENDMODULE\n";
+
+const ANOTHER_ROUTINE: &[u8] = b"MODULE N\nVAR num n;\n  PROC more()\n  ENDPROC\nENDMODULE\n";
 
 const NOTHING_TO_DO: &[u8] = b"MODULE M\nPROC main()\nENDPROC\nENDMODULE\n";
 
@@ -203,6 +219,20 @@ fn other_moves(rt: HostRuntime) -> Result<(), Fail> {
         &fault,
         rt.alloc(),
     )?;
+    let still: [&[u8]; 1] = [b"E A Fault Speed\n"];
+    printed(&rt, &round(rt.alloc(), NO_SPEED)?, 1, &still, rt.alloc())?;
+    Ok(())
+}
+
+/// A second module has data alone; a constant target and speed are reckoned before the run.
+#[test]
+fn data_of_modules(rt: HostRuntime) -> Result<(), Fail> {
+    let alloc = rt.alloc();
+    let words = &["round", "cell"];
+    let left = outcome_of(alloc, words, TWO_MODULES, [MOVES_BY_DATA, DATA], None)?;
+    printed(&rt, &left, 0, &ONE_MOVE_LINES, alloc)?;
+    let left = outcome_of(alloc, words, TWO_MODULES, [ONE_MOVE, NO_ITEMS], None)?;
+    printed(&rt, &left, 0, &ONE_MOVE_LINES, alloc)?;
     Ok(())
 }
 
@@ -387,15 +417,16 @@ static NOT_BUILT: [RefusedCell; 3] = [
     ),
     (
         TWO_MODULES,
-        [ONE_MOVE, NO_ITEMS],
+        [ONE_MOVE, ANOTHER_ROUTINE],
         4,
-        b"rapid_cell: module b.mod 1:1 NotBuilt\n",
+        b"rapid_cell: module b.mod 3:3 NotBuilt\n",
     ),
+    // The modules in their order, whatever stands in them.
     (
-        ONE_VALUE,
-        [PERS_NUM, b""],
+        TWO_MODULES,
+        [ANOTHER_ROUTINE, ONE_MOVE],
         4,
-        b"rapid_cell: module a.mod 2:1 NotBuilt\n",
+        b"rapid_cell: module a.mod 3:3 NotBuilt\n",
     ),
 ];
 

@@ -1,4 +1,4 @@
-ghost use Rattle.std.specs.Prelude.{◌≡◌, ◌<◌, ◌^◌, nat_lt};
+ghost use Rattle.std.specs.Prelude.{◌≡◌, nat_lt};
 ghost use Rattle.sync_tasks.specs.Meetings.{arrivals};
 
 /// How a task stands at a meeting: how often it went on from there, and whether it waits there.

@@ -8,7 +8,7 @@ use Rattle.joint_planner.specs.Setpoints.{setpoint}
 use Rattle.rapid_model.specs.declared.answer.Answer.{Answer}
 use Rattle.rapid_model.specs.declared.answer.Answer.TheVariants as answers
 use Rattle.rapid_model.specs.declared.fate.Fate.TheVariants as fates
-use Rattle.rapid_model.specs.declared.fate.Fault.TheVariants.{JointRange, TrapFlood, ZoneStop}
+use Rattle.rapid_model.specs.declared.fate.Fault.TheVariants.{JointRange, Speed, TrapFlood, ZoneStop}
 use Rattle.rapid_model.specs.declared.request.Request.{Request}
 use Rattle.rapid_model.specs.declared.request.Request.TheVariants.{Look, Position, Setpoint, End}
 use Rattle.rapid_model.specs.declared.tree.Tree.{Tree}
@@ -22,26 +22,37 @@ use Rattle.rapid_model.specs.declared.zone_name.ZoneName.{ZoneName}
 use Rattle.move_meaning.specs.Statements.{setpoints, when_given, move_from, perform, when_let, attempt, perform_list}
 use Rattle.task_machine.specs.Left.{rest_located, list_located, left_at}
 use Rattle.task_machine.specs.MachineData.{request_at}
-use Rattle.task_machine.specs.Stages.{target_of, count_of, starts_in_reach, KeepsStage}
+use Rattle.task_machine.specs.Stages.{has_speed, target_of, count_of, starts_in_reach, KeepsStage}
 use Rattle.task_machine.specs.Standing.{StandsFor}
 use Rattle.task_machine.specs.declared.stage.Stage.{Stage}
 use Rattle.task_machine.specs.declared.stage.Stage.TheVariants.{Fresh, Looking, Locating, Moving, Ending}
 
-attempt-reachable : (form : Form) (seen : ℕ) (more : List Answer) → IsTrue (is_reachable (target_of form))
+attempt-reachable : (form : Form) (seen : ℕ) (more : List Answer) → IsTrue (is_reachable (target_of form)) → IsTrue (has_speed form)
     → attempt form (answers.Go seen ∷ more) ≡ rest_located form more
 unfolding ask when_let perform attempt
-attempt-reachable (Move target speed) seen more reach = rw reach refl
+attempt-reachable (Move target speed) seen more reach fast = rw (reach, fast) refl
+
+attempt-slow : (form : Form) (seen : ℕ) (more : List Answer) → IsTrue (is_reachable (target_of form)) → has_speed form ≡ false
+    → attempt form (answers.Go seen ∷ more) ≡ ends (fates.Fault Speed) more
+unfolding ask when_let perform attempt
+attempt-slow (Move target speed) seen more reach slow = rw (reach, slow) refl
 
 attempt-unreachable : (form : Form) (seen : ℕ) (more : List Answer) → is_reachable (target_of form) ≡ false
     → attempt form (answers.Go seen ∷ more) ≡ ends (fates.Fault JointRange) more
 unfolding ask when_let perform attempt
 attempt-unreachable (Move target speed) seen more out = rw out refl
 
--- a move in reach asks where the arm is
-pub looked_in_reach : (s : Stmt) (ss : List Stmt) (seen : ℕ) (more : List Answer) → IsTrue (is_reachable (target_of s.form))
+-- a move in reach, at a speed, asks where the arm is
+pub looked_in_reach : (s : Stmt) (ss : List Stmt) (seen : ℕ) (more : List Answer) → IsTrue (is_reachable (target_of s.form)) → IsTrue (has_speed s.form)
     → next_of (perform_list (s ∷ ss) (answers.Go seen ∷ more)) ≡ next_of (list_located (s ∷ ss) more)
 unfolding perform_list and_then
-looked_in_reach s ss seen more reach = rw (attempt-reachable s.form seen more reach) refl
+looked_in_reach s ss seen more reach fast = rw (attempt-reachable s.form seen more reach fast) refl
+
+-- one without a speed ends the task
+pub looked_slow : (s : Stmt) (ss : List Stmt) (seen : ℕ) (more : List Answer) → IsTrue (is_reachable (target_of s.form)) → has_speed s.form ≡ false
+    → next_of (perform_list (s ∷ ss) (answers.Go seen ∷ more)) ≡ told (fates.Fault Speed) more
+unfolding perform_list and_then
+looked_slow s ss seen more reach slow = rw (attempt-slow s.form seen more reach slow) refl
 
 -- one out of reach ends the task
 pub looked_out_of_reach : (s : Stmt) (ss : List Stmt) (seen : ℕ) (more : List Answer) → is_reachable (target_of s.form) ≡ false
@@ -101,9 +112,14 @@ unfolding perform_list
 left-none list begun more end = rw (end, drop-length list) refl
 
 pub left-looked_in_reach : (list : List Stmt) (begun : ℕ) (s : Stmt) (seen : ℕ) (more : List Answer) → drop begun list ≡ s ∷ drop (begun + 1) list
-    → IsTrue (is_reachable (target_of s.form))
+    → IsTrue (is_reachable (target_of s.form)) → IsTrue (has_speed s.form)
     → next_of (perform_list (drop begun list) (answers.Go seen ∷ more)) ≡ next_of (list_located (drop begun list) more)
-left-looked_in_reach list begun s seen more first reach = rw first (looked_in_reach s (drop (begun + 1) list) seen more reach)
+left-looked_in_reach list begun s seen more first reach fast = rw first (looked_in_reach s (drop (begun + 1) list) seen more reach fast)
+
+pub left-looked_slow : (list : List Stmt) (begun : ℕ) (s : Stmt) (seen : ℕ) (more : List Answer) → drop begun list ≡ s ∷ drop (begun + 1) list
+    → IsTrue (is_reachable (target_of s.form)) → has_speed s.form ≡ false
+    → next_of (perform_list (drop begun list) (answers.Go seen ∷ more)) ≡ told (fates.Fault Speed) more
+left-looked_slow list begun s seen more first reach slow = rw first (looked_slow s (drop (begun + 1) list) seen more reach slow)
 
 pub left-looked_out_of_reach : (list : List Stmt) (begun : ℕ) (s : Stmt) (seen : ℕ) (more : List Answer) → drop begun list ≡ s ∷ drop (begun + 1) list
     → is_reachable (target_of s.form) ≡ false

@@ -1,5 +1,5 @@
 -- What each stage of a machine keeps.
-use Rattle.std.specs.Prelude.{ℕ, ◌<◌, Bool, false, IsTrue, List, [], ◌∷◌, length, drop}
+use Rattle.std.specs.Prelude.{ℕ, ◌<◌, Bool, false, pos, int_lt, IsTrue, List, [], ◌∷◌, length, drop}
 use Rattle.rapid_num.specs.Reach.{is_reachable}
 use Rattle.rapid_num.specs.declared.joints.Joints.{Joints}
 use Rattle.joint_planner.specs.Setpoints.{setpoint_count}
@@ -14,6 +14,10 @@ use Rattle.task_machine.specs.declared.stage.Stage.TheVariants.{Fresh, Looking, 
 
 abbrev pub target_of : Form → Joints
 target_of (Move target speed) = target
+
+-- its speed is above 0
+abbrev pub has_speed : Form → Bool
+has_speed (Move target speed) = int_lt (pos 0) speed
 
 -- how many setpoints the statement has from this position
 abbrev pub count_of : Form → Joints → ℕ

@@ -5,7 +5,7 @@ ghost use Rattle.move_meaning.specs.Runs.{next_of};
 ghost use Rattle.move_meaning.specs.Statements.{perform_list};
 ghost use Rattle.task_machine.specs.MachineData.{request_at};
 ghost use Rattle.task_machine.specs.Left.{left_at};
-ghost use Rattle.task_machine.specs.Stages.{KeepsStage, target_of};
+ghost use Rattle.task_machine.specs.Stages.{KeepsStage, has_speed, target_of};
 ghost use Rattle.task_machine.specs.Standing.{fits_last};
 ghost use Rattle.task_machine.specs.declared.stage.Stage.TheVariants as stages;
 
@@ -61,6 +61,14 @@ fn target_of(form: &Form) -> &Joints
     }
 }
 
+/// Whether the speed is above 0.
+fn has_speed(form: &Form) -> bool
+    ensures { result ≡ has_speed form.now }
+{
+    let Form::Move { target: _, speed } = form;
+    speed.thousandths() > 0
+}
+
 /// The cell told whether the statement may begin; too many waiting interrupts end the task.
 fn after_look(tree: &Tree, begun: usize, answer: Answer) -> Stage
     requires some { begun < length tree.now.list }
@@ -78,18 +86,23 @@ fn after_look(tree: &Tree, begun: usize, answer: Answer) -> Stage
     }
 }
 
-/// The statement may begin: where its target is out of reach the task ends with a fault.
+/// The statement may begin: where its target is out of reach, or else its speed is not above 0, the task ends with a fault.
 fn after_leave(tree: &Tree, begun: usize) -> Stage
     requires { begun < length tree.now.list }
     ensures kept { KeepsStage tree.now.list begun result }
     ensures some { IsSome (request_at result) }
     ensures left { (seen : ℕ) (more : List Answer) → left_at tree.now begun stages.Looking (answers.Go seen ∷ more) ≡ left_at tree.now begun result more }
 {
-    if target_of(&under_way(tree, begun).form).is_reachable() {
+    let form = &under_way(tree, begun).form;
+    if !target_of(form).is_reachable() {
+        Stage::Ending {
+            fate: Fate::Fault(Fault::JointRange),
+        }
+    } else if has_speed(form) {
         Stage::Locating
     } else {
         Stage::Ending {
-            fate: Fate::Fault(Fault::JointRange),
+            fate: Fate::Fault(Fault::Speed),
         }
     }
 }

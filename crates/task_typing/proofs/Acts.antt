@@ -2,6 +2,7 @@
 use Rattle.std.proofs.Common.{◌≡◌, refl, sym, ap, subst, ℕ, zero, suc, ◌+◌, ◌-◌, ◌^◌, ◌<◌, ◌≤◌, Bool, true, false, not, ℤ, pos, int_lt, List, [], ◌∷◌, length, Option, Some, None, Result, Ok, Err, slice_get, position, bytes_eq, if◌then◌else◌, IsTrue, arith}
 use Rattle.std.specs.Prelude.{⊤}
 use Rattle.std.specs.Option.{option_map}
+use Rattle.std.proofs.lemmas.Bool.{not-false}
 use Rattle.std.proofs.lemmas.List.Quantifiers.{position-Some}
 use Rattle.std.specs.Ordering.{int_eq}
 use Rattle.rapid_num.specs.Reach.{is_position, is_reachable}
@@ -10,7 +11,6 @@ use Rattle.rapid_num.specs.declared.shape.Shape.{Shape}
 use Rattle.joint_planner.specs.Setpoints.{setpoint, setpoint_count}
 use Rattle.joint_planner.proofs.Setpoints.{setpoint_position}
 use Rattle.rapid_model.specs.declared.answer.Answer.TheVariants as answers
-use Rattle.rapid_model.specs.declared.fate.Fault.{Fault}
 use Rattle.rapid_model.specs.declared.fate.Fault.TheVariants as faults
 use Rattle.rapid_model.specs.declared.part_name.PartName.TheVariants as parts
 use Rattle.rapid_model.specs.declared.request.Request.TheVariants as requests
@@ -27,6 +27,7 @@ use Rattle.typed_trees.specs.declared.datum.Lvalue.{Lvalue}
 use Rattle.typed_trees.specs.declared.datum.Root.{Root}
 use Rattle.typed_trees.specs.declared.datum.Root.TheVariants as roots
 use Rattle.typed_trees.specs.declared.expr.TreeRoot.TheVariants as tree_roots
+use Rattle.rapid_meaning.specs.Answering.{is_trap_row}
 use Rattle.rapid_meaning.specs.Doings.{Act, Asks, Doing, Gives, ◌>>=◌, ◌>>◌, done, fault, tells, when_ok}
 use Rattle.rapid_meaning.specs.Expressions.{expr, lent_length, place}
 use Rattle.rapid_meaning.specs.Functions.{read_signal}
@@ -96,37 +97,37 @@ bit_expr i e is = safe_then (scene i) (HasSort sorts.Num) Anything (expr i.c.tre
 
 -- signals
 written_answered : (s : Scene) (signal : ℕ) (value : Bool) → Answered s Anything (requests.WriteS signal value) when_written
-written_answered s signal value trapped answers.Ok fits full = (refl, safe_done s)
-written_answered s signal value trapped answers.Tied fits full = (refl, safe_fault {A = ⊤} s Anything faults.TiedOutput)
-written_answered s signal value trapped a fits full = absurd cc
+written_answered s signal value trapped answers.Ok fits = (refl, safe_done s)
+written_answered s signal value trapped answers.Tied fits = (refl, safe_fault {A = ⊤} s Anything faults.TiedOutput)
+written_answered s signal value trapped a fits = absurd cc
 
 pub write_safe : (s : Scene) (signal : ℕ) (value : Bool) → signal < s.c.signals → Safe s Anything (write_signal signal value)
-write_safe s signal value few = safe_asks s Anything (requests.WriteS signal value) when_written (record { no_rise = refl; no_hold = refl; no_leave = refl }) (λ d. few) (written_answered s signal value)
+write_safe s signal value few = safe_asks s Anything (requests.WriteS signal value) when_written (record { no_rise = refl; no_hold = refl; no_leave = refl; no_end = refl }) (λ d. few) (written_answered s signal value)
 
 pub value_safe : (s : Scene) (signal : ℕ) (value : Bool) → signal < s.c.signals → Safe s Anything (has_value signal value)
 value_safe s signal value few = safe_then s Anything Anything (read_signal signal) (λ bit. Gives (same_truth value bit)) (signal_safe s signal few) (λ bit _. safe_any s (same_truth value bit))
 
 -- requests that are answered Ok alone
 pub say_safe : (s : Scene) (said : List ℕ) (tail : Tail) → Safe s Anything (tells (requests.Say said tail))
-say_safe s said tail = safe_asks s Anything (requests.Say said tail) when_ok (record { no_rise = refl; no_hold = refl; no_leave = refl }) (λ d. tt) answered
+say_safe s said tail = safe_asks s Anything (requests.Say said tail) when_ok (record { no_rise = refl; no_hold = refl; no_leave = refl; no_end = refl }) (λ d. tt) answered
   where
     answered : Answered s Anything (requests.Say said tail) when_ok
-    answered trapped answers.Ok fits full = (refl, safe_done s)
-    answered trapped a fits full = absurd cc
+    answered trapped answers.Ok fits = (refl, safe_done s)
+    answered trapped a fits = absurd cc
 
 pub disable_safe : (s : Scene) → Safe s Anything (tells requests.Disable)
-disable_safe s = safe_asks s Anything requests.Disable when_ok (record { no_rise = refl; no_hold = refl; no_leave = refl }) (λ d. tt) answered
+disable_safe s = safe_asks s Anything requests.Disable when_ok (record { no_rise = refl; no_hold = refl; no_leave = refl; no_end = refl }) (λ d. tt) answered
   where
     answered : Answered s Anything requests.Disable when_ok
-    answered trapped answers.Ok fits full = (refl, safe_done s)
-    answered trapped a fits full = absurd cc
+    answered trapped answers.Ok fits = (refl, safe_done s)
+    answered trapped a fits = absurd cc
 
 pub enable_safe : (s : Scene) → Safe s Anything (tells requests.Enable)
-enable_safe s = safe_asks s Anything requests.Enable when_ok (record { no_rise = refl; no_hold = refl; no_leave = refl }) (λ d. tt) answered
+enable_safe s = safe_asks s Anything requests.Enable when_ok (record { no_rise = refl; no_hold = refl; no_leave = refl; no_end = refl }) (λ d. tt) answered
   where
     answered : Answered s Anything requests.Enable when_ok
-    answered trapped answers.Ok fits full = (refl, safe_done s)
-    answered trapped a fits full = absurd cc
+    answered trapped answers.Ok fits = (refl, safe_done s)
+    answered trapped a fits = absurd cc
 
 -- interrupts
 pub number_safe : (s : Scene) (q : Lvalue) (sort : Sort) → IsTrue (is_marked sort) → IsThere s q sort → Safe s Anything (number_at q)
@@ -134,46 +135,46 @@ number_safe s q sort marked is =
     safe_then s (λ x. IsTrue (is_datum_of sort x)) Anything (load q) mark_in (load_safe s q sort is) (λ x typed. mark_safe s sort x marked typed)
 
 ordered_answered : (s : Scene) (number : ℕ) (on : Watched) (single : Bool) → Answered s Anything (requests.Order number on single) when_ordered
-ordered_answered s number on single trapped answers.Ok fits full = (refl, safe_done s)
-ordered_answered s number on single trapped answers.Unknown fits full = (refl, safe_raises {A = ⊤} s Anything 104)
-ordered_answered s number on single trapped answers.Already fits full = (refl, safe_raises {A = ⊤} s Anything 103)
-ordered_answered s number on single trapped a fits full = absurd cc
+ordered_answered s number on single trapped answers.Ok fits = (refl, safe_done s)
+ordered_answered s number on single trapped answers.Unknown fits = (refl, safe_raises {A = ⊤} s Anything 104)
+ordered_answered s number on single trapped answers.Already fits = (refl, safe_raises {A = ⊤} s Anything 103)
+ordered_answered s number on single trapped a fits = absurd cc
 
 pub order_safe : (s : Scene) (number : ℕ) (on : Watched) (single : Bool) → CanWatch s.c on → Safe s Anything (order number on single)
-order_safe s number on single can = safe_asks s Anything (requests.Order number on single) when_ordered (record { no_rise = refl; no_hold = refl; no_leave = refl }) (λ d. can) (ordered_answered s number on single)
+order_safe s number on single can = safe_asks s Anything (requests.Order number on single) when_ordered (record { no_rise = refl; no_hold = refl; no_leave = refl; no_end = refl }) (λ d. can) (ordered_answered s number on single)
 
 pub sleep_safe : (s : Scene) (number : ℕ) → Safe s Anything (asks_of_number (requests.Sleep number))
-sleep_safe s number = safe_asks s Anything (requests.Sleep number) when_known (record { no_rise = refl; no_hold = refl; no_leave = refl }) (λ d. tt) answered
+sleep_safe s number = safe_asks s Anything (requests.Sleep number) when_known (record { no_rise = refl; no_hold = refl; no_leave = refl; no_end = refl }) (λ d. tt) answered
   where
     answered : Answered s Anything (requests.Sleep number) when_known
-    answered trapped answers.Ok fits full = (refl, safe_done s)
-    answered trapped answers.Unknown fits full = (refl, safe_raises {A = ⊤} s Anything 104)
-    answered trapped a fits full = absurd cc
+    answered trapped answers.Ok fits = (refl, safe_done s)
+    answered trapped answers.Unknown fits = (refl, safe_raises {A = ⊤} s Anything 104)
+    answered trapped a fits = absurd cc
 
 pub watch_safe : (s : Scene) (number : ℕ) → Safe s Anything (asks_of_number (requests.Watch number))
-watch_safe s number = safe_asks s Anything (requests.Watch number) when_known (record { no_rise = refl; no_hold = refl; no_leave = refl }) (λ d. tt) answered
+watch_safe s number = safe_asks s Anything (requests.Watch number) when_known (record { no_rise = refl; no_hold = refl; no_leave = refl; no_end = refl }) (λ d. tt) answered
   where
     answered : Answered s Anything (requests.Watch number) when_known
-    answered trapped answers.Ok fits full = (refl, safe_done s)
-    answered trapped answers.Unknown fits full = (refl, safe_raises {A = ⊤} s Anything 104)
-    answered trapped a fits full = absurd cc
+    answered trapped answers.Ok fits = (refl, safe_done s)
+    answered trapped answers.Unknown fits = (refl, safe_raises {A = ⊤} s Anything 104)
+    answered trapped a fits = absurd cc
 
 pub delete_safe : (s : Scene) (number : ℕ) → Safe s Anything (asks_of_number (requests.Delete number))
-delete_safe s number = safe_asks s Anything (requests.Delete number) when_known (record { no_rise = refl; no_hold = refl; no_leave = refl }) (λ d. tt) answered
+delete_safe s number = safe_asks s Anything (requests.Delete number) when_known (record { no_rise = refl; no_hold = refl; no_leave = refl; no_end = refl }) (λ d. tt) answered
   where
     answered : Answered s Anything (requests.Delete number) when_known
-    answered trapped answers.Ok fits full = (refl, safe_done s)
-    answered trapped answers.Unknown fits full = (refl, safe_raises {A = ⊤} s Anything 104)
-    answered trapped a fits full = absurd cc
+    answered trapped answers.Ok fits = (refl, safe_done s)
+    answered trapped answers.Unknown fits = (refl, safe_raises {A = ⊤} s Anything 104)
+    answered trapped a fits = absurd cc
 
 connected_answered : (s : Scene) (q : Lvalue) (old trap : ℕ) → IsThere s q sorts.IntNum → Answered s Anything (requests.Connect old trap) (when_connected q)
-connected_answered s q old trap is trapped (answers.Number number) fits full = (refl, store_safe s q sorts.IntNum (datums.Mark number) is refl)
-connected_answered s q old trap is trapped answers.Already fits full = (refl, safe_raises {A = ⊤} s Anything 103)
-connected_answered s q old trap is trapped answers.NoMore fits full = (refl, safe_raises {A = ⊤} s Anything 105)
-connected_answered s q old trap is trapped a fits full = absurd cc
+connected_answered s q old trap is trapped (answers.Number number) fits = (refl, store_safe s q sorts.IntNum (datums.Mark number) is refl)
+connected_answered s q old trap is trapped answers.Already fits = (refl, safe_raises {A = ⊤} s Anything 103)
+connected_answered s q old trap is trapped answers.NoMore fits = (refl, safe_raises {A = ⊤} s Anything 105)
+connected_answered s q old trap is trapped a fits = absurd cc
 
-pub connect_safe : (s : Scene) (q : Lvalue) (old trap : ℕ) → IsThere s q sorts.IntNum → Safe s Anything (connect q old trap)
-connect_safe s q old trap is = safe_asks s Anything (requests.Connect old trap) (when_connected q) (record { no_rise = refl; no_hold = refl; no_leave = refl }) (λ d. tt) (connected_answered s q old trap is)
+pub connect_safe : (s : Scene) (q : Lvalue) (old trap : ℕ) → IsTrue (is_trap_row (slice_get s.c.tree.routines trap)) → IsThere s q sorts.IntNum → Safe s Anything (connect q old trap)
+connect_safe s q old trap there is = safe_asks s Anything (requests.Connect old trap) (when_connected q) (record { no_rise = refl; no_hold = refl; no_leave = refl; no_end = refl }) (λ d. there) (connected_answered s q old trap is)
 
 -- the whole of a persistent
 abbrev pub IsPersAt : Scene → Lvalue → Type 0
@@ -234,12 +235,12 @@ tasks_safe s names q o len e is =
     (listed_safe s names q len is len 1 0 (omega arith) (omega arith) (positive (length names)))
 
 pub arrive_safe : (s : Scene) (row meeting tasks : ℕ) → slice_get s.c.tree.meeting_of row ≡ Some meeting → tasks < 2 ^ length s.c.tree.tasks → Safe s Anything (arrive meeting tasks)
-arrive_safe s row meeting tasks e under = safe_asks s Anything (requests.Arrive meeting tasks) when_arrived (record { no_rise = refl; no_hold = refl; no_leave = refl }) (λ d. (row, e, under)) answered
+arrive_safe s row meeting tasks e under = safe_asks s Anything (requests.Arrive meeting tasks) when_arrived (record { no_rise = refl; no_hold = refl; no_leave = refl; no_end = refl }) (λ d. (row, e, under)) answered
   where
     answered : Answered s Anything (requests.Arrive meeting tasks) when_arrived
-    answered trapped answers.Met fits full = (refl, safe_any s true)
-    answered trapped answers.Apart fits full = (refl, safe_any s false)
-    answered trapped a fits full = absurd cc
+    answered trapped answers.Met fits = (refl, safe_any s true)
+    answered trapped answers.Apart fits = (refl, safe_any s false)
+    answered trapped a fits = absurd cc
 
 -- zones
 shaped_safe : (s : Scene) (q : Lvalue) (r : Result Shape ShapeFault) → IsThere s q sorts.ShapeData → Safe s Anything (shaped q r)
@@ -277,39 +278,39 @@ marked_zone sort n marked = marked
 
 numbered_answered : (s : Scene) (q : Lvalue) (sort : Sort) (old : ℕ) (temporary : Bool) (shape : Shape) → IsTrue (is_marked sort) → IsThere s q sort
     → Answered s Anything (requests.ZoneSet old temporary shape) (when_numbered q)
-numbered_answered s q sort old temporary shape marked is trapped (answers.Number number) fits full = (refl, store_safe s q sort (datums.Mark number) is (marked_zone sort number marked))
-numbered_answered s q sort old temporary shape marked is trapped answers.ZoneUsed fits full = (refl, safe_fault {A = ⊤} s Anything faults.ZoneUsed)
-numbered_answered s q sort old temporary shape marked is trapped answers.ZoneFull fits full = (refl, safe_fault {A = ⊤} s Anything faults.ZoneFull)
-numbered_answered s q sort old temporary shape marked is trapped a fits full = absurd cc
+numbered_answered s q sort old temporary shape marked is trapped (answers.Number number) fits = (refl, store_safe s q sort (datums.Mark number) is (marked_zone sort number marked))
+numbered_answered s q sort old temporary shape marked is trapped answers.ZoneUsed fits = (refl, safe_fault {A = ⊤} s Anything faults.ZoneUsed)
+numbered_answered s q sort old temporary shape marked is trapped answers.ZoneFull fits = (refl, safe_fault {A = ⊤} s Anything faults.ZoneFull)
+numbered_answered s q sort old temporary shape marked is trapped a fits = absurd cc
 
 pub supervise_safe : (s : Scene) (q : Lvalue) (sort : Sort) (old : ℕ) (temporary : Bool) (shape : Shape) → IsTrue s.c.arm → IsTrue (is_marked sort) → IsThere s q sort
     → Safe s Anything (supervise q old temporary shape)
 supervise_safe s q sort old temporary shape arm marked is =
-    safe_asks s Anything (requests.ZoneSet old temporary shape) (when_numbered q) (record { no_rise = refl; no_hold = refl; no_leave = refl }) (λ d. arm) (numbered_answered s q sort old temporary shape marked is)
+    safe_asks s Anything (requests.ZoneSet old temporary shape) (when_numbered q) (record { no_rise = refl; no_hold = refl; no_leave = refl; no_end = refl }) (λ d. arm) (numbered_answered s q sort old temporary shape marked is)
 
 pub zone_off_safe : (s : Scene) (zone : ℕ) → IsTrue s.c.arm → Safe s Anything (asks_of_zone (requests.ZoneOff zone))
-zone_off_safe s zone arm = safe_asks s Anything (requests.ZoneOff zone) when_zoned (record { no_rise = refl; no_hold = refl; no_leave = refl }) (λ d. arm) answered
+zone_off_safe s zone arm = safe_asks s Anything (requests.ZoneOff zone) when_zoned (record { no_rise = refl; no_hold = refl; no_leave = refl; no_end = refl }) (λ d. arm) answered
   where
     answered : Answered s Anything (requests.ZoneOff zone) when_zoned
-    answered trapped answers.Ok fits full = (refl, safe_done s)
-    answered trapped answers.NoZone fits full = (refl, safe_fault {A = ⊤} s Anything faults.NoZone)
-    answered trapped a fits full = absurd cc
+    answered trapped answers.Ok fits = (refl, safe_done s)
+    answered trapped answers.NoZone fits = (refl, safe_fault {A = ⊤} s Anything faults.NoZone)
+    answered trapped a fits = absurd cc
 
 pub zone_on_safe : (s : Scene) (zone : ℕ) → IsTrue s.c.arm → Safe s Anything (asks_of_zone (requests.ZoneOn zone))
-zone_on_safe s zone arm = safe_asks s Anything (requests.ZoneOn zone) when_zoned (record { no_rise = refl; no_hold = refl; no_leave = refl }) (λ d. arm) answered
+zone_on_safe s zone arm = safe_asks s Anything (requests.ZoneOn zone) when_zoned (record { no_rise = refl; no_hold = refl; no_leave = refl; no_end = refl }) (λ d. arm) answered
   where
     answered : Answered s Anything (requests.ZoneOn zone) when_zoned
-    answered trapped answers.Ok fits full = (refl, safe_done s)
-    answered trapped answers.NoZone fits full = (refl, safe_fault {A = ⊤} s Anything faults.NoZone)
-    answered trapped a fits full = absurd cc
+    answered trapped answers.Ok fits = (refl, safe_done s)
+    answered trapped answers.NoZone fits = (refl, safe_fault {A = ⊤} s Anything faults.NoZone)
+    answered trapped a fits = absurd cc
 
 pub zone_free_safe : (s : Scene) (zone : ℕ) → IsTrue s.c.arm → Safe s Anything (asks_of_zone (requests.ZoneFree zone))
-zone_free_safe s zone arm = safe_asks s Anything (requests.ZoneFree zone) when_zoned (record { no_rise = refl; no_hold = refl; no_leave = refl }) (λ d. arm) answered
+zone_free_safe s zone arm = safe_asks s Anything (requests.ZoneFree zone) when_zoned (record { no_rise = refl; no_hold = refl; no_leave = refl; no_end = refl }) (λ d. arm) answered
   where
     answered : Answered s Anything (requests.ZoneFree zone) when_zoned
-    answered trapped answers.Ok fits full = (refl, safe_done s)
-    answered trapped answers.NoZone fits full = (refl, safe_fault {A = ⊤} s Anything faults.NoZone)
-    answered trapped a fits full = absurd cc
+    answered trapped answers.Ok fits = (refl, safe_done s)
+    answered trapped answers.NoZone fits = (refl, safe_fault {A = ⊤} s Anything faults.NoZone)
+    answered trapped a fits = absurd cc
 
 -- moves
 pub still_safe : (s : Scene) → Safe s Anything still
@@ -317,31 +318,27 @@ still_safe s = safe_reads s Anything (λ d. if d.trapped then fault faults.MoveI
     (λ d _. when_safe s Anything d.trapped (fault faults.MoveInTrap) done (λ _. safe_fault {A = ⊤} s Anything faults.MoveInTrap) (λ _. safe_done s))
 
 given_answered : (s : Scene) (to : Joints) (next : Act) → Safe s Anything next → Answered s Anything (requests.Setpoint to) (λ a. when_given next a)
-given_answered s to next safe trapped answers.Given fits full = (refl, safe)
-given_answered s to next safe trapped (answers.Stopped zone) fits full = (refl, safe_fault {A = ⊤} s Anything faults.ZoneStop)
-given_answered s to next safe trapped a fits full = absurd cc
+given_answered s to next safe trapped answers.Given fits = (refl, safe)
+given_answered s to next safe trapped (answers.Stopped zone) fits = (refl, safe_fault {A = ⊤} s Anything faults.ZoneStop)
+given_answered s to next safe trapped a fits = absurd cc
 
 setpoints_safe : (s : Scene) (start target : Joints) (n left : ℕ) → IsTrue s.c.arm → IsTrue (is_position start) → IsTrue (is_reachable target) → left ≤ n → Safe s Anything (setpoints start target n left)
 unfolding setpoints
 setpoints_safe s start target n zero arm from to few = safe_done s
 setpoints_safe s start target n (suc left) arm from to few =
-    safe_asks s Anything (requests.Setpoint (setpoint start target n (n - left))) (λ a. when_given (setpoints start target n left) a) (record { no_rise = refl; no_hold = refl; no_leave = refl })
+    safe_asks s Anything (requests.Setpoint (setpoint start target n (n - left))) (λ a. when_given (setpoints start target n left) a) (record { no_rise = refl; no_hold = refl; no_leave = refl; no_end = refl })
     (λ d. (arm, setpoint_position start target n (n - left) from to (omega (arith, few)) (omega arith)))
     (given_answered s (setpoint start target n (n - left)) (setpoints start target n left) (setpoints_safe s start target n left arm from to (omega (arith, few))))
 
 moved_answered : (s : Scene) (target : Joints) (cap : ℕ) → IsTrue s.c.arm → IsTrue (is_reachable target) → Answered s Anything requests.Position (move_from target cap)
-moved_answered s target cap arm to trapped (answers.At start) fits full =
+moved_answered s target cap arm to trapped (answers.At start) fits =
     (refl, setpoints_safe s start target (setpoint_count start target cap) (setpoint_count start target cap) arm fits to (omega arith))
-moved_answered s target cap arm to trapped a fits full = absurd cc
-
-reached : (b : Bool) → not b ≡ false → b ≡ true
-reached true e = refl
-reached false e = absurd cc
+moved_answered s target cap arm to trapped a fits = absurd cc
 
 pub move_safe : (s : Scene) (target : Joints) (speed : ℤ) → IsTrue s.c.arm → Safe s Anything (move target speed)
 move_safe s target speed arm =
     when_safe s Anything (not (is_reachable target)) (fault faults.JointRange) (if not (int_lt (pos 0) speed) then fault faults.Speed else Asks requests.Position (move_from target (cap_of speed)))
     (λ _. safe_fault {A = ⊤} s Anything faults.JointRange)
     (λ there. when_safe s Anything (not (int_lt (pos 0) speed)) (fault faults.Speed) (Asks requests.Position (move_from target (cap_of speed))) (λ _. safe_fault {A = ⊤} s Anything faults.Speed)
-    (λ _. safe_asks s Anything requests.Position (move_from target (cap_of speed)) (record { no_rise = refl; no_hold = refl; no_leave = refl }) (λ d. arm)
-    (moved_answered s target (cap_of speed) arm (reached (is_reachable target) there))))
+    (λ _. safe_asks s Anything requests.Position (move_from target (cap_of speed)) (record { no_rise = refl; no_hold = refl; no_leave = refl; no_end = refl }) (λ d. arm)
+    (moved_answered s target (cap_of speed) arm (not-false (is_reachable target) there))))

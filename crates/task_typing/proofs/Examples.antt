@@ -1,14 +1,25 @@
--- A task that is well typed and numbered: it sets a num of its module, in a FOR, and says a text.
-use Rattle.std.proofs.Common.{refl, zero, suc, false, IsTrue, List, [], ◌∷◌, All, None, codes, arith}
+-- A task that is well typed and numbered: it sets a num of its module, in a FOR, and says a text. And the own events of a task.
+use Rattle.std.proofs.Common.{◌≡◌, refl, zero, suc, false, IsTrue, List, [], ◌∷◌, All, None, codes, arith}
 use Rattle.rapid_model.specs.CellData.{CellData}
+use Rattle.rapid_model.specs.declared.answer.Answer.{Answer}
+use Rattle.rapid_model.specs.declared.answer.Answer.TheVariants.{Go, Ok, Trap}
+use Rattle.rapid_model.specs.declared.event.Event.{Event}
+use Rattle.rapid_model.specs.declared.request.Request.{Request}
+use Rattle.rapid_model.specs.declared.request.Request.TheVariants.{Look, Leave}
 use Rattle.rapid_model.specs.declared.sort.Sort.TheVariants as sorts
 use Rattle.rapid_model.specs.Sorts.{has_values}
 use Rattle.typed_trees.specs.Plain.{TypedLocal, TypedPers, TypedRoutine, TypedSlot, TypedStmt, TypedTree, For, stmts_of}
 use Rattle.typed_trees.specs.declared.datum.Datum.TheVariants.{Plain}
 use Rattle.typed_trees.specs.declared.expr.TreeRoot.TheVariants as roots
+use Rattle.rapid_meaning.specs.Answering.{performed}
+use Rattle.rapid_meaning.specs.Data.{frame_at, with_frame}
+use Rattle.rapid_meaning.specs.Doings.{after}
+use Rattle.rapid_meaning.specs.Runs.{asked_after, deep, state_after}
+use Rattle.rapid_meaning.proofs.Forms.{stepping_trapped}
 use Rattle.rapid_meaning.proofs.Trees.{assigns, module_num, num, num_row, number, proc, says, stored, task_of, whole_of}
 use Rattle.task_typing.specs.Kinds.{Counts}
 use Rattle.task_typing.specs.Numbered.{Numbered}
+use Rattle.task_typing.specs.OwnEvents.{own_events}
 use Rattle.task_typing.specs.Setting.{Setting}
 use Rattle.task_typing.specs.Statements.{AreStmts}
 use Rattle.task_typing.specs.WellTyped.{AreFirst, IsRoutine, WellTyped, around_in, is_datum_of}
@@ -73,3 +84,11 @@ numbered = record {
   as_many_meetings = refl;
   meetings = λ row number e. absurd cc;
 }
+
+-- another task, with a trap at the first turn of its FOR: what it asked, each request with its answer
+abbrev event : Request → Answer → Event
+event request a = record { actor = 3; request = request; answer = a }
+
+trap_is_left : own_events 3 stepping_trapped (Go 0 ∷ Trap 1 1 ∷ Ok ∷ Go 2 ∷ []) ≡ event Look (Go 0) ∷ event Look (Trap 1 1) ∷ event Leave Ok ∷ event Look (Go 2) ∷ []
+unfolding asked_after state_after deep performed after frame_at with_frame
+trap_is_left = refl

@@ -1,7 +1,12 @@
 -- Expressions, places and arguments.
-use Rattle.std.proofs.Common.{◌≡◌, refl, sym, subst, ℕ, ◌*◌, ◌<◌, Bool, true, false, not, ◌||◌, ◌++◌, ℤ, pos, neg_ℤ, nat_abs, ◌*ℤ◌, List, [], ◌∷◌, length, map, flat_map, Option, Some, None, slice_get, if◌then◌else◌, IsTrue}
+use Rattle.std.proofs.Common.{◌≡◌, refl, sym, ◌∙◌, subst, ℕ, ◌*◌, ◌-◌, ◌<◌, ◌==◌, Bool, true, false, not, ◌||◌, ◌++◌, ℤ, pos, neg_ℤ, nat_abs, ◌*ℤ◌, List, [], ◌∷◌, length, map, flat_map, Option, Some, None, slice_get, drop, if◌then◌else◌, IsTrue, arith}
 use Rattle.std.specs.Prelude.{⊤}
+use Rattle.std.specs.List.{list_all}
+use Rattle.std.proofs.lemmas.Bool.{and_parts, eq-eqb, eqb-true}
+use Rattle.std.proofs.lemmas.List.{length-drop}
 use Rattle.rapid_num.specs.Arithmetic.{whole_part}
+use Rattle.rapid_num.specs.Reach.{are_absent, is_absent, is_position, is_reachable}
+use Rattle.rapid_num.specs.declared.joints.Joints.{Joints}
 use Rattle.rapid_model.specs.Paths.{has_sort}
 use Rattle.rapid_model.specs.declared.answer.Answer.TheVariants as answers
 use Rattle.rapid_model.specs.declared.function.Function.{Function}
@@ -60,15 +65,23 @@ bit_of_sort sort true e = num_of_sort sort (pos 1_000) e
 bit_of_sort sort false e = num_of_sort sort (pos 0) e
 
 bit_answered : (s : Scene) (signal : ℕ) → Answered s Anything (ReadS signal) when_bit
-bit_answered s signal trapped (answers.Bit bit) fits full = (refl, safe_any s bit)
-bit_answered s signal trapped a fits full = absurd cc
+bit_answered s signal trapped (answers.Bit bit) fits = (refl, safe_any s bit)
+bit_answered s signal trapped a fits = absurd cc
 
 pub signal_safe : (s : Scene) (signal : ℕ) → signal < s.c.signals → Safe s Anything (read_signal signal)
-signal_safe s signal few = safe_asks s Anything (ReadS signal) when_bit (record { no_rise = refl; no_hold = refl; no_leave = refl }) (λ d. few) (bit_answered s signal)
+signal_safe s signal few = safe_asks s Anything (ReadS signal) when_bit (record { no_rise = refl; no_hold = refl; no_leave = refl; no_end = refl }) (λ d. few) (bit_answered s signal)
+
+-- a position has twelve axes
+twelve_axes : (position : Joints) → is_position position ≡ true → IsTrue (length position.axis == 12)
+twelve_axes position is =
+    let apart = and_parts (is_reachable position) (are_absent (drop 6 position.axis)) is in
+    let six = and_parts (length (drop 6 position.axis) == 6) (list_all is_absent (drop 6 position.axis)) apart.1 in
+    let many : length position.axis - 6 ≡ 6 = sym (length-drop 6 position.axis) ∙ eqb-true (length (drop 6 position.axis)) 6 six.0 in
+    eq-eqb (length position.axis) 12 (omega (arith, many))
 
 at_answered : (s : Scene) → Answered s (HasSort sorts.JointTarget) Position when_at
-at_answered s trapped (answers.At position) fits full = (refl, safe_gives s (HasSort sorts.JointTarget) (values.Target position) full)
-at_answered s trapped a fits full = absurd cc
+at_answered s trapped (answers.At position) fits = (refl, safe_gives s (HasSort sorts.JointTarget) (values.Target position) (twelve_axes position fits))
+at_answered s trapped a fits = absurd cc
 
 opposite_safe : (s : Scene) (sort : Sort) (v : Value) → sort ≡ sorts.Bool → HasSort sorts.Bool v → Safe s (HasSort sort) (opposite v)
 opposite_safe s sort v e h =
@@ -102,7 +115,7 @@ of_value_num : (s : Scene) (f : ℤ → Value) (v : Value) → ((n : ℤ) → Ha
 of_value_num s f v is h = safe_then s Anything (HasSort sorts.Num) (num_in v) (λ n. Gives (f n)) (num_safe s v h) (λ n _. safe_gives s (HasSort sorts.Num) (f n) (is n))
 
 pub position_safe : (s : Scene) → IsTrue s.c.arm → Safe s (HasSort sorts.JointTarget) (of_nothing functions.CJointT)
-position_safe s arm = safe_asks s (HasSort sorts.JointTarget) Position when_at (record { no_rise = refl; no_hold = refl; no_leave = refl }) (λ d. arm) (at_answered s)
+position_safe s arm = safe_asks s (HasSort sorts.JointTarget) Position when_at (record { no_rise = refl; no_hold = refl; no_leave = refl; no_end = refl }) (λ d. arm) (at_answered s)
 
 -- what arguments do is safe, where they are well typed
 abbrev pub ArgSafe : Inside → TypedArg → Type 0

@@ -1,6 +1,7 @@
 pub mod Told
 pub mod Meets
 pub mod Runs
+pub mod Steps
 pub mod Forms
 pub mod Parts
 pub mod Cells
@@ -22,4 +23,8 @@ pub mod Frames
 pub mod Calls
 pub mod Whole
 pub mod Suits
+pub mod Events
+pub mod Own
+pub mod Until
 mod Examples
+mod Needed

@@ -42,13 +42,13 @@ is_inner whole part sort e = ap is_some e
 
 read_answered : (s : Scene) (pers index : ℕ) (part : PartName) (whole sort : Sort) → IsRootOf s.c.tree s.frames (roots.Pers pers index) whole → part_sort whole part ≡ Some sort
     → Answered s (λ x. IsTrue (is_datum_of sort x)) (ReadP pers (path_of index part)) when_read
-read_answered s pers index part whole sort is e trapped (answers.Val v) fits full =
+read_answered s pers index part whole sort is e trapped (answers.Val v) fits =
     let own : sort_of_pers s.c.tree.pers_of s.c.tree.pers pers ≡ Some whole = s.facts.sorts pers is.0 is.1 ∙ ap Some is.3 in (
       refl,
       safe_gives s (λ x. IsTrue (is_datum_of sort x)) (datums.Plain v)
           (sym (fits_inner whole part sort v e) ∙ ap (λ (o : Option Sort). fits_pers o part v) (sym own) ∙ fits),
     )
-read_answered s pers index part whole sort is e trapped a fits full = absurd cc
+read_answered s pers index part whole sort is e trapped a fits = absurd cc
 
 -- reads a datum of the place's type
 load_at : (s : Scene) (root : Root) (part : PartName) (whole sort : Sort) → IsRootOf s.c.tree s.frames root whole → part_sort whole part ≡ Some sort
@@ -66,7 +66,7 @@ load_at s (roots.Frame k at) part whole sort is e =
     let inner : (x : Datum) × (part_in part held.0 ≡ Some x) × IsTrue (is_datum_of sort x) = datum_part whole part sort held.0 held.2 e in
     safe_or s (λ x. IsTrue (is_datum_of sort x)) (option_and_then (part_in part) (datum_at (roots.Frame k at) d)) inner.0 (ap (option_and_then (part_in part)) held.1 ∙ inner.1) inner.2)
 load_at s (roots.Pers pers index) part whole sort is e =
-    safe_asks s (λ x. IsTrue (is_datum_of sort x)) (ReadP pers (path_of index part)) when_read (record { no_rise = refl; no_hold = refl; no_leave = refl })
+    safe_asks s (λ x. IsTrue (is_datum_of sort x)) (ReadP pers (path_of index part)) when_read (record { no_rise = refl; no_hold = refl; no_leave = refl; no_end = refl })
     (λ d. (is.0, is.1, is.2, subst (λ (y : Sort). IsTrue (is_some (part_sort y part))) (sym is.3) (is_inner whole part sort e)))
     (read_answered s pers index part whole sort is e)
 
@@ -88,8 +88,8 @@ mark_safe s sort x marked is =
     subst (λ (y : Datum). Safe s Anything (mark_in y)) (sym f.1) (safe_any s f.0)
 
 ok_answered : (s : Scene) (pers : ℕ) (path : Path) (v : Value) → Answered s Anything (WriteP pers path v) when_ok
-ok_answered s pers path v trapped answers.Ok fits full = (refl, safe_done s)
-ok_answered s pers path v trapped a fits full = absurd cc
+ok_answered s pers path v trapped answers.Ok fits = (refl, safe_done s)
+ok_answered s pers path v trapped a fits = absurd cc
 
 written_meets : (s : Scene) (root : Root) (d : Data) (o : Option Datum) (x : Datum) → o ≡ Some x → InScene s d → InScene s (put_at root x d)
     → Meets (rules_of s.c) (λ (v : ⊤) e. Anything v × InScene s e) (λ n e. InScene s e) (writes_at root d o) (calm d) d
@@ -114,7 +114,7 @@ store_there s (roots.Pers pers index) part whole sort new is e also =
     let holds : IsTrue (has_values sort) = part_valued whole part sort (subst (λ (y : Sort). IsTrue (has_values y)) is.3 (s.facts.valued pers is.0 is.1)) e in
     safe_then s (λ v. IsTrue (has_sort sort v)) Anything (value_in new) (λ v. tells (WriteP pers (path_of index part) v)) (value_safe s sort new holds also)
     (λ v typed.
-    safe_asks s Anything (WriteP pers (path_of index part) v) when_ok (record { no_rise = refl; no_hold = refl; no_leave = refl })
+    safe_asks s Anything (WriteP pers (path_of index part) v) when_ok (record { no_rise = refl; no_hold = refl; no_leave = refl; no_end = refl })
     (λ d. (is.0, is.1, is.2, subst (λ (y : Sort). IsTrue (fits_part y part v)) (sym is.3) (fits_inner whole part sort v e ∙ typed)))
     (ok_answered s pers (path_of index part) v))
 
@@ -130,8 +130,8 @@ set_safe s q false is =
     safe_then s Anything Anything (write_value q (values.Bool true)) (λ _. Gives true) (store_safe s q sorts.Bool (datums.Plain (values.Bool true)) is refl) (λ _ _. safe_any s true)
 
 tested_answered : (s : Scene) (pers : ℕ) (path : Path) → Answered s Anything (TestSet pers path) when_tested
-tested_answered s pers path trapped (answers.Yes met) fits full = (refl, safe_any s met)
-tested_answered s pers path trapped a fits full = absurd cc
+tested_answered s pers path trapped (answers.Yes met) fits = (refl, safe_any s met)
+tested_answered s pers path trapped a fits = absurd cc
 
 silent_test : (s : Scene) (q : Lvalue) → IsThere s q sorts.Bool → Safe s Anything (read_value q >>= λ v. truth_in v >>= set_unless q)
 silent_test s q is =
@@ -143,7 +143,7 @@ test_there : (s : Scene) (root : Root) (q : Lvalue) (whole : Sort) → IsRootOf 
 test_there s (roots.Slot slot) q whole is e there = silent_test s q there
 test_there s (roots.Frame k at) q whole is e there = silent_test s q there
 test_there s (roots.Pers pers index) q whole is e there =
-    safe_asks s Anything (TestSet pers (path_of index q.part)) when_tested (record { no_rise = refl; no_hold = refl; no_leave = refl })
+    safe_asks s Anything (TestSet pers (path_of index q.part)) when_tested (record { no_rise = refl; no_hold = refl; no_leave = refl; no_end = refl })
     (λ d. (is.0, is.1, is.2, ap (λ (y : Sort). part_sort y q.part) is.3 ∙ e)) (tested_answered s pers (path_of index q.part))
 
 pub test_safe : (s : Scene) (q : Lvalue) → IsThere s q sorts.Bool → Safe s Anything (test_and_set q)

@@ -1,6 +1,6 @@
 -- Looks, at which a trap may run, and waits that hold.
-use Rattle.std.proofs.Common.{◌≡◌, refl, sym, ◌∙◌, subst, ℕ, Bool, true, false, not, ◌&&◌, List, [], ◌∷◌, map, flat_map, Option, Some, None, slice_get, IsTrue}
-use Rattle.std.proofs.lemmas.Bool.{and_parts}
+use Rattle.std.proofs.Common.{◌≡◌, refl, sym, ◌∙◌, subst, ℕ, true, false, not, ◌&&◌, List, [], ◌∷◌, map, flat_map, Option, Some, None, slice_get, IsTrue}
+use Rattle.std.proofs.lemmas.Bool.{and_parts, not-true}
 use Rattle.rapid_model.specs.Fits.{fits_request}
 use Rattle.rapid_model.specs.declared.answer.Answer.{Answer}
 use Rattle.rapid_model.specs.declared.answer.Answer.TheVariants as answers
@@ -44,7 +44,8 @@ left_goes : (c : Setting) (g : Ghost) (again : Part) (e : Data) → IsPart c g a
 unfolding after
 left_goes c g again e part free is = (
   record { rises = refl; same = refl; asked = record { asked = is.in_trap; trapped = true; frames = frames_in g again; state = is } },
-  λ a fits full. left_answered c g again e a part free is fits,
+  refl,
+  λ a fits. left_answered c g again e a part free is fits,
 )
 
 -- the routine of a trap
@@ -63,10 +64,6 @@ takes_nothing tree frames routine trap takes =
     let none : routine.params ≡ [] = subst (λ (k : RoutineKind). TakesByKind k routine.params) trap takes in
     subst (λ (ps : List TypedParam). AreInCells tree frames (flat_map cells_of (map kind_of ps)) []) (sym none) tt
 
-not_so : (b : Bool) → IsTrue (not b) → b ≡ false
-not_so true is = absurd cc
-not_so false is = refl
-
 -- a trap runs on the spot
 interrupted_goes : (c : Setting) (facts : Facts c) (g : Ghost) (again : Part) (trap : ℕ) (d : Data) → IsPart c g again → IsState c.tree g.trapped (frames_in g again) d
     → IsTrue (is_trap_row (slice_get c.tree.routines trap) && not d.trapped) → Goes c g again (interrupted again trap) (record { held = false; trapped = true }) d
@@ -75,7 +72,7 @@ interrupted_goes c facts g again trap d part is fits =
     let both : IsTrue (is_trap_row (slice_get c.tree.routines trap)) × IsTrue (not d.trapped) = and_parts (is_trap_row (slice_get c.tree.routines trap)) (not d.trapped) fits in
     let there : (routine : TypedRoutine) × (slice_get c.tree.routines trap ≡ Some routine) × (routine.kind ≡ kinds.Trap) = trap_there (slice_get c.tree.routines trap) both.0 in
     let routine : IsRoutine c there.0 = all_at (IsRoutine c) c.tree.routines trap there.0 facts.routines there.1 in
-    let free : g.trapped ≡ false = sym is.in_trap ∙ not_so d.trapped both.1 in (
+    let free : g.trapped ≡ false = sym is.in_trap ∙ not-true d.trapped both.1 in (
       record { not_held = refl; same = refl },
       record { trapped = true; frames = frames_in g again; lists = [] },
       ((there.0, there.1, takes_nothing c.tree (frames_in g again) there.0 there.2 routine.takes), record { slots = is.slots; frames_are = is.frames_are; in_trap = refl }),
@@ -107,7 +104,8 @@ look_safe c facts g again w byte go part safe =
     (safe_change (scene_of c facts g again) (λ d. record d { place = place_of w byte }) (λ d is. record { slots = is.slots; frames_are = is.frames_are; in_trap = is.in_trap }))
     (λ _ _ d is. (
       record { rises = refl; same = refl; asked = record { asked = tt; trapped = g.trapped; frames = frames_in g again; state = is } },
-      λ a fits full. looked_goes c facts g again go a d part safe is fits,
+      refl,
+      λ a fits. looked_goes c facts g again go a d part safe is fits,
     ))
 
 -- a wait holds and rises
@@ -124,7 +122,8 @@ held_answered : (c : Setting) (g : Ghost) (again : Part) (d : Data) (seen : ℕ)
 unfolding after
 held_answered c g again d seen answers.Ok part is fits = (
   record { rises = refl; same = refl; asked = record { asked = tt; trapped = g.trapped; frames = frames_in g again; state = is } },
-  λ a fits full. risen_answered c g again d a part is fits,
+  refl,
+  λ a fits. risen_answered c g again d a part is fits,
 )
 held_answered c g again d seen a part is fits = absurd cc
 
@@ -132,5 +131,6 @@ pub hold_safe : (c : Setting) (facts : Facts c) (g : Ghost) (again : Part) → I
 unfolding after
 hold_safe c facts g again part d is = (
   record { rises = refl; same = refl; asked = record { asked = tt; trapped = g.trapped; frames = frames_in g again; state = is } },
-  λ a fits full. held_answered c g again d (seen_in d.frames) a part is fits,
+  refl,
+  λ a fits. held_answered c g again d (seen_in d.frames) a part is fits,
 )

@@ -1,8 +1,8 @@
 -- What holds of a doing, from some data on: it never misfits, what it asks is well asked, and what it gives, and each part that it
 -- does, keeps what is said of it.
-use Rattle.std.proofs.Common.{◌≡◌, subst, ℕ, IsTrue}
+use Rattle.std.proofs.Common.{◌≡◌, subst, ℕ, None, IsTrue}
 use Rattle.rapid_model.specs.Fits.{fits_request}
-use Rattle.rapid_model.specs.Own.{is_rise}
+use Rattle.rapid_model.specs.Own.{fate_told, is_rise}
 use Rattle.rapid_model.specs.declared.answer.Answer.{Answer}
 use Rattle.rapid_model.specs.declared.request.Request.{Request}
 use Rattle.rapid_model.specs.declared.request.Request.TheVariants.{End}
@@ -11,7 +11,6 @@ use Rattle.rapid_meaning.specs.Answering.{fitting_of}
 use Rattle.rapid_meaning.specs.Data.{Data}
 use Rattle.rapid_meaning.specs.Doings.{Doing, Gives, Raises, Asks, Ends, Misfit, Reads, Writes, Does, after}
 use Rattle.rapid_meaning.specs.Flows.{Flow, Part}
-use Rattle.task_typing.specs.Full.{is_full_answer}
 use Rattle.task_typing.proofs.Told.{Told, IsCalm, calm, is_calm, told_after}
 
 -- Asked: what the task may ask with these data. Begins, Ends and Fails: what holds as a part begins, ends with a flow, and is left by
@@ -34,7 +33,7 @@ abbrev pub Meets : {A : Type 0} → (rules : Rules) → (A → Data → Type 0) 
 Meets rules Gave Failed (Gives v) t d = IsCalm t d × Gave v d
 Meets rules Gave Failed (Raises n) t d = IsCalm t d × Failed n d
 Meets rules Gave Failed (Asks request k) t d =
-    Due rules t d request × ((a : Answer) → IsTrue (fits_request (fitting_of rules.tree d.trapped) request a) → IsTrue (is_full_answer a) → Meets rules Gave Failed (k a) (told_after t request a) d)
+    Due rules t d request × (fate_told request ≡ None) × ((a : Answer) → IsTrue (fits_request (fitting_of rules.tree d.trapped) request a) → Meets rules Gave Failed (k a) (told_after t request a) d)
 Meets rules Gave Failed (Ends fate) t d = Due rules t d (End fate)
 Meets rules Gave Failed Misfit t d = ⊥
 Meets rules Gave Failed (Reads k) t d = Meets rules Gave Failed (k d) t d
@@ -52,7 +51,7 @@ pub meets_after : {A B : Type 0} (rules : Rules) (P : A → Data → Type 0) (E 
 unfolding after
 meets_after rules P E Q F (Gives v) f h t d mf mh m = subst (λ (x : Told). Meets rules Q F (f v) x d) (is_calm t d m.0) (mf v d m.1)
 meets_after rules P E Q F (Raises n) f h t d mf mh m = subst (λ (x : Told). Meets rules Q F (h n) x d) (is_calm t d m.0) (mh n d m.1)
-meets_after rules P E Q F (Asks request k) f h t d mf mh m = (m.0, λ a fits full. meets_after rules P E Q F (k a) f h (told_after t request a) d mf mh (m.1 a fits full))
+meets_after rules P E Q F (Asks request k) f h t d mf mh m = (m.0, m.1, λ a fits. meets_after rules P E Q F (k a) f h (told_after t request a) d mf mh (m.2 a fits))
 meets_after rules P E Q F (Ends fate) f h t d mf mh m = m
 meets_after rules P E Q F Misfit f h t d mf mh m = m
 meets_after rules P E Q F (Reads k) f h t d mf mh m = meets_after rules P E Q F (k d) f h t d mf mh m

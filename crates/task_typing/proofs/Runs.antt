@@ -11,14 +11,13 @@ use Rattle.rapid_meaning.specs.Data.{Data}
 use Rattle.rapid_meaning.specs.Doings.{Doing, Gives, Raises, Asks, Ends, Misfit, Reads, Writes, Does}
 use Rattle.rapid_meaning.specs.Flows.{Part}
 use Rattle.rapid_meaning.specs.Runs.{deep}
-use Rattle.task_typing.specs.Full.{AreFull}
 use Rattle.task_typing.proofs.Meets.{Rules, Meets}
 use Rattle.task_typing.proofs.Told.{Told, calm, told_after}
 
 -- it is no misfit, and what it comes to is as said
 abbrev pub Comes : {A : Type 0} → (rules : Rules) → (A → Data → Type 0) → (ℕ → Data → Type 0) → Outcome A → Type 0
-Comes rules P E (Gave v d left) = P v d × AreFull left
-Comes rules P E (Raised n d left) = E n d × AreFull left
+Comes rules P E (Gave v d left) = P v d
+Comes rules P E (Raised n d left) = E n d
 Comes rules P E (Asking request d) = rules.Asked d request
 Comes rules P E (Ended d) = (fate : Fate) × rules.Asked d (End fate)
 Comes rules P E Misfits = ⊥
@@ -26,14 +25,14 @@ Comes rules P E Unfit = ⊤
 Comes rules P E NoFuel = ⊤
 
 abbrev pub RunComes : Rules → Run → Type 0
-RunComes rules run = (g : rules.Ghost) (p : Part) (d : Data) (left : List Answer) → rules.Begins g p d → AreFull left → Comes rules (rules.Ends g p) (rules.Fails g p) (run p d left)
+RunComes rules run = (g : rules.Ghost) (p : Part) (d : Data) (left : List Answer) → rules.Begins g p d → Comes rules (rules.Ends g p) (rules.Fails g p) (run p d left)
 
 comes_joined : {A B : Type 0} (rules : Rules) (P : A → Data → Type 0) (E : ℕ → Data → Type 0) (Q : B → Data → Type 0) (F : ℕ → Data → Type 0)
     (o : Outcome A) (f : A → Data → List Answer → Outcome B) (h : ℕ → Data → List Answer → Outcome B)
-    → ((v : A) (d : Data) (left : List Answer) → P v d → AreFull left → Comes rules Q F (f v d left))
-    → ((n : ℕ) (d : Data) (left : List Answer) → E n d → AreFull left → Comes rules Q F (h n d left)) → Comes rules P E o → Comes rules Q F (joined o f h)
-comes_joined rules P E Q F (Gave v d left) f h cf ch c = cf v d left c.0 c.1
-comes_joined rules P E Q F (Raised n d left) f h cf ch c = ch n d left c.0 c.1
+    → ((v : A) (d : Data) (left : List Answer) → P v d → Comes rules Q F (f v d left))
+    → ((n : ℕ) (d : Data) (left : List Answer) → E n d → Comes rules Q F (h n d left)) → Comes rules P E o → Comes rules Q F (joined o f h)
+comes_joined rules P E Q F (Gave v d left) f h cf ch c = cf v d left c
+comes_joined rules P E Q F (Raised n d left) f h cf ch c = ch n d left c
 comes_joined rules P E Q F (Asking request d) f h cf ch c = c
 comes_joined rules P E Q F (Ended d) f h cf ch c = c
 comes_joined rules P E Q F Misfits f h cf ch c = c
@@ -51,24 +50,24 @@ comes_told rules P E by fate d [] asked = asked
 comes_told {A} rules P E by fate d (a ∷ left) asked = comes_when {A = A} rules P E (fits_request (by d.trapped) (End fate) a) (Ended d) (λ fits. (fate, asked))
 
 pub performed_comes : {A : Type 0} (rules : Rules) (run : Run) → RunComes rules run → (P : A → Data → Type 0) (E : ℕ → Data → Type 0)
-    (m : Doing A) (t : Told) (d : Data) (left : List Answer) → AreFull left → Meets rules P E m t d → Comes rules P E (performed (fitting_of rules.tree) run m d left)
+    (m : Doing A) (t : Told) (d : Data) (left : List Answer) → Meets rules P E m t d → Comes rules P E (performed (fitting_of rules.tree) run m d left)
 unfolding performed
-performed_comes rules run good P E (Gives v) t d left full m = (m.1, full)
-performed_comes rules run good P E (Raises n) t d left full m = (m.1, full)
-performed_comes rules run good P E (Asks request k) t d [] full m = m.0.asked
-performed_comes rules run good P E (Asks request k) t d (a ∷ left) full m =
+performed_comes rules run good P E (Gives v) t d left m = m.1
+performed_comes rules run good P E (Raises n) t d left m = m.1
+performed_comes rules run good P E (Asks request k) t d [] m = m.0.asked
+performed_comes rules run good P E (Asks request k) t d (a ∷ left) m =
     comes_when rules P E (fits_request (fitting_of rules.tree d.trapped) request a) (performed (fitting_of rules.tree) run (k a) d left)
-    (λ fits. performed_comes rules run good P E (k a) (told_after t request a) d left full.1 (m.1 a fits full.0))
-performed_comes rules run good P E (Ends fate) t d left full m = comes_told rules P E (fitting_of rules.tree) fate d left m.asked
-performed_comes rules run good P E Misfit t d left full m = m
-performed_comes rules run good P E (Reads k) t d left full m = performed_comes rules run good P E (k d) t d left full m
-performed_comes rules run good P E (Writes e more) t d left full m = performed_comes rules run good P E more t e left full m
-performed_comes rules run good P E (Does p k h) t d left full m =
+    (λ fits. performed_comes rules run good P E (k a) (told_after t request a) d left (m.2 a fits))
+performed_comes rules run good P E (Ends fate) t d left m = comes_told rules P E (fitting_of rules.tree) fate d left m.asked
+performed_comes rules run good P E Misfit t d left m = m
+performed_comes rules run good P E (Reads k) t d left m = performed_comes rules run good P E (k d) t d left m
+performed_comes rules run good P E (Writes e more) t d left m = performed_comes rules run good P E more t e left m
+performed_comes rules run good P E (Does p k h) t d left m =
     comes_joined rules (rules.Ends m.1 p) (rules.Fails m.1 p) P E (run p d left)
     (λ flow e rest. performed (fitting_of rules.tree) run (k flow) e rest) (λ n e rest. performed (fitting_of rules.tree) run (h n) e rest)
-    (λ flow e rest ends more. performed_comes rules run good P E (k flow) (calm e) e rest more (m.3 flow e ends))
-    (λ n e rest fails more. performed_comes rules run good P E (h n) (calm e) e rest more (m.4 n e fails))
-    (good m.1 p d left m.2 full)
+    (λ flow e rest ends. performed_comes rules run good P E (k flow) (calm e) e rest (m.3 flow e ends))
+    (λ n e rest fails. performed_comes rules run good P E (h n) (calm e) e rest (m.4 n e fails))
+    (good m.1 p d left m.2)
 
 -- each part keeps what is said of it
 abbrev pub Keeps : Rules → Type 0
@@ -76,6 +75,6 @@ Keeps rules = (g : rules.Ghost) (p : Part) (d : Data) → rules.Begins g p d →
 
 pub deep_comes : (rules : Rules) → Keeps rules → (n : ℕ) → RunComes rules (deep rules.tree n)
 unfolding deep
-deep_comes rules keeps zero g p d left begins full = tt
-deep_comes rules keeps (suc n) g p d left begins full =
-    performed_comes rules (deep rules.tree n) (deep_comes rules keeps n) (rules.Ends g p) (rules.Fails g p) (part rules.tree p) (calm d) d left full (keeps g p d begins)
+deep_comes rules keeps zero g p d left begins = tt
+deep_comes rules keeps (suc n) g p d left begins =
+    performed_comes rules (deep rules.tree n) (deep_comes rules keeps n) (rules.Ends g p) (rules.Fails g p) (part rules.tree p) (calm d) d left (keeps g p d begins)

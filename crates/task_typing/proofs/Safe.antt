@@ -1,8 +1,8 @@
 -- Doings that keep the data of their types, and give what is said of them.
-use Rattle.std.proofs.Common.{◌≡◌, refl, sym, ap, ◌∙◌, subst, ℕ, Bool, true, false, Option, Some, if◌then◌else◌, IsTrue}
+use Rattle.std.proofs.Common.{◌≡◌, refl, sym, ap, ◌∙◌, subst, ℕ, Bool, true, false, Option, Some, None, if◌then◌else◌, IsTrue}
 use Rattle.std.specs.Prelude.{⊤}
 use Rattle.rapid_model.specs.Fits.{fits_request}
-use Rattle.rapid_model.specs.Own.{is_hold, is_leave, is_rise, is_trap}
+use Rattle.rapid_model.specs.Own.{fate_told, is_hold, is_leave, is_rise, is_trap}
 use Rattle.rapid_model.specs.Requests.{may_tell}
 use Rattle.rapid_model.specs.declared.answer.Answer.{Answer}
 use Rattle.rapid_model.specs.declared.fate.Fate.{Fate}
@@ -13,7 +13,6 @@ use Rattle.rapid_meaning.specs.Data.{Data}
 use Rattle.rapid_meaning.specs.Doings.{Doing, Gives, Raises, Asks, Ends, Reads, Does, ◌>>=◌, after, change, done, fault, goes_to, or_misfit}
 use Rattle.rapid_meaning.specs.Flows.{Flow, Part}
 use Rattle.task_typing.specs.Asked.{IsAsked}
-use Rattle.task_typing.specs.Full.{is_full_answer}
 use Rattle.task_typing.specs.Setting.{Setting}
 use Rattle.task_typing.proofs.Meets.{Meets, meets_after}
 use Rattle.task_typing.proofs.Scene.{Facts, Ghost, InScene, IsEnd, IsPart, Scene, frames_in, rules_of}
@@ -65,11 +64,12 @@ safe_writes s P m d e id ie safe = subst (λ (t : Told). Meets (rules_of s.c) (�
 pub safe_change : (s : Scene) (to : Data → Data) → ((d : Data) → InScene s d → InScene s (to d)) → Safe s Anything (change to)
 safe_change s to keeps d is = safe_writes s Anything done d (to d) is (keeps d is) (safe_done s)
 
--- a request that is neither Hold, nor Rise, nor Leave
+-- a request that is neither Hold, nor Rise, nor Leave, nor End
 pub record IsQuiet (request : Request) : Type 0 where
   pub no_rise : is_rise request ≡ false
   pub no_hold : is_hold request ≡ false
   pub no_leave : is_leave request ≡ false
+  pub no_end : fate_told request ≡ None
 
 quiet_told : (request : Request) (a : Answer) (d : Data) → IsQuiet request → is_trap a ≡ false → calm d ≡ told_after (calm d) request a
 quiet_told request a d quiet untrapped =
@@ -79,15 +79,16 @@ quiet_told request a d quiet untrapped =
 
 -- each answer that fits is no trap, and goes on well
 abbrev pub Answered : {A : Type 0} → Scene → (A → Type 0) → Request → (Answer → Doing A) → Type 0
-Answered s P request k = (trapped : Bool) (a : Answer) → IsTrue (fits_request (fitting_of s.c.tree trapped) request a) → IsTrue (is_full_answer a) → (is_trap a ≡ false) × Safe s P (k a)
+Answered s P request k = (trapped : Bool) (a : Answer) → IsTrue (fits_request (fitting_of s.c.tree trapped) request a) → (is_trap a ≡ false) × Safe s P (k a)
 
 pub safe_asks : {A : Type 0} (s : Scene) (P : A → Type 0) (request : Request) (k : Answer → Doing A) → IsQuiet request → ((d : Data) → IsAsked s.c d request) → Answered s P request k
     → Safe s P (Asks request k)
 safe_asks s P request k quiet asked answered d is = (
   record { rises = quiet.no_rise; same = refl; asked = record { asked = asked d; trapped = s.trapped; frames = s.frames; state = is } },
-  λ a fits full.
-      subst (λ (t : Told). Meets (rules_of s.c) (λ v x. P v × InScene s x) (λ n x. InScene s x) (k a) t d) (quiet_told request a d quiet (answered d.trapped a fits full).0)
-      ((answered d.trapped a fits full).1 d is),
+  quiet.no_end,
+  λ a fits.
+      subst (λ (t : Told). Meets (rules_of s.c) (λ v x. P v × InScene s x) (λ n x. InScene s x) (k a) t d) (quiet_told request a d quiet (answered d.trapped a fits).0)
+      ((answered d.trapped a fits).1 d is),
 )
 
 -- what is there

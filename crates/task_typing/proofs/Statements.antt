@@ -1,5 +1,5 @@
 -- Statements and lists of them.
-use Rattle.std.proofs.Common.{◌≡◌, ◌⊎◌, ⊎_elim, refl, sym, subst, ℕ, ◌+◌, ◌<◌, ◌/◌, ◌%◌, ◌==◌, ◌&&◌, nat_le, Bool, true, false, ℤ, pos, negsuc, int_lt, neg_ℤ, List, [], ◌∷◌, map, flat_map, Option, Some, None, is_some, slice_get, if◌then◌else◌, IsTrue, arith}
+use Rattle.std.proofs.Common.{◌≡◌, ◌⊎◌, ⊎_elim, refl, sym, ap, ◌∙◌, subst, ℕ, ◌+◌, ◌<◌, ◌/◌, ◌%◌, ◌==◌, ◌&&◌, nat_le, Bool, true, false, ℤ, pos, negsuc, List, [], ◌∷◌, map, flat_map, Option, Some, None, is_some, slice_get, if◌then◌else◌, IsTrue, arith}
 use Rattle.std.specs.Prelude.{⊤}
 use Rattle.rapid_num.specs.Arithmetic.{sum_of}
 use Rattle.rapid_model.specs.declared.fate.Fate.TheVariants as fates
@@ -13,7 +13,9 @@ use Rattle.rapid_operators.specs.Operators.{apply}
 use Rattle.typed_trees.specs.Plain as trees
 use Rattle.typed_trees.specs.Plain.{TypedArms, TypedCases, TypedElse, TypedExpr, TypedExprs, TypedRoutine, TypedStmt, TypedStmts, NoExprs, MoreExprs, NoStmts, MoreStmts, NoArms, MoreArms, NoCases, MoreCases, NoElse, Else}
 use Rattle.typed_trees.specs.declared.datum.Datum.TheVariants as datums
-use Rattle.rapid_meaning.specs.Doings.{Act, Doing, Ends, Gives, Raises, ◌>>=◌, ◌>>◌, after, calls, change, fault, goes_to}
+use Rattle.typed_trees.specs.declared.datum.Lvalue.{Lvalue}
+use Rattle.rapid_meaning.specs.Answering.{is_trap_kind, is_trap_row}
+use Rattle.rapid_meaning.specs.Doings.{Doing, Ends, Gives, Raises, ◌>>=◌, ◌>>◌, after, calls, change, fault, goes_to}
 use Rattle.rapid_meaning.specs.Errors.{failed, failed_in, header, parted, raised_again}
 use Rattle.rapid_meaning.specs.Expressions.{arguments, expr, place}
 use Rattle.rapid_meaning.specs.Flows.{Flow, Normal, Jumps, Returns, Retries, Skips, Errors, Unguarded, Guarded, InPart, Where, Attempt, Turn, Rest}
@@ -22,7 +24,7 @@ use Rattle.rapid_meaning.specs.Interrupts.{connect, number_at}
 use Rattle.rapid_meaning.specs.Layouts.{local_start}
 use Rattle.rapid_meaning.specs.Lists.{behind, ended, items, jumped, rest}
 use Rattle.rapid_meaning.specs.Looks.{look}
-use Rattle.rapid_meaning.specs.Loops.{bounds, counted, counter, counter_place, counts_on, has_passed, set_counter, step_of, turn_due}
+use Rattle.rapid_meaning.specs.Loops.{bounds, counted, counter, counter_place, counts_on, direction, has_passed, set_counter, turn_due}
 use Rattle.rapid_meaning.specs.Places.{own_place, read_value, write_value}
 use Rattle.rapid_meaning.specs.Statements.{again_behind, and_then, assign, byte_of, call, chosen, connects, done_or_held, follows, goes_on, inner, inner_or_not, is_among, raised, selected, stmt, turn, turned}
 use Rattle.rapid_meaning.specs.Values.{applied, num_in, truth_in}
@@ -126,10 +128,10 @@ again_safe c facts g w (InPart entered) is = safe_raises (place_of c facts g w) 
 again_safe c facts g w Unguarded is = absurd cc
 again_safe c facts g w (Guarded list) is = absurd cc
 
-connects_safe : (i : Inside) (p : trees.TypedPlace) (trap : ℕ) → IsPlace i.c (kinds_of i.routine) p sorts.IntNum → Safe (scene i) Anything (connects i.c.tree i.routine p trap)
-connects_safe i p trap is =
+connects_safe : (i : Inside) (p : trees.TypedPlace) (trap : ℕ) → IsTrue (is_trap_row (slice_get i.c.tree.routines trap)) → IsPlace i.c (kinds_of i.routine) p sorts.IntNum → Safe (scene i) Anything (connects i.c.tree i.routine p trap)
+connects_safe i p trap there is =
     safe_then (scene i) (λ q. IsThere (scene i) q sorts.IntNum) Anything (place i.c.tree i.routine p) (λ q. number_at q >>= λ old. connect q old trap) (place_safe i p sorts.IntNum is)
-    (λ q at. safe_then (scene i) Anything Anything (number_at q) (λ old. connect q old trap) (number_safe (scene i) q sorts.IntNum refl at) (λ old _. connect_safe (scene i) q old trap at))
+    (λ q at. safe_then (scene i) Anything Anything (number_at q) (λ old. connect q old trap) (number_safe (scene i) q sorts.IntNum refl at) (λ old _. connect_safe (scene i) q old trap there at))
 
 -- IF and TEST choose a list
 chosen_safe : (i : Inside) (around : Around) (arms : TypedArms) (other : TypedElse) → around.places ≡ kinds_of i.routine → AreArms i.c around arms → IsElse i.c around other
@@ -177,20 +179,46 @@ set_safe i local which n e few =
     safe_then (scene i) (λ q. IsThere (scene i) q sorts.Num) Anything (counter_place i.routine local which) (λ p. write_value p (values.Num n)) (counter_place_safe i local which e few)
     (λ q at. store_safe (scene i) q sorts.Num (datums.Plain (values.Num n)) at refl)
 
-step_safe : (i : Inside) (first last : ℤ) (step : Option TypedExpr) → IsStep i.c (kinds_of i.routine) step → Safe (scene i) Anything (step_of i.c.tree i.routine first last step)
-step_safe i first last None is = safe_any (scene i) (if int_lt last first then neg_ℤ (pos 1_000) else pos 1_000)
-step_safe i first last (Some e) is = num_expr i e is
+-- a num is stored in one of them
+write_safe : (i : Inside) (q : Lvalue) (n : ℤ) → IsThere (scene i) q sorts.Num → Safe (scene i) Anything (write_value q (values.Num n))
+write_safe i q n at = store_safe (scene i) q sorts.Num (datums.Plain (values.Num n)) at refl
+
+-- the bounds with a step, as they are evaluated
+stored_safe : (i : Inside) (p q r : Lvalue) (from to by : ℤ) → IsThere (scene i) p sorts.Num → IsThere (scene i) q sorts.Num → IsThere (scene i) r sorts.Num
+    → Safe (scene i) Anything (write_value r (values.Num by) >> (write_value q (values.Num to) >> write_value p (values.Num from)))
+stored_safe i p q r from to by at_p at_q at_r =
+    safe_then (scene i) Anything Anything (write_value r (values.Num by)) (λ _. write_value q (values.Num to) >> write_value p (values.Num from)) (write_safe i r by at_r)
+    (λ _ _. safe_then (scene i) Anything Anything (write_value q (values.Num to)) (λ _. write_value p (values.Num from)) (write_safe i q to at_q)
+    (λ _ _. write_safe i p from at_p))
+
+-- a step by the two others, as they are stored
+found_safe : (i : Inside) (local : ℕ) (r : Lvalue) → slice_get (kinds_of i.routine) local ≡ Some Counts → IsThere (scene i) r sorts.Num
+    → Safe (scene i) Anything (counter i.routine local 0 >>= λ begins. counter i.routine local 1 >>= λ ends. write_value r (values.Num (direction begins ends)))
+found_safe i local r e at_r =
+    safe_then (scene i) Anything Anything (counter i.routine local 0) (λ begins. counter i.routine local 1 >>= λ ends. write_value r (values.Num (direction begins ends)))
+    (counter_safe i local 0 e (omega arith))
+    (λ begins _. safe_then (scene i) Anything Anything (counter i.routine local 1) (λ ends. write_value r (values.Num (direction begins ends))) (counter_safe i local 1 e (omega arith))
+    (λ ends _. write_safe i r (direction begins ends) at_r))
 
 bounds_safe : (i : Inside) (local : ℕ) (first last : TypedExpr) (step : Option TypedExpr) → slice_get (kinds_of i.routine) local ≡ Some Counts → IsExpr i.c (kinds_of i.routine) first sorts.Num
     → IsExpr i.c (kinds_of i.routine) last sorts.Num → IsStep i.c (kinds_of i.routine) step → Safe (scene i) Anything (bounds i.c.tree i.routine local first last step)
-bounds_safe i local first last step e ifirst ilast istep =
-    let stores : ℤ → ℤ → ℤ → Act = λ from to by. set_counter i.routine local 2 by >> (set_counter i.routine local 1 to >> set_counter i.routine local 0 from) in
-    safe_then (scene i) Anything Anything (num i.c.tree i.routine first) (λ from. num i.c.tree i.routine last >>= λ to. step_of i.c.tree i.routine from to step >>= λ by. stores from to by) (num_expr i first ifirst)
-    (λ from _. safe_then (scene i) Anything Anything (num i.c.tree i.routine last) (λ to. step_of i.c.tree i.routine from to step >>= λ by. stores from to by) (num_expr i last ilast)
-    (λ to _. safe_then (scene i) Anything Anything (step_of i.c.tree i.routine from to step) (λ by. stores from to by) (step_safe i from to step istep)
-    (λ by _. safe_then (scene i) Anything Anything (set_counter i.routine local 2 by) (λ _. set_counter i.routine local 1 to >> set_counter i.routine local 0 from) (set_safe i local 2 by e (omega arith))
-    (λ _ _. safe_then (scene i) Anything Anything (set_counter i.routine local 1 to) (λ _. set_counter i.routine local 0 from) (set_safe i local 1 to e (omega arith))
-    (λ _ _. set_safe i local 0 from e (omega arith))))))
+bounds_safe i local first last (Some step) e ifirst ilast istep =
+    safe_then (scene i) (λ p. IsThere (scene i) p sorts.Num) Anything (counter_place i.routine local 0) _ (counter_place_safe i local 0 e (omega arith))
+    (λ p at_p. safe_then (scene i) Anything Anything (num i.c.tree i.routine first) _ (num_expr i first ifirst)
+    (λ from _. safe_then (scene i) (λ q. IsThere (scene i) q sorts.Num) Anything (counter_place i.routine local 1) _ (counter_place_safe i local 1 e (omega arith))
+    (λ q at_q. safe_then (scene i) Anything Anything (num i.c.tree i.routine last) _ (num_expr i last ilast)
+    (λ to _. safe_then (scene i) (λ r. IsThere (scene i) r sorts.Num) Anything (counter_place i.routine local 2) _ (counter_place_safe i local 2 e (omega arith))
+    (λ r at_r. safe_then (scene i) Anything Anything (num i.c.tree i.routine step) _ (num_expr i step istep)
+    (λ by _. stored_safe i p q r from to by at_p at_q at_r))))))
+bounds_safe i local first last None e ifirst ilast istep =
+    safe_then (scene i) (λ p. IsThere (scene i) p sorts.Num) Anything (counter_place i.routine local 0) _ (counter_place_safe i local 0 e (omega arith))
+    (λ p at_p. safe_then (scene i) Anything Anything (num i.c.tree i.routine first) _ (num_expr i first ifirst)
+    (λ from _. safe_then (scene i) (λ q. IsThere (scene i) q sorts.Num) Anything (counter_place i.routine local 1) _ (counter_place_safe i local 1 e (omega arith))
+    (λ q at_q. safe_then (scene i) Anything Anything (num i.c.tree i.routine last) _ (num_expr i last ilast)
+    (λ to _. safe_then (scene i) Anything Anything (write_value q (values.Num to)) _ (write_safe i q to at_q)
+    (λ _ _. safe_then (scene i) Anything Anything (write_value p (values.Num from)) _ (write_safe i p from at_p)
+    (λ _ _. safe_then (scene i) (λ r. IsThere (scene i) r sorts.Num) Anything (counter_place i.routine local 2) _ (counter_place_safe i local 2 e (omega arith))
+    (λ r at_r. found_safe i local r e at_r)))))))
 
 -- the next turn of a FOR
 due_safe : (c : Setting) (facts : Facts c) (g : Ghost) (w : Where) (s : TypedStmt) (local : ℕ) → slice_get (kinds_of w.routine) local ≡ Some Counts → IsPart c g (Turn w s)
@@ -258,7 +286,7 @@ follows_safe c facts g w s (trees.Raise at (Some e)) part is loops =
 follows_safe c facts g w s (trees.Retry at) part is loops = safe_gives (place_of c facts g w) (IsFlow (around_of w g.lists)) Retries is
 follows_safe c facts g w s (trees.TryNext at) part is loops = safe_gives (place_of c facts g w) (IsFlow (around_of w g.lists)) Skips is
 follows_safe c facts g w s (trees.Connect at p trap) part is loops =
-    header_safe c facts g w s Anything (connects c.tree w.routine p trap) goes_on part (connects_safe (inside_of c facts g w.routine) p trap is.0) (λ _ _. goes_normal c facts g w)
+    header_safe c facts g w s Anything (connects c.tree w.routine p trap) goes_on part (connects_safe (inside_of c facts g w.routine) p trap (ap is_trap_row is.2 ∙ ap is_trap_kind is.3) is.0) (λ _ _. goes_normal c facts g w)
 follows_safe c facts g w s (trees.If at arms other) part is loops =
     header_safe c facts g w s (IsElse c (around_of w g.lists)) (chosen c.tree w.routine arms other) (inner_or_not w) part
     (chosen_safe (inside_of c facts g w.routine) (around_of w g.lists) arms other refl is.0 is.1) (λ list typed. other_safe c facts g w list part.0 typed)

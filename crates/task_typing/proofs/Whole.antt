@@ -1,5 +1,5 @@
 -- A well typed task asks or has ended, and its data are of their types.
-use Rattle.std.proofs.Common.{◌≡◌, refl, sym, ap, ◌∙◌, subst, ℕ, zero, suc, ◌<◌, ◌==◌, Bool, true, false, List, [], ◌∷◌, length, map, flat_map, Option, Some, slice_get, if◌then◌else◌, IsTrue, arith}
+use Rattle.std.proofs.Common.{◌≡◌, refl, sym, ap, ◌∙◌, subst, ℕ, zero, suc, ◌<◌, ◌==◌, Bool, true, false, List, [], ◌∷◌, ◌++◌, length, map, flat_map, Option, Some, slice_get, if◌then◌else◌, IsTrue, arith, length-append}
 use Rattle.std.specs.Prelude.{⊤}
 use Rattle.std.proofs.lemmas.Bool.{eqb-true, eq-eqb}
 use Rattle.std.proofs.lemmas.Option.{slice_get_within}
@@ -11,14 +11,13 @@ use Rattle.rapid_model.specs.declared.request.Request.{Request}
 use Rattle.rapid_model.specs.declared.request.Request.TheVariants.{End}
 use Rattle.rapid_model.specs.declared.sort.Sort.{Sort}
 use Rattle.typed_trees.specs.Plain.{TypedParam, TypedPers, TypedTree}
-use Rattle.rapid_meaning.specs.Answering.{Outcome, Gave, Raised, Asking, Ended, Misfits, Unfit, NoFuel, sort_of_pers}
+use Rattle.rapid_meaning.specs.Answering.{Outcome, Gave, Raised, Asking, Ended, Misfits, Unfit, NoFuel, fitting_of, performed, sort_of_pers}
 use Rattle.rapid_meaning.specs.Data.{Data}
 use Rattle.rapid_meaning.specs.Frames.{initial}
 use Rattle.rapid_meaning.specs.Runs.{FitsSteps, asked_after, data_after, data_in, deep, next_of, state_after, task}
 use Rattle.rapid_meaning.proofs.Fuel.{enough}
 use Rattle.rapid_meaning.proofs.Growth.{fit_runs}
 use Rattle.task_typing.specs.Asked.{IsAsked}
-use Rattle.task_typing.specs.Full.{AreFull}
 use Rattle.task_typing.specs.Goes.{AreTyped, Goes}
 use Rattle.task_typing.specs.Kinds.{cells_of, kind_of}
 use Rattle.task_typing.specs.Numbered.{IsOne, Numbered}
@@ -29,8 +28,9 @@ use Rattle.task_typing.proofs.Calls.{keeps}
 use Rattle.task_typing.proofs.Frames.{slots_in}
 use Rattle.task_typing.proofs.Meets.{Meets}
 use Rattle.task_typing.proofs.Rows.{all_at}
-use Rattle.task_typing.proofs.Runs.{Comes, deep_comes, performed_comes}
+use Rattle.task_typing.proofs.Runs.{Comes, Keeps, deep_comes, performed_comes}
 use Rattle.task_typing.proofs.Scene.{Facts, IsDue, rules_of}
+use Rattle.task_typing.proofs.Steps.{Follows, Stands, deep_follows, deep_stands, performed_follows, performed_stands}
 use Rattle.task_typing.proofs.Told.{calm, calm_itself}
 
 there_is : {A : Type 0} (xs : List A) (k : ℕ) → k < length xs → (x : A) × (slice_get xs k ≡ Some x)
@@ -61,7 +61,7 @@ sort_found (n ∷ ns) (r ∷ rs) row number p one numbered there =
 one_row : (x y : PersCell) (o : Option PersCell) → o ≡ Some x → o ≡ Some y → x ≡ y
 one_row x y o e f = cc
 
-facts_of : (signals : ℕ) (arm : Bool) (cell : CellData) (number : ℕ) (tree : TypedTree) → WellTyped signals arm tree → Numbered cell number tree
+pub facts_of : (signals : ℕ) (arm : Bool) (cell : CellData) (number : ℕ) (tree : TypedTree) → WellTyped signals arm tree → Numbered cell number tree
     → Facts (record { signals = signals; arm = arm; tree = tree })
 facts_of signals arm cell number tree typed numbered = record {
   numbers = λ row p e. let few : row < length tree.pers = slice_get_within tree.pers row p e in there_is tree.pers_of row (omega (arith, few, numbered.as_many_pers));
@@ -92,31 +92,53 @@ task_meets signals arm tree typed = (
 )
 
 -- what a task comes to: it gives nothing, and raises nothing
-abbrev ComesTo : Setting → Outcome ⊤ → Type 0
+abbrev pub ComesTo : Setting → Outcome ⊤ → Type 0
 ComesTo c o = Comes (rules_of c) (λ (v : ⊤) d. ⊥) (λ n d. ⊥) o
 
-state_comes : (signals : ℕ) (arm : Bool) (cell : CellData) (number : ℕ) (tree : TypedTree) (answers : List Answer) → WellTyped signals arm tree → Numbered cell number tree → AreFull answers
+pub state_comes : (signals : ℕ) (arm : Bool) (cell : CellData) (number : ℕ) (tree : TypedTree) (answers : List Answer) → WellTyped signals arm tree → Numbered cell number tree
     → ComesTo (record { signals = signals; arm = arm; tree = tree }) (state_after tree answers)
 unfolding state_after
-state_comes signals arm cell number tree answers typed numbered full =
+state_comes signals arm cell number tree answers typed numbered =
     let c : Setting = record { signals = signals; arm = arm; tree = tree } in
     performed_comes (rules_of c) (deep tree (suc (length answers))) (deep_comes (rules_of c) (keeps c (facts_of signals arm cell number tree typed numbered)) (suc (length answers)))
-    (λ (v : ⊤) d. ⊥) (λ n d. ⊥) (task tree) (calm (initial tree)) (initial tree) answers full (task_meets signals arm tree typed)
+    (λ (v : ⊤) d. ⊥) (λ n d. ⊥) (task tree) (calm (initial tree)) (initial tree) answers (task_meets signals arm tree typed)
+
+-- with no answer it stands as it began, and with one answer more as its events then tell
+pub first_stands : (signals : ℕ) (arm : Bool) (cell : CellData) (number : ℕ) (tree : TypedTree) → WellTyped signals arm tree → Numbered cell number tree
+    → Stands (rules_of (record { signals = signals; arm = arm; tree = tree })) (λ (v : ⊤) d. ⊥) (λ n d. ⊥) (calm (initial tree)) (state_after tree [])
+unfolding state_after
+first_stands signals arm cell number tree typed numbered =
+    let c : Setting = record { signals = signals; arm = arm; tree = tree } in
+    performed_stands (rules_of c) (deep tree 1) (deep_stands (rules_of c) (keeps c (facts_of signals arm cell number tree typed numbered)) 1)
+    (λ (v : ⊤) d. ⊥) (λ n d. ⊥) (task tree) (calm (initial tree)) (initial tree) (task_meets signals arm tree typed)
+
+pub next_follows : (signals : ℕ) (arm : Bool) (cell : CellData) (number : ℕ) (tree : TypedTree) (answers : List Answer) (a : Answer) → WellTyped signals arm tree → Numbered cell number tree
+    → Follows (rules_of (record { signals = signals; arm = arm; tree = tree })) (λ (v : ⊤) d. ⊥) (λ n d. ⊥) a (state_after tree answers) (state_after tree (answers ++ a ∷ []))
+unfolding state_after
+next_follows signals arm cell number tree answers a typed numbered =
+    let c : Setting = record { signals = signals; arm = arm; tree = tree } in
+    let kept : Keeps (rules_of c) = keeps c (facts_of signals arm cell number tree typed numbered) in
+    let n : ℕ = suc (length answers) in
+    let longer : n ≡ length (answers ++ a ∷ []) = omega (arith, length-append answers (a ∷ [])) in
+    subst (λ (k : ℕ). Follows (rules_of c) (λ (v : ⊤) d. ⊥) (λ m d. ⊥) a (performed (fitting_of tree) (deep tree n) (task tree) (initial tree) answers)
+    (performed (fitting_of tree) (deep tree (suc k)) (task tree) (initial tree) (answers ++ a ∷ []))) longer
+    (performed_follows (rules_of c) a (deep tree n) (deep tree (suc n)) (deep_follows (rules_of c) kept a n) (deep_stands (rules_of c) kept (suc n))
+    (λ (v : ⊤) d. ⊥) (λ m d. ⊥) (task tree) (calm (initial tree)) (initial tree) answers (task_meets signals arm tree typed))
 
 goes_from : (c : Setting) (o : Outcome ⊤) → ComesTo c o → (o ≡ Unfit → ⊥) → (o ≡ NoFuel → ⊥) → Goes (next_of o)
 goes_from c (Asking request d) comes fit fuel = tt
 goes_from c (Ended d) comes fit fuel = tt
-goes_from c (Gave v d left) comes fit fuel = comes.0
-goes_from c (Raised n d left) comes fit fuel = comes.0
+goes_from c (Gave v d left) comes fit fuel = comes
+goes_from c (Raised n d left) comes fit fuel = comes
 goes_from c Misfits comes fit fuel = comes
 goes_from c Unfit comes fit fuel = fit refl
 goes_from c NoFuel comes fit fuel = absurd (fuel refl)
 
 pub goes : (signals : ℕ) (arm : Bool) (cell : CellData) (number : ℕ) (tree : TypedTree) (answers : List Answer) → WellTyped signals arm tree → Numbered cell number tree
-    → FitsSteps tree answers → AreFull answers → Goes (asked_after tree answers)
+    → FitsSteps tree answers → Goes (asked_after tree answers)
 unfolding asked_after
-goes signals arm cell number tree answers typed numbered fits full =
-    goes_from (record { signals = signals; arm = arm; tree = tree }) (state_after tree answers) (state_comes signals arm cell number tree answers typed numbered full)
+goes signals arm cell number tree answers typed numbered fits =
+    goes_from (record { signals = signals; arm = arm; tree = tree }) (state_after tree answers) (state_comes signals arm cell number tree answers typed numbered)
     (fit_runs tree answers fits) (enough tree answers)
 
 due_typed : (c : Setting) (d : Data) (request : Request) → IsDue c d request → AreTyped c.tree d
@@ -132,15 +154,15 @@ typed_from c Unfit d comes is = absurd cc
 typed_from c NoFuel d comes is = absurd cc
 
 pub typed_data : (signals : ℕ) (arm : Bool) (cell : CellData) (number : ℕ) (tree : TypedTree) (answers : List Answer) (d : Data) → WellTyped signals arm tree → Numbered cell number tree
-    → AreFull answers → data_after tree answers ≡ Some d → AreTyped tree d
+    → data_after tree answers ≡ Some d → AreTyped tree d
 unfolding data_after
-typed_data signals arm cell number tree answers d typed numbered full is =
-    typed_from (record { signals = signals; arm = arm; tree = tree }) (state_after tree answers) d (state_comes signals arm cell number tree answers typed numbered full) is
+typed_data signals arm cell number tree answers d typed numbered is =
+    typed_from (record { signals = signals; arm = arm; tree = tree }) (state_after tree answers) d (state_comes signals arm cell number tree answers typed numbered) is
 
 asked_from : (c : Setting) (o : Outcome ⊤) (request : Request) (d : Data) → ComesTo c o → o ≡ Asking request d → IsAsked c d request
 asked_from c o request d comes is = let due : IsDue c d request = subst (λ (x : Outcome ⊤). ComesTo c x) is comes in due.asked
 
 pub asked : (signals : ℕ) (arm : Bool) (cell : CellData) (number : ℕ) (tree : TypedTree) (answers : List Answer) (request : Request) (d : Data) → WellTyped signals arm tree
-    → Numbered cell number tree → AreFull answers → state_after tree answers ≡ Asking request d → IsAsked (record { signals = signals; arm = arm; tree = tree }) d request
-asked signals arm cell number tree answers request d typed numbered full is =
-    asked_from (record { signals = signals; arm = arm; tree = tree }) (state_after tree answers) request d (state_comes signals arm cell number tree answers typed numbered full) is
+    → Numbered cell number tree → state_after tree answers ≡ Asking request d → IsAsked (record { signals = signals; arm = arm; tree = tree }) d request
+asked signals arm cell number tree answers request d typed numbered is =
+    asked_from (record { signals = signals; arm = arm; tree = tree }) (state_after tree answers) request d (state_comes signals arm cell number tree answers typed numbered) is

@@ -9,6 +9,7 @@ use Rattle.rapid_model.specs.declared.sort.Sort.TheVariants as sorts
 use Rattle.rapid_model.specs.declared.watched.Watched.{Watched}
 use Rattle.rapid_model.specs.declared.watched.Watched.TheVariants as watched
 use Rattle.typed_trees.specs.Plain.{TypedPers}
+use Rattle.rapid_meaning.specs.Answering.{is_trap_row}
 use Rattle.rapid_meaning.specs.Data.{Data}
 use Rattle.task_typing.specs.Setting.{Setting}
 use Rattle.task_typing.specs.States.{IsPers}
@@ -19,7 +20,7 @@ CanWatch c (watched.Signal signal value) = signal < c.signals
 CanWatch c (watched.Pers pers) = (p : TypedPers) × IsPers c.tree pers p
 
 -- A request of what is there, with these data: elements and parts that a persistent has and values of their types, signals, an
--- arm's only where there is one, meetings and tasks that are listed, Leave only in a trap.
+-- arm's only where there is one, traps to connect, meetings and tasks that are listed, Leave only in a trap.
 abbrev pub IsAsked : Setting → Data → Request → Type 0
 IsAsked c d (requests.ReadP pers path) = (p : TypedPers) × IsPers c.tree pers p × IsTrue (has_element p.len path.index) × IsTrue (is_some (part_sort p.sort path.part))
 IsAsked c d (requests.WriteP pers path value) = (p : TypedPers) × IsPers c.tree pers p × IsTrue (has_element p.len path.index) × IsTrue (fits_part p.sort path.part value)
@@ -28,6 +29,7 @@ IsAsked c d (requests.ReadS signal) = signal < c.signals
 IsAsked c d (requests.WriteS signal value) = signal < c.signals
 IsAsked c d requests.Position = IsTrue c.arm
 IsAsked c d (requests.Setpoint to) = IsTrue c.arm × IsTrue (is_position to)
+IsAsked c d (requests.Connect old trap) = IsTrue (is_trap_row (slice_get c.tree.routines trap))
 IsAsked c d (requests.Order number on single) = CanWatch c on
 IsAsked c d requests.Leave = d.trapped ≡ true
 IsAsked c d (requests.ZoneSet old temporary shape) = IsTrue c.arm

@@ -8,5 +8,5 @@ pub mod WellTyped
 pub mod Numbered
 pub mod States
 pub mod Asked
-pub mod Full
 pub mod Goes
+pub mod OwnEvents

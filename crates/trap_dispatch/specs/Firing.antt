@@ -1,5 +1,5 @@
 -- Which interrupts an event's changes fire (RAPID Instructions: ISignalDI, ISignalDO, IPers).
-use Rattle.std.specs.Prelude.{ℕ, ◌-◌, Bool, true, false, not, ◌&&◌, ◌==◌, if◌then◌else◌, List, length, filter, slice_index_or, Option, None, Some}
+use Rattle.std.specs.Prelude.{ℕ, ◌-◌, Bool, false, not, ◌&&◌, ◌==◌, if◌then◌else◌, List, length, filter, slice_index_or, Option, None, Some}
 use Rattle.std.specs.List.{list_any, range_with_len}
 use Rattle.rapid_model.specs.Truths.{same_truth}
 use Rattle.rapid_model.specs.declared.watched.Watched.{Watched}

@@ -1,5 +1,5 @@
 -- Zones of arms by number, and zones of the cell (RAPID Instructions: WZLimSup, WZDisable, WZEnable, WZFree).
-use Rattle.std.specs.Prelude.{ℕ, ◌+◌, ◌-◌, Bool, true, false, not, ◌&&◌, ◌==◌, if◌then◌else◌, List, length, map, replicate, slice_index_or, slice_set, Option, None, Some, is_some, is_none, Result, Ok, Err}
+use Rattle.std.specs.Prelude.{ℕ, ◌+◌, ◌-◌, Bool, true, false, ◌&&◌, ◌==◌, if◌then◌else◌, List, length, map, replicate, slice_index_or, slice_set, Option, None, Some, is_some, is_none, Result, Ok, Err}
 use Rattle.std.specs.List.{position_from}
 use Rattle.rapid_num.specs.declared.shape.Shape.{Shape}
 use Rattle.rapid_model.specs.Truths.{same_truth}

@@ -1,5 +1,9 @@
 use Rattle.name_laws.proofs.Constants.{constants_kept}
+use Rattle.name_laws.proofs.ConstMeans.{consts_are}
 use Rattle.name_laws.proofs.constants_have_their_places.Goals as goal
 
 pub returns : goal.returns
-returns c = constants_kept
+returns c = record {
+  places = λ modules signals arm names named spot name k means. constants_kept modules signals arm names named spot name k means;
+  which = λ modules tasks signals arm tree names p is named held spot name k means. consts_are modules tasks signals arm tree names p is named held spot name k means;
+}

@@ -5,4 +5,5 @@ pub returns : goal.returns
 returns c = record {
   lands = λ modules tasks signals arm tree is routine t row. (jumps_right modules tasks signals arm tree is routine t row).lands;
   once = λ modules tasks signals arm tree is apart routine t row. (jumps_right modules tasks signals arm tree is routine t row).once apart;
+  in_text_order = λ modules tasks signals arm tree is apart routine t row. (jumps_right modules tasks signals arm tree is routine t row).in_text_order apart;
 }

@@ -1,8 +1,10 @@
-use Rattle.std.proofs.Common.{ℕ, List, Vec, Global, ap, map, ◌∙◌, inl, subst}
+use Rattle.std.proofs.Common.{ℕ, List, Vec, Global, ap, map, ◌∙◌, inl, subst, sym, length, arith}
+use Rattle.std.specs.Prelude.{Option, Some, IfSome, ◌≤◌, ◌≡◌, None, ◌+◌, ◌<◌}
 use Rattle.controller.specs.Answered.{word_bytes}
-use Rattle.controller.specs.Loaded.{mention_of, bytes_of}
+use Rattle.controller.specs.Loaded.{bytes_of, names_in_turn}
 use Rattle.controller.proofs.Gains.{gained_none}
 use Rattle.controller.proofs.Exits.{AreRefused, words_refused, script_refused, module_refused, parsed_here, all_read}
+use Rattle.controller.proofs.GivenReads.{GivesAll, all_given, loaded_names}
 use Rattle.controller.proofs.Causes.{no_words, read_counted, no_write}
 use Rattle.controller.proofs.action.quiet.Goals as goal
 
@@ -28,43 +30,45 @@ returns-in-Err-load_script-clause-answers g c =
       printed = gained_none _;
       calls = gained_none _;
       told = c.refuse_file.ensures.told;
-    }) c.in-Err-load_script.ensures.script
+    }) c.in-Err-load_script.ensures.told c.in-Err-load_script.ensures.read
 
-pub returns-in-Err-mentions_of-clause-answers : goal.returns-in-Err-mentions_of-clause-answers
-returns-in-Err-mentions_of-clause-answers g c =
+pub returns-in-Err-module_files-clause-answers : goal.returns-in-Err-module_files-clause-answers
+returns-in-Err-module_files-clause-answers g c =
     inl (record {
-      refused_is = c.refuse-in-Err-mentions_of.ensures.refused;
-      status = c.refuse-in-Err-mentions_of.ensures.status;
-      history = c.refuse-in-Err-mentions_of.ensures.history;
-      fates = c.refuse-in-Err-mentions_of.ensures.fates;
+      refused_is = c.refuse-in-Err-module_files.ensures.refused;
+      status = c.refuse-in-Err-module_files.ensures.status;
+      history = c.refuse-in-Err-module_files.ensures.history;
+      fates = c.refuse-in-Err-module_files.ensures.fates;
       printed = gained_none _;
       calls = gained_none _;
-      told = c.refuse-in-Err-mentions_of.ensures.told;
+      told = c.refuse-in-Err-module_files.ensures.told;
     })
 
 pub returns-in-Ok-parse_texts-clause-answers : goal.returns-in-Ok-parse_texts-clause-answers
 returns-in-Ok-parse_texts-clause-answers g c =
-    all_read _ _ (g.S.Shelf.told c.load_script.new.shelf) c.in-Ok.command.script.now _ c.in-Ok-load_script.script c.as_slice-files.result.now (bytes_of c.load_texts-texts.result.texts.items) c.load_texts-texts.result.failed _ _ _ _
+    let given = all_given (g.S.Shelf.told c.args.shelf.now) (g.S.Shelf.told c.load_script.new.shelf) c.in-Ok.command.script.now c.in-Ok-load_script.script (names_in_turn c.as_slice-files.result.now)
+    c.load_texts-texts.result.texts.items c.load_texts-texts.result.failed c.in-Ok-load_script.ensures.told_after c.in-Ok-load_script.ensures.told c.in-Ok-load_script.ensures.read c.load_texts-texts.ensures.told
+    (loaded_names c.as_slice-files.result.now c.load_texts-texts.result.texts.items c.load_texts-texts.result.failed c.load_texts-texts.ensures.within c.load_texts-texts.ensures.few c.load_texts-texts.ensures.whole c.load_texts-texts.ensures.unread) in
+    all_read _ (g.S.Shelf.told c.args.shelf.now) c.in-Ok.command.script.now _ c.in-Ok-load_script.script c.as_slice-files.result.now (bytes_of c.load_texts-texts.result.texts.items) c.load_texts-texts.result.failed _ _ _ _
     (record {
       taken = c.in-Ok.ensures.taken;
       name_is = c.in-Ok.ensures.name;
-      script_in = c.in-Ok-load_script.ensures.script;
-      after = c.in-Ok-load_script.ensures.told_after;
-      mentioned = ap (map mention_of) c.as_slice-files.ensures.value ∙ c.in-Ok-mentions_of.ensures.named;
-    }) c.in-Ok.ensures.action c.load_texts-texts.ensures.texts
+      named = ap names_in_turn c.as_slice-files.ensures.value ∙ c.in-Ok-module_files.ensures.named;
+    }) given c.in-Ok.ensures.action
     (parsed_here c.load_texts-texts.result.texts.items c.as_slice.result.now c.as_slice-in-Ok-parse_texts.result.now c.in-Ok-parse_texts.trees.items c.as_slice-in-Ok-parse_texts-2.result.now
     c.load_texts-texts.result.failed c.as_slice.ensures.value c.as_slice-in-Ok-parse_texts.ensures.value c.as_slice-in-Ok-parse_texts-2.ensures.value c.in-Ok-parse_texts.ensures.parsed) c.do_action.ensures.answers
 
 pub returns-clause-answers : goal.returns-clause-answers
 returns-clause-answers g c =
-    module_refused _ _ (g.S.Shelf.told c.load_script.new.shelf) c.in-Ok.command.script.now c.in-Ok-load_script.script c.as_slice-files.result.now (bytes_of c.load_texts-texts.result.texts.items) c.load_texts-texts.result.failed
+    let given = all_given (g.S.Shelf.told c.args.shelf.now) (g.S.Shelf.told c.load_script.new.shelf) c.in-Ok.command.script.now c.in-Ok-load_script.script (names_in_turn c.as_slice-files.result.now)
+    c.load_texts-texts.result.texts.items c.load_texts-texts.result.failed c.in-Ok-load_script.ensures.told_after c.in-Ok-load_script.ensures.told c.in-Ok-load_script.ensures.read c.load_texts-texts.ensures.told
+    (loaded_names c.as_slice-files.result.now c.load_texts-texts.result.texts.items c.load_texts-texts.result.failed c.load_texts-texts.ensures.within c.load_texts-texts.ensures.few c.load_texts-texts.ensures.whole c.load_texts-texts.ensures.unread) in
+    module_refused _ (g.S.Shelf.told c.args.shelf.now) c.in-Ok.command.script.now c.in-Ok-load_script.script c.as_slice-files.result.now (bytes_of c.load_texts-texts.result.texts.items) c.load_texts-texts.result.failed
     c.in-Err-parse_texts.refused _ _ _ (record {
       taken = c.in-Ok.ensures.taken;
       name_is = c.in-Ok.ensures.name;
-      script_in = c.in-Ok-load_script.ensures.script;
-      after = c.in-Ok-load_script.ensures.told_after;
-      mentioned = ap (map mention_of) c.as_slice-files.ensures.value ∙ c.in-Ok-mentions_of.ensures.named;
-    }) (record {
+      named = ap names_in_turn c.as_slice-files.ensures.value ∙ c.in-Ok-module_files.ensures.named;
+    }) given (record {
       refused_is = c.refuse_file-in-Err-parse_texts.ensures.refused;
       status = c.refuse_file-in-Err-parse_texts.ensures.status;
       history = c.refuse_file-in-Err-parse_texts.ensures.history;
@@ -72,7 +76,7 @@ returns-clause-answers g c =
       printed = gained_none _;
       calls = gained_none _;
       told = c.refuse_file-in-Err-parse_texts.ensures.told;
-    }) c.load_texts-texts.ensures.texts
+    })
     (subst (λ (texts : List (Vec ℕ Global)). AreRefused (bytes_of texts) c.load_texts-texts.result.failed c.in-Err-parse_texts.refused) c.as_slice.ensures.value c.in-Err-parse_texts.ensures.parsed)
 
 pub returns-clause-words : goal.returns-clause-words

@@ -3,4 +3,4 @@ use Rattle.controller.proofs.OneVerdict.{verdict_one}
 use Rattle.controller.proofs.laws.verdict_is_one.Goals as goal
 
 pub returns : goal.returns
-returns c = λ words told verdict other a b. verdict_one one_module words told verdict other a b
+returns c = λ words gave verdict other a b. verdict_one one_module words gave verdict other a b

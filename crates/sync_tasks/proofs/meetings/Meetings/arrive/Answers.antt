@@ -1,4 +1,3 @@
-use Rattle.std.proofs.Common.{◌≡◌}
 use Rattle.sync_tasks.proofs.Settled.{settled}
 use Rattle.sync_tasks.proofs.meetings.Meetings.arrive.Goals as goal
 

@@ -1,0 +1,41 @@
+//! Puts segments against zones, and fires interrupts, so many times, and tells what it came to. The words are which of `touches`,
+//! `blocks` and `firings`, and how many times; without words each is done once. For `bench/run`.
+#![tactic(auto)]
+
+mod segments;
+mod six_axes;
+mod sixty_four_orders;
+mod ten_zones;
+
+use segments::touching;
+use sixty_four_orders::SixtyFourOrders;
+use std::alloc::Global;
+use std::{env, io};
+use ten_zones::TenZones;
+
+fn main(rt: HostRuntime) -> io::Result<()> {
+    let mut words = env::args(&rt)?.skip(1);
+    let work = words.next();
+    let times = match words.next() {
+        Some(word) => word.parse().unwrap_or(1),
+        None => 1,
+    };
+    match &work {
+        Some(work) => println!(rt; "{}", told(rt.alloc(), work.as_str(), times)),
+        None => {
+            for work in ["touches", "blocks", "firings"] {
+                println!(rt; "{work} {}", told(rt.alloc(), work, times))?;
+            }
+            Ok(())
+        }
+    }
+}
+
+/// How many segments touch a zone, how many setpoints are stopped by one, or how many traps run; 0 for want of memory.
+fn told(alloc: Global, work: &str, times: u32) -> u32 {
+    match work {
+        "touches" => touching(times),
+        "blocks" => TenZones::new(alloc).map_or(0, |zones| zones.stops(times)),
+        _ => SixtyFourOrders::new(alloc).map_or(0, |mut orders| orders.traps(times)),
+    }
+}

@@ -1,0 +1,69 @@
+ghost use Rattle.std.specs.Prelude.{◌<◌};
+
+use crate::zone_cell::{at, slab, zone_cell};
+use crate::zone_step::ZoneStep;
+use rapid_model::ZoneName;
+use signal_board::Signals;
+use std::alloc::Global;
+use std::marker::Model;
+use std::test::Fail;
+use world_zones::{ZoneFault, Zones};
+
+/// The zones and the signals of the cell.
+#[derive(Drop)]
+pub(crate) struct TwoArms {
+    zones: Zones,
+    signals: Signals,
+}
+
+impl Model for TwoArms {
+    ghost use Rattle.world_zones.specs.Zones.{ZonesData};
+    ghost use Rattle.board_tests.specs.Boards.{IsTwoArms};
+
+    ghost Value = { ZonesData };
+
+    ghost view = { λ t. t.zones };
+
+    ghost invariant = { λ t. IsTwoArms t.zones t.signals };
+}
+
+impl TwoArms {
+    pub(crate) fn new(alloc: Global) -> Result<TwoArms, Fail> {
+        let cell = zone_cell(alloc)?;
+        let zones = Zones::new(alloc, &cell).ok().ok_or("memory")?;
+        let signals = Signals::new(alloc, &cell).ok().ok_or("memory")?;
+        Ok(TwoArms { zones, signals })
+    }
+
+    /// Takes a step, and tells whether what is wanted came of it.
+    pub(crate) fn does(&mut self, step: ZoneStep) -> bool {
+        match step {
+            ZoneStep::Set(old, temporary, bounds, wanted) => {
+                self.set(old, temporary, bounds) == wanted
+            }
+            ZoneStep::Disable(zone, wanted) => self.zones.disable(0, zone) == wanted,
+            ZoneStep::Enable(zone, wanted) => self.zones.enable(0, zone) == wanted,
+            ZoneStep::Free(zone, wanted) => self.zones.free(0, zone) == wanted,
+            ZoneStep::Signal(value) => self.signals.set(0, value),
+            ZoneStep::Go(task, way, wanted) => task < 2 && self.stop(task, way) == wanted,
+        }
+    }
+
+    /// Gives the arm of task 0 a zone.
+    pub(crate) fn set(
+        &mut self,
+        old: u8,
+        temporary: bool,
+        bounds: (u32, u32),
+    ) -> Result<u8, ZoneFault> {
+        self.zones.set(0, old, temporary, &slab(bounds.0, bounds.1))
+    }
+
+    /// The zone that stops the arm of a task.
+    fn stop(&self, task: u32, way: (u32, u32)) -> Option<ZoneName>
+        requires { task < 2 }
+    {
+        self.zones
+            .blocks(task, &at(way.0), &at(way.1), &self.signals)
+    }
+}

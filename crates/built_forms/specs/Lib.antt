@@ -1,4 +1,0 @@
-pub mod Speeds
-pub mod Moves
-pub mod Built
-pub mod Answers

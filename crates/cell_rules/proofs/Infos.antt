@@ -1,0 +1,121 @@
+-- Persistents as they are made of declarations so far: their numbers, and what is known of each.
+use Rattle.std.proofs.Common.{◌≡◌, ℕ, zero, suc, Bool, true, false, ◌&&◌, List, [], ◌∷◌, length, replicate, Option, Some, None, is_none, option_map, slice_get, if◌then◌else◌, refl, ap, sym, ◌∙◌, arith, inl, inr}
+use Rattle.std.specs.Str.{str_eq_ignore_ascii_case, str_to_ascii_lowercase}
+use Rattle.std.proofs.lemmas.Bool.{and_parts, cases_order}
+use Rattle.std.proofs.lemmas.Slice.Eq.{bytes_eq-Decides}
+use Rattle.rapid_model.specs.Sorts.{width}
+use Rattle.rapid_model.specs.declared.value.Value.{Value}
+use Rattle.cell_assembly.specs.Cells.{PersInfo, is_global, global_number}
+use Rattle.cell_rules.specs.Declared.{Declared, AreOne, AreOneName}
+use Rattle.cell_rules.specs.First.{IsDeclared, IsUndeclared, owner_of}
+use Rattle.cell_rules.specs.Numbering.{AreNumbered, HasNumber, IsFirst}
+use Rattle.cell_rules.proofs.Alike.{one_named}
+use Rattle.cell_rules.proofs.Lists.{same_there}
+
+-- names are one by the language's test
+pub one_name : (name other : List ℕ) → str_eq_ignore_ascii_case name other ≡ true → AreOneName name other
+one_name name other is = (bytes_eq-Decides (str_to_ascii_lowercase name) (str_to_ascii_lowercase other)).0 is
+
+pub named_alike : (name other : List ℕ) → AreOneName name other → str_eq_ignore_ascii_case name other ≡ true
+named_alike name other one = (bytes_eq-Decides (str_to_ascii_lowercase name) (str_to_ascii_lowercase other)).1 one
+
+-- what declarations say of first values
+abbrev pub AreDeclared : List Declared → List ℕ → ℕ → Option (List Value) → Type 0
+AreDeclared ds ks k None = IsUndeclared ds ks k
+AreDeclared ds ks k (Some first) = IsDeclared ds ks k first
+
+-- a persistent that is made of the declarations of its number
+pub record IsInfo (ds : List Declared) (ks : List ℕ) (k : ℕ) (p : PersInfo) : Type 0 where
+  pub d : Declared
+  pub is_first : IsFirst ds ks k d
+  pub name : p.name ≡ d.row.name
+  pub owner : p.owner ≡ owner_of d
+  pub sort : (place : ℕ) (e : Declared) → HasNumber ds ks k place e → p.sort ≡ e.row.sort
+  pub len : (place : ℕ) (e : Declared) → HasNumber ds ks k place e → p.len ≡ e.row.len
+  pub declared : AreDeclared ds ks k p.declared
+
+-- so are all, and the script has said nothing of them yet
+pub record AreInfos (ds : List Declared) (ks : List ℕ) (ps : List PersInfo) : Type 0 where
+  pub numbered : AreNumbered AreOne ds ks (length ps)
+  pub infos : (k : ℕ) (p : PersInfo) → slice_get ps k ≡ Some p → IsInfo ds ks k p
+  pub untold : (k : ℕ) (p : PersInfo) → slice_get ps k ≡ Some p → p.told ≡ replicate (width p.len) None
+
+-- a global persistent of a name, at a place
+IsAt : List ℕ → List PersInfo → ℕ → Type 0
+IsAt name ps k = (p : PersInfo) × (slice_get ps k ≡ Some p) × (is_global name p ≡ true)
+
+first_or_later : (name : List ℕ) (p : PersInfo) (ps : List PersInfo) (here : Bool) (later : Option ℕ) → is_global name p ≡ here → ((j : ℕ) → later ≡ Some j → IsAt name ps j) → (k : ℕ)
+    → (if here then Some 0 else option_map suc later) ≡ Some k → IsAt name (p ∷ ps) k
+unfolding IsAt
+first_or_later name p ps true later here more zero is = (p, refl, here)
+first_or_later name p ps true later here more (suc k) is = absurd (let e : 0 ≡ suc k = cc is in omega (arith, e))
+first_or_later name p ps false None here more k is = absurd (cc is)
+first_or_later name p ps false (Some j) here more zero is = absurd (let e : suc j ≡ 0 = cc is in omega (arith, e))
+first_or_later name p ps false (Some j) here more (suc k) is = let e : suc j ≡ suc k = cc is in more k (ap Some (omega (arith, e)))
+
+found_at : (name : List ℕ) (ps : List PersInfo) (k : ℕ) → global_number name ps ≡ Some k → IsAt name ps k
+unfolding IsAt
+found_at name [] k is = absurd (cc is)
+found_at name (p ∷ ps) k is = first_or_later name p ps (is_global name p) (global_number name ps) refl (found_at name ps) k is
+
+-- the first global persistent of a name is one
+pub is_there : (name : List ℕ) (ps : List PersInfo) (k : ℕ) → global_number name ps ≡ Some k → (p : PersInfo) × (slice_get ps k ≡ Some p) × (is_global name p ≡ true)
+unfolding IsAt
+is_there name ps k is = found_at name ps k is
+
+not_first : (name : List ℕ) (q : PersInfo) (ps : List PersInfo) (here : Bool) (later : Option ℕ) → is_global name q ≡ here → (later ≡ None → (k : ℕ) (p : PersInfo) → slice_get ps k ≡ Some p → is_global name p ≡ false)
+    → (if here then Some 0 else option_map suc later) ≡ None → (k : ℕ) (p : PersInfo) → slice_get (q ∷ ps) k ≡ Some p → is_global name p ≡ false
+not_first name q ps true later here more is k p at = absurd (cc is)
+not_first name q ps false (Some j) here more is k p at = absurd (cc is)
+not_first name q ps false None here more is zero p at = let e : q ≡ p = cc at in ap (is_global name) (sym e) ∙ here
+not_first name q ps false None here more is (suc k) p at = more refl k p at
+
+-- where there is none, no persistent is global and of that name
+pub none_there : (name : List ℕ) (ps : List PersInfo) → global_number name ps ≡ None → (k : ℕ) (p : PersInfo) → slice_get ps k ≡ Some p → is_global name p ≡ false
+none_there name [] is k p at = absurd (cc at)
+none_there name (q ∷ ps) is k p at = not_first name q ps (is_global name q) (global_number name ps) refl (none_there name ps) is k p at
+
+-- a global persistent of a name
+pub global_is : (name : List ℕ) (p : PersInfo) → is_global name p ≡ true → (p.owner ≡ None) × AreOneName name p.name
+global_is name p is = let (free, named) = and_parts (is_none p.owner) (str_eq_ignore_ascii_case name p.name) is in (no_owner p.owner free, one_name name p.name named)
+  where
+    no_owner : (o : Option ℕ) → is_none o ≡ true → o ≡ None
+    no_owner None e = refl
+    no_owner (Some task) e = absurd (cc e)
+
+is_global_from : (name : List ℕ) (p : PersInfo) → p.owner ≡ None → AreOneName name p.name → is_global name p ≡ true
+is_global_from name p free named = ap (λ o. is_none o && str_eq_ignore_ascii_case name p.name) free ∙ named_alike name p.name named
+
+pub owner_global : (d : Declared) → owner_of d ≡ None → d.row.own ≡ false
+owner_global d none = of_own d.row.own refl none
+  where
+    of_own : (own : Bool) → d.row.own ≡ own → ◌≡◌ {A = Option ℕ} (if own then Some d.task else None) None → d.row.own ≡ false
+    of_own true e none = absurd (cc none)
+    of_own false e none = e
+
+global_owner : (d : Declared) → d.row.own ≡ false → owner_of d ≡ None
+global_owner d own = ap (λ o. let owner : Option ℕ = if o then Some d.task else None in owner) own
+
+module _ (ds : List Declared) (ks : List ℕ) (count : ℕ) (numbered : AreNumbered AreOne ds ks count) where
+  -- the persistent of a global declaration is global, and of its name
+  pub info_global : (k place : ℕ) (p : PersInfo) (e : Declared) → IsInfo ds ks k p → HasNumber ds ks k place e → e.row.own ≡ false → (name : List ℕ) → AreOneName name e.row.name → is_global name p ≡ true
+  info_global k place p e is has own name named =
+      let first = is.is_first in
+      let d_named = one_named ds ks count numbered k first.place place is.d e first.has_number has in
+      is_global_from name p (is.owner ∙ global_owner is.d (global_too first.place is.d first.has_number)) (named ∙ sym d_named ∙ ap str_to_ascii_lowercase (sym is.name))
+    where
+      global_too : (other : ℕ) (d : Declared) → HasNumber ds ks k other d → d.row.own ≡ false
+      global_too other d also =
+          elim (cases_order other place) [
+            | inl equal ↦ ap (λ (x : Declared). x.row.own) (same_there (slice_get ds other) d e also.there (ap (slice_get ds) equal ∙ has.there)) ∙ own
+            | inr differ ↦ elim differ [
+              | inl before ↦ ((numbered.one other place d e k k before also.there has.there also.numbered has.numbered).0 refl).global
+              | inr behind ↦ ((numbered.one place other e d k k behind has.there also.there has.numbered also.numbered).0 refl).other_global
+            ]
+          ]
+
+  -- and a global persistent of a name is of global declarations of that name
+  pub info_one : (k : ℕ) (p : PersInfo) (name : List ℕ) → (is : IsInfo ds ks k p) → is_global name p ≡ true → (is.d.row.own ≡ false) × AreOneName name is.d.row.name
+  info_one k p name is global =
+      let (free, named) = global_is name p global in
+      (owner_global is.d (sym is.owner ∙ free), named ∙ ap str_to_ascii_lowercase is.name)

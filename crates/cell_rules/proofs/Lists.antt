@@ -1,0 +1,72 @@
+-- Lists by their elements, and with one element more.
+use Rattle.std.proofs.Common.{◌≡◌, ◌⊎◌, inl, inr, ℕ, zero, suc, ◌+◌, ◌<◌, ◌≤◌, List, [], ◌∷◌, ◌++◌, length, set, replicate, Option, Some, None, slice_get, refl, ap, ◌∙◌, arith}
+
+-- what is there is inside
+pub inside : {A : Type 0} (xs : List A) (i : ℕ) (x : A) → slice_get xs i ≡ Some x → i < length xs
+inside [] i x is = absurd (cc)
+inside (y ∷ ys) zero x is = omega arith
+inside (y ∷ ys) (suc i) x is = omega (arith, inside ys i x is)
+
+-- there is something inside
+pub there_is : {A : Type 0} (xs : List A) (i : ℕ) → i < length xs → (x : A) × (slice_get xs i ≡ Some x)
+there_is [] i in_list = absurd (omega (arith, in_list))
+there_is (x ∷ xs) zero in_list = (x, refl)
+there_is (x ∷ xs) (suc i) in_list = there_is xs i (omega (arith, in_list))
+
+pub nothing_past : {A : Type 0} (xs : List A) (i : ℕ) → length xs ≤ i → slice_get xs i ≡ None
+nothing_past [] i past = refl
+nothing_past (x ∷ xs) zero past = absurd (omega (arith, past))
+nothing_past (x ∷ xs) (suc i) past = nothing_past xs i (omega (arith, past))
+
+pub same_there : {A : Type 0} (o : Option A) (x y : A) → o ≡ Some x → o ≡ Some y → x ≡ y
+same_there o x y is other = cc
+
+-- lists with the same elements
+pub same_list : {A : Type 0} (xs ys : List A) → ((i : ℕ) → slice_get xs i ≡ slice_get ys i) → xs ≡ ys
+same_list [] [] same = refl
+same_list [] (y ∷ ys) same = let e = same 0 in absurd (cc e)
+same_list (x ∷ xs) [] same = let e = same 0 in absurd (cc e)
+same_list (x ∷ xs) (y ∷ ys) same =
+    let e : Some x ≡ Some y = same 0 in
+    let head : x ≡ y = cc e in
+    let tail = same_list xs ys (λ i. same (suc i)) in
+    ap (λ z. z ∷ xs) head ∙ ap (λ zs. y ∷ zs) tail
+
+pub in_front : {A : Type 0} (xs ys : List A) (i : ℕ) (x : A) → slice_get xs i ≡ Some x → slice_get (xs ++ ys) i ≡ Some x
+in_front [] ys i x is = absurd (cc)
+in_front (y ∷ xs) ys zero x is = is
+in_front (y ∷ xs) ys (suc i) x is = in_front xs ys i x is
+
+pub at_end : {A : Type 0} (xs : List A) (y : A) (ys : List A) → slice_get (xs ++ y ∷ ys) (length xs) ≡ Some y
+at_end [] y ys = refl
+at_end (x ∷ xs) y ys = at_end xs y ys
+
+-- what is at a place of the front
+pub front_there : {A : Type 0} (xs ys : List A) (i : ℕ) (x : A) → i < length xs → slice_get (xs ++ ys) i ≡ Some x → slice_get xs i ≡ Some x
+front_there [] ys i x front is = absurd (omega (arith, front))
+front_there (y ∷ xs) ys zero x front is = is
+front_there (y ∷ xs) ys (suc i) x front is = front_there xs ys i x (omega (arith, front)) is
+
+-- an element of a list with one more is an earlier one, or that one
+pub earlier_or_last : {A : Type 0} (xs : List A) (y : A) (i : ℕ) (x : A) → slice_get (xs ++ y ∷ []) i ≡ Some x → (slice_get xs i ≡ Some x) ⊎ ((i ≡ length xs) × (y ≡ x))
+earlier_or_last [] y zero x is = inr (refl, cc)
+earlier_or_last [] y (suc i) x is = absurd (cc)
+earlier_or_last (z ∷ xs) y zero x is = inl is
+earlier_or_last (z ∷ xs) y (suc i) x is = elim (earlier_or_last xs y i x is) [ inl before ↦ inl before | inr last ↦ inr (ap suc last.0, last.1) ]
+
+pub one_longer : {A : Type 0} (xs : List A) (x : A) → length (xs ++ x ∷ []) ≡ length xs + 1
+one_longer [] x = refl
+one_longer (y ∷ xs) x = omega (arith, one_longer xs x)
+
+-- a list with another element at a place
+pub put_there : {A : Type 0} (xs : List A) (k : ℕ) (y : A) (i : ℕ) (x : A) → slice_get (set xs k y) i ≡ Some x → ((i ≡ k) × (y ≡ x)) ⊎ ((i ≡ k → ⊥) × (slice_get xs i ≡ Some x))
+put_there [] k y i x is = absurd (cc is)
+put_there (z ∷ xs) zero y zero x is = inl (refl, cc is)
+put_there (z ∷ xs) zero y (suc i) x is = inr (λ e. omega (arith, e), is)
+put_there (z ∷ xs) (suc k) y zero x is = inr (λ e. omega (arith, e), is)
+put_there (z ∷ xs) (suc k) y (suc i) x is = elim (put_there xs k y i x is) [ inl here ↦ inl (ap suc here.0, here.1) | inr elsewhere ↦ inr (λ e. elsewhere.0 (omega (arith, e)), elsewhere.1) ]
+
+pub all_alike : {A : Type 0} (n : ℕ) (y : A) (i : ℕ) (x : A) → slice_get (replicate n y) i ≡ Some x → y ≡ x
+all_alike zero y i x is = absurd (cc is)
+all_alike (suc n) y zero x is = cc is
+all_alike (suc n) y (suc i) x is = all_alike n y i x is

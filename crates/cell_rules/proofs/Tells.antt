@@ -1,0 +1,353 @@
+-- One more value of the script: it breaks a rule, or it is the first value of an element.
+use Rattle.std.proofs.Common.{◌≡◌, ℕ, ◌+◌, ◌<◌, ◌≤◌, true, false, not, ◌&&◌, nat_le, List, [], ◌∷◌, ◌++◌, length, set, Option, Some, None, is_some, slice_get, Ok, refl, ap, sym, subst, ◌∙◌, arith, inl, inr, ◌⊎◌}
+use Rattle.std.specs.List.{list_all}
+use Rattle.std.proofs.lemmas.Bool.{and_parts, and_from, both_ways, leb-true, leb-false, not-true, not-false}
+use Rattle.std.proofs.lemmas.List.{append_assoc, append-nil, length-set}
+use Rattle.rapid_model.specs.Limits.{is_within, holds_where_there}
+use Rattle.rapid_model.specs.Names.{is_name}
+use Rattle.rapid_model.specs.ScriptData.{is_given_value, is_pers_value}
+use Rattle.rapid_model.specs.Sorts.{width}
+use Rattle.rapid_model.specs.declared.pers_value.PersValue.{PersValue}
+use Rattle.rapid_model.specs.declared.script_rule.ScriptRule.{ScriptRule}
+use Rattle.rapid_model.specs.declared.script_rule.ScriptRule.TheVariants.{NoSuch, Kind, Range, Twice}
+use Rattle.rapid_model.specs.declared.sort.Sort.{Sort}
+use Rattle.rapid_model.specs.declared.sort.Sort.TheVariants as sorts
+use Rattle.rapid_model.specs.declared.value.Value.{Value}
+use Rattle.rapid_model.specs.declared.value.Value.TheVariants as values
+use Rattle.cell_assembly.specs.Cells.{PersInfo, has_sort, fits_index, element, is_told, with_told, at_value, key_of, is_global, global_number, tell_to, tell_global, tell, tell_all}
+use Rattle.cell_rules.specs.Declared.{Declared, AreOne, AreAlikeBefore}
+use Rattle.cell_rules.specs.First.{IsIndexOf, IsTold, IsUntold}
+use Rattle.cell_rules.specs.Given.{given_sort, AreForOne, Breaks, Finds, IsFor, IsInside, IsRight, Suits}
+use Rattle.cell_rules.specs.Numbering.{AreNumbered}
+use Rattle.cell_rules.specs.Refused.{IsBroken, IsRefusal}
+use Rattle.cell_rules.proofs.Alike.{for_both, found_alike, one_named, one_number, same_index, suits_alike}
+use Rattle.cell_rules.proofs.Infos.{IsInfo, info_global, info_one, is_there, none_there}
+use Rattle.cell_rules.proofs.Lists.{inside, there_is, same_there, in_front, at_end, front_there, earlier_or_last, one_longer, put_there}
+use Rattle.cell_rules.proofs.Outcomes.{Outcome, followed, ruled}
+
+-- the type of a value
+sort_given : (sort : Sort) (value : Value) → has_sort sort value ≡ true → given_sort value ≡ Some sort
+sort_given sorts.Num (values.Num n) e = refl
+sort_given sorts.Bool (values.Bool b) e = refl
+sort_given sorts.Text (values.Text t) e = refl
+sort_given _ _ e = absurd (cc e)
+
+given_has : (sort : Sort) (value : Value) → given_sort value ≡ Some sort → has_sort sort value ≡ true
+given_has sort (values.Num n) e = let same : sorts.Num ≡ sort = cc e in subst (λ s. has_sort s (values.Num n) ≡ true) same refl
+given_has sort (values.Bool b) e = let same : sorts.Bool ≡ sort = cc e in subst (λ s. has_sort s (values.Bool b) ≡ true) same refl
+given_has sort (values.Text t) e = let same : sorts.Text ≡ sort = cc e in subst (λ s. has_sort s (values.Text t) ≡ true) same refl
+given_has sort (values.Rob axes) e = absurd (cc e)
+given_has sort (values.Ext axes) e = absurd (cc e)
+given_has sort (values.Target joints) e = absurd (cc e)
+given_has sort (values.Speed nums) e = absurd (cc e)
+
+-- an index exactly on an array
+index_fits : (len index : Option ℕ) → fits_index len index ≡ true → is_some index ≡ is_some len
+index_fits None None e = refl
+index_fits None (Some index) e = absurd (cc e)
+index_fits (Some len) None e = absurd (cc e)
+index_fits (Some len) (Some index) e = refl
+
+fits_from : (len index : Option ℕ) → is_some index ≡ is_some len → fits_index len index ≡ true
+fits_from None None e = refl
+fits_from None (Some index) e = absurd (cc e)
+fits_from (Some len) None e = absurd (cc e)
+fits_from (Some len) (Some index) e = refl
+
+-- an index is from 1
+abbrev pub FromOne : Option ℕ → Type 0
+FromOne None = Unit {0}
+FromOne (Some index) = 1 ≤ index
+
+inside_from : (index len : Option ℕ) → FromOne index → is_some index ≡ is_some len → element index + 1 ≤ width len → IsInside index len
+inside_from None None one same few = tt
+inside_from None (Some len) one same few = absurd (cc same)
+inside_from (Some index) None one same few = absurd (cc same)
+inside_from (Some index) (Some len) one same few = omega (arith, one, few)
+
+few_inside : (index len : Option ℕ) → FromOne index → is_some index ≡ is_some len → IsInside index len → element index + 1 ≤ width len
+few_inside None None one same is = omega arith
+few_inside None (Some len) one same is = absurd (cc same)
+few_inside (Some index) None one same is = absurd (cc same)
+few_inside (Some index) (Some len) one same is = omega (arith, one, is)
+
+element_is : (index : Option ℕ) → FromOne index → IsIndexOf index (element index)
+element_is None one = refl
+element_is (Some index) one = omega (arith, one)
+
+is_element : (index : Option ℕ) (place : ℕ) → FromOne index → IsIndexOf index place → place ≡ element index
+is_element None place one is = is
+is_element (Some index) place one is = omega (arith, is)
+
+told_there : (o : Option (Option Value)) → is_told o ≡ true → (v : Value) × (o ≡ Some (Some v))
+told_there None e = absurd (cc e)
+told_there (Some None) e = absurd (cc e)
+told_there (Some (Some v)) e = (v, refl)
+
+not_told : (o : Option Value) → is_told (Some o) ≡ false → o ≡ None
+not_told None e = refl
+not_told (Some v) e = absurd (cc e)
+
+module _ (ds : List Declared) (ks : List ℕ) (count : ℕ) (numbered : AreNumbered AreOne ds ks count) (alike : AreAlikeBefore (length ds) ds) (whole : List PersValue) where
+  -- The persistents, with what the values so far say of their elements; and these values keep the rules.
+  pub record AreTold (done : List PersValue) (ps : List PersInfo) : Type 0 where
+    pub as_many : length ps ≡ count
+    pub infos : (k : ℕ) (p : PersInfo) → slice_get ps k ≡ Some p → IsInfo ds ks k p
+    pub each : (k : ℕ) (p : PersInfo) → slice_get ps k ≡ Some p → length p.told ≡ width p.len
+    pub told : (k : ℕ) (p : PersInfo) → slice_get ps k ≡ Some p → (place : ℕ) (v : Value) → slice_get p.told place ≡ Some (Some v) → IsTold done ds ks k place v
+    pub untold : (k : ℕ) (p : PersInfo) → slice_get ps k ≡ Some p → (place : ℕ) → slice_get p.told place ≡ Some None → IsUntold done ds ks k place
+    pub right : (number : ℕ) (value : PersValue) → slice_get done number ≡ Some value → IsRight ds whole number value
+
+  -- what was told before is told with one value more
+  told_more : (done : List PersValue) (row : PersValue) (k place : ℕ) (v : Value) → IsTold done ds ks k place v → IsTold (done ++ row ∷ []) ds ks k place v
+  told_more done row k place v t = record { number = t.number; told = t.told; there = in_front done (row ∷ []) t.number t.told t.there; place = t.place; d = t.d; has_number = t.has_number; is_for = t.is_for; index = t.index; gives = t.gives }
+
+  -- what is told with one value more was told before, or is told by that
+  told_by : (done : List PersValue) (row : PersValue) (k place : ℕ) (v : Value) (t : IsTold (done ++ row ∷ []) ds ks k place v) → IsTold done ds ks k place v ⊎ (row ≡ t.told)
+  told_by done row k place v t = elim (earlier_or_last done row t.number t.told t.there) [
+    | inl early ↦ inl (record { number = t.number; told = t.told; there = early; place = t.place; d = t.d; has_number = t.has_number; is_for = t.is_for; index = t.index; gives = t.gives })
+    | inr last ↦ inr last.1
+  ]
+
+  module _ (done rest : List PersValue) (row : PersValue) (is_whole : whole ≡ done ++ row ∷ rest) (one : FromOne row.index) (ps : List PersInfo) (are : AreTold done ps) where
+    there : slice_get whole (length done) ≡ Some row
+    there = ap (λ vs. slice_get vs (length done)) is_whole ∙ at_end done row rest
+
+    right_before : (before : ℕ) (other : PersValue) → before < length done → slice_get whole before ≡ Some other → IsRight ds whole before other
+    right_before before other early at = are.right before other (front_there done (row ∷ rest) before other early (ap (λ vs. slice_get vs before) (sym is_whole) ∙ at))
+
+    broken : (rule : ScriptRule) → Breaks ds whole (length done) row rule → IsBroken ds whole (key_of (length done)) rule
+    broken rule breaks = record { alike = alike; number = length done; value = row; there = there; is_key = refl; breaks = breaks; right_before = right_before }
+
+    no_such : global_number row.name ps ≡ None → Breaks ds whole (length done) row NoSuch
+    no_such none found_row found =
+        let (k, at) = there_is ks found.place (omega (arith, numbered.as_many, inside ds found.place found.d found.there)) in
+        let (p, is_p) = there_is ps k (omega (arith, are.as_many, numbered.below found.place k at)) in
+        both_ways (is_global row.name p) (none_there row.name ps none k p is_p)
+        (info_global ds ks count numbered k found.place p found.d (are.infos k p is_p) (record { there = found.there; numbered = at }) found.is_for.global row.name found.is_for.named)
+
+    module _ (k : ℕ) (p : PersInfo) (at : slice_get ps k ≡ Some p) (global : is_global row.name p ≡ true) where
+      d_for : IsFor row (are.infos k p at).d
+      d_for = let one_is = info_one ds ks count numbered k p row.name (are.infos k p at) global in record { global = one_is.0; named = one_is.1 }
+
+      found : Finds ds row (are.infos k p at).d.row
+      found = let i = are.infos k p at in record { place = i.is_first.place; d = i.d; there = i.is_first.has_number.there; is_for = d_for; is_row = refl }
+
+      sort_is : p.sort ≡ (are.infos k p at).d.row.sort
+      sort_is = let i = are.infos k p at in i.sort i.is_first.place i.d i.is_first.has_number
+
+      len_is : p.len ≡ (are.infos k p at).d.row.len
+      len_is = let i = are.infos k p at in i.len i.is_first.place i.d i.is_first.has_number
+
+      suits_from : has_sort p.sort row.value && fits_index p.len row.index ≡ true → Suits row (are.infos k p at).d.row
+      suits_from e =
+          let (sort, index) = and_parts (has_sort p.sort row.value) (fits_index p.len row.index) e in
+          record { sort = sort_given p.sort row.value sort ∙ ap Some sort_is; index = index_fits p.len row.index index ∙ ap is_some len_is }
+
+      from_suits : Suits row (are.infos k p at).d.row → has_sort p.sort row.value && fits_index p.len row.index ≡ true
+      from_suits suits =
+          and_from (has_sort p.sort row.value) (fits_index p.len row.index) (given_has p.sort row.value (suits.sort ∙ ap Some (sym sort_is)))
+          (fits_from p.len row.index (suits.index ∙ ap is_some (sym len_is)))
+
+      other_kind : has_sort p.sort row.value && fits_index p.len row.index ≡ false → Breaks ds whole (length done) row Kind
+      other_kind e = record { row = (are.infos k p at).d.row; finds = found; other = λ suits. both_ways (has_sort p.sort row.value && fits_index p.len row.index) e (from_suits suits) }
+
+      module _ (suits : Suits row (are.infos k p at).d.row) where
+        index_is : is_some row.index ≡ is_some p.len
+        index_is = suits.index ∙ ap is_some (sym len_is)
+
+        outside : nat_le (element row.index + 1) (width p.len) ≡ false → Breaks ds whole (length done) row Range
+        outside e =
+            let more = leb-false (element row.index + 1) (width p.len) e in
+            record {
+              row = (are.infos k p at).d.row;
+              finds = found;
+              suits = suits;
+              outside = λ within. let few = few_inside row.index p.len one index_is (subst (IsInside row.index) (sym len_is) within) in omega (arith, few, more);
+            }
+
+        module _ (few : element row.index + 1 ≤ width p.len) where
+          within : IsInside row.index (are.infos k p at).d.row.len
+          within = subst (IsInside row.index) len_is (inside_from row.index p.len one index_is few)
+
+          -- an earlier value for the element
+          for_one_there : (v : Value) → (t : IsTold done ds ks k (element row.index) v) → AreForOne t.told row
+          for_one_there v t =
+              let i = are.infos k p at in
+              let named = one_named ds ks count numbered k t.place i.is_first.place t.d i.d t.has_number i.is_first.has_number in
+              let t_right = are.right t.number t.told t.there in
+              let t_found : Finds ds t.told t.d.row = record { place = t.place; d = t.d; there = t.has_number.there; is_for = t.is_for; is_row = refl } in
+              let t_suits = suits_alike t.told t_right.row t.d.row (found_alike ds alike t.told t_right.row t.d.row t_right.finds t_found) t_right.suits in
+              record {
+                named = t.is_for.named ∙ named ∙ sym d_for.named;
+                index = same_index t.told.index row.index (element row.index) t.index (element_is row.index one)
+                    (t_suits.index ∙ ap is_some (sym (i.len t.place t.d t.has_number)) ∙ sym index_is);
+              }
+
+          twice : not (is_told (slice_get p.told (element row.index))) ≡ false → Breaks ds whole (length done) row Twice
+          twice e =
+              let (v, at_v) = told_there (slice_get p.told (element row.index)) (not-false (is_told (slice_get p.told (element row.index))) e) in
+              let t = are.told k p at (element row.index) v at_v in
+              record {
+                row = (are.infos k p at).d.row;
+                finds = found;
+                suits = suits;
+                inside = within;
+                before = t.number;
+                other = t.told;
+                earlier = inside done t.number t.told t.there;
+                there = ap (λ vs. slice_get vs t.number) is_whole ∙ in_front done (row ∷ rest) t.number t.told t.there;
+                for_one = for_one_there v t;
+              }
+
+          module _ (fresh : not (is_told (slice_get p.told (element row.index))) ≡ true) where
+            untold_here : slice_get p.told (element row.index) ≡ Some None
+            untold_here =
+                let (o, at_o) = there_is p.told (element row.index) (omega (arith, few, are.each k p at)) in
+                let no = not-true (is_told (slice_get p.told (element row.index))) fresh in
+                at_o ∙ ap Some (not_told o (ap is_told (sym at_o) ∙ no))
+
+            -- a value for the element was none that is told
+            told_from : (before : ℕ) (other : PersValue) → before < length done → slice_get whole before ≡ Some other → AreForOne other row → IsTold done ds ks k (element row.index) other.value
+            told_from before other early at_other for_one =
+                let i = are.infos k p at in
+                record {
+                  number = before;
+                  told = other;
+                  there = front_there done (row ∷ rest) before other early (ap (λ vs. slice_get vs before) (sym is_whole) ∙ at_other);
+                  place = i.is_first.place;
+                  d = i.d;
+                  has_number = i.is_first.has_number;
+                  is_for = record { global = d_for.global; named = for_one.named ∙ d_for.named };
+                  index = subst (λ x. IsIndexOf x (element row.index)) (sym for_one.index) (element_is row.index one);
+                  gives = refl;
+                }
+
+            row_right : IsRight ds whole (length done) row
+            row_right = record {
+              row = (are.infos k p at).d.row;
+              finds = found;
+              suits = suits;
+              inside = within;
+              once = λ before other early at_other for_one. are.untold k p at (element row.index) untold_here other.value (told_from before other early at_other for_one);
+            }
+
+            told_now : IsTold (done ++ row ∷ []) ds ks k (element row.index) row.value
+            told_now =
+                let i = are.infos k p at in
+                record {
+                  number = length done;
+                  told = row;
+                  there = at_end done row [];
+                  place = i.is_first.place;
+                  d = i.d;
+                  has_number = i.is_first.has_number;
+                  is_for = d_for;
+                  index = element_is row.index one;
+                  gives = refl;
+                }
+
+            -- a value that the last one tells is of this number and this element
+            told_number : (j place : ℕ) (v : Value) (t : IsTold (done ++ row ∷ []) ds ks j place v) → row ≡ t.told → (j ≡ k) × (place ≡ element row.index)
+            told_number j place v t same =
+                let i = are.infos k p at in
+                let for_row = subst (λ x. IsFor x t.d) (sym same) t.is_for in
+                let also = one_number ds ks count numbered k i.is_first.place t.place i.d t.d i.is_first.has_number t.has_number.there (for_both row i.d t.d d_for for_row) in
+                (same_there (slice_get ks t.place) j k t.has_number.numbered also.numbered, is_element row.index place one (subst (λ (x : PersValue). IsIndexOf x.index place) (sym same) t.index))
+
+            told_here : (place : ℕ) (v : Value) → slice_get (set p.told (element row.index) (Some row.value)) place ≡ Some (Some v) → IsTold (done ++ row ∷ []) ds ks k place v
+            told_here place v at_v = elim (put_there p.told (element row.index) (Some row.value) place (Some v) at_v) [
+              | inl here ↦
+                  let same : row.value ≡ v = cc here.1 in
+                  subst (λ e. IsTold (done ++ row ∷ []) ds ks k e v) (sym here.0) (subst (IsTold (done ++ row ∷ []) ds ks k (element row.index)) same told_now)
+              | inr elsewhere ↦ told_more done row k place v (are.told k p at place v elsewhere.1)
+            ]
+
+            untold_there : (place : ℕ) → slice_get (set p.told (element row.index) (Some row.value)) place ≡ Some None → IsUntold (done ++ row ∷ []) ds ks k place
+            untold_there place at_none v t = elim (put_there p.told (element row.index) (Some row.value) place None at_none) [
+              | inl here ↦ let e = here.1 in cc e
+              | inr elsewhere ↦ elim (told_by done row k place v t) [
+                | inl early ↦ are.untold k p at place elsewhere.1 v early
+                | inr last ↦ elsewhere.0 (told_number k place v t last).1
+              ]
+            ]
+
+            untold_elsewhere : (j : ℕ) (q : PersInfo) → slice_get ps j ≡ Some q → (j ≡ k → ⊥) → (place : ℕ) → slice_get q.told place ≡ Some None → IsUntold (done ++ row ∷ []) ds ks j place
+            untold_elsewhere j q at_q other place at_none v t = elim (told_by done row j place v t) [
+              | inl early ↦ are.untold j q at_q place at_none v early
+              | inr last ↦ other (told_number j place v t last).0
+            ]
+
+            told_too : AreTold (done ++ row ∷ []) (set ps k (with_told p (element row.index) row.value))
+            told_too =
+                let q = with_told p (element row.index) row.value in
+                let i = are.infos k p at in
+                let info : IsInfo ds ks k q = record { d = i.d; is_first = i.is_first; name = i.name; owner = i.owner; sort = i.sort; len = i.len; declared = i.declared } in
+                record {
+                  as_many = length-set ps k q ∙ are.as_many;
+                  infos = λ j r at_r. elim (put_there ps k q j r at_r) [
+                    | inl here ↦ subst (λ n. IsInfo ds ks n r) (sym here.0) (subst (IsInfo ds ks k) here.1 info)
+                    | inr elsewhere ↦ are.infos j r elsewhere.1
+                  ];
+                  each = λ j r at_r. elim (put_there ps k q j r at_r) [
+                    | inl here ↦ subst (λ (x : PersInfo). length x.told ≡ width x.len) here.1 (length-set p.told (element row.index) (Some row.value) ∙ are.each k p at)
+                    | inr elsewhere ↦ are.each j r elsewhere.1
+                  ];
+                  told = λ j r at_r. elim (put_there ps k q j r at_r) [
+                    | inl here ↦
+                        subst (λ n. (place : ℕ) (v : Value) → slice_get r.told place ≡ Some (Some v) → IsTold (done ++ row ∷ []) ds ks n place v) (sym here.0)
+                        (subst (λ (x : PersInfo). (place : ℕ) (v : Value) → slice_get x.told place ≡ Some (Some v) → IsTold (done ++ row ∷ []) ds ks k place v) here.1 told_here)
+                    | inr elsewhere ↦ λ place v at_v. told_more done row j place v (are.told j r elsewhere.1 place v at_v)
+                  ];
+                  untold = λ j r at_r. elim (put_there ps k q j r at_r) [
+                    | inl here ↦
+                        subst (λ n. (place : ℕ) → slice_get r.told place ≡ Some None → IsUntold (done ++ row ∷ []) ds ks n place) (sym here.0)
+                        (subst (λ (x : PersInfo). (place : ℕ) → slice_get x.told place ≡ Some None → IsUntold (done ++ row ∷ []) ds ks k place) here.1 untold_there)
+                    | inr elsewhere ↦ untold_elsewhere j r elsewhere.1 elsewhere.0
+                  ];
+                  right = λ number value at_value. elim (earlier_or_last done row number value at_value) [
+                    | inl early ↦ are.right number value early
+                    | inr last ↦ subst (λ n. IsRight ds whole n value) (sym last.0) (subst (IsRight ds whole (length done)) last.1 row_right)
+                  ];
+                }
+
+    tell_to_right : (k : ℕ) (found_there : Option PersInfo) → slice_get ps k ≡ found_there → (p : PersInfo) → slice_get ps k ≡ Some p → is_global row.name p ≡ true
+        → Outcome (AreTold (done ++ row ∷ [])) (IsRefusal ds whole) (tell_to ps (length done) row k found_there)
+    tell_to_right k None at_none p at global = absurd (let e = sym at_none ∙ at in cc e)
+    tell_to_right k (Some q) at_q p at global =
+        let same : p ≡ q = same_there (slice_get ps k) p q at at_q in
+        let q_global = subst (λ r. is_global row.name r ≡ true) same global in
+        let next = set ps k (with_told q (element row.index) row.value) in
+        ruled (AreTold (done ++ row ∷ [])) (IsRefusal ds whole) (has_sort q.sort row.value && fits_index q.len row.index) (at_value (length done) Kind) _ (λ e. broken Kind (other_kind k q at_q q_global e)) (λ suiting.
+        ruled (AreTold (done ++ row ∷ [])) (IsRefusal ds whole) (nat_le (element row.index + 1) (width q.len)) (at_value (length done) Range) _
+        (λ e. broken Range (outside k q at_q q_global (suits_from k q at_q q_global suiting) e)) (λ few.
+        ruled (AreTold (done ++ row ∷ [])) (IsRefusal ds whole) (not (is_told (slice_get q.told (element row.index)))) (at_value (length done) Twice) (Ok next)
+        (λ e. broken Twice (twice k q at_q q_global (suits_from k q at_q q_global suiting) (leb-true (element row.index + 1) (width q.len) few) e))
+        (λ fresh. told_too k q at_q q_global (suits_from k q at_q q_global suiting) (leb-true (element row.index + 1) (width q.len) few) fresh)))
+
+    tell_global_right : (k : Option ℕ) → global_number row.name ps ≡ k → Outcome (AreTold (done ++ row ∷ [])) (IsRefusal ds whole) (tell_global ps (length done) row k)
+    tell_global_right None none = broken NoSuch (no_such none)
+    tell_global_right (Some k) is = let (p, at, global) = is_there row.name ps k is in tell_to_right k (slice_get ps k) refl p at global
+
+    tell_right : Outcome (AreTold (done ++ row ∷ [])) (IsRefusal ds whole) (tell ps (length done) row)
+    tell_right = tell_global_right (global_number row.name ps) refl
+
+  from_one : (row : PersValue) → is_pers_value row ≡ true → FromOne row.index
+  from_one row is =
+      let (front, _) = and_parts (is_name row.name && holds_where_there (is_within 1 1_000) row.index) (is_given_value row.value) is in
+      let (_, index) = and_parts (is_name row.name) (holds_where_there (is_within 1 1_000) row.index) front in
+      one_there row.index index
+    where
+      one_there : (index : Option ℕ) → holds_where_there (is_within 1 1_000) index ≡ true → FromOne index
+      one_there None e = tt
+      one_there (Some index) e = let (low, _) = and_parts (nat_le 1 index) (nat_le index 1_000) e in leb-true 1 index low
+
+  -- all values of the script
+  pub all_told : (done rest : List PersValue) (number : ℕ) (ps : List PersInfo) → number ≡ length done → whole ≡ done ++ rest → list_all is_pers_value rest ≡ true → AreTold done ps
+      → Outcome (AreTold whole) (IsRefusal ds whole) (tell_all ps number rest)
+  all_told done [] number ps is_number is_whole kept are = subst (λ vs. AreTold vs ps) (sym (is_whole ∙ append-nil done)) are
+  all_told done (row ∷ rest) number ps is_number is_whole kept are =
+      let (here, more) = and_parts (is_pers_value row) (list_all is_pers_value rest) kept in
+      followed (AreTold (done ++ row ∷ [])) (AreTold whole) (IsRefusal ds whole) (tell ps number row) (λ qs. tell_all qs (number + 1) rest)
+      (subst (λ n. Outcome (AreTold (done ++ row ∷ [])) (IsRefusal ds whole) (tell ps n row)) (sym is_number) (tell_right done rest row is_whole (from_one row here) ps are))
+      (λ qs told. all_told (done ++ row ∷ []) rest (number + 1) qs (omega (arith, is_number, one_longer done row)) (is_whole ∙ sym (append_assoc done (row ∷ []) rest)) more told)

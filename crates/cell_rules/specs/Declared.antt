@@ -1,0 +1,44 @@
+-- The persistents and meetings that the tasks of a cell declare, and which of them are one (RAPID Overview, persistent data).
+use Rattle.std.specs.Prelude.{◌≡◌, ℕ, ◌+◌, ◌<◌, false, List, [], ◌∷◌, ◌++◌, map, flat_map, Some, slice_get}
+use Rattle.std.specs.Str.{str_to_ascii_lowercase}
+use Rattle.typed_trees.specs.Plain.{TypedPers, TypedTree}
+
+-- letters of either case are the same
+abbrev pub AreOneName : List ℕ → List ℕ → Type 0
+AreOneName name other = str_to_ascii_lowercase name ≡ str_to_ascii_lowercase other
+
+-- a PERS of the task of this number
+pub record Declared : Type 0 where
+  pub task : ℕ
+  pub row : TypedPers
+
+abbrev pub of_task : ℕ → TypedPers → Declared
+of_task task row = record { task = task; row = row }
+
+-- each PERS of the trees, the first of which is that of the task of this number: by task, and in a tree by module and place
+abbrev pub declared_from : ℕ → List TypedTree → List Declared
+declared_from task [] = []
+declared_from task (tree ∷ trees) = map (of_task task) tree.pers ++ declared_from (task + 1) trees
+
+abbrev pub declared_by : List TypedTree → List Declared
+declared_by trees = declared_from 0 trees
+
+-- two PERS are one where both are global, so that neither is a LOCAL or a TASK one, and have one name
+pub record AreOne (d e : Declared) : Type 0 where
+  pub global : d.row.own ≡ false
+  pub other_global : e.row.own ≡ false
+  pub named : AreOneName d.row.name e.row.name
+
+-- of one type and one length
+pub record AreAlike (row other : TypedPers) : Type 0 where
+  pub sort : row.sort ≡ other.sort
+  pub len : row.len ≡ other.len
+
+-- of the declarations before a place, those that are one are alike
+abbrev pub AreAlikeBefore : ℕ → List Declared → Type 0
+AreAlikeBefore place declared =
+    (i j : ℕ) (d e : Declared) → i < j → j < place → slice_get declared i ≡ Some d → slice_get declared j ≡ Some e → AreOne d e → AreAlike d.row e.row
+
+-- the meetings of the trees, by task and first naming
+abbrev pub meetings_of : List TypedTree → List (List ℕ)
+meetings_of trees = flat_map (λ tree. tree.meetings) trees

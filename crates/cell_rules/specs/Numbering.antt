@@ -1,0 +1,23 @@
+-- Numbers of what is declared: the declarations of one thing have one number, and things are numbered from 0 in the order of their
+-- first declarations.
+use Rattle.std.specs.Prelude.{◌≡◌, ◌↔◌, ℕ, ◌<◌, ◌≤◌, List, length, Some, slice_get}
+
+-- Declarations have these numbers, which are those below the count: an earlier and a later one have one number exactly where they
+-- are one, and in front of each number stands every smaller one.
+pub record AreNumbered {A : Type 0} (AreOne : A → A → Type 0) (declared : List A) (numbers : List ℕ) (count : ℕ) : Type 0 where
+  pub as_many : length numbers ≡ length declared
+  pub one : (i j : ℕ) (d e : A) (k l : ℕ) → i < j → slice_get declared i ≡ Some d → slice_get declared j ≡ Some e → slice_get numbers i ≡ Some k → slice_get numbers j ≡ Some l → (k ≡ l) ↔ AreOne d e
+  pub below : (i k : ℕ) → slice_get numbers i ≡ Some k → k < count
+  pub each : (k : ℕ) → k < count → (i : ℕ) × (slice_get numbers i ≡ Some k)
+  pub in_order : (j k l : ℕ) → slice_get numbers j ≡ Some l → k < l → (i : ℕ) × (i < j) × (slice_get numbers i ≡ Some k)
+
+-- the declaration at this place has this number
+pub record HasNumber {A : Type 0} (declared : List A) (numbers : List ℕ) (k place : ℕ) (d : A) : Type 0 where
+  pub there : slice_get declared place ≡ Some d
+  pub numbered : slice_get numbers place ≡ Some k
+
+-- the first declaration of this number
+pub record IsFirst {A : Type 0} (declared : List A) (numbers : List ℕ) (k : ℕ) (d : A) : Type 0 where
+  pub place : ℕ
+  pub has_number : HasNumber declared numbers k place d
+  pub first : (other : ℕ) → slice_get numbers other ≡ Some k → place ≤ other

@@ -1,0 +1,172 @@
+-- The bounds and the step of a FOR.
+use Rattle.std.proofs.Common.{◌≡◌, refl, sym, ap, ℕ, ◌+◌, ◌≤◌, max, Bool, true, false, List, [], ◌∷◌, length, Option, None, Some, if◌then◌else◌, arith}
+use Rattle.std.specs.Prelude.{ℤ, pos, neg_ℤ, int_lt}
+use Rattle.rapid_model.specs.declared.value.Value.{Value}
+use Rattle.rapid_model.specs.declared.value.Value.TheVariants as values
+use Rattle.raw_trees.specs.declared.raw_expr.Operator.TheVariants as operators
+use Rattle.typed_trees.specs.Plain.{TypedExpr}
+use Rattle.typed_trees.specs.declared.datum.Datum.{Datum}
+use Rattle.typed_trees.specs.declared.datum.Datum.TheVariants.{Plain, Place}
+use Rattle.typed_trees.specs.declared.datum.Lvalue.{Lvalue}
+use Rattle.rapid_meaning.specs.Doings.{Doing, Reads, after, or_misfit}
+use Rattle.rapid_meaning.specs.Instructions.{num}
+use Rattle.rapid_meaning.specs.Layouts.{local_start}
+use Rattle.rapid_meaning.specs.Loops.{bounds}
+use Rattle.rapid_meaning.specs.Places.{own_place, write_value}
+use Rattle.rapid_meaning.specs.Values.{num_in}
+use Rattle.stack_code.specs.ExprLayouts.{expr_code, put}
+use Rattle.stack_code.specs.Needs.{expr_need, pieces_need}
+use Rattle.stack_code.specs.Pieces.{bounds_pieces, push, push_down}
+use Rattle.stack_code.specs.Placed.{Placed}
+use Rattle.stack_code.specs.Sizes.{bounds_size, expr_size, pieces_size}
+use Rattle.stack_code.specs.Steps.{counter_at}
+use Rattle.stack_code.specs.StmtLayouts.{pieces_code}
+use Rattle.stack_code.specs.declared.op.Op.TheVariants as ops
+use Rattle.code_simulation.specs.Calls.{ExprCalls, MaybeCalls}
+use Rattle.code_simulation.proofs.Alone.{or_misfit_alone}
+use Rattle.code_simulation.proofs.Claims.{Claims}
+use Rattle.code_simulation.proofs.CodeOf.{IsCodeOf}
+use Rattle.code_simulation.proofs.Expressions.{expr_sim}
+use Rattle.code_simulation.proofs.Ops.{OpAt, ends_at}
+use Rattle.code_simulation.proofs.Past.{past_expr}
+use Rattle.code_simulation.proofs.PlaceOps.{load_sim}
+use Rattle.code_simulation.proofs.Plains.{store_sim}
+use Rattle.code_simulation.proofs.Rooms.{first_room, second_room}
+use Rattle.code_simulation.proofs.Same.{same}
+use Rattle.code_simulation.proofs.Sim.{Sim, sim_gives, sim_misfit, sim_then, sim_to}
+use Rattle.code_simulation.proofs.Spots.{Holds, Pushes, Spot, failing, sim_op, standing}
+
+-- the place of one of the three data
+abbrev place_at : ℕ → Doing Lvalue
+place_at k = Reads (λ d. or_misfit (own_place k d.frames))
+
+local_sim : (s : Spot) (pc : ℕ) (stack : List Datum) (k x : ℕ) → k ≡ x → OpAt s pc (ops.Local k) → length stack ≤ s.target.code.deepest → Pushes s pc (pc + 1) stack Place (place_at x)
+local_sim s pc stack k x e there room =
+    sim_to (ap (λ (n : ℕ). place_at n) (sym e)) (sim_op s pc stack (ops.Local k) there room (same (place_at k) (λ d. or_misfit_alone (own_place k d.frames))))
+
+-- a value that is a num
+number : (s : Spot) (pc : ℕ) (stack : List Datum) (v : Value) → Sim s.target s.run (standing s pc (Plain v ∷ stack)) (num_in v) (λ n. standing s pc (Plain (values.Num n) ∷ stack)) (failing s)
+number s pc stack (values.Num n) = sim_gives n
+number s pc stack v = sim_misfit
+
+num_sim : (s : Spot) → IsCodeOf s.tree s.target → Claims s.target s.tree s.run → (pc : ℕ) (stack : List Datum) (e : TypedExpr) (ps : List Placed) → ExprCalls s.tree e
+    → Holds s pc (expr_code s.tree s.routine s.own pc e ps) → length stack + expr_need e ≤ s.target.code.deepest
+    → Sim s.target s.run (standing s pc stack) (num s.tree s.routine e) (λ n. standing s (pc + expr_size e) (Plain (values.Num n) ∷ stack)) (failing s)
+num_sim s code claims pc stack e ps calls there room =
+    sim_then (λ v. standing s (pc + expr_size e) (Plain v ∷ stack)) (expr_sim s code claims pc (pc + expr_size e) stack e ps calls there room refl) (number s (pc + expr_size e) stack)
+
+-- one of the three data is read
+counter_sim : (s : Spot) (pc : ℕ) (stack : List Datum) (k x : ℕ) → k ≡ x → OpAt s pc (ops.Local k) → OpAt s (pc + 1) ops.Load → length stack + 1 ≤ s.target.code.deepest
+    → Sim s.target s.run (standing s pc stack) (counter_at x) (λ n. standing s (pc + 1 + 1) (Plain (values.Num n) ∷ stack)) (failing s)
+counter_sim s pc stack k x e there loads room =
+    sim_then (λ p. standing s (pc + 1) (Place p ∷ stack)) (local_sim s pc stack k x e there (omega (arith, room)))
+    (λ p. sim_then (λ v. standing s (pc + 1 + 1) (Plain v ∷ stack)) (load_sim s (pc + 1) stack p loads (omega (arith, room))) (number s (pc + 1 + 1) stack))
+
+-- a step of -1 or 1, by whether the variable is the greater
+
+chosen_step : (s : Spot) (pc : ℕ) (p : Lvalue) (c : Bool) → OpAt s pc (ops.JumpFalse (pc + 1 + 1 + 1)) → OpAt s (pc + 1) push_down → OpAt s (pc + 1 + 1) (ops.Jump (pc + 1 + 1 + 1 + 1))
+    → OpAt s (pc + 1 + 1 + 1) (push 1) → OpAt s (pc + 1 + 1 + 1 + 1) ops.Store → 2 ≤ s.target.code.deepest
+    → Sim s.target s.run (standing s pc (Plain (values.Bool c) ∷ Place p ∷ [])) (write_value p (values.Num (if c then neg_ℤ (pos 1_000) else pos 1_000)))
+    (λ _. standing s (pc + 1 + 1 + 1 + 1 + 1) []) (failing s)
+unfolding after
+chosen_step s pc p true unless down jump up there room =
+    sim_op s pc (Plain (values.Bool true) ∷ Place p ∷ []) (ops.JumpFalse (pc + 1 + 1 + 1)) unless (omega (arith, room))
+    (sim_op s (pc + 1) (Place p ∷ []) push_down down (omega (arith, room))
+    (sim_op s (pc + 1 + 1) (Plain (values.Num (neg_ℤ (pos 1_000))) ∷ Place p ∷ []) (ops.Jump (pc + 1 + 1 + 1 + 1)) jump (omega (arith, room))
+    (store_sim s (pc + 1 + 1 + 1 + 1) [] p (Plain (values.Num (neg_ℤ (pos 1_000)))) there (omega (arith, room)))))
+chosen_step s pc p false unless down jump up there room =
+    sim_op s pc (Plain (values.Bool false) ∷ Place p ∷ []) (ops.JumpFalse (pc + 1 + 1 + 1)) unless (omega (arith, room))
+    (sim_op s (pc + 1 + 1 + 1) (Place p ∷ []) (push 1) up (omega (arith, room))
+    (store_sim s (pc + 1 + 1 + 1 + 1) [] p (Plain (values.Num (pos 1_000))) there (omega (arith, room))))
+
+-- the two others are compared
+compared : (s : Spot) (pc : ℕ) (p : Lvalue) (m n : ℤ) → OpAt s pc (ops.Binary operators.Greater) → 3 ≤ s.target.code.deepest
+    → Sim s.target s.run (standing s (pc + 1) (Plain (values.Bool (int_lt n m)) ∷ Place p ∷ [])) (write_value p (values.Num (if int_lt n m then neg_ℤ (pos 1_000) else pos 1_000)))
+    (λ _. standing s (pc + 1 + 1 + 1 + 1 + 1 + 1) []) (failing s)
+    → Sim s.target s.run (standing s pc (Plain (values.Num n) ∷ Plain (values.Num m) ∷ Place p ∷ [])) (write_value p (values.Num (if int_lt n m then neg_ℤ (pos 1_000) else pos 1_000)))
+    (λ _. standing s (pc + 1 + 1 + 1 + 1 + 1 + 1) []) (failing s)
+unfolding after
+compared s pc p m n there room more = sim_op s pc (Plain (values.Num n) ∷ Plain (values.Num m) ∷ Place p ∷ []) (ops.Binary operators.Greater) there (omega (arith, room)) more
+
+pub bounds_sim : (s : Spot) → IsCodeOf s.tree s.target → Claims s.target s.tree s.run → (labels : List ℕ) (pc local : ℕ) (first last : TypedExpr) (step : Option TypedExpr) (ps : List Placed)
+    → ExprCalls s.tree first → ExprCalls s.tree last → MaybeCalls s.tree step
+    → Holds s pc (pieces_code s.tree s.routine labels s.own pc (bounds_pieces (local_start s.routine local) first last step) ps)
+    → pieces_need 0 (bounds_pieces (local_start s.routine local) first last step) ≤ s.target.code.deepest
+    → Sim s.target s.run (standing s pc []) (bounds s.tree s.routine local first last step) (λ _. standing s (pc + bounds_size s.routine local first last step) []) (failing s)
+unfolding pieces_code pieces_size pieces_need
+bounds_sim s code claims labels pc local first last (Some step) ps calls_first calls_last calls_step there room =
+    let k : ℕ = local_start s.routine local in
+    let a : ℕ = pc + 1 + expr_size first in
+    let b : ℕ = a + 1 + expr_size last in
+    let c : ℕ = b + 1 + expr_size step in
+    let stores : List Placed = put s.own ops.Store (put s.own ops.Store (put s.own ops.Store ps)) in
+    let of_step : List Placed = put s.own (ops.Local (k + 2)) (expr_code s.tree s.routine s.own (b + 1) step stores) in
+    let of_last : List Placed = put s.own (ops.Local (k + 1)) (expr_code s.tree s.routine s.own (a + 1) last of_step) in
+    let at_last = past_expr s.target.code s.tree s.routine s.own (pc + 1) first of_last there.1 in
+    let at_step = past_expr s.target.code s.tree s.routine s.own (a + 1) last of_step at_last.1 in
+    let at_stores = past_expr s.target.code s.tree s.routine s.own (b + 1) step stores at_step.1 in
+    let room_step : ℕ = max (5 + expr_need step) 6 in
+    let room_last : ℕ = max (3 + expr_need last) (max 4 room_step) in
+    let room_first : ℕ = max (1 + expr_need first) (max 2 room_last) in
+    let r0 : room_first ≤ s.target.code.deepest = second_room 0 room_first s.target.code.deepest room in
+    let r1 : room_last ≤ s.target.code.deepest = second_room 2 room_last s.target.code.deepest (second_room (1 + expr_need first) (max 2 room_last) s.target.code.deepest r0) in
+    let r2 : room_step ≤ s.target.code.deepest = second_room 4 room_step s.target.code.deepest (second_room (3 + expr_need last) (max 4 room_step) s.target.code.deepest r1) in
+    let six : 6 ≤ s.target.code.deepest = second_room (5 + expr_need step) 6 s.target.code.deepest r2 in
+    ends_at s (standing s pc []) (bounds s.tree s.routine local first last (Some step)) (λ _. []) (c + 1 + 1 + 1)
+    (pc + (1 + (expr_size first + (1 + (expr_size last + (1 + (expr_size step + (1 + (1 + (1 + 0)))))))))) (omega arith)
+    (sim_then (λ p. standing s (pc + 1) (Place p ∷ [])) (local_sim s pc [] k (k + 0) (omega arith) there.0 (omega arith)) (λ p.
+    sim_then (λ from. standing s a (Plain (values.Num from) ∷ Place p ∷ []))
+    (num_sim s code claims (pc + 1) (Place p ∷ []) first of_last calls_first there.1 (first_room (1 + expr_need first) (max 2 room_last) s.target.code.deepest r0)) (λ from.
+    sim_then (λ q. standing s (a + 1) (Place q ∷ Plain (values.Num from) ∷ Place p ∷ []))
+    (local_sim s a (Plain (values.Num from) ∷ Place p ∷ []) (k + 1) (k + 1) refl at_last.0 (omega (arith, six))) (λ q.
+    sim_then (λ to. standing s b (Plain (values.Num to) ∷ Place q ∷ Plain (values.Num from) ∷ Place p ∷ []))
+    (num_sim s code claims (a + 1) (Place q ∷ Plain (values.Num from) ∷ Place p ∷ []) last of_step calls_last at_last.1 (first_room (3 + expr_need last) (max 4 room_step) s.target.code.deepest r1)) (λ to.
+    sim_then (λ r. standing s (b + 1) (Place r ∷ Plain (values.Num to) ∷ Place q ∷ Plain (values.Num from) ∷ Place p ∷ []))
+    (local_sim s b (Plain (values.Num to) ∷ Place q ∷ Plain (values.Num from) ∷ Place p ∷ []) (k + 2) (k + 2) refl at_step.0 (omega (arith, six))) (λ r.
+    sim_then (λ by. standing s c (Plain (values.Num by) ∷ Place r ∷ Plain (values.Num to) ∷ Place q ∷ Plain (values.Num from) ∷ Place p ∷ []))
+    (num_sim s code claims (b + 1) (Place r ∷ Plain (values.Num to) ∷ Place q ∷ Plain (values.Num from) ∷ Place p ∷ []) step stores calls_step at_step.1
+    (first_room (5 + expr_need step) 6 s.target.code.deepest r2)) (λ by.
+    sim_then (λ _. standing s (c + 1) (Plain (values.Num to) ∷ Place q ∷ Plain (values.Num from) ∷ Place p ∷ []))
+    (store_sim s c (Plain (values.Num to) ∷ Place q ∷ Plain (values.Num from) ∷ Place p ∷ []) r (Plain (values.Num by)) at_stores.0 (omega (arith, six))) (λ _.
+    sim_then (λ _. standing s (c + 1 + 1) (Plain (values.Num from) ∷ Place p ∷ []))
+    (store_sim s (c + 1) (Plain (values.Num from) ∷ Place p ∷ []) q (Plain (values.Num to)) at_stores.1.0 (omega (arith, six))) (λ _.
+    store_sim s (c + 1 + 1) [] p (Plain (values.Num from)) at_stores.1.1.0 (omega (arith, six)))))))))))
+bounds_sim s code claims labels pc local first last None ps calls_first calls_last calls_step there room =
+    let k : ℕ = local_start s.routine local in
+    let a : ℕ = pc + 1 + expr_size first in
+    let b : ℕ = a + 1 + expr_size last in
+    let c : ℕ = b + 1 + 1 in
+    let g : ℕ = c + 1 + 1 + 1 + 1 + 1 in
+    let chooses : List Placed = put s.own (ops.JumpFalse (g + 1 + 1 + 1 + 1)) (put s.own push_down (put s.own (ops.Jump (g + 1 + 1 + 1 + 1 + 1)) (put s.own (push 1) (put s.own ops.Store ps)))) in
+    let finds : List Placed = put s.own (ops.Local (k + 2)) (put s.own (ops.Local k) (put s.own ops.Load (put s.own (ops.Local (k + 1)) (put s.own ops.Load (put s.own (ops.Binary operators.Greater) chooses))))) in
+    let stores : List Placed = put s.own ops.Store (put s.own ops.Store finds) in
+    let of_last : List Placed = put s.own (ops.Local (k + 1)) (expr_code s.tree s.routine s.own (a + 1) last stores) in
+    let at_last = past_expr s.target.code s.tree s.routine s.own (pc + 1) first of_last there.1 in
+    let at_stores = past_expr s.target.code s.tree s.routine s.own (a + 1) last stores at_last.1 in
+    let at_finds = at_stores.1.1 in
+    let at_binary = at_finds.1.1.1.1.1 in
+    let at_chooses = at_binary.1 in
+    let room_last : ℕ = max (3 + expr_need last) 4 in
+    let room_first : ℕ = max (1 + expr_need first) (max 2 room_last) in
+    let r0 : room_first ≤ s.target.code.deepest = second_room 0 room_first s.target.code.deepest room in
+    let r1 : room_last ≤ s.target.code.deepest = second_room 2 room_last s.target.code.deepest (second_room (1 + expr_need first) (max 2 room_last) s.target.code.deepest r0) in
+    let four : 4 ≤ s.target.code.deepest = second_room (3 + expr_need last) 4 s.target.code.deepest r1 in
+    ends_at s (standing s pc []) (bounds s.tree s.routine local first last None) (λ _. []) (g + 1 + 1 + 1 + 1 + 1 + 1)
+    (pc + (1 + (expr_size first + (1 + (expr_size last + (1 + (1 + (1 + (1 + (1 + (1 + (1 + (1 + (4 + (1 + 0))))))))))))))) (omega arith)
+    (sim_then (λ p. standing s (pc + 1) (Place p ∷ [])) (local_sim s pc [] k (k + 0) (omega arith) there.0 (omega arith)) (λ p.
+    sim_then (λ from. standing s a (Plain (values.Num from) ∷ Place p ∷ []))
+    (num_sim s code claims (pc + 1) (Place p ∷ []) first of_last calls_first there.1 (first_room (1 + expr_need first) (max 2 room_last) s.target.code.deepest r0)) (λ from.
+    sim_then (λ q. standing s (a + 1) (Place q ∷ Plain (values.Num from) ∷ Place p ∷ []))
+    (local_sim s a (Plain (values.Num from) ∷ Place p ∷ []) (k + 1) (k + 1) refl at_last.0 (omega (arith, four))) (λ q.
+    sim_then (λ to. standing s b (Plain (values.Num to) ∷ Place q ∷ Plain (values.Num from) ∷ Place p ∷ []))
+    (num_sim s code claims (a + 1) (Place q ∷ Plain (values.Num from) ∷ Place p ∷ []) last stores calls_last at_last.1 (first_room (3 + expr_need last) 4 s.target.code.deepest r1)) (λ to.
+    sim_then (λ _. standing s (b + 1) (Plain (values.Num from) ∷ Place p ∷ []))
+    (store_sim s b (Plain (values.Num from) ∷ Place p ∷ []) q (Plain (values.Num to)) at_stores.0 (omega (arith, four))) (λ _.
+    sim_then (λ _. standing s c []) (store_sim s (b + 1) [] p (Plain (values.Num from)) at_stores.1.0 (omega (arith, four))) (λ _.
+    sim_then (λ r. standing s (c + 1) (Place r ∷ [])) (local_sim s c [] (k + 2) (k + 2) refl at_finds.0 (omega arith)) (λ r.
+    sim_then (λ m. standing s (c + 1 + 1 + 1) (Plain (values.Num m) ∷ Place r ∷ []))
+    (counter_sim s (c + 1) (Place r ∷ []) k (k + 0) (omega arith) at_finds.1.0 at_finds.1.1.0 (omega (arith, four))) (λ m.
+    sim_then (λ n. standing s g (Plain (values.Num n) ∷ Plain (values.Num m) ∷ Place r ∷ []))
+    (counter_sim s (c + 1 + 1 + 1) (Plain (values.Num m) ∷ Place r ∷ []) (k + 1) (k + 1) refl at_finds.1.1.1.0 at_finds.1.1.1.1.0 (omega (arith, four))) (λ n.
+    compared s g r m n at_binary.0 (omega (arith, four))
+    (chosen_step s (g + 1) r (int_lt n m) at_chooses.0 at_chooses.1.0 at_chooses.1.1.0 at_chooses.1.1.1.0 at_chooses.1.1.1.1.0 (omega (arith, four)))))))))))))

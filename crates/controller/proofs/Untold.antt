@@ -1,0 +1,79 @@
+-- What the reads gave of a shelf that tells nothing: the texts that they are known by.
+use Rattle.std.proofs.Common.{◌≡◌, ℕ, zero, suc, ◌+◌, ◌<◌, ◌≤◌, List, [], ◌∷◌, length, get_or, refl, ap, sym, ◌∙◌, subst, ◌⊎◌, inl, inr, arith, true, false, Bool}
+use Rattle.std.specs.Prelude.{Option, Some, None, IfSome, Result, Ok, Err, Vec, All, if◌then◌else◌}
+use Rattle.std.specs.declared.alloc.Global.{Global}
+use Rattle.std.proofs.lemmas.Bool.{le-leb, lt-leb}
+use Rattle.std.proofs.lemmas.List.Elements.{All-tail}
+use Rattle.controller.specs.Accepted.{module_limit, file_text}
+use Rattle.controller.specs.Files.{Reads, text_of, IsUnread}
+use Rattle.controller.specs.Loaded.{bytes_of, IsWithin, AreTexts}
+use Rattle.controller.specs.declared.refused.Refused.{Refused}
+use Rattle.controller.specs.declared.refused.Refused.TheVariants as refusals
+
+-- bytes of which there are more
+longer : (n : ℕ) → (bytes : List ℕ) × (n < length bytes)
+longer zero = (0 ∷ [], omega arith)
+longer (suc n) = let more = longer n in (0 ∷ more.0, let many = more.1 in omega (arith, many))
+
+pub text_within : (file limit : ℕ) (text : List ℕ) → length text ≤ limit → text_of file limit (Some text) ≡ Ok text
+text_within file limit text within =
+    ap (λ (b : Bool). let r : Result (List ℕ) Refused = (if b then Ok text else Err (refusals.TooLong file)) in r) (le-leb (length text) limit within)
+
+text_past : (file limit : ℕ) (text : List ℕ) → limit < length text → text_of file limit (Some text) ≡ Err (refusals.TooLong file)
+text_past file limit text past =
+    ap (λ (b : Bool). let r : Result (List ℕ) Refused = (if b then Ok text else Err (refusals.TooLong file)) in r) (lt-leb (length text) limit past)
+
+-- what the read of a file gave that is not read, want of memory aside
+abbrev pub Stops : ℕ → ℕ → Refused → Option (List ℕ) → Type 0
+Stops file limit refused gave = (refused ≡ refusals.Memory) ⊎ (text_of file limit gave ≡ Err refused)
+
+pub unread_gave : (file limit : ℕ) (refused : Refused) → IsUnread file refused → (gave : Option (List ℕ)) × Stops file limit refused gave
+unread_gave file limit (refusals.Words place) is = absurd is
+unread_gave file limit (refusals.Script key rule) is = absurd is
+unread_gave file limit (refusals.Module other place rule) is = absurd is
+unread_gave file limit (refusals.Read other) is = (None, inr (ap (λ (n : ℕ). Err (refusals.Read n)) (sym is)))
+unread_gave file limit refusals.Write is = absurd is
+unread_gave file limit refusals.Memory is = (None, inl refl)
+unread_gave file limit (refusals.TooLong other) is =
+    let more = longer limit in
+    (Some more.0, inr (text_past file limit more.0 more.1 ∙ ap (λ (n : ℕ). Err (refusals.TooLong n)) (sym is)))
+
+-- the texts, and what the read behind them gave
+abbrev pub behind : List (Vec ℕ Global) → Option (List ℕ) → List (Option (List ℕ))
+behind [] last = last ∷ []
+behind (text ∷ texts) last = Some text.items ∷ behind texts last
+
+-- where the reads from a file on gave these, they come to the texts and to what stopped them
+pub texts_given : (gave : Reads) (file : ℕ) (names : List (List ℕ)) (texts : List (Vec ℕ Global)) (last : Option (List ℕ)) (failed : Option Refused)
+    → ((k : ℕ) (name : List ℕ) → gave (file + k) name ≡ get_or (behind texts last) k None) → All IsWithin texts → length texts ≤ length names → (failed ≡ None → length texts ≡ length names)
+    → IfSome failed (λ refused. Stops (file + length texts) module_limit refused last × (length texts < length names)) → AreTexts gave file names (bytes_of texts) failed
+texts_given gave file [] [] last None at within few whole stops = tt
+texts_given gave file [] [] last (Some refused) at within few whole stops = absurd (let none = stops.1 in omega (arith, none))
+texts_given gave file [] (text ∷ texts) last failed at within few whole stops = absurd (omega (arith, few))
+texts_given gave file (name ∷ names) [] last None at within few whole stops = absurd (let all = whole refl in omega (arith, all))
+texts_given gave file (name ∷ names) [] last (Some refused) at within few whole stops = here stops.0
+  where
+    same : file + 0 ≡ file
+    same = omega arith
+
+    here : Stops (file + 0) module_limit refused last → (refused ≡ refusals.Memory) ⊎ (file_text gave file module_limit name ≡ Err refused)
+    here (inl memory) = inl memory
+    here (inr is) =
+        inr (ap (λ (o : Option (List ℕ)). text_of file module_limit o) (ap (λ (n : ℕ). gave n name) (sym same) ∙ at 0 name) ∙ ap (λ (n : ℕ). text_of n module_limit last) (sym same) ∙ is)
+texts_given gave file (name ∷ names) (text ∷ texts) last failed at within few whole stops = (
+  ap (λ (o : Option (List ℕ)). text_of file module_limit o) (ap (λ (n : ℕ). gave n name) (first file) ∙ at 0 name) ∙ text_within file module_limit text.items (within 0 text (omega arith)),
+  texts_given gave (file + 1) names texts last failed (λ k other. ap (λ (n : ℕ). gave n other) (next file k) ∙ at (suc k) other) (All-tail IsWithin text texts within) (omega (arith, few))
+      (λ none. let all = whole none in omega (arith, all)) (later failed stops),
+)
+  where
+    first : (n : ℕ) → n ≡ n + 0
+    first n = omega arith
+
+    next : (n k : ℕ) → n + 1 + k ≡ n + suc k
+    next n k = omega arith
+
+    later : (o : Option Refused) → IfSome o (λ refused. Stops (file + length (text ∷ texts)) module_limit refused last × (length (text ∷ texts) < length (name ∷ names)))
+        → IfSome o (λ refused. Stops (file + 1 + length texts) module_limit refused last × (length texts < length names))
+    later None p = tt
+    later (Some refused) p =
+        (subst (λ (n : ℕ). Stops n module_limit refused last) (sym (next file (length texts))) p.0, let fewer = p.1 in omega (arith, fewer))

@@ -1,0 +1,4 @@
+use Rattle.controller.proofs.build.build_tasks.Goals as goal
+
+pub loop-k-init : goal.loop-k-init
+loop-k-init c = ?

@@ -1,0 +1,23 @@
+use Rattle.std.proofs.Common.{List, subst, sym, Some, Vec, ℕ}
+use Rattle.std.specs.declared.alloc.Global.{Global}
+use Rattle.controller.specs.Files.{told_reads}
+use Rattle.controller.specs.Loaded.{names_in_turn, bytes_of, AreTexts}
+use Rattle.controller.specs.declared.refused.Refused.TheVariants.{Memory}
+use Rattle.controller.proofs.Loads.{loading_fails, loading_lacks, loading_ends}
+use Rattle.controller.proofs.texts.load_texts.Goals as goal
+
+pub returns-in-Err-clause-told : goal.returns-in-Err-clause-told
+returns-in-Err-clause-told g c =
+    loading_fails (g.S.Shelf.told c.args.shelf.now) (g.S.Shelf.told c.loop-k.shelf) (g.S.Shelf.faults c.args.shelf.now) (g.S.Shelf.faults c.loop-k.shelf) c.args.modules.now c.loop-k.k c.loop-k.texts.items _ c.in-Err.refused
+    c.loop-k-test.true c.loop-k.invariant c.in-Err.ensures.gives
+
+pub returns-in-Err-push-clause-told : goal.returns-in-Err-push-clause-told
+returns-in-Err-push-clause-told g c = λ told first.
+    subst (λ (texts : List (Vec ℕ Global)). AreTexts (told_reads told) 1 (names_in_turn c.args.modules.now) (bytes_of texts) (Some Memory)) (sym c.in-Err-push.ensures.items)
+    (loading_lacks (g.S.Shelf.told c.args.shelf.now) (g.S.Shelf.told c.loop-k.shelf) (g.S.Shelf.faults c.args.shelf.now) (g.S.Shelf.faults c.loop-k.shelf) c.args.modules.now c.loop-k.k c.loop-k.texts.items
+    c.loop-k-test.true c.loop-k.invariant told first)
+
+pub returns-clause-told : goal.returns-clause-told
+returns-clause-told g c =
+    loading_ends (g.S.Shelf.told c.args.shelf.now) (g.S.Shelf.told c.loop-k.shelf) (g.S.Shelf.faults c.args.shelf.now) (g.S.Shelf.faults c.loop-k.shelf) c.args.modules.now c.loop-k.k c.loop-k.texts.items
+    c.loop-k-test.false c.loop-k.invariant

@@ -1,0 +1,5 @@
+pub mod Stands
+pub mod Tokens
+pub mod Statements
+pub mod Modules
+pub mod Labels

@@ -1,0 +1,41 @@
+-- Tokens of a text stand one behind the other, and so do statements that begin at them.
+use Rattle.std.proofs.Common.{inl, inr, ℕ, ◌+◌, ◌<◌, List, [], ◌∷◌, length, map, sym, subst, arith}
+use Rattle.rapid_lexer.specs.Tokens.{Lexeme, Passes, Tiles}
+use Rattle.rapid_lexer.proofs.GapWalks.{token_no_gap}
+use Rattle.raw_trees.specs.Plain.{PlainStmt}
+use Rattle.text_order.specs.Stated.{byte_of, IsBelow, AreAscending}
+use Rattle.text_order.proofs.Stands.{Stand}
+
+below_all : (n m : ℕ) (ns : List ℕ) → n < m → IsBelow m ns → IsBelow n ns
+below_all n m [] less below = tt
+below_all n m (k ∷ ns) less below = (omega (arith, less, below.0), below_all n m ns less below.1)
+
+-- tokens from a place on stand there or behind it
+from_on : (at : ℕ) (bytes : List ℕ) (ts : List Lexeme) (there : ℕ) (left : List ℕ) (n : ℕ) → n < at → Passes at bytes ts there left → IsBelow n (map (λ (t : Lexeme). t.at) ts)
+from_on at bytes [] there left n less passes = tt
+from_on at bytes (t ∷ ts) there left n less passes =
+    let (after, follows, more) = passes in
+    (omega (arith, less, follows.place), from_on (t.at + length t.text) after ts there left n (omega (arith, less, follows.place)) more)
+
+ascending_from : (at : ℕ) (bytes : List ℕ) (ts : List Lexeme) (there : ℕ) (left : List ℕ) → Passes at bytes ts there left → AreAscending (map (λ (t : Lexeme). t.at) ts)
+ascending_from at bytes [] there left passes = tt
+ascending_from at bytes (t ∷ ts) there left passes =
+    let (after, follows, more) = passes in
+    let some = (token_no_gap t.kind t.text after follows.is_token).1 in
+    (from_on (t.at + length t.text) after ts there left t.at (omega (arith, some)) more, ascending_from (t.at + length t.text) after ts there left more)
+
+pub tokens_ascend : (source : List ℕ) (ts : List Lexeme) → Tiles source ts → AreAscending (map (λ t. t.at) ts)
+tokens_ascend source ts tiles = ascending_from _ _ ts tiles.there tiles.left tiles.begins.passes
+
+-- a number below the tokens' places is below the bytes of statements that stand at them
+stand_behind : (n : ℕ) (ss : List PlainStmt) (ts : List Lexeme) → IsBelow n (map (λ (t : Lexeme). t.at) ts) → Stand ss ts → IsBelow n (map byte_of ss)
+stand_behind n [] ts below stand = tt
+stand_behind n (s ∷ ss) [] below stand = absurd stand
+stand_behind n (s ∷ ss) (t ∷ ts) below (inl here) = (omega (arith, below.0, here.0.at), stand_behind n ss ts below.1 here.1)
+stand_behind n (s ∷ ss) (t ∷ ts) below (inr more) = stand_behind n (s ∷ ss) ts below.1 more
+
+pub stand_ascend : (ss : List PlainStmt) (ts : List Lexeme) → AreAscending (map (λ t. t.at) ts) → Stand ss ts → AreAscending (map byte_of ss)
+stand_ascend [] ts ascend stand = tt
+stand_ascend (s ∷ ss) [] ascend stand = absurd stand
+stand_ascend (s ∷ ss) (t ∷ ts) ascend (inl here) = (subst (λ n. IsBelow n (map byte_of ss)) (sym here.0.at) (stand_behind t.at ss ts ascend.0 here.1), stand_ascend ss ts ascend.1 here.1)
+stand_ascend (s ∷ ss) (t ∷ ts) ascend (inr more) = stand_ascend (s ∷ ss) ts ascend.1 more

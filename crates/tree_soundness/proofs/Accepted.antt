@@ -1,0 +1,96 @@
+-- The trees of an accepted cell are well typed, and have its numbers.
+use Rattle.std.proofs.Common.{◌≡◌, ℕ, zero, suc, Bool, List, [], ◌∷◌, length, map, is_some, Some, slice_get, Ok, refl, sym, ap, subst, ◌∙◌}
+use Rattle.std.specs.List.{All}
+use Rattle.std.specs.Option.{option_map}
+use Rattle.std.proofs.lemmas.Option.{slice_get-map}
+use Rattle.rapid_model.specs.ScriptData.{ScriptData, row_of}
+use Rattle.rapid_model.specs.declared.script_task.ScriptTask.{ScriptTask}
+use Rattle.rapid_model.specs.declared.signal_row.SignalRow.{SignalRow}
+use Rattle.rapid_model.specs.declared.task_row.TaskRow.{TaskRow}
+use Rattle.raw_trees.specs.Plain.{PlainModule}
+use Rattle.typed_trees.specs.Plain.{TypedTree}
+use Rattle.stmt_types.specs.Task.{task_of}
+use Rattle.typing_rules.specs.Tasks.{IsTyped}
+use Rattle.typing_rules.proofs.TaskLaws.{task_law}
+use Rattle.cell_assembly.specs.Made.{MadeCell}
+use Rattle.task_typing.specs.Numbered.{Numbered}
+use Rattle.task_typing.specs.WellTyped.{WellTyped}
+use Rattle.rapid_model.specs.declared.answer.Answer.{Answer}
+use Rattle.rapid_meaning.specs.Runs.{FitsSteps}
+use Rattle.code_simulation.specs.Orderly.{NumbersLabels}
+use Rattle.code_simulation.specs.Standing.{StandsBy}
+use Rattle.code_simulation.proofs.Whole.{typed_stands}
+use Rattle.tree_soundness.proofs.LabelNumbers.{labels_count}
+use Rattle.tree_soundness.proofs.TextLabels.{labels_apart}
+use Rattle.tree_soundness.specs.Accepted.{AreChecked, AreRead, IsAccepted}
+use Rattle.tree_soundness.proofs.Cells.{made_named, made_routines, made_of, made_right, made_typed, signals_are, tasks_are}
+use Rattle.tree_soundness.proofs.Grammar.{traps_take}
+use Rattle.tree_soundness.proofs.Tree.{tree_right}
+
+-- the task of a tree, and its modules
+record IsChecked (script : ScriptData) (tasks : List ScriptTask) (k : ℕ) (tree : TypedTree) : Type 0 where
+  pub task : ScriptTask
+  pub there : slice_get tasks k ≡ Some task
+  pub modules : List PlainModule
+  pub read : AreRead modules
+  pub is : task_of modules (map (λ (t : ScriptTask). t.name) script.tasks) script.signals (is_some task.arm) ≡ Ok tree
+
+checked_at : (script : ScriptData) (tasks : List ScriptTask) (modules : List (List PlainModule)) (trees : List TypedTree) (k : ℕ) (tree : TypedTree) → AreChecked script tasks modules trees → slice_get trees k ≡ Some tree
+    → IsChecked script tasks k tree
+checked_at script [] [] [] k tree h is = absurd cc
+checked_at script (task ∷ tasks) (ms ∷ more) (t ∷ trees) zero tree h is =
+    let same : t ≡ tree = cc in
+    record { task = task; there = refl; modules = ms; read = h.0; is = h.1 ∙ ap Ok same }
+checked_at script (task ∷ tasks) (ms ∷ more) (t ∷ trees) (suc k) tree h is =
+    let found = checked_at script tasks more trees k tree h.2 is in
+    record { task = found.task; there = found.there; modules = found.modules; read = found.read; is = found.is }
+checked_at script _ _ _ k tree h is = absurd h
+
+checked_length : (script : ScriptData) (tasks : List ScriptTask) (modules : List (List PlainModule)) (trees : List TypedTree) → AreChecked script tasks modules trees → length trees ≡ length tasks
+checked_length script [] [] [] h = refl
+checked_length script (task ∷ tasks) (ms ∷ more) (t ∷ trees) h = ap suc (checked_length script tasks more trees h.2)
+checked_length script _ _ _ h = absurd h
+
+row_there : (tasks : List ScriptTask) (rows : List TaskRow) (k : ℕ) (task : ScriptTask) → rows ≡ map row_of tasks → slice_get tasks k ≡ Some task → slice_get rows k ≡ Some (row_of task)
+row_there tasks rows k task are there = ap (λ (l : List TaskRow). slice_get l k) are ∙ slice_get-map row_of tasks k ∙ ap (option_map row_of) there
+
+names_are : (modules : List PlainModule) (tasks : List (List ℕ)) (signals : List SignalRow) (arm : Bool) (tree : TypedTree) → IsTyped modules tasks signals arm tree → tree.tasks ≡ tasks
+names_are modules tasks signals arm tree typed = ap (λ (x : TypedTree). x.tasks) typed.is_tree
+
+-- a tree of an accepted cell; code rests on the numbers of its labels
+pub record IsRight (made : MadeCell) (number : ℕ) (tree : TypedTree) : Type 0 where
+  pub row : TaskRow
+  pub there : slice_get made.cell.tasks number ≡ Some row
+  pub typed : WellTyped (length made.cell.signals) (is_some row.arm) tree
+  pub numbered : Numbered made.cell number tree
+  pub labels : All NumbersLabels tree.routines
+
+pub accepted_right : (script : ScriptData) (made : MadeCell) (number : ℕ) (tree : TypedTree) → IsAccepted script made → slice_get made.trees number ≡ Some tree → IsRight made number tree
+accepted_right script made number tree accepted is =
+    let trees = accepted.trees in
+    let before = made_of script trees made accepted.is_made number tree is in
+    let checked = checked_at script script.tasks accepted.modules trees number before.0 accepted.are_checked before.1 in
+    let names : List (List ℕ) = map (λ (t : ScriptTask). t.name) script.tasks in
+    let typed : IsTyped checked.modules names script.signals (is_some checked.task.arm) before.0 = (task_law checked.modules names script.signals (is_some checked.task.arm) before.0).0 checked.is in
+    let takes = traps_take checked.modules checked.read in
+    let right : WellTyped (length script.signals) (is_some checked.task.arm) before.0 = tree_right checked.modules names script.signals (is_some checked.task.arm) before.0 typed takes in
+    let stayed = made_typed script trees made accepted.is_made (length script.signals) (is_some checked.task.arm) number before.0 tree before.1 is right in
+    let named : tree.tasks ≡ names = made_named script trees made accepted.is_made number tree names is (λ t there.
+    let same : before.0 ≡ t = let e : Some before.0 ≡ Some t = sym before.1 ∙ there in cc in
+    subst (λ (x : TypedTree). x.tasks ≡ names) same (names_are checked.modules names script.signals (is_some checked.task.arm) before.0 typed)) in
+    record {
+      row = row_of checked.task;
+      there = row_there script.tasks made.cell.tasks number checked.task (tasks_are script trees made accepted.is_made) checked.there;
+      typed = subst (λ (l : List SignalRow). WellTyped (length l) (is_some checked.task.arm) tree) (sym (signals_are script trees made accepted.is_made)) stayed;
+      numbered = made_right script trees made accepted.is_made number tree (checked_length script script.tasks accepted.modules trees accepted.are_checked) is named;
+      labels =
+          subst (All NumbersLabels) (sym (made_routines script trees made accepted.is_made number before.0 tree before.1 is))
+          (labels_count checked.modules names script.signals (is_some checked.task.arm) before.0 typed (labels_apart checked.modules checked.read));
+    }
+
+-- so its code stands as it does
+pub runs_as_code : (script : ScriptData) (made : MadeCell) (number : ℕ) (tree : TypedTree) (answers : List Answer) → IsAccepted script made → slice_get made.trees number ≡ Some tree → FitsSteps tree answers
+    → (k : ℕ) × StandsBy tree answers k
+runs_as_code script made number tree answers accepted there fits =
+    let h = accepted_right script made number tree accepted there in
+    typed_stands (length made.cell.signals) (is_some h.row.arm) made.cell number tree answers h.typed h.numbered h.labels fits

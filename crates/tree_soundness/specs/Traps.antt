@@ -1,0 +1,14 @@
+-- Modules whose TRAPs have no parameters, as the grammar has it (RAPID Kernel, trap routines).
+use Rattle.std.specs.Prelude.{◌≡◌, List, [], ⊤}
+use Rattle.std.specs.List.{All}
+use Rattle.raw_trees.specs.Plain.{PlainModule, PlainParam, PlainRoutine}
+use Rattle.raw_trees.specs.declared.raw_routine.RoutineKind.{RoutineKind}
+use Rattle.raw_trees.specs.declared.raw_routine.RoutineKind.TheVariants as routines
+use Rattle.stmt_types.specs.Task.{routines_of}
+
+abbrev pub TakesByKind : RoutineKind → List PlainParam → Type 0
+TakesByKind routines.Trap params = params ≡ []
+TakesByKind _ params = ⊤
+
+abbrev pub TrapsTakeNothing : List PlainModule → Type 0
+TrapsTakeNothing modules = All (λ (r : PlainRoutine). TakesByKind r.kind r.params) (routines_of modules)
