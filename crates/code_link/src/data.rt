@@ -36,7 +36,7 @@ pub(crate) fn sorts_of(alloc: Global, tree: &Tree) -> Result<Vec<PersSort>, Allo
     ensures { IfOk result (λ sorts. sorts.items ≡ Compiled.sorts_of (view_tree tree.now).pers_of (view_tree tree.now).pers) }
 {
     let mut sorts = Vec::new(alloc);
-    for (number, row) in tree.pers_of.iter().zip(&tree.pers) {
+    for (number, row) in tree.pers_of.iter().zip(tree.pers.iter()) {
         let sort = PersSort {
             pers: *number,
             sort: row.sort,

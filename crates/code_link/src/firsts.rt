@@ -1,6 +1,6 @@
 //! The values that frames begin with, behind their arguments. Each error says that memory was refused, or that they are 2^32 or more.
 
-ghost use Rattle.std.specs.Prelude.{◌≡◌, ◌*◌, [], ◌∷◌, ◌++◌, length, pos, IfOk, IsTrue, OnOk};
+ghost use Rattle.std.specs.Prelude.{◌≡◌, ◌*◌, ◌++◌, flat_map, length, pos, replicate, IfOk, OnOk};
 ghost use Rattle.rapid_meaning.specs.Frames.{first_values};
 ghost use Rattle.stack_code.specs.Firsts.{in_full};
 ghost use Rattle.typed_trees.specs.Views.{view_routine};
@@ -10,7 +10,7 @@ use rapid_model::Value;
 use rapid_num::Num;
 use stack_code::FirstRun;
 use std::alloc::{AllocError, Global};
-use typed_trees::{Datum, FirstData, Routine};
+use typed_trees::{Datum, FirstData, FirstRuns, LocalRow, Routine};
 
 /// Behind others the first values of a routine's own data and of its FORs, which have three each; and how many they are.
 pub(crate) fn add_firsts(
@@ -21,19 +21,27 @@ pub(crate) fn add_firsts(
     ensures firsts { OnOk result (in_full firsts.new.items ≡ in_full firsts.old.items ++ first_values (view_routine routine.now)) }
     ensures count { IfOk result (λ count. count ≡ length (first_values (view_routine routine.now))) }
 {
-    let mut count = 0;
-    for local in &routine.locals {
-        count = sum(count, add_data(alloc, &local.first, firsts)?)?;
-    }
+    let count = add_locals(alloc, &routine.locals, firsts)?;
     let counters = thrice(routine.loops)?;
-    if counters != 0 {
-        let datum = Datum::Plain(Value::Num(zero()));
-        firsts.push(FirstRun {
-            datum,
-            count: counters,
-        })?;
-    }
+    add_run(Datum::Plain(Value::Num(zero())), counters, firsts)?;
     sum(count, counters)
+}
+
+/// Behind others the first data of a routine's own data, and how many they are.
+fn add_locals(
+    alloc: Global,
+    locals: &[LocalRow],
+    firsts: &mut Vec<FirstRun>,
+) -> Result<u32, AllocError>
+    ensures firsts { OnOk result (in_full firsts.new.items ≡ in_full firsts.old.items ++ flat_map (λ row. row.first) locals.now) }
+    ensures count { IfOk result (λ count. count ≡ length (flat_map (λ row. row.first) locals.now)) }
+{
+    let mut count = 0;
+    for local in locals {
+        add_data(alloc, &local.first, firsts)?;
+        count = sum(count, count_of(local.first.len())?)?;
+    }
+    Ok(count)
 }
 
 /// Three times a number.
@@ -56,46 +64,35 @@ fn zero() -> Num
     }
 }
 
-/// Behind others the first data of a datum's elements, and how many they are.
-fn add_data(
-    alloc: Global,
-    first: &FirstData,
-    firsts: &mut Vec<FirstRun>,
-) -> Result<u32, AllocError>
-    ensures firsts { OnOk result (in_full firsts.new.items ≡ in_full firsts.old.items ++ first.now) }
-    ensures count { IfOk result (λ count. count ≡ length first.now) }
+/// Behind others the first data of a datum's elements, run by run as they are kept.
+fn add_data(alloc: Global, first: &FirstData, firsts: &mut Vec<FirstRun>) -> Result<(), AllocError>
+    ensures { OnOk result (in_full firsts.new.items ≡ in_full firsts.old.items ++ first.now) }
 {
-    let mut data = Vec::new(alloc);
-    first.append_to(alloc, &mut data)?;
-    let count = count_of(data.len())?;
-    for datum in data {
-        add_datum(datum, firsts)?;
+    match first.runs() {
+        FirstRuns::Each(each) => add_each(alloc, each, firsts),
+        FirstRuns::Alike(datum, count) => {
+            let count = count_of(count)?;
+            add_run(datum.copy(alloc)?, count, firsts)
+        }
     }
-    Ok(count)
 }
 
-/// One more datum, in the run of the last where both are alike.
-fn add_datum(datum: Datum, firsts: &mut Vec<FirstRun>) -> Result<(), AllocError>
-    ensures { OnOk result (in_full firsts.new.items ≡ in_full firsts.old.items ++ datum ∷ []) }
+/// Behind others a run for each datum.
+fn add_each(alloc: Global, each: &[Datum], firsts: &mut Vec<FirstRun>) -> Result<(), AllocError>
+    ensures { OnOk result (in_full firsts.new.items ≡ in_full firsts.old.items ++ each.now) }
 {
-    let runs = firsts.len();
-    if runs != 0 && are_alike(&firsts[runs - 1].datum, &datum) {
-        let longer = sum(firsts[runs - 1].count, 1)?;
-        firsts[runs - 1].count = longer;
-        return Ok(());
+    for datum in each {
+        add_run(datum.copy(alloc)?, 1, firsts)?;
     }
-    firsts.push(FirstRun { datum, count: 1 })?;
     Ok(())
 }
 
-/// Whether two data are known to be alike.
-fn are_alike(one: &Datum, other: &Datum) -> bool
-    ensures { IsTrue result → one.now ≡ other.now }
+/// Behind others a datum so many times, for which no run is needed where it is none.
+fn add_run(datum: Datum, count: u32, firsts: &mut Vec<FirstRun>) -> Result<(), AllocError>
+    ensures { OnOk result (in_full firsts.new.items ≡ in_full firsts.old.items ++ replicate count datum) }
 {
-    match (one, other) {
-        (Datum::Plain(value), Datum::Plain(same)) => value == same,
-        (Datum::Mark(number), Datum::Mark(same)) => number == same,
-        (Datum::Shape(None), Datum::Shape(None)) => true,
-        _ => false,
+    if count != 0 {
+        firsts.push(FirstRun { datum, count })?;
     }
+    Ok(())
 }

@@ -5,6 +5,9 @@ mod data;
 mod firsts;
 mod link;
 mod linked;
+mod linked_code;
+mod routines;
 mod rows;
 
-pub use link::compile;
+pub use link::link_routines;
+pub use linked_code::LinkedCode;
