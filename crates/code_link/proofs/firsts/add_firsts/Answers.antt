@@ -14,8 +14,8 @@ use Rattle.code_link.proofs.firsts.add_firsts.Goals as goal
 pub returns : goal.returns
 returns c =
     let routine = c.args.routine.now in
-    let count = c.in_ok-count.field-0 in
-    let counters = c.in_ok-counters.field-0 in
+    let count = c.in_ok-count.count in
+    let counters = c.in_ok-counters.counters in
     let own = flat_map (λ (row : LocalRow). row.first) routine.locals.items in
     let loops = replicate counters (Plain (Num c.zero.result)) in
     let there = ap (flat_map (λ (row : LocalRow). row.first)) c.deref.ensures.value in
