@@ -1,11 +1,10 @@
 -- Routines that are linked one after the other.
-use Rattle.std.proofs.Common.{◌≡◌, ℕ, ◌+◌, max, List, [], ◌∷◌, ◌++◌, length, refl, sym, ap, ◌∙◌, arith}
+use Rattle.std.proofs.Common.{◌≡◌, ◌+◌, max, List, [], ◌∷◌, ◌++◌, length, sym, ap, ◌∙◌, arith}
 use Rattle.std.specs.Prelude.{flat_map}
 use Rattle.std.proofs.lemmas.List.{append_assoc, append-nil}
 use Rattle.rapid_meaning.specs.Frames.{first_values}
-use Rattle.stack_code.specs.Compiled.{deepest_in, handlers_of, owner_rows, part_need, placed_in, routine_code, routine_row, routine_rows, routine_size, routines_code}
+use Rattle.stack_code.specs.Compiled.{deepest_in, handlers_of, owner_rows, placed_in, routine_code, routine_row, routine_rows, routine_size, routines_code}
 use Rattle.stack_code.specs.Firsts.{in_full}
-use Rattle.stack_code.specs.Needs.{stmts_need}
 use Rattle.stack_code.specs.declared.op.Op.{Op}
 use Rattle.stack_code.specs.declared.owner.Owner.{Owner}
 use Rattle.stack_code.specs.declared.first_run.FirstRun.{FirstRun}
