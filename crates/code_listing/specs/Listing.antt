@@ -1,6 +1,6 @@
 -- The text of one operation as it is listed: its name, and what it has, each after a space. Numbers are whole, data and truths
 -- stand as values do, types and functions have their names in RAPID, and all else is named as the operations' table names it.
-use Rattle.std.specs.Prelude.{ℕ, Bool, List, [], ◌∷◌, ◌++◌, codes, decimal}
+use Rattle.std.specs.Prelude.{ℕ, List, [], ◌∷◌, ◌++◌, codes, decimal}
 use Rattle.rapid_model.specs.declared.function.Function.{Function}
 use Rattle.rapid_model.specs.declared.function.Function.TheVariants as functions
 use Rattle.raw_trees.specs.declared.raw_expr.Operator.{Operator}
