@@ -48,4 +48,14 @@ impl Pushed {
         };
         Ok(Pushed { kept })
     }
+
+    /// An equal value. Takes no memory.
+    pub fn kept_value(&self) -> Value
+        ensures { self.now ≡ Plain result }
+    {
+        match &self.kept {
+            Kept::Number(number) => Value::Num(*number),
+            Kept::Other(value) => value.copy(),
+        }
+    }
 }

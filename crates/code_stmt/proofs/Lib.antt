@@ -1,0 +1,10 @@
+pub mod Closing
+pub mod Forms
+pub mod InstructionForms
+pub mod Labels
+pub mod Layouts
+pub mod Lists
+pub mod OwnerRows
+pub mod PieceLists
+pub mod Rows
+pub mod ValueLists
