@@ -1,5 +1,5 @@
-//! Compiles the module on its standard input many times over and tells how many operations its code has. The module is checked as
-//! one of a task `A` with an arm, beside the signal `di_feeder`. For `bench/run`.
+//! Compiles the module on its standard input as often as the word says, else once, and tells how many operations its code has. The
+//! module is checked as one of a task `A` with an arm, beside the signal `di_feeder`. For `bench/run`.
 #![tactic(auto)]
 
 use code_link::link_routines;
@@ -7,18 +7,19 @@ use data_scopes::Known;
 use module_parser::parse_module;
 use rapid_model::{NameText, SignalRow};
 use std::alloc::{AllocError, Global};
-use std::io;
 use std::io::Read;
+use std::{env, io};
 use stmt_types::check_task;
 use typed_trees::Tree;
-
-/// How often the module is compiled.
-const PASSES: u32 = 10;
 
 fn main(rt: HostRuntime) -> io::Result<()> {
     let mut source = Vec::new(rt.alloc());
     rt.reader().read_to_end(&mut source)?;
-    match compiled_often(rt.alloc(), source.as_slice()) {
+    let passes = match env::args(&rt)?.nth(1) {
+        Some(word) => word.parse().unwrap_or(1),
+        None => 1,
+    };
+    match compiled_often(rt.alloc(), source.as_slice(), passes) {
         Told::Code { operations } => println!(rt; "{operations} operations"),
         Told::Refused => println!(rt; "a module that is refused"),
         Told::Memory => println!(rt; "want of memory"),
@@ -33,17 +34,17 @@ enum Told {
     Memory,
 }
 
-fn compiled_often(alloc: Global, text: &[u8]) -> Told {
+fn compiled_often(alloc: Global, text: &[u8], passes: u32) -> Told {
     match tree_of(alloc, text) {
-        Ok(Some(tree)) => code_of(alloc, &tree),
+        Ok(Some(tree)) => code_of(alloc, &tree, passes),
         Ok(None) => Told::Refused,
         Err(_) => Told::Memory,
     }
 }
 
-fn code_of(alloc: Global, tree: &Tree) -> Told {
-    let mut told = Told::Memory;
-    for _ in 0..PASSES {
+fn code_of(alloc: Global, tree: &Tree, passes: u32) -> Told {
+    let mut told = Told::Code { operations: 0 };
+    for _ in 0..passes {
         told = match link_routines(alloc, tree) {
             Ok(code) => Told::Code {
                 operations: code.ops.len(),
