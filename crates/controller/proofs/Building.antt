@@ -46,8 +46,8 @@ building_begins script reads trees moves rest paired same none = record {
 }
 
 -- the view of an element of a list
-pub viewed : {A B : Type 0} (view : A → B) (xs : List A) (k : ℕ) (d : A) → k < length xs → view (get_or xs k d) ≡ get_or (map view xs) k (view (get_or xs k d))
-viewed view xs k d lt = sym (get_or-map view xs k d (view (get_or xs k d)) lt)
+pub viewed : {A B : Type 0} (view : A → B) (xs : List A) (k : ℕ) (x : A) → k < length xs → x ≡ get_or xs k x → view x ≡ get_or (map view xs) k (view x)
+viewed view xs k x lt is = ap view is ∙ sym (get_or-map view xs k x (view x) lt)
 
 all_more : {A : Type 0} (P : A → Type 0) (xs : List A) (k : ℕ) (x : A) → k < length xs → x ≡ get_or xs k x → All P (take k xs) → P x → All P (take (k + 1) xs)
 all_more P xs k x lt is all here = subst (λ ys. All P ys) (sym (take-element xs k x lt is)) (All-append P (take k xs) (x ∷ []) all (All-cons P x [] here (All-nil P)))

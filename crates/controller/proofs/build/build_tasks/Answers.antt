@@ -27,7 +27,7 @@ loop-k-preserved c =
     let seen = length-map c.args.trees.now view_tree in
     let few : c.loop-k.k < length (map view_tree c.args.trees.now) = omega (arith, seen, within) in
     building_more c.args.script.now (reads_in c.args.modules.now) (map view_tree c.args.trees.now) c.loop-k.k c.loop-k.moves.items c.push.new.self.items c.loop-k.rest c.later_modules-rest.result
-    c.index-tasks-k.result (view_tree (get_or c.args.trees.now c.loop-k.k c.index-trees-k.result)) c.in_ok-built.built lt few is (viewed view_tree c.args.trees.now c.loop-k.k c.index-trees-k.result within)
+    c.index-tasks-k.result (view_tree c.index-trees-k.result) c.in_ok-built.built lt few is (viewed view_tree c.args.trees.now c.loop-k.k c.index-trees-k.result within c.index-trees-k.is)
     c.loop-k.invariant c.in_ok-built.ensures c.in_ok-push.ensures.items c.later_modules-rest.ensures.paired
     (c.later_modules-rest.ensures.dropped ∙ ap (λ (n : ℕ). drop n (reads_in c.loop-k.rest)) c.len-count.ensures)
 
@@ -42,7 +42,7 @@ returns-in_err-built c =
     let few : c.loop-k.k < length (map view_tree c.args.trees.now) = omega (arith, seen, within) in
     let p = err_from_is_err_and c.from_residual.result c.from_residual.ensures.1 in
     rw (p.1, p.2) (building_fails c.args.script.now (reads_in c.args.modules.now) (map view_tree c.args.trees.now) c.loop-k.k c.loop-k.moves.items c.loop-k.rest (reads_in c.first_modules-own.result)
-    c.index-tasks-k.result (view_tree (get_or c.args.trees.now c.loop-k.k c.index-trees-k.result)) _ lt few is (viewed view_tree c.args.trees.now c.loop-k.k c.index-trees-k.result within)
+    c.index-tasks-k.result (view_tree c.index-trees-k.result) _ lt few is (viewed view_tree c.args.trees.now c.loop-k.k c.index-trees-k.result within c.index-trees-k.is)
     (sym c.in_default.ensures) c.loop-k.invariant (c.first_modules-own.ensures.taken ∙ ap (λ (n : ℕ). take n (reads_in c.loop-k.rest)) c.len-count.ensures) c.in_err-built.ensures)
 
 pub returns-in-Some : goal.returns-in-Some
