@@ -59,7 +59,7 @@ are_checked script (task ∷ tasks) reads trees spelled is =
 
 -- the cell is made of the trees
 made_of_trees : (script : ScriptData) (reads : List ReadModule) (making : Making MadeCell) (made : MadeCell) → cell_or_refused script reads making ≡ Ok made → making ≡ Ok made
-made_of_trees script reads (Ok m) made is = is
+made_of_trees script reads (Ok m) made is = let same : m ≡ made = cc in ap Ok same
 made_of_trees script reads (Err broken) made is = cc
 
 from_trees : (script : ScriptData) (reads : List ReadModule) (found : Result (List TypedTree) Refused) (made : MadeCell) → AreSpelled reads → typed_tasks script script.tasks reads ≡ found

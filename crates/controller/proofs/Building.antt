@@ -103,12 +103,13 @@ none_left (task ∷ tasks) reads trees none = cc
 pub building_ends : (script : ScriptData) (reads : List ReadModule) (trees : List TypedTree) (k : ℕ) (moves : List Tree) (rest : Modules) → length trees ≡ length script.tasks → length script.tasks ≤ k
     → unbuilt_key script ≡ None → Building script reads trees k moves rest → (not_built script reads trees ≡ None) × AreMoves trees moves
 building_ends script reads trees k moves rest one_each past keys p =
-    let all : take k trees ≡ trees = take_all k trees (omega (arith, one_each, past)) in
-    (all_keys script reads trees keys ∙ p.left ∙ none_left (drop k script.tasks) (reads_in rest) (drop k trees) (drop-past script.tasks k past),
-    record {
-      built = subst (λ (ts : List TypedTree). All (λ t. first_unbuilt t ≡ None) ts) all p.moved.built;
-      are = p.moved.are ∙ ap (map moves_of) all;
-    })
+    let all : take k trees ≡ trees = take_all k trees (omega (arith, one_each, past)) in (
+      all_keys script reads trees keys ∙ p.left ∙ none_left (drop k script.tasks) (reads_in rest) (drop k trees) (drop-past script.tasks k past),
+      record {
+        built = subst (λ (ts : List TypedTree). All (λ t. first_unbuilt t ≡ None) ts) all p.moved.built;
+        are = p.moved.are ∙ ap (map moves_of) all;
+      },
+    )
 
 -- what is not built is no fault of a write
 key_fault : (old new : ℕ) (o : Option (List ℕ)) (rest : Option Refused) → IfSome rest (IsDoneFault old new) → IfSome (option_or (option_map (λ key. Script key rules.NotBuilt) o) rest) (IsDoneFault old new)
