@@ -5,6 +5,7 @@ use Rattle.std.proofs.lemmas.List.Elements.{All-cons, All-drop, All-map, All-nil
 use Rattle.rapid_model.specs.ScriptData.{ScriptData}
 use Rattle.rapid_model.specs.declared.script_task.ScriptTask.{ScriptTask}
 use Rattle.raw_trees.specs.Plain.{PlainModule}
+use Rattle.module_parser.specs.Modules.{ModuleText}
 use Rattle.typed_trees.specs.Plain.{TypedTree}
 use Rattle.rule_checks.specs.TypeChecks.{Checked}
 use Rattle.stmt_types.specs.Task.{task_of}
@@ -23,16 +24,16 @@ texts_spell file (text ∷ texts) failed [] d = absurd d
 texts_spell file (text ∷ texts) failed (read ∷ reads) d =
     All-cons IsSpelled read reads (text, d.0.2) (texts_spell (file + 1) texts failed reads d.1)
 
-raws : List ReadModule → List PlainModule
+abbrev raws : List ReadModule → List PlainModule
 raws reads = map (λ (r : ReadModule). r.raw) reads
 
 -- the modules of each task
-modules_in : List ScriptTask → List ReadModule → List (List PlainModule)
+abbrev modules_in : List ScriptTask → List ReadModule → List (List PlainModule)
 modules_in [] reads = []
 modules_in (task ∷ tasks) reads = raws (take (length task.modules) reads) ∷ modules_in tasks (drop (length task.modules) reads)
 
 are_read : (reads : List ReadModule) → AreSpelled reads → AreRead (raws reads)
-are_read reads spelled = All-map (λ (m : PlainModule). _) (λ (r : ReadModule). r.raw) reads spelled
+are_read reads spelled = All-map (λ (m : PlainModule). (source : List ℕ) × ModuleText source (Ok m)) (λ (r : ReadModule). r.raw) reads spelled
 
 -- the trees of a task and of those behind it
 typed_first : (script : ScriptData) (task : ScriptTask) (tasks : List ScriptTask) (own : List ReadModule) (more : List (List PlainModule)) (found : Checked TypedTree) (behind : Result (List TypedTree) Refused)
@@ -58,7 +59,7 @@ are_checked script (task ∷ tasks) reads trees spelled is =
 
 -- the cell is made of the trees
 made_of_trees : (script : ScriptData) (reads : List ReadModule) (making : Making MadeCell) (made : MadeCell) → cell_or_refused script reads making ≡ Ok made → making ≡ Ok made
-made_of_trees script reads (Ok m) made is = is
+made_of_trees script reads (Ok m) made is = let same : m ≡ made = cc in ap Ok same
 made_of_trees script reads (Err broken) made is = cc
 
 from_trees : (script : ScriptData) (reads : List ReadModule) (found : Result (List TypedTree) Refused) (made : MadeCell) → AreSpelled reads → typed_tasks script script.tasks reads ≡ found

@@ -1,10 +1,9 @@
 -- Building one task after another.
-use Rattle.std.proofs.Common.{◌≡◌, ℕ, suc, ◌+◌, ◌<◌, ◌≤◌, List, [], ◌∷◌, ◌++◌, length, take, drop, get_or, map, refl, ap, sym, ◌∙◌, subst, ◌⊎◌, inl, inr, arith}
+use Rattle.std.proofs.Common.{◌≡◌, ℕ, ◌+◌, ◌<◌, ◌≤◌, List, [], ◌∷◌, ◌++◌, length, take, drop, get_or, map, refl, ap, sym, ◌∙◌, subst, ◌⊎◌, inl, inr, arith}
 use Rattle.std.specs.Prelude.{Option, Some, None, Result, Ok, Err, Vec, All, IfSome}
 use Rattle.std.specs.Option.{option_map, option_or}
 use Rattle.std.specs.declared.alloc.Global.{Global}
-use Rattle.std.proofs.Math.Seq.{take-length}
-use Rattle.std.proofs.lemmas.List.{map-append}
+use Rattle.std.proofs.lemmas.List.{get_or-map, map-append, take_all}
 use Rattle.std.proofs.lemmas.List.Elements.{All-append, All-cons, All-nil}
 use Rattle.rapid_model.specs.ScriptData.{ScriptData}
 use Rattle.rapid_model.specs.declared.script_rule.ScriptRule.TheVariants as rules
@@ -36,6 +35,19 @@ pub record Building (script : ScriptData) (reads : List ReadModule) (trees : Lis
   pub paired : ArePaired rest
   pub moved : AreMoves (take k trees) moves
   pub left : unbuilt_form script.tasks reads trees ≡ unbuilt_form (drop k script.tasks) (reads_in rest) (drop k trees)
+
+-- no task is built yet
+pub building_begins : (script : ScriptData) (reads : List ReadModule) (trees : List TypedTree) (moves : List Tree) (rest : Modules) → ArePaired rest → reads_in rest ≡ reads → moves ≡ []
+    → Building script reads trees 0 moves rest
+building_begins script reads trees moves rest paired same none = record {
+  paired = paired;
+  moved = record { built = All-nil (λ t. first_unbuilt t ≡ None); are = none };
+  left = ap (λ (rs : List ReadModule). unbuilt_form script.tasks rs trees) (sym same);
+}
+
+-- the view of an element of a list
+pub viewed : {A B : Type 0} (view : A → B) (xs : List A) (k : ℕ) (x : A) → k < length xs → x ≡ get_or xs k x → view x ≡ get_or (map view xs) k (view x)
+viewed view xs k x lt is = ap view is ∙ sym (get_or-map view xs k x (view x) lt)
 
 all_more : {A : Type 0} (P : A → Type 0) (xs : List A) (k : ℕ) (x : A) → k < length xs → x ≡ get_or xs k x → All P (take k xs) → P x → All P (take (k + 1) xs)
 all_more P xs k x lt is all here = subst (λ ys. All P ys) (sym (take-element xs k x lt is)) (All-append P (take k xs) (x ∷ []) all (All-cons P x [] here (All-nil P)))
@@ -89,14 +101,15 @@ none_left (task ∷ tasks) reads trees none = cc
 
 -- all are
 pub building_ends : (script : ScriptData) (reads : List ReadModule) (trees : List TypedTree) (k : ℕ) (moves : List Tree) (rest : Modules) → length trees ≡ length script.tasks → length script.tasks ≤ k
-    → unbuilt_key script ≡ None → Building script reads trees k moves rest → k ≤ length trees → (not_built script reads trees ≡ None) × AreMoves trees moves
-building_ends script reads trees k moves rest one_each past keys p within =
-    let all : take k trees ≡ trees = let whole : k ≡ length trees = omega (arith, one_each, past, within) in ap (λ (n : ℕ). take n trees) whole ∙ take-length trees in
-    (all_keys script reads trees keys ∙ p.left ∙ none_left (drop k script.tasks) (reads_in rest) (drop k trees) (drop-past script.tasks k past),
-    record {
-      built = subst (λ (ts : List TypedTree). All (λ t. first_unbuilt t ≡ None) ts) all p.moved.built;
-      are = p.moved.are ∙ ap (map moves_of) all;
-    })
+    → unbuilt_key script ≡ None → Building script reads trees k moves rest → (not_built script reads trees ≡ None) × AreMoves trees moves
+building_ends script reads trees k moves rest one_each past keys p =
+    let all : take k trees ≡ trees = take_all k trees (omega (arith, one_each, past)) in (
+      all_keys script reads trees keys ∙ p.left ∙ none_left (drop k script.tasks) (reads_in rest) (drop k trees) (drop-past script.tasks k past),
+      record {
+        built = subst (λ (ts : List TypedTree). All (λ t. first_unbuilt t ≡ None) ts) all p.moved.built;
+        are = p.moved.are ∙ ap (map moves_of) all;
+      },
+    )
 
 -- what is not built is no fault of a write
 key_fault : (old new : ℕ) (o : Option (List ℕ)) (rest : Option Refused) → IfSome rest (IsDoneFault old new) → IfSome (option_or (option_map (λ key. Script key rules.NotBuilt) o) rest) (IsDoneFault old new)

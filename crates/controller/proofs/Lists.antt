@@ -1,5 +1,5 @@
 -- The elements of a list from a place on, and up to a place.
-use Rattle.std.proofs.Common.{◌≡◌, ℕ, zero, suc, ◌+◌, ◌-◌, ◌<◌, ◌≤◌, min, length-drop, List, ◌∷◌, [], ◌++◌, length, drop, take, get_or, refl, ap, sym, ◌∙◌, arith, add-one, drop-cons}
+use Rattle.std.proofs.Common.{◌≡◌, ℕ, zero, suc, ◌+◌, ◌-◌, ◌<◌, ◌≤◌, min, length-drop, List, ◌∷◌, [], ◌++◌, length, drop, take, get_or, refl, ap, sym, ◌∙◌, arith, add-one, drop-cons, take_at}
 use Rattle.std.proofs.Math.Seq.{take-suc, take-length}
 
 -- the elements from k on
@@ -48,3 +48,7 @@ drop-min (x ∷ xs) (suc count) (suc n) is = drop-min xs count n (omega arith)
 -- what is left behind some elements, all of it
 pub take-rest : {A : Type 0} (xs : List A) (n : ℕ) → take (length xs - n) (drop n xs) ≡ drop n xs
 take-rest xs n = ap (λ (i : ℕ). take i (drop n xs)) (sym (length-drop n xs)) ∙ take-length (drop n xs)
+
+-- what a list holds after so many elements were written from its first on, all of them
+pub refilled : {A : Type 0} (n : ℕ) (xs new : List A) → length new ≡ n → take n (new ++ drop (length new) xs) ≡ new
+refilled n xs new each = take_at new (drop (length new) xs) n each

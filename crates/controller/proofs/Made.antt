@@ -70,10 +70,17 @@ one_tree_each script reads typed trees is same =
     ap length same ∙ sym (length-map typed view_tree) ∙ (typed_sound script script.tasks reads (map view_tree typed) is).one_each
 
 -- the cell that is made of them
-pub cell_made : (script : ScriptData) (reads : List ReadModule) (typed trees : List Tree) (made : MadeCell) → typed_tasks script script.tasks reads ≡ Ok (map view_tree typed) → trees ≡ typed
+cell_made : (script : ScriptData) (reads : List ReadModule) (typed trees : List Tree) (made : MadeCell) → typed_tasks script script.tasks reads ≡ Ok (map view_tree typed) → trees ≡ typed
     → make_cell script (map view_tree trees) ≡ Ok made → checked script reads ≡ Ok made
 cell_made script reads typed trees made is same makes =
     ap (cell_from script reads) (is ∙ ap (λ (ts : List Tree). Ok (map view_tree ts)) (sym same)) ∙ ap (cell_or_refused script reads) makes
+
+-- the same with the trees that the program keeps
+pub cell_kept : (script : ScriptData) (reads : List ReadModule) (typed trees new kept : List Tree) (cell : CellData) → typed_tasks script script.tasks reads ≡ Ok (map view_tree typed) → trees ≡ typed
+    → make_cell script (map view_tree trees) ≡ Ok (record { cell = cell; trees = map view_tree new }) → kept ≡ new → checked script reads ≡ Ok (record { cell = cell; trees = map view_tree kept })
+cell_kept script reads typed trees new kept cell is same makes equal =
+    subst (λ (ts : List Tree). checked script reads ≡ Ok (record { cell = cell; trees = map view_tree ts })) (sym equal)
+    (cell_made script reads typed trees (record { cell = cell; trees = map view_tree new }) is same makes)
 
 -- or why none is
 pub cell_refused : (script : ScriptData) (reads : List ReadModule) (typed trees : List Tree) (fault : CellFault) (refused : Refused) → typed_tasks script script.tasks reads ≡ Ok (map view_tree typed) → trees ≡ typed

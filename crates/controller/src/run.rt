@@ -87,7 +87,10 @@ fn run_tasks(alloc: Global, cell: Cell, moves: Vec<Tree>) -> Result<Core, AllocE
 fn crew_of(alloc: Global, moves: Vec<Tree>) -> Result<Vec<Machine>, AllocError>
     ensures { IfOk result (λ machines. machines.items ≡ map fresh moves.items) }
 {
-    moves.into_iter().map(|list| Machine::new(list)).collect(alloc)
+    moves
+        .into_iter()
+        .map(|list| Machine::new(list))
+        .collect(alloc)
 }
 
 /// Prints a run and reports it.

@@ -224,12 +224,12 @@ fn other_moves(rt: HostRuntime) -> Result<(), Fail> {
     Ok(())
 }
 
-/// A second module has data alone; a constant target and speed are reckoned before the run.
+/// A module has data alone, before the one that takes its constants; a target and a speed made of them are reckoned before the run.
 #[test]
 fn data_of_modules(rt: HostRuntime) -> Result<(), Fail> {
     let alloc = rt.alloc();
     let words = &["round", "cell"];
-    let left = outcome_of(alloc, words, TWO_MODULES, [MOVES_BY_DATA, DATA], None)?;
+    let left = outcome_of(alloc, words, TWO_MODULES, [DATA, MOVES_BY_DATA], None)?;
     printed(&rt, &left, 0, &ONE_MOVE_LINES, alloc)?;
     let left = outcome_of(alloc, words, TWO_MODULES, [ONE_MOVE, NO_ITEMS], None)?;
     printed(&rt, &left, 0, &ONE_MOVE_LINES, alloc)?;

@@ -2,6 +2,7 @@ use Rattle.std.proofs.Common.{ℕ, List, Vec, Global, ap, map, ◌∙◌, inl, s
 use Rattle.std.specs.Prelude.{Option, Some, IfSome, ◌≤◌, ◌≡◌, None, ◌+◌, ◌<◌}
 use Rattle.controller.specs.Answered.{word_bytes}
 use Rattle.controller.specs.Loaded.{bytes_of, names_in_turn}
+use Rattle.controller.proofs.Accepting.{texts_spell}
 use Rattle.controller.proofs.Gains.{gained_none}
 use Rattle.controller.proofs.Exits.{AreRefused, words_refused, script_refused, module_refused, parsed_here, all_read}
 use Rattle.controller.proofs.GivenReads.{GivesAll, all_given, loaded_names}
@@ -43,6 +44,12 @@ returns-in-Err-module_files-clause-answers g c =
       calls = gained_none _;
       told = c.refuse-in-Err-module_files.ensures.told;
     })
+
+pub do_action-requires-clause-spelled : goal.do_action-requires-clause-spelled
+do_action-requires-clause-spelled g c =
+    texts_spell 1 (bytes_of c.load_texts-texts.result.texts.items) c.load_texts-texts.result.failed _
+    (parsed_here c.load_texts-texts.result.texts.items c.as_slice.result.now c.as_slice-in-Ok-parse_texts.result.now c.in-Ok-parse_texts.trees.items c.as_slice-in-Ok-parse_texts-2.result.now
+    c.load_texts-texts.result.failed c.as_slice.ensures.value c.as_slice-in-Ok-parse_texts.ensures.value c.as_slice-in-Ok-parse_texts-2.ensures.value c.in-Ok-parse_texts.ensures.parsed)
 
 pub returns-in-Ok-parse_texts-clause-answers : goal.returns-in-Ok-parse_texts-clause-answers
 returns-in-Ok-parse_texts-clause-answers g c =

@@ -15,3 +15,8 @@ run_round-requires-clause-crew c =
 
 pub run_round-requires-clause-asks : goal.run_round-requires-clause-asks
 run_round-requires-clause-asks c = trees_ask_as_trees (trees_of c.in_ok-machines.machines.items)
+
+pub returns-in-Ok-clause-by_turns : goal.returns-in-Ok-clause-by_turns
+returns-in-Ok-clause-by_turns c =
+    subst (λ (ts : List Tree). IsByTurns (tree_asks ts) c.args.cell c.run_round.result.core.history) (moves_run c.in_ok-machines.machines.items c.args.moves.items c.in_ok-machines.ensures)
+    (subst (λ (x : CellData). IsByTurns (tree_asks (trees_of c.in_ok-machines.machines.items)) x c.run_round.result.core.history) (ap (λ (x : CoreData). x.cell) c.in-Ok.ensures.ok) c.run_round.ensures.by_turns)
