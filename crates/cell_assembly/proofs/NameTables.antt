@@ -1,9 +1,10 @@
 -- The tables of persistents' and meetings' numbers by name, as one more is entered.
-use Rattle.std.proofs.Common.{◌≡◌, ℕ, suc, ◌+◌, Bool, true, false, not, ◌&&◌, nat_lt, List, [], ◌∷◌, ◌++◌, length, Option, Some, None, is_none, is_some, option_map, if◌then◌else◌, refl, ap, sym, ◌∙◌, true≢false, arith}
+use Rattle.std.proofs.Common.{◌≡◌, ℕ, suc, ◌+◌, Bool, true, false, cond, not, ◌&&◌, nat_lt, List, [], ◌∷◌, ◌++◌, length, Option, Some, None, is_none, is_some, option_map, if◌then◌else◌, refl, ap, sym, ◌∙◌, true≢false, arith}
 use Rattle.std.specs.List.{position, position_or_len}
 use Rattle.std.specs.Option.{option_or}
 use Rattle.std.specs.Str.{str_eq_ignore_ascii_case}
-use Rattle.std.proofs.lemmas.Bool.{lt-ltb, ltb-true, le-ltb, ltb-false}
+use Rattle.std.proofs.lemmas.Bool.{lt-ltb}
+use Rattle.std.proofs.lemmas.Bool.Decides.{nat_tests}
 use Rattle.name_tables.specs.Names.{NameList, found_in, entered, Finds, Enters}
 use Rattle.name_tables.proofs.Places.{enters, place_last, place_entered}
 use Rattle.cell_assembly.specs.Cells
@@ -17,20 +18,15 @@ enters_global table new p number shared is name =
     ap (found_in name) is ∙ enters p.name number table name ∙ sym (ap (λ none. option_or (found_in name table) (if none && str_eq_ignore_ascii_case name p.name then Some number else None)) (is_shared p.owner shared))
 
 -- the first place of what passes, past one more element
+one_later : (n m : ℕ) → (if nat_lt (1 + n) (suc m) then Some (1 + n) else None) ≡ option_map suc (if nat_lt n m then Some n else None)
+one_later n m = grind (arith, nat_tests)
+
 position_cons : {X : Type 0} (p : X → Bool) (x : X) (xs : List X) → position p (x ∷ xs) ≡ (if p x then Some 0 else option_map suc (position p xs))
-position_cons p x xs = by (p x) (position_or_len p xs)
+position_cons p x xs = by (p x)
   where
-    by : (t : Bool) (n : ℕ) → let first : ℕ = if not t then 1 + n else 0 in (if nat_lt first (suc (length xs)) then Some first else None) ≡ (if t then Some 0 else option_map suc (if nat_lt n (length xs) then Some n else None))
-    by true n = ap (λ t. let o : Option ℕ = if t then Some 0 else None in o) (lt-ltb 0 (suc (length xs)) (omega arith))
-    by false n = by_test (nat_lt n (length xs)) refl
-      where
-        by_test : (b : Bool) → nat_lt n (length xs) ≡ b → (if nat_lt (1 + n) (suc (length xs)) then Some (1 + n) else None) ≡ option_map suc (if b then Some n else None)
-        by_test true e =
-            let less = lt-ltb (1 + n) (suc (length xs)) (omega (arith, ltb-true n (length xs) e)) in
-            ap (λ t. let o : Option ℕ = if t then Some (1 + n) else None in o) less ∙ ap Some (omega arith)
-        by_test false e =
-            let past = le-ltb (1 + n) (suc (length xs)) (omega (arith, ltb-false n (length xs) e)) in
-            ap (λ t. let o : Option ℕ = if t then Some (1 + n) else None in o) past
+    by : (t : Bool) → let first : ℕ = cond (not t) (1 + position_or_len p xs) 0 in cond (nat_lt first (suc (length xs))) (Some first) None ≡ cond t (Some 0) (option_map suc (position p xs))
+    by true = ap (λ (t : Bool). cond {A = Option ℕ} t (Some 0) None) (lt-ltb 0 (suc (length xs)) (omega arith))
+    by false = one_later (position_or_len p xs) (length xs)
 
 -- one more persistent, and the table that it is entered in
 pub pers_entered : (table new : NameList ℕ) (ps : List Cells.PersInfo) (p : Cells.PersInfo) (number : ℕ) → Finds table (λ name. Cells.global_number name ps) → Enters table new (λ name. Cells.is_global name p) number → number ≡ length ps
