@@ -1,7 +1,10 @@
 -- A table of the numbers of global persistents, as persistents change.
-use Rattle.std.proofs.Common.{◌≡◌, ℕ, zero, suc, ◌+◌, not, ◌&&◌, nat_le, List, [], ◌∷◌, set, slice_get, Option, Some, None, is_none, option_map, Ok, if◌then◌else◌, refl, ap, sym, ◌∙◌}
+use Rattle.std.proofs.Common.{◌≡◌, ℕ, ◌+◌, not, ◌&&◌, nat_le, List, set, slice_get, Option, Some, None, is_none, Ok, refl, ap, sym, ◌∙◌}
 use Rattle.std.specs.Result.{IfOk}
 use Rattle.std.specs.Str.{str_eq_ignore_ascii_case}
+use Rattle.std.proofs.lemmas.List.{length-set}
+use Rattle.std.proofs.lemmas.List.Folds.{position_or_len-set}
+use Rattle.std.proofs.lemmas.Option.{get_or_from_slice_get}
 use Rattle.std.proofs.lemmas.Result.{IfOk-at_ok}
 use Rattle.name_tables.specs.Names.{NameList, Finds}
 use Rattle.rapid_model.specs.Sorts.{width}
@@ -11,11 +14,9 @@ use Rattle.cell_assembly.specs.Cells.{PersInfo, is_global, global_number, has_so
 use Rattle.rule_checks.proofs.Keeps.{Keeps-must}
 
 same_number : (name : List ℕ) (ps : List PersInfo) (k : ℕ) (old new : PersInfo) → slice_get ps k ≡ Some old → is_global name new ≡ is_global name old → global_number name (set ps k new) ≡ global_number name ps
-same_number name [] k old new at same = refl
-same_number name (p ∷ ps) zero old new at same =
-    let is : p ≡ old = cc at in
-    ap (λ t. if t then Some 0 else option_map suc (global_number name ps)) (same ∙ ap (is_global name) (sym is))
-same_number name (p ∷ ps) (suc k) old new at same = ap (λ o. if is_global name p then Some 0 else option_map suc o) (same_number name ps k old new at same)
+same_number name ps k old new at same =
+    let first = position_or_len-set (is_global name) ps k new old (same ∙ ap (is_global name) (sym (get_or_from_slice_get ps k old old at))) in
+    rw (first, length-set ps k new) refl
 
 -- a persistent that keeps its name and its owner
 pub number_kept : (name : List ℕ) (ps : List PersInfo) (k : ℕ) (old new : PersInfo) → slice_get ps k ≡ Some old → new.name ≡ old.name → new.owner ≡ old.owner

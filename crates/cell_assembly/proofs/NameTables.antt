@@ -1,7 +1,10 @@
 -- The tables of persistents' and meetings' numbers by name, as one more is entered.
-use Rattle.std.proofs.Common.{◌≡◌, ℕ, true, false, ◌&&◌, List, [], ◌∷◌, ◌++◌, length, Option, Some, None, is_none, is_some, if◌then◌else◌, refl, ap, sym, ◌∙◌, true≢false}
+use Rattle.std.proofs.Common.{◌≡◌, ℕ, suc, ◌+◌, Bool, true, false, cond, not, ◌&&◌, nat_lt, List, [], ◌∷◌, ◌++◌, length, Option, Some, None, is_none, is_some, option_map, if◌then◌else◌, refl, ap, sym, ◌∙◌, true≢false, arith}
+use Rattle.std.specs.List.{position, position_or_len}
 use Rattle.std.specs.Option.{option_or}
 use Rattle.std.specs.Str.{str_eq_ignore_ascii_case}
+use Rattle.std.proofs.lemmas.Bool.{lt-ltb}
+use Rattle.std.proofs.lemmas.Bool.Decides.{nat_tests}
 use Rattle.name_tables.specs.Names.{NameList, found_in, entered, Finds, Enters}
 use Rattle.name_tables.proofs.Places.{enters, place_last, place_entered}
 use Rattle.cell_assembly.specs.Cells
@@ -14,14 +17,25 @@ pub enters_global : (table new : NameList ℕ) (p : Cells.PersInfo) (number : �
 enters_global table new p number shared is name =
     ap (found_in name) is ∙ enters p.name number table name ∙ sym (ap (λ none. option_or (found_in name table) (if none && str_eq_ignore_ascii_case name p.name then Some number else None)) (is_shared p.owner shared))
 
+-- the first place of what passes, past one more element
+one_later : (n m : ℕ) → (if nat_lt (1 + n) (suc m) then Some (1 + n) else None) ≡ option_map suc (if nat_lt n m then Some n else None)
+one_later n m = grind (arith, nat_tests)
+
+position_cons : {X : Type 0} (p : X → Bool) (x : X) (xs : List X) → position p (x ∷ xs) ≡ (if p x then Some 0 else option_map suc (position p xs))
+position_cons p x xs = by (p x)
+  where
+    by : (t : Bool) → let first : ℕ = cond (not t) (1 + position_or_len p xs) 0 in cond (nat_lt first (suc (length xs))) (Some first) None ≡ cond t (Some 0) (option_map suc (position p xs))
+    by true = ap (λ (t : Bool). cond {A = Option ℕ} t (Some 0) None) (lt-ltb 0 (suc (length xs)) (omega arith))
+    by false = one_later (position_or_len p xs) (length xs)
+
 -- one more persistent, and the table that it is entered in
 pub pers_entered : (table new : NameList ℕ) (ps : List Cells.PersInfo) (p : Cells.PersInfo) (number : ℕ) → Finds table (λ name. Cells.global_number name ps) → Enters table new (λ name. Cells.is_global name p) number → number ≡ length ps
     → Finds new (λ name. Cells.global_number name (ps ++ p ∷ []))
-pers_entered table new ps p number = place_entered table new Cells.global_number Cells.is_global ps p number (λ name. place_last (Cells.global_number name) (Cells.is_global name) refl (λ x xs. refl) ps p)
+pers_entered table new ps p number = place_entered table new Cells.global_number Cells.is_global ps p number (λ name. place_last (Cells.global_number name) (Cells.is_global name) refl (position_cons (Cells.is_global name)) ps p)
 
 -- and one more meeting
 pub meeting_entered : (table new : NameList ℕ) (names : List (List ℕ)) (called : List ℕ) (number : ℕ) → Finds table (λ name. Cells.meeting_number name names) → new ≡ entered called number table → number ≡ length names
     → Finds new (λ name. Cells.meeting_number name (names ++ called ∷ []))
 meeting_entered table new names called number is last =
-    place_entered table new Cells.meeting_number str_eq_ignore_ascii_case names called number (λ name. place_last (Cells.meeting_number name) (str_eq_ignore_ascii_case name) refl (λ x xs. refl) names called) is
+    place_entered table new Cells.meeting_number str_eq_ignore_ascii_case names called number (λ name. place_last (Cells.meeting_number name) (str_eq_ignore_ascii_case name) refl (position_cons (str_eq_ignore_ascii_case name)) names called) is
     (λ name. ap (found_in name) last ∙ enters called number table name)

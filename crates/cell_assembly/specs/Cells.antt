@@ -1,7 +1,7 @@
 -- The persistents and meetings of a cell: which of its tasks' trees are one, their numbers, and the first values of persistents
 -- (RAPID Overview, persistent data; RAPID Instructions, WaitSyncTask).
-use Rattle.std.specs.Prelude.{ℕ, ◌+◌, ◌-◌, Bool, true, false, not, ◌&&◌, ◌==◌, suc, nat_le, List, [], ◌∷◌, ◌++◌, codes, length, set, replicate, Option, Some, None, is_some, is_none, slice_get, Result, Ok, Err, if◌then◌else◌}
-use Rattle.std.specs.Option.{option_map, option_or}
+use Rattle.std.specs.Prelude.{ℕ, ◌+◌, ◌-◌, Bool, true, false, not, ◌&&◌, ◌==◌, nat_le, List, [], ◌∷◌, ◌++◌, codes, length, position, set, replicate, Option, Some, None, is_some, is_none, slice_get, Result, Ok, Err, if◌then◌else◌}
+use Rattle.std.specs.Option.{option_or}
 use Rattle.std.specs.Str.{str_eq_ignore_ascii_case}
 use Rattle.rapid_model.specs.declared.pers_value.PersValue.{PersValue}
 use Rattle.rapid_model.specs.declared.script_rule.ScriptRule.{ScriptRule}
@@ -46,8 +46,7 @@ is_global name p = is_none p.owner && str_eq_ignore_ascii_case name p.name
 
 -- the number of the first global persistent of this name
 abbrev pub global_number : List ℕ → List PersInfo → Option ℕ
-global_number name [] = None
-global_number name (p ∷ ps) = if is_global name p then Some 0 else option_map suc (global_number name ps)
+global_number name ps = position (is_global name) ps
 
 abbrev pub new_pers : Option ℕ → TypedPers → PersInfo
 new_pers owner row = record {
@@ -174,8 +173,7 @@ tell_all ps number (row ∷ rows) = tell ps number row >>= (λ qs. tell_all qs (
 
 -- the number of the first meeting of this name
 abbrev pub meeting_number : List ℕ → List (List ℕ) → Option ℕ
-meeting_number name [] = None
-meeting_number name (m ∷ ms) = if str_eq_ignore_ascii_case name m then Some 0 else option_map suc (meeting_number name ms)
+meeting_number name names = position (str_eq_ignore_ascii_case name) names
 
 -- meetings so far, and the numbers of those of the tree at hand
 pub record Meetings : Type 0 where

@@ -2,13 +2,14 @@
 use Rattle.std.proofs.Common.{◌≡◌, ℕ, List, length, Option, Some, None, is_some, slice_get, refl, ap, sym, subst, ◌∙◌, arith, inl, inr}
 use Rattle.std.specs.Str.{str_to_ascii_lowercase}
 use Rattle.std.proofs.lemmas.Bool.{cases_order}
+use Rattle.std.proofs.lemmas.Option.{slice_get_within}
 use Rattle.rapid_model.specs.declared.pers_value.PersValue.{PersValue}
 use Rattle.typed_trees.specs.Plain.{TypedPers}
 use Rattle.cell_rules.specs.Declared.{Declared, AreOne, AreOneName, AreAlike, AreAlikeBefore}
 use Rattle.cell_rules.specs.First.{IsIndexOf}
 use Rattle.cell_rules.specs.Given.{IsFor, Finds, Suits, IsInside}
 use Rattle.cell_rules.specs.Numbering.{AreNumbered, HasNumber}
-use Rattle.cell_rules.proofs.Lists.{inside, there_is, same_there}
+use Rattle.cell_rules.proofs.Lists.{there_is, same_there}
 
 pub one_symmetric : (d e : Declared) → AreOne d e → AreOne e d
 one_symmetric d e one = record { global = one.other_global; other_global = one.global; named = sym one.named }
@@ -32,8 +33,8 @@ module _ (ds : List Declared) (alike : AreAlikeBefore (length ds) ds) where
       elim (cases_order i j) [
         | inl equal ↦ let same : d ≡ e = same_there (slice_get ds i) d e is_d (ap (slice_get ds) equal ∙ is_e) in record { sort = ap (λ (x : Declared). x.row.sort) same; len = ap (λ (x : Declared). x.row.len) same }
         | inr differ ↦ elim differ [
-          | inl before ↦ alike i j d e before (inside ds j e is_e) is_d is_e one
-          | inr behind ↦ alike_symmetric e.row d.row (alike j i e d behind (inside ds i d is_d) is_e is_d (one_symmetric d e one))
+          | inl before ↦ alike i j d e before (slice_get_within ds j e is_e) is_d is_e one
+          | inr behind ↦ alike_symmetric e.row d.row (alike j i e d behind (slice_get_within ds i d is_d) is_e is_d (one_symmetric d e one))
         ]
       ]
 
@@ -71,7 +72,7 @@ module _ (ds : List Declared) (ks : List ℕ) (count : ℕ) (is : AreNumbered Ar
   -- what is one with a declaration of a number has that number
   pub one_number : (k i j : ℕ) (d e : Declared) → HasNumber ds ks k i d → slice_get ds j ≡ Some e → AreOne d e → HasNumber ds ks k j e
   one_number k i j d e has there one =
-      let (l, at) = there_is ks j (omega (arith, is.as_many, inside ds j e there)) in
+      let (l, at) = there_is ks j (omega (arith, is.as_many, slice_get_within ds j e there)) in
       let equal : k ≡ l =
       elim (cases_order i j) [
         | inl equal ↦ same_there (slice_get ks i) k l has.numbered (ap (slice_get ks) equal ∙ at)

@@ -3,6 +3,7 @@ use Rattle.std.proofs.Common.{◌≡◌, ℕ, ◌+◌, true, false, ◌&&◌, Li
 use Rattle.std.specs.Option.{option_or}
 use Rattle.std.proofs.lemmas.Bool.{and_parts, and_from, both_ways, eq-eqb}
 use Rattle.std.proofs.lemmas.List.{append_assoc, length-set}
+use Rattle.std.proofs.lemmas.Option.{slice_get_within}
 use Rattle.rapid_model.specs.Sorts.{width}
 use Rattle.rapid_model.specs.declared.pers_value.PersValue.{PersValue}
 use Rattle.rapid_model.specs.declared.sort.Sort.{Sort}
@@ -17,8 +18,8 @@ use Rattle.cell_rules.specs.First.{owner_of}
 use Rattle.cell_rules.specs.Numbering.{AreNumbered, HasNumber}
 use Rattle.cell_rules.specs.Refused.{IsClash, IsRefusal}
 use Rattle.cell_rules.proofs.Alike.{one_symmetric, one_transitive}
-use Rattle.cell_rules.proofs.Infos.{AreDeclared, AreInfos, IsInfo, info_global, info_one, is_there, none_there}
-use Rattle.cell_rules.proofs.Lists.{inside, there_is, same_there, in_front, at_end, front_there, earlier_or_last, one_longer, put_there}
+use Rattle.cell_rules.proofs.Infos.{AreDeclared, AreInfos, IsInfo, info_global, info_one}
+use Rattle.cell_rules.proofs.Lists.{there_is, same_there, in_front, at_end, front_there, earlier_or_last, one_longer, put_there, position_there, position_nowhere}
 use Rattle.cell_rules.proofs.Numbers.{new_numbered, joined_numbered, first_stays, first_new, earlier_number}
 use Rattle.cell_rules.proofs.Outcomes.{Outcome, chosen}
 
@@ -126,7 +127,7 @@ module _ (ds : List Declared) (ks : List ℕ) (ps : List PersInfo) (are : AreInf
     added_infos = record {
       numbered = subst (AreNumbered AreOne (ds ++ d ∷ []) (ks ++ length ps ∷ [])) (sym (one_longer ps (new_pers owner d.row))) (new_numbered AreOne ds ks (length ps) are.numbered d apart);
       infos = λ k p at. elim (earlier_or_last ps (new_pers owner d.row) k p at) [
-        | inl early ↦ info_stays k (length ps) p (λ e. omega (arith, e, inside ps k p early)) (are.infos k p early)
+        | inl early ↦ info_stays k (length ps) p (λ e. omega (arith, e, slice_get_within ps k p early)) (are.infos k p early)
         | inr last ↦ subst (λ j. IsInfo (ds ++ d ∷ []) (ks ++ length ps ∷ []) j p) (sym last.0) (subst (IsInfo (ds ++ d ∷ []) (ks ++ length ps ∷ []) (length ps)) last.1 new_info)
       ];
       untold = λ k p at. elim (earlier_or_last ps (new_pers owner d.row) k p at) [
@@ -163,7 +164,7 @@ module _ (ds : List Declared) (ks : List ℕ) (ps : List PersInfo) (are : AreInf
             gives = given.gives;
             none_before = λ other e early has. elim (earlier_number AreOne ds ks (length ps) are.numbered d k k other e has) [
               | inl front ↦ given.none_before other e early front
-              | inr last ↦ absurd (omega (arith, early, last.0, inside ds given.place given.d given.has_number.there))
+              | inr last ↦ absurd (omega (arith, early, last.0, slice_get_within ds given.place given.d given.has_number.there))
             ];
           }
 
@@ -215,7 +216,7 @@ module _ (given : List PersValue) (whole ds rest : List Declared) (front : List 
   is_clash k p at own global tested =
       let is = are.infos k p at in
       let first = is.is_first in
-      let few = inside ds first.place is.d first.has_number.there in
+      let few = slice_get_within ds first.place is.d first.has_number.there in
       subst (λ w. IsClash w task row.«module» row.at) (sym is_whole)
       (record {
         place = length ds;
@@ -244,14 +245,14 @@ module _ (given : List PersValue) (whole ds rest : List Declared) (front : List 
 
   global_right : (number : Option ℕ) → row.own ≡ false → global_number row.name n.pers ≡ number → Outcome More (IsRefusal whole given) (global_pers n task row number)
   global_right None own none = is_new None (owner_none own) (λ i e there one.
-      let (k, at) = there_is (front ++ n.numbers) i (omega (arith, are.numbered.as_many, inside ds i e there)) in
+      let (k, at) = there_is (front ++ n.numbers) i (omega (arith, are.numbered.as_many, slice_get_within ds i e there)) in
       let (p, is_p) = there_is n.pers k (are.numbered.below i k at) in
-      both_ways (is_global row.name p) (none_there row.name n.pers none k p is_p)
+      both_ways (is_global row.name p) (position_nowhere (is_global row.name) n.pers none k p is_p)
       (info_global ds (front ++ n.numbers) (length n.pers) are.numbered k i p e (are.infos k p is_p) (record { there = there; numbered = at }) one.global row.name (sym one.named)))
     where
       owner_none : row.own ≡ false → None ≡ owner_of (of_task task row)
       owner_none own = ap (λ o. let owner : Option ℕ = if o then Some task else None in owner) (sym own)
-  global_right (Some k) own found = let (p, at, global) = is_there row.name n.pers k found in join_right k (slice_get n.pers k) own refl p at global
+  global_right (Some k) own found = let (p, at, global) = position_there (is_global row.name) n.pers k found in join_right k (slice_get n.pers k) own refl p at global
 
   own_right : row.own ≡ true → More (added n (new_pers (Some task) row))
   own_right own = is_new (Some task) (ap (λ o. let owner : Option ℕ = if o then Some task else None in owner) (sym own)) (λ i e there one. both_ways row.own one.other_global own)

@@ -1,6 +1,7 @@
 -- There is one refusal of a script and of trees, and none where they have a cell.
 use Rattle.std.proofs.Common.{◌≡◌, ℕ, ◌<◌, List, length, Some, codes, slice_get, refl, ap, sym, subst, ◌∙◌, inl, inr}
 use Rattle.std.proofs.lemmas.Bool.{cases_order}
+use Rattle.std.proofs.lemmas.Option.{slice_get_within}
 use Rattle.rapid_model.specs.declared.pers_value.PersValue.{PersValue}
 use Rattle.rapid_model.specs.declared.script_rule.ScriptRule.{ScriptRule}
 use Rattle.rapid_model.specs.declared.script_rule.ScriptRule.TheVariants.{NoSuch, Kind, Range, Twice}
@@ -11,7 +12,7 @@ use Rattle.cell_rules.specs.Declared.{Declared, AreAlikeBefore}
 use Rattle.cell_rules.specs.Given.{Breaks, Finds, IsInside, IsRight, Suits}
 use Rattle.cell_rules.specs.Refused.{IsClash, IsBroken, IsRefusal}
 use Rattle.cell_rules.proofs.Alike.{found_alike, suits_alike, inside_alike}
-use Rattle.cell_rules.proofs.Lists.{inside, same_there}
+use Rattle.cell_rules.proofs.Lists.{same_there}
 
 module _ (ds : List Declared) (given : List PersValue) where
   module _ (alike : AreAlikeBefore (length ds) ds) (number : ℕ) (value : PersValue) where
@@ -90,11 +91,11 @@ module _ (ds : List Declared) (given : List PersValue) where
   -- there is one refusal
   pub same_refusal : (a b : CellBreak) → IsRefusal ds given a → IsRefusal ds given b → a ≡ b
   same_refusal (Clash task «module» at) (Clash task' module' at') is other = same_clash task «module» at task' module' at' is other
-  same_refusal (Clash task «module» at) (InScript key rule) is other = absurd (no_clash task «module» at (length ds) other.alike is (inside ds is.place is.d is.there))
-  same_refusal (InScript key rule) (Clash task «module» at) is other = absurd (no_clash task «module» at (length ds) is.alike other (inside ds other.place other.d other.there))
+  same_refusal (Clash task «module» at) (InScript key rule) is other = absurd (no_clash task «module» at (length ds) other.alike is (slice_get_within ds is.place is.d is.there))
+  same_refusal (InScript key rule) (Clash task «module» at) is other = absurd (no_clash task «module» at (length ds) is.alike other (slice_get_within ds other.place other.d other.there))
   same_refusal (InScript key rule) (InScript key' rule') is other = same_broken key key' rule rule' is other
 
   -- and none where declarations are alike and the script's values keep the rules
   pub not_refused : AreAlikeBefore (length ds) ds → ((number : ℕ) (value : PersValue) → slice_get given number ≡ Some value → IsRight ds given number value) → (broken : CellBreak) → IsRefusal ds given broken → ⊥
-  not_refused alike right (Clash task «module» at) is = no_clash task «module» at (length ds) alike is (inside ds is.place is.d is.there)
+  not_refused alike right (Clash task «module» at) is = no_clash task «module» at (length ds) alike is (slice_get_within ds is.place is.d is.there)
   not_refused alike right (InScript key rule) is = right_breaks_none alike is.number is.value rule (right is.number is.value is.there) is.breaks

@@ -1,11 +1,11 @@
 -- Persistents as they are made of declarations so far: their numbers, and what is known of each.
-use Rattle.std.proofs.Common.{◌≡◌, ℕ, zero, suc, Bool, true, false, ◌&&◌, List, [], ◌∷◌, length, replicate, Option, Some, None, is_none, option_map, slice_get, if◌then◌else◌, refl, ap, sym, ◌∙◌, arith, inl, inr}
+use Rattle.std.proofs.Common.{◌≡◌, ℕ, Bool, true, false, ◌&&◌, List, [], ◌∷◌, length, replicate, Option, Some, None, is_none, slice_get, if◌then◌else◌, refl, ap, sym, ◌∙◌, arith, inl, inr}
 use Rattle.std.specs.Str.{str_eq_ignore_ascii_case, str_to_ascii_lowercase}
 use Rattle.std.proofs.lemmas.Bool.{and_parts, cases_order}
 use Rattle.std.proofs.lemmas.Slice.Eq.{bytes_eq-Decides}
 use Rattle.rapid_model.specs.Sorts.{width}
 use Rattle.rapid_model.specs.declared.value.Value.{Value}
-use Rattle.cell_assembly.specs.Cells.{PersInfo, is_global, global_number}
+use Rattle.cell_assembly.specs.Cells.{PersInfo, is_global}
 use Rattle.cell_rules.specs.Declared.{Declared, AreOne, AreOneName}
 use Rattle.cell_rules.specs.First.{IsDeclared, IsUndeclared, owner_of}
 use Rattle.cell_rules.specs.Numbering.{AreNumbered, HasNumber, IsFirst}
@@ -39,41 +39,6 @@ pub record AreInfos (ds : List Declared) (ks : List ℕ) (ps : List PersInfo) : 
   pub numbered : AreNumbered AreOne ds ks (length ps)
   pub infos : (k : ℕ) (p : PersInfo) → slice_get ps k ≡ Some p → IsInfo ds ks k p
   pub untold : (k : ℕ) (p : PersInfo) → slice_get ps k ≡ Some p → p.told ≡ replicate (width p.len) None
-
--- a global persistent of a name, at a place
-IsAt : List ℕ → List PersInfo → ℕ → Type 0
-IsAt name ps k = (p : PersInfo) × (slice_get ps k ≡ Some p) × (is_global name p ≡ true)
-
-first_or_later : (name : List ℕ) (p : PersInfo) (ps : List PersInfo) (here : Bool) (later : Option ℕ) → is_global name p ≡ here → ((j : ℕ) → later ≡ Some j → IsAt name ps j) → (k : ℕ)
-    → (if here then Some 0 else option_map suc later) ≡ Some k → IsAt name (p ∷ ps) k
-unfolding IsAt
-first_or_later name p ps true later here more zero is = (p, refl, here)
-first_or_later name p ps true later here more (suc k) is = absurd (let e : 0 ≡ suc k = cc is in omega (arith, e))
-first_or_later name p ps false None here more k is = absurd (cc is)
-first_or_later name p ps false (Some j) here more zero is = absurd (let e : suc j ≡ 0 = cc is in omega (arith, e))
-first_or_later name p ps false (Some j) here more (suc k) is = let e : suc j ≡ suc k = cc is in more k (ap Some (omega (arith, e)))
-
-found_at : (name : List ℕ) (ps : List PersInfo) (k : ℕ) → global_number name ps ≡ Some k → IsAt name ps k
-unfolding IsAt
-found_at name [] k is = absurd (cc is)
-found_at name (p ∷ ps) k is = first_or_later name p ps (is_global name p) (global_number name ps) refl (found_at name ps) k is
-
--- the first global persistent of a name is one
-pub is_there : (name : List ℕ) (ps : List PersInfo) (k : ℕ) → global_number name ps ≡ Some k → (p : PersInfo) × (slice_get ps k ≡ Some p) × (is_global name p ≡ true)
-unfolding IsAt
-is_there name ps k is = found_at name ps k is
-
-not_first : (name : List ℕ) (q : PersInfo) (ps : List PersInfo) (here : Bool) (later : Option ℕ) → is_global name q ≡ here → (later ≡ None → (k : ℕ) (p : PersInfo) → slice_get ps k ≡ Some p → is_global name p ≡ false)
-    → (if here then Some 0 else option_map suc later) ≡ None → (k : ℕ) (p : PersInfo) → slice_get (q ∷ ps) k ≡ Some p → is_global name p ≡ false
-not_first name q ps true later here more is k p at = absurd (cc is)
-not_first name q ps false (Some j) here more is k p at = absurd (cc is)
-not_first name q ps false None here more is zero p at = let e : q ≡ p = cc at in ap (is_global name) (sym e) ∙ here
-not_first name q ps false None here more is (suc k) p at = more refl k p at
-
--- where there is none, no persistent is global and of that name
-pub none_there : (name : List ℕ) (ps : List PersInfo) → global_number name ps ≡ None → (k : ℕ) (p : PersInfo) → slice_get ps k ≡ Some p → is_global name p ≡ false
-none_there name [] is k p at = absurd (cc at)
-none_there name (q ∷ ps) is k p at = not_first name q ps (is_global name q) (global_number name ps) refl (none_there name ps) is k p at
 
 -- a global persistent of a name
 pub global_is : (name : List ℕ) (p : PersInfo) → is_global name p ≡ true → (p.owner ≡ None) × AreOneName name p.name

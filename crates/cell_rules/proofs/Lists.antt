@@ -1,22 +1,16 @@
 -- Lists by their elements, and with one element more.
-use Rattle.std.proofs.Common.{◌≡◌, ◌⊎◌, inl, inr, ℕ, zero, suc, ◌+◌, ◌<◌, ◌≤◌, List, [], ◌∷◌, ◌++◌, length, set, replicate, Option, Some, None, slice_get, refl, ap, ◌∙◌, arith}
-
--- what is there is inside
-pub inside : {A : Type 0} (xs : List A) (i : ℕ) (x : A) → slice_get xs i ≡ Some x → i < length xs
-inside [] i x is = absurd (cc)
-inside (y ∷ ys) zero x is = omega arith
-inside (y ∷ ys) (suc i) x is = omega (arith, inside ys i x is)
+use Rattle.std.proofs.Common.{◌≡◌, ◌⊎◌, inl, inr, ℕ, zero, suc, ◌+◌, ◌<◌, ◌≤◌, Bool, true, false, List, [], ◌∷◌, ◌++◌, length, get_or, set, replicate, Option, Some, None, slice_get, refl, ap, sym, ◌∙◌, arith}
+use Rattle.std.specs.List.{position, position_or_len}
+use Rattle.std.proofs.lemmas.Grind.{common_steps}
+use Rattle.std.proofs.lemmas.List.Quantifiers.{position-Some}
+use Rattle.std.proofs.lemmas.List.Sums.{fails_before_first}
+use Rattle.std.proofs.lemmas.Option.{get_or_from_slice_get, slice_get-get_or, slice_get_within}
 
 -- there is something inside
 pub there_is : {A : Type 0} (xs : List A) (i : ℕ) → i < length xs → (x : A) × (slice_get xs i ≡ Some x)
 there_is [] i in_list = absurd (omega (arith, in_list))
 there_is (x ∷ xs) zero in_list = (x, refl)
 there_is (x ∷ xs) (suc i) in_list = there_is xs i (omega (arith, in_list))
-
-pub nothing_past : {A : Type 0} (xs : List A) (i : ℕ) → length xs ≤ i → slice_get xs i ≡ None
-nothing_past [] i past = refl
-nothing_past (x ∷ xs) zero past = absurd (omega (arith, past))
-nothing_past (x ∷ xs) (suc i) past = nothing_past xs i (omega (arith, past))
 
 pub same_there : {A : Type 0} (o : Option A) (x y : A) → o ≡ Some x → o ≡ Some y → x ≡ y
 same_there o x y is other = cc
@@ -70,3 +64,16 @@ pub all_alike : {A : Type 0} (n : ℕ) (y : A) (i : ℕ) (x : A) → slice_get (
 all_alike zero y i x is = absurd (cc is)
 all_alike (suc n) y zero x is = cc is
 all_alike (suc n) y (suc i) x is = all_alike n y i x is
+
+-- where a test first passes
+pub position_there : {A : Type 0} (test : A → Bool) (xs : List A) (k : ℕ) → position test xs ≡ Some k → (x : A) × (slice_get xs k ≡ Some x) × (test x ≡ true)
+position_there test [] k is = absurd (cc is)
+position_there test (x ∷ xs) k is =
+    let (inside_list, passes, _) = position-Some test (x ∷ xs) k x is in
+    (get_or (x ∷ xs) k x, slice_get-get_or (x ∷ xs) k x inside_list, passes)
+
+-- or passes nowhere
+pub position_nowhere : {A : Type 0} (test : A → Bool) (xs : List A) → position test xs ≡ None → (k : ℕ) (x : A) → slice_get xs k ≡ Some x → test x ≡ false
+position_nowhere test xs is k x at =
+    let all : length xs ≤ position_or_len test xs = grind (arith, common_steps) in
+    ap test (sym (get_or_from_slice_get xs k x x at)) ∙ fails_before_first test xs k x (omega (arith, all, slice_get_within xs k x at))

@@ -1,8 +1,9 @@
 -- Numbers of declarations: one more declaration, and that there is one numbering.
 use Rattle.std.proofs.Common.{◌≡◌, ◌⊎◌, ◌↔◌, inl, inr, ℕ, zero, suc, ◌+◌, ◌<◌, List, [], ◌∷◌, ◌++◌, length, Some, slice_get, refl, ap, sym, subst, ◌∙◌, arith}
 use Rattle.std.proofs.lemmas.Bool.{cases_lt, cases_order}
+use Rattle.std.proofs.lemmas.Option.{slice_get_within, slice_get_past}
 use Rattle.cell_rules.specs.Numbering.{AreNumbered, HasNumber, IsFirst}
-use Rattle.cell_rules.proofs.Lists.{inside, there_is, nothing_past, same_there, same_list, in_front, at_end, earlier_or_last, one_longer}
+use Rattle.cell_rules.proofs.Lists.{there_is, same_there, same_list, in_front, at_end, earlier_or_last, one_longer}
 
 module _ {A : Type 0} (AreOne : A → A → Type 0) where
   -- where two numberings agree so far, the next number of one is no smaller
@@ -11,8 +12,8 @@ module _ {A : Type 0} (AreOne : A → A → Type 0) where
   no_smaller ds ks ls m n is other j k l before here there less =
       let (i, earlier, at) = other.in_order j k l there less in
       let same : slice_get ks i ≡ Some k = before i earlier ∙ at in
-      let (d, is_d) = there_is ds i (omega (arith, is.as_many, inside ks i k same)) in
-      let (e, is_e) = there_is ds j (omega (arith, is.as_many, inside ks j k here)) in
+      let (d, is_d) = there_is ds i (omega (arith, is.as_many, slice_get_within ks i k same)) in
+      let (e, is_e) = there_is ds j (omega (arith, is.as_many, slice_get_within ks j k here)) in
       let are_one = (is.one i j d e k k earlier is_d is_e same here).0 refl in
       let equal : k ≡ l = (other.one i j d e k l earlier is_d is_e at there).1 are_one in
       omega (arith, equal, less)
@@ -31,7 +32,7 @@ module _ {A : Type 0} (AreOne : A → A → Type 0) where
                 | inr more ↦ absurd (no_smaller ds ls ks n m other is j l k (λ i earlier. sym (before i earlier)) there here more)
               ]
             ]
-        | inr past ↦ nothing_past ks j past ∙ sym (nothing_past ls j (omega (arith, is.as_many, other.as_many)))
+        | inr past ↦ slice_get_past ks j past ∙ sym (slice_get_past ls j (omega (arith, is.as_many, other.as_many)))
       ]
 
   same_before : (ds : List A) (ks ls : List ℕ) (m n : ℕ) → AreNumbered AreOne ds ks m → AreNumbered AreOne ds ls n → (j i : ℕ) → i < j → slice_get ks i ≡ slice_get ls i
@@ -84,16 +85,16 @@ module _ {A : Type 0} (AreOne : A → A → Type 0) where
           → (k ≡ l) ↔ AreOne e f
       new_one i j e f k l earlier is_e is_f at_i at_j =
           elim (earlier_or_last ds d i e is_e) [
-            | inr last ↦ absurd (omega (arith, last.0, earlier, inside (ds ++ d ∷ []) j f is_f, one_longer ds d))
+            | inr last ↦ absurd (omega (arith, last.0, earlier, slice_get_within (ds ++ d ∷ []) j f is_f, one_longer ds d))
             | inl front_e ↦ elim (earlier_or_last ks n i k at_i) [
-              | inr last ↦ absurd (omega (arith, last.0, inside ds i e front_e, is.as_many))
+              | inr last ↦ absurd (omega (arith, last.0, slice_get_within ds i e front_e, is.as_many))
               | inl front_k ↦ elim (earlier_or_last ds d j f is_f) [
                 | inl front_f ↦ elim (earlier_or_last ks n j l at_j) [
                   | inl front_l ↦ is.one i j e f k l earlier front_e front_f front_k front_l
-                  | inr last ↦ absurd (omega (arith, last.0, inside ds j f front_f, is.as_many))
+                  | inr last ↦ absurd (omega (arith, last.0, slice_get_within ds j f front_f, is.as_many))
                 ]
                 | inr last_f ↦ elim (earlier_or_last ks n j l at_j) [
-                  | inl front_l ↦ absurd (omega (arith, last_f.0, inside ks j l front_l, is.as_many))
+                  | inl front_l ↦ absurd (omega (arith, last_f.0, slice_get_within ks j l front_l, is.as_many))
                   | inr last_l ↦ (
                     λ equal. absurd (omega (arith, equal, last_l.1, is.below i k front_k)),
                     λ are_one. absurd (apart i e front_e (subst (AreOne e) (sym last_f.1) are_one)),
@@ -117,7 +118,7 @@ module _ {A : Type 0} (AreOne : A → A → Type 0) where
       new_in_order j k l at less =
           elim (earlier_or_last ks n j l at) [
             | inl front ↦ let (i, earlier, there) = is.in_order j k l front less in (i, earlier, earlier_one n i k there)
-            | inr last ↦ let (i, there) = is.each k (omega (arith, last.1, less)) in (i, omega (arith, last.0, inside ks i k there), earlier_one n i k there)
+            | inr last ↦ let (i, there) = is.each k (omega (arith, last.1, less)) in (i, omega (arith, last.0, slice_get_within ks i k there), earlier_one n i k there)
           ]
 
       pub new_numbered : AreNumbered AreOne (ds ++ d ∷ []) (ks ++ n ∷ []) (n + 1)
@@ -146,16 +147,16 @@ module _ {A : Type 0} (AreOne : A → A → Type 0) where
           → (l ≡ m) ↔ AreOne e f
       joined_one i j e f l m earlier is_e is_f at_i at_j =
           elim (earlier_or_last ds d i e is_e) [
-            | inr last ↦ absurd (omega (arith, last.0, earlier, inside (ds ++ d ∷ []) j f is_f, one_longer ds d))
+            | inr last ↦ absurd (omega (arith, last.0, earlier, slice_get_within (ds ++ d ∷ []) j f is_f, one_longer ds d))
             | inl front_e ↦ elim (earlier_or_last ks k i l at_i) [
-              | inr last ↦ absurd (omega (arith, last.0, inside ds i e front_e, is.as_many))
+              | inr last ↦ absurd (omega (arith, last.0, slice_get_within ds i e front_e, is.as_many))
               | inl front_l ↦ elim (earlier_or_last ds d j f is_f) [
                 | inl front_f ↦ elim (earlier_or_last ks k j m at_j) [
                   | inl front_m ↦ is.one i j e f l m earlier front_e front_f front_l front_m
-                  | inr last ↦ absurd (omega (arith, last.0, inside ds j f front_f, is.as_many))
+                  | inr last ↦ absurd (omega (arith, last.0, slice_get_within ds j f front_f, is.as_many))
                 ]
                 | inr last_f ↦ elim (earlier_or_last ks k j m at_j) [
-                  | inl front_m ↦ absurd (omega (arith, last_f.0, inside ks j m front_m, is.as_many))
+                  | inl front_m ↦ absurd (omega (arith, last_f.0, slice_get_within ks j m front_m, is.as_many))
                   | inr last_m ↦
                       let both = joined_last i e l front_e front_l in
                       (λ equal. subst (AreOne e) last_f.1 (both.0 (equal ∙ sym last_m.1)), λ are_one. both.1 (subst (AreOne e) (sym last_f.1) are_one) ∙ last_m.1)
@@ -173,7 +174,7 @@ module _ {A : Type 0} (AreOne : A → A → Type 0) where
             | inl front ↦ let (i, earlier, there) = is.in_order j l m front less in (i, earlier, earlier_one k i l there)
             | inr last ↦
                 let (i, earlier, there) = is.in_order place l k has_number.numbered (omega (arith, last.1, less)) in
-                (i, omega (arith, last.0, earlier, inside ks place k has_number.numbered), earlier_one k i l there)
+                (i, omega (arith, last.0, earlier, slice_get_within ks place k has_number.numbered), earlier_one k i l there)
           ]
 
       pub joined_numbered : AreNumbered AreOne (ds ++ d ∷ []) (ks ++ k ∷ []) n
@@ -192,7 +193,7 @@ module _ {A : Type 0} (AreOne : A → A → Type 0) where
       has_number = record { there = in_front ds (d ∷ []) first.place e first.has_number.there; numbered = earlier_one m first.place k first.has_number.numbered };
       first = λ other at. elim (earlier_or_last ks m other k at) [
         | inl front ↦ first.first other front
-        | inr last ↦ omega (arith, last.0, inside ks first.place k first.has_number.numbered)
+        | inr last ↦ omega (arith, last.0, slice_get_within ks first.place k first.has_number.numbered)
       ];
     }
 
@@ -213,10 +214,10 @@ module _ {A : Type 0} (AreOne : A → A → Type 0) where
         elim (earlier_or_last ds d place e has.there) [
           | inl front ↦ elim (earlier_or_last ks m place k has.numbered) [
             | inl at ↦ inl (record { there = front; numbered = at })
-            | inr last ↦ absurd (omega (arith, last.0, inside ds place e front, is.as_many))
+            | inr last ↦ absurd (omega (arith, last.0, slice_get_within ds place e front, is.as_many))
           ]
           | inr last ↦ elim (earlier_or_last ks m place k has.numbered) [
-            | inl at ↦ absurd (omega (arith, last.0, inside ks place k at, is.as_many))
+            | inl at ↦ absurd (omega (arith, last.0, slice_get_within ks place k at, is.as_many))
             | inr at ↦ inr (last.0, last.1, at.1)
           ]
         ]

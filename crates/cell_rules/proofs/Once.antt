@@ -1,6 +1,7 @@
 -- There is one cell of a script and of trees.
 use Rattle.std.proofs.Common.{◌≡◌, ℕ, suc, List, [], ◌∷◌, ◌++◌, length, Some, slice_get, refl, ap, sym, subst, ◌∙◌, arith, inl, inr}
 use Rattle.std.proofs.lemmas.Bool.{cases_lt}
+use Rattle.std.proofs.lemmas.Option.{slice_get_past}
 use Rattle.rapid_model.specs.CellData.{CellData}
 use Rattle.rapid_model.specs.ScriptData.{ScriptData}
 use Rattle.typed_trees.specs.Plain.{TypedTree}
@@ -9,7 +10,7 @@ use Rattle.cell_rules.specs.Cell.{IsCellOf, IsNumberedTree, pers_numbers, meetin
 use Rattle.cell_rules.specs.Declared.{AreOne, AreOneName, AreAlikeBefore, declared_by, meetings_of}
 use Rattle.cell_rules.specs.First.{IsPersistent}
 use Rattle.cell_rules.specs.Numbering.{AreNumbered, HasNumber, IsFirst}
-use Rattle.cell_rules.proofs.Lists.{there_is, nothing_past, same_list}
+use Rattle.cell_rules.proofs.Lists.{there_is, same_list}
 use Rattle.cell_rules.proofs.Numbers.{same_numbers, same_count, same_first}
 use Rattle.cell_rules.proofs.Rows.{same_persistent}
 
@@ -81,7 +82,7 @@ module _ (script : ScriptData) (trees : List TypedTree) where
               let (q, there) = there_is other.pers k (omega (arith, within, as_many_pers)) in
               let q_is = subst (λ ks. IsPersistent script.pers (declared_by trees) ks k q) (sym same_pers_numbers) (too.persistents k q there) in
               at ∙ ap Some (same_persistent (declared_by trees) (pers_numbers numbered) (length cell.pers) is.pers_numbered (cell_alike cell numbered is) script.pers is.given k p q (is.persistents k p at) q_is) ∙ sym there
-          | inr past ↦ nothing_past cell.pers k past ∙ sym (nothing_past other.pers k (omega (arith, past, as_many_pers)))
+          | inr past ↦ slice_get_past cell.pers k past ∙ sym (slice_get_past other.pers k (omega (arith, past, as_many_pers)))
         ]
 
     same_meeting_there : (k : ℕ) → slice_get cell.meetings k ≡ slice_get other.meetings k
@@ -92,7 +93,7 @@ module _ (script : ScriptData) (trees : List TypedTree) where
               let (q, there) = there_is other.meetings k (omega (arith, within, as_many_meetings)) in
               let q_is = subst (λ ks. IsFirst (meetings_of trees) ks k q) (sym same_meeting_numbers) (too.meetings k q there) in
               at ∙ ap Some (same_first AreOneName (meetings_of trees) (meeting_numbers numbered) k p q (is.meetings k p at) q_is) ∙ sym there
-          | inr past ↦ nothing_past cell.meetings k past ∙ sym (nothing_past other.meetings k (omega (arith, past, as_many_meetings)))
+          | inr past ↦ slice_get_past cell.meetings k past ∙ sym (slice_get_past other.meetings k (omega (arith, past, as_many_meetings)))
         ]
 
     same_cell : cell ≡ other

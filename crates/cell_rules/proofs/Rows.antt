@@ -1,6 +1,7 @@
 -- There is one persistent of a number, and one numbering of trees.
 use Rattle.std.proofs.Common.{◌≡◌, ℕ, List, length, Some, is_some, slice_get, ap, sym, subst, ◌∙◌, arith, inl, inr}
 use Rattle.std.proofs.lemmas.Bool.{cases_lt, cases_order}
+use Rattle.std.proofs.lemmas.Option.{slice_get_past}
 use Rattle.rapid_model.specs.Sorts.{width}
 use Rattle.rapid_model.specs.declared.pers_cell.PersCell.{PersCell}
 use Rattle.rapid_model.specs.declared.pers_value.PersValue.{PersValue}
@@ -12,7 +13,7 @@ use Rattle.cell_rules.specs.First.{owner_of, IsDeclared, IsUndeclared, IsTold, I
 use Rattle.cell_rules.specs.Given.{AreForOne, IsFor, IsRight}
 use Rattle.cell_rules.specs.Numbering.{AreNumbered, HasNumber}
 use Rattle.cell_rules.proofs.Alike.{alike_there, for_both, one_named, same_index}
-use Rattle.cell_rules.proofs.Lists.{there_is, nothing_past, same_there, same_list}
+use Rattle.cell_rules.proofs.Lists.{there_is, same_there, same_list}
 use Rattle.cell_rules.proofs.Numbers.{same_first}
 
 module _ (ds : List Declared) (ks : List ℕ) (count : ℕ) (numbered : AreNumbered AreOne ds ks count) (alike : AreAlikeBefore (length ds) ds) (given : List PersValue) (right : (number : ℕ) (value : PersValue) → slice_get given number ≡ Some value → IsRight ds given number value) where
@@ -97,7 +98,7 @@ module _ (ds : List Declared) (ks : List ℕ) (count : ℕ) (numbered : AreNumbe
               let (w, there) = there_is q.first element (omega (arith, within, as_many)) in
               let also = subst (λ sort. IsFirstValue given ds ks k sort element w) (sym same_sorts) (other.first element w there) in
               at ∙ ap Some (same_value k p.sort element v w (is.first element v at) also) ∙ sym there
-          | inr past ↦ nothing_past p.first element past ∙ sym (nothing_past q.first element (omega (arith, past, as_many)))
+          | inr past ↦ slice_get_past p.first element past ∙ sym (slice_get_past q.first element (omega (arith, past, as_many)))
         ]
 
     -- there is one persistent of a number

@@ -3,6 +3,7 @@ use Rattle.std.proofs.Common.{◌≡◌, ℕ, ◌+◌, ◌<◌, ◌≤◌, true,
 use Rattle.std.specs.List.{list_all}
 use Rattle.std.proofs.lemmas.Bool.{and_parts, and_from, both_ways, leb-true, leb-false, not-true, not-false}
 use Rattle.std.proofs.lemmas.List.{append_assoc, append-nil, length-set}
+use Rattle.std.proofs.lemmas.Option.{slice_get_within}
 use Rattle.rapid_model.specs.Limits.{is_within, holds_where_there}
 use Rattle.rapid_model.specs.Names.{is_name}
 use Rattle.rapid_model.specs.ScriptData.{is_given_value, is_pers_value}
@@ -21,8 +22,8 @@ use Rattle.cell_rules.specs.Given.{given_sort, AreForOne, Breaks, Finds, IsFor, 
 use Rattle.cell_rules.specs.Numbering.{AreNumbered}
 use Rattle.cell_rules.specs.Refused.{IsBroken, IsRefusal}
 use Rattle.cell_rules.proofs.Alike.{for_both, found_alike, one_named, one_number, same_index, suits_alike}
-use Rattle.cell_rules.proofs.Infos.{IsInfo, info_global, info_one, is_there, none_there}
-use Rattle.cell_rules.proofs.Lists.{inside, there_is, same_there, in_front, at_end, front_there, earlier_or_last, one_longer, put_there}
+use Rattle.cell_rules.proofs.Infos.{IsInfo, info_global, info_one}
+use Rattle.cell_rules.proofs.Lists.{there_is, same_there, in_front, at_end, front_there, earlier_or_last, one_longer, put_there, position_there, position_nowhere}
 use Rattle.cell_rules.proofs.Outcomes.{Outcome, followed, ruled}
 
 -- the type of a value
@@ -121,9 +122,9 @@ module _ (ds : List Declared) (ks : List ℕ) (count : ℕ) (numbered : AreNumbe
 
     no_such : global_number row.name ps ≡ None → Breaks ds whole (length done) row NoSuch
     no_such none found_row found =
-        let (k, at) = there_is ks found.place (omega (arith, numbered.as_many, inside ds found.place found.d found.there)) in
+        let (k, at) = there_is ks found.place (omega (arith, numbered.as_many, slice_get_within ds found.place found.d found.there)) in
         let (p, is_p) = there_is ps k (omega (arith, are.as_many, numbered.below found.place k at)) in
-        both_ways (is_global row.name p) (none_there row.name ps none k p is_p)
+        both_ways (is_global row.name p) (position_nowhere (is_global row.name) ps none k p is_p)
         (info_global ds ks count numbered k found.place p found.d (are.infos k p is_p) (record { there = found.there; numbered = at }) found.is_for.global row.name found.is_for.named)
 
     module _ (k : ℕ) (p : PersInfo) (at : slice_get ps k ≡ Some p) (global : is_global row.name p ≡ true) where
@@ -195,7 +196,7 @@ module _ (ds : List Declared) (ks : List ℕ) (count : ℕ) (numbered : AreNumbe
                 inside = within;
                 before = t.number;
                 other = t.told;
-                earlier = inside done t.number t.told t.there;
+                earlier = slice_get_within done t.number t.told t.there;
                 there = ap (λ vs. slice_get vs t.number) is_whole ∙ in_front done (row ∷ rest) t.number t.told t.there;
                 for_one = for_one_there v t;
               }
@@ -327,7 +328,7 @@ module _ (ds : List Declared) (ks : List ℕ) (count : ℕ) (numbered : AreNumbe
 
     tell_global_right : (k : Option ℕ) → global_number row.name ps ≡ k → Outcome (AreTold (done ++ row ∷ [])) (IsRefusal ds whole) (tell_global ps (length done) row k)
     tell_global_right None none = broken NoSuch (no_such none)
-    tell_global_right (Some k) is = let (p, at, global) = is_there row.name ps k is in tell_to_right k (slice_get ps k) refl p at global
+    tell_global_right (Some k) is = let (p, at, global) = position_there (is_global row.name) ps k is in tell_to_right k (slice_get ps k) refl p at global
 
     tell_right : Outcome (AreTold (done ++ row ∷ [])) (IsRefusal ds whole) (tell ps (length done) row)
     tell_right = tell_global_right (global_number row.name ps) refl

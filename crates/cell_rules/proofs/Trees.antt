@@ -1,9 +1,10 @@
 -- The persistents and the meetings of all trees, and the trees with their numbers.
-use Rattle.std.proofs.Common.{◌≡◌, ℕ, ◌+◌, List, [], ◌∷◌, ◌++◌, length, map, Option, Some, None, option_map, slice_get, Ok, Err, if◌then◌else◌, Bool, true, false, refl, ap, sym, subst, ◌∙◌, arith, inl, inr, zero, suc}
+use Rattle.std.proofs.Common.{◌≡◌, ℕ, ◌+◌, List, [], ◌∷◌, ◌++◌, length, map, Option, Some, None, slice_get, Ok, Err, if◌then◌else◌, refl, ap, sym, subst, ◌∙◌, arith, inl, inr, zero, suc}
 use Rattle.std.specs.List.{concat}
 use Rattle.std.specs.Str.{str_eq_ignore_ascii_case, str_to_ascii_lowercase}
 use Rattle.std.proofs.lemmas.Bool.{both_ways, cases_order}
 use Rattle.std.proofs.lemmas.List.{append_assoc, append-nil}
+use Rattle.std.proofs.lemmas.Option.{slice_get_within}
 use Rattle.rapid_model.specs.declared.pers_value.PersValue.{PersValue}
 use Rattle.typed_trees.specs.Plain.{TypedPers, TypedTree}
 use Rattle.cell_assembly.specs.Cells.{Making, Numbered, PersTables, Meetings, MeetingTables, one_pers, all_pers, with_list, trees_pers, meeting_number, met, meet_all, meetings_with, trees_meetings}
@@ -14,7 +15,7 @@ use Rattle.cell_rules.specs.Numbering.{AreNumbered, HasNumber, IsFirst}
 use Rattle.cell_rules.specs.Refused.{IsRefusal}
 use Rattle.cell_rules.proofs.Declares.{one_right}
 use Rattle.cell_rules.proofs.Infos.{AreInfos, named_alike, one_name}
-use Rattle.cell_rules.proofs.Lists.{inside, there_is, same_there, earlier_or_last, one_longer}
+use Rattle.cell_rules.proofs.Lists.{there_is, same_there, earlier_or_last, one_longer, position_there, position_nowhere}
 use Rattle.cell_rules.proofs.Numbers.{none_numbered, new_numbered, joined_numbered, first_stays, first_new}
 use Rattle.cell_rules.proofs.Outcomes.{Outcome, followed}
 
@@ -73,27 +74,12 @@ module _ (given : List PersValue) (whole : List Declared) where
 
 -- the first meeting of a name is one
 found_meeting : (name : List ℕ) (names : List (List ℕ)) (k : ℕ) → meeting_number name names ≡ Some k → (m : List ℕ) × (slice_get names k ≡ Some m) × AreOneName name m
-found_meeting name [] k is = absurd (cc is)
-found_meeting name (m ∷ names) k is = first_or_later (str_eq_ignore_ascii_case name m) (meeting_number name names) refl (found_meeting name names) k is
-  where
-    first_or_later : (here : Bool) (later : Option ℕ) → str_eq_ignore_ascii_case name m ≡ here → ((j : ℕ) → later ≡ Some j → (o : List ℕ) × (slice_get names j ≡ Some o) × AreOneName name o) → (k : ℕ)
-        → (if here then Some 0 else option_map suc later) ≡ Some k → (o : List ℕ) × (slice_get (m ∷ names) k ≡ Some o) × AreOneName name o
-    first_or_later true later here more zero is = (m, refl, one_name name m here)
-    first_or_later true later here more (suc k) is = absurd (let e : 0 ≡ suc k = cc is in omega (arith, e))
-    first_or_later false None here more k is = absurd (cc is)
-    first_or_later false (Some j) here more zero is = absurd (let e : suc j ≡ 0 = cc is in omega (arith, e))
-    first_or_later false (Some j) here more (suc k) is = let e : suc j ≡ suc k = cc is in more k (ap Some (omega (arith, e)))
+found_meeting name names k is =
+    let (m, at, named) = position_there (str_eq_ignore_ascii_case name) names k is in
+    (m, at, one_name name m named)
 
 no_meeting : (name : List ℕ) (names : List (List ℕ)) → meeting_number name names ≡ None → (k : ℕ) (m : List ℕ) → slice_get names k ≡ Some m → AreOneName name m → ⊥
-no_meeting name [] is k m at one = absurd (cc at)
-no_meeting name (o ∷ names) is k m at one = not_first (str_eq_ignore_ascii_case name o) (meeting_number name names) refl (no_meeting name names) is k at
-  where
-    not_first : (here : Bool) (later : Option ℕ) → str_eq_ignore_ascii_case name o ≡ here → (later ≡ None → (k : ℕ) (m : List ℕ) → slice_get names k ≡ Some m → AreOneName name m → ⊥)
-        → (if here then Some 0 else option_map suc later) ≡ None → (k : ℕ) → slice_get (o ∷ names) k ≡ Some m → ⊥
-    not_first true later here more is k at = cc is
-    not_first false (Some j) here more is k at = cc is
-    not_first false None here more is zero at = let e : o ≡ m = cc at in both_ways (str_eq_ignore_ascii_case name o) here (named_alike name o (subst (AreOneName name) (sym e) one))
-    not_first false None here more is (suc k) at = more refl k m at one
+no_meeting name names is k m at one = both_ways (str_eq_ignore_ascii_case name m) (position_nowhere (str_eq_ignore_ascii_case name) names is k m at) (named_alike name m one)
 
 -- the meetings of the names so far, each by its first name
 pub record AreMeetings (named : List (List ℕ)) (ks : List ℕ) (names : List (List ℕ)) : Type 0 where
@@ -124,7 +110,7 @@ module _ (named : List (List ℕ)) (ks : List ℕ) (names : List (List ℕ)) (ar
     where
       apart : (i : ℕ) (e : List ℕ) → slice_get named i ≡ Some e → AreOneName e name → ⊥
       apart i e there one =
-          let (k, at) = there_is ks i (omega (arith, are.are_numbered.as_many, inside named i e there)) in
+          let (k, at) = there_is ks i (omega (arith, are.are_numbered.as_many, slice_get_within named i e there)) in
           let (m, is_m) = there_is names k (are.are_numbered.below i k at) in
           let first = are.firsts k m is_m in
           none k m is_m (sym (alike first.place i k m e first.has_number (record { there = there; numbered = at }) ∙ one))

@@ -1,25 +1,16 @@
 -- The numbers of meetings that a cell gives its trees: each is that of a meeting of the cell.
-use Rattle.std.proofs.Common.{◌≡◌, ℕ, suc, ◌<◌, ◌≤◌, Bool, true, false, List, [], ◌∷◌, ◌++◌, length, Option, Some, None, refl, sym, ap, subst, ◌∙◌, if◌then◌else◌, append_assoc, length-append, arith}
+use Rattle.std.proofs.Common.{◌≡◌, ℕ, suc, ◌<◌, ◌≤◌, List, [], ◌∷◌, ◌++◌, length, Option, Some, None, refl, sym, ap, subst, ◌∙◌, append_assoc, length-append, arith}
 use Rattle.std.specs.List.{All}
-use Rattle.std.specs.Option.{option_map}
 use Rattle.std.specs.Str.{str_eq_ignore_ascii_case}
 use Rattle.std.proofs.lemmas.List.{append-nil}
 use Rattle.std.proofs.lemmas.List.Elements.{All-cons, All-nil, All-weaker}
+use Rattle.std.proofs.lemmas.List.Quantifiers.{position-Some}
 use Rattle.typed_trees.specs.Plain.{TypedTree}
 use Rattle.cell_assembly.specs.Cells.{Meetings, MeetingTables, meet_all, meeting_number, meetings_with, met, trees_meetings}
 use Rattle.name_laws.specs.Declared.{AreEach}
 
-number_by : (here : Bool) (o : Option ℕ) (n k : ℕ) → (if here then Some 0 else option_map suc o) ≡ Some k → ((j : ℕ) → o ≡ Some j → j < n) → k < suc n
-number_by true o n k e later = let same : 0 ≡ k = cc in omega (arith, same)
-number_by false None n k e later = absurd cc
-number_by false (Some j) n k e later =
-    let same : suc j ≡ k = cc in
-    let few = later j refl in
-    omega (arith, same, few)
-
 number_within : (name : List ℕ) (names : List (List ℕ)) (k : ℕ) → meeting_number name names ≡ Some k → k < length names
-number_within name [] k e = absurd cc
-number_within name (m ∷ ms) k e = number_by (str_eq_ignore_ascii_case name m) (meeting_number name ms) (length ms) k e (number_within name ms)
+number_within name names k e = (position-Some (str_eq_ignore_ascii_case name) names k [] e).0
 
 -- one more meeting
 record Met (m : Meetings) (n : Meetings) : Type 0 where
