@@ -1,0 +1,5 @@
+pub mod Cuts
+pub mod FrameStack
+pub mod OperandStack
+pub mod Shapeless
+pub mod Starts
