@@ -1,5 +1,5 @@
 -- Frames whose values stand one behind the other.
-use Rattle.std.proofs.Common.{◌≡◌, ℕ, ◌+◌, ◌-◌, ◌≤◌, List, [], ◌∷◌, length, take, drop, sum_by, refl, sym, ap, ◌∙◌, arith}
+use Rattle.std.proofs.Common.{◌≡◌, ℕ, suc, ◌+◌, ◌-◌, ◌≤◌, List, [], ◌∷◌, length, take, drop, sum_by, refl, sym, ap, ◌∙◌, arith}
 use Rattle.std.proofs.lemmas.List.{length-take-le, length-drop}
 use Rattle.std.proofs.lemmas.List.Sums.{sum_by-cons}
 use Rattle.typed_trees.specs.declared.datum.Datum.{Datum}
@@ -21,7 +21,7 @@ values_in-frames_in values (mark ∷ marks) h =
     let below : values_in (frames_in (take base values) marks) ≡ length (take base values) = values_in-frames_in (take base values) marks (rw len h.1) in
     let first : Frame = record { values = drop base values; seen = mark.seen } in
     let parts : values_in (first ∷ frames_in (take base values) marks) ≡ length (drop base values) + values_in (frames_in (take base values) marks) =
-      sum_by-cons (λ (f : Frame). length f.values) first (frames_in (take base values) marks) in
+    sum_by-cons (λ (f : Frame). length f.values) first (frames_in (take base values) marks) in
     let own : length (drop base values) ≡ length values - base = length-drop base values in
     let within : base ≤ length values = h.0 in
     omega arith

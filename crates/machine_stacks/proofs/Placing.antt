@@ -1,8 +1,8 @@
 -- Where the values of frames stand, and what is read and written there.
-use Rattle.std.proofs.Common.{◌≡◌, ◌≢◌, ℕ, ◌+◌, ◌-◌, ◌<◌, ◌≤◌, ◌==◌, nat_lt, Bool, true, false, List, [], ◌∷◌, ◌++◌, length, reverse, take, drop, get_or, slice_get, slice_set, Option, None, Some, if◌then◌else◌, refl, sym, ap, subst, ◌∙◌, zero-add, inl, inr, arith}
+use Rattle.std.proofs.Common.{◌≡◌, ◌≢◌, ℕ, zero, suc, ◌+◌, ◌-◌, ◌<◌, ◌≤◌, ◌==◌, nat_lt, Bool, true, false, List, [], ◌∷◌, ◌++◌, length, reverse, take, drop, get_or, slice_get, slice_set, Option, None, Some, if◌then◌else◌, refl, sym, ap, subst, ◌∙◌, zero-add, inl, inr, arith}
 use Rattle.std.proofs.lemmas.Bool.{ltb-true, ne_eqb}
 use Rattle.std.proofs.lemmas.Bool.Decides.{leb_tells, eqb_tells}
-use Rattle.std.proofs.lemmas.List.{length-take-le, length-drop, length-reverse, length-append, drop-set-lt, drop-set-add, take-set-le, set_past, get_or_append_left}
+use Rattle.std.proofs.lemmas.List.{length-take-le, length-drop, length-reverse, reverse-reverse, length-append, drop-set-lt, drop-set-add, take-set-le, set_past, get_or_append_left}
 use Rattle.std.proofs.lemmas.Option.{slice_get_past}
 use Rattle.std.proofs.lemmas.Grind.{reverse_onto}
 use Rattle.std.proofs.Math.Seq.{take-set-lt, get_or-append_seam}
@@ -10,7 +10,7 @@ use Rattle.std.specs.Option.{option_and_then, option_map_or}
 use Rattle.typed_trees.specs.declared.datum.Datum.{Datum}
 use Rattle.rapid_meaning.specs.Data.{Frame, frame_at, put_in_frame, with_datum, with_frame}
 use Rattle.machine_stacks.specs.Cuts.{IsCut}
-use Rattle.machine_stacks.specs.FrameStack.{bases_of, frames_in, place_behind, place_in}
+use Rattle.machine_stacks.specs.FrameStack.{bases_of, end_of, frames_in, place_behind, place_in}
 use Rattle.machine_stacks.specs.declared.mark.Mark.{Mark}
 use Rattle.machine_stacks.proofs.Framing.{length-frames_in}
 
@@ -53,7 +53,7 @@ slice_get-take (suc n) (suc i) (x ∷ xs) h = slice_get-take n i xs (omega arith
 
 read_behind : (values : List Datum) (base at : ℕ) → slice_get (drop base values) at ≡ option_and_then (slice_get values) (place_behind base (length values) at)
 read_behind values base at =
-    elim leb_tells (suc at) (length values - base) [
+    elim (leb_tells (suc at) (length values - base)) [
       inl yes ↦ rw yes.0 (slice_get-drop base at values)
     | inr past ↦ let len : length (drop base values) ≤ at = let d : length (drop base values) ≡ length values - base = length-drop base values in let p : length values - base < suc at = past.1 in omega arith in
         rw past.0 (slice_get_past (drop base values) at len)
@@ -96,7 +96,7 @@ written (Some p) new values = slice_set values p new
 written_behind : (values : List Datum) (base at : ℕ) (new : Datum)
     → (drop base (written (place_behind base (length values) at) new values) ≡ slice_set (drop base values) at new) × (take base (written (place_behind base (length values) at) new values) ≡ take base values)
 written_behind values base at new =
-    elim leb_tells (suc at) (length values - base) [
+    elim (leb_tells (suc at) (length values - base)) [
       inl yes ↦ rw yes.0 (drop-set-add base values at new, take-set-le base values (base + at) new (omega arith))
     | inr past ↦ let len : length (drop base values) ≤ at = let d : length (drop base values) ≡ length values - base = length-drop base values in let p : length values - base < suc at = past.1 in omega arith in
         rw past.0 (sym (set_past (drop base values) at new len), refl)
@@ -146,7 +146,7 @@ write values (mark ∷ marks) frame at new h =
     let len : length (take base values) ≡ base = length-take-le base values h.0 in
     let rest : List Frame = frames_in (take base values) marks in
     let count : length rest ≡ length marks = length-frames_in (take base values) marks in
-    elim eqb_tells (length marks) frame [
+    elim (eqb_tells (length marks) frame) [
       inl yes ↦
         let parts = written_behind values base at new in
         let t : (length rest == frame) ≡ true = ap (λ n. n == frame) count ∙ yes.0 in
@@ -165,9 +165,11 @@ write values (mark ∷ marks) frame at new h =
 
 -- places by the marks from the first frame on
 
--- a frame ends where the next one begins, and the last one with the list
-abbrev pub end_of : ℕ → List Mark → ℕ → ℕ
-end_of len marks next = option_map_or (λ (mark : Mark). mark.base) (slice_get marks next) len
+pub behind : (base len at : ℕ) → at < len - base → place_behind base len at ≡ Some (base + at)
+behind base len at h = elim (leb_tells (suc at) (len - base)) [ inl yes ↦ rw yes.0 refl | inr no ↦ absurd (omega arith) ]
+
+pub past : (base len at : ℕ) → len - base ≤ at → place_behind base len at ≡ None
+past base len at h = elim (leb_tells (suc at) (len - base)) [ inl yes ↦ absurd (omega arith) | inr no ↦ rw no.0 refl ]
 
 pub no_place : (len : ℕ) (marks : List Mark) (frame at : ℕ) → length marks ≤ frame → place_in len marks frame at ≡ None
 unfolding place_in
@@ -196,7 +198,7 @@ stands_more len mark marks outer frame at d count h k below =
     let all : List Mark = outer ++ mark ∷ [] in
     let end : ℕ = end_of len all (frame + 1) in
     let Q : Mark → ℕ → Type 0 = λ m e. (place_in len (mark ∷ marks) frame at ≡ place_behind m.base e at) × (m.base ≤ e) in
-    elim eqb_tells (length marks) frame [
+    elim (eqb_tells (length marks) frame) [
       inl yes ↦
         let index : frame ≡ length outer = let same : length marks ≡ frame = yes.1 in omega arith in
         let own : get_or all frame d ≡ mark = rw index (get_or-append_seam outer mark [] d) in
@@ -217,3 +219,8 @@ stands len [] frame at d h k = absurd (omega arith)
 stands len (mark ∷ marks) frame at d h k =
     let P : List Mark → Type 0 = λ ms. Stands len (mark ∷ marks) ms frame at d in
     subst P (sym (reverse_onto marks mark [])) (stands_more len mark marks (reverse marks) frame at d (length-reverse marks) h k (λ b. stands mark.base marks frame at d h.1 b))
+
+pub stands_at : (len : ℕ) (marks : List Mark) (frame at : ℕ) (d : Mark) → IsCut len (bases_of (reverse marks)) → frame < length marks → Stands len (reverse marks) marks frame at d
+stands_at len marks frame at d h k =
+    let P : List Mark → Type 0 = λ ms. Stands len (reverse marks) ms frame at d in
+    subst P (reverse-reverse marks) (stands len (reverse marks) frame at d h (omega (arith, length-reverse marks)))

@@ -32,7 +32,7 @@ values_from-run firsts start count =
 skipped : (skip count : ℕ) (datum : Datum) (more : List Datum) → drop skip (replicate count datum ++ more) ≡ replicate (count - min skip count) datum ++ drop (skip - min skip count) more
 skipped skip count datum more =
     let len : length (replicate count datum) ≡ count = length-replicate count datum in
-    elim cases_lt skip count [
+    elim (cases_lt skip count) [
       inl below ↦
         let m : min skip count ≡ skip = omega arith in
         let none : skip - skip ≡ 0 = omega arith in
@@ -47,7 +47,7 @@ skipped skip count datum more =
 taken : (left count : ℕ) (datum : Datum) (more : List Datum) → take left (replicate count datum ++ more) ≡ replicate (min left count) datum ++ take (left - min left count) more
 taken left count datum more =
     let len : length (replicate count datum) ≡ count = length-replicate count datum in
-    elim cases_lt left count [
+    elim (cases_lt left count) [
       inl below ↦
         let m : min left count ≡ left = omega arith in
         let none : left - left ≡ 0 = omega arith in

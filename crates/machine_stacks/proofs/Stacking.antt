@@ -1,11 +1,11 @@
 -- Operands of routines that lie one behind the other.
-use Rattle.std.proofs.Common.{◌≡◌, ℕ, ◌+◌, ◌-◌, ◌≤◌, List, [], ◌∷◌, ◌++◌, length, reverse, take, drop, sum_by, refl, sym, ap, ◌∙◌, append_assoc, arith}
-use Rattle.std.proofs.lemmas.List.{take-append-drop, drop-append-le, take-append-le, length-take-le, length-drop, length-reverse, reverse-append}
+use Rattle.std.proofs.Common.{◌≡◌, ℕ, suc, ◌+◌, ◌-◌, ◌≤◌, List, [], ◌∷◌, ◌++◌, length, reverse, take, drop, sum_by, refl, sym, ap, ◌∙◌, append_assoc, arith}
+use Rattle.std.proofs.lemmas.List.{take-append-drop, drop-append-le, take-append-le, length-take-le, length-drop, length-reverse, reverse-append, reverse-reverse}
 use Rattle.std.proofs.lemmas.List.Sums.{sum_by-cons}
 use Rattle.std.proofs.Math.Seq.{take-append_seam, drop-append_seam}
 use Rattle.typed_trees.specs.declared.datum.Datum.{Datum}
 use Rattle.machine_stacks.specs.Cuts.{IsCut}
-use Rattle.machine_stacks.specs.OperandStack.{stacked}
+use Rattle.machine_stacks.specs.OperandStack.{OperandStack, stacked}
 
 -- all together are as many as stand in the list
 pub total-stacked : (items : List Datum) (bases : List ℕ) → IsCut (length items) bases → sum_by length (stacked items bases) ≡ length items
@@ -14,7 +14,7 @@ total-stacked items (base ∷ bases) h =
     let len : length (take base items) ≡ base = length-take-le base items h.0 in
     let below : sum_by length (stacked (take base items) bases) ≡ length (take base items) = total-stacked (take base items) bases (rw len h.1) in
     let parts : sum_by length (reverse (drop base items) ∷ stacked (take base items) bases) ≡ length (reverse (drop base items)) + sum_by length (stacked (take base items) bases) =
-      sum_by-cons length (reverse (drop base items)) (stacked (take base items) bases) in
+    sum_by-cons length (reverse (drop base items)) (stacked (take base items) bases) in
     let top : length (reverse (drop base items)) ≡ length items - base = length-reverse (drop base items) ∙ length-drop base items in
     let within : base ≤ length items = h.0 in
     omega arith
@@ -56,3 +56,14 @@ below_kept items base at h k =
     let len : length (take at items) ≡ at = length-take-le at items k in
     let below : base ≤ length (take at items) = omega arith in
     sym (take-append-le base (take at items) (drop at items) below) ∙ ap (take base) (take-append-drop at items)
+
+-- what is moved away, in the order in which it was pushed
+pub moved_away : (items : List Datum) (base at count : ℕ) → base ≤ at → at + count ≡ length items → drop at items ≡ reverse (take count (reverse (drop base items)))
+moved_away items base at count h k = sym (ap reverse (top_taken items base at count h k) ∙ reverse-reverse (drop at items))
+
+abbrev pub stack_of : List Datum → List (List Datum) → ℕ → ℕ → OperandStack
+stack_of top below room depth = record { top = top; below = below; room = room; depth = depth }
+
+pub same_stack : (a b : List Datum) (x y : List (List Datum)) (m n depth : ℕ) → a ≡ b → x ≡ y → m ≡ n → stack_of a x m depth ≡ stack_of b y n depth
+same_stack a b x y m n depth top below room =
+    ap (λ t. stack_of t x m depth) top ∙ ap (λ u. stack_of b u m depth) below ∙ ap (λ r. stack_of b y r depth) room

@@ -1,5 +1,6 @@
 -- The data of the routines under way.
-use Rattle.std.specs.Prelude.{ℕ, ◌+◌, ◌-◌, ◌==◌, nat_lt, List, [], ◌∷◌, length, map, take, drop, Option, None, Some, if◌then◌else◌}
+use Rattle.std.specs.Prelude.{ℕ, ◌+◌, ◌-◌, ◌==◌, nat_lt, List, [], ◌∷◌, length, map, take, drop, slice_get, Option, None, Some, if◌then◌else◌}
+use Rattle.std.specs.Option.{option_map_or}
 use Rattle.typed_trees.specs.declared.datum.Datum.{Datum}
 use Rattle.rapid_meaning.specs.Data.{Frame}
 use Rattle.machine_stacks.specs.declared.mark.Mark.{Mark}
@@ -26,3 +27,7 @@ place_behind base len at = if nat_lt at (len - base) then Some (base + at) else 
 unfoldable pub place_in : ℕ → List Mark → ℕ → ℕ → Option ℕ
 place_in len [] frame at = None
 place_in len (mark ∷ marks) frame at = if length marks == frame then place_behind mark.base len at else place_in mark.base marks frame at
+
+-- by the marks from the first frame on, a frame ends where the next one begins, and the last one with the list
+abbrev pub end_of : ℕ → List Mark → ℕ → ℕ
+end_of len marks next = option_map_or (λ mark. mark.base) (slice_get marks next) len

@@ -1,6 +1,6 @@
 ghost use Rattle.std.specs.Prelude.{◌≡◌, length, reverse};
 ghost use Rattle.machine_stacks.specs.Cuts.{IsCut};
-ghost use Rattle.machine_stacks.specs.FrameStack.{bases_of, place_in};
+ghost use Rattle.machine_stacks.specs.FrameStack.{bases_of, end_of, place_in};
 
 use crate::mark::Mark;
 
@@ -14,13 +14,20 @@ pub fn place_at(values: usize, marks: &[Mark], frame: usize, at: usize) -> Optio
         return None;
     }
     let base = marks[frame].base;
-    let end = match marks.get(frame + 1) {
-        Some(next) => next.base,
-        None => values,
-    };
+    let end = end_at(values, marks, frame + 1);
     if at < end - base {
         Some(base + at)
     } else {
         None
+    }
+}
+
+/// Where the frame before the next one ends: where that begins, and the last frame with the values.
+fn end_at(values: usize, marks: &[Mark], next: usize) -> usize
+    ensures { result ≡ end_of values marks.now next }
+{
+    match marks.get(next) {
+        Some(mark) => mark.base,
+        None => values,
     }
 }
