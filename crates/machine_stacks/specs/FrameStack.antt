@@ -1,5 +1,5 @@
 -- The data of the routines under way.
-use Rattle.std.specs.Prelude.{ℕ, ◌+◌, ◌-◌, ◌==◌, nat_lt, List, [], ◌∷◌, length, map, take, drop, slice_get, Option, None, Some, if◌then◌else◌}
+use Rattle.std.specs.Prelude.{ℕ, ◌+◌, ◌-◌, ◌==◌, nat_lt, List, [], ◌∷◌, length, map, take, drop, slice_get, slice_set, Option, None, Some, if◌then◌else◌}
 use Rattle.std.specs.Option.{option_map_or}
 use Rattle.typed_trees.specs.declared.datum.Datum.{Datum}
 use Rattle.rapid_meaning.specs.Data.{Frame}
@@ -31,3 +31,8 @@ place_in len (mark ∷ marks) frame at = if length marks == frame then place_beh
 -- by the marks from the first frame on, a frame ends where the next one begins, and the last one with the list
 abbrev pub end_of : ℕ → List Mark → ℕ → ℕ
 end_of len marks next = option_map_or (λ mark. mark.base) (slice_get marks next) len
+
+-- the list with a datum at a place, if there is one
+abbrev pub written : Option ℕ → Datum → List Datum → List Datum
+written None new values = values
+written (Some place) new values = slice_set values place new

@@ -7,7 +7,7 @@ ghost use Rattle.machine_stacks.specs.Starts.{frame_from};
 use crate::first_values::append_firsts;
 use crate::mark::Mark;
 use crate::operands::Operands;
-use crate::places::place_at;
+use crate::places::{place_at, value_at, write_at};
 use crate::run_start::RunStart;
 use stack_code::FirstRun;
 use std::alloc::{AllocError, Global};
@@ -117,10 +117,8 @@ impl Frames {
     pub fn get(&self, frame: usize, at: usize) -> Option<&Datum>
         ensures { option_copied result ≡ option_and_then (λ f. slice_get f.values at) (frame_at self.now.frames frame) }
     {
-        match place_at(self.values.len(), &self.marks, frame, at) {
-            Some(place) => self.values.get(place),
-            None => None,
-        }
+        let place = place_at(self.values.len(), &self.marks, frame, at);
+        value_at(&self.values, place)
     }
 
     /// Puts a value in the place of another of a frame, by the number of frames below it and the place in it, from 0. Where the
@@ -128,8 +126,7 @@ impl Frames {
     pub fn put(&mut self, frame: usize, at: usize, datum: Datum)
         ensures { self.new ≡ record self.old { frames = put_in_frame self.old.frames frame at datum (frame_at self.old.frames frame) } }
     {
-        if let Some(place) = place_at(self.values.len(), &self.marks, frame, at) {
-            self.values[place] = datum;
-        }
+        let place = place_at(self.values.len(), &self.marks, frame, at);
+        write_at(&mut self.values, place, datum);
     }
 }

@@ -1,8 +1,12 @@
-ghost use Rattle.std.specs.Prelude.{◌≡◌, length, reverse};
+ghost use Rattle.std.specs.Prelude.{◌≡◌, ◌<◌, length, reverse, slice_get, vec_len, IfSome};
+ghost use Rattle.std.specs.Option.{option_and_then, option_copied};
+ghost use Rattle.std.specs.Vec.{vec_capacity};
 ghost use Rattle.machine_stacks.specs.Cuts.{IsCut};
-ghost use Rattle.machine_stacks.specs.FrameStack.{bases_of, end_of, place_in};
+ghost use Rattle.machine_stacks.specs.FrameStack.{bases_of, end_of, place_in, written};
 
 use crate::mark::Mark;
+use std::mem;
+use typed_trees::Datum;
 
 /// Where a value of a frame stands among so many values of all frames, by the number of frames below it and the place in it;
 /// none where the frame has none there.
@@ -29,5 +33,27 @@ fn end_at(values: usize, marks: &[Mark], next: usize) -> usize
     match marks.get(next) {
         Some(mark) => mark.base,
         None => values,
+    }
+}
+
+/// The value at a place, if there is one.
+pub fn value_at(values: &[Datum], place: Option<usize>) -> Option<&Datum>
+    ensures { option_copied result ≡ option_and_then (slice_get values.now) place }
+{
+    match place {
+        Some(place) => values.get(place),
+        None => None,
+    }
+}
+
+/// Puts a value at a place, if there is one. Takes no memory.
+pub fn write_at(values: &mut Vec<Datum>, place: Option<usize>, datum: Datum)
+    requires { IfSome place (λ p. p < vec_len values.old) }
+    ensures items { values.new.items ≡ written place datum values.old.items }
+    ensures capacity { vec_capacity values.new ≡ vec_capacity values.old }
+{
+    match place {
+        Some(place) => drop(mem::replace(&mut values[place], datum)),
+        None => drop(datum),
     }
 }
