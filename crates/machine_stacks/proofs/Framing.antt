@@ -56,5 +56,5 @@ cut-more values own all marks base b a h =
 abbrev pub frames_of : List Frame → ℕ → ℕ → FrameStack
 frames_of frames room depth = record { frames = frames; room = room; depth = depth }
 
-pub same_frames : (a b : List Frame) (m n depth : ℕ) → a ≡ b → m ≡ n → frames_of a m depth ≡ frames_of b n depth
-same_frames a b m n depth frames room = ap (λ fs. frames_of fs m depth) frames ∙ ap (λ r. frames_of b r depth) room
+pub same_frames : (a b : List Frame) (m n d e : ℕ) → a ≡ b → m ≡ n → d ≡ e → frames_of a m d ≡ frames_of b n e
+same_frames a b m n d e frames room depth = ap (λ fs. frames_of fs m d) frames ∙ ap (λ r. frames_of b r d) room ∙ ap (λ k. frames_of b n k) depth

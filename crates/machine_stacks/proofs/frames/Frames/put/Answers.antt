@@ -1,4 +1,4 @@
-use Rattle.std.proofs.Common.{◌≡◌, length, reverse, vec_len, ap, ◌∙◌, arith}
+use Rattle.std.proofs.Common.{◌≡◌, length, reverse, vec_len, refl, ap, ◌∙◌, arith}
 use Rattle.rapid_meaning.specs.Data.{frame_at, put_in_frame}
 use Rattle.machine_stacks.specs.FrameStack.{FrameStack, frames_in, place_in, written}
 use Rattle.machine_stacks.proofs.Framing.{same_frames}
@@ -26,5 +26,5 @@ returns c =
     ≡ put_in_frame (frames_in f.values.items (reverse f.marks.items)) c.args.frame c.args.at c.args.datum (frame_at (frames_in f.values.items (reverse f.marks.items)) c.args.frame) =
     ap (λ vs. frames_in vs (reverse f.marks.items)) (c.write_at.ensures.items ∙ ap (λ o. written o c.args.datum f.values.items) e)
     ∙ write f.values.items (reverse f.marks.items) c.args.frame c.args.at c.args.datum c.self.invariant in
-    same_frames _ _ _ _ _ new c.write_at.ensures.capacity
+    same_frames _ _ _ _ _ _ new c.write_at.ensures.capacity refl
     ∙ ap (λ (o : FrameStack). record o { frames = put_in_frame o.frames c.args.frame c.args.at c.args.datum (frame_at o.frames c.args.frame) }) c.self.view_is
