@@ -1,5 +1,5 @@
 -- Worked examples.
-use Rattle.std.proofs.Common.{◌≡◌, ℕ, List, [], ◌∷◌, length, reverse, take, drop, Option, None, Some, refl}
+use Rattle.std.proofs.Common.{◌≡◌, ℕ, List, [], ◌∷◌, reverse, take, drop, None, Some, refl}
 use Rattle.typed_trees.specs.declared.datum.Datum.{Datum}
 use Rattle.typed_trees.specs.declared.datum.Datum.TheVariants as datums
 use Rattle.rapid_meaning.specs.Data.{put_in_frame, frame_at, with_frame}

@@ -1,6 +1,5 @@
-use Rattle.std.proofs.Common.{◌≡◌, ℕ, ◌+◌, reverse, sym, ◌∙◌, arith}
+use Rattle.std.proofs.Common.{reverse, sym, ◌∙◌, arith}
 use Rattle.std.proofs.lemmas.List.{length-reverse}
-use Rattle.machine_stacks.specs.FrameStack.{end_of, place_behind}
 use Rattle.machine_stacks.proofs.Placing.{Stands, behind, no_place, past, stands_at}
 use Rattle.machine_stacks.proofs.places.place_at.Goals as goal
 
