@@ -1,10 +1,10 @@
-ghost use Rattle.std.specs.Prelude.{◌≡◌, ◌+◌, ◌<◌, ◌≤◌, [], ◌∷◌, length, reverse, take, drop, slice_get, IsTrue, IfOk};
+ghost use Rattle.std.specs.Prelude.{◌≡◌, ◌+◌, ◌<◌, ◌≤◌, [], ◌∷◌, length, reverse, take, drop, slice_get, IfOk};
 ghost use Rattle.std.specs.Option.{option_and_then, option_copied};
 ghost use Rattle.rapid_meaning.specs.Data.{below_first, frame_at, put_in_frame, seen_in, values_in, with_seen};
-ghost use Rattle.machine_stacks.specs.Shapeless.{keep_no_shape};
 ghost use Rattle.machine_stacks.specs.Starts.{frame_from};
 
 use crate::first_values::append_firsts;
+use crate::held::Held;
 use crate::mark::Mark;
 use crate::operands::Operands;
 use crate::places::{place_at, value_at, write_at};
@@ -12,13 +12,12 @@ use crate::run_start::RunStart;
 use stack_code::FirstRun;
 use std::alloc::{AllocError, Global};
 use std::marker::Model;
-use typed_trees::Datum;
 
 /// The data of a task's routines under way. Contracts see their frames, the innermost first, and for how many values in all
 /// and for how many frames there is room.
 #[derive(Debug, Drop)]
 pub struct Frames {
-    values: Vec<Datum>,
+    values: Vec<Held>,
     marks: Vec<Mark>,
 }
 
@@ -71,7 +70,6 @@ impl Frames {
         own: usize,
     )
         requires args { args ≤ length operands.old.top }
-        requires no_shape { IsTrue (keep_no_shape firsts.now) }
         requires depth { length self.old.frames < self.old.depth }
         requires room { let frame = frame_from firsts.now start (reverse (take args operands.old.top)) own in values_in self.old.frames + length frame.values ≤ self.old.room }
         ensures popped { operands.new ≡ record operands.old { top = drop args operands.old.top } }
@@ -114,7 +112,7 @@ impl Frames {
 
     /// A value of a frame, by the number of frames below it and the place of the value in it, from 0; none where the frame has
     /// none there.
-    pub fn get(&self, frame: usize, at: usize) -> Option<&Datum>
+    pub fn get(&self, frame: usize, at: usize) -> Option<&Held>
         ensures { option_copied result ≡ option_and_then (λ f. slice_get f.values at) (frame_at self.now.frames frame) }
     {
         let place = place_at(self.values.len(), &self.marks, frame, at);
@@ -123,7 +121,7 @@ impl Frames {
 
     /// Puts a value in the place of another of a frame, by the number of frames below it and the place in it, from 0. Where the
     /// frame has none there nothing changes.
-    pub fn put(&mut self, frame: usize, at: usize, datum: Datum)
+    pub fn put(&mut self, frame: usize, at: usize, datum: Held)
         ensures { self.new ≡ record self.old { frames = put_in_frame self.old.frames frame at datum (frame_at self.old.frames frame) } }
     {
         let place = place_at(self.values.len(), &self.marks, frame, at);

@@ -2,18 +2,20 @@
 //! as it is made, and none later.
 #![tactic(auto)]
 
-mod copies;
 mod first_values;
 mod frames;
+mod held;
 mod mark;
 mod moving;
 mod operands;
 mod places;
 mod run_start;
+mod slots;
 mod starts;
 
-pub use copies::{copied, have_no_shape};
 pub use frames::Frames;
+pub use held::Held;
 pub use operands::Operands;
 pub use run_start::RunStart;
+pub use slots::slots_of;
 pub use starts::starts_of;

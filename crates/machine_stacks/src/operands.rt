@@ -3,17 +3,17 @@ ghost use Rattle.std.specs.Option.{option_copied};
 ghost use Rattle.std.specs.Vec.{vec_capacity};
 ghost use Rattle.machine_stacks.specs.OperandStack.{OperandStack, operands_in};
 
+use crate::held::Held;
 use crate::moving::move_tail;
 use std::alloc::{AllocError, Global};
 use std::marker::Model;
-use typed_trees::Datum;
 
 /// The operands of a task: those of the routine under way lie on top, those of the routines that wait for it below. Contracts
 /// see, of each, the list of its operands, the one pushed last first, and for how many operands and for how many routines that
 /// wait there is room.
 #[derive(Debug, Drop)]
 pub struct Operands {
-    items: Vec<Datum>,
+    items: Vec<Held>,
     base: usize,
     bases: Vec<usize>,
 }
@@ -62,7 +62,7 @@ impl Operands {
     }
 
     /// An operand of the routine under way, by how many lie on it, from 0; none where there are no more than so many.
-    pub fn peek(&self, above: usize) -> Option<&Datum>
+    pub fn peek(&self, above: usize) -> Option<&Held>
         ensures { option_copied result ≡ slice_get self.now.top above }
     {
         if above < self.len() {
@@ -73,7 +73,7 @@ impl Operands {
     }
 
     /// Puts an operand on top. Takes no memory.
-    pub fn push(&mut self, datum: Datum)
+    pub fn push(&mut self, datum: Held)
         requires room { operands_in self.old < self.old.room }
         ensures { self.new ≡ record self.old { top = datum ∷ self.old.top } }
     {
@@ -81,7 +81,7 @@ impl Operands {
     }
 
     /// Takes the operand on top away.
-    pub fn pop(&mut self) -> Datum
+    pub fn pop(&mut self) -> Held
         requires some { self.old.top ≢ [] }
         ensures { self.old ≡ record self.new { top = result ∷ self.new.top } }
     {
@@ -120,7 +120,7 @@ impl Operands {
     }
 
     /// Moves so many operands from the top to the end of a list, in the order in which they were pushed. Takes no memory.
-    pub(crate) fn move_to(&mut self, count: usize, list: &mut Vec<Datum>)
+    pub(crate) fn move_to(&mut self, count: usize, list: &mut Vec<Held>)
         requires some { count ≤ length self.old.top }
         requires room { vec_len list.old + count ≤ vec_capacity list.old }
         ensures rest { self.new ≡ record self.old { top = drop count self.old.top } }

@@ -4,9 +4,9 @@ ghost use Rattle.std.specs.Vec.{vec_capacity};
 ghost use Rattle.machine_stacks.specs.Cuts.{IsCut};
 ghost use Rattle.machine_stacks.specs.FrameStack.{bases_of, end_of, place_in, written};
 
+use crate::held::Held;
 use crate::mark::Mark;
 use std::mem;
-use typed_trees::Datum;
 
 /// Where a value of a frame stands among so many values of all frames, by the number of frames below it and the place in it;
 /// none where the frame has none there.
@@ -37,7 +37,7 @@ fn end_at(values: usize, marks: &[Mark], next: usize) -> usize
 }
 
 /// The value at a place, if there is one.
-pub fn value_at(values: &[Datum], place: Option<usize>) -> Option<&Datum>
+pub fn value_at(values: &[Held], place: Option<usize>) -> Option<&Held>
     ensures { option_copied result ≡ option_and_then (slice_get values.now) place }
 {
     match place {
@@ -47,7 +47,7 @@ pub fn value_at(values: &[Datum], place: Option<usize>) -> Option<&Datum>
 }
 
 /// Puts a value at a place, if there is one. Takes no memory.
-pub fn write_at(values: &mut Vec<Datum>, place: Option<usize>, datum: Datum)
+pub fn write_at(values: &mut Vec<Held>, place: Option<usize>, datum: Held)
     requires { IfSome place (λ p. p < vec_len values.old) }
     ensures items { values.new.items ≡ written place datum values.old.items }
     ensures capacity { vec_capacity values.new ≡ vec_capacity values.old }

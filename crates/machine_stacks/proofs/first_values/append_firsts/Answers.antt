@@ -8,8 +8,8 @@ use Rattle.machine_stacks.proofs.first_values.append_firsts.Goals as goal
 pub loop-left-init : goal.loop-left-init
 loop-left-init c = (ap (λ (xs : List Datum). c.args.values.now.items ++ xs) (sym (values_from-run c.args.firsts.now c.args.start c.args.count)), refl)
 
-pub append_alike-requires-clause-room : goal.append_alike-requires-clause-room
-append_alike-requires-clause-room c =
+pub append_alike-requires : goal.append_alike-requires
+append_alike-requires c =
     let l = c.loop-left in
     let first = c.index-firsts-run.result in
     let more : List Datum = take (l.left - c.min-taken.result) (drop (l.skip - c.min-passed.result) (in_full (drop (l.run + 1) c.args.firsts.now))) in

@@ -17,8 +17,8 @@ move_to-requires-clause-room c =
     let P : FrameStack → Type 0 = λ o. values_in o.frames + length (reverse (take c.args.args top) ++ own) ≤ o.room in
     omega (arith, subst P (sym c.self.view_is) c.requires.room, length-frame top own c.args.args c.requires.args, values_in-frames_in f.values.items (reverse f.marks.items) c.self.invariant)
 
-pub append_firsts-requires-clause-room : goal.append_firsts-requires-clause-room
-append_firsts-requires-clause-room c =
+pub append_firsts-requires : goal.append_firsts-requires
+append_firsts-requires c =
     let f = c.self.inside in
     let top = c.args.operands.now.top in
     let own : List Datum = values_from c.args.firsts.now c.args.start c.args.own in
