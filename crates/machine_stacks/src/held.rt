@@ -1,4 +1,4 @@
-ghost use Rattle.std.specs.Prelude.{◌≡◌, Some};
+ghost use Rattle.std.specs.Prelude.{◌≡◌};
 ghost use Rattle.std.specs.Option.{option_copied};
 ghost use Rattle.rapid_meaning.specs.Places.{place_in};
 ghost use Rattle.typed_trees.specs.declared.datum.Datum.TheVariants as datums;
