@@ -1,0 +1,5 @@
+pub mod Examples
+pub mod Framing
+pub mod Placing
+pub mod Runs
+pub mod Stacking

@@ -1,0 +1,149 @@
+ghost use Rattle.std.specs.Prelude.{◌≡◌};
+ghost use Rattle.std.specs.Option.{option_copied};
+ghost use Rattle.rapid_meaning.specs.Places.{place_in};
+ghost use Rattle.typed_trees.specs.declared.datum.Datum.TheVariants as datums;
+ghost use Rattle.machine_stacks.specs.Forms.{as_mark, as_shape, as_value};
+
+use rapid_model::Value;
+use rapid_num::Shape;
+use std::marker::Model;
+use typed_trees::{Datum, Lvalue};
+
+/// What a machine keeps of a datum. All of it lies in place, shapes too, so that a copy takes no memory: 312 bytes. Contracts
+/// see the datum.
+#[derive(Debug, Drop)]
+pub struct Held {
+    kept: Kept,
+}
+
+#[derive(Debug, Drop)]
+enum Kept {
+    Plain(Value),
+    Mark(u8),
+    Shape(Option<Shape>),
+    Place(Lvalue),
+}
+
+impl Model for Held {
+    ghost use Rattle.typed_trees.specs.declared.datum.Datum.{Datum};
+
+    ghost Value = { Datum };
+
+    ghost use Rattle.machine_stacks.specs.Kept.{datum_of};
+
+    ghost view = { λ h. datum_of h.kept };
+}
+
+impl Held {
+    /// A datum. Takes no memory.
+    pub fn of(datum: &Datum) -> Held
+        ensures { result ≡ datum.now }
+    {
+        match datum {
+            Datum::Plain(value) => Held::of_value(value.copy()),
+            Datum::Mark(number) => Held::of_mark(*number),
+            Datum::Shape(None) => Held::of_shape(None),
+            Datum::Shape(Some(shape)) => Held::of_shape(Some(*shape.shape())),
+            Datum::Place(place) => Held::of_place(*place),
+        }
+    }
+
+    /// A value of a type that has values. Takes no memory.
+    pub fn of_value(value: Value) -> Held
+        ensures { result ≡ datums.Plain value }
+    {
+        Held {
+            kept: Kept::Plain(value),
+        }
+    }
+
+    /// The number of an interrupt or of a zone; 0 where there is none. Takes no memory.
+    pub fn of_mark(number: u8) -> Held
+        ensures { result ≡ datums.Mark number }
+    {
+        Held {
+            kept: Kept::Mark(number),
+        }
+    }
+
+    /// A shape, once it was defined. Takes no memory.
+    pub fn of_shape(shape: Option<Shape>) -> Held
+        ensures { result ≡ datums.Shape shape }
+    {
+        Held {
+            kept: Kept::Shape(shape),
+        }
+    }
+
+    /// What a reference parameter stands for. Takes no memory.
+    pub fn of_place(place: Lvalue) -> Held
+        ensures { result ≡ datums.Place place }
+    {
+        Held {
+            kept: Kept::Place(place),
+        }
+    }
+
+    /// An equal datum. Takes no memory.
+    pub fn copy(&self) -> Held
+        ensures { result ≡ self.now }
+    {
+        match &self.kept {
+            Kept::Plain(value) => Held::of_value(value.copy()),
+            Kept::Mark(number) => Held::of_mark(*number),
+            Kept::Shape(shape) => Held::of_shape(*shape),
+            Kept::Place(place) => Held::of_place(*place),
+        }
+    }
+
+    /// The value; none where it is no value.
+    pub fn value(&self) -> Option<&Value>
+        ensures { option_copied result ≡ as_value self.now }
+    {
+        match &self.kept {
+            Kept::Plain(value) => Some(value),
+            _ => None,
+        }
+    }
+
+    /// The value, and the datum is gone; none where it is no value.
+    pub fn into_value(self) -> Option<Value>
+        ensures { result ≡ as_value self }
+    {
+        let Held { kept } = self;
+        match kept {
+            Kept::Plain(value) => Some(value),
+            _ => None,
+        }
+    }
+
+    /// The number of an interrupt or of a zone; none where it is no such datum.
+    pub fn mark(&self) -> Option<u8>
+        ensures { result ≡ as_mark self.now }
+    {
+        match &self.kept {
+            Kept::Mark(number) => Some(*number),
+            _ => None,
+        }
+    }
+
+    /// The shape, if it was defined; none where it is no shape, defined or not.
+    pub fn shape(&self) -> Option<Option<Shape>>
+        ensures { result ≡ as_shape self.now }
+    {
+        match &self.kept {
+            Kept::Shape(shape) => Some(*shape),
+            _ => None,
+        }
+    }
+
+    /// What the reference parameter stands for; none where it is no such datum.
+    pub fn place(&self) -> Option<Lvalue>
+        ensures { result ≡ place_in self.now }
+    {
+        match &self.kept {
+            Kept::Place(place) => Some(*place),
+            _ => None,
+        }
+    }
+}

@@ -1,0 +1,6 @@
+/// Where the values of a frame begin, and how many changes by others the last Look of its statements told.
+#[derive(Clone, Copy, Debug)]
+pub(crate) struct Mark {
+    pub base: usize,
+    pub seen: u32,
+}

@@ -1,0 +1,133 @@
+ghost use Rattle.std.specs.Prelude.{◌≡◌, ◌≢◌, ◌+◌, ◌<◌, ◌≤◌, ◌++◌, [], ◌∷◌, length, reverse, take, drop, slice_get, IfOk, vec_len};
+ghost use Rattle.std.specs.Option.{option_copied};
+ghost use Rattle.std.specs.Vec.{vec_capacity};
+ghost use Rattle.machine_stacks.specs.OperandStack.{OperandStack, operands_in};
+
+use crate::held::Held;
+use crate::moving::move_tail;
+use std::alloc::{AllocError, Global};
+use std::marker::Model;
+
+/// The operands of a task: those of the routine under way lie on top, those of the routines that wait for it below. Contracts
+/// see, of each, the list of its operands, the one pushed last first, and for how many operands and for how many routines that
+/// wait there is room.
+#[derive(Debug, Drop)]
+pub struct Operands {
+    items: Vec<Held>,
+    base: usize,
+    bases: Vec<usize>,
+}
+
+impl Model for Operands {
+    ghost use Rattle.std.specs.Prelude.{◌∷◌, List, length, reverse, take, drop};
+    ghost use Rattle.std.specs.Vec.{vec_capacity};
+    ghost use Rattle.machine_stacks.specs.Cuts.{IsCut};
+    ghost use Rattle.machine_stacks.specs.OperandStack.{OperandStack, stacked};
+
+    ghost Value = { OperandStack };
+
+    ghost view = { λ s. record { top = reverse (drop s.base s.items.items); below = stacked (take s.base s.items.items) (reverse s.bases.items); room = vec_capacity s.items; depth = vec_capacity s.bases } };
+
+    // The operands of each routine begin where those of the routine below it end.
+    ghost invariant = { λ s. IsCut (length s.items.items) (s.base ∷ reverse s.bases.items) };
+}
+
+impl Operands {
+    /// No operands of a routine under way, and none below it; room for so many operands in all, and for so many routines that
+    /// wait. Its error says that memory was refused.
+    pub fn new(alloc: Global, room: usize, depth: usize) -> Result<Operands, AllocError>
+        ensures { IfOk result (λ s. s ≡ record { top = []; below = []; room = room; depth = depth }) }
+    {
+        let items = Vec::with_capacity(alloc, room)?;
+        let bases = Vec::with_capacity(alloc, depth)?;
+        Ok(Operands {
+            items,
+            base: 0,
+            bases,
+        })
+    }
+
+    /// How many operands the routine under way has.
+    pub fn len(&self) -> usize
+        ensures { result ≡ length self.now.top }
+    {
+        self.items.len() - self.base
+    }
+
+    /// How many operands all routines have.
+    pub fn total(&self) -> usize
+        ensures { result ≡ operands_in self.now }
+    {
+        self.items.len()
+    }
+
+    /// An operand of the routine under way, by how many lie on it, from 0; none where there are no more than so many.
+    pub fn peek(&self, above: usize) -> Option<&Held>
+        ensures { option_copied result ≡ slice_get self.now.top above }
+    {
+        if above < self.len() {
+            self.items.get(self.items.len() - 1 - above)
+        } else {
+            None
+        }
+    }
+
+    /// Puts an operand on top. Takes no memory.
+    pub fn push(&mut self, datum: Held)
+        requires room { operands_in self.old < self.old.room }
+        ensures { self.new ≡ record self.old { top = datum ∷ self.old.top } }
+    {
+        self.items.push_reserved(datum);
+    }
+
+    /// Takes the operand on top away.
+    pub fn pop(&mut self) -> Held
+        requires some { self.old.top ≢ [] }
+        ensures { self.old ≡ record self.new { top = result ∷ self.new.top } }
+    {
+        match self.items.pop() {
+            Some(datum) => datum,
+            None => unreachable!(),
+        }
+    }
+
+    /// A routine begins: it has no operands, and those of the routine that waits for it lie below. Takes no memory.
+    pub fn open(&mut self)
+        requires depth { length self.old.below < self.old.depth }
+        ensures { self.new ≡ record self.old { top = []; below = self.old.top ∷ self.old.below } }
+    {
+        self.bases.push_reserved(self.base);
+        self.base = self.items.len();
+    }
+
+    /// A routine is left: its operands are dropped, and those of the routine that waited for it are on top again.
+    pub fn close(&mut self)
+        requires some { self.old.below ≢ [] }
+        ensures { self.old ≡ record self.new { top = self.old.top; below = self.new.top ∷ self.new.below } }
+    {
+        self.items.truncate(self.base);
+        self.base = match self.bases.pop() {
+            Some(base) => base,
+            None => unreachable!(),
+        };
+    }
+
+    /// The operands of the routine under way are dropped.
+    pub fn clear(&mut self)
+        ensures { self.new ≡ record self.old { top = [] } }
+    {
+        self.items.truncate(self.base);
+    }
+
+    /// Moves so many operands from the top to the end of a list, in the order in which they were pushed. Takes no memory.
+    pub(crate) fn move_to(&mut self, count: usize, list: &mut Vec<Held>)
+        requires some { count ≤ length self.old.top }
+        requires room { vec_len list.old + count ≤ vec_capacity list.old }
+        ensures rest { self.new ≡ record self.old { top = drop count self.old.top } }
+        ensures moved { list.new.items ≡ list.old.items ++ reverse (take count self.old.top) }
+        ensures capacity { vec_capacity list.new ≡ vec_capacity list.old }
+    {
+        let at = self.items.len() - count;
+        move_tail(&mut self.items, at, list);
+    }
+}

@@ -1,0 +1,62 @@
+ghost use Rattle.std.specs.Prelude.{◌≡◌, map, All, IsTrue, IfOk};
+ghost use Rattle.machine_stacks.specs.Starts.{lies_within, place_of};
+
+use crate::run_start::RunStart;
+use stack_code::{FirstRun, RoutineRow};
+use std::alloc::{AllocError, Global};
+
+/// Where the first values of each routine begin, each in the run that has the value there. Rows whose first values ascend are
+/// gone through once, together with the runs. Its error says that memory was refused.
+pub fn starts_of(
+    alloc: Global,
+    rows: &[RoutineRow],
+    firsts: &[FirstRun],
+) -> Result<Vec<RunStart>, AllocError>
+    ensures places { IfOk result (λ starts. map (place_of firsts.now) starts.items ≡ map (λ row. row.first) rows.now) }
+    ensures within { IfOk result (λ starts. All (λ start. IsTrue (lies_within firsts.now start)) starts.items) }
+{
+    let mut starts = Vec::with_capacity(alloc, rows.len())?;
+    let mut last = RunStart { run: 0, skip: 0 };
+    let mut place = 0;
+    for row in rows {
+        last = moved(firsts, last, place, row.first);
+        place = row.first;
+        starts.push(last)?;
+    }
+    Ok(starts)
+}
+
+/// A start of another place, in the run that has the value there. It walks ahead, or from the first run where the place lies
+/// before the one that it comes from.
+fn moved(firsts: &[FirstRun], from: RunStart, place: u32, to: u32) -> RunStart
+    requires from { place_of firsts.now from ≡ place }
+    ensures to { place_of firsts.now result ≡ to }
+    ensures within { IsTrue (lies_within firsts.now result) }
+{
+    if place <= to {
+        let skip = from.skip + (to - place);
+        settled(
+            firsts,
+            RunStart {
+                run: from.run,
+                skip,
+            },
+        )
+    } else {
+        settled(firsts, RunStart { run: 0, skip: to })
+    }
+}
+
+/// The same place, in the run that has the value there.
+fn settled(firsts: &[FirstRun], start: RunStart) -> RunStart
+    ensures same { place_of firsts.now result ≡ place_of firsts.now start }
+    ensures within { IsTrue (lies_within firsts.now result) }
+{
+    let mut run = start.run;
+    let mut skip = start.skip;
+    while run < firsts.len() && firsts[run].count <= skip {
+        skip -= firsts[run].count;
+        run += 1;
+    }
+    RunStart { run, skip }
+}
