@@ -2,7 +2,6 @@
 #![tactic(auto)]
 
 mod at;
-mod code;
 mod first_run;
 mod irq_op;
 mod marks;
@@ -17,7 +16,6 @@ mod unary_op;
 mod zone_op;
 
 pub use at::At;
-pub use code::Code;
 pub use first_run::FirstRun;
 pub use irq_op::IrqOp;
 pub use marks::Marks;

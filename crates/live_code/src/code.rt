@@ -1,20 +1,15 @@
 ghost use Rattle.std.specs.Prelude.{◌≡◌};
 ghost use Rattle.stack_code.specs.Firsts.{in_full};
 
-use crate::first_run::FirstRun;
-use crate::marks::Marks;
-use crate::op::Op;
-use crate::pers_sort::PersSort;
-use crate::routine_row::RoutineRow;
 use rapid_model::NameText;
+use stack_code::{FirstRun, Marks, Op, PersSort, RoutineRow};
 use std::marker::Model;
 use typed_trees::Datum;
 
 /// The code of a task: its operations and routines, what error recovery needs, the first values of module data and of
 /// frames, the names of all tasks of the script, the types of the task's persistents in the order of its tree, the most
-/// operands that a frame has, and the number of `main`. Contracts see it as plain data.
-// It keeps no invariant yet. That code is live, which is what a machine needs of it, is a law on compiled code, and becomes
-// this type's invariant once that is proved.
+/// operands that a frame has, and the number of `main`. Contracts see it as plain data. It keeps that the code is live: after
+/// whatever answers fit step by step it comes to a request, or has ended.
 #[derive(Drop)]
 pub struct Code {
     pub ops: Vec<Op>,
@@ -31,6 +26,7 @@ pub struct Code {
 impl Model for Code {
     ghost use Rattle.stack_code.specs.CodeData.{CodeData};
     ghost use Rattle.stack_code.specs.Firsts.{in_full};
+    ghost use Rattle.live_code.specs.Live.{IsLive};
 
     ghost Value = { CodeData };
 
@@ -46,6 +42,19 @@ impl Model for Code {
       deepest = c.deepest;
       main = c.main;
     } };
+
+    ghost invariant = { λ c. IsLive (record {
+      ops = c.ops.items;
+      routines = c.routines.items;
+      owners = c.marks.owners.items;
+      handlers = c.marks.handlers.items;
+      slots = c.slots.items;
+      firsts = in_full c.firsts.items;
+      tasks = c.tasks.items;
+      sorts = c.sorts.items;
+      deepest = c.deepest;
+      main = c.main;
+    }) };
 }
 
 impl Code {
