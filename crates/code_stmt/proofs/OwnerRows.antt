@@ -16,7 +16,7 @@ own_same : (own : Own) → same_own own own ≡ true
 own_same own = rw (same_eqb own.retry, same_eqb own.next, same_eqb own.at.«module», same_eqb own.at.byte)
 
 -- of either branch, where it is taken
-either : {A : Type 0} (P : A → Type 0) (x y : A) (b : Bool) → (b ≡ true → P x) → (b ≡ false → P y) → P (if b then x else y)
+pub either : {A : Type 0} (P : A → Type 0) (x y : A) (b : Bool) → (b ≡ true → P x) → (b ≡ false → P y) → P (if b then x else y)
 either P x y true on off = on refl
 either P x y false on off = off refl
 
@@ -109,9 +109,9 @@ merges rows first middle past own = by (ended rows)
     later front row = either (λ rows. with_row (front ++ rows) middle past own ≡ front ++ with_row (row ∷ []) first past own) (owner_row row.first middle (own_of row) ∷ []) (row ∷ owner_row first middle own ∷ []) (same_own own (own_of row))
         (λ e. row_behind front (owner_row row.first middle (own_of row)) middle past own ∙ ap (λ rows. front ++ rows) (grows (owner_row row.first middle (own_of row)) middle past own e ∙ sym (grows row first past own e)))
         (λ e. ap (λ rows. with_row rows middle past own) (sym (append_assoc front (row ∷ []) (owner_row first middle own ∷ [])))
-            ∙ (row_behind (front ++ row ∷ []) (owner_row first middle own) middle past own
-            ∙ (append_assoc front (row ∷ []) (with_row (owner_row first middle own ∷ []) middle past own)
-            ∙ ap (λ rows. front ++ rows) (ap (λ rows. row ∷ rows) fresh ∙ sym (begins row first past own e)))))
+        ∙ (row_behind (front ++ row ∷ []) (owner_row first middle own) middle past own
+        ∙ (append_assoc front (row ∷ []) (with_row (owner_row first middle own ∷ []) middle past own)
+        ∙ ap (λ rows. front ++ rows) (ap (λ rows. row ∷ rows) fresh ∙ sym (begins row first past own e)))))
 
 -- a run may have no operations
 no_run : (rows : List Owner) (first past : ℕ) (own : Own) → first ≡ past → with_run rows first past own ≡ rows
@@ -151,11 +151,11 @@ rows_behind front row pc [] = refl
 rows_behind front row pc (p ∷ ps) =
     ap (λ rows. with_rows rows (pc + 1) ps) (row_behind front row pc (pc + 1) p.own)
     ∙ either (λ rows. with_rows (front ++ rows) (pc + 1) ps ≡ front ++ with_rows rows (pc + 1) ps) (owner_row row.first (pc + 1) (own_of row) ∷ []) (row ∷ owner_row pc (pc + 1) p.own ∷ []) (same_own p.own (own_of row))
-        (λ e. rows_behind front (owner_row row.first (pc + 1) (own_of row)) (pc + 1) ps)
-        (λ e. ap (λ rows. with_rows rows (pc + 1) ps) (sym (append_assoc front (row ∷ []) (owner_row pc (pc + 1) p.own ∷ [])))
-            ∙ (rows_behind (front ++ row ∷ []) (owner_row pc (pc + 1) p.own) (pc + 1) ps
-            ∙ (append_assoc front (row ∷ []) (with_rows (owner_row pc (pc + 1) p.own ∷ []) (pc + 1) ps)
-            ∙ ap (λ rows. front ++ rows) (sym (rows_behind (row ∷ []) (owner_row pc (pc + 1) p.own) (pc + 1) ps)))))
+    (λ e. rows_behind front (owner_row row.first (pc + 1) (own_of row)) (pc + 1) ps)
+    (λ e. ap (λ rows. with_rows rows (pc + 1) ps) (sym (append_assoc front (row ∷ []) (owner_row pc (pc + 1) p.own ∷ [])))
+    ∙ (rows_behind (front ++ row ∷ []) (owner_row pc (pc + 1) p.own) (pc + 1) ps
+    ∙ (append_assoc front (row ∷ []) (with_rows (owner_row pc (pc + 1) p.own ∷ []) (pc + 1) ps)
+    ∙ ap (λ rows. front ++ rows) (sym (rows_behind (row ∷ []) (owner_row pc (pc + 1) p.own) (pc + 1) ps)))))
 
 -- the rows of some operations are those that grow one by one
 rows_grow : (first past : ℕ) (own : Own) (ps : List Placed) → rows_from first past own ps ≡ with_rows (owner_row first past own ∷ []) past ps
@@ -163,10 +163,10 @@ unfolding rows_from with_rows
 rows_grow first past own [] = refl
 rows_grow first past own (p ∷ ps) =
     either (λ rows. rows ≡ with_rows (with_row (owner_row first past own ∷ []) past (past + 1) p.own) (past + 1) ps) (rows_from first (past + 1) own ps) (owner_row first past own ∷ rows_from past (past + 1) p.own ps) (same_own p.own own)
-        (λ e. rows_grow first (past + 1) own ps ∙ ap (λ rows. with_rows rows (past + 1) ps) (sym (grows (owner_row first past own) past (past + 1) p.own e)))
-        (λ e. ap (λ rows. owner_row first past own ∷ rows) (rows_grow past (past + 1) p.own ps)
-            ∙ (sym (rows_behind (owner_row first past own ∷ []) (owner_row past (past + 1) p.own) (past + 1) ps)
-            ∙ ap (λ rows. with_rows rows (past + 1) ps) (sym (begins (owner_row first past own) past (past + 1) p.own e))))
+    (λ e. rows_grow first (past + 1) own ps ∙ ap (λ rows. with_rows rows (past + 1) ps) (sym (grows (owner_row first past own) past (past + 1) p.own e)))
+    (λ e. ap (λ rows. owner_row first past own ∷ rows) (rows_grow past (past + 1) p.own ps)
+    ∙ (sym (rows_behind (owner_row first past own ∷ []) (owner_row past (past + 1) p.own) (past + 1) ps)
+    ∙ ap (λ rows. with_rows rows (past + 1) ps) (sym (begins (owner_row first past own) past (past + 1) p.own e))))
 
 pub all_rows : (ps : List Placed) → owner_rows ps ≡ with_rows [] 0 ps
 unfolding with_rows with_row

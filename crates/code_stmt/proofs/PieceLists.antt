@@ -46,7 +46,7 @@ pub one_piece_more : {X : Type 0} {a b d : List Placed → X} {i j k : ℕ} (tre
 unfolding pieces_size
 one_piece_more {j = j} tree routine labels own all piece rest left added =
     left_step (pieces_size rest) (λ pc ps. pieces_code tree routine labels own pc rest ps) left added (omega arith) (λ ps.
-        first_code tree routine labels own j piece rest ps ∙ ap (λ pc. pieces_code tree routine labels own j (piece ∷ []) (pieces_code tree routine labels own pc rest ps)) (omega arith))
+    first_code tree routine labels own j piece rest ps ∙ ap (λ pc. pieces_code tree routine labels own j (piece ∷ []) (pieces_code tree routine labels own pc rest ps)) (omega arith))
 
 -- how many operands pieces need, with what the first of them does
 pub need_more : (most depth : ℕ) (piece : Piece) (rest : List Piece) → max most (pieces_need depth (piece ∷ rest)) ≡ max (max most (depth + piece_need piece)) (pieces_need (depth_behind piece depth) rest)

@@ -52,6 +52,6 @@ LaysRoutine at labels old new =
     let tree = tree_of at in
     let routine = routine_of at in
     Lays old new (routine_size tree routine) (λ pc ps.
-        stmts_code tree routine labels pc routine.list
-        (put (own_end routine (pc + stmts_size tree routine routine.list)) (end_op routine.kind)
-        (part_code tree routine labels (part_start tree routine pc) routine.handler ps)))
+    stmts_code tree routine labels pc routine.list
+    (put (own_end routine (pc + stmts_size tree routine routine.list)) (end_op routine.kind)
+    (part_code tree routine labels (part_start tree routine pc) routine.handler ps)))

@@ -104,7 +104,13 @@ pub(crate) fn add_simple(
 {
     let first = out.code.end()?;
     out.code.put(Op::Look)?;
-    add_pieces(context, labels, own, pieces_of(context, stmt)?, &mut out.code)?;
+    add_pieces(
+        context,
+        labels,
+        own,
+        pieces_of(context, stmt)?,
+        &mut out.code,
+    )?;
     out.close(first, own)
 }
 
