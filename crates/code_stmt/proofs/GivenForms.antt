@@ -1,33 +1,33 @@
--- Arguments that are not just so many.
-use Rattle.std.proofs.Common.{◌≡◌, List, [], ◌∷◌, length, Option, None, refl}
+-- What a move is given.
+use Rattle.std.proofs.Common.{◌≡◌, ◌<◌, ◌≤◌, true, List, [], ◌∷◌, length, get_or, Option, Some, refl, sym, ap, ◌∙◌, arith}
 use Rattle.std.specs.Borrow.{Bor}
-use Rattle.typed_trees.specs.Plain.{TypedArg}
+use Rattle.std.specs.Prelude.{is_some}
+use Rattle.typed_trees.specs.Plain.{TypedArg, TypedExpr, Itself}
+use Rattle.typed_trees.specs.Views.{view_arg}
 use Rattle.typed_trees.specs.declared.expr.Arg.{Arg}
-use Rattle.code_stmt.specs.Given.{four_of, one_of, three_of, two_of}
+use Rattle.code_stmt.specs.Given.{both, four_of, itself_in, value_in}
 use Rattle.code_stmt.specs.Views.{view_args}
 
-pub not_one : {A : Type 0} (f : TypedArg → Option A) (args : List (Bor Arg)) → (length args ≡ 1 → ⊥) → one_of f (view_args args) ≡ None
-not_one f [] not = refl
-not_one f (a ∷ []) not = absurd (not refl)
-not_one f (a ∷ b ∷ more) not = refl
+itself_some : (arg : TypedArg) → is_some (itself_in arg) ≡ true → itself_in arg ≡ Some tt
+itself_some (Itself name) is = refl
+itself_some arg is = absurd cc
 
-pub not_two : {A B : Type 0} (f : TypedArg → Option A) (g : TypedArg → Option B) (args : List (Bor Arg)) → (length args ≡ 2 → ⊥) → two_of f g (view_args args) ≡ None
-not_two f g [] not = refl
-not_two f g (a ∷ []) not = refl
-not_two f g (a ∷ b ∷ []) not = absurd (not refl)
-not_two f g (a ∷ b ∷ c ∷ more) not = refl
-
-pub not_three : {A B C : Type 0} (f : TypedArg → Option A) (g : TypedArg → Option B) (h : TypedArg → Option C) (args : List (Bor Arg)) → (length args ≡ 3 → ⊥) → three_of f g h (view_args args) ≡ None
-not_three f g h [] not = refl
-not_three f g h (a ∷ []) not = refl
-not_three f g h (a ∷ b ∷ []) not = refl
-not_three f g h (a ∷ b ∷ c ∷ []) not = absurd (not refl)
-not_three f g h (a ∷ b ∷ c ∷ d ∷ more) not = refl
-
-pub not_four : {A B C D : Type 0} (f : TypedArg → Option A) (g : TypedArg → Option B) (h : TypedArg → Option C) (k : TypedArg → Option D) (args : List (Bor Arg)) → (length args ≡ 4 → ⊥) → four_of f g h k (view_args args) ≡ None
-not_four f g h k [] not = refl
-not_four f g h k (a ∷ []) not = refl
-not_four f g h k (a ∷ b ∷ []) not = refl
-not_four f g h k (a ∷ b ∷ c ∷ []) not = refl
-not_four f g h k (a ∷ b ∷ c ∷ d ∷ []) not = absurd (not refl)
-not_four f g h k (a ∷ b ∷ c ∷ d ∷ e ∷ more) not = refl
+-- four arguments, each of its form
+pub four_given : (args : List (Bor Arg)) (a b c d : Bor Arg) (x y : TypedExpr) → 4 ≤ length args → length args < 5 → a ≡ get_or args 0 a → b ≡ get_or args 1 b → c ≡ get_or args 2 c → d ≡ get_or args 3 d →
+    value_in (view_arg a.now) ≡ Some x → value_in (view_arg b.now) ≡ Some y → is_some (itself_in (view_arg c.now)) ≡ true → is_some (itself_in (view_arg d.now)) ≡ true →
+    Some (x, (y, (tt, tt))) ≡ four_of value_in value_in itself_in itself_in (view_args args)
+four_given [] a b c d x y many few = absurd (omega arith)
+four_given (p ∷ []) a b c d x y many few = absurd (omega arith)
+four_given (p ∷ q ∷ []) a b c d x y many few = absurd (omega arith)
+four_given (p ∷ q ∷ r ∷ []) a b c d x y many few = absurd (omega arith)
+four_given (p ∷ q ∷ r ∷ s ∷ []) a b c d x y many few first second third fourth one two three four =
+    let v = ap (λ (z : Bor Arg). value_in (view_arg z.now)) (sym first) ∙ one in
+    let w = ap (λ (z : Bor Arg). value_in (view_arg z.now)) (sym second) ∙ two in
+    let t = itself_some (view_arg r.now) (ap (λ (z : Bor Arg). is_some (itself_in (view_arg z.now))) (sym third) ∙ three) in
+    let u = itself_some (view_arg s.now) (ap (λ (z : Bor Arg). is_some (itself_in (view_arg z.now))) (sym fourth) ∙ four) in
+    sym
+    (ap (λ o. both o (both (value_in (view_arg q.now)) (both (itself_in (view_arg r.now)) (itself_in (view_arg s.now))))) v
+    ∙ (ap (λ o. both (Some x) (both o (both (itself_in (view_arg r.now)) (itself_in (view_arg s.now))))) w
+    ∙ (ap (λ o. both (Some x) (both (Some y) (both o (itself_in (view_arg s.now))))) t
+    ∙ ap (λ o. both (Some x) (both (Some y) (both (Some tt) o))) u)))
+four_given (p ∷ q ∷ r ∷ s ∷ o ∷ more) a b c d x y many few = absurd (omega arith)

@@ -157,13 +157,13 @@ module _ (at : Context) where
 
   -- the parts of a statement that has none
   pub arms_passed : (old : List ℕ) (pc : ℕ) (arms : TypedArms) → arms ≡ trees.NoArms → PassesArms old old pc pc arms
-  arms_passed old pc arms none = subst (λ t. PassesArms old old pc pc t) (sym none) (passes_none old pc pc _ _ (omega arith) refl)
+  arms_passed old pc arms none = subst (λ t. PassesArms old old pc pc t) (sym none) (passes_none old pc pc 0 (λ p. arms_labels (tree_of at) (routine_of at) p trees.NoArms) (omega arith) refl)
 
   pub cases_passed : (old : List ℕ) (pc : ℕ) (cases : TypedCases) → cases ≡ trees.NoCases → PassesCases old old pc pc cases
-  cases_passed old pc cases none = subst (λ t. PassesCases old old pc pc t) (sym none) (passes_none old pc pc _ _ (omega arith) refl)
+  cases_passed old pc cases none = subst (λ t. PassesCases old old pc pc t) (sym none) (passes_none old pc pc 0 (λ p. cases_labels (tree_of at) (routine_of at) p trees.NoCases) (omega arith) refl)
 
   pub else_passed : (old : List ℕ) (pc : ℕ) (other : TypedElse) → other ≡ trees.NoElse → PassesElse old old pc pc other
-  else_passed old pc other none = subst (λ t. PassesElse old old pc pc t) (sym none) (passes_none old pc pc _ _ (omega arith) refl)
+  else_passed old pc other none = subst (λ t. PassesElse old old pc pc t) (sym none) (passes_none old pc pc 0 (λ p. else_labels (tree_of at) (routine_of at) p trees.NoElse) (omega arith) refl)
 
   pub other_passed : (old new : List ℕ) (pc to : ℕ) (other : TypedElse) (list : TypedStmts) → other ≡ trees.Else list → PassesList old new pc to list → PassesElse old new pc to other
   other_passed old new pc to other list some found = subst (λ t. PassesElse old new pc to t) (sym some) found

@@ -56,17 +56,17 @@ unfolding with_rows
 rows_stay rows pc [] some = some
 rows_stay rows pc (p ∷ ps) some = rows_stay (with_row rows pc (pc + 1) p.own) (pc + 1) ps (row_stays rows pc (pc + 1) p.own)
 
+no_rows : (pc : ℕ) → with_rows [] pc [] ≡ []
+unfolding with_rows
+no_rows pc = refl
+
 -- rows that the last of some has become, with those before it
 grown_last : (front qs : List Owner) (row : Owner) (from to : ℕ) (code : List Placed → List Placed) → ((ps : List Placed) → with_rows qs to ps ≡ with_rows (row ∷ []) from (code ps)) →
     (ps : List Placed) → with_rows (front ++ qs) to ps ≡ with_rows (front ++ row ∷ []) from (code ps)
 grown_last front qs row from to code same ps = by (ended qs) same
   where
-    no_rows : with_rows [] to [] ≡ []
-    unfolding with_rows
-    no_rows = refl
-
     by : {qs : List Owner} → Ended qs → ((ps : List Placed) → with_rows qs to ps ≡ with_rows (row ∷ []) from (code ps)) → with_rows (front ++ qs) to ps ≡ with_rows (front ++ row ∷ []) from (code ps)
-    by none same = absurd (omega (arith, ap length (sym no_rows ∙ same []), rows_stay (row ∷ []) from (code []) (omega arith)))
+    by none same = absurd (omega (arith, ap length (sym (no_rows to) ∙ same []), rows_stay (row ∷ []) from (code []) (omega arith)))
     by (behind before last) same =
         ap (λ rows. with_rows rows to ps) (sym (append_assoc front before (last ∷ [])))
         ∙ (rows_behind (front ++ before) last to ps
@@ -97,15 +97,15 @@ put_behind_code old new owners marked a b n code start fresh last laid put_ops p
       grown = omega (arith, here, there, laid.grown);
       laid = λ ps.
           pair
-            (ap (λ ops. ops ++ ops_of ps) put_ops
-            ∙ (append_assoc old b.code.ops.items (ops_of ps)
-            ∙ ap (λ ops. old ++ ops)
-                (ap (λ (x : ℕ × (List Op × List Owner)). x.1.0) (laid.laid ps)
-                ∙ (ap (λ ops. ops ++ ops_of (code from ps)) fresh ∙ ap (λ pc. ops_of (code pc ps)) here))))
-            (ap (λ rows. with_rows rows (length new) ps) put_rows
-            ∙ (ap (λ pc. with_rows (front_of owners ++ b.owners.items) pc ps) there
-            ∙ (rows_put owners b.owners.items from to (code from) (λ more. ap (λ (x : ℕ × (List Op × List Owner)). x.1.1) (laid.laid more) ∙ ap (λ rows. with_rows rows from (code from more)) last) ps
-            ∙ ap (λ pc. with_rows owners pc (code pc ps)) here)));
+          (ap (λ ops. ops ++ ops_of ps) put_ops
+          ∙ (append_assoc old b.code.ops.items (ops_of ps)
+          ∙ ap (λ ops. old ++ ops)
+          (ap (λ (x : ℕ × (List Op × List Owner)). x.1.0) (laid.laid ps)
+          ∙ (ap (λ ops. ops ++ ops_of (code from ps)) fresh ∙ ap (λ pc. ops_of (code pc ps)) here))))
+          (ap (λ rows. with_rows rows (length new) ps) put_rows
+          ∙ (ap (λ pc. with_rows (front_of owners ++ b.owners.items) pc ps) there
+          ∙ (rows_put owners b.owners.items from to (code from) (λ more. ap (λ (x : ℕ × (List Op × List Owner)). x.1.1) (laid.laid more) ∙ ap (λ rows. with_rows rows from (code from more)) last) ps
+          ∙ ap (λ pc. with_rows owners pc (code pc ps)) here)));
     }
 
 -- a routine whose labels have the places that they have there
@@ -114,7 +114,7 @@ pub routine_follows : {X : Type 0} {a b : List Placed → X} {i j : ℕ} (tree :
     Follows a b i j (routine_size tree routine) (λ pc ps. routine_code tree pc routine ps)
 routine_follows {i = i} tree routine labels are h =
     follows_as (routine_size tree routine) (λ pc ps. routine_code tree pc routine ps) h refl (λ ps.
-        ap (λ places. stmts_code tree routine places i routine.list (put (own_end routine (i + stmts_size tree routine routine.list)) (end_op routine.kind) (part_code tree routine places (part_start tree routine i) routine.handler ps))) are)
+    ap (λ places. stmts_code tree routine places i routine.list (put (own_end routine (i + stmts_size tree routine routine.list)) (end_op routine.kind) (part_code tree routine places (part_start tree routine i) routine.handler ps))) are)
 
 -- code and rows that stand for operations stand for those of one more routine
 pub stands : (tree : TypedTree) (routine : TypedRoutine) (old new : List Op) (marks marked : Marks) (placed : List Placed) → Marked tree routine old new marks marked → Stand old marks.owners.items placed →

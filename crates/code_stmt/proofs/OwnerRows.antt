@@ -83,8 +83,8 @@ new_begins rows n x first past own at some read other = by (ended rows) at some 
 
 pub first_row : (rows : List Owner) (first past : ℕ) (own : Own) → length rows ≡ 0 → rows ++ owner_row first past own ∷ [] ≡ with_row rows first past own
 unfolding with_row
-first_row [] first past own none = refl
-first_row (row ∷ rows) first past own none = absurd (omega (arith, none))
+first_row [] first past own empty = refl
+first_row (row ∷ rows) first past own empty = absurd (omega (arith, empty))
 
 -- two runs of one owner are one
 merges : (rows : List Owner) (first middle past : ℕ) (own : Own) → with_row (with_row rows first middle own) middle past own ≡ with_row rows first past own
@@ -94,17 +94,6 @@ merges rows first middle past own = by (ended rows)
     fresh : with_row (owner_row first middle own ∷ []) middle past own ≡ owner_row first past own ∷ []
     fresh = grows (owner_row first middle own) middle past own (own_same own)
 
-    last : (row : Owner) → with_row (with_row (row ∷ []) first middle own) middle past own ≡ with_row (row ∷ []) first past own
-    last row = either (λ rows. with_row rows middle past own ≡ with_row (row ∷ []) first past own) (owner_row row.first middle (own_of row) ∷ []) (row ∷ owner_row first middle own ∷ []) (same_own own (own_of row))
-        (λ e. grows (owner_row row.first middle (own_of row)) middle past own e ∙ sym (grows row first past own e))
-        (λ e. row_behind (row ∷ []) (owner_row first middle own) middle past own ∙ (ap (λ rows. row ∷ rows) fresh ∙ sym (begins row first past own e)))
-
-    by : {rows : List Owner} → Ended rows → with_row (with_row rows first middle own) middle past own ≡ with_row rows first past own
-    by none = fresh
-    by (behind front row) =
-        ap (λ rows. with_row rows middle past own) (row_behind front row first middle own)
-        ∙ (later front row ∙ sym (row_behind front row first past own))
-
     later : (front : List Owner) (row : Owner) → with_row (front ++ with_row (row ∷ []) first middle own) middle past own ≡ front ++ with_row (row ∷ []) first past own
     later front row = either (λ rows. with_row (front ++ rows) middle past own ≡ front ++ with_row (row ∷ []) first past own) (owner_row row.first middle (own_of row) ∷ []) (row ∷ owner_row first middle own ∷ []) (same_own own (own_of row))
         (λ e. row_behind front (owner_row row.first middle (own_of row)) middle past own ∙ ap (λ rows. front ++ rows) (grows (owner_row row.first middle (own_of row)) middle past own e ∙ sym (grows row first past own e)))
@@ -112,6 +101,12 @@ merges rows first middle past own = by (ended rows)
         ∙ (row_behind (front ++ row ∷ []) (owner_row first middle own) middle past own
         ∙ (append_assoc front (row ∷ []) (with_row (owner_row first middle own ∷ []) middle past own)
         ∙ ap (λ rows. front ++ rows) (ap (λ rows. row ∷ rows) fresh ∙ sym (begins row first past own e)))))
+
+    by : {rows : List Owner} → Ended rows → with_row (with_row rows first middle own) middle past own ≡ with_row rows first past own
+    by none = fresh
+    by (behind front row) =
+        ap (λ rows. with_row rows middle past own) (row_behind front row first middle own)
+        ∙ (later front row ∙ sym (row_behind front row first past own))
 
 -- a run may have no operations
 no_run : (rows : List Owner) (first past : ℕ) (own : Own) → first ≡ past → with_run rows first past own ≡ rows
@@ -146,7 +141,7 @@ rows_append rows pc (x ∷ xs) ys = rows_append (with_row rows pc (pc + 1) x.own
 
 -- only the last row matters
 pub rows_behind : (front : List Owner) (row : Owner) (pc : ℕ) (ps : List Placed) → with_rows (front ++ row ∷ []) pc ps ≡ front ++ with_rows (row ∷ []) pc ps
-unfolding with_rows
+unfolding with_rows with_row
 rows_behind front row pc [] = refl
 rows_behind front row pc (p ∷ ps) =
     ap (λ rows. with_rows rows (pc + 1) ps) (row_behind front row pc (pc + 1) p.own)
