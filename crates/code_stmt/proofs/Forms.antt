@@ -8,10 +8,11 @@ use Rattle.typed_trees.specs.Plain.{NoArms, NoCases, NoElse, arms_of, cases_of, 
 use Rattle.typed_trees.specs.Views.{view_arm, view_case, view_expr, view_list, view_stmt, view_stmt_form}
 use Rattle.typed_trees.specs.declared.bounds.Bounds.{Bounds}
 use Rattle.typed_trees.specs.declared.expr.Expr.{Expr}
-use Rattle.typed_trees.specs.declared.stmt.Form.{Form, Label, If, If', IfOne, IfOne', For, For', While, While', Test, Test', roll-Form, roll-out-Form}
+use Rattle.typed_trees.specs.declared.stmt.Form.{Form, Assign, Instruct, Call, Label, Goto, Return, Exit, Raise, Retry, TryNext, Connect, If, If', IfOne, IfOne', For, For', While, While', Test, Test', roll-Form, roll-out-Form}
 use Rattle.typed_trees.specs.declared.stmt.Form.TheVariants.{outs-If', rolls-If, outs-IfOne', rolls-IfOne, outs-For', rolls-For, outs-While', rolls-While, outs-Test', rolls-Test}
 use Rattle.typed_trees.specs.declared.stmt.Stmt.{Stmt}
 use Rattle.typed_trees.proofs.Rows.{choice_view, for_view, test_view, while_view}
+use Rattle.rapid_meaning.specs.Statements.{byte_of}
 use Rattle.code_stmt.specs.Parts.{arms_in, cases_in, else_in}
 
 pub form_is : (s : Stmt) (form : Form) → s.form ≡ form → view_stmt s ≡ view_stmt_form s.at form
@@ -77,3 +78,25 @@ if_other s arms other given is some = ap else_in (if_form s arms other is) ∙ a
 
 pub test_other : (s : Stmt) (value : Expr) (cases : Vec (Vec Expr Global × Vec Stmt Global) Global) (other given : Option (Vec Stmt Global)) → s.form ≡ Test value cases other → other ≡ given → else_in (view_stmt s) ≡ else_of (option_map view_list given)
 test_other s value cases other given is some = ap else_in (test_form s value cases other is) ∙ ap (λ o. else_of (option_map view_list o)) some
+
+-- where a statement begins
+pub begins_at : (s : Stmt) → byte_of (view_stmt s) ≡ s.at
+begins_at s = by s.at s.form
+  where
+    by : (at : ℕ) (form : Form) → byte_of (view_stmt_form at form) ≡ at
+    by at (Assign place value) = refl
+    by at (Instruct instruction args) = refl
+    by at (Call routine args) = refl
+    by at (Label number) = refl
+    by at (Goto label) = refl
+    by at (Return value) = refl
+    by at Exit = refl
+    by at (Raise number) = refl
+    by at Retry = refl
+    by at TryNext = refl
+    by at (Connect place trap) = refl
+    by at (If' shape row other) = refl
+    by at (IfOne' test pointer begin form) = refl
+    by at (For' local bounds shape row) = refl
+    by at (While' test shape row) = refl
+    by at (Test' value shape row other) = refl

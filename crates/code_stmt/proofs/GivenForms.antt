@@ -16,10 +16,10 @@ itself_some arg is = absurd cc
 pub four_given : (args : List (Bor Arg)) (a b c d : Bor Arg) (x y : TypedExpr) → 4 ≤ length args → length args < 5 → a ≡ get_or args 0 a → b ≡ get_or args 1 b → c ≡ get_or args 2 c → d ≡ get_or args 3 d →
     value_in (view_arg a.now) ≡ Some x → value_in (view_arg b.now) ≡ Some y → is_some (itself_in (view_arg c.now)) ≡ true → is_some (itself_in (view_arg d.now)) ≡ true →
     Some (x, (y, (tt, tt))) ≡ four_of value_in value_in itself_in itself_in (view_args args)
-four_given [] a b c d x y many few = absurd (omega arith)
-four_given (p ∷ []) a b c d x y many few = absurd (omega arith)
-four_given (p ∷ q ∷ []) a b c d x y many few = absurd (omega arith)
-four_given (p ∷ q ∷ r ∷ []) a b c d x y many few = absurd (omega arith)
+four_given [] a b c d x y many few first second third fourth one two three four = absurd (omega arith)
+four_given (p ∷ []) a b c d x y many few first second third fourth one two three four = absurd (omega arith)
+four_given (p ∷ q ∷ []) a b c d x y many few first second third fourth one two three four = absurd (omega arith)
+four_given (p ∷ q ∷ r ∷ []) a b c d x y many few first second third fourth one two three four = absurd (omega arith)
 four_given (p ∷ q ∷ r ∷ s ∷ []) a b c d x y many few first second third fourth one two three four =
     let v = ap (λ (z : Bor Arg). value_in (view_arg z.now)) (sym first) ∙ one in
     let w = ap (λ (z : Bor Arg). value_in (view_arg z.now)) (sym second) ∙ two in
@@ -30,4 +30,4 @@ four_given (p ∷ q ∷ r ∷ s ∷ []) a b c d x y many few first second third 
     ∙ (ap (λ o. both (Some x) (both o (both (itself_in (view_arg r.now)) (itself_in (view_arg s.now))))) w
     ∙ (ap (λ o. both (Some x) (both (Some y) (both o (itself_in (view_arg s.now))))) t
     ∙ ap (λ o. both (Some x) (both (Some y) (both (Some tt) o))) u)))
-four_given (p ∷ q ∷ r ∷ s ∷ o ∷ more) a b c d x y many few = absurd (omega arith)
+four_given (p ∷ q ∷ r ∷ s ∷ o ∷ more) a b c d x y many few first second third fourth one two three four = absurd (omega arith)

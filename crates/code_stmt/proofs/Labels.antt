@@ -1,6 +1,6 @@
 -- Places of labels, found one after the other.
 use Rattle.std.proofs.Common.{◌≡◌, ℕ, ◌+◌, List, [], ◌∷◌, ◌++◌, Option, refl, sym, ap, subst, ◌∙◌, arith}
-use Rattle.std.proofs.lemmas.List.{append_assoc}
+use Rattle.std.proofs.lemmas.List.{append-nil, append_assoc}
 use Rattle.stack_code.specs.Pieces.{pieces}
 use Rattle.stack_code.specs.Sizes.{arms_size, bounds_size, cases_size, else_size, expr_size, pieces_size, stmt_size, stmts_size, values_size}
 use Rattle.stack_code.specs.StmtLayouts.{arms_labels, cases_labels, else_labels, stmt_labels, stmts_labels}
@@ -31,6 +31,10 @@ passes_both old middle new first end n labels second past m laters from to size 
       ∙ (ap (λ xs. old ++ xs) (sym (append_assoc (labels first) (laters second) more))
       ∙ ap (λ xs. old ++ (xs ++ more)) same));
 }
+
+-- what is found
+pub labels_found : (old new : List ℕ) (from to n : ℕ) (labels : ℕ → List ℕ) → Passes old new from to n labels → new ≡ old ++ labels from
+labels_found old new from to n labels found = sym (append-nil new) ∙ (found.laid [] ∙ ap (λ xs. old ++ xs) (append-nil (labels from)))
 
 -- the labels of all of them are found but for those that are left
 abbrev pub LeftOf : List ℕ → List ℕ → ℕ → ℕ → ℕ → (ℕ → List ℕ) → ℕ → (ℕ → List ℕ) → Type 0

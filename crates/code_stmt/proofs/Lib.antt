@@ -9,6 +9,7 @@ pub mod Lists
 pub mod MarkedCode
 pub mod OwnerRows
 pub mod PieceLists
+pub mod RoutineParts
 pub mod Rows
 pub mod Simple
 pub mod StmtNeeds

@@ -1,5 +1,5 @@
 -- Operations and rows of owners that are put behind others, from the last row on.
-use Rattle.std.proofs.Common.{◌≡◌, ℕ, ◌+◌, ◌<◌, List, [], ◌∷◌, ◌++◌, length, refl, sym, ap, ◌∙◌, arith}
+use Rattle.std.proofs.Common.{◌≡◌, ℕ, ◌+◌, ◌<◌, List, [], ◌∷◌, ◌++◌, length, Result, Ok, Err, OnOk, refl, sym, ap, ◌∙◌, arith}
 use Rattle.std.proofs.lemmas.List.{append_assoc, append-nil, length-append, length-map, map-append}
 use Rattle.stack_code.specs.Compiled.{end_op, own_end, owner_row, owner_rows, part_code, part_start, routine_code, routine_labels, routine_size, same_own}
 use Rattle.stack_code.specs.ExprLayouts.{put}
@@ -18,6 +18,11 @@ use Rattle.code_stmt.specs.Marked.{Marked, Stand, front_of, last_of, with_marked
 use Rattle.code_stmt.specs.Runs.{with_row, with_rows}
 use Rattle.code_stmt.specs.declared.written.Written.{Written}
 use Rattle.code_stmt.proofs.OwnerRows.{Ended, all_rows, behind, either, ended, none, rows_append, rows_behind}
+
+-- what follows from three facts that hold where there is no error
+pub on_ok_three : {T E P Q R S : Type 0} (r : Result T E) → (P → Q → R → S) → OnOk r P → OnOk r Q → OnOk r R → OnOk r S
+on_ok_three (Ok x) follows p q r = follows p q r
+on_ok_three (Err e) follows p q r = p
 
 -- two lists together
 pair : {xs ys : List Op} {rs qs : List Owner} → xs ≡ ys → rs ≡ qs → ◌≡◌ {A = List Op × List Owner} (xs, rs) (ys, qs)

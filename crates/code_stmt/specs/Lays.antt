@@ -1,6 +1,6 @@
 -- Operations and rows of owners, with those of statements put behind them.
-use Rattle.std.specs.Prelude.{ℕ, ◌+◌, List, map, ◌++◌}
-use Rattle.stack_code.specs.Compiled.{end_op, own_end, part_code, part_start, routine_size}
+use Rattle.std.specs.Prelude.{ℕ, ◌+◌, List, map, ◌++◌, Option}
+use Rattle.stack_code.specs.Compiled.{end_op, own_end, part_code, part_size, part_start, routine_size}
 use Rattle.stack_code.specs.ExprLayouts.{put}
 use Rattle.stack_code.specs.Placed.{Own, Placed}
 use Rattle.stack_code.specs.Sizes.{arms_size, cases_size, else_size, stmt_size, stmts_size}
@@ -45,6 +45,11 @@ LaysCases at labels own old new cases = Lays old new (cases_size (tree_of at) (r
 abbrev pub LaysElse : Context → List ℕ → Written → Written → TypedElse → Type 0
 LaysElse at labels old new other = Lays old new (else_size (tree_of at) (routine_of at) other)
     (λ pc ps. else_code (tree_of at) (routine_of at) labels pc other ps)
+
+-- the ERROR part of a routine, if it has one
+abbrev pub LaysPart : Context → List ℕ → Written → Written → Option TypedStmts → Type 0
+LaysPart at labels old new handler = Lays old new (part_size (tree_of at) (routine_of at) handler)
+    (λ pc ps. part_code (tree_of at) (routine_of at) labels pc handler ps)
 
 -- a routine: its list, its end, and its ERROR part, where its labels have these places
 abbrev pub LaysRoutine : Context → List ℕ → Written → Written → Type 0
