@@ -1,14 +1,15 @@
 -- Statements whose operations are put behind what is written.
-use Rattle.std.proofs.Common.{◌≡◌, ℕ, ◌+◌, List, Option, refl, sym, ap, subst, ◌∙◌, arith}
+use Rattle.std.proofs.Common.{◌≡◌, ℕ, ◌+◌, List, Option, option_map, refl, sym, ap, subst, ◌∙◌, arith}
 use Rattle.rapid_meaning.specs.Layouts.{local_start}
 use Rattle.stack_code.specs.ExprLayouts.{expr_code, put}
 use Rattle.stack_code.specs.Pieces.{bounds_pieces, pieces}
-use Rattle.stack_code.specs.Placed as placed
 use Rattle.stack_code.specs.Placed.{Own, Placed}
 use Rattle.stack_code.specs.Sizes.{expr_size, pieces_size, stmt_size}
 use Rattle.stack_code.specs.StmtLayouts.{own_of, pieces_code, stmt_code, stmts_code}
 use Rattle.stack_code.specs.declared.op.Op.TheVariants as ops
 use Rattle.typed_trees.specs.Plain as trees
+use Rattle.typed_trees.specs.Views.{view_expr}
+use Rattle.typed_trees.specs.declared.bounds.Bounds.{Bounds}
 use Rattle.typed_trees.specs.Plain.{TypedArms, TypedCases, TypedElse, TypedExpr, TypedStmt, TypedStmts}
 use Rattle.code_expr.specs.Adds.{end_of}
 use Rattle.code_expr.specs.Contexts.{routine_of, tree_of}
@@ -63,6 +64,12 @@ module _ (at : Context) (labels : List ℕ) where
       Lays a b 1 (λ pc ps. put own ops.Look ps) → Lays b c (expr_size test) (λ pc ps. expr_code (tree_of at) (routine_of at) own pc test ps) → Lays c d 1 (λ pc ps. put own (ops.JumpFalse own.next) ps) → LaysStmt at labels d e then → LaysStmt at labels a e view
   if_one_laid a b c d e view own begin test then is owned look tested jump laid =
       stmt_laid a e view (trees.IfOne begin test then) own _ is owned (follows_then look (follows_then tested (follows_then jump laid))) (omega arith)
+
+  -- a FOR before its Turn
+  abbrev pub LaysBounds : Own → Written → Written → ℕ → Bounds → Type 0
+  LaysBounds own old new variable b =
+      let pieces = bounds_pieces variable (view_expr b.first) (view_expr b.last) (option_map view_expr b.step) in
+      Lays old new (1 + pieces_size pieces) (λ pc ps. put own ops.Look (pieces_code (tree_of at) (routine_of at) labels own (pc + 1) pieces ps))
 
   pub for_laid : (a b c d e f : Written) (view : TypedStmt) (own : Own) (begin local : ℕ) (first last : TypedExpr) (step : Option TypedExpr) (list : TypedStmts) (turn : ℕ) →
       view ≡ trees.For begin local first last step list → own ≡ own_of (tree_of at) (routine_of at) (end_of a.code) view →

@@ -1,5 +1,6 @@
 -- Operations and rows of owners that are put behind others, from the last row on.
-use Rattle.std.proofs.Common.{◌≡◌, ℕ, ◌+◌, ◌<◌, List, [], ◌∷◌, ◌++◌, length, Result, Ok, Err, OnOk, refl, sym, ap, ◌∙◌, arith}
+use Rattle.std.specs.Prelude.{option_to_list, slice_get}
+use Rattle.std.proofs.Common.{◌≡◌, ℕ, suc, ◌+◌, ◌-◌, ◌<◌, List, [], ◌∷◌, ◌++◌, length, take, Result, Ok, Err, OnOk, refl, sym, ap, ◌∙◌, arith}
 use Rattle.std.proofs.lemmas.List.{append_assoc, append-nil, length-append, length-map, map-append}
 use Rattle.stack_code.specs.Compiled.{end_op, own_end, owner_row, owner_rows, part_code, part_start, routine_code, routine_labels, routine_size, same_own}
 use Rattle.stack_code.specs.ExprLayouts.{put}
@@ -48,6 +49,23 @@ no_front = refl
 no_last : last_of [] ≡ []
 unfolding last_of
 no_last = refl
+
+-- the last row, and those before it, by their number
+pub last_at : (rows : List Owner) → option_to_list (slice_get rows (length rows - 1)) ≡ last_of rows
+unfolding last_of
+last_at [] = refl
+last_at (row ∷ []) = refl
+last_at (row ∷ next ∷ more) =
+    let count : length (row ∷ next ∷ more) - 1 ≡ suc (length (next ∷ more) - 1) = omega arith in
+    ap (λ i. option_to_list (slice_get (row ∷ next ∷ more) i)) count ∙ last_at (next ∷ more)
+
+pub front_at : (rows : List Owner) → take (length rows - 1) rows ≡ front_of rows
+unfolding front_of
+front_at [] = refl
+front_at (row ∷ []) = refl
+front_at (row ∷ next ∷ more) =
+    let count : length (row ∷ next ∷ more) - 1 ≡ suc (length (next ∷ more) - 1) = omega arith in
+    ap (λ i. take i (row ∷ next ∷ more)) count ∙ ap (λ rows. row ∷ rows) (front_at (next ∷ more))
 
 -- rows that there are stay
 row_stays : (rows : List Owner) (first past : ℕ) (own : Own) → 0 < length (with_row rows first past own)

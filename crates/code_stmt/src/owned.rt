@@ -131,5 +131,6 @@ pub(crate) fn add_bounds(
     let pieces = bounds_pieces(context, local, bounds)?;
     add_pieces(context, labels, own, pieces, &mut out.code)?;
     out.close(first, own)?;
-    out.code.end()
+    let turn = out.code.end()?;
+    Ok(turn)
 }

@@ -52,7 +52,7 @@ pub list_need-loop-stmt-preserved : goal.list_need-loop-stmt-preserved
 list_need-loop-stmt-preserved t c =
     let list = c.deref-stmt-items.result.now in
     let more = ap (stmts_need (tree_of c.args.context.now) (routine_of c.args.context.now)) (stmts_more list c.loop-stmt.stmt-index c.stmt-item.result c.loop-stmt-test.true c.stmt-item.is) in
-    omega (arith, more, c.loop-stmt.invariant, c.in_ok-stmt_need.ensures, c.more.ensures)
+    omega (arith, more, c.loop-stmt.invariant, c.in_ok-stmt_need.ensures, c.more-most.ensures)
 
 pub list_need-returns : goal.list_need-returns
 list_need-returns t c =
@@ -66,7 +66,7 @@ pub arms_need-loop-test-preserved : goal.arms_need-loop-test-preserved
 arms_need-loop-test-preserved t c =
     let list = c.deref-test-items.result.now in
     let more = ap (arms_need (tree_of c.args.context.now) (routine_of c.args.context.now)) (arms_more list c.loop-test.test-index c.loop-test-item.result c.loop-test-test.true c.loop-test-item.is) in
-    omega (arith, more, c.loop-test.invariant, c.in_ok-expr_need.ensures, c.in_ok-list_need.ensures, c.more.ensures, c.more-in-loop-test.ensures)
+    omega (arith, more, c.loop-test.invariant, c.in_ok-expr_need.ensures, c.in_ok-list_need.ensures, c.more.ensures, c.more-most.ensures)
 
 pub arms_need-returns-in_default : goal.arms_need-returns-in_default
 arms_need-returns-in_default t c = sym (ap (arms_need (tree_of c.args.context.now) (routine_of c.args.context.now)) (no_arms c.args.stmt.now c.in_default.not-If))
@@ -84,7 +84,7 @@ pub cases_need-loop-values-preserved : goal.cases_need-loop-values-preserved
 cases_need-loop-values-preserved t c =
     let list = c.deref-values-items.result.now in
     let more = ap (cases_need (tree_of c.args.context.now) (routine_of c.args.context.now)) (cases_more list c.loop-values.values-index c.loop-values-item.result c.loop-values-test.true c.loop-values-item.is) in
-    omega (arith, more, c.loop-values.invariant, c.in_ok-values_need.ensures, c.in_ok-list_need.ensures, c.more.ensures, c.more-in-loop-values.ensures)
+    omega (arith, more, c.loop-values.invariant, c.in_ok-values_need.ensures, c.in_ok-list_need.ensures, c.more.ensures, c.more-most.ensures)
 
 pub cases_need-returns-in_default : goal.cases_need-returns-in_default
 cases_need-returns-in_default t c = sym (ap (cases_need (tree_of c.args.context.now) (routine_of c.args.context.now)) (no_cases c.args.stmt.now c.in_default.not-Test))

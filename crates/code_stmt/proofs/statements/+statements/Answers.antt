@@ -1,5 +1,6 @@
 use Rattle.std.proofs.Common.{◌≡◌, ◌+◌, map, ap, subst, sym, ◌∙◌}
 use Rattle.std.proofs.lemmas.Result.{on_ok_weaker}
+use Rattle.rapid_meaning.specs.Layouts.{local_start}
 use Rattle.stack_code.specs.StmtLayouts.{own_of}
 use Rattle.stack_code.specs.declared.op.Op.TheVariants as ops
 use Rattle.typed_trees.specs.Plain.{arms_of, cases_of, exprs_of, stmts_of}
@@ -11,7 +12,7 @@ use Rattle.code_stmt.specs.Lays.{LaysArms, LaysCases, LaysList, LaysStmt}
 use Rattle.code_stmt.specs.Parts.{arms_in, cases_in}
 use Rattle.code_stmt.specs.Views.{view_own}
 use Rattle.code_stmt.proofs.Forms.{for_form, form_is, if_form, if_other, no_arms, no_cases, no_else, test_form, test_other, while_form}
-use Rattle.code_stmt.proofs.Layouts.{arms_laid, cases_laid, else_laid, for_laid, if_laid, if_one_laid, label_laid, other_laid, simple_laid, test_laid, while_laid}
+use Rattle.code_stmt.proofs.Layouts.{LaysBounds, arms_laid, cases_laid, else_laid, for_laid, if_laid, if_one_laid, label_laid, other_laid, simple_laid, test_laid, while_laid}
 use Rattle.code_stmt.proofs.Lists.{LeftArms, LeftCases, LeftList, one_arm_more, one_case_more, one_stmt_more}
 use Rattle.code_stmt.proofs.Rows.{arms_end, arms_from, arms_more, cases_end, cases_from, cases_more, stmts_end, stmts_from, stmts_more}
 use Rattle.code_stmt.proofs.Simple.{simple}
@@ -51,7 +52,7 @@ add_stmt-returns-in_ok-add_list-in-For t c =
     on_ok_weaker c.add_op-in-For-3.result (λ stepped.
     for_laid at c.args.labels.now c.args.out.now c.add_bounds.new.out c.add_op-in-For.new.out c.add_op-in-For-2.new.out c.add_list.new.out c.add_op-in-For-3.new.out (view_stmt s) (view_own c.in_ok-own.own) _ _ _ _ _ _ c.in_ok-turn-in-For.turn
     (for_form s _ _ _ c.in-For.is) owned
-    c.in_ok-turn-in-For.ensures.laid c.in_ok-turn-in-For.ensures.turn
+    (subst (λ b. LaysBounds at c.args.labels.now (view_own c.in_ok-own.own) c.args.out.now c.add_bounds.new.out (local_start (routine_of at) c.in-For.local) b) c.deref-in-For.ensures c.in_ok-turn-in-For.ensures.laid) c.in_ok-turn-in-For.ensures.turn
     (put_as (ap (λ variable. ops.Turn variable c.in_ok-own.own.next) c.local_start-variable.ensures) c.in_ok-add_op-in-For.ensures)
     c.in_ok-add_op-in-For-2.ensures c.in_ok-add_list-in-For.ensures
     (put_as (ap (λ variable. ops.Step variable c.in_ok-turn-in-For.turn) c.local_start-variable.ensures) stepped)) c.add_op-in-For-3.ensures
