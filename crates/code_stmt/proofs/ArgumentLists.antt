@@ -1,5 +1,5 @@
 -- Arguments, parted one after the other.
-use Rattle.std.proofs.Common.{◌≡◌, ℕ, ◌||◌, Bool, true, false, List, [], ◌∷◌, ◌++◌, refl, sym, ap, ◌∙◌}
+use Rattle.std.proofs.Common.{◌≡◌, ℕ, ◌||◌, true, false, List, [], ◌∷◌, ◌++◌, refl, sym, ap, ◌∙◌}
 use Rattle.std.proofs.lemmas.List.{append_assoc}
 use Rattle.rapid_meaning.specs.Instructions.{has, needed, options}
 use Rattle.typed_trees.specs.Plain.{TypedArg, TypedArgs, MoreArgs, Optional}

@@ -1,5 +1,5 @@
 -- Runs of operations that are given to their statement.
-use Rattle.std.proofs.Common.{◌≡◌, ℕ, ◌+◌, ◌≤◌, List, [], ◌∷◌, ◌++◌, length, map, drop, refl, sym, ap, subst, ◌∙◌, arith}
+use Rattle.std.proofs.Common.{◌≡◌, ℕ, ◌+◌, ◌≤◌, List, [], ◌∷◌, ◌++◌, length, drop, refl, sym, ap, subst, ◌∙◌, arith}
 use Rattle.std.proofs.lemmas.List.{drop_at, drop-append-le, drop-map, length-drop, length-map, map-append}
 use Rattle.stack_code.specs.Placed.{Own, Placed}
 use Rattle.stack_code.specs.declared.op.Op.{Op}

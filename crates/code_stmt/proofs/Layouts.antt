@@ -3,7 +3,7 @@ use Rattle.std.proofs.Common.{◌≡◌, ℕ, ◌+◌, List, Option, option_map,
 use Rattle.rapid_meaning.specs.Layouts.{local_start}
 use Rattle.stack_code.specs.ExprLayouts.{expr_code, put}
 use Rattle.stack_code.specs.Pieces.{bounds_pieces, pieces}
-use Rattle.stack_code.specs.Placed.{Own, Placed}
+use Rattle.stack_code.specs.Placed.{Own}
 use Rattle.stack_code.specs.Sizes.{expr_size, pieces_size, stmt_size}
 use Rattle.stack_code.specs.StmtLayouts.{own_of, pieces_code, stmt_code, stmts_code}
 use Rattle.stack_code.specs.declared.op.Op.TheVariants as ops

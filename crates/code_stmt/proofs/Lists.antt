@@ -1,7 +1,7 @@
 -- Lists whose statements are put behind what is written, one after the other.
-use Rattle.std.proofs.Common.{◌≡◌, ℕ, ◌+◌, List, refl, ap, ◌∙◌, arith}
+use Rattle.std.proofs.Common.{◌≡◌, ℕ, ◌+◌, List, ap, ◌∙◌, arith}
 use Rattle.stack_code.specs.ExprLayouts.{expr_code, put}
-use Rattle.stack_code.specs.Placed.{Own, Placed}
+use Rattle.stack_code.specs.Placed.{Own}
 use Rattle.stack_code.specs.Sizes.{arms_size, cases_size, expr_size, stmts_size, values_size}
 use Rattle.stack_code.specs.StmtLayouts.{arms_code, cases_code, stmts_code, values_code}
 use Rattle.stack_code.specs.declared.op.Op.TheVariants as ops

@@ -2,7 +2,7 @@
 use Rattle.std.specs.Prelude.{option_to_list, slice_get}
 use Rattle.std.proofs.Common.{◌≡◌, ℕ, suc, ◌+◌, ◌-◌, ◌<◌, List, [], ◌∷◌, ◌++◌, length, take, Result, Ok, Err, OnOk, refl, sym, ap, ◌∙◌, arith}
 use Rattle.std.proofs.lemmas.List.{append_assoc, append-nil, length-append, length-map, map-append}
-use Rattle.stack_code.specs.Compiled.{end_op, own_end, owner_row, owner_rows, part_code, part_start, routine_code, routine_labels, routine_size, same_own}
+use Rattle.stack_code.specs.Compiled.{end_op, own_end, owner_row, part_code, part_start, routine_code, routine_labels, routine_size, same_own}
 use Rattle.stack_code.specs.ExprLayouts.{put}
 use Rattle.stack_code.specs.Placed.{Own, Placed, own_of}
 use Rattle.stack_code.specs.Sizes.{stmts_size}

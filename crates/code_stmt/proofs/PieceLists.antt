@@ -1,11 +1,11 @@
 -- The pieces of a statement, put behind what is there one after the other.
 use Rattle.std.proofs.Common.{◌≡◌, ℕ, ◌+◌, max, List, [], ◌∷◌, refl, ap, subst, ◌∙◌, arith}
-use Rattle.stack_code.specs.ExprLayouts.{args_code, expr_code, place_code, put}
+use Rattle.stack_code.specs.ExprLayouts.{put}
 use Rattle.stack_code.specs.Needs.{pieces_need}
 use Rattle.stack_code.specs.Pieces.{Piece, OfExpr, OfPlace, OfArgs, Does, Waits, GoesTo, Chooses}
 use Rattle.stack_code.specs.Placed.{Own, Placed}
-use Rattle.stack_code.specs.Sizes.{args_size, expr_size, piece_size, pieces_size, place_size}
-use Rattle.stack_code.specs.StmtLayouts.{label_at, pieces_code}
+use Rattle.stack_code.specs.Sizes.{piece_size, pieces_size}
+use Rattle.stack_code.specs.StmtLayouts.{pieces_code}
 use Rattle.stack_code.specs.declared.op.Op.TheVariants as ops
 use Rattle.typed_trees.specs.Plain.{TypedRoutine, TypedTree}
 use Rattle.code_expr.specs.Follows.{Follows}

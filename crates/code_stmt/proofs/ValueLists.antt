@@ -1,9 +1,9 @@
 -- The values of a CASE, put behind a block one after the other.
-use Rattle.std.proofs.Common.{◌≡◌, ℕ, ◌+◌, List, ap, arith}
+use Rattle.std.proofs.Common.{ℕ, ◌+◌, ap, arith}
 use Rattle.raw_trees.specs.declared.raw_expr.Operator.TheVariants as operators
 use Rattle.stack_code.specs.ExprLayouts.{expr_code, put}
-use Rattle.stack_code.specs.Placed.{Own, Placed}
-use Rattle.stack_code.specs.Sizes.{expr_size, values_size}
+use Rattle.stack_code.specs.Placed.{Own}
+use Rattle.stack_code.specs.Sizes.{values_size}
 use Rattle.stack_code.specs.StmtLayouts.{values_code}
 use Rattle.stack_code.specs.declared.op.Op.TheVariants as ops
 use Rattle.typed_trees.specs.Plain.{TypedExpr, TypedExprs, MoreExprs}

@@ -1,4 +1,4 @@
-use Rattle.std.proofs.Common.{◌≡◌, ◌+◌, map, option_map, ap, subst, sym, arith, ◌∙◌}
+use Rattle.std.proofs.Common.{◌+◌, map, option_map, ap, subst, sym, arith, ◌∙◌}
 use Rattle.std.proofs.lemmas.Result.{IfOk-weaker}
 use Rattle.rapid_meaning.specs.Layouts.{local_start}
 use Rattle.stack_code.specs.Pieces.{bounds_pieces}

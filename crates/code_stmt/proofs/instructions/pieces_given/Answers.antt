@@ -1,4 +1,4 @@
-use Rattle.std.proofs.Common.{◌≡◌, ℕ, true, false, [], ◌∷◌, ap, sym, ◌∙◌}
+use Rattle.std.proofs.Common.{ℕ, true, false, [], ◌∷◌, ap, sym, ◌∙◌}
 use Rattle.std.proofs.lemmas.Result.{IfOk-weaker}
 use Rattle.raw_trees.specs.declared.raw_expr.Operator.TheVariants as operators
 use Rattle.stack_code.specs.Pieces.{OfExpr, OfPlace, Does, Waits, counted, instruction_pieces, meeting_number, number_of, place_and_number, push, said, tasks_of, watched_number}
@@ -10,7 +10,7 @@ use Rattle.typed_trees.specs.Plain.{TypedExpr, TypedPlace}
 use Rattle.code_expr.specs.Contexts.{routine_of, tree_of}
 use Rattle.code_stmt.specs.Given.{four_of, itself_in, meeting_in, one_of, pieces_for, place_in, signal_in, three_of, two_of, value_in}
 use Rattle.code_stmt.specs.Views.{view_args}
-use Rattle.code_stmt.proofs.InstructionForms.{add_is, bounds_given, clear_is, decr_is, delete_is, disable_is, enable_is, erase_is, given_pieces, home_joint_is, incr_is, lim_joint_is, lim_sup_is, meeting_given, move_is, order_given, pers_is, place_given, places_given, reset_is, same_option, set_do_is, set_is, signal_di_is, signal_do_is, signal_given, sleep_is, target_given, tp_write_is, value_given, values_given, wait_di_is, wait_do_is, wait_sync_task_is, wait_test_and_set_is, wait_time_is, wait_until_is, watch_is, zone_free_is, zone_off_is, zone_on_is}
+use Rattle.code_stmt.proofs.InstructionForms.{add_is, bounds_given, clear_is, decr_is, delete_is, disable_is, enable_is, given_pieces, home_joint_is, incr_is, lim_joint_is, lim_sup_is, meeting_given, move_is, order_given, pers_is, place_given, places_given, reset_is, same_option, set_do_is, set_is, signal_di_is, signal_do_is, signal_given, sleep_is, target_given, tp_write_is, value_given, values_given, wait_di_is, wait_do_is, wait_sync_task_is, wait_test_and_set_is, wait_time_is, wait_until_is, watch_is, zone_free_is, zone_off_is, zone_on_is}
 use Rattle.code_stmt.proofs.instructions.pieces_given.Goals as goal
 
 pub returns-in-MoveAbsJ : goal.returns-in-MoveAbsJ

@@ -2,7 +2,7 @@ use Rattle.std.proofs.Common.{◌≡◌, Some, length, option_map, refl, subst, 
 use Rattle.std.proofs.lemmas.Option.{slice_get-map, slice_get_read}
 use Rattle.std.proofs.lemmas.Result.{on_ok_weaker}
 use Rattle.typed_trees.specs.Views.{view_routine}
-use Rattle.code_expr.specs.Contexts.{routine_of, tree_of}
+use Rattle.code_expr.specs.Contexts.{tree_of}
 use Rattle.code_stmt.specs.Marked.{Marked}
 use Rattle.code_stmt.proofs.marked.emit_numbered.Goals as goal
 

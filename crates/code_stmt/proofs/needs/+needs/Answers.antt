@@ -1,13 +1,13 @@
-use Rattle.std.proofs.Common.{◌≡◌, max, map, option_map, ap, sym, arith, ◌∙◌}
+use Rattle.std.proofs.Common.{map, option_map, ap, sym, arith, ◌∙◌}
 use Rattle.rapid_meaning.specs.Layouts.{local_start}
-use Rattle.stack_code.specs.Needs.{arms_need, cases_need, else_need, expr_need, pieces_need, stmts_need, values_need}
+use Rattle.stack_code.specs.Needs.{arms_need, cases_need, else_need, pieces_need, stmts_need}
 use Rattle.stack_code.specs.Pieces.{bounds_pieces}
 use Rattle.typed_trees.specs.Plain.{arms_of, cases_of, stmts_of}
 use Rattle.typed_trees.specs.Views.{view_arm, view_case, view_expr, view_stmt}
 use Rattle.typed_trees.specs.declared.bounds.Bounds.{Bounds}
 use Rattle.code_expr.specs.Contexts.{routine_of, tree_of}
 use Rattle.code_expr.proofs.Forms.{gives_as}
-use Rattle.code_stmt.specs.Parts.{arms_in, cases_in, else_in}
+use Rattle.code_stmt.specs.Parts.{arms_in, cases_in}
 use Rattle.code_stmt.proofs.Forms.{for_form, if_form, if_other, no_arms, no_cases, no_else, test_form, test_other, while_form}
 use Rattle.code_stmt.proofs.Rows.{arms_end, arms_more, cases_end, cases_more, stmts_end, stmts_more}
 use Rattle.code_stmt.proofs.Simple.{simple}

@@ -1,4 +1,4 @@
-use Rattle.std.proofs.Common.{◌≡◌, ◌+◌, List, [], ◌∷◌, length, refl, subst, ap, arith}
+use Rattle.std.proofs.Common.{◌≡◌, List, [], ◌∷◌, length, refl, subst, ap, arith}
 use Rattle.std.specs.Vec.Iter.{into_iter_items}
 use Rattle.stack_code.specs.Sizes.{pieces_size}
 use Rattle.stack_code.specs.StmtLayouts.{pieces_code}

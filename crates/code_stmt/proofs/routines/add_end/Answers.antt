@@ -1,4 +1,4 @@
-use Rattle.std.proofs.Common.{◌+◌, ap, refl, ◌∙◌, arith}
+use Rattle.std.proofs.Common.{ap, refl, ◌∙◌, arith}
 use Rattle.std.proofs.lemmas.Result.{on_ok_weaker}
 use Rattle.stack_code.specs.Compiled.{own_end}
 use Rattle.stack_code.specs.ExprLayouts.{put}
@@ -6,7 +6,6 @@ use Rattle.typed_trees.specs.Plain.{TypedRoutine}
 use Rattle.code_expr.specs.Adds.{end_of}
 use Rattle.code_expr.specs.Contexts.{routine_of}
 use Rattle.code_expr.proofs.Follow.{follows_as}
-use Rattle.code_stmt.specs.Views.{view_own}
 use Rattle.code_stmt.proofs.Layouts.{same_owner}
 use Rattle.code_stmt.proofs.routines.add_end.Goals as goal
 

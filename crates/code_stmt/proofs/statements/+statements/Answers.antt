@@ -1,4 +1,4 @@
-use Rattle.std.proofs.Common.{◌≡◌, ◌+◌, map, ap, subst, sym, ◌∙◌}
+use Rattle.std.proofs.Common.{◌+◌, map, ap, subst, sym, ◌∙◌}
 use Rattle.std.proofs.lemmas.Result.{on_ok_weaker}
 use Rattle.rapid_meaning.specs.Layouts.{local_start}
 use Rattle.stack_code.specs.StmtLayouts.{own_of}
