@@ -22,7 +22,7 @@ use Rattle.code_stmt.specs.Views.{view_pieces}
 use Rattle.code_stmt.specs.declared.piece.Piece as rust
 
 -- pieces of what is given, which stands for something plain
-pub made_of : {G A : Type 0} (plain : G → A) (given : Option G) (make : A → List Piece) (known : Option A) (whole : List Piece) → option_map plain given ≡ known → whole ≡ pieces_for known make → pieces_for given (λ g. make (plain g)) ≡ whole
+made_of : {G A : Type 0} (plain : G → A) (given : Option G) (make : A → List Piece) (known : Option A) (whole : List Piece) → option_map plain given ≡ known → whole ≡ pieces_for known make → pieces_for given (λ g. make (plain g)) ≡ whole
 made_of plain None make known whole is made = ap (λ o. pieces_for o make) is ∙ sym made
 made_of plain (Some g) make known whole is made = ap (λ o. pieces_for o make) is ∙ sym made
 
@@ -62,10 +62,6 @@ values_given g = (view_expr g.0.now, (view_expr g.1.now, (tt, tt)))
 pub same_option : (o : Option ℕ) → option_map (λ s. s) o ≡ o
 same_option None = refl
 same_option (Some s) = refl
-
-pub erase_is : (tree : TypedTree) (routine : TypedRoutine) (args options : List TypedArg) → instruction_pieces tree routine instructions.TPErase args options ≡ []
-erase_is tree routine [] options = refl
-erase_is tree routine (a ∷ more) options = refl
 
 pub set_is : (tree : TypedTree) (routine : TypedRoutine) (args options : List TypedArg) → instruction_pieces tree routine instructions.Set args options ≡ pieces_for (one_of signal_in args) (λ s. Does (push 1) ∷ Does (ops.PutSignal s) ∷ [])
 set_is tree routine [] options = refl

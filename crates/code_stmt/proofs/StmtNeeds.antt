@@ -9,14 +9,8 @@ use Rattle.typed_trees.specs.Plain.{TypedArms, TypedCases, TypedElse, TypedExpr,
 use Rattle.code_stmt.specs.Parts.{arms_in, cases_in, else_in}
 
 module _ (tree : TypedTree) (routine : TypedRoutine) (s : TypedStmt) where
-  pub label_need : (at number : ℕ) → s ≡ trees.Label at number → stmt_need tree routine s ≡ 0
-  label_need at number is = subst (λ t. stmt_need tree routine t ≡ 0) (sym is) refl
-
   pub if_need : (at : ℕ) (arms : TypedArms) (other : TypedElse) → s ≡ trees.If at arms other → stmt_need tree routine s ≡ max (arms_need tree routine (arms_in s)) (else_need tree routine (else_in s))
   if_need at arms other is = subst (λ t. stmt_need tree routine t ≡ max (arms_need tree routine (arms_in t)) (else_need tree routine (else_in t))) (sym is) refl
-
-  pub if_one_need : (at : ℕ) (test : TypedExpr) (then : TypedStmt) → s ≡ trees.IfOne at test then → stmt_need tree routine s ≡ max (expr_need test) (stmt_need tree routine then)
-  if_one_need at test then is = subst (λ t. stmt_need tree routine t ≡ max (expr_need test) (stmt_need tree routine then)) (sym is) refl
 
   pub for_need : (at local : ℕ) (first last : TypedExpr) (step : Option TypedExpr) (list : TypedStmts) → s ≡ trees.For at local first last step list →
       stmt_need tree routine s ≡ max (pieces_need 0 (bounds_pieces (local_start routine local) first last step)) (stmts_need tree routine list)

@@ -1,4 +1,4 @@
-use Rattle.std.proofs.Common.{◌≡◌, ◌+◌, ◌++◌, ap, ◌∙◌, arith}
+use Rattle.std.proofs.Common.{◌≡◌, ◌++◌, ap, ◌∙◌, arith}
 use Rattle.stack_code.specs.Compiled.{part_labels, part_start}
 use Rattle.stack_code.specs.Sizes.{stmts_size}
 use Rattle.stack_code.specs.StmtLayouts.{stmts_labels}
