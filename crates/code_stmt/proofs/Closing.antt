@@ -1,5 +1,5 @@
 -- Runs of operations that are given to their statement.
-use Rattle.std.proofs.Common.{◌≡◌, ℕ, ◌+◌, ◌≤◌, List, [], ◌∷◌, ◌++◌, length, map, drop, refl, sym, ap, subst, ◌∙◌, arith}
+use Rattle.std.proofs.Common.{◌≡◌, ℕ, ◌+◌, ◌≤◌, List, [], ◌∷◌, ◌++◌, length, drop, refl, sym, ap, subst, ◌∙◌, arith}
 use Rattle.std.proofs.lemmas.List.{drop_at, drop-append-le, drop-map, length-drop, length-map, map-append}
 use Rattle.stack_code.specs.Placed.{Own, Placed}
 use Rattle.stack_code.specs.declared.op.Op.{Op}
@@ -45,19 +45,19 @@ closes own w v n code added rows =
       laid = λ ps.
           let all : owned own new ++ ps ≡ owned own old ++ code from ps = ap (λ (x : ℕ × List Placed). x.1) (added.laid ps) in
           three start
-            (ap (λ ops. ops ++ ops_of ps) (sym (ops_owned own new))
-            ∙ (sym (map-append (λ (p : Placed). p.op) (owned own new) ps)
-            ∙ (ap ops_of all
-            ∙ (map-append (λ (p : Placed). p.op) (owned own old) (code from ps)
-            ∙ ap (λ ops. ops ++ ops_of (code from ps)) (ops_owned own old)))))
-            (ap (λ longer. with_rows longer to ps) rows
-            ∙ (ap (λ end. with_rows (with_run w.owners.items from end own) end ps) past
-            ∙ (sym (run_is_rows w.owners.items from own (drop (length old) new) ps)
-            ∙ ap (with_rows w.owners.items from) (sym (put_behind own old new ps (code from ps) longer all)))));
+          (ap (λ ops. ops ++ ops_of ps) (sym (ops_owned own new))
+          ∙ (sym (map-append (λ (p : Placed). p.op) (owned own new) ps)
+          ∙ (ap ops_of all
+          ∙ (map-append (λ (p : Placed). p.op) (owned own old) (code from ps)
+          ∙ ap (λ ops. ops ++ ops_of (code from ps)) (ops_owned own old)))))
+          (ap (λ longer. with_rows longer to ps) rows
+          ∙ (ap (λ end. with_rows (with_run w.owners.items from end own) end ps) past
+          ∙ (sym (run_is_rows w.owners.items from own (drop (length old) new) ps)
+          ∙ ap (with_rows w.owners.items from) (sym (put_behind own old new ps (code from ps) longer all)))));
     }
 
 -- a run that is closed behind operations that were put behind others
 pub closed_run : (own : Own) (w v : Written) (between : Block) (n : ℕ) (code : Code) (first : ℕ) → Adds own w.code between n code → v.code ≡ between → v.owners.items ≡ with_run w.owners.items first (end_of between) own → first ≡ end_of w.code → Lays w v n code
 closed_run own w v between n code first added same rows place =
     closes own w v n code (subst (λ b. Adds own w.code b n code) (sym same) added)
-        (rows ∙ (ap (λ pc. with_run w.owners.items pc (end_of between) own) place ∙ ap (λ b. with_run w.owners.items (end_of w.code) (end_of b) own) (sym same)))
+    (rows ∙ (ap (λ pc. with_run w.owners.items pc (end_of between) own) place ∙ ap (λ b. with_run w.owners.items (end_of w.code) (end_of b) own) (sym same)))

@@ -1,7 +1,7 @@
 -- Lists whose statements are put behind what is written, one after the other.
-use Rattle.std.proofs.Common.{◌≡◌, ℕ, ◌+◌, List, refl, ap, ◌∙◌, arith}
+use Rattle.std.proofs.Common.{◌≡◌, ℕ, ◌+◌, List, ap, ◌∙◌, arith}
 use Rattle.stack_code.specs.ExprLayouts.{expr_code, put}
-use Rattle.stack_code.specs.Placed.{Own, Placed}
+use Rattle.stack_code.specs.Placed.{Own}
 use Rattle.stack_code.specs.Sizes.{arms_size, cases_size, expr_size, stmts_size, values_size}
 use Rattle.stack_code.specs.StmtLayouts.{arms_code, cases_code, stmts_code, values_code}
 use Rattle.stack_code.specs.declared.op.Op.TheVariants as ops
@@ -49,8 +49,8 @@ one_arm_more at labels own a b c d e f all rest test list behind left tested pla
     let after = pc + expr_size test + 1 + stmts_size tree routine list + 1 in
     let there : after ≡ behind = omega (arith, place, tested.grown) in
     left_step (arms_size tree routine rest) _ left (follows_then tested (follows_then jump (follows_then listed past))) (omega arith) (λ ps.
-        ap (λ to. expr_code tree routine own pc test (put own (ops.JumpFalse to) (stmts_code tree routine labels inside list (put own (ops.Jump own.next) (arms_code tree routine labels own after rest ps))))) there
-        ∙ ap (λ next. expr_code tree routine own pc test (put own (ops.JumpFalse behind) (stmts_code tree routine labels inside list (put own (ops.Jump own.next) (arms_code tree routine labels own next rest ps))))) (omega arith))
+    ap (λ to. expr_code tree routine own pc test (put own (ops.JumpFalse to) (stmts_code tree routine labels inside list (put own (ops.Jump own.next) (arms_code tree routine labels own after rest ps))))) there
+    ∙ ap (λ next. expr_code tree routine own pc test (put own (ops.JumpFalse behind) (stmts_code tree routine labels inside list (put own (ops.Jump own.next) (arms_code tree routine labels own next rest ps))))) (omega arith))
 
 -- values, which go on at the list, a jump behind that, what is tested is dropped, the list, and a jump behind the statement
 pub one_case_more : (at : Context) (labels : List ℕ) (own : Own) (a b c d e f g : Written) (all rest : TypedCases) (values : TypedExprs) (list : TypedStmts) (first behind : ℕ) →
@@ -72,6 +72,6 @@ one_case_more at labels own a b c d e f g all rest values list first behind left
     let here : pc + values_size values + 1 ≡ first = omega (arith, place) in
     let there : after ≡ behind = omega (arith, past, compared.grown) in
     left_step (cases_size tree routine rest) _ left (follows_then compared (follows_then jump (follows_then dropped (follows_then listed end)))) (omega arith) (λ ps.
-        ap (λ to. values_code tree routine own to pc values (put own (ops.Jump after) (put own ops.Drop (stmts_code tree routine labels inside list (put own (ops.Jump own.next) (cases_code tree routine labels own after rest ps)))))) here
-        ∙ (ap (λ to. values_code tree routine own first pc values (put own (ops.Jump to) (put own ops.Drop (stmts_code tree routine labels inside list (put own (ops.Jump own.next) (cases_code tree routine labels own after rest ps)))))) there
-        ∙ ap (λ next. values_code tree routine own first pc values (put own (ops.Jump behind) (put own ops.Drop (stmts_code tree routine labels inside list (put own (ops.Jump own.next) (cases_code tree routine labels own next rest ps)))))) (omega arith)))
+    ap (λ to. values_code tree routine own to pc values (put own (ops.Jump after) (put own ops.Drop (stmts_code tree routine labels inside list (put own (ops.Jump own.next) (cases_code tree routine labels own after rest ps)))))) here
+    ∙ (ap (λ to. values_code tree routine own first pc values (put own (ops.Jump to) (put own ops.Drop (stmts_code tree routine labels inside list (put own (ops.Jump own.next) (cases_code tree routine labels own after rest ps)))))) there
+    ∙ ap (λ next. values_code tree routine own first pc values (put own (ops.Jump behind) (put own ops.Drop (stmts_code tree routine labels inside list (put own (ops.Jump own.next) (cases_code tree routine labels own next rest ps)))))) (omega arith)))

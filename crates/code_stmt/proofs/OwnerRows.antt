@@ -16,7 +16,7 @@ own_same : (own : Own) → same_own own own ≡ true
 own_same own = rw (same_eqb own.retry, same_eqb own.next, same_eqb own.at.«module», same_eqb own.at.byte)
 
 -- of either branch, where it is taken
-either : {A : Type 0} (P : A → Type 0) (x y : A) (b : Bool) → (b ≡ true → P x) → (b ≡ false → P y) → P (if b then x else y)
+pub either : {A : Type 0} (P : A → Type 0) (x y : A) (b : Bool) → (b ≡ true → P x) → (b ≡ false → P y) → P (if b then x else y)
 either P x y true on off = on refl
 either P x y false on off = off refl
 
@@ -83,8 +83,8 @@ new_begins rows n x first past own at some read other = by (ended rows) at some 
 
 pub first_row : (rows : List Owner) (first past : ℕ) (own : Own) → length rows ≡ 0 → rows ++ owner_row first past own ∷ [] ≡ with_row rows first past own
 unfolding with_row
-first_row [] first past own none = refl
-first_row (row ∷ rows) first past own none = absurd (omega (arith, none))
+first_row [] first past own empty = refl
+first_row (row ∷ rows) first past own empty = absurd (omega (arith, empty))
 
 -- two runs of one owner are one
 merges : (rows : List Owner) (first middle past : ℕ) (own : Own) → with_row (with_row rows first middle own) middle past own ≡ with_row rows first past own
@@ -94,24 +94,19 @@ merges rows first middle past own = by (ended rows)
     fresh : with_row (owner_row first middle own ∷ []) middle past own ≡ owner_row first past own ∷ []
     fresh = grows (owner_row first middle own) middle past own (own_same own)
 
-    last : (row : Owner) → with_row (with_row (row ∷ []) first middle own) middle past own ≡ with_row (row ∷ []) first past own
-    last row = either (λ rows. with_row rows middle past own ≡ with_row (row ∷ []) first past own) (owner_row row.first middle (own_of row) ∷ []) (row ∷ owner_row first middle own ∷ []) (same_own own (own_of row))
-        (λ e. grows (owner_row row.first middle (own_of row)) middle past own e ∙ sym (grows row first past own e))
-        (λ e. row_behind (row ∷ []) (owner_row first middle own) middle past own ∙ (ap (λ rows. row ∷ rows) fresh ∙ sym (begins row first past own e)))
+    later : (front : List Owner) (row : Owner) → with_row (front ++ with_row (row ∷ []) first middle own) middle past own ≡ front ++ with_row (row ∷ []) first past own
+    later front row = either (λ rows. with_row (front ++ rows) middle past own ≡ front ++ with_row (row ∷ []) first past own) (owner_row row.first middle (own_of row) ∷ []) (row ∷ owner_row first middle own ∷ []) (same_own own (own_of row))
+        (λ e. row_behind front (owner_row row.first middle (own_of row)) middle past own ∙ ap (λ rows. front ++ rows) (grows (owner_row row.first middle (own_of row)) middle past own e ∙ sym (grows row first past own e)))
+        (λ e. ap (λ rows. with_row rows middle past own) (sym (append_assoc front (row ∷ []) (owner_row first middle own ∷ [])))
+        ∙ (row_behind (front ++ row ∷ []) (owner_row first middle own) middle past own
+        ∙ (append_assoc front (row ∷ []) (with_row (owner_row first middle own ∷ []) middle past own)
+        ∙ ap (λ rows. front ++ rows) (ap (λ rows. row ∷ rows) fresh ∙ sym (begins row first past own e)))))
 
     by : {rows : List Owner} → Ended rows → with_row (with_row rows first middle own) middle past own ≡ with_row rows first past own
     by none = fresh
     by (behind front row) =
         ap (λ rows. with_row rows middle past own) (row_behind front row first middle own)
         ∙ (later front row ∙ sym (row_behind front row first past own))
-
-    later : (front : List Owner) (row : Owner) → with_row (front ++ with_row (row ∷ []) first middle own) middle past own ≡ front ++ with_row (row ∷ []) first past own
-    later front row = either (λ rows. with_row (front ++ rows) middle past own ≡ front ++ with_row (row ∷ []) first past own) (owner_row row.first middle (own_of row) ∷ []) (row ∷ owner_row first middle own ∷ []) (same_own own (own_of row))
-        (λ e. row_behind front (owner_row row.first middle (own_of row)) middle past own ∙ ap (λ rows. front ++ rows) (grows (owner_row row.first middle (own_of row)) middle past own e ∙ sym (grows row first past own e)))
-        (λ e. ap (λ rows. with_row rows middle past own) (sym (append_assoc front (row ∷ []) (owner_row first middle own ∷ [])))
-            ∙ (row_behind (front ++ row ∷ []) (owner_row first middle own) middle past own
-            ∙ (append_assoc front (row ∷ []) (with_row (owner_row first middle own ∷ []) middle past own)
-            ∙ ap (λ rows. front ++ rows) (ap (λ rows. row ∷ rows) fresh ∙ sym (begins row first past own e)))))
 
 -- a run may have no operations
 no_run : (rows : List Owner) (first past : ℕ) (own : Own) → first ≡ past → with_run rows first past own ≡ rows
@@ -146,16 +141,16 @@ rows_append rows pc (x ∷ xs) ys = rows_append (with_row rows pc (pc + 1) x.own
 
 -- only the last row matters
 pub rows_behind : (front : List Owner) (row : Owner) (pc : ℕ) (ps : List Placed) → with_rows (front ++ row ∷ []) pc ps ≡ front ++ with_rows (row ∷ []) pc ps
-unfolding with_rows
+unfolding with_rows with_row
 rows_behind front row pc [] = refl
 rows_behind front row pc (p ∷ ps) =
     ap (λ rows. with_rows rows (pc + 1) ps) (row_behind front row pc (pc + 1) p.own)
     ∙ either (λ rows. with_rows (front ++ rows) (pc + 1) ps ≡ front ++ with_rows rows (pc + 1) ps) (owner_row row.first (pc + 1) (own_of row) ∷ []) (row ∷ owner_row pc (pc + 1) p.own ∷ []) (same_own p.own (own_of row))
-        (λ e. rows_behind front (owner_row row.first (pc + 1) (own_of row)) (pc + 1) ps)
-        (λ e. ap (λ rows. with_rows rows (pc + 1) ps) (sym (append_assoc front (row ∷ []) (owner_row pc (pc + 1) p.own ∷ [])))
-            ∙ (rows_behind (front ++ row ∷ []) (owner_row pc (pc + 1) p.own) (pc + 1) ps
-            ∙ (append_assoc front (row ∷ []) (with_rows (owner_row pc (pc + 1) p.own ∷ []) (pc + 1) ps)
-            ∙ ap (λ rows. front ++ rows) (sym (rows_behind (row ∷ []) (owner_row pc (pc + 1) p.own) (pc + 1) ps)))))
+    (λ e. rows_behind front (owner_row row.first (pc + 1) (own_of row)) (pc + 1) ps)
+    (λ e. ap (λ rows. with_rows rows (pc + 1) ps) (sym (append_assoc front (row ∷ []) (owner_row pc (pc + 1) p.own ∷ [])))
+    ∙ (rows_behind (front ++ row ∷ []) (owner_row pc (pc + 1) p.own) (pc + 1) ps
+    ∙ (append_assoc front (row ∷ []) (with_rows (owner_row pc (pc + 1) p.own ∷ []) (pc + 1) ps)
+    ∙ ap (λ rows. front ++ rows) (sym (rows_behind (row ∷ []) (owner_row pc (pc + 1) p.own) (pc + 1) ps)))))
 
 -- the rows of some operations are those that grow one by one
 rows_grow : (first past : ℕ) (own : Own) (ps : List Placed) → rows_from first past own ps ≡ with_rows (owner_row first past own ∷ []) past ps
@@ -163,10 +158,10 @@ unfolding rows_from with_rows
 rows_grow first past own [] = refl
 rows_grow first past own (p ∷ ps) =
     either (λ rows. rows ≡ with_rows (with_row (owner_row first past own ∷ []) past (past + 1) p.own) (past + 1) ps) (rows_from first (past + 1) own ps) (owner_row first past own ∷ rows_from past (past + 1) p.own ps) (same_own p.own own)
-        (λ e. rows_grow first (past + 1) own ps ∙ ap (λ rows. with_rows rows (past + 1) ps) (sym (grows (owner_row first past own) past (past + 1) p.own e)))
-        (λ e. ap (λ rows. owner_row first past own ∷ rows) (rows_grow past (past + 1) p.own ps)
-            ∙ (sym (rows_behind (owner_row first past own ∷ []) (owner_row past (past + 1) p.own) (past + 1) ps)
-            ∙ ap (λ rows. with_rows rows (past + 1) ps) (sym (begins (owner_row first past own) past (past + 1) p.own e))))
+    (λ e. rows_grow first (past + 1) own ps ∙ ap (λ rows. with_rows rows (past + 1) ps) (sym (grows (owner_row first past own) past (past + 1) p.own e)))
+    (λ e. ap (λ rows. owner_row first past own ∷ rows) (rows_grow past (past + 1) p.own ps)
+    ∙ (sym (rows_behind (owner_row first past own ∷ []) (owner_row past (past + 1) p.own) (past + 1) ps)
+    ∙ ap (λ rows. with_rows rows (past + 1) ps) (sym (begins (owner_row first past own) past (past + 1) p.own e))))
 
 pub all_rows : (ps : List Placed) → owner_rows ps ≡ with_rows [] 0 ps
 unfolding with_rows with_row

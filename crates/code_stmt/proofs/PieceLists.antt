@@ -1,11 +1,11 @@
 -- The pieces of a statement, put behind what is there one after the other.
 use Rattle.std.proofs.Common.{◌≡◌, ℕ, ◌+◌, max, List, [], ◌∷◌, refl, ap, subst, ◌∙◌, arith}
-use Rattle.stack_code.specs.ExprLayouts.{args_code, expr_code, place_code, put}
+use Rattle.stack_code.specs.ExprLayouts.{put}
 use Rattle.stack_code.specs.Needs.{pieces_need}
 use Rattle.stack_code.specs.Pieces.{Piece, OfExpr, OfPlace, OfArgs, Does, Waits, GoesTo, Chooses}
 use Rattle.stack_code.specs.Placed.{Own, Placed}
-use Rattle.stack_code.specs.Sizes.{args_size, expr_size, piece_size, pieces_size, place_size}
-use Rattle.stack_code.specs.StmtLayouts.{label_at, pieces_code}
+use Rattle.stack_code.specs.Sizes.{piece_size, pieces_size}
+use Rattle.stack_code.specs.StmtLayouts.{pieces_code}
 use Rattle.stack_code.specs.declared.op.Op.TheVariants as ops
 use Rattle.typed_trees.specs.Plain.{TypedRoutine, TypedTree}
 use Rattle.code_expr.specs.Follows.{Follows}
@@ -46,7 +46,7 @@ pub one_piece_more : {X : Type 0} {a b d : List Placed → X} {i j k : ℕ} (tre
 unfolding pieces_size
 one_piece_more {j = j} tree routine labels own all piece rest left added =
     left_step (pieces_size rest) (λ pc ps. pieces_code tree routine labels own pc rest ps) left added (omega arith) (λ ps.
-        first_code tree routine labels own j piece rest ps ∙ ap (λ pc. pieces_code tree routine labels own j (piece ∷ []) (pieces_code tree routine labels own pc rest ps)) (omega arith))
+    first_code tree routine labels own j piece rest ps ∙ ap (λ pc. pieces_code tree routine labels own j (piece ∷ []) (pieces_code tree routine labels own pc rest ps)) (omega arith))
 
 -- how many operands pieces need, with what the first of them does
 pub need_more : (most depth : ℕ) (piece : Piece) (rest : List Piece) → max most (pieces_need depth (piece ∷ rest)) ≡ max (max most (depth + piece_need piece)) (pieces_need (depth_behind piece depth) rest)

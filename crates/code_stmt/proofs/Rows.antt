@@ -1,5 +1,5 @@
 -- The rest of a list of children, from one on.
-use Rattle.std.proofs.Common.{◌≡◌, ℕ, ◌+◌, ◌<◌, ◌≤◌, List, ◌∷◌, length, get_or, map, drop, sym, ap, ◌∙◌}
+use Rattle.std.proofs.Common.{◌≡◌, ℕ, ◌+◌, ◌<◌, ◌≤◌, List, [], ◌∷◌, length, get_or, map, drop, sym, ap, ◌∙◌}
 use Rattle.std.proofs.lemmas.List.{at_drop_all, at_drop_more}
 use Rattle.std.specs.declared.alloc.Global.{Global}
 use Rattle.std.specs.declared.vec.Vec.{Vec}
@@ -7,6 +7,8 @@ use Rattle.typed_trees.specs.Plain.{TypedArms, TypedCases, TypedStmts, MoreArms,
 use Rattle.typed_trees.specs.Views.{view_arm, view_case, view_expr, view_list, view_stmt}
 use Rattle.typed_trees.specs.declared.expr.Expr.{Expr}
 use Rattle.typed_trees.specs.declared.stmt.Stmt.{Stmt}
+use Rattle.code_stmt.specs.Views.{view_piece, view_pieces}
+use Rattle.code_stmt.specs.declared.piece.Piece.{Piece}
 
 abbrev pub stmts_from : ℕ → List Stmt → TypedStmts
 stmts_from i list = stmts_of (map view_stmt (drop i list))
@@ -37,3 +39,9 @@ cases_more list i c lt is =
 
 pub cases_end : (list : List (Vec Expr Global × Vec Stmt Global)) (i : ℕ) → length list ≤ i → cases_from i list ≡ NoCases
 cases_end list i le = at_drop_all (λ left. cases_of (map view_case left)) list i le
+
+pub pieces_more : (list : List Piece) (i : ℕ) (p : Piece) → i < length list → p ≡ get_or list i p → view_pieces (drop i list) ≡ view_piece p ∷ view_pieces (drop (i + 1) list)
+pieces_more list i p lt is = at_drop_more view_pieces list i p lt ∙ ap (λ x. view_piece x ∷ view_pieces (drop (i + 1) list)) (sym is)
+
+pub pieces_end : (list : List Piece) (i : ℕ) → length list ≤ i → view_pieces (drop i list) ≡ []
+pieces_end list i le = at_drop_all view_pieces list i le

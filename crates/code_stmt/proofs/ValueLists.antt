@@ -1,9 +1,9 @@
 -- The values of a CASE, put behind a block one after the other.
-use Rattle.std.proofs.Common.{◌≡◌, ℕ, ◌+◌, List, ap, arith}
+use Rattle.std.proofs.Common.{ℕ, ◌+◌, ap, arith}
 use Rattle.raw_trees.specs.declared.raw_expr.Operator.TheVariants as operators
 use Rattle.stack_code.specs.ExprLayouts.{expr_code, put}
-use Rattle.stack_code.specs.Placed.{Own, Placed}
-use Rattle.stack_code.specs.Sizes.{expr_size, values_size}
+use Rattle.stack_code.specs.Placed.{Own}
+use Rattle.stack_code.specs.Sizes.{values_size}
 use Rattle.stack_code.specs.StmtLayouts.{values_code}
 use Rattle.stack_code.specs.declared.op.Op.TheVariants as ops
 use Rattle.typed_trees.specs.Plain.{TypedExpr, TypedExprs, MoreExprs}
@@ -26,4 +26,4 @@ pub one_value_more : (own : Own) (at : Context) (list : ℕ) (a b c d e f : Bloc
 unfolding values_size values_code
 one_value_more own at list a b c d e f all rest value left copied added compared jump =
     left_step (values_size rest) (λ pc ps. values_code (tree_of at) (routine_of at) own list pc rest ps) left (follows_then copied (follows_then added (follows_then compared jump))) (omega arith) (λ ps.
-        ap (λ pc. put own ops.Dup (expr_code (tree_of at) (routine_of at) own (end_of b + 1) value (put own (ops.Binary operators.Equal) (put own (ops.JumpTrue list) (values_code (tree_of at) (routine_of at) own list pc rest ps))))) (omega arith))
+    ap (λ pc. put own ops.Dup (expr_code (tree_of at) (routine_of at) own (end_of b + 1) value (put own (ops.Binary operators.Equal) (put own (ops.JumpTrue list) (values_code (tree_of at) (routine_of at) own list pc rest ps))))) (omega arith))

@@ -2,7 +2,7 @@
 use Rattle.std.specs.Prelude.{ℕ, ◌+◌, ◌-◌}
 use Rattle.stack_code.specs.Needs as needs
 use Rattle.stack_code.specs.Needs.{args_need, expr_need, place_need}
-use Rattle.stack_code.specs.Pieces.{Piece, OfExpr, OfPlace, OfArgs, Does, Waits, GoesTo, Chooses}
+use Rattle.stack_code.specs.Pieces.{Piece, OfExpr, OfPlace, OfArgs, Does, Waits}
 
 -- how many it needs, beside those that lie there
 abbrev pub piece_need : Piece → ℕ

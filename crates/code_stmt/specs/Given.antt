@@ -1,7 +1,7 @@
 -- What an instruction is given, by the forms of its arguments but the options.
 use Rattle.std.specs.Prelude.{ℕ, Bool, true, false, List, [], ◌∷◌, bytes_eq, Option, None, Some}
 use Rattle.stack_code.specs.Pieces.{Piece}
-use Rattle.typed_trees.specs.Plain.{TypedArg, TypedExpr, TypedPlace, Given, Lent, OfSignal, OfMeeting, Itself, Optional, Argument}
+use Rattle.typed_trees.specs.Plain.{TypedArg, TypedExpr, TypedPlace, Given, Lent, OfSignal, OfMeeting, Itself, Optional}
 
 abbrev pub is_option : TypedArg → Bool
 is_option (Optional name value) = true

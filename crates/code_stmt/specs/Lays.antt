@@ -1,6 +1,6 @@
 -- Operations and rows of owners, with those of statements put behind them.
-use Rattle.std.specs.Prelude.{ℕ, ◌+◌, List, map, ◌++◌}
-use Rattle.stack_code.specs.Compiled.{end_op, own_end, part_code, part_start, routine_size}
+use Rattle.std.specs.Prelude.{ℕ, ◌+◌, List, map, ◌++◌, Option}
+use Rattle.stack_code.specs.Compiled.{end_op, own_end, part_code, part_size, part_start, routine_size}
 use Rattle.stack_code.specs.ExprLayouts.{put}
 use Rattle.stack_code.specs.Placed.{Own, Placed}
 use Rattle.stack_code.specs.Sizes.{arms_size, cases_size, else_size, stmt_size, stmts_size}
@@ -46,12 +46,17 @@ abbrev pub LaysElse : Context → List ℕ → Written → Written → TypedElse
 LaysElse at labels old new other = Lays old new (else_size (tree_of at) (routine_of at) other)
     (λ pc ps. else_code (tree_of at) (routine_of at) labels pc other ps)
 
+-- the ERROR part of a routine, if it has one
+abbrev pub LaysPart : Context → List ℕ → Written → Written → Option TypedStmts → Type 0
+LaysPart at labels old new handler = Lays old new (part_size (tree_of at) (routine_of at) handler)
+    (λ pc ps. part_code (tree_of at) (routine_of at) labels pc handler ps)
+
 -- a routine: its list, its end, and its ERROR part, where its labels have these places
 abbrev pub LaysRoutine : Context → List ℕ → Written → Written → Type 0
 LaysRoutine at labels old new =
     let tree = tree_of at in
     let routine = routine_of at in
     Lays old new (routine_size tree routine) (λ pc ps.
-        stmts_code tree routine labels pc routine.list
-        (put (own_end routine (pc + stmts_size tree routine routine.list)) (end_op routine.kind)
-        (part_code tree routine labels (part_start tree routine pc) routine.handler ps)))
+    stmts_code tree routine labels pc routine.list
+    (put (own_end routine (pc + stmts_size tree routine routine.list)) (end_op routine.kind)
+    (part_code tree routine labels (part_start tree routine pc) routine.handler ps)))

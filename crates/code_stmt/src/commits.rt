@@ -12,8 +12,9 @@ pub(crate) fn last_row(alloc: Global, owners: &[Owner]) -> Result<Vec<Owner>, Al
     ensures { IfOk result (λ last. last.items ≡ last_of owners.now) }
 {
     let mut last = Vec::new(alloc);
-    if let Some(row) = owners.last() {
-        last.push(*row)?;
+    match owners.last() {
+        Some(row) => last.push(*row)?,
+        None => {}
     }
     Ok(last)
 }

@@ -40,8 +40,15 @@ pub(crate) fn behind_stmt(
             let first = sum(sum(sum(pc, 1)?, expr_size(test)?)?, 1)?;
             behind_stmt(context, then, first, labels)
         }
-        Form::For { local, bounds, list } => {
-            let turn = sum(sum(pc, 1)?, pieces_size(&bounds_pieces(context, *local, bounds)?)?)?;
+        Form::For {
+            local,
+            bounds,
+            list,
+        } => {
+            let turn = sum(
+                sum(pc, 1)?,
+                pieces_size(&bounds_pieces(context, *local, bounds)?)?,
+            )?;
             let end = behind_list(context, list, sum(turn, 2)?, labels)?;
             sum(end, 1)
         }

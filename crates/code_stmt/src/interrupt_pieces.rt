@@ -78,11 +78,7 @@ pub(crate) fn of_number<'a>(
     let Some(place) = place else {
         return Ok(Vec::new(alloc));
     };
-    let pieces = [
-        Piece::Place(place),
-        Piece::Does(Op::Load),
-        Piece::Does(op),
-    ];
+    let pieces = [Piece::Place(place), Piece::Does(Op::Load), Piece::Does(op)];
     Ok(Vec::from_array(alloc, pieces)?)
 }
 

@@ -26,16 +26,28 @@ pub(crate) fn meets<'a>(
     let Some((meeting, list)) = given else {
         return Ok(pieces);
     };
-    if list.index.is_none() {
-        add_tasks(context, list, &mut pieces)?;
-    }
+    add_tasks(context, list, &mut pieces)?;
     pieces.push(Piece::Does(Op::Arrive(context.meeting_number(meeting))))?;
     pieces.push(Piece::Waits)?;
     Ok(pieces)
 }
 
-/// The tasks that the elements of a list name, as a set.
+/// The tasks that a list names, as a set; a list is an array without an index.
 fn add_tasks<'a>(
+    context: &Context<'_>,
+    list: &'a TreePlace,
+    pieces: &mut Vec<Piece<'a>>,
+) -> Result<(), AllocError>
+    ensures { OnOk result ((more : List Pieces.Piece) → view_pieces pieces.new.items ++ more ≡ view_pieces pieces.old.items ++ Pieces.tasks_of (tree_of context.now) (routine_of context.now) (view_place list.now) more) }
+{
+    match &list.index {
+        None => add_elements(context, list, pieces),
+        Some(_) => Ok(()),
+    }
+}
+
+/// The tasks that all elements of the array of a place name, as a set.
+fn add_elements<'a>(
     context: &Context<'_>,
     list: &'a TreePlace,
     pieces: &mut Vec<Piece<'a>>,

@@ -24,7 +24,11 @@ fn stmt_need(context: &Context<'_>, stmt: &Stmt) -> Result<u32, AllocError>
         Form::Label(_) => Ok(0),
         Form::If { .. } => Ok(more(arms_need(context, stmt)?, else_need(context, stmt)?)),
         Form::IfOne { test, then } => Ok(more(expr_need(test)?, stmt_need(context, then)?)),
-        Form::For { local, bounds, list } => {
+        Form::For {
+            local,
+            bounds,
+            list,
+        } => {
             let before = pieces_need(&bounds_pieces(context, *local, bounds)?)?;
             Ok(more(before, list_need(context, list)?))
         }

@@ -104,7 +104,13 @@ pub(crate) fn add_simple(
 {
     let first = out.code.end()?;
     out.code.put(Op::Look)?;
-    add_pieces(context, labels, own, pieces_of(context, stmt)?, &mut out.code)?;
+    add_pieces(
+        context,
+        labels,
+        own,
+        pieces_of(context, stmt)?,
+        &mut out.code,
+    )?;
     out.close(first, own)
 }
 
@@ -125,5 +131,6 @@ pub(crate) fn add_bounds(
     let pieces = bounds_pieces(context, local, bounds)?;
     add_pieces(context, labels, own, pieces, &mut out.code)?;
     out.close(first, own)?;
-    out.code.end()
+    let turn = out.code.end()?;
+    Ok(turn)
 }

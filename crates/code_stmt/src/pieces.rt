@@ -27,7 +27,11 @@ pub(crate) fn pieces_of<'a>(
     let alloc = context.alloc();
     match &stmt.form {
         Form::Assign { place, value } => {
-            let pieces = [Piece::Place(place), Piece::Expr(value), Piece::Does(Op::Store)];
+            let pieces = [
+                Piece::Place(place),
+                Piece::Expr(value),
+                Piece::Does(Op::Store),
+            ];
             Ok(Vec::from_array(alloc, pieces)?)
         }
         Form::Instruct { instruction, args } => instruction_pieces(context, *instruction, args),

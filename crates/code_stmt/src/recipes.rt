@@ -47,10 +47,7 @@ pub(crate) fn sets<'a>(
     let Some(signal) = signal else {
         return Ok(Vec::new(alloc));
     };
-    let pieces = [
-        Piece::Does(push(value)),
-        Piece::Does(Op::PutSignal(signal)),
-    ];
+    let pieces = [Piece::Does(push(value)), Piece::Does(Op::PutSignal(signal))];
     Ok(Vec::from_array(alloc, pieces)?)
 }
 
@@ -124,11 +121,7 @@ pub(crate) fn waits_to_set<'a>(
     let Some(place) = place else {
         return Ok(Vec::new(alloc));
     };
-    let pieces = [
-        Piece::Place(place),
-        Piece::Does(Op::TestSet),
-        Piece::Waits,
-    ];
+    let pieces = [Piece::Place(place), Piece::Does(Op::TestSet), Piece::Waits];
     Ok(Vec::from_array(alloc, pieces)?)
 }
 

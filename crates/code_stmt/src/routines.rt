@@ -1,14 +1,14 @@
 //! The operations of a routine: its list, its end, and its ERROR part with an end of its own. Each error says that memory was
 //! refused, or that there are 2^32 operations or more.
 
-ghost use Rattle.std.specs.Prelude.{◌≡◌, ◌+◌, max, option_map, IfOk, OnOk};
+ghost use Rattle.std.specs.Prelude.{◌≡◌, ◌+◌, ◌++◌, max, option_map, IfOk, OnOk};
 ghost use Rattle.stack_code.specs.Compiled;
 ghost use Rattle.stack_code.specs.ExprLayouts.{put};
 ghost use Rattle.stack_code.specs.Needs;
 ghost use Rattle.stack_code.specs.Sizes.{stmts_size};
 ghost use Rattle.code_expr.specs.Adds.{end_of};
 ghost use Rattle.code_expr.specs.Contexts.{routine_of, tree_of};
-ghost use Rattle.code_stmt.specs.Lays.{Lays, LaysRoutine};
+ghost use Rattle.code_stmt.specs.Lays.{Lays, LaysPart, LaysRoutine};
 
 use crate::ends::behind_list;
 use crate::needs::list_need;
@@ -37,10 +37,25 @@ pub(crate) fn places_of(context: &Context<'_>, pc: u32) -> Result<RoutinePlaces,
     let mut labels = Vec::new(context.alloc());
     let end = behind_list(context, &routine.list, pc, &mut labels)?;
     let part = sum(end, 1)?;
-    if let Some(list) = &routine.handler {
-        let _past = behind_list(context, list, part, &mut labels)?;
-    }
+    find_part_labels(context, part, &mut labels)?;
     Ok(RoutinePlaces { labels, part })
+}
+
+/// Puts the places of the labels of a routine's ERROR part behind others, if it has one, which would begin here.
+fn find_part_labels(
+    context: &Context<'_>,
+    part: u32,
+    labels: &mut Vec<u32>,
+) -> Result<(), AllocError>
+    ensures { OnOk result (labels.new.items ≡ labels.old.items ++ Compiled.part_labels (tree_of context.now) (routine_of context.now) part (routine_of context.now).handler) }
+{
+    match &context.routine().handler {
+        None => Ok(()),
+        Some(list) => {
+            let _past = behind_list(context, list, part, labels)?;
+            Ok(())
+        }
+    }
 }
 
 /// The operations of a routine whose labels have these places.
@@ -54,7 +69,14 @@ pub(crate) fn add_routine(
     let routine = context.routine();
     add_list(context, labels, &routine.list, out)?;
     add_end(context, end_op(routine.kind), out)?;
-    match &routine.handler {
+    add_part(context, labels, out)
+}
+
+/// The operations of a routine's ERROR part, if it has one: its end raises its error in the caller (RAPID Kernel, error recovery).
+fn add_part(context: &Context<'_>, labels: &[u32], out: &mut Written) -> Result<(), AllocError>
+    ensures { OnOk result (LaysPart context.now labels.now out.old out.new (routine_of context.now).handler) }
+{
+    match &context.routine().handler {
         None => Ok(()),
         Some(list) => {
             add_list(context, labels, list, out)?;

@@ -2,9 +2,12 @@
 //! Look and an empty stack. Each error says that memory was refused, or that there are 2^32 operations or more; what is behind
 //! then is of no use.
 
-ghost use Rattle.std.specs.Prelude.{OnOk};
-ghost use Rattle.typed_trees.specs.Plain.{stmts_of};
-ghost use Rattle.typed_trees.specs.Views.{view_list, view_stmt};
+ghost use Rattle.std.specs.Prelude.{◌≡◌, ◌+◌, map, IfOk, OnOk};
+ghost use Rattle.stack_code.specs.Sizes.{stmts_size, values_size};
+ghost use Rattle.typed_trees.specs.Plain.{exprs_of, stmts_of};
+ghost use Rattle.typed_trees.specs.Views.{view_expr, view_list, view_stmt};
+ghost use Rattle.code_expr.specs.Adds.{end_of};
+ghost use Rattle.code_expr.specs.Contexts.{routine_of, tree_of};
 ghost use Rattle.code_stmt.specs.Lays.{LaysArms, LaysCases, LaysElse, LaysList, LaysStmt};
 ghost use Rattle.code_stmt.specs.Parts.{arms_in, cases_in, else_in};
 ghost use Rattle.code_stmt.specs.Views.{view_own};
@@ -17,7 +20,7 @@ use crate::written::Written;
 use code_expr::{Context, sum};
 use stack_code::Op;
 use std::alloc::AllocError;
-use typed_trees::{Form, Stmt};
+use typed_trees::{Expr, Form, Stmt};
 
 /// A statement, which owns its operations but for those of the lists within it (RAPID Kernel, statements).
 #[cycle(statements)]
@@ -43,7 +46,11 @@ pub(crate) fn add_stmt(
             add_op(Op::JumpFalse(own.next), &own, out)?;
             add_stmt(context, labels, then, out)
         }
-        Form::For { local, bounds, list } => {
+        Form::For {
+            local,
+            bounds,
+            list,
+        } => {
             let variable = context.local_start(*local);
             let turn = add_bounds(context, labels, *local, bounds, &own, out)?;
             add_op(Op::Turn(variable, own.next), &own, out)?;
@@ -102,8 +109,7 @@ fn add_arms(
     };
     for (test, list) in arms {
         add_value(context, test, own, out)?;
-        let behind = out.code.behind(sum(list_size(context, list)?, 2)?)?;
-        add_op(Op::JumpFalse(behind), own, out)?;
+        add_op(Op::JumpFalse(behind_arm(context, list, out)?), own, out)?;
         add_list(context, labels, list, out)?;
         add_op(Op::Jump(own.next), own, out)?;
     }
@@ -125,15 +131,34 @@ fn add_cases(
         return Ok(());
     };
     for (values, list) in cases {
-        let first = out.code.behind(sum(values_size(values)?, 1)?)?;
-        add_values_of(context, values, first, own, out)?;
-        let behind = out.code.behind(sum(list_size(context, list)?, 3)?)?;
-        add_op(Op::Jump(behind), own, out)?;
+        add_values_of(context, values, case_list(values, out)?, own, out)?;
+        add_op(Op::Jump(behind_case(context, list, out)?), own, out)?;
         add_op(Op::Drop, own, out)?;
         add_list(context, labels, list, out)?;
         add_op(Op::Jump(own.next), own, out)?;
     }
     Ok(())
+}
+
+/// The place behind IF or ELSEIF whose condition is there: behind a jump, its list, and a jump.
+fn behind_arm(context: &Context<'_>, list: &Vec<Stmt>, out: &Written) -> Result<u32, AllocError>
+    ensures { IfOk result (λ place. place ≡ end_of out.now.code + (stmts_size (tree_of context.now) (routine_of context.now) (stmts_of (view_list list.now)) + 2)) }
+{
+    out.code.behind(sum(list_size(context, list)?, 2)?)
+}
+
+/// The place at which what is tested is dropped before the list of a CASE: behind its values, and a jump.
+fn case_list(values: &Vec<Expr>, out: &Written) -> Result<u32, AllocError>
+    ensures { IfOk result (λ place. place ≡ end_of out.now.code + (values_size (exprs_of (map view_expr values.now.items)) + 1)) }
+{
+    out.code.behind(sum(values_size(values)?, 1)?)
+}
+
+/// The place behind a CASE whose values are there: behind a jump, a Drop, its list, and a jump.
+fn behind_case(context: &Context<'_>, list: &Vec<Stmt>, out: &Written) -> Result<u32, AllocError>
+    ensures { IfOk result (λ place. place ≡ end_of out.now.code + (stmts_size (tree_of context.now) (routine_of context.now) (stmts_of (view_list list.now)) + 3)) }
+{
+    out.code.behind(sum(list_size(context, list)?, 3)?)
 }
 
 /// The list of ELSE or DEFAULT of a statement, where there is one.

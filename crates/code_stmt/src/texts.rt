@@ -43,7 +43,11 @@ fn tail<'a>(alloc: Global, options: &[&'a Arg]) -> Result<Vec<Piece<'a>>, AllocE
 fn tail_of<'a>(alloc: Global, option: &'a Arg) -> Result<Vec<Piece<'a>>, AllocError>
     ensures { IfOk result (λ v. view_pieces v.items ≡ said (view_arg option.now ∷ [])) }
 {
-    let Arg::Option { name, value: Some(given) } = option else {
+    let Arg::Option {
+        name,
+        value: Some(given),
+    } = option
+    else {
         return Ok(Vec::new(alloc));
     };
     let Arg::Value(value) = &**given else {
