@@ -1,5 +1,5 @@
 -- Persistents as they are made of declarations so far: their numbers, and what is known of each.
-use Rattle.std.proofs.Common.{◌≡◌, ℕ, Bool, true, false, ◌&&◌, List, [], ◌∷◌, length, replicate, Option, Some, None, is_none, slice_get, if◌then◌else◌, refl, ap, sym, ◌∙◌, arith, inl, inr}
+use Rattle.std.proofs.Common.{◌≡◌, ℕ, Bool, true, false, ◌&&◌, List, length, replicate, Option, Some, None, is_none, slice_get, if◌then◌else◌, refl, ap, sym, ◌∙◌, inl, inr}
 use Rattle.std.specs.Str.{str_eq_ignore_ascii_case, str_to_ascii_lowercase}
 use Rattle.std.proofs.lemmas.Bool.{and_parts, cases_order}
 use Rattle.std.proofs.lemmas.Slice.Eq.{bytes_eq-Decides}

@@ -82,7 +82,7 @@ pub static NOT_CONST: [Row; 18] = [
 ];
 
 /// ConstFault: a value whose evaluation faults or raises an error.
-pub static CONST_FAULT: [Row; 16] = [
+pub static CONST_FAULT: [Row; 17] = [
     (b"VAR num x := ^1 / 0;", b""),
     (b"VAR num x := ^1 DIV 0;", b""),
     (b"PERS num x := ^2 + 1 / (1 - 1);", b""),
@@ -107,6 +107,10 @@ pub static CONST_FAULT: [Row; 16] = [
     ),
     (b"VAR bool b := ^FALSE OR 1 / 0 = 1;", b""),
     (b"VAR bool b := ^TRUE XOR 1 / 0 = 1;", b""),
+    (
+        b"CONST bool c := ^(NOT FALSE AND FALSE) AND 1 / 0 = 1;",
+        b"",
+    ),
     (b"", b"VAR num x := ^5 / 0;"),
 ];
 

@@ -109,7 +109,7 @@ pub static PHASES: [Ruled; 25] = [
 ];
 
 /// Within a declaration: the type, the name, the length, the value.
-pub static DECLARATIONS: [Ruled; 29] = [
+pub static DECLARATIONS: [Ruled; 30] = [
     (b"VAR ^foo Abs;", b"", TypeRule::NoName),
     (b"VAR num ^Abs; VAR foo x;", b"", TypeRule::NameTaken),
     (b"PERS ^shapedata di1;", b"", TypeRule::PersKind),
@@ -148,6 +148,11 @@ pub static DECLARATIONS: [Ruled; 29] = [
         TypeRule::NotConst,
     ),
     (b"VAR num x := 1 / 0 + ^y;", b"", TypeRule::NoName),
+    (
+        b"VAR num y; CONST robjoint r := ^[y];",
+        b"",
+        TypeRule::DimRange,
+    ),
     (b"VAR num y; VAR num x{2} := ^[y];", b"", TypeRule::NotConst),
     (b"VAR num x{3} := ^[1 / 0];", b"", TypeRule::ConstFault),
     (b"VAR num x{3} := ^[1 * 0];", b"", TypeRule::DimRange),
@@ -258,7 +263,9 @@ pub static NAMES_FIRST: [Ruled; 24] = [
 ];
 
 /// Arguments from left to right, then ArgCount, then a missing option, then NoArm.
-pub static ARGUMENTS: [Ruled; 42] = [
+pub static ARGUMENTS: [Ruled; 44] = [
+    (b"", b"IF ^Abs() THEN ENDIF", TypeRule::TypeClash),
+    (b"", b"Incr ^Abs();", TypeRule::BadRef),
     (b"", b"SetDO ^main, \"a\";", TypeRule::NotThis),
     (
         b"PROC p(num x, num y) ENDPROC",

@@ -1,0 +1,52 @@
+ghost use Rattle.std.specs.Prelude.{◌≡◌, IfOk};
+ghost use Rattle.code_liveness.specs.Asking.{AsksAs};
+ghost use Rattle.code_liveness.specs.Checked.{IsChecked};
+ghost use Rattle.live_code.specs.Live.{IsLive};
+ghost use Rattle.stack_code.specs.Compiled.{compiled};
+ghost use Rattle.typed_trees.specs.Views.{view_tree};
+
+use code_link::{LinkedCode, link_routines};
+use live_code::Code;
+use rapid_num::Memory;
+use std::alloc::Global;
+use typed_trees::Tree;
+
+/// The code of a checked task, which asks what the task's tree asks. Its error says that memory was refused, or that the code
+/// would have 2^32 operations or more, or as many first values.
+pub fn compile(alloc: Global, tree: &Tree) -> Result<Code, Memory>
+    requires { IsChecked (view_tree tree.now) }
+    ensures code { IfOk result (λ code. code ≡ compiled (view_tree tree.now)) }
+    ensures asks { IfOk result (λ code. AsksAs (view_tree tree.now) code) }
+{
+    let linked = link_routines(alloc, tree)?;
+    Ok(live(linked))
+}
+
+/// Code that is live.
+fn live(linked: LinkedCode) -> Code
+    requires { IsLive linked }
+    ensures { result ≡ linked }
+{
+    let LinkedCode {
+        ops,
+        routines,
+        marks,
+        slots,
+        firsts,
+        tasks,
+        sorts,
+        deepest,
+        main,
+    } = linked;
+    Code {
+        ops,
+        routines,
+        marks,
+        slots,
+        firsts,
+        tasks,
+        sorts,
+        deepest,
+        main,
+    }
+}

@@ -1,0 +1,13 @@
+//! The code of a task, linked of its routines.
+#![tactic(auto)]
+
+mod data;
+mod firsts;
+mod link;
+mod linked;
+mod linked_code;
+mod routines;
+mod rows;
+
+pub use link::link_routines;
+pub use linked_code::LinkedCode;

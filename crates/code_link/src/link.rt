@@ -1,0 +1,42 @@
+ghost use Rattle.std.specs.Prelude.{◌≡◌, IfOk};
+ghost use Rattle.stack_code.specs.Compiled.{compiled};
+ghost use Rattle.typed_trees.specs.Views.{view_tree};
+
+use crate::data::{slots_of, sorts_of, tasks_of};
+use crate::linked_code::LinkedCode;
+use crate::routines::routines_of;
+use rapid_num::Memory;
+use std::alloc::{AllocError, Global};
+use typed_trees::Tree;
+
+/// The code of a task, whose tree was checked and whose `pers_of` and `meeting_of` are filled. Its error says that memory was
+/// refused, or that the code would have 2^32 operations or more, or as many first values.
+pub fn link_routines(alloc: Global, tree: &Tree) -> Result<LinkedCode, Memory>
+    ensures { IfOk result (λ code. code ≡ compiled (view_tree tree.now)) }
+{
+    match code_of(alloc, tree) {
+        Ok(code) => Ok(code),
+        Err(_) => Err(Memory),
+    }
+}
+
+/// The same, with the error of what it calls.
+fn code_of(alloc: Global, tree: &Tree) -> Result<LinkedCode, AllocError>
+    ensures { IfOk result (λ code. code ≡ compiled (view_tree tree.now)) }
+{
+    let linked = routines_of(alloc, tree)?;
+    let slots = slots_of(alloc, tree)?;
+    let tasks = tasks_of(alloc, tree)?;
+    let sorts = sorts_of(alloc, tree)?;
+    Ok(LinkedCode {
+        ops: linked.ops,
+        routines: linked.rows,
+        marks: linked.marks,
+        slots,
+        firsts: linked.firsts,
+        tasks,
+        sorts,
+        deepest: linked.deepest,
+        main: tree.main,
+    })
+}

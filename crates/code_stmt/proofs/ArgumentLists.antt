@@ -1,0 +1,32 @@
+-- Arguments, parted one after the other.
+use Rattle.std.proofs.Common.{◌≡◌, ℕ, ◌||◌, true, false, List, [], ◌∷◌, ◌++◌, refl, sym, ap, ◌∙◌}
+use Rattle.std.proofs.lemmas.List.{append_assoc}
+use Rattle.rapid_meaning.specs.Instructions.{has, needed, options}
+use Rattle.typed_trees.specs.Plain.{TypedArg, TypedArgs, MoreArgs, Optional}
+use Rattle.code_stmt.specs.Given.{is_named, is_option}
+
+pub option_needed : (arg : TypedArg) (more : TypedArgs) → is_option arg ≡ true → needed (MoreArgs arg more) ≡ needed more
+option_needed (Optional name value) more is = refl
+option_needed arg more is = absurd cc
+
+pub option_kept : (arg : TypedArg) (more : TypedArgs) → is_option arg ≡ true → options (MoreArgs arg more) ≡ arg ∷ options more
+option_kept (Optional name value) more is = refl
+option_kept arg more is = absurd cc
+
+pub other_needed : (arg : TypedArg) (more : TypedArgs) → is_option arg ≡ false → needed (MoreArgs arg more) ≡ arg ∷ needed more
+other_needed (Optional name value) more is = absurd cc
+other_needed arg more is = refl
+
+pub other_kept : (arg : TypedArg) (more : TypedArgs) → is_option arg ≡ false → options (MoreArgs arg more) ≡ options more
+other_kept (Optional name value) more is = absurd cc
+other_kept arg more is = refl
+
+-- the first of those that are left is put behind those that are there
+pub one_further : (done : List TypedArg) (arg : TypedArg) (left rest whole : List TypedArg) → done ++ left ≡ whole → left ≡ arg ∷ rest → (done ++ arg ∷ []) ++ rest ≡ whole
+one_further done arg left rest whole is first = append_assoc done (arg ∷ []) rest ∙ (ap (λ xs. done ++ xs) (sym first) ∙ is)
+
+-- an option more
+pub has_more : (name : List ℕ) (arg : TypedArg) (more : List TypedArg) → has name (arg ∷ more) ≡ (is_named name arg || has name more)
+unfolding has
+has_more name (Optional other value) more = refl
+has_more name arg more = refl

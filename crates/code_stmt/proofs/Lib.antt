@@ -1,0 +1,17 @@
+pub mod ArgumentLists
+pub mod Closing
+pub mod Forms
+pub mod GivenForms
+pub mod InstructionForms
+pub mod Labels
+pub mod Layouts
+pub mod Lists
+pub mod MarkedCode
+pub mod OwnerRows
+pub mod PieceLists
+pub mod RoutineParts
+pub mod Rows
+pub mod Simple
+pub mod StmtNeeds
+pub mod TaskSets
+pub mod ValueLists

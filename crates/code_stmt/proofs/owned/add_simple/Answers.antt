@@ -1,0 +1,13 @@
+use Rattle.std.proofs.lemmas.Result.{on_ok_weaker}
+use Rattle.code_expr.specs.Contexts.{routine_of, tree_of}
+use Rattle.code_expr.proofs.Follow.{follows_then}
+use Rattle.code_stmt.specs.Views.{view_own}
+use Rattle.code_stmt.proofs.Closing.{closed_run}
+use Rattle.code_stmt.proofs.PieceLists.{pieces_laid}
+use Rattle.code_stmt.proofs.owned.add_simple.Goals as goal
+
+pub returns : goal.returns
+returns c =
+    let own = view_own c.args.own.now in
+    let pieces = pieces_laid (tree_of c.args.context.now) (routine_of c.args.context.now) c.args.labels.now own _ _ c.in_ok-pieces_of.ensures c.in_ok-add_pieces.ensures in
+    on_ok_weaker c.close.result (λ rows. closed_run own c.args.out.now c.close.new.self c.add_pieces.new.code _ _ c.in_ok-first.first (follows_then (c.in_ok-put.ensures own) pieces) c.close.ensures.code rows c.in_ok-first.ensures) c.close.ensures.owners

@@ -1,0 +1,18 @@
+use Rattle.std.proofs.Common.{ap, subst, ◌∙◌, arith}
+use Rattle.std.proofs.lemmas.Result.{on_ok_weaker}
+use Rattle.stack_code.specs.Compiled.{end_op, own_end}
+use Rattle.stack_code.specs.ExprLayouts.{put}
+use Rattle.typed_trees.specs.Plain.{TypedRoutine}
+use Rattle.code_expr.specs.Contexts.{routine_of}
+use Rattle.code_expr.proofs.Follow.{follows_sized, follows_then}
+use Rattle.code_stmt.specs.Lays.{Lays, LaysList}
+use Rattle.code_stmt.proofs.RoutineParts.{list_in}
+use Rattle.code_stmt.proofs.routines.add_routine.Goals as goal
+
+pub returns : goal.returns
+returns c =
+    let at = c.args.context.now in
+    let op = c.end_op.ensures ∙ ap (λ (r : TypedRoutine). end_op r.kind) c.routine-routine.ensures in
+    let listed = subst (λ list. LaysList at c.args.labels.now c.args.out.now c.add_list.new.out list) (list_in at c.routine-routine.result.now c.routine-routine.ensures) c.in_ok-add_list.ensures in
+    let ended = subst (λ o. Lays c.add_list.new.out c.add_end.new.out 1 (λ pc ps. put (own_end (routine_of at) pc) o ps)) op c.in_ok-add_end.ensures in
+    on_ok_weaker c.add_part.result (λ part. follows_sized _ (follows_then listed (follows_then ended part)) (omega arith)) c.add_part.ensures

@@ -1,0 +1,136 @@
+//! Operations of one statement, put behind what is written, with the row of their owner. Each error says that memory was refused,
+//! or that there are 2^32 operations or more; what is behind then is of no use.
+
+ghost use Rattle.std.specs.Prelude.{◌≡◌, ◌+◌, IfOk, OnOk, map, option_map};
+ghost use Rattle.rapid_meaning.specs.Layouts.{local_start};
+ghost use Rattle.stack_code.specs.ExprLayouts.{expr_code, put};
+ghost use Rattle.stack_code.specs.Pieces;
+ghost use Rattle.stack_code.specs.Sizes;
+ghost use Rattle.stack_code.specs.StmtLayouts;
+ghost use Rattle.stack_code.specs.StmtLayouts.{pieces_code, values_code};
+ghost use Rattle.stack_code.specs.declared.op.Op.TheVariants as ops;
+ghost use Rattle.typed_trees.specs.Plain.{exprs_of};
+ghost use Rattle.typed_trees.specs.Views.{view_expr, view_stmt};
+ghost use Rattle.code_expr.specs.Adds.{end_of};
+ghost use Rattle.code_expr.specs.Contexts.{routine_of, tree_of};
+ghost use Rattle.code_stmt.specs.Lays.{Lays};
+ghost use Rattle.code_stmt.specs.Views.{view_own};
+
+use crate::ends::behind_stmt;
+use crate::own::Own;
+use crate::piece_code::add_pieces;
+use crate::pieces::{bounds_pieces, pieces_of};
+use crate::values::add_values;
+use crate::written::Written;
+use code_expr::{Context, add_expr};
+use stack_code::{At, Op};
+use std::alloc::AllocError;
+use typed_trees::{Bounds, Expr, Stmt};
+
+/// Whose the operations of a statement are that begins at a place.
+pub(crate) fn own_of(context: &Context<'_>, stmt: &Stmt, pc: u32) -> Result<Own, AllocError>
+    ensures { IfOk result (λ own. view_own own ≡ StmtLayouts.own_of (tree_of context.now) (routine_of context.now) pc (view_stmt stmt.now)) }
+{
+    let next = behind_stmt(context, stmt, pc, &mut Vec::new(context.alloc()))?;
+    let at = at_byte(context, stmt.at)?;
+    Ok(Own {
+        retry: pc,
+        next,
+        at,
+    })
+}
+
+/// A place of the routine's module.
+pub(crate) fn at_byte(context: &Context<'_>, byte: usize) -> Result<At, AllocError>
+    ensures module { IfOk result (λ at. at.«module» ≡ (routine_of context.now).«module») }
+    ensures byte { IfOk result (λ at. at.byte ≡ byte) }
+{
+    match u32::try_from(byte) {
+        Ok(byte) => Ok(At {
+            module: context.module(),
+            byte,
+        }),
+        Err(_) => Err(AllocError),
+    }
+}
+
+/// An operation of a statement.
+pub(crate) fn add_op(op: Op, own: &Own, out: &mut Written) -> Result<(), AllocError>
+    ensures { OnOk result (Lays out.old out.new 1 (λ pc ps. put (view_own own.now) op ps)) }
+{
+    let first = out.code.end()?;
+    out.code.put(op)?;
+    out.close(first, own)
+}
+
+/// An expression of a statement.
+pub(crate) fn add_value(
+    context: &Context<'_>,
+    expr: &Expr,
+    own: &Own,
+    out: &mut Written,
+) -> Result<(), AllocError>
+    ensures { OnOk result (Lays out.old out.new (Sizes.expr_size (view_expr expr.now)) (λ pc ps. expr_code (tree_of context.now) (routine_of context.now) (view_own own.now) pc (view_expr expr.now) ps)) }
+{
+    let first = out.code.end()?;
+    add_expr(context, expr, &mut out.code)?;
+    out.close(first, own)
+}
+
+/// The values of a CASE, which go on at the list where one is equal to what is tested.
+pub(crate) fn add_values_of(
+    context: &Context<'_>,
+    values: &Vec<Expr>,
+    list: u32,
+    own: &Own,
+    out: &mut Written,
+) -> Result<(), AllocError>
+    ensures { OnOk result (Lays out.old out.new (Sizes.values_size (exprs_of (map view_expr values.now.items))) (λ pc ps. values_code (tree_of context.now) (routine_of context.now) (view_own own.now) list pc (exprs_of (map view_expr values.now.items)) ps)) }
+{
+    let first = out.code.end()?;
+    add_values(context, values, list, &mut out.code)?;
+    out.close(first, own)
+}
+
+/// A statement that has no list, nor is a label.
+pub(crate) fn add_simple(
+    context: &Context<'_>,
+    labels: &[u32],
+    stmt: &Stmt,
+    own: &Own,
+    out: &mut Written,
+) -> Result<(), AllocError>
+    ensures { OnOk result (let tree = tree_of context.now in let routine = routine_of context.now in let pieces = Pieces.pieces tree routine (view_stmt stmt.now) in Lays out.old out.new (1 + Sizes.pieces_size pieces) (λ pc ps. put (view_own own.now) ops.Look (pieces_code tree routine labels.now (view_own own.now) (pc + 1) pieces ps))) }
+{
+    let first = out.code.end()?;
+    out.code.put(Op::Look)?;
+    add_pieces(
+        context,
+        labels,
+        own,
+        pieces_of(context, stmt)?,
+        &mut out.code,
+    )?;
+    out.close(first, own)
+}
+
+/// A FOR before its Turn, and the place of that.
+pub(crate) fn add_bounds(
+    context: &Context<'_>,
+    labels: &[u32],
+    local: u32,
+    bounds: &Bounds,
+    own: &Own,
+    out: &mut Written,
+) -> Result<u32, AllocError>
+    ensures laid { OnOk result (let tree = tree_of context.now in let routine = routine_of context.now in let b = bounds.now in let pieces = Pieces.bounds_pieces (local_start routine local) (view_expr b.first) (view_expr b.last) (option_map view_expr b.step) in Lays out.old out.new (1 + Sizes.pieces_size pieces) (λ pc ps. put (view_own own.now) ops.Look (pieces_code tree routine labels.now (view_own own.now) (pc + 1) pieces ps))) }
+    ensures turn { IfOk result (λ turn. turn ≡ end_of out.new.code) }
+{
+    let first = out.code.end()?;
+    out.code.put(Op::Look)?;
+    let pieces = bounds_pieces(context, local, bounds)?;
+    add_pieces(context, labels, own, pieces, &mut out.code)?;
+    out.close(first, own)?;
+    let turn = out.code.end()?;
+    Ok(turn)
+}

@@ -1,0 +1,19 @@
+use stack_code::Op;
+use typed_trees::{Arg, Expr, TreePlace};
+
+/// A part of a statement that has no list of its own, behind its Look.
+#[derive(Drop)]
+pub(crate) enum Piece<'a> {
+    Expr(&'a Expr),
+    Place(&'a TreePlace),
+    Args(&'a Vec<Arg>),
+    /// An element of the array of a place, by its number from 1.
+    Element(&'a TreePlace, u16),
+    Does(Op),
+    /// A wait that goes back to the statement's Look.
+    Waits,
+    /// A jump to a label, by its number.
+    GoesTo(u32),
+    /// Pops a bool, and pushes -1 where it is TRUE, else 1.
+    Chooses,
+}

@@ -1,0 +1,185 @@
+//! The operations of statements and lists, put behind what is written, with the rows of their owners. Each statement begins with its
+//! Look and an empty stack. Each error says that memory was refused, or that there are 2^32 operations or more; what is behind
+//! then is of no use.
+
+ghost use Rattle.std.specs.Prelude.{◌≡◌, ◌+◌, map, IfOk, OnOk};
+ghost use Rattle.stack_code.specs.Sizes.{stmts_size, values_size};
+ghost use Rattle.typed_trees.specs.Plain.{exprs_of, stmts_of};
+ghost use Rattle.typed_trees.specs.Views.{view_expr, view_list, view_stmt};
+ghost use Rattle.code_expr.specs.Adds.{end_of};
+ghost use Rattle.code_expr.specs.Contexts.{routine_of, tree_of};
+ghost use Rattle.code_stmt.specs.Lays.{LaysArms, LaysCases, LaysElse, LaysList, LaysStmt};
+ghost use Rattle.code_stmt.specs.Parts.{arms_in, cases_in, else_in};
+ghost use Rattle.code_stmt.specs.Views.{view_own};
+
+use crate::ends::list_size;
+use crate::own::Own;
+use crate::owned::{add_bounds, add_op, add_simple, add_value, add_values_of, own_of};
+use crate::values::values_size;
+use crate::written::Written;
+use code_expr::{Context, sum};
+use stack_code::Op;
+use std::alloc::AllocError;
+use typed_trees::{Expr, Form, Stmt};
+
+/// A statement, which owns its operations but for those of the lists within it (RAPID Kernel, statements).
+#[cycle(statements)]
+pub(crate) fn add_stmt(
+    context: &Context<'_>,
+    labels: &[u32],
+    stmt: &Stmt,
+    out: &mut Written,
+) -> Result<(), AllocError>
+    ensures { OnOk result (LaysStmt context.now labels.now out.old out.new (view_stmt stmt.now)) }
+{
+    let own = own_of(context, stmt, out.code.end()?)?;
+    match &stmt.form {
+        Form::Label(_) => Ok(()),
+        Form::If { .. } => {
+            add_op(Op::Look, &own, out)?;
+            add_arms(context, labels, stmt, &own, out)?;
+            add_else(context, labels, stmt, out)
+        }
+        Form::IfOne { test, then } => {
+            add_op(Op::Look, &own, out)?;
+            add_value(context, test, &own, out)?;
+            add_op(Op::JumpFalse(own.next), &own, out)?;
+            add_stmt(context, labels, then, out)
+        }
+        Form::For {
+            local,
+            bounds,
+            list,
+        } => {
+            let variable = context.local_start(*local);
+            let turn = add_bounds(context, labels, *local, bounds, &own, out)?;
+            add_op(Op::Turn(variable, own.next), &own, out)?;
+            add_op(Op::Look, &own, out)?;
+            add_list(context, labels, list, out)?;
+            add_op(Op::Step(variable, turn), &own, out)
+        }
+        Form::While { test, list } => {
+            add_op(Op::Look, &own, out)?;
+            add_value(context, test, &own, out)?;
+            add_op(Op::JumpFalse(own.next), &own, out)?;
+            add_list(context, labels, list, out)?;
+            add_op(Op::Jump(own.retry), &own, out)
+        }
+        Form::Test { value, .. } => {
+            add_op(Op::Look, &own, out)?;
+            add_value(context, value, &own, out)?;
+            add_cases(context, labels, stmt, &own, out)?;
+            add_op(Op::Drop, &own, out)?;
+            add_else(context, labels, stmt, out)
+        }
+        _ => add_simple(context, labels, stmt, &own, out),
+    }
+}
+
+/// The statements of a list, in order.
+#[cycle(statements)]
+pub(crate) fn add_list(
+    context: &Context<'_>,
+    labels: &[u32],
+    list: &Vec<Stmt>,
+    out: &mut Written,
+) -> Result<(), AllocError>
+    ensures { OnOk result (LaysList context.now labels.now out.old out.new (stmts_of (view_list list.now))) }
+{
+    for stmt in list {
+        add_stmt(context, labels, stmt, out)?;
+    }
+    Ok(())
+}
+
+/// IF and ELSEIF of a statement, with their lists: a condition that is FALSE goes on to the next, and a list that reaches its end
+/// goes on behind the statement (RAPID Kernel, IF).
+#[cycle(statements)]
+fn add_arms(
+    context: &Context<'_>,
+    labels: &[u32],
+    stmt: &Stmt,
+    own: &Own,
+    out: &mut Written,
+) -> Result<(), AllocError>
+    ensures { OnOk result (LaysArms context.now labels.now (view_own own.now) out.old out.new (arms_in (view_stmt stmt.now))) }
+{
+    let Form::If { arms, .. } = &stmt.form else {
+        return Ok(());
+    };
+    for (test, list) in arms {
+        add_value(context, test, own, out)?;
+        add_op(Op::JumpFalse(behind_arm(context, list, out)?), own, out)?;
+        add_list(context, labels, list, out)?;
+        add_op(Op::Jump(own.next), own, out)?;
+    }
+    Ok(())
+}
+
+/// The CASEs of a statement, with their lists. What is tested lies on the stack until a list begins (RAPID Kernel, TEST).
+#[cycle(statements)]
+fn add_cases(
+    context: &Context<'_>,
+    labels: &[u32],
+    stmt: &Stmt,
+    own: &Own,
+    out: &mut Written,
+) -> Result<(), AllocError>
+    ensures { OnOk result (LaysCases context.now labels.now (view_own own.now) out.old out.new (cases_in (view_stmt stmt.now))) }
+{
+    let Form::Test { cases, .. } = &stmt.form else {
+        return Ok(());
+    };
+    for (values, list) in cases {
+        add_values_of(context, values, case_list(values, out)?, own, out)?;
+        add_op(Op::Jump(behind_case(context, list, out)?), own, out)?;
+        add_op(Op::Drop, own, out)?;
+        add_list(context, labels, list, out)?;
+        add_op(Op::Jump(own.next), own, out)?;
+    }
+    Ok(())
+}
+
+/// The place behind IF or ELSEIF whose condition is there: behind a jump, its list, and a jump.
+fn behind_arm(context: &Context<'_>, list: &Vec<Stmt>, out: &Written) -> Result<u32, AllocError>
+    ensures { IfOk result (λ place. place ≡ end_of out.now.code + (stmts_size (tree_of context.now) (routine_of context.now) (stmts_of (view_list list.now)) + 2)) }
+{
+    out.code.behind(sum(list_size(context, list)?, 2)?)
+}
+
+/// The place at which what is tested is dropped before the list of a CASE: behind its values, and a jump.
+fn case_list(values: &Vec<Expr>, out: &Written) -> Result<u32, AllocError>
+    ensures { IfOk result (λ place. place ≡ end_of out.now.code + (values_size (exprs_of (map view_expr values.now.items)) + 1)) }
+{
+    out.code.behind(sum(values_size(values)?, 1)?)
+}
+
+/// The place behind a CASE whose values are there: behind a jump, a Drop, its list, and a jump.
+fn behind_case(context: &Context<'_>, list: &Vec<Stmt>, out: &Written) -> Result<u32, AllocError>
+    ensures { IfOk result (λ place. place ≡ end_of out.now.code + (stmts_size (tree_of context.now) (routine_of context.now) (stmts_of (view_list list.now)) + 3)) }
+{
+    out.code.behind(sum(list_size(context, list)?, 3)?)
+}
+
+/// The list of ELSE or DEFAULT of a statement, where there is one.
+#[cycle(statements)]
+fn add_else(
+    context: &Context<'_>,
+    labels: &[u32],
+    stmt: &Stmt,
+    out: &mut Written,
+) -> Result<(), AllocError>
+    ensures { OnOk result (LaysElse context.now labels.now out.old out.new (else_in (view_stmt stmt.now))) }
+{
+    match &stmt.form {
+        Form::If { other, .. } => match other {
+            Some(list) => add_list(context, labels, list, out),
+            None => Ok(()),
+        },
+        Form::Test { other, .. } => match other {
+            Some(list) => add_list(context, labels, list, out),
+            None => Ok(()),
+        },
+        _ => Ok(()),
+    }
+}
