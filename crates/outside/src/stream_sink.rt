@@ -22,7 +22,7 @@ impl<W: Write> Model for StreamSink<W> {
 }
 
 impl<W: Write> StreamSink<W> {
-    /// A sink that hands each piece to `writer`, in one call each.
+    /// A sink that hands each piece on to `writer`, which takes as much of it as it likes.
     pub fn new(writer: W) -> StreamSink<W>
         ensures writer { result.writer ≡ writer }
         ensures no_faults_yet { result.faults ≡ 0 }

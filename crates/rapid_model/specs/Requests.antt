@@ -82,15 +82,3 @@ suits_actor cell actor mine request = suits (slice_get cell.tasks actor)
     suits : Option TaskRow → Bool
     suits (Some row) = not (has_ended mine) && goes_with (is_held mine) (is_rise request) && suits_task cell row mine request
     suits None = actor == length cell.tasks && suits_inputs cell mine request
-
--- the requests that a cell serves so far
-abbrev pub is_served : Request → Bool
-is_served requests.Look = true
-is_served requests.Position = true
-is_served (requests.Setpoint to) = true
-is_served (requests.End fate) = true
-is_served _ = false
-
--- the actor, with its own events so far, may ask this of the cell
-abbrev pub may_ask : CellData → ℕ → List Event → Request → Bool
-may_ask cell actor mine request = is_served request && suits_actor cell actor mine request

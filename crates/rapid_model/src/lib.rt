@@ -1,4 +1,4 @@
-//! What the layers share: the script, the cell, the trees of its tasks, requests, answers, events and fates.
+//! What the layers share: the script, the cell, the requests, answers, events and fates.
 #![tactic(auto)]
 
 mod answer;
@@ -27,7 +27,6 @@ mod sort_values;
 mod tail;
 mod task_row;
 mod text;
-mod tree;
 mod value;
 mod watched;
 mod zone_name;
@@ -59,7 +58,6 @@ pub use sort_values::{has_values, is_value_of, width};
 pub use tail::Tail;
 pub use task_row::TaskRow;
 pub use text::Text;
-pub use tree::{Form, Stmt, Tree};
 pub use value::Value;
 pub use watched::Watched;
 pub use zone_name::ZoneName;

@@ -22,8 +22,6 @@ pub enum ScriptRule {
     NoSuch,
     /// One of two keys that go together, or not exactly one of `num`, `bool` and `text`.
     Pair,
-    /// The key is not built yet.
-    NotBuilt,
 }
 
 impl ScriptRule {
@@ -42,7 +40,6 @@ impl ScriptRule {
             ScriptRule::Twice => b"Twice",
             ScriptRule::NoSuch => b"NoSuch",
             ScriptRule::Pair => b"Pair",
-            ScriptRule::NotBuilt => b"NotBuilt",
         }
     }
 }
