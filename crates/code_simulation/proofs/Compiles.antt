@@ -20,7 +20,7 @@ use Rattle.code_simulation.specs.Orderly.{IsOrderly, IsOrderlyRoutine}
 use Rattle.code_simulation.proofs.CodeOf.{Found, IsCodeOf}
 use Rattle.code_simulation.proofs.PastRoutines.{past_routine}
 use Rattle.code_simulation.proofs.Sim.{Target}
-use Rattle.code_simulation.proofs.Spots.{HasAt, moved}
+use Rattle.code_simulation.proofs.Spots.{HasAt}
 
 -- the compiled code, and which answers fit it
 abbrev pub target_of : TypedTree → Target

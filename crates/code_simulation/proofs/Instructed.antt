@@ -1,5 +1,5 @@
 -- The code of each instruction does what it does.
-use Rattle.std.proofs.Common.{◌≡◌, refl, sym, ap, ℕ, ◌+◌, ◌≤◌, Bool, true, false, List, [], ◌∷◌, codes, bytes_eq, slice_get, arith}
+use Rattle.std.proofs.Common.{◌≡◌, refl, sym, ap, ℕ, ◌+◌, Bool, true, false, List, [], ◌∷◌, codes, bytes_eq, arith}
 use Rattle.std.specs.Prelude.{⊤}
 use Rattle.rapid_num.specs.Arithmetic.{difference_of, sum_of}
 use Rattle.rapid_num.specs.declared.joints.Joints.{Joints}
@@ -8,24 +8,21 @@ use Rattle.rapid_model.specs.declared.instruction.Instruction.{Instruction}
 use Rattle.rapid_model.specs.declared.instruction.Instruction.TheVariants as instructions
 use Rattle.rapid_model.specs.declared.part_name.PartName.TheVariants as parts
 use Rattle.rapid_model.specs.declared.request.Request.TheVariants as requests
-use Rattle.rapid_model.specs.declared.sort.Sort.{Sort}
 use Rattle.rapid_model.specs.declared.value.Value.TheVariants as values
 use Rattle.raw_trees.specs.declared.raw_expr.Operator.TheVariants as operators
 use Rattle.typed_trees.specs.Plain.{TypedArg, TypedArgs, TypedExpr, TypedPlace, TypedTree, NotHeld, PlaceOf, Given, Lent, OfSignal, OfMeeting, Itself, Optional, Argument, NoArgs, MoreArgs}
 use Rattle.typed_trees.specs.declared.datum.Datum.TheVariants.{Plain, Mark, Place}
 use Rattle.typed_trees.specs.declared.datum.Lvalue.{Lvalue}
-use Rattle.typed_trees.specs.declared.expr.TreeRoot.{TreeRoot}
 use Rattle.typed_trees.specs.declared.expr.TreeRoot.TheVariants as roots
-use Rattle.rapid_meaning.specs.Doings.{Doing, Raises, ◌>>=◌, ◌>>◌, after, or_misfit, tells}
-use Rattle.rapid_meaning.specs.Expressions.{lent_length, place}
+use Rattle.rapid_meaning.specs.Doings.{Raises, ◌>>=◌, ◌>>◌, after, tells}
+use Rattle.rapid_meaning.specs.Expressions.{place}
 use Rattle.rapid_meaning.specs.Instructions.{has, instructed, needed, options, ready, tail, tail_named, text}
 use Rattle.rapid_meaning.specs.Interrupts.{asks_of_number, number_at}
-use Rattle.rapid_meaning.specs.Meetings.{arrive, tasks_in}
 use Rattle.rapid_meaning.specs.Places.{store}
 use Rattle.rapid_meaning.specs.Values.{text_in}
 use Rattle.rapid_meaning.specs.Zones.{asks_of_zone, define, define_home}
 use Rattle.stack_code.specs.Needs.{pieces_need}
-use Rattle.stack_code.specs.Pieces.{Does, OfExpr, Waits, instruction_pieces, meeting_number, place_and_number, said, tail_kind, tasks_of}
+use Rattle.stack_code.specs.Pieces.{Does, OfExpr, instruction_pieces, place_and_number, said, tail_kind}
 use Rattle.stack_code.specs.Placed.{Placed}
 use Rattle.stack_code.specs.Sizes.{expr_size, pieces_size}
 use Rattle.stack_code.specs.Steps.{act, does}
@@ -37,12 +34,12 @@ use Rattle.code_simulation.specs.Calls.{ArgCalls, ArgsCalls, ExprCalls, IsBare, 
 use Rattle.code_simulation.proofs.Alone.{store_alone}
 use Rattle.code_simulation.proofs.Claims.{Claims}
 use Rattle.code_simulation.proofs.CodeOf.{IsCodeOf}
-use Rattle.code_simulation.proofs.InstructionSteps.{of_text, read_then, settles}
+use Rattle.code_simulation.proofs.InstructionSteps.{of_text, read_then}
 use Rattle.code_simulation.proofs.Instructions.{Goes, add_goes, alone_goes, clear_goes, count_goes, move_goes, number_goes, order_goes, reset_goes, say_bool_goes, say_goes, say_num_goes, set_goes, set_to_goes, shape_goes, supervise_goes, test_goes, time_goes, until_goes, wait_for_goes, watch_goes, zone_goes}
 use Rattle.code_simulation.proofs.InstructionsAlone.{define_alone, home_alone, number_alone, tells_alone, zone_alone}
 use Rattle.code_simulation.proofs.Same.{no_part_then}
-use Rattle.code_simulation.proofs.Sim.{Sim, after_after, sim_from, sim_gives, sim_misfit, sim_to}
-use Rattle.code_simulation.proofs.Spots.{Spot, failing, here, standing}
+use Rattle.code_simulation.proofs.Sim.{after_after, sim_from, sim_gives, sim_misfit, sim_to}
+use Rattle.code_simulation.proofs.Spots.{Spot, here, standing}
 use Rattle.code_simulation.proofs.Syncs.{sync_goes}
 
 -- the calls in a list of arguments

@@ -1,5 +1,5 @@
 -- The steps of instructions: an operand is evaluated and read, a place and its number, and the last operation.
-use Rattle.std.proofs.Common.{◌≡◌, refl, sym, subst, ℕ, ◌+◌, ◌≤◌, Bool, true, false, ℤ, List, [], ◌∷◌, length, if◌then◌else◌, arith}
+use Rattle.std.proofs.Common.{◌≡◌, refl, sym, subst, ℕ, ◌+◌, ◌≤◌, Bool, true, ℤ, List, [], ◌∷◌, length, if◌then◌else◌}
 use Rattle.rapid_num.specs.declared.joints.Joints.{Joints}
 use Rattle.rapid_num.specs.declared.shape.Shape.{Shape}
 use Rattle.rapid_model.specs.declared.value.Value.{Value}
@@ -10,7 +10,7 @@ use Rattle.typed_trees.specs.declared.datum.Datum.{Datum}
 use Rattle.typed_trees.specs.declared.datum.Datum.TheVariants.{Plain, Mark, Place}
 use Rattle.typed_trees.specs.declared.datum.Datum.TheVariants as datums
 use Rattle.typed_trees.specs.declared.datum.Lvalue.{Lvalue}
-use Rattle.rapid_meaning.specs.Doings.{Doing, Gives, Raises, Reads, Act, ◌>>=◌, ◌>>◌, after, tells}
+use Rattle.rapid_meaning.specs.Doings.{Doing, Raises, Act, ◌>>=◌, ◌>>◌, after}
 use Rattle.rapid_meaning.specs.Expressions.{expr, place}
 use Rattle.rapid_meaning.specs.Instructions.{ready}
 use Rattle.rapid_meaning.specs.Interrupts.{number_at}

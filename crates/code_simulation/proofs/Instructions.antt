@@ -1,29 +1,24 @@
 -- The code of instructions does what they do.
-use Rattle.std.proofs.Common.{◌≡◌, refl, sym, ap, subst, ℕ, ◌+◌, ◌≤◌, max, Bool, true, false, ℤ, pos, ◌+ℤ◌, List, [], ◌∷◌, length, codes, bytes_eq, Option, None, Some, slice_get, if◌then◌else◌, arith}
+use Rattle.std.proofs.Common.{◌≡◌, refl, ap, subst, ℕ, ◌+◌, ◌≤◌, Bool, true, false, ℤ, pos, ◌+ℤ◌, List, [], ◌∷◌, length, Option, None, Some, slice_get, if◌then◌else◌, arith}
 use Rattle.std.specs.Option.{option_map, unwrap_or}
 use Rattle.std.specs.Ordering.{int_eq}
 use Rattle.std.proofs.lemmas.Bool.Decides.{Decides-int_eq}
 use Rattle.std.proofs.lemmas.Int.{ints}
-use Rattle.rapid_num.specs.Arithmetic.{difference_of, num_of, sum_of}
+use Rattle.rapid_num.specs.Arithmetic.{num_of, sum_of}
 use Rattle.rapid_num.specs.declared.joints.Joints.{Joints}
-use Rattle.rapid_num.specs.declared.shape.Shape.{Shape}
 use Rattle.rapid_model.specs.Truths.{same_truth}
 use Rattle.rapid_model.specs.declared.fate.Fate.TheVariants as fates
 use Rattle.rapid_model.specs.declared.fate.Fault.TheVariants as faults
-use Rattle.rapid_model.specs.declared.instruction.Instruction.{Instruction}
-use Rattle.rapid_model.specs.declared.instruction.Instruction.TheVariants as instructions
 use Rattle.rapid_model.specs.declared.part_name.PartName.TheVariants as parts
-use Rattle.rapid_model.specs.declared.request.Request.{Request}
 use Rattle.rapid_model.specs.declared.request.Request.TheVariants as requests
 use Rattle.rapid_model.specs.declared.sort.Sort.{Sort}
-use Rattle.rapid_model.specs.declared.tail.Tail.{Tail}
 use Rattle.rapid_model.specs.declared.tail.Tail.TheVariants as tails
 use Rattle.rapid_model.specs.declared.value.Value.{Value}
 use Rattle.rapid_model.specs.declared.value.Value.TheVariants as values
 use Rattle.rapid_model.specs.declared.watched.Watched.TheVariants as watched
 use Rattle.raw_trees.specs.declared.raw_expr.Operator.TheVariants as operators
-use Rattle.rapid_operators.specs.Operators.{apply, num_or_fault}
-use Rattle.typed_trees.specs.Plain.{TypedArg, TypedExpr, TypedPlace, NotHeld, PlaceOf, Given, Lent, OfSignal, Itself, Optional, Argument}
+use Rattle.rapid_operators.specs.Operators.{num_or_fault}
+use Rattle.typed_trees.specs.Plain.{TypedExpr, TypedPlace, NotHeld, PlaceOf}
 use Rattle.typed_trees.specs.declared.datum.Datum.{Datum}
 use Rattle.typed_trees.specs.declared.datum.Datum.TheVariants as datums
 use Rattle.typed_trees.specs.declared.datum.Datum.TheVariants.{Plain, Mark, Place}
@@ -34,39 +29,35 @@ use Rattle.rapid_meaning.specs.Answering.{Run}
 use Rattle.rapid_meaning.specs.Doings.{Doing, Gives, Raises, Asks, Ends, Misfit, Reads, Writes, Does as DoesPart, Act, ◌>>=◌, ◌>>◌, after, or_misfit, tells}
 use Rattle.rapid_meaning.specs.Expressions.{expr, place}
 use Rattle.rapid_meaning.specs.Functions.{read_signal}
-use Rattle.rapid_meaning.specs.Instructions.{bit, has, instructed, num, ready, tail, tail_named, target, text, truth}
-use Rattle.rapid_meaning.specs.Interrupts.{asks_of_number, number_at, order, pers_at}
+use Rattle.rapid_meaning.specs.Instructions.{bit, num, ready, target, text, truth}
+use Rattle.rapid_meaning.specs.Interrupts.{number_at, order, pers_at}
 use Rattle.rapid_meaning.specs.Moves.{move, still}
-use Rattle.rapid_meaning.specs.Places.{at_root, load, part_at, read_value, store, test_and_set, write_value}
+use Rattle.rapid_meaning.specs.Places.{at_root, part_at, read_value, test_and_set, write_value}
 use Rattle.rapid_meaning.specs.Signals.{has_value, write_signal}
 use Rattle.rapid_meaning.specs.Values.{applied, bit_in, in_range, num_in, of_bit, shape_in, target_in, text_in, tool_speed_in, truth_in, whole}
-use Rattle.rapid_meaning.specs.Zones.{asks_of_zone, define, define_home, defined, shape_at, supervise}
+use Rattle.rapid_meaning.specs.Zones.{defined, shape_at, supervise}
 use Rattle.stack_code.specs.Confs.{Conf}
-use Rattle.stack_code.specs.ExprLayouts.{expr_code, place_code}
-use Rattle.stack_code.specs.Needs.{expr_need, pieces_need, place_need}
-use Rattle.stack_code.specs.Pieces.{Piece, OfExpr, OfPlace, OfArgs, Does, Waits, cell_number, number_of, place_and_number, push, said, tail_kind}
+use Rattle.stack_code.specs.Needs.{expr_need, pieces_need}
+use Rattle.stack_code.specs.Pieces.{Piece, OfExpr, OfPlace, Does, Waits, cell_number, number_of, place_and_number, push}
 use Rattle.stack_code.specs.Placed.{Placed}
 use Rattle.stack_code.specs.Sizes.{expr_size, pieces_size, place_size}
-use Rattle.stack_code.specs.Steps.{act, does, holds, pushes}
+use Rattle.stack_code.specs.Steps.{act, does, pushes}
 use Rattle.stack_code.specs.StmtLayouts.{pieces_code}
-use Rattle.stack_code.specs.declared.irq_op.IrqOp.{IrqOp}
-use Rattle.stack_code.specs.declared.irq_op.IrqOp.TheVariants as irqs
 use Rattle.stack_code.specs.declared.op.Op.{Op}
 use Rattle.stack_code.specs.declared.op.Op.TheVariants as ops
 use Rattle.stack_code.specs.declared.order_on.OrderOn.TheVariants as orders
 use Rattle.stack_code.specs.declared.tail_kind.TailKind.TheVariants as kinds
-use Rattle.stack_code.specs.declared.zone_op.ZoneOp.TheVariants as zones
 use Rattle.code_simulation.specs.Calls.{ExprCalls, PlaceCalls}
-use Rattle.code_simulation.proofs.Alone.{load_alone, signal_alone, store_alone, test_alone}
+use Rattle.code_simulation.proofs.Alone.{signal_alone, store_alone, test_alone}
 use Rattle.code_simulation.proofs.Claims.{Claims}
 use Rattle.code_simulation.proofs.CodeOf.{IsCodeOf}
-use Rattle.code_simulation.proofs.InstructionSteps.{copy_then, done_by, done_by_two, expr_then, load_then, number_then, of_mark, of_num, of_target, of_text, of_truth, place_then, read_then, settles}
-use Rattle.code_simulation.proofs.InstructionsAlone.{bit_alone, define_alone, defined_alone, home_alone, move_alone, number_alone, order_alone, range_alone, still_alone, supervise_alone, tells_alone, tool_alone, write_alone, zone_alone}
+use Rattle.code_simulation.proofs.InstructionSteps.{copy_then, done_by, done_by_two, expr_then, load_then, number_then, of_num, of_target, of_text, of_truth, place_then, read_then, settles}
+use Rattle.code_simulation.proofs.InstructionsAlone.{bit_alone, defined_alone, move_alone, order_alone, range_alone, still_alone, supervise_alone, tells_alone, tool_alone, write_alone}
 use Rattle.code_simulation.proofs.Ops.{OpAt}
 use Rattle.code_simulation.proofs.Past.{past_expr, past_place}
 use Rattle.code_simulation.proofs.PlaceOps.{load_sim}
 use Rattle.code_simulation.proofs.Same.{NoPart, no_part_then, sim_same}
-use Rattle.code_simulation.proofs.Sim.{Sim, Target, after_after, sim_asks, sim_assoc, sim_ends, sim_from, sim_gives, sim_misfit, sim_raises, sim_reads, sim_then, sim_to, sim_writes}
+use Rattle.code_simulation.proofs.Sim.{Sim, Target, sim_asks, sim_assoc, sim_ends, sim_from, sim_gives, sim_misfit, sim_raises, sim_reads, sim_then, sim_writes}
 use Rattle.code_simulation.proofs.Spots.{Holds, Spot, failing, here, sim_op, standing}
 
 -- a piece of code and the instruction that it is

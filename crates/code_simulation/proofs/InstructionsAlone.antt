@@ -1,5 +1,5 @@
 -- What does no part of a program, among what instructions do.
-use Rattle.std.proofs.Common.{ℕ, zero, suc, ◌-◌, Bool, true, false, ℤ, pos, int_lt, not, List, [], ◌∷◌, Option, None, Some, Result, Ok, Err, if◌then◌else◌}
+use Rattle.std.proofs.Common.{ℕ, zero, suc, Bool, true, false, ℤ, pos, int_lt, not, List, [], ◌∷◌, Option, None, Some, Result, Ok, Err, if◌then◌else◌}
 use Rattle.std.specs.Ordering.{int_eq}
 use Rattle.joint_planner.specs.Setpoints.{setpoint_count}
 use Rattle.joint_clip.specs.Shapes.{made_shape}
@@ -16,14 +16,13 @@ use Rattle.rapid_model.specs.declared.value.Value.{Value}
 use Rattle.rapid_model.specs.declared.value.Value.TheVariants as values
 use Rattle.typed_trees.specs.declared.datum.Datum.TheVariants as datums
 use Rattle.typed_trees.specs.declared.datum.Lvalue.{Lvalue}
-use Rattle.rapid_meaning.specs.Data.{Data}
 use Rattle.rapid_model.specs.declared.watched.Watched.{Watched}
 use Rattle.rapid_meaning.specs.Doings.{Act, Gives, Asks, done, fault, tells}
 use Rattle.rapid_meaning.specs.Interrupts.{asks_of_number, order, when_known, when_ordered}
-use Rattle.rapid_meaning.specs.Meetings.{arrive, task_or_fault, when_arrived}
+use Rattle.rapid_meaning.specs.Meetings.{task_or_fault, when_arrived}
 use Rattle.rapid_meaning.specs.Moves.{cap_of, move, move_from, setpoints, still, when_given}
 use Rattle.rapid_meaning.specs.Signals.{when_written, write_signal}
-use Rattle.rapid_meaning.specs.Values.{bit_in, in_range, target_in, tool_speed_in}
+use Rattle.rapid_meaning.specs.Values.{bit_in, in_range, tool_speed_in}
 use Rattle.rapid_meaning.specs.Zones.{arm_axes, asks_of_zone, define, define_home, defined, home_high, home_low, on_axes, position_or_fault, shaped, supervise, when_numbered, when_zoned}
 use Rattle.code_simulation.proofs.Alone.{ok_alone, store_alone}
 use Rattle.code_simulation.proofs.Same.{NoPart, no_part_then}

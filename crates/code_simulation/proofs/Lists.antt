@@ -1,15 +1,12 @@
 -- Lists of statements, and jumps to labels.
-use Rattle.std.proofs.Common.{◌≡◌, refl, sym, ap, ◌∙◌, subst, ℕ, ◌+◌, ◌≤◌, ◌==◌, Bool, true, false, [], Option, None, Some, if◌then◌else◌, arith, max}
+use Rattle.std.proofs.Common.{◌≡◌, refl, sym, ap, ◌∙◌, subst, ℕ, ◌+◌, ◌==◌, Bool, true, false, Option, None, Some, if◌then◌else◌, arith}
 use Rattle.std.proofs.lemmas.Bool.{eqb-true}
-use Rattle.typed_trees.specs.Plain as trees
 use Rattle.typed_trees.specs.Plain.{TypedStmt, TypedStmts, TypedTree, NoStmts, MoreStmts, Label}
 use Rattle.rapid_meaning.specs.Answering.{Run}
-use Rattle.rapid_meaning.specs.Doings.{Doing, Gives, goes_to}
 use Rattle.rapid_meaning.specs.Flows.{Flow, Normal, Jumps, Returns, Retries, Skips, Rest}
 use Rattle.rapid_meaning.specs.Lists.{behind, ended, items, jumped, rest}
-use Rattle.rapid_meaning.specs.Statements.{and_then, stmt}
-use Rattle.stack_code.specs.Needs.{stmt_need, stmts_need}
-use Rattle.stack_code.specs.Sizes.{stmt_size, stmts_size}
+use Rattle.rapid_meaning.specs.Statements.{and_then}
+use Rattle.stack_code.specs.Sizes.{stmt_size}
 use Rattle.stack_code.specs.StmtLayouts.{label_at, own_of, stmts_code}
 use Rattle.code_simulation.proofs.Bodies.{Body, begins, lands, leaving}
 use Rattle.code_simulation.proofs.Claims.{Claims, ListAt, Stands, StmtAt}

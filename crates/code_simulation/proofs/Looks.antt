@@ -1,5 +1,5 @@
 -- A Look, at which a trap may run.
-use Rattle.std.proofs.Common.{◌≡◌, arith, sym, ap, ◌∙◌, subst, ℕ, ◌+◌, Bool, true, false, ◌&&◌, [], ◌∷◌, length, Option, None, Some, IsTrue, slice_get}
+use Rattle.std.proofs.Common.{◌≡◌, arith, sym, ap, subst, ℕ, ◌+◌, Bool, true, false, [], ◌∷◌, length, Option, Some, IsTrue, slice_get}
 use Rattle.std.proofs.lemmas.Bool.{and_parts}
 use Rattle.rapid_model.specs.Fits.{fits_request}
 use Rattle.rapid_model.specs.declared.answer.Answer.{Answer}
@@ -8,10 +8,10 @@ use Rattle.rapid_model.specs.declared.fate.Fate.TheVariants as fates
 use Rattle.rapid_model.specs.declared.fate.Fault.TheVariants.{TrapFlood, Unhandled}
 use Rattle.rapid_model.specs.declared.request.Request.TheVariants.{Look, Leave}
 use Rattle.typed_trees.specs.Plain.{TypedRoutine, TypedTree}
-use Rattle.rapid_meaning.specs.Answering.{Run, fitting_of, is_trap_kind, is_trap_row}
-use Rattle.rapid_meaning.specs.Data.{At, Data, with_seen}
+use Rattle.rapid_meaning.specs.Answering.{Run, fitting_of, is_trap_row}
+use Rattle.rapid_meaning.specs.Data.{At, with_seen}
 use Rattle.rapid_meaning.specs.Doings.{Doing, Asks, Raises, change, goes_to, tells, when_ok, ◌>>◌}
-use Rattle.rapid_meaning.specs.Flows.{Flow, Part, Call}
+use Rattle.rapid_meaning.specs.Flows.{Flow, Part}
 use Rattle.rapid_meaning.specs.Looks as source
 use Rattle.rapid_meaning.specs.Looks.{left, look, place_of}
 use Rattle.stack_code.specs.Confs.{Conf, Trapped}
@@ -24,9 +24,9 @@ use Rattle.stack_code.specs.declared.op.Op.TheVariants as ops
 use Rattle.code_simulation.specs.Calls.{Takes}
 use Rattle.code_simulation.proofs.Bodies.{Body, begins, spot_of, value_of}
 use Rattle.code_simulation.proofs.Claims.{Claims}
-use Rattle.code_simulation.proofs.CodeOf.{Found, IsCodeOf}
+use Rattle.code_simulation.proofs.CodeOf.{IsCodeOf}
 use Rattle.code_simulation.proofs.Same.{IsCalm, sim_calm}
-use Rattle.code_simulation.proofs.Sim.{Sim, SimPart, Target, sim_asked, sim_does, sim_ends, sim_gives, sim_misfit, sim_raises, sim_reads, sim_writes}
+use Rattle.code_simulation.proofs.Sim.{Sim, SimPart, Target, sim_asked, sim_does, sim_ends, sim_gives, sim_misfit, sim_raises}
 use Rattle.code_simulation.proofs.Spots.{here, sim_op}
 
 pub ok_calm : (a : Answer) → IsCalm (when_ok a)

@@ -1,5 +1,5 @@
 -- Errors of a statement's own part: into the ERROR part of its routine, or out of it.
-use Rattle.std.proofs.Common.{◌≡◌, refl, sym, ap, ap₂, subst, ℕ, ◌+◌, [], Option, None, Some, arith}
+use Rattle.std.proofs.Common.{◌≡◌, refl, sym, ap, ap₂, subst, ℕ, ◌+◌, [], Option, Some, arith}
 use Rattle.typed_trees.specs.Plain.{TypedStmt, TypedTree}
 use Rattle.rapid_meaning.specs.Answering.{Run}
 use Rattle.rapid_meaning.specs.Doings.{Doing, Does, Gives, Raises, change, goes_to}

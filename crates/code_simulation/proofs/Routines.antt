@@ -1,7 +1,6 @@
 -- A routine that is called: its data are made, and its list is done.
-use Rattle.std.proofs.Common.{◌≡◌, refl, sym, ap, ◌∙◌, subst, ℕ, zero, suc, ◌+◌, ◌-◌, ◌≤◌, ◌<◌, ◌⊎◌, inl, inr, Bool, true, false, List, [], ◌∷◌, ◌++◌, length, take, drop, min, max, Option, None, Some, if◌then◌else◌, slice_get, arith}
+use Rattle.std.proofs.Common.{◌≡◌, refl, sym, ap, ◌∙◌, subst, ℕ, ◌+◌, ◌-◌, ◌≤◌, ◌<◌, ◌⊎◌, inl, inr, Bool, true, false, List, [], ◌∷◌, ◌++◌, length, take, drop, min, Option, None, Some, if◌then◌else◌, slice_get, arith}
 use Rattle.std.specs.Option.{option_map}
-use Rattle.std.specs.Prelude.{⊤}
 use Rattle.std.proofs.Math.Nat.{min-eq_left, min-eq_right}
 use Rattle.std.proofs.Math.Seq.{take-append_seam}
 use Rattle.std.proofs.lemmas.Bool.{cases_lt}
@@ -15,24 +14,23 @@ use Rattle.typed_trees.specs.Plain.{TypedRoutine, TypedStmts, TypedTree}
 use Rattle.typed_trees.specs.declared.datum.Datum.{Datum}
 use Rattle.rapid_meaning.specs.Answering.{Run}
 use Rattle.rapid_meaning.specs.Calls.{body, called, errors_of, result, within}
-use Rattle.rapid_meaning.specs.Data.{Data, Frame}
+use Rattle.rapid_meaning.specs.Data.{Frame}
 use Rattle.rapid_meaning.specs.Doings.{Doing, Gives, Raises, Reads, Writes, ◌>>◌, ◌>>=◌, after, done, fault, or_misfit}
 use Rattle.rapid_meaning.specs.Flows.{Flow, Normal, Jumps, Returns, Retries, Skips}
 use Rattle.rapid_meaning.specs.Frames.{enters, first_values, frame_of, has_room, leaves}
 use Rattle.stack_code.specs.CodeData.{CodeData}
 use Rattle.stack_code.specs.Compiled.{counted, end_op, own_end, part_code, part_need, part_start, routine_labels, routine_row}
-use Rattle.stack_code.specs.Confs.{Conf, Saved, begun, conf}
+use Rattle.stack_code.specs.Confs.{Saved, begun, conf}
 use Rattle.stack_code.specs.Entering.{enter, entered, frame_in}
 use Rattle.stack_code.specs.ExprLayouts.{put}
-use Rattle.stack_code.specs.Needs.{stmts_need}
-use Rattle.stack_code.specs.Placed.{Placed, placed_at}
-use Rattle.stack_code.specs.Raising.{back_to, handler_of, raised_to}
+use Rattle.stack_code.specs.Placed.{placed_at}
+use Rattle.stack_code.specs.Raising.{back_to, raised_to}
 use Rattle.stack_code.specs.Sizes.{stmts_size}
 use Rattle.stack_code.specs.declared.routine_row.RoutineRow.{RoutineRow}
 use Rattle.stack_code.specs.declared.op.Op.TheVariants as ops
 use Rattle.code_simulation.specs.Calls.{StmtsCalls, Takes}
 use Rattle.code_simulation.specs.Orderly.{PartCalls}
-use Rattle.code_simulation.proofs.Bodies.{Body, begins, lands, leaving, value_of}
+use Rattle.code_simulation.proofs.Bodies.{Body, lands, leaving, value_of}
 use Rattle.code_simulation.proofs.Calling.{no_room, refused}
 use Rattle.code_simulation.proofs.Claims.{Claims, ListAt, Stands}
 use Rattle.code_simulation.proofs.CodeOf.{Found, IsCodeOf}

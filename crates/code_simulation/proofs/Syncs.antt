@@ -1,8 +1,8 @@
 -- A meeting of the tasks that a list names: the list is read element by element, while no data change.
-use Rattle.std.proofs.Common.{◌≡◌, refl, sym, ap, ◌∙◌, subst, ℕ, zero, suc, ◌+◌, ◌*◌, ◌/◌, ◌%◌, ◌==◌, ◌&&◌, ◌≤◌, max, nat_le, Bool, true, false, pos, List, [], ◌∷◌, length, Option, None, Some, position, bytes_eq, slice_get, if◌then◌else◌, IsTrue, arith}
+use Rattle.std.proofs.Common.{◌≡◌, refl, sym, ap, ◌∙◌, subst, ℕ, zero, suc, ◌+◌, ◌*◌, ◌/◌, ◌%◌, ◌≤◌, ◌<◌, ◌^◌, nat_le, nat_lt, Bool, true, false, pos, List, [], ◌∷◌, length, Option, None, Some, position, bytes_eq, slice_get, if◌then◌else◌, IsTrue, arith}
 use Rattle.std.specs.Option.{option_and_then, option_map, unwrap_or}
 use Rattle.std.specs.Prelude.{⊤}
-use Rattle.std.proofs.lemmas.Bool.{le-leb}
+use Rattle.std.proofs.lemmas.Bool.{le-leb, lt-ltb, ltb-true}
 use Rattle.rapid_model.specs.declared.answer.Answer.{Answer}
 use Rattle.rapid_model.specs.declared.answer.Answer.TheVariants as answers
 use Rattle.rapid_model.specs.declared.fate.Fate.TheVariants as fates
@@ -27,30 +27,29 @@ use Rattle.rapid_meaning.specs.Data.{Data, datum_at}
 use Rattle.rapid_meaning.specs.Doings.{Doing, Gives, Raises, Asks, Ends, Misfit, Reads, Writes, Does as DoesPart, ◌>>=◌, after, or_misfit}
 use Rattle.rapid_meaning.specs.Expressions.{lent_length, place}
 use Rattle.rapid_meaning.specs.Layouts.{length_at, local_start, slot_start}
-use Rattle.rapid_meaning.specs.Meetings.{arrive, task_or_fault, tasks_in, when_arrived, with_task, with_tasks}
-use Rattle.rapid_meaning.specs.Places.{at_root, element_of, indexed, kept_place, load, load_from, own_place, part_at, part_in, read_value, rooted, when_read}
+use Rattle.rapid_meaning.specs.Meetings.{arrive, task_or_fault, task_set, tasks_in, with_task, with_tasks}
+use Rattle.rapid_meaning.specs.Places.{at_element, at_root, element_of, element_root, kept_place, load, load_from, own_place, part_at, part_in, read_value, rooted, there_in, when_read}
 use Rattle.rapid_meaning.specs.Values.{text_in, value_in, whole}
 use Rattle.stack_code.specs.CodeRuns.{exec}
 use Rattle.stack_code.specs.Confs.{Conf, conf}
 use Rattle.stack_code.specs.ExprLayouts.{index_op, place_code, put, root_op}
 use Rattle.stack_code.specs.Needs.{pieces_need}
-use Rattle.stack_code.specs.Pieces.{Piece, Does, OfPlace, Waits, element, meeting_number, push, tasks_from, tasks_of}
+use Rattle.stack_code.specs.Pieces.{Piece, Does, Waits, element, meeting_number, push, tasks_from, tasks_of}
 use Rattle.stack_code.specs.Placed.{Placed}
 use Rattle.stack_code.specs.Sizes.{pieces_size, place_size}
-use Rattle.stack_code.specs.Steps.{act, act_at, set_in, step}
+use Rattle.stack_code.specs.Steps.{act, act_at, step}
 use Rattle.stack_code.specs.StmtLayouts.{pieces_code}
 use Rattle.stack_code.specs.declared.op.Op.{Op}
 use Rattle.stack_code.specs.declared.op.Op.TheVariants as ops
 use Rattle.code_simulation.specs.Standing.{Fine}
 use Rattle.code_simulation.proofs.CodeOf.{IsCodeOf}
-use Rattle.code_simulation.proofs.InstructionSteps.{of_text, settles}
+use Rattle.code_simulation.proofs.InstructionSteps.{settles}
 use Rattle.code_simulation.proofs.Instructions.{Goes, settled, through, wait_by}
-use Rattle.code_simulation.proofs.InstructionsAlone.{arrived_alone, task_alone}
+use Rattle.code_simulation.proofs.InstructionsAlone.{arrived_alone}
 use Rattle.code_simulation.proofs.Ops.{OpAt}
 use Rattle.code_simulation.proofs.Past.{past_place}
 use Rattle.code_simulation.proofs.PlaceOps.{whole_at}
-use Rattle.code_simulation.proofs.Same.{sim_same}
-use Rattle.code_simulation.proofs.Sim.{Comes, Sim, Target, after_after, comes_when, followed, goes_on, sim_ends, sim_from, sim_gives, sim_misfit, sim_raises, sim_then, sim_to}
+use Rattle.code_simulation.proofs.Sim.{Comes, Sim, Target, after_after, comes_when, followed, goes_on, sim_ends, sim_misfit, sim_raises}
 use Rattle.code_simulation.proofs.Spots.{Holds, Spot, failing, here, sim_op, standing}
 
 -- with these data
@@ -217,67 +216,90 @@ no_rest n = omega arith
 counted_element : (len number : ℕ) → 1 ≤ number → number ≤ len → element_number len (pos (number * 1_000)) ≡ Some number
 counted_element len number first last = rw (no_rest number, thousandths number, le-leb 1 number first, le-leb number len last) refl
 
--- the task of a name, among the elements that are still to come
-named : (s : Spot) (d : Data) (pc set : ℕ) (name : List ℕ) (o : Option ℕ) (f : ℕ → Doing ℕ) (k : ℕ → Doing Bool) (next : Bool → Doing Conf) → position (bytes_eq name) s.target.code.tasks ≡ o
-    → ((task : ℕ) → SimAt s.target s.run d (standing s (pc + 1) (Plain (whole (with_task task set)) ∷ [])) (f task >>= k) next (failing s))
-    → SimAt s.target s.run d (act (here s pc (Plain (values.Text name) ∷ Plain (whole set) ∷ [])) ops.TaskBit) ((task_or_fault o >>= f) >>= k) next (failing s)
-unfolding after
-named s d pc set name None f k next e more = rw e (these_data d (sim_ends (fates.Fault faults.TaskName)))
-named s d pc set name (Some task) f k next e more = rw (e, thousandths set) (more task)
+-- as the test of a set says it
+in_set : (set : ℕ) → set < 2 ^ 16 → nat_lt set (2 ^ 16) ≡ true
+in_set set few = lt-ltb set (2 ^ 16) few
 
-texted : (s : Spot) (d : Data) (pc set : ℕ) (f : ℕ → Doing ℕ) (k : ℕ → Doing Bool) (next : Bool → Doing Conf) → OpAt s pc ops.TaskBit → 2 ≤ s.target.code.deepest
-    → ((task : ℕ) → SimAt s.target s.run d (standing s (pc + 1) (Plain (whole (with_task task set)) ∷ [])) (f task >>= k) next (failing s)) → (v : Value)
-    → SimAt s.target s.run d (standing s pc (Plain v ∷ Plain (whole set) ∷ [])) ((text_in v >>= λ name. task_or_fault (position (bytes_eq name) s.target.code.tasks) >>= f) >>= k) next (failing s)
+-- a set with one more task goes on the stack, unless it is too large
+kept_set : (s : Spot) (d : Data) (pc set : ℕ) (few : Bool) (f : ℕ → Doing ℕ) (k : ℕ → Doing Bool) (next : Bool → Doing Conf) → nat_lt set (2 ^ 16) ≡ few
+    → (set < 2 ^ 16 → SimAt s.target s.run d (standing s (pc + 1) (Plain (whole set) ∷ [])) (f set >>= k) next (failing s))
+    → SimAt s.target s.run d (after (if few then Gives set else Misfit) (λ more. standing s (pc + 1) (Plain (whole more) ∷ [])) (failing s)) (((if few then Gives set else Misfit) >>= f) >>= k) next (failing s)
 unfolding after
-texted s d pc set f k next there room more (values.Text name) = at_op s d pc (Plain (values.Text name) ∷ Plain (whole set) ∷ []) ops.TaskBit there room (named s d pc set name (position (bytes_eq name) s.target.code.tasks) f k next refl more)
-texted s d pc set f k next there room more v = these_data d sim_misfit
+kept_set s d pc set true f k next e more = more (ltb-true set (2 ^ 16) e)
+kept_set s d pc set false f k next e more = these_data d sim_misfit
+
+-- the task of a name, among the elements that are still to come
+named : (s : Spot) (d : Data) (pc set : ℕ) (name : List ℕ) (o : Option ℕ) (f : ℕ → Doing ℕ) (k : ℕ → Doing Bool) (next : Bool → Doing Conf) → position (bytes_eq name) s.target.code.tasks ≡ o → set < 2 ^ 16
+    → ((more : ℕ) → more < 2 ^ 16 → SimAt s.target s.run d (standing s (pc + 1) (Plain (whole more) ∷ [])) (f more >>= k) next (failing s))
+    → SimAt s.target s.run d (act (here s pc (Plain (values.Text name) ∷ Plain (whole set) ∷ [])) ops.TaskBit) ((task_or_fault o >>= λ task. task_set (with_task task set) >>= f) >>= k) next (failing s)
+unfolding after
+named s d pc set name None f k next e few more = rw (e, thousandths set, in_set set few) (these_data d (sim_ends (fates.Fault faults.TaskName)))
+named s d pc set name (Some task) f k next e few more =
+    rw (e, thousandths set, in_set set few) (kept_set s d pc (with_task task set) (nat_lt (with_task task set) (2 ^ 16)) f k next refl (more (with_task task set)))
+
+texted : (s : Spot) (d : Data) (pc set : ℕ) (f : ℕ → Doing ℕ) (k : ℕ → Doing Bool) (next : Bool → Doing Conf) → OpAt s pc ops.TaskBit → 2 ≤ s.target.code.deepest → set < 2 ^ 16
+    → ((more : ℕ) → more < 2 ^ 16 → SimAt s.target s.run d (standing s (pc + 1) (Plain (whole more) ∷ [])) (f more >>= k) next (failing s)) → (v : Value)
+    → SimAt s.target s.run d (standing s pc (Plain v ∷ Plain (whole set) ∷ [])) ((text_in v >>= λ name. task_or_fault (position (bytes_eq name) s.target.code.tasks) >>= λ task. task_set (with_task task set) >>= f) >>= k) next (failing s)
+unfolding after
+texted s d pc set f k next there room few more (values.Text name) =
+    at_op s d pc (Plain (values.Text name) ∷ Plain (whole set) ∷ []) ops.TaskBit there room (named s d pc set name (position (bytes_eq name) s.target.code.tasks) f k next refl few more)
+texted s d pc set f k next there room few more v = these_data d sim_misfit
 
 moved_op : (s : Spot) (a b : ℕ) (op : Op) → a ≡ b → OpAt s a op → OpAt s b op
 moved_op s a b op e there = subst (λ (x : ℕ). OpAt s x op) e there
 
+silent_element : (p : Lvalue) (number : ℕ) → Silent (at_element p number)
+silent_element p number = λ d. silent_option (there_in d (element_of p number) (element_root p.root number))
+
 -- the place of an element
-at_element : {B : Type 0} (s : Spot) (d : Data) (pc : ℕ) (stack : List Datum) (root : TreeRoot) (sort : Sort) (p : Lvalue) (len number : ℕ) (ps : List Placed) (m : Doing B) (next : B → Doing Conf)
+element_place : {B : Type 0} (s : Spot) (d : Data) (pc : ℕ) (stack : List Datum) (root : TreeRoot) (sort : Sort) (p : Lvalue) (len number : ℕ) (ps : List Placed) (k : Lvalue → Doing B) (next : B → Doing Conf)
     → Holds s pc (place_code s.tree s.routine s.own pc (element root parts.Whole sort number) ps) → length stack + 2 ≤ s.target.code.deepest → root_in s root d ≡ Some p → length_at s.tree s.routine root ≡ Some len
-    → 1 ≤ number → number ≤ len → SimAt s.target s.run d (standing s (pc + 1 + 1 + 1) (Place (element_of p number) ∷ stack)) m next (failing s) → SimAt s.target s.run d (standing s pc stack) m next (failing s)
+    → 1 ≤ number → number ≤ len → ((q : Lvalue) → SimAt s.target s.run d (standing s (pc + 1 + 1 + 1) (Place q ∷ stack)) (k q) next (failing s))
+    → SimAt s.target s.run d (standing s pc stack) (at_element p number >>= k) next (failing s)
 unfolding after
-at_element s d pc stack root sort p len number ps m next there room e many first last at =
-    code_root s d pc stack root p m next there.0 (omega (arith, room)) e
+element_place s d pc stack root sort p len number ps k next there room e many first last more =
+    code_root s d pc stack root p (at_element p number >>= k) next there.0 (omega (arith, room)) e
     (at_op s d (pc + 1) (Place p ∷ stack) (push number) there.1.0 (omega (arith, room))
     (at_op s d (pc + 1 + 1) (Plain (whole number) ∷ Place p ∷ stack) (index_op s.tree s.routine root) there.1.1.0 (omega (arith, room))
-    (at_from d (indexed_to s (pc + 1 + 1) stack p (length_at s.tree s.routine root) len number many first last) at)))
+    (at_from d (indexed_to s (pc + 1 + 1) stack p (length_at s.tree s.routine root) len number many first last)
+    (at_same d (at_element p number) (silent_element p number) more (λ n. these_data d (sim_raises n))))))
   where
     indexed_to : (s : Spot) (at : ℕ) (stack : List Datum) (p : Lvalue) (o : Option ℕ) (len number : ℕ) → o ≡ Some len → 1 ≤ number → number ≤ len
-        → act (here s at (Plain (whole number) ∷ Place p ∷ stack)) (ops.Index (unwrap_or o 0)) ≡ standing s (at + 1) (Place (element_of p number) ∷ stack)
+        → act (here s at (Plain (whole number) ∷ Place p ∷ stack)) (ops.Index (unwrap_or o 0)) ≡ after (at_element p number) (λ q. standing s (at + 1) (Place q ∷ stack)) (failing s)
     indexed_to s at stack p o len number e first last = rw (e, counted_element len number first last) refl
 
 -- the elements from one on, so many
 elements : (s : Spot) (d : Data) (labels : List ℕ) (pc end : ℕ) (root : TreeRoot) (sort : Sort) (p : Lvalue) (len left number set : ℕ) (more : List Piece) (ps : List Placed) (k : ℕ → Doing Bool) (next : Bool → Doing Conf)
     → Holds s pc (pieces_code s.tree s.routine labels s.own pc (tasks_from root parts.Whole sort left number more) ps) → pieces_need 1 (tasks_from root parts.Whole sort left number more) ≤ s.target.code.deepest
-    → root_in s root d ≡ Some p → length_at s.tree s.routine root ≡ Some len → 1 ≤ number → number + left ≡ len + 1 → pc + pieces_size (tasks_from root parts.Whole sort left number more) ≡ end
-    → ((tasks x : ℕ) → Holds s x (pieces_code s.tree s.routine labels s.own x more ps) → pieces_need 1 more ≤ s.target.code.deepest → x + pieces_size more ≡ end → SimAt s.target s.run d (standing s x (Plain (whole tasks) ∷ [])) (k tasks) next (failing s))
+    → root_in s root d ≡ Some p → length_at s.tree s.routine root ≡ Some len → 1 ≤ number → number + left ≡ len + 1 → set < 2 ^ 16 → pc + pieces_size (tasks_from root parts.Whole sort left number more) ≡ end
+    → ((tasks x : ℕ) → tasks < 2 ^ 16 → Holds s x (pieces_code s.tree s.routine labels s.own x more ps) → pieces_need 1 more ≤ s.target.code.deepest → x + pieces_size more ≡ end
+    → SimAt s.target s.run d (standing s x (Plain (whole tasks) ∷ [])) (k tasks) next (failing s))
     → SimAt s.target s.run d (standing s pc (Plain (whole set) ∷ [])) (with_tasks s.target.code.tasks p left number set >>= k) next (failing s)
 unfolding with_tasks tasks_from pieces_code pieces_need pieces_size after
-elements s d labels pc end root sort p len zero number set more ps k next there room e many first whole_list past go_on = go_on set pc there room past
-elements s d labels pc end root sort p len (suc left) number set more ps k next there room e many first whole_list past go_on =
+elements s d labels pc end root sort p len zero number set more ps k next there room e many first whole_list few past go_on = go_on set pc few there room past
+elements s d labels pc end root sort p len (suc left) number set more ps k next there room e many first whole_list few past go_on =
     let behind = past_place s.target.code s.tree s.routine s.own pc (element root parts.Whole sort number) (pieces_code s.tree s.routine labels s.own (pc + 3) (Does ops.Load ∷ Does ops.TaskBit ∷ tasks_from root parts.Whole sort left (number + 1) more) ps) there in
-    at_to s d (after_after (read_value (element_of p number)) _ Raises k Raises)
-    (at_element s d pc (Plain (whole set) ∷ []) root sort p len number
-    (put s.own ops.Load (put s.own ops.TaskBit (pieces_code s.tree s.routine labels s.own (pc + place_size (element root parts.Whole sort number) + 1 + 1) (tasks_from root parts.Whole sort left (number + 1) more) ps))) _ next there (omega (arith, room)) e many first (omega (arith, whole_list))
-    (at_load s d (pc + 1 + 1 + 1) (Plain (whole set) ∷ []) (element_of p number) _ next (moved_op s (pc + 3) (pc + 1 + 1 + 1) ops.Load (omega arith) behind.0) (omega (arith, room))
-    (λ v. texted s d (pc + 1 + 1 + 1 + 1) set (λ task. with_tasks s.target.code.tasks p left (number + 1) (with_task task set)) k next (moved_op s (pc + 3 + 1) (pc + 1 + 1 + 1 + 1) ops.TaskBit (omega arith) behind.1.0) (omega (arith, room))
-    (λ task. at_from d (ap (λ (x : ℕ). standing s x (Plain (whole (with_task task set)) ∷ [])) (places pc))
-    (elements s d labels (pc + 3 + 1 + 1) end root sort p len left (number + 1) (with_task task set) more ps k next behind.1.1 (omega (arith, room)) e many (omega arith) (omega (arith, whole_list)) (omega (arith, past)) go_on)) v)))
+    let of_value : Value → Doing ℕ = λ v. text_in v >>= λ name. task_or_fault (position (bytes_eq name) s.target.code.tasks) >>= λ task. task_set (with_task task set) >>= λ wider. with_tasks s.target.code.tasks p left (number + 1) wider in
+    at_to s d (after_after (at_element p number) (λ q. read_value q >>= of_value) Raises k Raises)
+    (element_place s d pc (Plain (whole set) ∷ []) root sort p len number
+    (put s.own ops.Load (put s.own ops.TaskBit (pieces_code s.tree s.routine labels s.own (pc + place_size (element root parts.Whole sort number) + 1 + 1) (tasks_from root parts.Whole sort left (number + 1) more) ps)))
+    (λ q. (read_value q >>= of_value) >>= k) next there (omega (arith, room)) e many first (omega (arith, whole_list))
+    (λ q. at_to s d (after_after (read_value q) of_value Raises k Raises)
+    (at_load s d (pc + 1 + 1 + 1) (Plain (whole set) ∷ []) q (λ v. of_value v >>= k) next (moved_op s (pc + 3) (pc + 1 + 1 + 1) ops.Load (omega arith) behind.0) (omega (arith, room))
+    (texted s d (pc + 1 + 1 + 1 + 1) set (λ wider. with_tasks s.target.code.tasks p left (number + 1) wider) k next (moved_op s (pc + 3 + 1) (pc + 1 + 1 + 1 + 1) ops.TaskBit (omega arith) behind.1.0) (omega (arith, room)) few
+    (λ wider fits. at_from d (ap (λ (x : ℕ). standing s x (Plain (whole wider) ∷ [])) (places pc))
+    (elements s d labels (pc + 3 + 1 + 1) end root sort p len left (number + 1) wider more ps k next behind.1.1 (omega (arith, room)) e many (omega arith) (omega (arith, whole_list)) fits (omega (arith, past)) go_on))))))
   where
     places : (n : ℕ) → n + 1 + 1 + 1 + 1 + 1 ≡ n + 3 + 1 + 1
     places n = omega arith
 
 -- all have arrived, or the task waits
-arrived : (s : Spot) (pc meeting tasks : ℕ) → OpAt s pc (ops.Arrive meeting) → OpAt s (pc + 1) (ops.Wait s.own.retry) → 1 ≤ s.target.code.deepest
+arrived : (s : Spot) (pc meeting tasks : ℕ) → OpAt s pc (ops.Arrive meeting) → OpAt s (pc + 1) (ops.Wait s.own.retry) → 1 ≤ s.target.code.deepest → tasks < 2 ^ 16
     → Sim s.target s.run (standing s pc (Plain (whole tasks) ∷ [])) (arrive meeting tasks) (settles s (pc + 1 + 1)) (failing s)
 unfolding after
-arrived s pc meeting tasks there wait room =
+arrived s pc meeting tasks there wait room few =
     sim_op s pc (Plain (whole tasks) ∷ []) (ops.Arrive meeting) there room
-    (rw (thousandths tasks) (through (arrive meeting tasks) arrived_alone (λ b. wait_by s (pc + 1) b wait room) (λ n. sim_raises n)))
+    (rw (thousandths tasks, in_set tasks few) (through (arrive meeting tasks) arrived_alone (λ b. wait_by s (pc + 1) b wait room) (λ n. sim_raises n)))
 
 -- from the place of the list on
 listed : (s : Spot) (d : Data) (labels : List ℕ) (pc end meeting : ℕ) (root : TreeRoot) (sort : Sort) (p : Lvalue) (len : Option ℕ) (ps : List Placed)
@@ -288,8 +310,8 @@ listed : (s : Spot) (d : Data) (labels : List ℕ) (pc end meeting : ℕ) (root 
 unfolding after pieces_code pieces_need pieces_size
 listed s d labels pc end meeting root sort p None ps there room e many past = these_data d sim_misfit
 listed s d labels pc end meeting root sort p (Some len) ps there room e many past =
-    elements s d labels pc end root sort p len len 1 0 (Does (ops.Arrive meeting) ∷ Waits ∷ []) ps (λ tasks. arrive meeting tasks) (settles s end) there room e many (omega arith) (omega arith) past
-    (λ tasks x behind fits over. these_data d (settled s (standing s x (Plain (whole tasks) ∷ [])) (arrive meeting tasks) (x + 1 + 1) end (omega (arith, over)) (arrived s x meeting tasks behind.0 behind.1.0 (omega (arith, fits)))))
+    elements s d labels pc end root sort p len len 1 0 (Does (ops.Arrive meeting) ∷ Waits ∷ []) ps (λ tasks. arrive meeting tasks) (settles s end) there room e many (omega arith) (omega arith) (omega arith) past
+    (λ tasks x few behind fits over. these_data d (settled s (standing s x (Plain (whole tasks) ∷ [])) (arrive meeting tasks) (x + 1 + 1) end (omega (arith, over)) (arrived s x meeting tasks behind.0 behind.1.0 (omega (arith, fits)) few)))
 
 placed : (s : Spot) (d : Data) (labels : List ℕ) (pc end meeting : ℕ) (root : TreeRoot) (sort : Sort) (o : Option Lvalue) (ps : List Placed) → root_in s root d ≡ o
     → ((p : Lvalue) → root_in s root d ≡ Some p → SimAt s.target s.run d (standing s pc []) (tasks_in s.target.code.tasks p (length_at s.tree s.routine root) >>= λ tasks. arrive meeting tasks) (settles s end) (failing s))

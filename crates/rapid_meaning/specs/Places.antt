@@ -58,10 +58,19 @@ element_root (roots.Pers pers index) number = roots.Pers pers number
 abbrev pub element_of : Lvalue → ℕ → Lvalue
 element_of place number = record place { root = element_root place.root number }
 
+-- a place that is among these data; persistents are the cell's
+abbrev pub there_in : Data → Lvalue → Root → Option Lvalue
+there_in d place (roots.Pers pers index) = Some place
+there_in d place root = option_map (λ held. place) (datum_at root d)
+
+-- the place of an element that is there
+abbrev pub at_element : Lvalue → ℕ → Doing Lvalue
+at_element place number = Reads (λ d. or_misfit (there_in d (element_of place number) (element_root place.root number)))
+
 -- an index that is not whole, or outside the array, is a fault
 abbrev pub element_or_fault : Lvalue → Option ℕ → Doing Lvalue
 element_or_fault place None = fault IndexRange
-element_or_fault place (Some number) = Gives (element_of place number)
+element_or_fault place (Some number) = at_element place number
 
 -- the element that an index names, in an array of this length
 abbrev pub indexed : Option ℕ → Lvalue → Value → Doing Lvalue

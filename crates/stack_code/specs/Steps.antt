@@ -23,7 +23,7 @@ use Rattle.rapid_meaning.specs.Doings.{Doing, Gives, Asks, Ends, Misfit, Reads, 
 use Rattle.rapid_meaning.specs.Functions.{of_value, of_values, read_signal, when_at}
 use Rattle.rapid_meaning.specs.Interrupts.{asks_of_number, connect, order}
 use Rattle.rapid_meaning.specs.Loops.{has_passed}
-use Rattle.rapid_meaning.specs.Meetings.{arrive, task_or_fault, with_task}
+use Rattle.rapid_meaning.specs.Meetings.{arrive, task_or_fault, task_set, with_task}
 use Rattle.rapid_meaning.specs.Moves.{move, still}
 use Rattle.rapid_meaning.specs.Places.{at_root, indexed, kept_place, load, own_place, part_at, read_value, store, test_and_set, write_value}
 use Rattle.rapid_meaning.specs.Signals.{write_signal}
@@ -122,7 +122,7 @@ holds h to stack = Reads (λ d. tells (Hold (seen_in d.frames)) >> (tells Rise >
 
 -- a set of tasks on the stack is a num
 abbrev pub set_in : Value → Doing ℕ
-set_in (values.Num (pos n)) = Gives (n / 1_000)
+set_in (values.Num (pos n)) = task_set (n / 1_000)
 set_in _ = Misfit
 
 -- a set with the task of a name
@@ -131,7 +131,7 @@ with_named names held named = do
   set ← set_in held
   name ← text_in named
   task ← task_or_fault (position (bytes_eq name) names)
-  Gives (with_task task set)
+  task_set (with_task task set)
 
 -- The table, a line for each operation, or for each of its kinds. The operands of the frame under way are h.conf.stack.
 abbrev pub act : Here → Op → Doing Conf

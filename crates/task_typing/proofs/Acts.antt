@@ -1,8 +1,9 @@
 -- What instructions do of places, numbers, signals, zones and moves.
-use Rattle.std.proofs.Common.{◌≡◌, refl, sym, ap, subst, ℕ, zero, suc, ◌+◌, ◌-◌, ◌^◌, ◌<◌, ◌≤◌, Bool, true, false, not, ℤ, pos, int_lt, List, [], ◌∷◌, length, Option, Some, None, Result, Ok, Err, slice_get, position, bytes_eq, if◌then◌else◌, IsTrue, arith}
+use Rattle.std.proofs.Common.{◌≡◌, refl, sym, ap, subst, ℕ, zero, suc, ◌+◌, ◌-◌, ◌^◌, ◌<◌, ◌≤◌, Bool, true, false, not, ℤ, pos, int_lt, List, [], ◌∷◌, length, Option, Some, None, Result, Ok, Err, slice_get, position, bytes_eq, nat_lt, if◌then◌else◌, IsTrue, arith}
 use Rattle.std.specs.Prelude.{⊤}
 use Rattle.std.specs.Option.{option_map}
-use Rattle.std.proofs.lemmas.Bool.{not-false}
+use Rattle.std.proofs.Math.Pow.{pow_mono}
+use Rattle.std.proofs.lemmas.Bool.{lt-ltb, not-false}
 use Rattle.std.proofs.lemmas.List.Quantifiers.{position-Some}
 use Rattle.std.specs.Ordering.{int_eq}
 use Rattle.rapid_num.specs.Reach.{is_position, is_reachable}
@@ -28,14 +29,14 @@ use Rattle.typed_trees.specs.declared.datum.Root.{Root}
 use Rattle.typed_trees.specs.declared.datum.Root.TheVariants as roots
 use Rattle.typed_trees.specs.declared.expr.TreeRoot.TheVariants as tree_roots
 use Rattle.rapid_meaning.specs.Answering.{is_trap_row}
-use Rattle.rapid_meaning.specs.Doings.{Act, Asks, Doing, Gives, ◌>>=◌, ◌>>◌, done, fault, tells, when_ok}
+use Rattle.rapid_meaning.specs.Doings.{Act, Asks, Doing, Gives, Misfit, ◌>>=◌, ◌>>◌, done, fault, tells, when_ok}
 use Rattle.rapid_meaning.specs.Expressions.{expr, lent_length, place}
 use Rattle.rapid_meaning.specs.Functions.{read_signal}
 use Rattle.rapid_meaning.specs.Instructions.{bit, num, ready, target, text, truth}
 use Rattle.rapid_meaning.specs.Interrupts.{asks_of_number, connect, number_at, order, pers_at, when_connected, when_known, when_ordered}
-use Rattle.rapid_meaning.specs.Meetings.{arrive, task_or_fault, tasks_in, when_arrived, with_task, with_tasks}
+use Rattle.rapid_meaning.specs.Meetings.{arrive, task_or_fault, task_set, tasks_in, when_arrived, with_task, with_tasks}
 use Rattle.rapid_meaning.specs.Moves.{cap_of, move, move_from, setpoints, still, when_given}
-use Rattle.rapid_meaning.specs.Places.{at_root, element_of, load, part_at, part_within, read_value, rooted}
+use Rattle.rapid_meaning.specs.Places.{at_element, at_root, load, part_at, part_within, read_value, rooted}
 use Rattle.rapid_meaning.specs.Signals.{has_value, when_written, write_signal}
 use Rattle.rapid_meaning.specs.Values.{bit_in, mark_in, num_in, shape_in, target_in, text_in, tool_speed_in, truth_in}
 use Rattle.joint_clip.specs.Shapes.{made_shape}
@@ -53,7 +54,7 @@ use Rattle.task_typing.proofs.Expressions.{HasSort, expr_safe, signal_safe, text
 use Rattle.task_typing.proofs.Forms.{num_form, speed_form, target_form, tasks_form}
 use Rattle.task_typing.proofs.Loads.{load_safe, mark_safe, read_safe, store_safe, truth_safe}
 use Rattle.task_typing.proofs.Parts.{within_whole}
-use Rattle.task_typing.proofs.Places.{Inside, IsRooted, IsThere, num_safe, root_len, rooted_safe, scene}
+use Rattle.task_typing.proofs.Places.{Inside, IsRooted, IsThere, at_element_safe, num_safe, root_len, rooted_safe, scene}
 use Rattle.task_typing.proofs.Safe.{Answered, Anything, Safe, safe_any, safe_asks, safe_done, safe_fault, safe_gives, safe_or, safe_raises, safe_reads, safe_then}
 use Rattle.task_typing.proofs.Scene.{Scene}
 
@@ -215,24 +216,44 @@ task_safe s (Some task) n few = safe_gives s (λ (k : ℕ). k < n) task (few tas
 name_text : (s : Scene) (v : Value) → HasSort sorts.Tasks v → Safe s Anything (text_in v)
 name_text s v h = let f : (t : List ℕ) × (v ≡ values.Text t) = tasks_form v h in subst (λ (x : Value). Safe s Anything (text_in x)) (sym f.1) (safe_any s f.0)
 
-listed_safe : (s : Scene) (names : List (List ℕ)) (q : Lvalue) (len : ℕ) → IsRooted s q sorts.Tasks (Some len) → (left number set : ℕ) → 1 ≤ number → number + left ≤ len + 1
+-- a set of eight tasks is one of sixteen
+set_below : (n set : ℕ) → n ≤ 8 → set < 2 ^ n → nat_lt set (2 ^ 16) ≡ true
+set_below n set few under = let eight : 2 ^ n ≤ 2 ^ 8 = pow_mono few in lt-ltb set (2 ^ 16) (omega (arith, eight, under))
+
+task_set_safe : (s : Scene) (n set : ℕ) → n ≤ 8 → set < 2 ^ n → Safe s (λ tasks. tasks < 2 ^ n) (task_set set)
+task_set_safe s n set few under =
+    subst (λ (b : Bool). Safe s (λ (tasks : ℕ). tasks < 2 ^ n) (if b then Gives set else Misfit)) (sym (set_below n set few under)) (safe_gives s (λ (tasks : ℕ). tasks < 2 ^ n) set under)
+
+-- what follows the name of a task
+named_safe : (s : Scene) (names : List (List ℕ)) (set : ℕ) (next : ℕ → Doing ℕ) → length names ≤ 8 → set < 2 ^ length names
+    → ((more : ℕ) → more < 2 ^ length names → Safe s (λ tasks. tasks < 2 ^ length names) (next more)) → (v : Value) → HasSort sorts.Tasks v
+    → Safe s (λ tasks. tasks < 2 ^ length names) (text_in v >>= λ name. task_or_fault (position (bytes_eq name) names) >>= λ task. task_set (with_task task set) >>= next)
+named_safe s names set next few under goes v h =
+    safe_then s Anything (λ (tasks : ℕ). tasks < 2 ^ length names) (text_in v) (λ name. task_or_fault (position (bytes_eq name) names) >>= λ task. task_set (with_task task set) >>= next) (name_text s v h)
+    (λ name _. safe_then s (λ (task : ℕ). task < length names) (λ (tasks : ℕ). tasks < 2 ^ length names) (task_or_fault (position (bytes_eq name) names)) (λ task. task_set (with_task task set) >>= next)
+    (task_safe s (position (bytes_eq name) names) (length names) (λ k e. (position-Some (bytes_eq name) names k [] e).0))
+    (λ task low. safe_then s (λ (more : ℕ). more < 2 ^ length names) (λ (tasks : ℕ). tasks < 2 ^ length names) (task_set (with_task task set)) next
+    (task_set_safe s (length names) (with_task task set) few (with_task_below (length names) task set low under)) goes))
+
+listed_safe : (s : Scene) (names : List (List ℕ)) (q : Lvalue) (len : ℕ) → length names ≤ 8 → IsRooted s q sorts.Tasks (Some len) → (left number set : ℕ) → 1 ≤ number → number + left ≤ len + 1
     → set < 2 ^ length names → Safe s (λ tasks. tasks < 2 ^ length names) (with_tasks names q left number set)
 unfolding with_tasks
-listed_safe s names q len is zero number set low high under = safe_gives s (λ (tasks : ℕ). tasks < 2 ^ length names) set under
-listed_safe s names q len is (suc left) number set low high under =
-    safe_then s (HasSort sorts.Tasks) (λ (tasks : ℕ). tasks < 2 ^ length names) (read_value (element_of q number))
-    (λ v. text_in v >>= λ name. task_or_fault (position (bytes_eq name) names) >>= λ task. with_tasks names q left (number + 1) (with_task task set))
-    (read_safe s (element_of q number) sorts.Tasks refl (is number low (omega (arith, high))))
-    (λ v h. safe_then s Anything (λ (tasks : ℕ). tasks < 2 ^ length names) (text_in v) (λ name. task_or_fault (position (bytes_eq name) names) >>= λ task. with_tasks names q left (number + 1) (with_task task set)) (name_text s v h)
-    (λ name _. safe_then s (λ (task : ℕ). task < length names) (λ (tasks : ℕ). tasks < 2 ^ length names) (task_or_fault (position (bytes_eq name) names)) (λ task. with_tasks names q left (number + 1) (with_task task set))
-    (task_safe s (position (bytes_eq name) names) (length names) (λ k e. (position-Some (bytes_eq name) names k [] e).0))
-    (λ task few. listed_safe s names q len is left (number + 1) (with_task task set) (omega (arith, low)) (omega (arith, high)) (with_task_below (length names) task set few under))))
+listed_safe s names q len few is zero number set low high under = safe_gives s (λ (tasks : ℕ). tasks < 2 ^ length names) set under
+listed_safe s names q len few is (suc left) number set low high under =
+    safe_then s (λ r. IsThere s r sorts.Tasks) (λ (tasks : ℕ). tasks < 2 ^ length names) (at_element q number)
+    (λ r. read_value r >>= λ v. text_in v >>= λ name. task_or_fault (position (bytes_eq name) names) >>= λ task. task_set (with_task task set) >>= λ more. with_tasks names q left (number + 1) more)
+    (at_element_safe s q sorts.Tasks number (is number low (omega (arith, high))))
+    (λ r there. safe_then s (HasSort sorts.Tasks) (λ (tasks : ℕ). tasks < 2 ^ length names) (read_value r)
+    (λ v. text_in v >>= λ name. task_or_fault (position (bytes_eq name) names) >>= λ task. task_set (with_task task set) >>= λ more. with_tasks names q left (number + 1) more)
+    (read_safe s r sorts.Tasks refl there)
+    (named_safe s names set (λ more. with_tasks names q left (number + 1) more) few under
+    (λ more below. listed_safe s names q len few is left (number + 1) more (omega (arith, low)) (omega (arith, high)) below)))
 
-pub tasks_safe : (s : Scene) (names : List (List ℕ)) (q : Lvalue) (o : Option ℕ) (len : ℕ) → o ≡ Some len → IsRooted s q sorts.Tasks (Some len)
+pub tasks_safe : (s : Scene) (names : List (List ℕ)) (q : Lvalue) (o : Option ℕ) (len : ℕ) → length names ≤ 8 → o ≡ Some len → IsRooted s q sorts.Tasks (Some len)
     → Safe s (λ tasks. tasks < 2 ^ length names) (tasks_in names q o)
-tasks_safe s names q o len e is =
+tasks_safe s names q o len few e is =
     subst (λ (x : Option ℕ). Safe s (λ tasks. tasks < 2 ^ length names) (tasks_in names q x)) (sym e)
-    (listed_safe s names q len is len 1 0 (omega arith) (omega arith) (positive (length names)))
+    (listed_safe s names q len few is len 1 0 (omega arith) (omega arith) (positive (length names)))
 
 pub arrive_safe : (s : Scene) (row meeting tasks : ℕ) → slice_get s.c.tree.meeting_of row ≡ Some meeting → tasks < 2 ^ length s.c.tree.tasks → Safe s Anything (arrive meeting tasks)
 arrive_safe s row meeting tasks e under = safe_asks s Anything (requests.Arrive meeting tasks) when_arrived (record { no_rise = refl; no_hold = refl; no_leave = refl; no_end = refl }) (λ d. (row, e, under)) answered

@@ -79,6 +79,7 @@ numbered = record {
   task_row = record { name = codes "A"; arm = None };
   there = refl;
   tasks = refl;
+  few_tasks = omega arith;
   as_many_pers = refl;
   pers = λ row number p e f. absurd cc;
   as_many_meetings = refl;

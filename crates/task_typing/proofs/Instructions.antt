@@ -103,7 +103,7 @@ meets i number list few are =
     (λ meeting same. safe_then (scene i) (λ q. IsRooted (scene i) q sorts.Tasks (Some array.0)) Anything (place i.c.tree i.routine list)
     (λ q. tasks_in i.c.tree.tasks q (lent_length i.c.tree i.routine list) >>= arrive meeting) array.2
     (λ q rooted. safe_then (scene i) (λ (tasks : ℕ). tasks < 2 ^ length i.c.tree.tasks) Anything (tasks_in i.c.tree.tasks q (lent_length i.c.tree i.routine list)) (arrive meeting)
-    (tasks_safe (scene i) i.c.tree.tasks q (lent_length i.c.tree i.routine list) array.0 array.1 rooted)
+    (tasks_safe (scene i) i.c.tree.tasks q (lent_length i.c.tree i.routine list) array.0 i.facts.few_tasks array.1 rooted)
     (λ tasks under. arrive_safe (scene i) number meeting tasks (named.1 ∙ ap Some (sym same)) under)))
 
 -- what stands behind the text of TPWrite

@@ -20,16 +20,18 @@ use Rattle.typed_trees.specs.declared.datum.Root.{Root}
 use Rattle.typed_trees.specs.declared.datum.Root.TheVariants as roots
 use Rattle.typed_trees.specs.declared.expr.TreeRoot.{TreeRoot}
 use Rattle.typed_trees.specs.declared.expr.TreeRoot.TheVariants as tree_roots
-use Rattle.rapid_meaning.specs.Data.{Data, Frame}
-use Rattle.rapid_meaning.specs.Doings.{or_misfit}
+use Rattle.rapid_meaning.specs.Data.{Data, Frame, datum_at}
+use Rattle.rapid_meaning.specs.Doings.{Reads, or_misfit}
 use Rattle.rapid_meaning.specs.Layouts.{length_at, local_start, slot_start}
-use Rattle.rapid_meaning.specs.Places.{at_root, element_of, element_or_fault, indexed, kept_place, own_place, part_at, part_within, place_in, rooted}
+use Rattle.rapid_meaning.specs.Places.{at_element, at_root, element_of, element_or_fault, element_root, indexed, kept_place, own_place, part_at, part_within, place_in, rooted, there_in}
 use Rattle.rapid_meaning.specs.Values.{num_in}
 use Rattle.task_typing.specs.Expressions.{IsOwn, IsRoot}
 use Rattle.task_typing.specs.Kinds.{Cell, Holds, Lends, Kind, Owns, Refers, Counts, cells_of, kinds_of, local_cells}
 use Rattle.task_typing.specs.Setting.{Setting}
 use Rattle.task_typing.specs.States.{AreFrames, IsInCell, IsLvalue, IsRootOf, cells_at}
+use Rattle.task_typing.specs.WellTyped.{is_datum_of}
 use Rattle.task_typing.proofs.Cells.{HasCells, as_deep, cell_read, deeper, has_cells, top_frame}
+use Rattle.task_typing.proofs.Data.{frame_datum, slot_datum}
 use Rattle.task_typing.proofs.Forms.{num_form}
 use Rattle.task_typing.proofs.Parts.{inner_part}
 use Rattle.task_typing.proofs.Rows.{at_repeated, cell_count, local_len, local_row, slot_row}
@@ -205,11 +207,29 @@ number_within len (pos n) k e =
     (leb-true 1 (n / 1_000) (and_parts (n % 1_000 == 0) (nat_le 1 (n / 1_000)) both.0).1, leb-true (n / 1_000) len both.1)) e
 number_within len (negsuc n) k e = absurd cc
 
+-- a place of the scene is among its data
+there_safe : (s : Scene) (q : Lvalue) (root : Root) (whole sort : Sort) → IsRootOf s.c.tree s.frames root whole → IsThere s q sort
+    → Safe s (λ r. IsThere s r sort) (Reads (λ d. or_misfit (there_in d q root)))
+there_safe s q (roots.Slot slot) whole sort is there =
+    safe_reads s (λ r. IsThere s r sort) (λ d. or_misfit (there_in d q (roots.Slot slot)))
+    (λ d state.
+    let held : (x : Datum) × (datum_at (roots.Slot slot) d ≡ Some x) × IsTrue (is_datum_of whole x) = slot_datum s.c.tree s.trapped s.frames d slot whole state is in
+    safe_or s (λ r. IsThere s r sort) (there_in d q (roots.Slot slot)) q (ap (option_map (λ (x : Datum). q)) held.1) there)
+there_safe s q (roots.Frame k at) whole sort is there =
+    safe_reads s (λ r. IsThere s r sort) (λ d. or_misfit (there_in d q (roots.Frame k at)))
+    (λ d state.
+    let held : (x : Datum) × (datum_at (roots.Frame k at) d ≡ Some x) × IsTrue (is_datum_of whole x) = frame_datum s.c.tree s.trapped s.frames d k at whole state is in
+    safe_or s (λ r. IsThere s r sort) (there_in d q (roots.Frame k at)) q (ap (option_map (λ (x : Datum). q)) held.1) there)
+there_safe s q (roots.Pers pers index) whole sort is there =
+    safe_reads s (λ r. IsThere s r sort) (λ d. or_misfit (there_in d q (roots.Pers pers index))) (λ d state. safe_gives s (λ r. IsThere s r sort) q there)
+
+pub at_element_safe : (s : Scene) (q : Lvalue) (sort : Sort) (k : ℕ) → IsThere s (element_of q k) sort → Safe s (λ r. IsThere s r sort) (at_element q k)
+at_element_safe s q sort k is = there_safe s (element_of q k) (element_root q.root k) is.0 sort is.1 is
+
 element_safe : (s : Scene) (q : Lvalue) (sort : Sort) (len : ℕ) (o : Option ℕ) → IsRooted s q sort (Some len) → ((k : ℕ) → o ≡ Some k → (1 ≤ k) × (k ≤ len))
     → Safe s (λ r. IsThere s r sort) (element_or_fault q o)
 element_safe s q sort len None rooted within = safe_fault s (λ r. IsThere s r sort) IndexRange
-element_safe s q sort len (Some k) rooted within =
-    let is : (1 ≤ k) × (k ≤ len) = within k refl in safe_gives s (λ r. IsThere s r sort) (element_of q k) (rooted k is.0 is.1)
+element_safe s q sort len (Some k) rooted within = let is : (1 ≤ k) × (k ≤ len) = within k refl in at_element_safe s q sort k (rooted k is.0 is.1)
 
 pub num_safe : (s : Scene) (v : Value) → IsTrue (has_sort sorts.Num v) → Safe s Anything (num_in v)
 num_safe s v h = let f : (n : ℤ) × (v ≡ values.Num n) = num_form v h in subst (λ (x : Value). Safe s Anything (num_in x)) (sym f.1) (safe_any s f.0)

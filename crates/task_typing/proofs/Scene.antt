@@ -1,5 +1,5 @@
 -- What is around a doing of a well typed task, and the rules that its parts keep.
-use Rattle.std.proofs.Common.{◌≡◌, ℕ, ◌<◌, Bool, true, false, List, ◌∷◌, length, map, All, flat_map, Option, Some, None, slice_get, IsTrue}
+use Rattle.std.proofs.Common.{◌≡◌, ℕ, ◌<◌, ◌≤◌, Bool, true, false, List, ◌∷◌, length, map, All, flat_map, Option, Some, None, slice_get, IsTrue}
 use Rattle.std.specs.Prelude.{⊤}
 use Rattle.rapid_model.specs.Paths.{has_sort}
 use Rattle.rapid_model.specs.Sorts.{has_values}
@@ -20,13 +20,14 @@ use Rattle.task_typing.specs.Statements.{Around, AreStmts, IsStmt, ReturnsNothin
 use Rattle.task_typing.specs.WellTyped.{IsRoutine, around_in}
 use Rattle.task_typing.proofs.Meets.{Rules}
 
--- what the numbers of persistents and meetings keep
+-- what the numbers of persistents and meetings keep, and the list of tasks
 pub record Facts (c : Setting) : Type 0 where
   pub numbers : (row : ℕ) (p : TypedPers) → slice_get c.tree.pers row ≡ Some p → (number : ℕ) × (slice_get c.tree.pers_of row ≡ Some number)
   pub sorts : (number : ℕ) (p : TypedPers) → IsPers c.tree number p → sort_of_pers c.tree.pers_of c.tree.pers number ≡ Some p.sort
   pub valued : (number : ℕ) (p : TypedPers) → IsPers c.tree number p → IsTrue (has_values p.sort)
   pub routines : All (IsRoutine c) c.tree.routines
   pub meetings : (row : ℕ) → row < length c.tree.meetings → (number : ℕ) × (slice_get c.tree.meeting_of row ≡ Some number)
+  pub few_tasks : length c.tree.tasks ≤ 8
 
 -- in a trap or in none, and with frames of these places
 pub record Scene : Type 0 where

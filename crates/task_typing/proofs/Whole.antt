@@ -2,6 +2,7 @@
 use Rattle.std.proofs.Common.{◌≡◌, refl, sym, ap, ◌∙◌, subst, ℕ, zero, suc, ◌<◌, ◌==◌, Bool, true, false, List, [], ◌∷◌, ◌++◌, length, map, flat_map, Option, Some, slice_get, if◌then◌else◌, IsTrue, arith, length-append}
 use Rattle.std.specs.Prelude.{⊤}
 use Rattle.std.proofs.lemmas.Bool.{eqb-true, eq-eqb}
+use Rattle.std.proofs.lemmas.List.{length-map}
 use Rattle.std.proofs.lemmas.Option.{slice_get_within}
 use Rattle.rapid_model.specs.CellData.{CellData}
 use Rattle.rapid_model.specs.declared.answer.Answer.{Answer}
@@ -73,6 +74,9 @@ facts_of signals arm cell number tree typed numbered = record {
   valued = λ n p is. all_at (λ (q : TypedPers). IsTrue (has_values q.sort)) tree.pers is.row p typed.pers is.there;
   routines = typed.routines;
   meetings = λ row few. there_is tree.meeting_of row (omega (arith, few, numbered.as_many_meetings));
+  few_tasks =
+      let as_many : length tree.tasks ≡ length cell.tasks = ap (λ (names : List (List ℕ)). length names) numbered.tasks ∙ length-map cell.tasks (λ row. row.name) in
+      omega (arith, as_many, numbered.few_tasks);
 }
 
 initial_state : (signals : ℕ) (arm : Bool) (tree : TypedTree) → WellTyped signals arm tree → IsState tree false [] (initial tree)

@@ -82,7 +82,7 @@ accepted_right script made number tree accepted is =
       row = row_of checked.task;
       there = row_there script.tasks made.cell.tasks number checked.task (tasks_are script trees made accepted.is_made) checked.there;
       typed = subst (λ (l : List SignalRow). WellTyped (length l) (is_some checked.task.arm) tree) (sym (signals_are script trees made accepted.is_made)) stayed;
-      numbered = made_right script trees made accepted.is_made number tree (checked_length script script.tasks accepted.modules trees accepted.are_checked) is named;
+      numbered = made_right script trees made accepted.is_made number tree accepted.few_tasks (checked_length script script.tasks accepted.modules trees accepted.are_checked) is named;
       labels =
           subst (All NumbersLabels) (sym (made_routines script trees made accepted.is_made number before.0 tree before.1 is))
           (labels_count checked.modules names script.signals (is_some checked.task.arm) before.0 typed (labels_apart checked.modules checked.read));

@@ -1,6 +1,7 @@
 -- The trees of a made cell have the cell's numbers.
-use Rattle.std.proofs.Common.{◌≡◌, ℕ, zero, suc, ◌<◌, Bool, List, [], ◌∷◌, length, map, Some, slice_get, Ok, refl, sym, ap, subst, ◌∙◌, arith}
+use Rattle.std.proofs.Common.{◌≡◌, ℕ, zero, suc, ◌<◌, ◌≤◌, Bool, List, [], ◌∷◌, length, map, Some, slice_get, Ok, refl, sym, ap, subst, ◌∙◌, arith}
 use Rattle.std.specs.Option.{option_map}
+use Rattle.std.proofs.lemmas.List.{length-map}
 use Rattle.std.proofs.lemmas.Option.{slice_get_within, slice_get-map}
 use Rattle.rapid_model.specs.CellData.{CellData}
 use Rattle.rapid_model.specs.ScriptData.{ScriptData, row_of}
@@ -91,8 +92,8 @@ module _ (script : ScriptData) (trees : List TypedTree) (made : MadeCell) (made_
   tree_made k tree is = numbered_at trees all.lists met.lists k tree (ap (λ (m : MadeCell). slice_get m.trees k) (sym all.is) ∙ is)
 
   -- the numbers are those of the cell
-  pub made_right : (k : ℕ) (tree : TypedTree) → length trees ≡ length script.tasks → slice_get made.trees k ≡ Some tree → tree.tasks ≡ map (λ (task : ScriptTask). task.name) script.tasks → Numbered made.cell k tree
-  made_right k tree as_many is named =
+  pub made_right : (k : ℕ) (tree : TypedTree) → length script.tasks ≤ 8 → length trees ≡ length script.tasks → slice_get made.trees k ≡ Some tree → tree.tasks ≡ map (λ (task : ScriptTask). task.name) script.tasks → Numbered made.cell k tree
+  made_right k tree few as_many is named =
       let t = tree_made k tree is in
       let p = partner (TreeOf all.pers) trees all.lists k t.before all.each t.is_tree in
       let m = partner (MeetingsOf (length met.names)) trees met.lists k t.before (meetings_numbered trees) t.is_tree in
@@ -107,6 +108,7 @@ module _ (script : ScriptData) (trees : List TypedTree) (made : MadeCell) (made_
         task_row = row_of task.0;
         there = slice_get-map row_of script.tasks k ∙ ap (option_map row_of) task.1;
         tasks = ap (λ (x : TypedTree). x.tasks) (sym t.is) ∙ named ∙ sym (names_same script.tasks);
+        few_tasks = omega (arith, few, length-map script.tasks row_of);
         as_many_pers = sym (each_length (IsOf all.pers) t.before.pers t.pers_of each);
         pers = λ row number pers is so.
             let found = partner (IsOf all.pers) t.before.pers t.pers_of row pers each so in

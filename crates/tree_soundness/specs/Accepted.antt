@@ -1,5 +1,5 @@
 -- The cells that are accepted: of a script and of the modules of its tasks, which texts spell and checking takes.
-use Rattle.std.specs.Prelude.{◌≡◌, ℕ, List, [], ◌∷◌, map, is_some, Ok, ⊤}
+use Rattle.std.specs.Prelude.{◌≡◌, ℕ, ◌≤◌, List, [], ◌∷◌, length, map, is_some, Ok, ⊤}
 use Rattle.std.specs.List.{All}
 use Rattle.rapid_model.specs.ScriptData.{ScriptData}
 use Rattle.rapid_model.specs.declared.script_task.ScriptTask.{ScriptTask}
@@ -21,9 +21,10 @@ AreChecked script (task ∷ tasks) (modules ∷ more) (tree ∷ trees) =
     AreRead modules × (task_of modules (map (λ (t : ScriptTask). t.name) script.tasks) script.signals (is_some task.arm) ≡ Ok tree) × AreChecked script tasks more trees
 AreChecked script _ _ _ = ⊥
 
--- a cell of the script, and the trees of its tasks with the cell's numbers
+-- a cell of the script, which has at most eight tasks, and the trees of its tasks with the cell's numbers
 pub record IsAccepted (script : ScriptData) (made : MadeCell) : Type 0 where
   pub modules : List (List PlainModule)
   pub trees : List TypedTree
+  pub few_tasks : length script.tasks ≤ 8
   pub are_checked : AreChecked script script.tasks modules trees
   pub is_made : make_cell script trees ≡ Ok made

@@ -1,4 +1,4 @@
-ghost use Rattle.std.specs.Prelude.{◌≡◌, ℕ, Bool, false, IsTrue, List, All, length, map, is_some, Ok, Some, slice_get};
+ghost use Rattle.std.specs.Prelude.{◌≡◌, ℕ, ◌≤◌, Bool, false, IsTrue, List, All, length, map, is_some, Ok, Some, slice_get};
 ghost use Rattle.rapid_model.specs.Own.{has_ended};
 ghost use Rattle.rapid_model.specs.Requests.{suits_actor};
 ghost use Rattle.rapid_model.specs.ScriptData.{ScriptData};
@@ -35,18 +35,18 @@ pub fn read_traps_take_nothing()
     ensures { (modules : List PlainModule) → AreRead modules → TrapsTakeNothing modules }
 {}
 
-/// A law: where a cell is made of a script and of the trees of its tasks, each tree with the cell's numbers is numbered for its
-/// task: each of its persistents and meetings has the number of one of the cell, a persistent's of its own type and length; and
-/// it is well typed where it was so before.
+/// A law: where a cell is made of a script of at most eight tasks and of their trees, each tree with the cell's numbers is numbered
+/// for its task: each of its persistents and meetings has the number of one of the cell, a persistent's of its own type and length;
+/// and it is well typed where it was so before.
 pub fn made_cells_number_their_trees()
-    ensures numbered { (script : ScriptData) (trees : List TypedTree) (made : MadeCell) (number : ℕ) (tree : TypedTree) → length trees ≡ length script.tasks → make_cell script trees ≡ Ok made → slice_get made.trees number ≡ Some tree → tree.tasks ≡ map (λ (task : ScriptTask). task.name) script.tasks → Numbered made.cell number tree }
+    ensures numbered { (script : ScriptData) (trees : List TypedTree) (made : MadeCell) (number : ℕ) (tree : TypedTree) → length script.tasks ≤ 8 → length trees ≡ length script.tasks → make_cell script trees ≡ Ok made → slice_get made.trees number ≡ Some tree → tree.tasks ≡ map (λ (task : ScriptTask). task.name) script.tasks → Numbered made.cell number tree }
     ensures typed { (script : ScriptData) (trees : List TypedTree) (made : MadeCell) (signals : ℕ) (arm : Bool) (number : ℕ) (before : TypedTree) (tree : TypedTree) → make_cell script trees ≡ Ok made → slice_get trees number ≡ Some before → slice_get made.trees number ≡ Some tree → WellTyped signals arm before → WellTyped signals arm tree }
 {}
 
 /// A law: each tree of an accepted cell is well typed for its task's row and has the cell's numbers; so after whatever answers fit
 /// step by step the task asks or has ended, it asks until its End, and what it asks is what it may ask by the cell and by its own
-/// events so far. Accepted is what the script's text and the modules' texts come to: that the modules are spelled and checked, and
-/// that the cell is made.
+/// events so far. Accepted is what the script's text and the modules' texts come to: that the script has at most eight tasks, that
+/// the modules are spelled and checked, and that the cell is made.
 pub fn accepted_tasks_go_on()
     ensures right { (script : ScriptData) (made : MadeCell) (number : ℕ) (tree : TypedTree) → IsAccepted script made → slice_get made.trees number ≡ Some tree → (row : TaskRow) × (slice_get made.cell.tasks number ≡ Some row) × WellTyped (length made.cell.signals) (is_some row.arm) tree × Numbered made.cell number tree }
     ensures goes { (script : ScriptData) (made : MadeCell) (number : ℕ) (tree : TypedTree) (answers : List Answer) → IsAccepted script made → slice_get made.trees number ≡ Some tree → FitsSteps tree answers → Goes (asked_after tree answers) }
