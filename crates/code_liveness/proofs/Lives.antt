@@ -5,7 +5,7 @@ use Rattle.std.proofs.lemmas.List.{append-nil}
 use Rattle.rapid_model.specs.Fits.{Fitting, fits_request}
 use Rattle.rapid_model.specs.declared.answer.Answer.{Answer}
 use Rattle.rapid_model.specs.declared.request.Request.{Request}
-use Rattle.cell_meaning.proofs.Lists.{cut_before, cut_more, cut_none}
+use Rattle.rapid_model.proofs.Cuts.{cut_before, cut_more, cut_none}
 use Rattle.typed_trees.specs.Plain.{TypedTree}
 use Rattle.rapid_meaning.specs.Answering.{Outcome, Asking, Ended, fitting_of}
 use Rattle.rapid_meaning.specs.Data.{Data}

@@ -5,7 +5,7 @@ use Rattle.rapid_model.specs.declared.answer.Answer.{Answer}
 use Rattle.rapid_model.specs.declared.fate.Fate.{Fate}
 use Rattle.rapid_model.specs.declared.request.Request.{Request}
 use Rattle.rapid_model.specs.declared.request.Request.TheVariants.{End}
-use Rattle.cell_meaning.proofs.Lists.{cut_more, cut_none}
+use Rattle.rapid_model.proofs.Cuts.{cut_more, cut_none}
 use Rattle.rapid_meaning.specs.Answering.{Asking}
 use Rattle.rapid_meaning.specs.Data.{Data}
 use Rattle.rapid_meaning.specs.Doings.{Doing, Asks, Ends}

@@ -1,3 +1,5 @@
 pub mod Live
+pub mod IsCode
 pub mod Reached
 pub mod Leads
+pub mod Asking

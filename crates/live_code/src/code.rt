@@ -8,8 +8,9 @@ use typed_trees::Datum;
 
 /// The code of a task: its operations and routines, what error recovery needs, the first values of module data and of
 /// frames, the names of all tasks of the script, the types of the task's persistents in the order of its tree, the most
-/// operands that a frame has, and the number of `main`. Contracts see it as plain data. It keeps that the code is live: after
-/// whatever answers fit step by step it comes to a request, or has ended.
+/// operands that a frame has, and the number of `main`. Contracts see it as plain data. It keeps that the code is live (after
+/// whatever answers fit step by step it comes to a request, or has ended), that the owners tile the operations in order, and
+/// that there are fewer than 2^32 operations, and as few module data.
 #[derive(Drop)]
 pub struct Code {
     pub ops: Vec<Op>,
@@ -26,7 +27,7 @@ pub struct Code {
 impl Model for Code {
     ghost use Rattle.stack_code.specs.CodeData.{CodeData};
     ghost use Rattle.stack_code.specs.Firsts.{in_full};
-    ghost use Rattle.live_code.specs.Live.{IsLive};
+    ghost use Rattle.live_code.specs.IsCode.{IsCode};
 
     ghost Value = { CodeData };
 
@@ -43,7 +44,7 @@ impl Model for Code {
       main = c.main;
     } };
 
-    ghost invariant = { λ c. IsLive (record {
+    ghost invariant = { λ c. IsCode (record {
       ops = c.ops.items;
       routines = c.routines.items;
       owners = c.marks.owners.items;

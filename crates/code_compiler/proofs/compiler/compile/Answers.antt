@@ -1,13 +1,28 @@
-use Rattle.std.proofs.Common.{sym, ◌∙◌, subst}
+use Rattle.std.proofs.Common.{sym, ◌∙◌, subst, length}
+use Rattle.std.proofs.lemmas.List.{length-map}
+use Rattle.typed_trees.specs.Plain.{TypedTree}
 use Rattle.typed_trees.specs.Views.{view_tree}
 use Rattle.stack_code.specs.CodeData.{CodeData}
+use Rattle.stack_code.specs.Compiled.{compiled, placed_in}
+use Rattle.stack_code.specs.Placed.{Placed}
+use Rattle.error_recovery.specs.Owners.{Tiles}
+use Rattle.error_recovery.proofs.Rows.{all_tile}
 use Rattle.live_code.specs.Live.{IsLive}
 use Rattle.code_liveness.specs.Asking.{AsksAs}
 use Rattle.code_liveness.proofs.Lives.{asks_as, live}
 use Rattle.code_compiler.proofs.compiler.compile.Goals as goal
 
-pub live-requires : goal.live-requires
-live-requires c = subst (λ (code : CodeData). IsLive code) (sym c.in_ok-linked.ensures) (live (view_tree c.args.tree.now) c.requires)
+tiled : (tree : TypedTree) → Tiles 0 (length (compiled tree).ops) (compiled tree).owners
+tiled tree = subst (λ n. Tiles 0 n (compiled tree).owners) (sym (length-map (placed_in tree) (λ (p : Placed). p.op))) (all_tile (placed_in tree))
 
-pub returns-clause-asks : goal.returns-clause-asks
-returns-clause-asks c = subst (λ (code : CodeData). AsksAs (view_tree c.args.tree.now) code) (sym (c.live.ensures ∙ c.in_ok-linked.ensures)) (asks_as (view_tree c.args.tree.now) c.requires)
+pub kept-requires : goal.kept-requires
+kept-requires c = record {
+  live = subst (λ (code : CodeData). IsLive code) (sym c.in_ok-linked.ensures) (live (view_tree c.args.tree.now) c.requires);
+  tiled = subst (λ (code : CodeData). Tiles 0 (length code.ops) code.owners) (sym c.in_ok-linked.ensures) (tiled (view_tree c.args.tree.now));
+  few_ops = c.is_counted.ensures.ops c.if-is_counted.true;
+  few_slots = c.is_counted.ensures.slots c.if-is_counted.true;
+}
+
+pub returns-then-is_counted-clause-asks : goal.returns-then-is_counted-clause-asks
+returns-then-is_counted-clause-asks c =
+    subst (λ (code : CodeData). AsksAs (view_tree c.args.tree.now) code) (sym (c.kept.ensures ∙ c.in_ok-linked.ensures)) (asks_as (view_tree c.args.tree.now) c.requires)
