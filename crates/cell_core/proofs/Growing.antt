@@ -1,111 +1,268 @@
 -- What a core keeps after one more event.
-use Rattle.std.proofs.Common.{◌≡◌, ℕ, suc, ◌+◌, ◌<◌, ◌≤◌, inl, inr, Bool, true, false, cond, List, [], ◌∷◌, ◌++◌, length, get_or, set, Option, Some, None, refl, sym, ◌∙◌, ap, subst, arith, length-append, length-set}
-use Rattle.std.specs.Prelude.{IsTrue, not, ◌||◌, nat_lt, is_some, count_by}
-use Rattle.std.proofs.lemmas.Bool.{cases_eq, ltb-true}
+use Rattle.std.proofs.Common.{◌≡◌, ◌⊎◌, ℕ, zero, suc, ◌+◌, ◌<◌, ◌≤◌, inl, inr, Bool, true, false, cond, List, [], ◌∷◌, ◌++◌, length, map, get_or, set, Option, Some, None, refl, sym, ◌∙◌, ap, subst, arith, length-append, length-set}
+use Rattle.std.specs.Prelude.{IsTrue, not, ◌&&◌, ◌||◌, ◌==◌, nat_lt, is_some, option_map, count_by}
+use Rattle.std.specs.Option.{option_or}
+use Rattle.std.proofs.lemmas.Bool.{cases_eq, eq-eqb, ne_eqb, ltb-true, false≢true}
 use Rattle.std.proofs.lemmas.List.{get_or-set_same, get_or-set_other}
 use Rattle.std.proofs.lemmas.List.Sums.{sum_by-set, count_by-le-length}
 use Rattle.rapid_num.specs.declared.joints.Joints.{Joints}
 use Rattle.rapid_model.specs.CellData.{CellData}
-use Rattle.rapid_model.specs.Own.{part_of, end_of, fate_told}
-use Rattle.rapid_model.specs.Requests.{is_served}
+use Rattle.rapid_model.specs.Own.{part_of, end_of, fate_told, is_held, is_trap, is_leave}
+use Rattle.rapid_model.specs.Requests.{suits_task}
+use Rattle.rapid_model.specs.declared.answer.Answer.{Answer}
+use Rattle.rapid_model.specs.declared.answer.Answer.TheVariants as answers
 use Rattle.rapid_model.specs.declared.event.Event.{Event}
 use Rattle.rapid_model.specs.declared.fate.Fate.{Fate}
+use Rattle.rapid_model.specs.declared.fate.Fate.TheVariants as fates
+use Rattle.rapid_model.specs.declared.path.Path.{Path}
 use Rattle.rapid_model.specs.declared.request.Request.{Request}
-use Rattle.cell_meaning.specs.Answers.{is_counted, counted, can_be_served}
-use Rattle.cell_meaning.specs.Motion.{arm_after}
-use Rattle.cell_meaning.proofs.Lists.{cut_more}
-use Rattle.cell_meaning.proofs.MoreEvents.{part_of-own, part_of-other, end_of-more, arm_after-own, arm_after-other, counted-more}
-use Rattle.cell_meaning.proofs.Served.{asks_known, served_case}
-use Rattle.cell_core.specs.Boards.{BoardData, arm_with, end_with, count_with, boards_with}
-use Rattle.cell_core.specs.Keeping.{Keeps}
+use Rattle.rapid_model.specs.declared.request.Request.TheVariants as requests
+use Rattle.rapid_model.specs.declared.task_row.TaskRow.{TaskRow}
+use Rattle.rapid_model.specs.declared.value.Value.{Value}
+use Rattle.rapid_model.specs.declared.value.Value.TheVariants as values
+use Rattle.rapid_model.specs.declared.watched.Watched.{Watched}
+use Rattle.persist_store.specs.Stores.{PersData, no_row}
+use Rattle.sync_tasks.specs.Meetings.{MeetingsData}
+use Rattle.trap_dispatch.specs.Tasks.{TaskData, after_changes}
+use Rattle.world_zones.specs.Zones.{ZonesData}
+use Rattle.cell_meaning.specs.Changes.{is_change}
+use Rattle.cell_meaning.specs.Counted.{is_counted, counted, can_be_served}
+use Rattle.cell_meaning.specs.Interrupts.{asked_with, interrupts_after}
+use Rattle.cell_meaning.specs.Meetings.{stands_with}
+use Rattle.cell_meaning.specs.Motion.{moved, is_given}
+use Rattle.cell_meaning.specs.Rising.{seen_with}
+use Rattle.cell_meaning.specs.Stored.{signals_with, persistents_with, with_part}
+use Rattle.cell_meaning.specs.Zones.{zones_with}
+use Rattle.cell_meaning.proofs.Asked.{TaskMay, ScriptMay, who_may}
+use Rattle.rapid_model.proofs.Cuts.{cut_more}
+use Rattle.cell_meaning.proofs.MoreEvents.{part_of-own, part_of-other, end_of-more, is_held-more, arm_after-own, arm_after-other, count_more, counted-more, setpoints_given-own, setpoints_given-other, seen_after-own, seen_after-other, signals_after-more, persistents_after-more, stands_after-more, zones_after-more, interrupts_after-more, changes_by_others-more}
+use Rattle.cell_core.specs.Actors.{one_if, actor_with, actor_at, before}
+use Rattle.cell_core.specs.Boards.{BoardData, elements_of, put_in, store_with, change_on, boards_with}
+use Rattle.cell_core.specs.Changes.{watched_of, is_some_change}
+use Rattle.cell_core.specs.Keeping.{Tells, Keeps, ends_told}
+use Rattle.cell_core.specs.Ready.{CanAnswer}
 use Rattle.cell_core.specs.Soundness.{IsSound, IsServed}
+use Rattle.cell_core.specs.declared.actor.Actor.{Actor}
+use Rattle.cell_core.proofs.Changing.{change_watched, change_counted}
+use Rattle.cell_core.proofs.Parts.{elements_row}
 
 IsSound-more : (cell : CellData) (history : List Event) (e : Event) → IsSound cell history → IsServed cell history e → IsSound cell (history ++ e ∷ [])
 IsSound-more cell history e sound now = record { at = cut_more (λ before f. IsServed cell before f) history e sound.at now }
 
--- the arms
-arm_more : (cell : CellData) (history : List Event) (arms : List (Option Joints)) (e : Event) → e.actor < length arms → length arms ≡ length cell.tasks
-    → ((k : ℕ) (d : Option Joints) → k < length cell.tasks → get_or arms k d ≡ arm_after cell history k)
-    → (k : ℕ) (d : Option Joints) → k < length cell.tasks → get_or (set arms e.actor (arm_with (get_or arms e.actor None) e)) k d ≡ arm_after cell (history ++ e ∷ []) k
-arm_more cell history arms e within count at k d h = elim (cases_eq k e.actor) [
-  | inl same ↦ (let P : ℕ → Type 0 = λ j. get_or (set arms e.actor (arm_with (get_or arms e.actor None) e)) j d ≡ arm_after cell (history ++ e ∷ []) j in
-      subst P (sym same) (get_or-set_same arms e.actor (arm_with (get_or arms e.actor None) e) d within
-      ∙ ap (λ (arm : Option Joints). arm_with arm e) (at e.actor None (omega arith)) ∙ sym (arm_after-own cell history e)))
-  | inr other ↦ get_or-set_other arms e.actor k (arm_with (get_or arms e.actor None) e) d other ∙ at k d h
-      ∙ sym (arm_after-other cell history e k (λ same. other (sym same)))
+-- what the event tells of its own actor
+own_none : (k : ℕ) (x : Bool) → one_if (not (k == k) && x) ≡ 0
+own_none k x = ap (λ (b : Bool). one_if (not b && x)) (eq-eqb k k refl)
+
+Tells-own : (cell : CellData) (history : List Event) (e : Event) (actor : Actor) (changes : ℕ) → Tells cell history e.actor actor changes
+    → Tells cell (history ++ e ∷ []) e.actor (actor_with actor (is_change cell history e) e.request e.answer) (changes + one_if (is_change cell history e))
+Tells-own cell history e actor changes tells =
+    let mine = part_of-own e.actor history e refl in
+    record {
+      arm = ap (λ (arm : Option Joints). option_map (λ position. moved position e.request e.answer) arm) tells.arm ∙ sym (arm_after-own cell history e);
+      end = ap (λ (told : Option Fate). option_or told (fate_told e.request)) tells.end ∙ sym (end_of-more (part_of e.actor history) e) ∙ sym (ap end_of mine);
+      held = sym (is_held-more (part_of e.actor history) e) ∙ sym (ap is_held mine);
+      seen = ap (λ (seen : ℕ). seen_with seen e.request) tells.seen ∙ sym (seen_after-own history e);
+      given = ap (λ (n : ℕ). n + one_if (is_given e.request e.answer)) tells.given ∙ sym (setpoints_given-own history e);
+      begun = ap (λ (n : ℕ). n + one_if (is_trap e.answer)) tells.begun ∙ sym (count_more (λ f. is_trap f.answer) (part_of e.actor history) e)
+          ∙ sym (ap (λ (es : List Event). count_by (λ f. is_trap f.answer) es) mine);
+      left = ap (λ (n : ℕ). n + one_if (is_leave e.request)) tells.left ∙ sym (count_more (λ f. is_leave f.request) (part_of e.actor history) e)
+          ∙ sym (ap (λ (es : List Event). count_by (λ f. is_leave f.request) es) mine);
+      events = ap (λ (n : ℕ). n + 1) tells.events ∙ sym (length-append (part_of e.actor history) (e ∷ [])) ∙ sym (ap length mine);
+      made = omega (arith, tells.made, changes_by_others-more cell history e e.actor, own_none e.actor (is_change cell history e));
+    }
+
+-- and of every other one
+other_counts : (cell : CellData) (history : List Event) (e : Event) (number : ℕ) → (e.actor ≡ number → ⊥) → one_if (not (e.actor == number) && is_change cell history e) ≡ one_if (is_change cell history e)
+other_counts cell history e number other = ap (λ (b : Bool). one_if (not b && is_change cell history e)) (ne_eqb e.actor number other)
+
+Tells-other : (cell : CellData) (history : List Event) (e : Event) (number : ℕ) (actor : Actor) (changes : ℕ) → (e.actor ≡ number → ⊥) → Tells cell history number actor changes
+    → Tells cell (history ++ e ∷ []) number actor (changes + one_if (is_change cell history e))
+Tells-other cell history e number actor changes other tells =
+    let mine = part_of-other number history e other in
+    record {
+      arm = tells.arm ∙ sym (arm_after-other cell history e number other);
+      end = tells.end ∙ sym (ap end_of mine);
+      held = tells.held ∙ sym (ap is_held mine);
+      seen = tells.seen ∙ sym (seen_after-other history e number other);
+      given = tells.given ∙ sym (setpoints_given-other history e number other);
+      begun = tells.begun ∙ sym (ap (λ (es : List Event). count_by (λ f. is_trap f.answer) es) mine);
+      left = tells.left ∙ sym (ap (λ (es : List Event). count_by (λ f. is_leave f.request) es) mine);
+      events = tells.events ∙ sym (ap length mine);
+      made = omega (arith, tells.made, changes_by_others-more cell history e number, other_counts cell history e number other);
+    }
+
+Tells-more : (cell : CellData) (history : List Event) (e : Event) (actors : List Actor) (changes number : ℕ) → e.actor < length actors
+    → Tells cell history e.actor (actor_at actors e.actor) changes → Tells cell history number (actor_at actors number) changes
+    → Tells cell (history ++ e ∷ []) number (actor_at (set actors e.actor (actor_with (actor_at actors e.actor) (is_change cell history e) e.request e.answer)) number) (changes + one_if (is_change cell history e))
+Tells-more cell history e actors changes number within own each = elim (cases_eq number e.actor) [
+  | inl same ↦ (let now = actor_with (actor_at actors e.actor) (is_change cell history e) e.request e.answer in
+      let P : ℕ → Type 0 = λ j. Tells cell (history ++ e ∷ []) j (actor_at (set actors e.actor now) j) (changes + one_if (is_change cell history e)) in
+      subst P (sym same) (subst (λ (a : Actor). Tells cell (history ++ e ∷ []) e.actor a (changes + one_if (is_change cell history e))) (sym (get_or-set_same actors e.actor now (before None) within))
+      (Tells-own cell history e (actor_at actors e.actor) changes own)))
+  | inr other ↦ (let now = actor_with (actor_at actors e.actor) (is_change cell history e) e.request e.answer in
+      subst (λ (a : Actor). Tells cell (history ++ e ∷ []) number a (changes + one_if (is_change cell history e))) (sym (get_or-set_other actors e.actor number now (before None) other))
+      (Tells-other cell history e number (actor_at actors number) changes (λ same. other (sym same)) each))
 ]
 
--- the ends
-end_more : (history : List Event) (tasks : ℕ) (ends : List (Option Fate)) (e : Event) → e.actor < length ends → length ends ≡ tasks
-    → ((k : ℕ) (d : Option Fate) → k < tasks → get_or ends k d ≡ end_of (part_of k history))
-    → (k : ℕ) (d : Option Fate) → k < tasks → get_or (set ends e.actor (end_with (get_or ends e.actor None) e)) k d ≡ end_of (part_of k (history ++ e ∷ []))
-end_more history tasks ends e within count at k d h = elim (cases_eq k e.actor) [
-  | inl same ↦ (let P : ℕ → Type 0 = λ j. get_or (set ends e.actor (end_with (get_or ends e.actor None) e)) j d ≡ end_of (part_of j (history ++ e ∷ [])) in
-      subst P (sym same) (get_or-set_same ends e.actor (end_with (get_or ends e.actor None) e) d within
-      ∙ ap (λ (told : Option Fate). end_with told e) (at e.actor None (omega arith)) ∙ sym (end_of-more (part_of e.actor history) e)
-      ∙ sym (ap end_of (part_of-own e.actor history e refl))))
-  | inr other ↦ get_or-set_other ends e.actor k (end_with (get_or ends e.actor None) e) d other ∙ at k d h
-      ∙ sym (ap end_of (part_of-other k history e (λ same. other (sym same))))
-]
+-- the store
+map-set : {A B : Type 0} (f : A → B) (xs : List A) (i : ℕ) (x : A) → map f (set xs i x) ≡ set (map f xs) i (f x)
+map-set f [] i x = refl
+map-set f (y ∷ xs) zero x = refl
+map-set {B = B} f (y ∷ xs) (suc i) x = ap (λ (rest : List B). f y ∷ rest) (map-set f xs i x)
+
+map-set-same : {A B : Type 0} (f : A → B) (xs : List A) (i : ℕ) (x d : A) → f x ≡ f (get_or xs i d) → map f (set xs i x) ≡ map f xs
+map-set-same f [] i x d same = refl
+map-set-same {B = B} f (y ∷ xs) zero x d same = ap (λ (b : B). b ∷ map f xs) same
+map-set-same {B = B} f (y ∷ xs) (suc i) x d same = ap (λ (rest : List B). f y ∷ rest) (map-set-same f xs i x d same)
+
+sorts_with : (rows : List PersData) (request : Request) (answer : Answer) → map (λ (r : PersData). r.sort) (store_with rows request answer) ≡ map (λ (r : PersData). r.sort) rows
+sorts_with rows (requests.WriteP pers path value) answers.Ok = map-set-same (λ (r : PersData). r.sort) rows pers _ no_row refl
+sorts_with rows (requests.TestSet pers path) (answers.Yes true) = map-set-same (λ (r : PersData). r.sort) rows pers _ no_row refl
+sorts_with rows _ _ = refl
+
+lens_with : (rows : List PersData) (request : Request) (answer : Answer) → map (λ (r : PersData). r.len) (store_with rows request answer) ≡ map (λ (r : PersData). r.len) rows
+lens_with rows (requests.WriteP pers path value) answers.Ok = map-set-same (λ (r : PersData). r.len) rows pers _ no_row refl
+lens_with rows (requests.TestSet pers path) (answers.Yes true) = map-set-same (λ (r : PersData). r.len) rows pers _ no_row refl
+lens_with rows _ _ = refl
+
+put_elements : (rows : List PersData) (pers : ℕ) (path : Path) (value : Value) → elements_of (put_in rows pers path value) ≡ set (elements_of rows) pers (with_part (get_or (elements_of rows) pers []) path value)
+put_elements rows pers path value =
+    map-set (λ (r : PersData). r.values) rows pers _ ∙ ap (λ (vs : List Value). set (elements_of rows) pers (with_part vs path value)) (sym (elements_row rows pers))
+
+elements_with : (rows : List PersData) (request : Request) (answer : Answer) → elements_of (store_with rows request answer) ≡ persistents_with (elements_of rows) request answer
+elements_with rows (requests.WriteP pers path value) answers.Ok = put_elements rows pers path value
+elements_with rows (requests.TestSet pers path) (answers.Yes true) = put_elements rows pers path (values.Bool true)
+elements_with rows _ _ = refl
 
 -- the count
-count_more : (served : ℕ) (request : Request) → count_with served request ≡ served + cond (is_counted request) 1 0
-count_more served request = by (is_counted request)
-  where
-    by : (b : Bool) → cond b (suc served) served ≡ served + cond b 1 0
-    by true = omega arith
-    by false = omega arith
+one_at_most : (b : Bool) → one_if b ≤ 1
+one_at_most true = omega arith
+one_at_most false = omega arith
 
 count_within : (cell : CellData) (history : List Event) (served : ℕ) (request : Request) → served ≡ counted history → served ≤ cell.steps
-    → IsTrue (can_be_served cell history request) → count_with served request ≤ cell.steps
+    → IsTrue (can_be_served cell history request) → served + one_if (is_counted request) ≤ cell.steps
 count_within cell history served request same few left = by (is_counted request) left
   where
-    by : (b : Bool) → (not b || nat_lt (counted history) cell.steps) ≡ true → cond b (suc served) served ≤ cell.steps
+    by : (b : Bool) → (not b || nat_lt (counted history) cell.steps) ≡ true → served + one_if b ≤ cell.steps
     by true h = omega (arith, ltb-true (counted history) cell.steps h)
-    by false h = few
+    by false h = omega (arith, few)
 
--- each event is counted, or ended its task
-one_of_both : (request : Request) → IsTrue (is_served request) → cond (is_counted request) 1 0 + cond (is_some (fate_told request)) 1 0 ≡ 1
-one_of_both = served_case (λ r. cond (is_counted r) 1 0 + cond (is_some (fate_told r)) 1 0 ≡ 1) refl refl (λ to. refl) (λ fate. refl)
-
-told_more : (ends : List (Option Fate)) (e : Event) → e.actor < length ends → get_or ends e.actor None ≡ None
-    → count_by is_some (set ends e.actor (end_with (get_or ends e.actor None) e)) ≡ count_by is_some ends + cond (is_some (fate_told e.request)) 1 0
-told_more ends e within alive =
-    let told : Option Fate → ℕ = λ end. cond (is_some end) 1 0 in
-    let now : told (end_with (get_or ends e.actor None) e) ≡ told (fate_told e.request) = ap (λ (end : Option Fate). told (end_with end e)) alive in
-    let was : told (get_or ends e.actor None) ≡ 0 = ap told alive in
-    let by_set = sum_by-set told ends e.actor (end_with (get_or ends e.actor None) e) None within in
-    omega (arith, now, was, by_set)
-
+-- each event is counted, or ended its task, or is an input
 none_told : (told : Option Fate) → is_some told ≡ false → told ≡ None
 none_told None h = refl
 none_told (Some fate) h = cc
 
-pub Keeps-more : (cell : CellData) (history : List Event) (boards : BoardData) (steps : ℕ) (e : Event) → Keeps cell history boards steps → IsServed cell history e
-    → Keeps cell (history ++ e ∷ []) (boards_with boards e) steps
-Keeps-more cell history boards steps e keeps now =
-    let known = asks_known cell e.actor (part_of e.actor history) e.request now.asked in
-    let within = known.within in
-    let alive : get_or boards.ends e.actor None ≡ None = keeps.end_at e.actor None within ∙ none_told (end_of (part_of e.actor history)) known.alive in
-    let in_ends : e.actor < length boards.ends = omega (arith, keeps.end_count) in
+-- how many ends are told, and how many steps the input script did
+pub record Counts (actors after : List Actor) (script : ℕ) (request : Request) (inputs : ℕ) : Type 0 where
+  pub script_on : (actor_at after script).end ≡ None
+  pub inputs_within : (actor_at after script).events ≤ inputs
+  pub ends : ends_told after + (actor_at after script).events + one_if (is_counted request) ≡ ends_told actors + (actor_at actors script).events + 1
+
+one_of_both : (cell : CellData) (row : TaskRow) (mine : List Event) (request : Request) → suits_task cell row mine request ≡ true → one_if (is_counted request) + one_if (is_some (fate_told request)) ≡ 1
+one_of_both cell row mine (requests.Input index) suits = absurd (false≢true suits)
+one_of_both cell row mine (requests.End fate) suits = refl
+one_of_both cell row mine _ suits = refl
+
+ends_more : (actors : List Actor) (number : ℕ) (now : Actor) → number < length actors
+    → ends_told (set actors number now) + one_if (is_some (actor_at actors number).end) ≡ ends_told actors + one_if (is_some now.end)
+ends_more actors number now within = sum_by-set (λ (a : Actor). cond (is_some a.end) 1 0) actors number now (before None) within
+
+task_counts : (cell : CellData) (history : List Event) (actors : List Actor) (changes : ℕ) (changed : Bool) (actor : ℕ) (request : Request) (answer : Answer) → length actors ≡ length cell.tasks + 1
+    → Tells cell history actor (actor_at actors actor) changes → (actor_at actors (length cell.tasks)).end ≡ None → (actor_at actors (length cell.tasks)).events ≤ length cell.inputs → TaskMay cell actor (part_of actor history) request
+    → Counts actors (set actors actor (actor_with (actor_at actors actor) changed request answer)) (length cell.tasks) request (length cell.inputs)
+task_counts cell history actors changes changed actor request answer count tells on few may =
+    let now = actor_with (actor_at actors actor) changed request answer in
+    let alive : (actor_at actors actor).end ≡ None = tells.end ∙ none_told (end_of (part_of actor history)) may.alive in
+    let was : one_if (is_some (actor_at actors actor).end) ≡ 0 = ap (λ (told : Option Fate). one_if (is_some told)) alive in
+    let is : one_if (is_some now.end) ≡ one_if (is_some (fate_told request)) = ap (λ (told : Option Fate). one_if (is_some (option_or told (fate_told request)))) alive in
+    let apart : length cell.tasks ≡ actor → ⊥ = λ same. absurd (omega (arith, may.within, same)) in
+    let stays = get_or-set_other actors actor (length cell.tasks) now (before None) apart in
+    let script : (actor_at (set actors actor now) (length cell.tasks)).events ≡ (actor_at actors (length cell.tasks)).events = ap (λ (a : Actor). a.events) stays in
     record {
-      limits = keeps.limits;
-      sound = IsSound-more cell history e keeps.sound now;
-      arm_count = length-set boards.arms e.actor _ ∙ keeps.arm_count;
-      end_count = length-set boards.ends e.actor _ ∙ keeps.end_count;
-      arm_at = arm_more cell history boards.arms e (omega (arith, keeps.arm_count)) keeps.arm_count keeps.arm_at;
-      end_at = end_more history (length cell.tasks) boards.ends e in_ends keeps.end_count keeps.end_at;
-      steps_same = keeps.steps_same;
-      counted_same = count_more boards.counted e.request ∙ ap (λ (n : ℕ). n + cond (is_counted e.request) 1 0) keeps.counted_same ∙ sym (counted-more history e);
-      within = omega (arith, count_within cell history boards.counted e.request keeps.counted_same (omega (arith, keeps.within, keeps.steps_same)) now.served, keeps.steps_same);
-      events = omega (arith, length-append history (e ∷ []), keeps.events, count_more boards.counted e.request, told_more boards.ends e in_ends alive, one_of_both e.request known.served);
+      script_on = ap (λ (a : Actor). a.end) stays ∙ on;
+      inputs_within = omega (arith, script, few);
+      ends = omega (arith, script, was, is, ends_more actors actor now (omega (arith, count, may.within)), one_of_both cell may.row (part_of actor history) request may.suits);
     }
 
-pub few_events : (cell : CellData) (history : List Event) (boards : BoardData) (steps : ℕ) → Keeps cell history boards steps → length history ≤ cell.steps + length cell.tasks
-few_events cell history boards steps keeps = omega (arith, keeps.events, keeps.within, keeps.steps_same, keeps.end_count, count_by-le-length is_some boards.ends)
+script_counts : (cell : CellData) (history : List Event) (actors : List Actor) (changes : ℕ) (changed : Bool) (actor : ℕ) (request : Request) (answer : Answer) → length actors ≡ length cell.tasks + 1
+    → Tells cell history actor (actor_at actors actor) changes → (actor_at actors (length cell.tasks)).end ≡ None → ScriptMay cell actor (part_of actor history) request
+    → Counts actors (set actors actor (actor_with (actor_at actors actor) changed request answer)) (length cell.tasks) request (length cell.inputs)
+script_counts cell history actors changes changed actor request answer count tells on may =
+    let now = actor_with (actor_at actors actor) changed request answer in
+    let within : actor < length actors = omega (arith, count, may.script) in
+    let not_counted : one_if (is_counted request) ≡ 0 = ap (λ (r : Request). one_if (is_counted r)) may.next in
+    let same : (actor_at (set actors actor now) (length cell.tasks)).events ≡ (actor_at actors actor).events + 1 =
+    ap (λ (k : ℕ). (actor_at (set actors actor now) k).events) (sym may.script) ∙ ap (λ (a : Actor). a.events) (get_or-set_same actors actor now (before None) within) in
+    let was : (actor_at actors (length cell.tasks)).events ≡ (actor_at actors actor).events = ap (λ (k : ℕ). (actor_at actors k).events) (sym may.script) in
+    let kept : now.end ≡ (actor_at actors actor).end =
+    ap (λ (r : Request). option_or (actor_at actors actor).end (fate_told r)) may.next ∙ or_none (actor_at actors actor).end in
+    record {
+      script_on = ap (λ (k : ℕ). (actor_at (set actors actor now) k).end) (sym may.script) ∙ ap (λ (a : Actor). a.end) (get_or-set_same actors actor now (before None) within)
+          ∙ kept ∙ ap (λ (k : ℕ). (actor_at actors k).end) may.script ∙ on;
+      inputs_within = omega (arith, same, tells.events, may.left);
+      ends = omega (arith, same, was, not_counted, ap (λ (told : Option Fate). one_if (is_some told)) kept, ends_more actors actor now within);
+    }
+  where
+    or_none : (told : Option Fate) → option_or told None ≡ told
+    or_none None = refl
+    or_none (Some fate) = refl
+
+pub Keeps-more : (cell : CellData) (history : List Event) (boards : BoardData) (steps : ℕ) (e : Event) → Keeps cell history boards steps → IsServed cell history e → CanAnswer cell boards e.actor e.request
+    → Keeps cell (history ++ e ∷ []) (boards_with cell boards e) steps
+Keeps-more cell history boards steps e keeps now can =
+    let who = who_may cell e.actor (part_of e.actor history) e.request now.asked in
+    let change = change_on cell boards e.actor e.request e.answer in
+    let watched = change_watched cell history boards steps e.actor e.request e.answer keeps can in
+    let counts = change_counted cell history boards steps e.actor e.request e.answer keeps can in
+    let there : e.actor ≤ length cell.tasks = actor_within who in
+    let own = keeps.actors e.actor there in
+    let within : e.actor < length boards.actors = omega (arith, there, keeps.actor_count) in
+    let numbers = parts who own in
+    record {
+      limits = keeps.limits;
+      full = keeps.full;
+      sound = IsSound-more cell history e keeps.sound now;
+      pers = (sorts_with boards.store e.request e.answer ∙ keeps.pers.0, lens_with boards.store e.request e.answer ∙ keeps.pers.1);
+      store = elements_with boards.store e.request e.answer ∙ ap (λ (rows : List (List Value)). persistents_with rows e.request e.answer) keeps.store ∙ sym (persistents_after-more cell history e);
+      signals = ap (λ (ss : List Bool). signals_with cell ss e.request e.answer) keeps.signals ∙ sym (signals_after-more cell history e);
+      meetings = ap (λ (m : MeetingsData). stands_with m e.actor e.request e.answer) keeps.meetings ∙ sym (stands_after-more cell history e);
+      traps = ap (λ (ts : List TaskData). map (after_changes (watched_of change)) (asked_with ts e.actor e.request e.answer)) keeps.traps
+          ∙ ap (λ (c : List Watched). map (after_changes c) (asked_with (interrupts_after cell history) e.actor e.request e.answer)) watched ∙ sym (interrupts_after-more cell history e);
+      zones = ap (λ (zs : ZonesData). zones_with zs e.actor e.request e.answer) keeps.zones ∙ sym (zones_after-more cell history e);
+      actor_count = length-set boards.actors e.actor _ ∙ keeps.actor_count;
+      actors = λ number h. subst (λ (b : Bool). Tells cell (history ++ e ∷ []) number (actor_at (set boards.actors e.actor (actor_with (actor_at boards.actors e.actor) b e.request e.answer)) number) (boards.changes + one_if b))
+          (sym counts) (Tells-more cell history e boards.actors boards.changes number within own (keeps.actors number h));
+      steps_same = keeps.steps_same;
+      counted_same = ap (λ (n : ℕ). n + one_if (is_counted e.request)) keeps.counted_same ∙ sym (counted-more history e);
+      changes_few = omega (arith, length-append history (e ∷ []), keeps.changes_few, one_at_most (is_some_change change));
+      within = omega (arith, count_within cell history boards.counted e.request keeps.counted_same (omega (arith, keeps.within, keeps.steps_same)) now.served, keeps.steps_same);
+      script_on = numbers.script_on;
+      inputs_within = numbers.inputs_within;
+      events = omega (arith, length-append history (e ∷ []), keeps.events, numbers.ends);
+    }
+  where
+    actor_within : TaskMay cell e.actor (part_of e.actor history) e.request ⊎ ScriptMay cell e.actor (part_of e.actor history) e.request → e.actor ≤ length cell.tasks
+    actor_within (inl task) = omega (arith, task.within)
+    actor_within (inr script) = omega (arith, script.script)
+
+    parts : TaskMay cell e.actor (part_of e.actor history) e.request ⊎ ScriptMay cell e.actor (part_of e.actor history) e.request → Tells cell history e.actor (actor_at boards.actors e.actor) boards.changes
+        → Counts boards.actors (set boards.actors e.actor (actor_with (actor_at boards.actors e.actor) (is_some_change (change_on cell boards e.actor e.request e.answer)) e.request e.answer)) (length cell.tasks) e.request (length cell.inputs)
+    parts (inl task) own = task_counts cell history boards.actors boards.changes (is_some_change (change_on cell boards e.actor e.request e.answer)) e.actor e.request e.answer keeps.actor_count own keeps.script_on keeps.inputs_within task
+    parts (inr script) own = script_counts cell history boards.actors boards.changes (is_some_change (change_on cell boards e.actor e.request e.answer)) e.actor e.request e.answer keeps.actor_count own keeps.script_on script
+
+-- no more than one event for each step of the run, each task and each step of the input script, which tells no fate
+few_ends : (actors : List Actor) (tasks : ℕ) → length actors ≡ tasks + 1 → (actor_at actors tasks).end ≡ None → ends_told actors ≤ tasks
+few_ends actors tasks count on =
+    let told : Actor = record (before None) { end = Some fates.Done } in
+    let none : one_if (is_some (actor_at actors tasks).end) ≡ 0 = ap (λ (end : Option Fate). one_if (is_some end)) on in
+    omega (arith, count, none, ends_more actors tasks told (omega (arith, count)), count_by-le-length (λ (a : Actor). is_some a.end) (set actors tasks told), length-set actors tasks told)
+
+pub few_events : (cell : CellData) (history : List Event) (boards : BoardData) (steps : ℕ) → Keeps cell history boards steps → length history ≤ cell.steps + length cell.tasks + length cell.inputs
+few_events cell history boards steps keeps =
+    omega (arith, keeps.events, keeps.within, keeps.steps_same, keeps.inputs_within, few_ends boards.actors (length cell.tasks) keeps.actor_count keeps.script_on)
 
 -- there is room for one more event that is served
-pub room_for_event : (cell : CellData) (history : List Event) (boards : BoardData) (steps : ℕ) (e : Event) → Keeps cell history boards steps → IsServed cell history e
-    → length history < cell.steps + length cell.tasks
-room_for_event cell history boards steps e keeps now =
-    omega (arith, few_events _ _ _ _ (Keeps-more cell history boards steps e keeps now), length-append history (e ∷ []))
+pub room_for_event : (cell : CellData) (history : List Event) (boards : BoardData) (steps : ℕ) (e : Event) → Keeps cell history boards steps → IsServed cell history e → CanAnswer cell boards e.actor e.request
+    → length history < cell.steps + length cell.tasks + length cell.inputs
+room_for_event cell history boards steps e keeps now can =
+    omega (arith, few_events _ _ _ _ (Keeps-more cell history boards steps e keeps now can), length-append history (e ∷ []))

@@ -1,5 +1,10 @@
-mod Examples
-pub mod Starting
-pub mod Sounding
+pub mod Parts
+pub mod Answering
+pub mod Changing
+pub mod AtStart
+pub mod Opening
 pub mod Growing
+pub mod Ready
 pub mod Reading
+pub mod Looks
+mod Examples

@@ -1,29 +1,65 @@
 -- What the boards of a core keep of its history.
-use Rattle.std.specs.Prelude.{◌≡◌, ℕ, ◌+◌, ◌≤◌, ◌<◌, List, length, Option, is_some, count_by, slice_index_or}
-use Rattle.rapid_num.specs.declared.joints.Joints.{Joints}
+use Rattle.std.specs.Prelude.{◌≡◌, ℕ, ◌+◌, ◌≤◌, List, length, map, None, is_some, count_by}
 use Rattle.rapid_model.specs.CellData.{CellData, IsCell}
-use Rattle.rapid_model.specs.Own.{part_of, end_of}
+use Rattle.rapid_model.specs.Own.{part_of, end_of, is_held, is_trap, is_leave}
 use Rattle.rapid_model.specs.declared.event.Event.{Event}
-use Rattle.rapid_model.specs.declared.fate.Fate.{Fate}
-use Rattle.cell_meaning.specs.Answers.{counted}
-use Rattle.cell_meaning.specs.Motion.{arm_after}
-use Rattle.cell_core.specs.Boards.{BoardData}
+use Rattle.cell_meaning.specs.Changes.{changes_by_others}
+use Rattle.cell_meaning.specs.Counted.{counted}
+use Rattle.cell_meaning.specs.Interrupts.{interrupts_after}
+use Rattle.cell_meaning.specs.Meetings.{stands_after}
+use Rattle.cell_meaning.specs.Motion.{arm_after, setpoints_given}
+use Rattle.cell_meaning.specs.Premises.{StartsFull}
+use Rattle.cell_meaning.specs.Rising.{seen_after}
+use Rattle.cell_meaning.specs.Stored.{signals_after, persistents_after}
+use Rattle.cell_meaning.specs.Zones.{zones_after}
+use Rattle.cell_core.specs.Actors.{actor_at}
+use Rattle.cell_core.specs.Boards.{BoardData, elements_of}
 use Rattle.cell_core.specs.Soundness.{IsSound}
+use Rattle.cell_core.specs.declared.actor.Actor.{Actor}
 
--- each board tells what the history tells; each event is counted, or ended a task
+-- an actor's board tells what the history tells of it; of so many changes those that it did not make are others'
+pub record Tells (cell : CellData) (history : List Event) (number : ℕ) (actor : Actor) (changes : ℕ) : Type 0 where
+  pub arm : actor.arm ≡ arm_after cell history number
+  pub end : actor.end ≡ end_of (part_of number history)
+  pub held : actor.held ≡ is_held (part_of number history)
+  pub seen : actor.seen ≡ seen_after history number
+  pub given : actor.given ≡ setpoints_given history number
+  pub begun : actor.begun ≡ count_by (λ e. is_trap e.answer) (part_of number history)
+  pub left : actor.left ≡ count_by (λ e. is_leave e.request) (part_of number history)
+  pub events : actor.events ≡ length (part_of number history)
+  pub made : actor.made + changes_by_others cell history number ≡ changes
+
+-- the persistents are those of the cell, each with its type and length
+abbrev pub AreOfCell : CellData → BoardData → Type 0
+AreOfCell cell boards =
+    (map (λ row. row.sort) boards.store ≡ map (λ row. row.sort) cell.pers) × (map (λ row. row.len) boards.store ≡ map (λ row. row.len) cell.pers)
+
+-- how many actors have told their fates
+abbrev pub ends_told : List Actor → ℕ
+ends_told actors = count_by (λ actor. is_some actor.end) actors
+
+-- each board tells what the history tells; each event is counted, or an input, or ended its task
 pub record Keeps (cell : CellData) (history : List Event) (boards : BoardData) (steps : ℕ) : Type 0 where
   pub limits : IsCell cell
+  pub full : StartsFull cell
   pub sound : IsSound cell history
-  pub arm_count : length boards.arms ≡ length cell.tasks
-  pub end_count : length boards.ends ≡ length cell.tasks
-  pub arm_at : (k : ℕ) (d : Option Joints) → k < length cell.tasks → slice_index_or boards.arms k d ≡ arm_after cell history k
-  pub end_at : (k : ℕ) (d : Option Fate) → k < length cell.tasks → slice_index_or boards.ends k d ≡ end_of (part_of k history)
+  pub pers : AreOfCell cell boards
+  pub store : elements_of boards.store ≡ persistents_after cell history
+  pub signals : boards.signals ≡ signals_after cell history
+  pub meetings : boards.meetings ≡ stands_after cell history
+  pub traps : boards.traps ≡ interrupts_after cell history
+  pub zones : boards.zones ≡ zones_after cell history
+  pub actor_count : length boards.actors ≡ length cell.tasks + 1
+  pub actors : (number : ℕ) → number ≤ length cell.tasks → Tells cell history number (actor_at boards.actors number) boards.changes
   pub steps_same : steps ≡ cell.steps
   pub counted_same : boards.counted ≡ counted history
+  pub changes_few : boards.changes ≤ length history
   pub within : boards.counted ≤ steps
-  pub events : length history ≡ boards.counted + count_by is_some boards.ends
+  pub script_on : (actor_at boards.actors (length cell.tasks)).end ≡ None
+  pub inputs_within : (actor_at boards.actors (length cell.tasks)).events ≤ length cell.inputs
+  pub events : length history ≡ boards.counted + ends_told boards.actors + (actor_at boards.actors (length cell.tasks)).events
 
 -- room for every event of a run, and for a fate of each task, none of which is told yet
 pub record HasRoom (cell : CellData) (event_room fate_room : ℕ) : Type 0 where
-  pub events : cell.steps + length cell.tasks ≤ event_room
+  pub events : cell.steps + length cell.tasks + length cell.inputs ≤ event_room
   pub fates : length cell.tasks ≤ fate_room

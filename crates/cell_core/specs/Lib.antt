@@ -1,5 +1,10 @@
 pub mod CoreData
-pub mod Serving
-pub mod Soundness
+pub mod Actors
+pub mod Changes
 pub mod Boards
+pub mod Telling
+pub mod Ready
+pub mod Reading
+pub mod Soundness
+pub mod Serving
 pub mod Keeping

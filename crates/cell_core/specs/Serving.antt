@@ -1,19 +1,30 @@
--- What serving a request answers, and what it makes of the history.
-use Rattle.std.specs.Prelude.{ℕ, List, [], ◌∷◌, ◌++◌, if◌then◌else◌}
+-- How a request is served, and what that makes of the history.
+use Rattle.std.specs.Prelude.{◌≡◌, ℕ, false, List, [], ◌∷◌, ◌++◌, IsTrue}
 use Rattle.rapid_model.specs.CellData.{CellData}
 use Rattle.rapid_model.specs.declared.answer.Answer.{Answer}
 use Rattle.rapid_model.specs.declared.event.Event.{Event}
 use Rattle.rapid_model.specs.declared.request.Request.{Request}
-use Rattle.cell_meaning.specs.Answers.{is_enabled, can_be_served, answer_after}
+use Rattle.cell_meaning.specs.Answers.{is_enabled, IsAnswer}
+use Rattle.cell_meaning.specs.Counted.{can_be_served}
 use Rattle.cell_core.specs.declared.served.Served.{Served}
 use Rattle.cell_core.specs.declared.served.Served.TheVariants.{Answered, Spent, NotYet}
 
+-- it can be served and is enabled, and has the cell's answer
+pub record IsAnswered (cell : CellData) (history : List Event) (actor : ℕ) (request : Request) (answer : Answer) : Type 0 where
+  pub served : IsTrue (can_be_served cell history request)
+  pub enabled : IsTrue (is_enabled cell history actor request)
+  pub answered : IsAnswer cell history actor request answer
+
+-- it could be served, but is not enabled
+pub record IsNotYet (cell : CellData) (history : List Event) (actor : ℕ) (request : Request) : Type 0 where
+  pub served : IsTrue (can_be_served cell history request)
+  pub not_enabled : is_enabled cell history actor request ≡ false
+
 -- spent where it is counted and the steps are; else not yet where it is not enabled; else the cell's answer
-abbrev pub served : CellData → List Event → ℕ → Request → Served
-served cell history actor request =
-    if can_be_served cell history request then
-    (if is_enabled cell history actor request then Answered (answer_after cell history actor request) else NotYet)
-    else Spent
+abbrev pub Serves : CellData → List Event → ℕ → Request → Served → Type 0
+Serves cell history actor request (Answered answer) = IsAnswered cell history actor request answer
+Serves cell history actor request Spent = can_be_served cell history request ≡ false
+Serves cell history actor request NotYet = IsNotYet cell history actor request
 
 -- it holds of the answer, where there is one
 abbrev pub IfAnswered : Served → (Answer → Type 0) → Type 0

@@ -1,19 +1,45 @@
-ghost use Rattle.std.specs.Prelude.{◌≡◌, ◌<◌, ◌^◌, map, length, None, IfOk, is_some, slice_index_or};
-ghost use Rattle.std.specs.List.{list_all};
-ghost use Rattle.cell_core.specs.Boards.{arm_with, end_with, count_with, boards_of, boards_with};
+ghost use Rattle.std.specs.Prelude.{◌≡◌, ◌≤◌, ◌<◌, ◌||◌, ◌&&◌, not, nat_le, length, false, Some, IfSome, is_some, slice_index_or};
+ghost use Rattle.rapid_model.specs.Limits.{holds_where_there};
+ghost use Rattle.rapid_model.specs.Truths.{same_truth};
+ghost use Rattle.cell_meaning.specs.Counted.{is_counted};
+ghost use Rattle.cell_meaning.specs.Stored.{value_at};
+ghost use Rattle.cell_core.specs.Actors.{actor_at};
+ghost use Rattle.cell_core.specs.Boards.{boards_of, boards_with, elements_at, tallied};
+ghost use Rattle.cell_core.specs.Reading.{all_stand, all_told, can_go_on, is_passed};
+ghost use Rattle.cell_core.specs.Ready.{CanAnswer, CanCount, CanPass, HasPart};
+ghost use Rattle.cell_core.specs.Telling.{Answers, IsTold, made_by_others};
 
-use rapid_model::{Answer, Event, Fate, Request, TaskRow};
-use rapid_num::Joints;
-use std::alloc::{AllocError, Global};
+use crate::actor::{Actor, one_more};
+use crate::change::Change;
+use crate::inputs::feed;
+use crate::meetings::arrive;
+use crate::motion::{go, place};
+use crate::outcome::Outcome;
+use crate::starting::actors_of;
+use crate::values::{read, set_signal, test_set, write};
+use crate::{interrupts, zones};
+use persist_store::Store;
+use rapid_model::{Answer, Cell, Event, InputRow, Path, Request, Value};
+use signal_board::Signals;
+use std::alloc::Global;
 use std::marker::Model;
+use sync_tasks::Meetings;
+use trap_dispatch::Traps;
+use world_zones::Zones;
 
-/// What the history has come to so far: where each task's arm is, the fate that each task has told, and how many events
-/// are counted. Tasks in script order.
-#[derive(Debug, Drop)]
-pub struct Boards {
-    arms: Vec<Option<Joints>>,
-    ends: Vec<Option<Fate>>,
+/// What the history has come to so far: the values of persistents and signals, how the tasks stand at their meetings, their
+/// interrupts, the zones, what each actor's own events have come to (the tasks in script order, and then the input script),
+/// how many events are counted, and how many changes there were. Contracts see each board as its plain data.
+#[derive(Drop)]
+pub(crate) struct Boards {
+    store: Store,
+    signals: Signals,
+    meetings: Meetings,
+    traps: Traps,
+    zones: Zones,
+    actors: Vec<Actor>,
     counted: u32,
+    changes: u32,
 }
 
 impl Model for Boards {
@@ -21,108 +47,299 @@ impl Model for Boards {
 
     ghost Value = { BoardData };
 
-    ghost view = { λ b. record { arms = b.arms.items; ends = b.ends.items; counted = b.counted } };
+    ghost view = { λ b. record { store = b.store; signals = b.signals; meetings = b.meetings; traps = b.traps; zones = b.zones; actors = b.actors.items; counted = b.counted; changes = b.changes } };
 }
 
 impl Boards {
-    /// The boards before the first event.
-    pub fn new(alloc: Global, rows: &[TaskRow]) -> Result<Boards, AllocError>
-        ensures { IfOk result (λ boards. boards ≡ boards_of rows.now) }
+    /// The boards before the first event. None for want of memory alone.
+    pub(crate) fn new(alloc: Global, cell: &Cell) -> Option<Boards>
+        ensures { IfSome result (λ boards. boards ≡ boards_of cell.now) }
     {
-        Ok(Boards {
-            arms: starts_of(alloc, rows)?,
-            ends: no_ends(alloc, rows)?,
+        // Tells the limits of cells.
+        let _steps = cell.steps();
+        let tasks = cell.tasks().len() as u32;
+        // No memory has room for more meetings than that.
+        let meetings = u32::try_from(cell.meetings().len()).ok()?;
+        Some(Boards {
+            store: Store::new(alloc, cell).ok()?,
+            signals: Signals::new(alloc, cell).ok()?,
+            meetings: Meetings::new(alloc, tasks, meetings).ok()?,
+            traps: Traps::new(alloc, tasks).ok()?,
+            zones: Zones::new(alloc, cell).ok()?,
+            actors: actors_of(alloc, cell.tasks().as_slice()).ok()?,
             counted: 0,
+            changes: 0,
         })
     }
 
-    /// The boards after one more event.
-    pub fn add(&mut self, event: &Event)
-        requires arm { event.now.actor < length self.old.arms }
-        requires end { event.now.actor < length self.old.ends }
-        requires few { self.old.counted < 2 ^ 31 }
-        ensures { self.new ≡ boards_with self.old event.now }
+    /// Takes a request of an actor, for which the boards have what it needs, and makes one event of it and its answer.
+    pub(crate) fn take(&mut self, cell: &Cell, actor: u32, request: Request) -> Event
+        requires ready { CanAnswer cell.now self.old actor request }
+        requires few { CanCount self.old actor }
+        ensures actor { result.actor ≡ actor }
+        ensures request { result.request ≡ request }
+        ensures answer { IsTold self.old actor request result.answer }
+        ensures boards { self.new ≡ boards_with cell.now self.old result }
     {
-        let task = event.actor as usize;
-        self.arms[task] = arm_after_event(self.arms[task], event);
-        self.ends[task] = end_after_event(self.ends[task], event);
-        self.counted = count_after(self.counted, &event.request);
+        let Outcome { answer, change } = self.answer(cell, actor, &request);
+        self.tally(actor, &request, &answer, change);
+        Event {
+            actor,
+            request,
+            answer,
+        }
     }
 
-    /// Where the arm of a task is, if it has one.
-    pub fn arm(&self, task: u32) -> Option<Joints>
-        requires { task < length self.now.arms }
-        ensures { result ≡ slice_index_or self.now.arms task None }
+    /// The answer to a request, and what it changes of the boards.
+    fn answer(&mut self, cell: &Cell, actor: u32, request: &Request) -> Outcome
+        requires { CanAnswer cell.now self.old actor request.now }
+        ensures { Answers cell.now self.old actor request.now result self.new }
     {
-        self.arms[task as usize]
+        match request {
+            Request::Look => {
+                let seen = self.made_by_others(actor);
+                unchanged(interrupts::look(&mut self.traps, actor, seen))
+            }
+            Request::ReadP { pers, path } => unchanged(Answer::Val(read(&self.store, *pers, path))),
+            Request::WriteP { pers, path, value } => {
+                done(write(&mut self.store, *pers, path, value.copy()))
+            }
+            Request::TestSet { pers, path } => test_set(&mut self.store, *pers, path),
+            Request::ReadS { signal } => unchanged(Answer::Bit(self.signals.get(*signal))),
+            Request::WriteS { signal, value } => done(set_signal(
+                &mut self.signals,
+                *signal,
+                *value,
+            )),
+            Request::Position => unchanged(place(self.actors[actor as usize].arm)),
+            Request::Setpoint { to } => {
+                let arm = self.actors[actor as usize].arm;
+                unchanged(go(&self.zones, &self.signals, actor, arm, to))
+            }
+            Request::Connect { old, trap } => {
+                unchanged(interrupts::connect(&mut self.traps, actor, *old, *trap))
+            }
+            Request::Order { number, on, single } => {
+                unchanged(interrupts::order(&mut self.traps, actor, *number, *on, *single))
+            }
+            Request::Sleep { number } => unchanged(interrupts::sleep(
+                &mut self.traps,
+                actor,
+                *number,
+            )),
+            Request::Watch { number } => unchanged(interrupts::watch(
+                &mut self.traps,
+                actor,
+                *number,
+            )),
+            Request::Delete { number } => unchanged(interrupts::delete(
+                &mut self.traps,
+                actor,
+                *number,
+            )),
+            Request::Disable => unchanged(interrupts::disable(&mut self.traps, actor)),
+            Request::Enable => unchanged(interrupts::enable(&mut self.traps, actor)),
+            Request::Leave => unchanged(interrupts::leave(&mut self.traps, actor)),
+            Request::ZoneSet {
+                old,
+                temporary,
+                shape,
+            } => unchanged(zones::set(&mut self.zones, actor, *old, *temporary, shape)),
+            Request::ZoneOn { zone } => unchanged(zones::switch_on(&mut self.zones, actor, *zone)),
+            Request::ZoneOff { zone } => unchanged(zones::switch_off(
+                &mut self.zones,
+                actor,
+                *zone,
+            )),
+            Request::ZoneFree { zone } => unchanged(zones::give_up(&mut self.zones, actor, *zone)),
+            Request::Arrive { meeting, tasks } => arrive(
+                &mut self.meetings,
+                actor,
+                *meeting,
+                *tasks,
+            ),
+            Request::Input { index } => {
+                let row = cell.inputs().as_slice()[*index as usize];
+                done(feed(&mut self.signals, &row))
+            }
+            Request::ZoneTie { .. }
+            | Request::Hold { .. }
+            | Request::Rise
+            | Request::Say { .. }
+            | Request::End { .. } => unchanged(Answer::Ok),
+        }
     }
 
-    /// The fate that a task has told, if it has told one.
-    pub fn end(&self, task: u32) -> Option<Fate>
-        requires { task < length self.now.ends }
-        ensures { result ≡ slice_index_or self.now.ends task None }
+    /// Fires the interrupts whose order is on what an event changed, and counts the event.
+    fn tally(&mut self, actor: u32, request: &Request, answer: &Answer, change: Change)
+        requires { CanCount self.old actor }
+        ensures { self.new ≡ tallied self.old actor request.now answer.now change }
     {
-        self.ends[task as usize]
+        interrupts::fire(&mut self.traps, change);
+        let changes = change.is_some();
+        let own = self.actors[actor as usize];
+        self.actors[actor as usize] = own.after(changes, request, answer);
+        self.counted = one_more(self.counted, is_counted(request));
+        self.changes = one_more(self.changes, changes);
     }
 
-    /// The fates that the tasks have told, in script order.
-    pub fn ends(&self) -> &[Option<Fate>]
-        ensures { result.now ≡ self.now.ends }
+    /// What an actor's own events have come to.
+    pub(crate) fn actor(&self, actor: u32) -> Actor
+        requires { actor < length self.now.actors }
+        ensures { result ≡ actor_at self.now.actors actor }
     {
-        self.ends.as_slice()
+        self.actors[actor as usize]
     }
 
     /// How many events are counted.
-    pub fn counted(&self) -> u32
+    pub(crate) fn counted(&self) -> u32
         ensures { result ≡ self.now.counted }
     {
         self.counted
     }
 
-    /// Whether every task has told its fate.
-    pub fn all_ended(&self) -> bool
-        ensures { result ≡ list_all is_some self.now.ends }
+    /// The value of a part of a persistent.
+    pub(crate) fn value(&self, pers: u32, path: &Path) -> Value
+        requires { HasPart self.now.store pers path.now }
+        ensures { value_at (elements_at self.now.store pers) path.now ≡ Some result }
     {
-        self.ends.iter().all(|end| end.is_some())
+        read(&self.store, pers, path)
+    }
+
+    /// Whether each of so many tasks has told its fate.
+    #[tactic(auto, using(crate::proofs::Looks::told_more))]
+    pub(crate) fn all_told(&self, tasks: u32) -> bool
+        requires { tasks ≤ length self.now.actors }
+        ensures { result ≡ all_told tasks self.now.actors }
+    {
+        let mut all = true;
+        for task in 0..tasks {
+            all = both(all, self.has_told(task));
+        }
+        all
+    }
+
+    fn has_told(&self, task: u32) -> bool
+        requires { task < length self.now.actors }
+        ensures { result ≡ is_some (actor_at self.now.actors task).end }
+    {
+        self.actor(task).end.is_some()
+    }
+
+    /// Whether others made changes since the task was held last, or a trap is to run.
+    pub(crate) fn can_go_on(&self, task: u32) -> bool
+        requires actor { task < length self.now.actors }
+        requires trap { task < length self.now.traps }
+        ensures { result ≡ can_go_on self.now task }
+    {
+        self.actor(task).seen < self.made_by_others(task) || self.traps.due(task)
+    }
+
+    /// How many changes others made.
+    fn made_by_others(&self, actor: u32) -> u32
+        requires { actor < length self.now.actors }
+        ensures { result ≡ made_by_others self.now actor }
+    {
+        self.changes
+            .saturating_sub(self.actors[actor as usize].made)
+    }
+
+    /// Whether each of so many tasks has told its fate, or is held and cannot go on.
+    #[tactic(auto, using(crate::proofs::Looks::stand_more))]
+    pub(crate) fn all_stand(&self, tasks: u32) -> bool
+        requires actors { tasks ≤ length self.now.actors }
+        requires traps { tasks ≤ length self.now.traps }
+        ensures { result ≡ all_stand tasks self.now }
+    {
+        let mut all = true;
+        for task in 0..tasks {
+            all = both(all, self.stands(task));
+        }
+        all
+    }
+
+    /// Whether the task has told its fate, or is held and cannot go on.
+    fn stands(&self, task: u32) -> bool
+        requires actor { task < length self.now.actors }
+        requires trap { task < length self.now.traps }
+        ensures { result ≡ (is_some (actor_at self.now.actors task).end || ((actor_at self.now.actors task).held && not (can_go_on self.now task))) }
+    {
+        let own = self.actor(task);
+        own.end.is_some() || own.held && !self.can_go_on(task)
+    }
+
+    /// Whether each part of the gate of a step of the input script that is there holds.
+    pub(crate) fn is_passed(&self, row: &InputRow) -> bool
+        requires { CanPass self.now row.now }
+        ensures { result ≡ is_passed self.now row.now }
+    {
+        self.has_value(row.when) && self.was_given(row.given) && self.has_counted(row.after)
+    }
+
+    fn has_value(&self, when: Option<(u32, bool)>) -> bool
+        requires { IfSome when (λ w. w.0 < length self.now.signals) }
+        ensures { result ≡ holds_where_there (λ w. same_truth (slice_index_or self.now.signals w.0 false) w.1) when }
+    {
+        match when {
+            Some((signal, value)) => self.signals.get(signal) == value,
+            None => true,
+        }
+    }
+
+    fn was_given(&self, given: Option<(u32, u32)>) -> bool
+        requires { IfSome given (λ g. g.0 < length self.now.actors) }
+        ensures { result ≡ holds_where_there (λ g. nat_le g.1 (actor_at self.now.actors g.0).given) given }
+    {
+        match given {
+            Some((task, count)) => count <= self.actors[task as usize].given,
+            None => true,
+        }
+    }
+
+    fn has_counted(&self, after: Option<u32>) -> bool
+        ensures { result ≡ holds_where_there (λ count. nat_le count self.now.counted) after }
+    {
+        match after {
+            Some(count) => count <= self.counted,
+            None => true,
+        }
     }
 }
 
-fn starts_of(alloc: Global, rows: &[TaskRow]) -> Result<Vec<Option<Joints>>, AllocError>
-    ensures { IfOk result (λ arms. arms.items ≡ map (λ row. row.arm) rows.now) }
+/// An answer to a request that changed nothing that tasks wait for.
+fn unchanged(answer: Answer) -> Outcome
+    ensures answer { result.answer ≡ answer }
+    ensures change { result.change ≡ Change.Nothing }
 {
-    rows.iter().map(|row| row.arm).collect(alloc)
-}
-
-fn no_ends(alloc: Global, rows: &[TaskRow]) -> Result<Vec<Option<Fate>>, AllocError>
-    ensures { IfOk result (λ ends. ends.items ≡ map (λ row. None) rows.now) }
-{
-    rows.iter().map(|_| None).collect(alloc)
-}
-
-fn arm_after_event(arm: Option<Joints>, event: &Event) -> Option<Joints>
-    ensures { result ≡ arm_with arm event.now }
-{
-    match (&event.request, &event.answer) {
-        (Request::Setpoint { to }, Answer::Given) if arm.is_some() => Some(*to),
-        _ => arm,
+    Outcome {
+        answer,
+        change: Change::Nothing,
     }
 }
 
-fn end_after_event(end: Option<Fate>, event: &Event) -> Option<Fate>
-    ensures { result ≡ end_with end event.now }
+/// A request was done, and changed this.
+fn done(change: Change) -> Outcome
+    ensures answer { result.answer ≡ Answer.Ok }
+    ensures change { result.change ≡ change }
 {
-    match (end, &event.request) {
-        (None, Request::End { fate }) => Some(*fate),
-        _ => end,
+    Outcome {
+        answer: Answer::Ok,
+        change,
     }
 }
 
-fn count_after(counted: u32, request: &Request) -> u32
-    requires { counted < 2 ^ 31 }
-    ensures { result ≡ count_with counted request.now }
+fn both(first: bool, second: bool) -> bool
+    ensures { result ≡ (first && second) }
+{
+    first && second
+}
+
+/// Whether the request is counted.
+pub(crate) fn is_counted(request: &Request) -> bool
+    ensures { result ≡ is_counted request.now }
 {
     match request {
-        Request::Input { .. } | Request::End { .. } => counted,
-        _ => counted + 1,
+        Request::Input { .. } | Request::End { .. } => false,
+        _ => true,
     }
 }

@@ -1,11 +1,22 @@
 //! One shared cell: it answers one request at a time, and keeps the history of all.
 #![tactic(auto)]
 
+mod actor;
 mod append;
 mod boards;
+mod change;
 mod fits;
+mod inputs;
+mod interrupts;
+mod meetings;
+mod motion;
+mod outcome;
+mod paths;
 mod served;
 mod shared;
+mod starting;
+mod values;
+mod zones;
 
 pub use served::Served;
 pub use shared::Core;

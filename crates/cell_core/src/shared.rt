@@ -1,36 +1,44 @@
-ghost use Rattle.std.specs.Prelude.{◌≡◌, ◌≤◌, ◌<◌, ◌+◌, List, [], ◌∷◌, ◌++◌, length, IfOk, IfErr, IsTrue, not, Some, slice_get, map};
-ghost use Rattle.std.specs.Vec.{vec_capacity};
-ghost use Rattle.rapid_model.specs.CellData.{CellData};
+ghost use Rattle.std.specs.Prelude.{◌≡◌, ◌≤◌, ◌<◌, ◌+◌, ◌++◌, ◌&&◌, not, [], ◌∷◌, length, IfOk, IfErr, IsTrue, Some, slice_get};
 ghost use Rattle.rapid_model.specs.Fits.{fits_request, fitting_in};
-ghost use Rattle.rapid_model.specs.Own.{part_of, has_ended};
-ghost use Rattle.rapid_model.specs.Requests.{may_ask};
-ghost use Rattle.cell_meaning.specs.Answers.{answer_after, can_be_served, position_of};
-ghost use Rattle.cell_meaning.specs.Histories.{all_ended, is_spent, fate_after, fates_after};
-ghost use Rattle.cell_core.specs.Serving.{served, history_with, IfAnswered};
-ghost use Rattle.cell_core.specs.Soundness.{IsSound, IsServed};
-ghost use Rattle.cell_core.specs.Boards.{standing};
+ghost use Rattle.rapid_model.specs.Own.{has_ended, is_held, part_of};
+ghost use Rattle.rapid_model.specs.Requests.{of_pers};
+ghost use Rattle.rapid_model.specs.Paths.{has_path};
+ghost use Rattle.cell_meaning.specs.Answers.{IsAnswer, is_enabled};
+ghost use Rattle.cell_meaning.specs.Counted.{can_be_served};
+ghost use Rattle.cell_meaning.specs.Fates.{all_ended, fate_after, fates_after, is_spent};
+ghost use Rattle.cell_meaning.specs.Inputs.{inputs_done, is_open};
+ghost use Rattle.cell_meaning.specs.MayAsk.{may_ask};
+ghost use Rattle.cell_meaning.specs.Rising.{can_rise};
+ghost use Rattle.std.specs.Vec.{vec_capacity};
+ghost use Rattle.cell_meaning.specs.Stalled.{all_rest, is_stalled};
+ghost use Rattle.cell_meaning.specs.Stored.{persistent_after, value_at};
+ghost use Rattle.cell_core.specs.Reading.{fates_of, standing};
+ghost use Rattle.cell_core.specs.Serving.{IfAnswered, Serves, history_with};
+ghost use Rattle.cell_core.specs.Soundness.{IsSound};
 
 use crate::append::append;
-use crate::boards::Boards;
-use crate::fits;
+use crate::boards::{Boards, is_counted};
+use crate::fits::{allows, feeds, goes_with};
 use crate::served::Served;
-use rapid_model::{Answer, Cell, Event, Fate, Request};
-use rapid_num::Joints;
+use crate::starting::starts_full;
+use rapid_model::{Answer, Cell, Event, Fate, InputRow, Path, Request, Value};
 use std::alloc::Global;
 use std::marker::Model;
 
-/// The cell that tasks share, and the history of what they asked of it. Contracts see it as these two.
-#[derive(Debug, Drop)]
+/// The cell that tasks and its input script share, and the history of what they asked of it. Contracts see it as these two.
+/// What the history has come to stands on boards, so that no call costs more for a longer history.
+#[derive(Drop)]
 pub struct Core {
     cell: Cell,
     steps: u32,
+    tasks: u32,
     events: Vec<Event>,
     boards: Boards,
     fates: Vec<Fate>,
 }
 
 impl Model for Core {
-    ghost use Rattle.std.specs.Prelude.{◌≡◌, [], vec_capacity};
+    ghost use Rattle.std.specs.Prelude.{◌≡◌, [], length, vec_capacity};
     ghost use Rattle.cell_core.specs.CoreData.{CoreData};
     ghost use Rattle.cell_core.specs.Keeping.{Keeps, HasRoom};
 
@@ -38,7 +46,7 @@ impl Model for Core {
 
     ghost view = { λ c. record { cell = c.cell; history = c.events.items } };
 
-    ghost invariant = { λ c. Keeps c.cell c.events.items c.boards c.steps × HasRoom c.cell (vec_capacity c.events) (vec_capacity c.fates) × (c.fates.items ≡ []) };
+    ghost invariant = { λ c. Keeps c.cell c.events.items c.boards c.steps × HasRoom c.cell (vec_capacity c.events) (vec_capacity c.fates) × (c.fates.items ≡ []) × (c.tasks ≡ length c.cell.tasks) };
 }
 
 impl Core {
@@ -49,89 +57,142 @@ impl Core {
         ensures err { IfErr result (λ back. back ≡ cell) }
     {
         let steps = cell.steps();
-        let rows = cell.tasks().as_slice();
-        let tasks = rows.len();
-        let Ok(boards) = Boards::new(alloc, rows) else {
+        let tasks = cell.tasks().len() as u32;
+        starts_full(&cell);
+        let Some(boards) = Boards::new(alloc, &cell) else {
             return Err(cell);
         };
-        let Ok(events) = Vec::with_capacity(alloc, steps as usize + tasks) else {
+        let room = steps as usize + tasks as usize + cell.inputs().len();
+        let Ok(events) = Vec::with_capacity(alloc, room) else {
             return Err(cell);
         };
-        let Ok(fates) = Vec::with_capacity(alloc, tasks) else {
+        let Ok(fates) = Vec::with_capacity(alloc, tasks as usize) else {
             return Err(cell);
         };
         Ok(Core {
             cell,
             steps,
+            tasks,
             events,
             boards,
             fates,
         })
     }
 
-    /// Answers a request of an actor, a task by its number from 0 in script order.
+    /// Answers a request of an actor: a task by its number from 0 in script order, or the input script, whose number is the
+    /// next. The answer is the cell's after its history (`IsAnswer` of cell_meaning), and makes the request one more event.
+    /// Spent comes exactly where the request would be counted and no steps are left; else NotYet exactly where it is a Rise or
+    /// an Input and not enabled. Nothing changes then.
     pub fn serve(&mut self, actor: u32, request: Request) -> Served
         requires { IsTrue (may_ask self.old.cell actor (part_of actor self.old.history) request) }
         ensures cell { self.new.cell ≡ self.old.cell }
-        ensures served { result ≡ served self.old.cell self.old.history actor request }
+        ensures served { Serves self.old.cell self.old.history actor request result }
         ensures history { self.new.history ≡ history_with self.old.history actor request result }
         ensures fits { IfAnswered result (λ answer. IsTrue (fits_request (fitting_in self.old.cell (part_of actor self.old.history)) request answer)) }
     {
-        if self.is_used_up(&request) {
+        if !self.can_be_served(&request) {
             return Served::Spent;
         }
-        let answer = self.answer(actor, &request);
-        self.record(Event {
-            actor,
-            request,
-            answer: answer.copy(),
-        });
-        Served::Answered(answer)
+        if !self.is_enabled(actor, &request) {
+            return Served::NotYet;
+        }
+        Served::Answered(self.take(actor, request))
     }
 
-    // Whether the request is counted and the steps are.
-    fn is_used_up(&self, request: &Request) -> bool
-        ensures { can_be_served self.now.cell self.now.history request.now ≡ not result }
+    /// Whether the request is not counted, or steps are left.
+    fn can_be_served(&self, request: &Request) -> bool
+        ensures { result ≡ can_be_served self.now.cell self.now.history request.now }
     {
         let counted = self.boards.counted();
-        match request {
-            Request::Input { .. } | Request::End { .. } => false,
-            _ => self.steps <= counted,
-        }
+        !is_counted(request) || counted < self.steps
     }
 
-    // The cell's answer, which fits the request.
-    fn answer(&self, actor: u32, request: &Request) -> Answer
+    /// Whether the request can be answered now.
+    fn is_enabled(&self, actor: u32, request: &Request) -> bool
         requires { IsTrue (may_ask self.now.cell actor (part_of actor self.now.history) request.now) }
-        ensures answer { result ≡ answer_after self.now.cell self.now.history actor request.now }
-        ensures fits { IsTrue (fits_request (fitting_in self.now.cell (part_of actor self.now.history)) request.now result) }
+        ensures { result ≡ is_enabled self.now.cell self.now.history actor request.now }
     {
         match request {
-            Request::Look => Answer::Go { seen: 0 },
-            Request::Position => place(self.boards.arm(actor)),
-            Request::Setpoint { .. } => Answer::Given,
-            _ => Answer::Ok,
+            Request::Rise => self.can_rise(actor),
+            Request::Input { .. } => self.can_feed(),
+            _ => true,
         }
     }
 
-    // Takes an event that was served. There is room for it.
-    fn record(&mut self, event: Event)
-        requires { IsServed self.old.cell self.old.history event }
+    /// Answers a request that can be served and is enabled: one more event.
+    fn take(&mut self, actor: u32, request: Request) -> Answer
+        requires asked { IsTrue (may_ask self.old.cell actor (part_of actor self.old.history) request) }
+        requires served { IsTrue (can_be_served self.old.cell self.old.history request) }
+        requires enabled { IsTrue (is_enabled self.old.cell self.old.history actor request) }
         ensures cell { self.new.cell ≡ self.old.cell }
-        ensures history { self.new.history ≡ self.old.history ++ event ∷ [] }
+        ensures answered { IsAnswer self.old.cell self.old.history actor request result }
+        ensures history { self.new.history ≡ self.old.history ++ record { actor = actor; request = request; answer = result } ∷ [] }
+        ensures fits { IsTrue (fits_request (fitting_in self.old.cell (part_of actor self.old.history)) request result) }
     {
-        self.boards.add(&event);
+        let event = self.boards.take(&self.cell, actor, request);
+        let answer = event.answer.copy();
         append(&mut self.events, event);
+        answer
     }
 
-    /// Whether the actor may ask this now.
+    /// Whether the actor may ask this now: the input script its next step alone; a task that has not ended whatever suits the
+    /// cell and the task as it stands (held, in a trap, with an arm or without), but no ZoneTie, which no cell serves, and no
+    /// Input.
     pub fn fits(&self, actor: u32, request: &Request) -> bool
         ensures { result ≡ may_ask self.now.cell actor (part_of actor self.now.history) request.now }
     {
         match self.cell.tasks().as_slice().get(actor as usize) {
-            Some(row) => !self.ended(actor) && fits::allows(row, request),
+            Some(row) => {
+                let own = self.boards.actor(actor);
+                let trapped = own.begun != own.left;
+                own.end.is_none()
+                    && goes_with(own.held, request)
+                    && allows(&self.cell, row, trapped, request)
+            }
+            None => actor == self.tasks
+                && feeds(&self.cell, self.boards.actor(self.tasks).events, request),
+        }
+    }
+
+    /// Whether a held task can go on: others made more changes than its last Hold had seen, or a trap is to run.
+    pub fn can_rise(&self, task: u32) -> bool
+        requires { task < length self.now.cell.tasks }
+        ensures { result ≡ can_rise self.now.cell self.now.history task }
+    {
+        self.boards.can_go_on(task)
+    }
+
+    /// Whether the next step of the input script is open: there is one, its gate holds, a task has not ended, and steps of the
+    /// run are left (docs/CELL_SCRIPT.md, keys of an input).
+    pub fn can_feed(&self) -> bool
+        ensures { result ≡ is_open self.now.cell self.now.history (inputs_done self.now.cell self.now.history) }
+    {
+        let script = self.boards.actor(self.tasks);
+        let done = script.events;
+        match self.cell.inputs().as_slice().get(done as usize) {
+            Some(row) => self.lets_pass(row),
             None => false,
         }
+    }
+
+    /// Whether the next step of the input script, which is there, is open: its gate holds, a task has not ended, and steps of
+    /// the run are left.
+    fn lets_pass(&self, row: &InputRow) -> bool
+        requires { slice_get self.now.cell.inputs (inputs_done self.now.cell self.now.history) ≡ Some row.now }
+        ensures { result ≡ is_open self.now.cell self.now.history (inputs_done self.now.cell self.now.history) }
+    {
+        let passed = self.boards.is_passed(row);
+        let over = self.all_ended();
+        let counted = self.boards.counted();
+        all_so(passed, over, counted < self.steps)
+    }
+
+    /// Whether the task's last event is a Hold.
+    pub fn held(&self, task: u32) -> bool
+        requires { task < length self.now.cell.tasks }
+        ensures { result ≡ is_held (part_of task self.now.history) }
+    {
+        self.boards.actor(task).held
     }
 
     /// Whether the task has ended.
@@ -139,21 +200,36 @@ impl Core {
         requires { task < length self.now.cell.tasks }
         ensures { result ≡ has_ended (part_of task self.now.history) }
     {
-        self.boards.end(task).is_some()
+        self.boards.actor(task).end.is_some()
     }
 
     /// Whether every task has ended.
     pub fn all_ended(&self) -> bool
         ensures { result ≡ all_ended (length self.now.cell.tasks) self.now.history }
     {
-        self.boards.all_ended()
+        self.boards.all_told(self.tasks)
     }
 
-    /// Whether a task has not ended, and the steps are counted.
+    /// Whether a task has not ended, and no steps are left.
     pub fn spent(&self) -> bool
         ensures { result ≡ is_spent self.now.cell self.now.history }
     {
         !self.all_ended() && self.steps <= self.boards.counted()
+    }
+
+    /// Whether the tasks wait for one another: steps are left and a task has not ended, each such task is held and cannot go
+    /// on, and no step of the input script is open.
+    pub fn stalled(&self) -> bool
+        ensures { result ≡ is_stalled self.now.cell self.now.history }
+    {
+        !self.spent() && !self.all_ended() && self.all_rest() && !self.can_feed()
+    }
+
+    /// Whether each task has ended, or is held and cannot go on.
+    fn all_rest(&self) -> bool
+        ensures { result ≡ all_rest self.now.cell (length self.now.cell.tasks) self.now.history }
+    {
+        self.boards.all_stand(self.tasks)
     }
 
     /// How a task stands: the fate that it told, else cut where the steps are spent, else held.
@@ -161,13 +237,14 @@ impl Core {
         requires { task < length self.now.cell.tasks }
         ensures { result ≡ fate_after self.now.cell self.now.history task }
     {
-        stands(self.boards.end(task), self.spent())
+        standing(self.spent(), self.boards.actor(task).end)
     }
 
-    /// How many events there are.
+    /// How many events there are: at most one for each step of the run, each task and each step of the input script. Each was
+    /// served after those before it.
     pub fn len(&self) -> u32
         ensures same { result ≡ length self.now.history }
-        ensures few { result ≤ self.now.cell.steps + length self.now.cell.tasks }
+        ensures few { result ≤ self.now.cell.steps + length self.now.cell.tasks + length self.now.cell.inputs }
         ensures sound { IsSound self.now.cell self.now.history }
     {
         self.events.len() as u32
@@ -188,7 +265,15 @@ impl Core {
         &self.cell
     }
 
-    /// The history in order, and how each task stands, in script order. Takes no memory.
+    /// The value of a part of a persistent, which has the element and the part that the path names.
+    pub fn pers(&self, pers: u32, path: &Path) -> Value
+        requires { IsTrue (of_pers self.now.cell pers (λ row. has_path row path.now)) }
+        ensures { value_at (persistent_after self.now.cell self.now.history pers) path.now ≡ Some result }
+    {
+        self.boards.value(pers, path)
+    }
+
+    /// The events in order, the oldest first, and how each task stands, in script order. Takes no memory.
     pub fn into_report(self) -> (Vec<Event>, Vec<Fate>)
         ensures history { result.0.items ≡ self.history }
         ensures fates { result.1.items ≡ fates_after self.cell self.history (length self.cell.tasks) }
@@ -197,25 +282,23 @@ impl Core {
         let Core {
             cell: _,
             steps: _,
+            tasks,
             events,
             boards,
             mut fates,
         } = self;
-        tell(boards.ends(), spent, &mut fates);
+        tell(&boards, tasks, spent, &mut fates);
         (events, fates)
     }
 }
 
-fn place(arm: Option<Joints>) -> Answer
-    ensures { result ≡ position_of arm }
+fn all_so(passed: bool, over: bool, left: bool) -> bool
+    ensures { result ≡ (passed && not over && left) }
 {
-    match arm {
-        Some(position) => Answer::At(position),
-        None => Answer::Ok,
-    }
+    passed && !over && left
 }
 
-fn stands(told: Option<Fate>, spent: bool) -> Fate
+fn standing(spent: bool, told: Option<Fate>) -> Fate
     ensures { result ≡ standing spent told }
 {
     match told {
@@ -225,13 +308,15 @@ fn stands(told: Option<Fate>, spent: bool) -> Fate
     }
 }
 
-// Appends how each task stands, in the room that there is.
-fn tell(ends: &[Option<Fate>], spent: bool, fates: &mut Vec<Fate>)
+/// Appends how each of so many tasks stands, in the room that there is.
+#[tactic(auto, using(crate::proofs::Looks::fates_more))]
+fn tell(boards: &Boards, tasks: u32, spent: bool, fates: &mut Vec<Fate>)
     requires none { fates.old.items ≡ [] }
-    requires room { length ends.now ≤ vec_capacity fates.old }
-    ensures { fates.new.items ≡ map (λ told. standing spent told) ends.now }
+    requires room { tasks ≤ vec_capacity fates.old }
+    requires actors { tasks ≤ length boards.now.actors }
+    ensures { fates.new.items ≡ fates_of spent tasks boards.now.actors }
 {
-    for told in ends {
-        fates.push_reserved(stands(*told, spent));
+    for task in 0..tasks {
+        fates.push_reserved(standing(spent, boards.actor(task).end));
     }
 }

@@ -1,23 +1,14 @@
--- The definitions on a task of no statement, which looks at nothing and ends.
-use Rattle.std.proofs.Common.{◌≡◌, true, false, [], ◌∷◌, refl}
+-- The definitions on a task that looks and ends, and a machine of it that counts the answers that it got.
+use Rattle.std.proofs.Common.{◌≡◌, ℕ, zero, suc, true, false, List, [], ◌∷◌, length, Option, Some, None, refl, arith, length-append}
+use Rattle.rapid_model.specs.declared.answer.Answer.{Answer}
 use Rattle.rapid_model.specs.declared.answer.Answer.TheVariants as answers
 use Rattle.rapid_model.specs.declared.event.Event.{Event}
 use Rattle.rapid_model.specs.declared.fate.Fate.TheVariants as fates
+use Rattle.rapid_model.specs.declared.request.Request.{Request}
 use Rattle.rapid_model.specs.declared.request.Request.TheVariants.{Look, End}
-use Rattle.rapid_model.specs.declared.tree.Tree.{Tree}
-use Rattle.move_meaning.specs.Statements.{perform_list}
-use Rattle.move_meaning.specs.Runs.{asked_after}
-use Rattle.task_machine.specs.MachineData.{MachineData, fresh}
-use Rattle.task_machine.specs.declared.stage.Stage.TheVariants.{Ending}
-use Rattle.cell_crew.specs.Crew.{trees_of, IsFresh, before_end}
-use Rattle.cell_crew.specs.UnderWay.{IsDue}
+use Rattle.cell_crew.specs.Crew.{answers_before_end}
+use Rattle.cell_crew.specs.UnderWay.{UnderWay, HasGoneOn, is_at_end}
 use Rattle.cell_crew.specs.Turned.{event_of}
-
-empty : Tree
-empty = record { list = [] }
-
-ending : MachineData
-ending = record { tree = record { list = [] }; begun = 0; stage = Ending fates.Done }
 
 looked : Event
 looked = event_of 0 Look (answers.Go 0)
@@ -25,22 +16,33 @@ looked = event_of 0 Look (answers.Go 0)
 told : Event
 told = event_of 0 (End fates.Done) answers.Ok
 
-trees_of_two : trees_of (fresh empty ∷ ending ∷ []) ≡ empty ∷ empty ∷ []
-unfolding empty ending
-trees_of_two = refl
+counts : ℕ → List Answer → Type 0
+counts m got = m ≡ length got
 
-is_fresh : IsFresh (fresh empty)
-is_fresh = refl
+due : ℕ → Option Request
+due zero = Some Look
+due (suc m) = Some (End fates.Done)
 
-the_end_is_left_out : before_end (looked ∷ told ∷ []) ≡ looked ∷ []
+the_end_is_left_out : answers_before_end (looked ∷ told ∷ []) ≡ answers.Go 0 ∷ []
 unfolding looked told
 the_end_is_left_out = refl
 
--- before its End is answered the machine has asked it; then the task has ended
-has_asked : IsDue false ending []
-unfolding ending asked_after perform_list
-has_asked = record { request = End fates.Done; last = refl; due = refl }
+ends_next : (is_at_end (due 0) ≡ false) × (is_at_end (due 1) ≡ true) × (is_at_end None ≡ false)
+unfolding due
+ends_next = (refl, refl, refl)
 
-has_ended : IsDue true ending (told ∷ [])
-unfolding ending told asked_after perform_list
-has_ended = refl
+-- after its Look the machine has asked its End, and stays so when that was answered
+under_way : UnderWay counts due 1 (looked ∷ [])
+unfolding looked counts due
+under_way = record { stands = refl; goes_on = λ going. refl }
+
+has_ended : UnderWay counts due 1 (looked ∷ told ∷ [])
+unfolding looked told counts due
+has_ended = record { stands = refl; goes_on = λ going. refl }
+
+goes_on : HasGoneOn counts due false 0 (answers.Go 0) 1
+unfolding counts due
+goes_on = (refl, λ before stands. omega (arith, stands, length-append before (answers.Go 0 ∷ [])))
+
+stays_at_its_end : HasGoneOn counts due true 1 answers.Ok 1
+stays_at_its_end = refl

@@ -1,6 +1,6 @@
 mod Examples
+pub mod Served
 pub mod Amid
-pub mod TreesAsk
+pub mod Turning
 pub mod Crews
 pub mod Rounds
-pub mod Armed

@@ -1,154 +1,192 @@
 -- Turns after turns, and rounds after rounds.
-use Rattle.std.proofs.Common.{◌≡◌, ℕ, zero, suc, ◌+◌, ◌≤◌, List, [], ◌∷◌, length, refl, ap, sym, ◌∙◌, subst, inl, inr, arith, length-append}
-use Rattle.std.proofs.Common.{Some}
+use Rattle.std.proofs.Common.{◌≡◌, ℕ, zero, suc, ◌+◌, ◌≤◌, List, [], ◌∷◌, length, map, Option, Some, refl, ap, sym, ◌∙◌, subst, inl, inr, arith, length-append}
 use Rattle.std.proofs.lemmas.Bool.{ltb-false}
+use Rattle.std.proofs.lemmas.List.{length-map}
 use Rattle.std.specs.Prelude.{slice_get, slice_set, nat_lt, false}
 use Rattle.rapid_model.specs.CellData.{CellData}
 use Rattle.rapid_model.specs.Own.{part_of}
-use Rattle.rapid_model.specs.declared.tree.Tree.{Tree}
-use Rattle.move_meaning.specs.Traces.{SuitsTask, SuitTasks}
-use Rattle.task_machine.specs.MachineData.{MachineData}
-use Rattle.cell_crew.specs.Crew.{trees_of, AsksAs, AskAsTrees}
-use Rattle.cell_crew.specs.UnderWay.{UnderWay, AreUnderWay}
-use Rattle.cell_crew.proofs.Crews.{trees_set, tree_at, under_way_turn}
+use Rattle.rapid_model.specs.declared.answer.Answer.{Answer}
 use Rattle.rapid_model.specs.declared.event.Event.{Event}
-use Rattle.cell_meaning.specs.Asking.{Asking}
-use Rattle.cell_meaning.specs.Turns.{TakesTurn, TakeTurns, IsRound, AfterRounds}
+use Rattle.rapid_model.specs.declared.request.Request.{Request}
+use Rattle.cell_meaning.specs.Asking.{Asking, with_inputs}
+use Rattle.cell_meaning.specs.Histories.{IsLegal}
+use Rattle.cell_meaning.specs.Inputs.{inputs_done}
+use Rattle.cell_meaning.specs.Turns.{TakesTurn, TakeTurns, IsRound, AfterRounds, IsByTurns}
+use Rattle.cell_crew.specs.Crew.{RunsProgram, RunPrograms}
+use Rattle.cell_crew.specs.UnderWay.{UnderWay, AreUnderWay}
+use Rattle.cell_crew.proofs.Crews.{map_set, map_at, turn_others, under_way_turn, under_way_other}
+use Rattle.cell_crew.proofs.Served.{legal_none}
 
-pub no_turns : (asking : Asking) (cell : CellData) (history : List Event) → TakeTurns asking cell 0 0 history history
+no_turns : (asks : Asking) (cell : CellData) (history : List Event) → TakeTurns asks cell 0 0 history history
 unfolding TakeTurns
-no_turns asking cell history = refl
+no_turns asks cell history = refl
 
 -- the turn of the actor after those that took theirs
-more_from : (asking : Asking) (cell : CellData) (actor left : ℕ) (before between after : List Event) → TakeTurns asking cell actor left before between → TakesTurn asking cell (actor + left) between after
-    → TakeTurns asking cell actor (suc left) before after
+more_from : (asks : Asking) (cell : CellData) (actor left : ℕ) (before between after : List Event) → TakeTurns asks cell actor left before between → TakesTurn asks cell (actor + left) between after
+    → TakeTurns asks cell actor (suc left) before after
 unfolding TakeTurns
-more_from asking cell actor zero before between after turns turn =
+more_from asks cell actor zero before between after turns turn =
     let here : actor + zero ≡ actor = omega arith in
-    (after, subst (λ (h : List Event). TakesTurn asking cell actor h after) turns (subst (λ (k : ℕ). TakesTurn asking cell k between after) here turn), refl)
-more_from asking cell actor (suc left) before between after turns turn =
+    (after, subst (λ (h : List Event). TakesTurn asks cell actor h after) turns (subst (λ (k : ℕ). TakesTurn asks cell k between after) here turn), refl)
+more_from asks cell actor (suc left) before between after turns turn =
     let here : actor + suc left ≡ actor + 1 + left = omega arith in
-    (turns.0, turns.1, more_from asking cell (actor + 1) left turns.0 between after turns.2 (subst (λ (k : ℕ). TakesTurn asking cell k between after) here turn))
+    (turns.0, turns.1, more_from asks cell (actor + 1) left turns.0 between after turns.2 (subst (λ (k : ℕ). TakesTurn asks cell k between after) here turn))
 
-pub turns_more : (asking : Asking) (cell : CellData) (k : ℕ) (before between after : List Event) → TakeTurns asking cell 0 k before between → TakesTurn asking cell k between after
-    → TakeTurns asking cell 0 (k + 1) before after
-turns_more asking cell k before between after turns turn =
+turns_more : (asks : Asking) (cell : CellData) (k : ℕ) (before between after : List Event) → TakeTurns asks cell 0 k before between → TakesTurn asks cell k between after
+    → TakeTurns asks cell 0 (k + 1) before after
+turns_more asks cell k before between after turns turn =
     let here : 0 + k ≡ k = omega arith in
     let next : suc k ≡ k + 1 = omega arith in
-    subst (λ (n : ℕ). TakeTurns asking cell 0 n before after) next
-    (more_from asking cell 0 k before between after turns (subst (λ (j : ℕ). TakesTurn asking cell j between after) (sym here) turn))
+    subst (λ (n : ℕ). TakeTurns asks cell 0 n before after) next
+    (more_from asks cell 0 k before between after turns (subst (λ (j : ℕ). TakesTurn asks cell j between after) (sym here) turn))
 
--- a turn adds events or changes nothing
-turn_same : (asking : Asking) (cell : CellData) (actor : ℕ) (before after : List Event) → TakesTurn asking cell actor before after → length after ≤ length before → after ≡ before
-turn_same asking cell actor before after (inl s) short =
+-- a turn adds an event or changes nothing
+turn_same : (asks : Asking) (cell : CellData) (actor : ℕ) (before after : List Event) → TakesTurn asks cell actor before after → length after ≤ length before → after ≡ before
+turn_same asks cell actor before after (inl s) short =
     let grown : length after ≡ length before + 1 = ap length s.added ∙ length-append before (s.event ∷ []) in absurd (omega (arith, grown))
-turn_same asking cell actor before after (inr r) short = r.same
+turn_same asks cell actor before after (inr r) short = r.same
 
-turn_grows : (asking : Asking) (cell : CellData) (actor : ℕ) (before after : List Event) → TakesTurn asking cell actor before after → length before ≤ length after
-turn_grows asking cell actor before after (inl s) = let grown : length after ≡ length before + 1 = ap length s.added ∙ length-append before (s.event ∷ []) in omega (arith, grown)
-turn_grows asking cell actor before after (inr r) = let kept : length after ≡ length before = ap length r.same in omega (arith, kept)
+turn_grows : (asks : Asking) (cell : CellData) (actor : ℕ) (before after : List Event) → TakesTurn asks cell actor before after → length before ≤ length after
+turn_grows asks cell actor before after (inl s) = let grown : length after ≡ length before + 1 = ap length s.added ∙ length-append before (s.event ∷ []) in omega (arith, grown)
+turn_grows asks cell actor before after (inr r) = let kept : length after ≡ length before = ap length r.same in omega (arith, kept)
 
-turns_grow : (asking : Asking) (cell : CellData) (actor left : ℕ) (before after : List Event) → TakeTurns asking cell actor left before after → length before ≤ length after
+turns_grow : (asks : Asking) (cell : CellData) (actor left : ℕ) (before after : List Event) → TakeTurns asks cell actor left before after → length before ≤ length after
 unfolding TakeTurns
-turns_grow asking cell actor zero before after same = let kept : length after ≡ length before = ap length same in omega (arith, kept)
-turns_grow asking cell actor (suc left) before after t =
-    omega (arith, turn_grows asking cell actor before t.0 t.1, turns_grow asking cell (actor + 1) left t.0 after t.2)
+turns_grow asks cell actor zero before after same = let kept : length after ≡ length before = ap length same in omega (arith, kept)
+turns_grow asks cell actor (suc left) before after t =
+    omega (arith, turn_grows asks cell actor before t.0 t.1, turns_grow asks cell (actor + 1) left t.0 after t.2)
 
-turns_same : (asking : Asking) (cell : CellData) (actor left : ℕ) (before after : List Event) → TakeTurns asking cell actor left before after → length after ≤ length before → after ≡ before
+turns_same : (asks : Asking) (cell : CellData) (actor left : ℕ) (before after : List Event) → TakeTurns asks cell actor left before after → length after ≤ length before → after ≡ before
 unfolding TakeTurns
-turns_same asking cell actor zero before after same short = same
-turns_same asking cell actor (suc left) before after t short =
-    let later : length t.0 ≤ length after = turns_grow asking cell (actor + 1) left t.0 after t.2 in
-    let first : length before ≤ length t.0 = turn_grows asking cell actor before t.0 t.1 in
-    turns_same asking cell (actor + 1) left t.0 after t.2 (omega arith) ∙ turn_same asking cell actor before t.0 t.1 (omega arith)
+turns_same asks cell actor zero before after same short = same
+turns_same asks cell actor (suc left) before after t short =
+    let later : length t.0 ≤ length after = turns_grow asks cell (actor + 1) left t.0 after t.2 in
+    let first : length before ≤ length t.0 = turn_grows asks cell actor before t.0 t.1 in
+    turns_same asks cell (actor + 1) left t.0 after t.2 (omega arith) ∙ turn_same asks cell actor before t.0 t.1 (omega arith)
 
--- rounds that led to a history
-pub record AreRounds (asking : Asking) (cell : CellData) (history : List Event) : Type 0 where
-  pub rounds : ℕ
-  pub made : AfterRounds asking cell rounds history
+-- a round that leaves the history no longer than it was leaves it as it was
+round_same : (asks : Asking) (cell : CellData) (before between after : List Event) → TakeTurns asks cell 0 (length cell.tasks) before between → TakesTurn asks cell (length cell.tasks) between after
+    → length after ≤ length before → after ≡ before
+round_same asks cell before between after turns turn short =
+    let first : length before ≤ length between = turns_grow asks cell 0 (length cell.tasks) before between turns in
+    let last : length between ≤ length after = turn_grows asks cell (length cell.tasks) between after turn in
+    turn_same asks cell (length cell.tasks) between after turn (omega (arith, first)) ∙ turns_same asks cell 0 (length cell.tasks) before between turns (omega (arith, last))
 
-pub no_rounds : (asking : Asking) (cell : CellData) (history : List Event) → history ≡ [] → AreRounds asking cell history
-unfolding AfterRounds
-no_rounds asking cell history none = record { rounds = 0; made = none }
+-- turns leave the events of the actors after theirs as they are
+turns_others : (asks : Asking) (cell : CellData) (actor left other : ℕ) (before after : List Event) → TakeTurns asks cell actor left before after → actor + left ≤ other → part_of other after ≡ part_of other before
+unfolding TakeTurns
+turns_others asks cell actor zero other before after same past = ap (λ (h : List Event). part_of other h) same
+turns_others asks cell actor (suc left) other before after t past =
+    turns_others asks cell (actor + 1) left other t.0 after t.2 (omega (arith, past)) ∙ turn_others asks cell actor other before t.0 t.1 (λ same. omega (arith, past, same))
 
-pub rounds_more : (asking : Asking) (cell : CellData) (before after : List Event) → AreRounds asking cell before → IsRound asking cell before after → AreRounds asking cell after
-unfolding AfterRounds
-rounds_more asking cell before after past round = record { rounds = suc past.rounds; made = (before, past.made, round) }
-
--- the tasks before this one have taken their turns
-pub record HaveTurned (asking : Asking) (start machines : List MachineData) (first cell : CellData) (before history : List Event) (k : ℕ) : Type 0 where
-  pub same_cell : cell ≡ first
-  pub trees : trees_of machines ≡ trees_of start
-  pub ways : AreUnderWay machines history
-  pub turns : TakeTurns asking first 0 k before history
-
-pub none_turned : (asking : Asking) (machines : List MachineData) (cell : CellData) (history : List Event) → AreUnderWay machines history → HaveTurned asking machines machines cell cell history history 0
-none_turned asking machines cell history ways = record { same_cell = refl; trees = refl; ways = ways; turns = no_turns asking cell history }
-
-start_tree : (start machines : List MachineData) (k : ℕ) (m : MachineData) → trees_of machines ≡ trees_of start → slice_get machines k ≡ Some m → slice_get (trees_of start) k ≡ Some m.tree
-start_tree start machines k m trees at = ap (λ (ts : List Tree). slice_get ts k) (sym trees) ∙ tree_at machines k m at
-
-pub suited_at : (asking : Asking) (start machines : List MachineData) (first cell : CellData) (before history : List Event) (k : ℕ) (m : MachineData) → SuitTasks (trees_of start) first
-    → HaveTurned asking start machines first cell before history k → slice_get machines k ≡ Some m → SuitsTask m.tree cell k
-suited_at asking start machines first cell before history k m suited turned at =
-    subst (λ (c : CellData). SuitsTask m.tree c k) (sym turned.same_cell) (suited.each k m.tree (start_tree start machines k m turned.trees at))
-
-pub asks_at : (asking : Asking) (start machines : List MachineData) (first cell : CellData) (before history : List Event) (k : ℕ) (m : MachineData) → AskAsTrees asking (trees_of start)
-    → HaveTurned asking start machines first cell before history k → slice_get machines k ≡ Some m → AsksAs asking k m.tree
-asks_at asking start machines first cell before history k m asks turned at = asks.each k m.tree (start_tree start machines k m turned.trees at)
-
-pub more_turned : (asking : Asking) (start machines : List MachineData) (first cell later_cell : CellData) (before history after : List Event) (k : ℕ) (m later : MachineData)
-    → HaveTurned asking start machines first cell before history k
-    → slice_get machines k ≡ Some m → later_cell ≡ cell → later.tree ≡ m.tree → UnderWay later (part_of k after)
-    → TakesTurn asking cell k history after
-    → HaveTurned asking start (slice_set machines k later) first later_cell before after (k + 1)
-more_turned asking start machines first cell later_cell before history after k m later turned at same tree way turn =
-    let taken : TakesTurn asking first k history after = subst (λ (c : CellData). TakesTurn asking c k history after) turned.same_cell turn in
-    record {
-      same_cell = same ∙ turned.same_cell;
-      trees = trees_set machines k m later at tree ∙ turned.trees;
-      ways = under_way_turn asking first machines k later history after turned.ways way taken;
-      turns = turns_more asking first k before history after turned.turns taken;
-    }
-
--- where all turns left the history no longer than it was, it is the same
-pub all_turned_same : (asking : Asking) (start machines : List MachineData) (first cell : CellData) (before history : List Event) (k : ℕ) → HaveTurned asking start machines first cell before history k
-    → length history ≤ length before → history ≡ before
-all_turned_same asking start machines first cell before history k turned short = turns_same asking first 0 k before history turned.turns short
-
--- a crew after some rounds
-pub record AmidRounds (asking : Asking) (start machines : List MachineData) (first cell : CellData) (history : List Event) : Type 0 where
-  pub same_cell : cell ≡ first
-  pub trees : trees_of machines ≡ trees_of start
-  pub ways : AreUnderWay machines history
-  pub past : AreRounds asking first history
-
-pub before_rounds : (asking : Asking) (start machines : List MachineData) (cell : CellData) (history : List Event) → trees_of machines ≡ trees_of start → AreUnderWay machines [] → history ≡ []
-    → AmidRounds asking start machines cell cell history
-before_rounds asking start machines cell history trees ways none = record {
-  same_cell = refl;
-  trees = trees;
-  ways = subst (λ (h : List Event). AreUnderWay machines h) (sym none) ways;
-  past = no_rounds asking cell history none;
-}
-
-pub suit_amid : (asking : Asking) (start machines : List MachineData) (first cell : CellData) (history : List Event) → AmidRounds asking start machines first cell history → SuitTasks (trees_of start) first
-    → SuitTasks (trees_of machines) cell
-suit_amid asking start machines first cell history amid suit =
-    subst (λ (c : CellData). SuitTasks (trees_of machines) c) (sym amid.same_cell) (subst (λ (ts : List Tree). SuitTasks ts first) (sym amid.trees) suit)
-
-pub ask_amid : (asking : Asking) (start machines : List MachineData) (first cell : CellData) (history : List Event) → AmidRounds asking start machines first cell history → AskAsTrees asking (trees_of start)
-    → AskAsTrees asking (trees_of machines)
-ask_amid asking start machines first cell history amid asks = subst (λ (ts : List Tree). AskAsTrees asking ts) (sym amid.trees) asks
-
-pub one_more_round : (asking : Asking) (start machines later : List MachineData) (first cell later_cell : CellData) (history after : List Event) → AmidRounds asking start machines first cell history
-    → later_cell ≡ cell → trees_of later ≡ trees_of machines → AreUnderWay later after → IsRound asking cell history after → AmidRounds asking start later first later_cell after
-one_more_round asking start machines later first cell later_cell history after amid same trees ways round = record {
-  same_cell = same ∙ amid.same_cell;
-  trees = trees ∙ amid.trees;
-  ways = ways;
-  past = rounds_more asking first history after amid.past (subst (λ (c : CellData). IsRound asking c history after) amid.same_cell round);
-}
+-- the turns of the tasks do no step of the input script
+pub still_fed : (asks : Asking) (first cell : CellData) (before after : List Event) (done : ℕ) → cell ≡ first → TakeTurns asks first 0 (length first.tasks) before after → done ≡ inputs_done first before
+    → done ≡ inputs_done cell after
+still_fed asks first cell before after done same turns fed =
+    fed ∙ ap length (sym (turns_others asks first 0 (length first.tasks) (length first.tasks) before after turns (omega arith))) ∙ ap (λ (c : CellData). inputs_done c after) (sym same)
 
 pub no_longer : (n m a b : ℕ) → n ≡ a → m ≡ b → nat_lt n m ≡ false → b ≤ a
 no_longer n m a b p q no_more = omega (arith, ltb-false n m no_more)
+
+pub round_kept : (asks : Asking) (first cell : CellData) (before between after : List Event) → cell ≡ first → TakeTurns (with_inputs asks first) first 0 (length first.tasks) before between
+    → TakesTurn (with_inputs asks cell) cell (length cell.tasks) between after → length after ≤ length before → after ≡ before
+round_kept asks first cell before between after same turns turn short =
+    round_same (with_inputs asks first) first before between after turns (subst (λ (c : CellData). TakesTurn (with_inputs asks c) c (length c.tasks) between after) same turn) short
+
+-- rounds that led to a history
+pub record AreRounds (asks : Asking) (cell : CellData) (history : List Event) : Type 0 where
+  pub rounds : ℕ
+  pub made : AfterRounds asks cell rounds history
+
+no_rounds : (asks : Asking) (cell : CellData) (history : List Event) → history ≡ [] → AreRounds asks cell history
+unfolding AfterRounds
+no_rounds asks cell history none = record { rounds = 0; made = none }
+
+rounds_more : (asks : Asking) (cell : CellData) (before after : List Event) → AreRounds asks cell before → IsRound asks cell before after → AreRounds asks cell after
+unfolding AfterRounds
+rounds_more asks cell before after past round = record { rounds = suc past.rounds; made = (before, past.made, round) }
+
+module _ {M P : Type 0} (program : M → P) (stands_for : M → List Answer → Type 0) (due : M → Option Request) where
+  -- the tasks before this one have taken their turns
+  pub record HaveTurned (asks : Asking) (start machines : List M) (first cell : CellData) (before history : List Event) (k : ℕ) : Type 0 where
+    pub same_cell : cell ≡ first
+    pub programs : map program machines ≡ map program start
+    pub legal : IsLegal (with_inputs asks first) first history
+    pub ways : AreUnderWay stands_for due machines history
+    pub turns : TakeTurns (with_inputs asks first) first 0 k before history
+
+  pub none_turned : (asks : Asking) (machines : List M) (cell : CellData) (history : List Event) → IsLegal (with_inputs asks cell) cell history → AreUnderWay stands_for due machines history
+      → HaveTurned asks machines machines cell cell history history 0
+  none_turned asks machines cell history legal ways = record { same_cell = refl; programs = refl; legal = legal; ways = ways; turns = no_turns (with_inputs asks cell) cell history }
+
+  -- the program of a machine is the one that it had at the start
+  program_at : (start machines : List M) (k : ℕ) (m : M) → map program machines ≡ map program start → slice_get machines k ≡ Some m → slice_get (map program start) k ≡ Some (program m)
+  program_at start machines k m same at = ap (λ (ps : List P). slice_get ps k) (sym same) ∙ map_at program machines k m at
+
+  pub runs_at : (fits : P → List Answer → Type 0) (program_asks : P → List Answer → Request → Type 0) (asks : Asking) (start machines : List M) (first cell : CellData) (before history : List Event) (k : ℕ) (m : M)
+      → RunPrograms fits program_asks asks first (map program start) → HaveTurned asks start machines first cell before history k → slice_get machines k ≡ Some m → RunsProgram fits program_asks asks cell k (program m)
+  runs_at fits program_asks asks start machines first cell before history k m runs turned at =
+      subst (λ (c : CellData). RunsProgram fits program_asks asks c k (program m)) (sym turned.same_cell) (runs.each k (program m) (program_at start machines k m turned.programs at))
+
+  pub more_turned : (asks : Asking) (start machines : List M) (first cell later_cell : CellData) (before history after : List Event) (k : ℕ) (m later : M)
+      → HaveTurned asks start machines first cell before history k
+      → slice_get machines k ≡ Some m → later_cell ≡ cell → program later ≡ program m → IsLegal (with_inputs asks cell) cell after → UnderWay stands_for due later (part_of k after)
+      → TakesTurn (with_inputs asks cell) cell k history after
+      → HaveTurned asks start (slice_set machines k later) first later_cell before after (k + 1)
+  more_turned asks start machines first cell later_cell before history after k m later turned at same runs legal way turn =
+      let taken : TakesTurn (with_inputs asks first) first k history after = subst (λ (c : CellData). TakesTurn (with_inputs asks c) c k history after) turned.same_cell turn in
+      record {
+        same_cell = same ∙ turned.same_cell;
+        programs = map_set program machines k m later at runs ∙ turned.programs;
+        legal = subst (λ (c : CellData). IsLegal (with_inputs asks c) c after) turned.same_cell legal;
+        ways = under_way_turn stands_for due (with_inputs asks first) first machines k later history after turned.ways way taken;
+        turns = turns_more (with_inputs asks first) first k before history after turned.turns taken;
+      }
+
+  -- the turn of the input script leaves the machines under way
+  pub way_fed : (asks : Asking) (start machines : List M) (first cell : CellData) (before after : List Event) → length start ≡ length first.tasks → map program machines ≡ map program start → cell ≡ first
+      → AreUnderWay stands_for due machines before → TakesTurn (with_inputs asks cell) cell (length cell.tasks) before after → AreUnderWay stands_for due machines after
+  way_fed asks start machines first cell before after one_each programs same ways turn =
+      let count : length machines ≡ length cell.tasks =
+      sym (length-map machines program) ∙ ap length programs ∙ length-map start program ∙ one_each ∙ ap (λ (c : CellData). length c.tasks) (sym same) in
+      under_way_other stands_for due (with_inputs asks cell) cell machines (length cell.tasks) before after (omega (arith, count)) ways turn
+
+  -- a crew after some rounds, when so many steps of the input script were done
+  pub record AmidRounds (asks : Asking) (start machines : List M) (first cell : CellData) (history : List Event) (done : ℕ) : Type 0 where
+    pub same_cell : cell ≡ first
+    pub programs : map program machines ≡ map program start
+    pub legal : IsLegal (with_inputs asks first) first history
+    pub ways : AreUnderWay stands_for due machines history
+    pub fed : done ≡ inputs_done first history
+    pub past : AreRounds (with_inputs asks first) first history
+
+  pub before_rounds : (asks : Asking) (start machines : List M) (cell : CellData) (history : List Event) (done : ℕ) → map program machines ≡ map program start → AreUnderWay stands_for due machines [] → history ≡ []
+      → done ≡ 0 → AmidRounds asks start machines cell cell history done
+  before_rounds asks start machines cell history done programs ways none zero_done = record {
+    same_cell = refl;
+    programs = programs;
+    legal = subst (λ (h : List Event). IsLegal (with_inputs asks cell) cell h) (sym none) (legal_none (with_inputs asks cell) cell);
+    ways = subst (λ (h : List Event). AreUnderWay stands_for due machines h) (sym none) ways;
+    fed = zero_done ∙ ap (λ (h : List Event). inputs_done cell h) (sym none);
+    past = no_rounds (with_inputs asks cell) cell history none;
+  }
+
+  pub one_more_round : (asks : Asking) (start machines later : List M) (first cell later_cell : CellData) (history after : List Event) (done more : ℕ) → AmidRounds asks start machines first cell history done
+      → later_cell ≡ cell → map program later ≡ map program machines → IsLegal (with_inputs asks cell) cell after → AreUnderWay stands_for due later after → more ≡ inputs_done cell after
+      → IsRound (with_inputs asks cell) cell history after → AmidRounds asks start later first later_cell after more
+  one_more_round asks start machines later first cell later_cell history after done more amid same programs legal ways fed round = record {
+    same_cell = same ∙ amid.same_cell;
+    programs = programs ∙ amid.programs;
+    legal = subst (λ (c : CellData). IsLegal (with_inputs asks c) c after) amid.same_cell legal;
+    ways = ways;
+    fed = fed ∙ ap (λ (c : CellData). inputs_done c after) amid.same_cell;
+    past = rounds_more (with_inputs asks first) first history after amid.past (subst (λ (c : CellData). IsRound (with_inputs asks c) c history after) amid.same_cell round);
+  }
+
+  -- after a round that added nothing the run is over
+  pub run_over : (asks : Asking) (first cell : CellData) (history after : List Event) → cell ≡ first → AreRounds (with_inputs asks first) first history → IsRound (with_inputs asks cell) cell history after → after ≡ history
+      → IsByTurns (with_inputs asks first) first after
+  run_over asks first cell history after same past round still =
+      let again : IsRound (with_inputs asks first) first after after =
+      subst (λ (h : List Event). IsRound (with_inputs asks first) first h after) (sym still) (subst (λ (c : CellData). IsRound (with_inputs asks c) c history after) same round) in
+      record { rounds = past.rounds; made = subst (λ (h : List Event). AfterRounds (with_inputs asks first) first past.rounds h) (sym still) past.made; over = again }

@@ -1,45 +1,33 @@
--- The machines of a cell's tasks, one each in script order.
-use Rattle.std.specs.Prelude.{◌≡◌, ℕ, List, length, map, filter, Some, slice_get, is_none}
+-- The machines of a cell's tasks, one each in script order, and the programs that they run.
+use Rattle.std.specs.Prelude.{◌≡◌, ◌↔◌, ℕ, List, length, map, filter, Some, slice_get, is_none}
 use Rattle.std.specs.List.{AllByRecursion}
 use Rattle.rapid_model.specs.CellData.{CellData}
-use Rattle.rapid_model.specs.Own.{part_of, fate_told}
+use Rattle.rapid_model.specs.Own.{part_of, answers_of, fate_told}
 use Rattle.rapid_model.specs.declared.answer.Answer.{Answer}
 use Rattle.rapid_model.specs.declared.event.Event.{Event}
 use Rattle.rapid_model.specs.declared.request.Request.{Request}
-use Rattle.rapid_model.specs.declared.tree.Tree.{Tree}
-use Rattle.cell_meaning.specs.Asking.{Asking}
-use Rattle.move_meaning.specs.Runs as runs
-use Rattle.move_meaning.specs.Runs.{asked_after}
-use Rattle.move_meaning.specs.Traces.{answers_in, SuitTasks}
-use Rattle.task_machine.specs.MachineData.{MachineData, fresh}
-use Rattle.task_machine.specs.Standing.{StandsFor}
+use Rattle.cell_meaning.specs.Asking.{Asking, with_inputs}
+use Rattle.cell_meaning.specs.Histories.{IsLegal}
 
-abbrev pub trees_of : List MachineData → List Tree
-trees_of machines = map (λ m. m.tree) machines
-
--- a machine that has asked nothing
-abbrev pub IsFresh : MachineData → Type 0
-IsFresh m = m ≡ fresh m.tree
-
--- a machine for each task, none of which has asked anything, and whose trees suit the tasks
-pub record IsCrew (machines : List MachineData) (cell : CellData) : Type 0 where
+-- a machine for each task, none of which has asked anything
+pub record IsCrew {M : Type 0} (is_fresh : M → Type 0) (machines : List M) (cell : CellData) : Type 0 where
   pub one_each : length machines ≡ length cell.tasks
-  pub fresh : AllByRecursion IsFresh machines
-  pub suit : SuitTasks (trees_of machines) cell
+  pub fresh : AllByRecursion is_fresh machines
 
--- the events but an End
-abbrev pub before_end : List Event → List Event
-before_end mine = filter (λ e. is_none (fate_told e.request)) mine
+-- A task runs a program: what it got in a legal history fits the program, and after answers that fit the program it asks what
+-- the program asks, and nothing else.
+pub record RunsProgram {P : Type 0} (fits : P → List Answer → Type 0) (program_asks : P → List Answer → Request → Type 0) (asks : Asking) (cell : CellData) (task : ℕ) (program : P) : Type 0 where
+  pub fit : (history : List Event) → IsLegal (with_inputs asks cell) cell history → fits program (answers_of task history)
+  pub same : (answers : List Answer) (request : Request) → fits program answers → asks task answers request ↔ program_asks program answers request
+
+-- each task runs its program
+pub record RunPrograms {P : Type 0} (fits : P → List Answer → Type 0) (program_asks : P → List Answer → Request → Type 0) (asks : Asking) (cell : CellData) (programs : List P) : Type 0 where
+  pub each : (task : ℕ) (program : P) → slice_get programs task ≡ Some program → RunsProgram fits program_asks asks cell task program
+
+-- the answers that a task got, but that to its End
+abbrev pub answers_before_end : List Event → List Answer
+answers_before_end mine = map (λ e. e.answer) (filter (λ e. is_none (fate_told e.request)) mine)
 
 -- each machine stands for its task's answers in the history, the answer to its End left out
-pub record Stand (machines : List MachineData) (history : List Event) : Type 0 where
-  pub each : (task : ℕ) (m : MachineData) → slice_get machines task ≡ Some m → StandsFor m (answers_in (before_end (part_of task history)))
-
--- the actor asks what the task of the tree asks, and nothing else
-pub record AsksAs (asks : Asking) (actor : ℕ) (tree : Tree) : Type 0 where
-  pub all : (answers : List Answer) (request : Request) → asked_after tree answers ≡ runs.asks request → asks actor answers request
-  pub only : (answers : List Answer) (request : Request) → asks actor answers request → asked_after tree answers ≡ runs.asks request
-
--- each task asks what its tree asks
-pub record AskAsTrees (asks : Asking) (trees : List Tree) : Type 0 where
-  pub each : (task : ℕ) (tree : Tree) → slice_get trees task ≡ Some tree → AsksAs asks task tree
+pub record Stand {M : Type 0} (stands_for : M → List Answer → Type 0) (machines : List M) (history : List Event) : Type 0 where
+  pub each : (task : ℕ) (m : M) → slice_get machines task ≡ Some m → stands_for m (answers_before_end (part_of task history))

@@ -1,51 +1,49 @@
 //! What passes between a machine and the core.
-ghost use Rattle.std.specs.Prelude.{◌≡◌, ◌∷◌, ◌++◌, List, [], false, IsTrue, IsSomeAnd, Some, is_some};
+ghost use Rattle.std.specs.Prelude.{◌≡◌, [], map, IsTrue, is_some};
 ghost use Rattle.std.specs.List.{AllByRecursion};
-ghost use Rattle.rapid_model.specs.Own.{part_of, has_ended, fate_told};
-ghost use Rattle.rapid_model.specs.Requests.{may_ask};
-ghost use Rattle.rapid_model.specs.declared.event.Event.{Event};
-ghost use Rattle.move_meaning.specs.Traces.{fits_move};
-ghost use Rattle.task_machine.specs.MachineData.{request_of};
-ghost use Rattle.cell_crew.specs.Crew.{IsFresh, trees_of};
-ghost use Rattle.cell_crew.specs.UnderWay.{UnderWay, AreUnderWay};
+ghost use Rattle.rapid_model.specs.Own.{answers_of, fate_told};
+ghost use Rattle.cell_meaning.specs.Asking.{with_inputs};
+ghost use Rattle.cell_meaning.specs.Histories.{IsLegal};
+ghost use Rattle.cell_meaning.specs.Premises.{AsksWhatItMay};
+ghost use Rattle.cell_crew.specs.UnderWay.{AreUnderWay, MayTake, HasGoneOn, is_at_end};
 ghost use Rattle.cell_crew.specs.Turned.{CameOf};
 
 use cell_core::{Core, Served};
+use cell_meaning::Askers;
 use rapid_model::{Answer, Request};
-use task_machine::Machine;
+use task_programs::TaskMachine;
 
 /// Has each machine ask its first request.
-pub fn ask_first(machines: &mut [Machine])
-    requires { AllByRecursion IsFresh machines.old }
-    ensures trees { trees_of machines.new ≡ trees_of machines.old }
-    ensures under_way { AreUnderWay machines.new [] }
+pub(crate) fn ask_first<M: TaskMachine>(machines: &mut [M])
+    requires { AllByRecursion M.is_fresh machines.old }
+    ensures programs { map M.program machines.new ≡ map M.program machines.old }
+    ensures under_way { AreUnderWay M.stands_for M.due machines.new [] }
 {
     for machine in machines.iter_mut() {
         machine.first();
     }
 }
 
-/// Asks the core a request of a task: the answer, or none where no steps are left for it.
-pub fn ask(core: &mut Core, task: u32, request: Request) -> Option<Answer>
-    requires { IsTrue (may_ask core.old.cell task (part_of task core.old.history) request) }
+/// Asks the core what an actor asks: the answer, or none where it cannot be answered now.
+pub(crate) fn ask<A: Askers>(core: &mut Core, actor: u32, request: Request) -> Option<Answer>
+    requires asked { with_inputs A.asks core.old.cell actor (answers_of actor core.old.history) request }
+    requires may { AsksWhatItMay (with_inputs A.asks core.old.cell) core.old.cell }
+    requires legal { IsLegal (with_inputs A.asks core.old.cell) core.old.cell core.old.history }
     ensures cell { core.new.cell ≡ core.old.cell }
-    ensures came { CameOf core.old.cell core.old.history task request core.new.history result }
+    ensures legal { IsLegal (with_inputs A.asks core.old.cell) core.old.cell core.new.history }
+    ensures came { CameOf (with_inputs A.asks core.old.cell) core.old.cell core.old.history actor request core.new.history result }
 {
-    match core.serve(task, request) {
-        Served::Answered(answer) => {
-            // What was answered is an event, and its answer fits.
-            prove!(core.len() > 0);
-            Some(answer)
-        }
+    match core.serve(actor, request) {
+        Served::Answered(answer) => Some(answer),
         Served::Spent | Served::NotYet => None,
     }
 }
 
-/// Hands the answer to its last request to a machine, which asks the next one; after its End it asks nothing.
-pub fn hand_on(machine: &mut Machine, answer: Answer)
-    requires { IsSomeAnd (request_of machine.old) (λ request. IsTrue (fits_move request answer)) }
-    ensures tree { machine.new.tree ≡ machine.old.tree }
-    ensures under_way { (mine : List Event) (e : Event) → UnderWay machine.old mine → has_ended mine ≡ false → request_of machine.old ≡ Some e.request → e.answer ≡ answer → UnderWay machine.new (mine ++ e ∷ []) }
+/// Hands a machine the answer to the request that is due, and it asks the next; but the answer to its End it is not handed.
+pub(crate) fn hand_on<M: TaskMachine>(machine: &mut M, answer: Answer)
+    requires { MayTake M.program M.fits M.stands_for M.due machine.old answer }
+    ensures program { M.program machine.new ≡ M.program machine.old }
+    ensures went_on { HasGoneOn M.stands_for M.due (is_at_end (M.due machine.old)) machine.old answer machine.new }
 {
     if !is_end(&machine.last()) {
         machine.next(answer);

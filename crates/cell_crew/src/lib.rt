@@ -1,9 +1,11 @@
-//! Runs the tasks of a cell by turns on one thread.
+//! Runs the tasks of a cell and its input script by turns on one thread, over whatever machines run the tasks' programs.
 #![tactic(auto)]
 
 mod asking;
 mod ran;
 mod round;
+mod script;
+mod turn;
 
 pub use ran::Ran;
 pub use round::run_round;

@@ -1,9 +1,8 @@
 use cell_core::Core;
-use task_machine::Machine;
 
-/// The core and the machines after a run.
-#[derive(Debug, Drop)]
-pub struct Ran {
+/// The core after a run, and the machines in script order, each with the answers that its task got before its End.
+#[derive(Drop)]
+pub struct Ran<M> {
     pub core: Core,
-    pub machines: Vec<Machine>,
+    pub machines: Vec<M>,
 }

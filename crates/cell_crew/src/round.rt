@@ -1,92 +1,91 @@
-ghost use Rattle.std.specs.Prelude.{◌≡◌, ◌<◌, ◌≤◌, ◌+◌, ◌∷◌, ◌++◌, [], length, IsTrue, IsFalse};
-ghost use Rattle.rapid_model.specs.CellData.{CellData};
-ghost use Rattle.rapid_model.specs.Own.{part_of};
-ghost use Rattle.cell_meaning.specs.Turns.{TakesTurn, IsRound, IsByTurns};
-ghost use Rattle.move_meaning.specs.Traces.{SuitsTask, SuitTasks};
-ghost use Rattle.cell_crew.specs.Crew.{IsCrew, Stand, trees_of, AsksAs, AskAsTrees};
-ghost use Rattle.cell_crew.specs.UnderWay.{UnderWay, AreUnderWay};
+ghost use Rattle.std.specs.Prelude.{◌≡◌, ◌<◌, ◌≤◌, ◌+◌, [], length, map, IsTrue, IsFalse};
+ghost use Rattle.cell_meaning.specs.Asking.{with_inputs};
+ghost use Rattle.cell_meaning.specs.Histories.{IsLegal};
+ghost use Rattle.cell_meaning.specs.Inputs.{inputs_done};
+ghost use Rattle.cell_meaning.specs.Premises.{AsksWhatItMay};
+ghost use Rattle.cell_meaning.specs.Turns.{TakeTurns, IsRound, IsByTurns};
+ghost use Rattle.cell_crew.specs.Crew.{IsCrew, RunPrograms, Stand};
+ghost use Rattle.cell_crew.specs.UnderWay.{AreUnderWay};
 
-use crate::asking::{ask, ask_first, hand_on};
+use crate::asking::ask_first;
 use crate::ran::Ran;
+use crate::script::feed;
+use crate::turn::{task_count, turn};
 use cell_core::Core;
 use cell_meaning::Askers;
-use task_machine::Machine;
+use task_programs::TaskMachine;
 
-/// Lets the tasks take turns in order, one event a turn, until a whole turn round adds none. A task that has ended, or
-/// that no steps are left for, adds none. Takes no memory.
-pub fn run_round<A: Askers>(mut core: Core, mut machines: Vec<Machine>) -> Ran
+/// Lets the tasks take turns in script order, and after them the input script, one event a turn, until a whole round adds none
+/// (`IsByTurns` of cell_meaning). What has ended, is not enabled, or has no steps left adds none. The core has no events yet, and
+/// there is a machine for each task, which has asked nothing. Takes no memory.
+pub fn run_round<A: Askers, M: TaskMachine>(mut core: Core, mut machines: Vec<M>) -> Ran<M>
     requires no_events { core.history ≡ [] }
-    requires crew { IsCrew machines.items core.cell }
-    requires asks { AskAsTrees A.asks (trees_of machines.items) }
+    requires crew { IsCrew M.is_fresh machines.items core.cell }
+    requires programs { RunPrograms M.fits M.asks A.asks core.cell (map M.program machines.items) }
+    requires may { AsksWhatItMay (with_inputs A.asks core.cell) core.cell }
     ensures cell { result.core.cell ≡ core.cell }
-    ensures trees { trees_of result.machines.items ≡ trees_of machines.items }
-    ensures by_turns { IsByTurns A.asks core.cell result.core.history }
-    ensures stand { Stand result.machines.items result.core.history }
+    ensures programs { map M.program result.machines.items ≡ map M.program machines.items }
+    ensures by_turns { IsByTurns (with_inputs A.asks core.cell) core.cell result.core.history }
+    ensures stand { Stand M.stands_for result.machines.items result.core.history }
 {
-    run::<A>(&mut core, machines.as_mut_slice());
+    run::<A, M>(&mut core, machines.as_mut_slice());
     Ran { core, machines }
 }
 
 // Rounds until one adds no event.
-fn run<A: Askers>(core: &mut Core, machines: &mut [Machine])
+fn run<A: Askers, M: TaskMachine>(core: &mut Core, machines: &mut [M])
     requires no_events { core.old.history ≡ [] }
-    requires crew { IsCrew machines.old core.old.cell }
-    requires asks { AskAsTrees A.asks (trees_of machines.old) }
+    requires crew { IsCrew M.is_fresh machines.old core.old.cell }
+    requires programs { RunPrograms M.fits M.asks A.asks core.old.cell (map M.program machines.old) }
+    requires may { AsksWhatItMay (with_inputs A.asks core.old.cell) core.old.cell }
     ensures cell { core.new.cell ≡ core.old.cell }
-    ensures trees { trees_of machines.new ≡ trees_of machines.old }
-    ensures by_turns { IsByTurns A.asks core.old.cell core.new.history }
-    ensures stand { Stand machines.new core.new.history }
+    ensures programs { map M.program machines.new ≡ map M.program machines.old }
+    ensures by_turns { IsByTurns (with_inputs A.asks core.old.cell) core.old.cell core.new.history }
+    ensures stand { Stand M.stands_for machines.new core.new.history }
 {
     ask_first(machines);
-    'rounds: while round::<A>(core, machines) {}
+    let mut done = 0;
+    'rounds: while round::<A, M>(core, machines, &mut done) {}
 }
 
-// A turn of each task in order, and whether any added an event.
-fn round<A: Askers>(core: &mut Core, machines: &mut [Machine]) -> bool
+// A turn of each task in order and then of the input script, of which so many steps were done; and whether any added an event.
+fn round<A: Askers, M: TaskMachine>(core: &mut Core, machines: &mut [M], done: &mut u32) -> bool
     requires one_each { length machines.old ≡ length core.old.cell.tasks }
-    requires suited { SuitTasks (trees_of machines.old) core.old.cell }
-    requires asks { AskAsTrees A.asks (trees_of machines.old) }
-    requires under_way { AreUnderWay machines.old core.old.history }
+    requires programs { RunPrograms M.fits M.asks A.asks core.old.cell (map M.program machines.old) }
+    requires may { AsksWhatItMay (with_inputs A.asks core.old.cell) core.old.cell }
+    requires legal { IsLegal (with_inputs A.asks core.old.cell) core.old.cell core.old.history }
+    requires under_way { AreUnderWay M.stands_for M.due machines.old core.old.history }
+    requires done { done.old ≡ inputs_done core.old.cell core.old.history }
     ensures cell { core.new.cell ≡ core.old.cell }
-    ensures trees { trees_of machines.new ≡ trees_of machines.old }
-    ensures under_way { AreUnderWay machines.new core.new.history }
-    ensures round { IsRound A.asks core.old.cell core.old.history core.new.history }
+    ensures programs { map M.program machines.new ≡ map M.program machines.old }
+    ensures legal { IsLegal (with_inputs A.asks core.old.cell) core.old.cell core.new.history }
+    ensures under_way { AreUnderWay M.stands_for M.due machines.new core.new.history }
+    ensures done { done.new ≡ inputs_done core.old.cell core.new.history }
+    ensures round { IsRound (with_inputs A.asks core.old.cell) core.old.cell core.old.history core.new.history }
     ensures longer { IsTrue result → length core.old.history < length core.new.history }
     ensures same { IsFalse result → core.new.history ≡ core.old.history }
-    ensures few { length core.new.history ≤ core.new.cell.steps + length core.new.cell.tasks }
+    ensures few { length core.new.history ≤ core.old.cell.steps + length core.old.cell.tasks + length core.old.cell.inputs }
 {
     let before = core.len();
-    for task in 0..task_count(core) {
-        turn::<A>(core, &mut machines[task as usize], task);
-    }
+    turns::<A, M>(core, machines);
+    *done = feed::<A>(core, *done);
     core.len() > before
 }
 
-// How many tasks there are.
-fn task_count(core: &Core) -> u32
-    ensures { result ≡ length core.now.cell.tasks }
-{
-    let cell = core.cell();
-    // A cell is within its limits.
-    prove!(cell.steps() > 0);
-    cell.tasks().len() as u32
-}
-
-// The turn of a task: it adds its event where it can.
-fn turn<A: Askers>(core: &mut Core, machine: &mut Machine, task: u32)
-    requires task { task < length core.old.cell.tasks }
-    requires suited { SuitsTask machine.old.tree core.old.cell task }
-    requires asks { AsksAs A.asks task machine.old.tree }
-    requires under_way { UnderWay machine.old (part_of task core.old.history) }
+// A turn of each task in order.
+fn turns<A: Askers, M: TaskMachine>(core: &mut Core, machines: &mut [M])
+    requires one_each { length machines.old ≡ length core.old.cell.tasks }
+    requires programs { RunPrograms M.fits M.asks A.asks core.old.cell (map M.program machines.old) }
+    requires may { AsksWhatItMay (with_inputs A.asks core.old.cell) core.old.cell }
+    requires legal { IsLegal (with_inputs A.asks core.old.cell) core.old.cell core.old.history }
+    requires under_way { AreUnderWay M.stands_for M.due machines.old core.old.history }
     ensures cell { core.new.cell ≡ core.old.cell }
-    ensures tree { machine.new.tree ≡ machine.old.tree }
-    ensures under_way { UnderWay machine.new (part_of task core.new.history) }
-    ensures turn { TakesTurn A.asks core.old.cell task core.old.history core.new.history }
+    ensures programs { map M.program machines.new ≡ map M.program machines.old }
+    ensures legal { IsLegal (with_inputs A.asks core.old.cell) core.old.cell core.new.history }
+    ensures under_way { AreUnderWay M.stands_for M.due machines.new core.new.history }
+    ensures turns { TakeTurns (with_inputs A.asks core.old.cell) core.old.cell 0 (length core.old.cell.tasks) core.old.history core.new.history }
 {
-    if core.ended(task) {
-        return;
-    }
-    if let Some(answer) = ask(core, task, machine.last()) {
-        hand_on(machine, answer);
+    for task in 0..task_count(core) {
+        turn::<A, M>(core, &mut machines[task as usize], task);
     }
 }

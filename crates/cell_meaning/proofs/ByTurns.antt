@@ -3,23 +3,23 @@ use Rattle.std.proofs.Common.{◌≡◌, ℕ, zero, suc, ◌+◌, ◌-◌, ◌�
 use Rattle.std.specs.Prelude.{IsTrue}
 use Rattle.std.proofs.lemmas.Bool.{cases_lt}
 use Rattle.rapid_model.specs.CellData.{CellData, IsCell}
-use Rattle.rapid_model.specs.Fits.{fits_request, fitting_in}
-use Rattle.rapid_model.specs.Own.{part_of}
 use Rattle.rapid_model.specs.declared.answer.Answer.{Answer}
 use Rattle.rapid_model.specs.declared.event.Event.{Event}
 use Rattle.rapid_model.specs.declared.request.Request.{Request}
-use Rattle.cell_meaning.specs.Answers.{answer_after}
+use Rattle.cell_meaning.specs.Answers.{IsAnswer}
 use Rattle.cell_meaning.specs.Asking.{Asking}
 use Rattle.cell_meaning.specs.Histories.{Follows, is_fit, IsLegal, IsWhole}
-use Rattle.cell_meaning.specs.Premises.{OnlyTasksAsk, AsksOne, AsksWhatItMay, AllMightAsk}
+use Rattle.cell_meaning.specs.Premises.{OnlyActorsAsk, AsksOne, AsksWhatItMay, AllAnswered, StartsFull}
 use Rattle.cell_meaning.specs.Turns.{TakesTurn, TakeTurns, IsRound, AfterRounds, IsByTurns}
-use Rattle.cell_meaning.proofs.Lists.{cut_none, cut_more, cut_before}
-use Rattle.cell_meaning.proofs.Positions.{answer_fits}
+use Rattle.rapid_model.proofs.Cuts.{cut_none, cut_more, cut_before}
+use Rattle.cell_meaning.proofs.FitAnswers.{answer_fits}
+use Rattle.cell_meaning.proofs.OneAnswer.{one_answer}
 
--- each actor might ask what it asked
-pub legal_asked : (asks : Asking) (cell : CellData) (history : List Event) → AsksWhatItMay asks cell → IsLegal asks cell history → AllMightAsk cell history
-legal_asked asks cell history may legal = record {
+-- each actor might ask what it asked, and got the cell's answer
+pub legal_answered : (asks : Asking) (cell : CellData) (history : List Event) → AsksWhatItMay asks cell → IsLegal asks cell history → AllAnswered cell history
+legal_answered asks cell history may legal = record {
   might = λ before after e p. may.may before e.actor e.request (legal_before asks cell history before (e ∷ after) p legal) (legal.at before after e p).asked;
+  answered = λ before after e p. (legal.at before after e p).answered;
 }
   where
     legal_before : (asks : Asking) (cell : CellData) (history front back : List Event) → history ≡ front ++ back → IsLegal asks cell history → IsLegal asks cell front
@@ -34,6 +34,7 @@ legal_none asks cell = record { at = cut_none (λ before e. Follows asks cell be
 -- what those who ask have to keep for a run to be legal
 record Keeping (asks : Asking) (cell : CellData) : Type 0 where
   limits : IsCell cell
+  full : StartsFull cell
   may : AsksWhatItMay asks cell
 
 -- one more event that follows
@@ -41,8 +42,7 @@ legal_more : (asks : Asking) (cell : CellData) (history : List Event) (e : Event
     → IsLegal asks cell (history ++ e ∷ [])
 legal_more asks cell history e keeping legal follows =
     let may = keeping.may.may history e.actor e.request legal follows.asked in
-    let fits = answer_fits cell history e.actor e.request keeping.limits (legal_asked asks cell history keeping.may legal) may in
-    let fit : IsTrue (is_fit cell history e) = subst (λ (a : Answer). IsTrue (fits_request (fitting_in cell (part_of e.actor history)) e.request a)) (sym follows.answered) fits in
+    let fit : IsTrue (is_fit cell history e) = answer_fits cell history e.actor e.request e.answer keeping.limits keeping.full (legal_answered asks cell history keeping.may legal) may follows.answered in
     record {
       at = cut_more (λ before x. Follows asks cell before x) history e legal.at follows;
       fits = cut_more (λ before x. IsTrue (is_fit cell before x)) history e legal.fits fit;
@@ -60,14 +60,19 @@ legal_turns asks cell actor zero before after keeping legal same = subst (λ (h 
 legal_turns asks cell actor (suc left) before after keeping legal t =
     legal_turns asks cell (actor + 1) left t.0 after keeping (legal_turn asks cell actor before t.0 keeping legal t.1) t.2
 
+legal_round : (asks : Asking) (cell : CellData) (before after : List Event) → Keeping asks cell → IsLegal asks cell before → IsRound asks cell before after → IsLegal asks cell after
+legal_round asks cell before after keeping legal (between, turns, last) =
+    legal_turn asks cell (length cell.tasks) between after keeping (legal_turns asks cell 0 (length cell.tasks) before between keeping legal turns) last
+
 legal_rounds : (asks : Asking) (cell : CellData) (rounds : ℕ) (history : List Event) → Keeping asks cell → AfterRounds asks cell rounds history → IsLegal asks cell history
 unfolding AfterRounds
 legal_rounds asks cell zero history keeping none = subst (λ (h : List Event). IsLegal asks cell h) (sym none) (legal_none asks cell)
 legal_rounds asks cell (suc rounds) history keeping made =
-    legal_turns asks cell 0 (length cell.tasks) made.0 history keeping (legal_rounds asks cell rounds made.0 keeping made.1) made.2
+    legal_round asks cell made.0 history keeping (legal_rounds asks cell rounds made.0 keeping made.1) made.2
 
-pub by_turns_legal : (asks : Asking) (cell : CellData) (history : List Event) → IsCell cell → AsksWhatItMay asks cell → IsByTurns asks cell history → IsLegal asks cell history
-by_turns_legal asks cell history limits may run = legal_rounds asks cell run.rounds history (record { limits = limits; may = may }) run.made
+pub by_turns_legal : (asks : Asking) (cell : CellData) (history : List Event) → IsCell cell → StartsFull cell → AsksWhatItMay asks cell → IsByTurns asks cell history
+    → IsLegal asks cell history
+by_turns_legal asks cell history limits full may run = legal_rounds asks cell run.rounds history (record { limits = limits; full = full; may = may }) run.made
 
 -- a turn makes no history shorter
 turn_grows : (asks : Asking) (cell : CellData) (actor : ℕ) (before after : List Event) → TakesTurn asks cell actor before after → length before ≤ length after
@@ -103,11 +108,35 @@ turns_rest asks cell actor (suc left) before after t short e low high follows =
     still_rests asks cell actor before t.0 t.1 (omega arith) e low follows
     (λ lt f. turns_rest asks cell (actor + 1) left t.0 after t.2 (omega arith) e (omega arith) (omega arith) f)
 
-pub by_turns_whole : (asks : Asking) (cell : CellData) (history : List Event) → OnlyTasksAsk asks cell → IsByTurns asks cell history → IsWhole asks cell history
+-- turns that leave the history as long as it was leave it as it was
+turn_same : (asks : Asking) (cell : CellData) (actor : ℕ) (before after : List Event) → TakesTurn asks cell actor before after → length after ≤ length before → after ≡ before
+turn_same asks cell actor before after (inl s) short =
+    let grown : length after ≡ length before + 1 = ap length s.added ∙ length-append before (s.event ∷ []) in
+    absurd (omega (arith, grown))
+turn_same asks cell actor before after (inr r) short = r.same
+
+turns_same : (asks : Asking) (cell : CellData) (actor left : ℕ) (before after : List Event) → TakeTurns asks cell actor left before after → length after ≤ length before → after ≡ before
+unfolding TakeTurns
+turns_same asks cell actor zero before after same short = same
+turns_same asks cell actor (suc left) before after t short =
+    let later_grow : length t.0 ≤ length after = turns_grow asks cell (actor + 1) left t.0 after t.2 in
+    let first_grow : length before ≤ length t.0 = turn_grows asks cell actor before t.0 t.1 in
+    turns_same asks cell (actor + 1) left t.0 after t.2 (omega arith) ∙ turn_same asks cell actor before t.0 t.1 (omega arith)
+
+-- where a round adds nothing, no event of any actor follows
+round_rests : (asks : Asking) (cell : CellData) (history : List Event) (e : Event) → IsRound asks cell history history → e.actor ≤ length cell.tasks → Follows asks cell history e → ⊥
+round_rests asks cell history e (between, turns, last) low follows =
+    let turns_longer : length history ≤ length between = turns_grow asks cell 0 (length cell.tasks) history between turns in
+    let last_longer : length between ≤ length history = turn_grows asks cell (length cell.tasks) between history last in
+    let same : between ≡ history = turns_same asks cell 0 (length cell.tasks) history between turns last_longer in
+    elim (cases_lt e.actor (length cell.tasks)) [
+      | inl lt ↦ turns_rest asks cell 0 (length cell.tasks) history between turns last_longer e (omega arith) (omega arith) follows
+      | inr ge ↦ still_rests asks cell (length cell.tasks) between history last turns_longer e ge (subst (λ (h : List Event). Follows asks cell h e) (sym same) follows) (λ lt f. absurd (omega arith))
+    ]
+
+pub by_turns_whole : (asks : Asking) (cell : CellData) (history : List Event) → OnlyActorsAsk asks cell → IsByTurns asks cell history → IsWhole asks cell history
 by_turns_whole asks cell history only run = record {
-  over = λ e follows.
-      turns_rest asks cell 0 (length cell.tasks) history history run.over (omega arith) e (omega arith)
-      (let within : e.actor < length cell.tasks = only.within e.actor _ e.request follows.asked in omega arith) follows;
+  over = λ e follows. round_rests asks cell history e run.over (only.within e.actor _ e.request follows.asked) follows;
 }
 
 -- so one event at most follows of each actor
@@ -116,7 +145,7 @@ one_follows : (asks : Asking) (cell : CellData) (before : List Event) (actor : �
     → (r ≡ r') × (x ≡ x')
 one_follows asks cell before actor r r' x x' ones f f' =
     let same : r ≡ r' = ones.one actor _ r r' f.asked f'.asked in
-    (same, f.answered ∙ ap (λ (q : Request). answer_after cell before actor q) same ∙ sym f'.answered)
+    (same, one_answer cell before actor r x x' f.answered (subst (λ (q : Request). IsAnswer cell before actor q x') (sym same) f'.answered))
 
 one_event : (asks : Asking) (cell : CellData) (before : List Event) (e e' : Event) → AsksOne asks → e'.actor ≡ e.actor → Follows asks cell before e → Follows asks cell before e' → e ≡ e'
 one_event asks cell before e e' ones by f f' =
@@ -141,12 +170,17 @@ one_turns asks cell actor (suc left) before after other ones t u =
     let same : t.0 ≡ u.0 = one_turn asks cell actor before t.0 u.0 ones t.1 u.1 in
     one_turns asks cell (actor + 1) left t.0 after other ones t.2 (subst (λ (h : List Event). TakeTurns asks cell (actor + 1) left h other) (sym same) u.2)
 
+one_round : (asks : Asking) (cell : CellData) (before after other : List Event) → AsksOne asks → IsRound asks cell before after → IsRound asks cell before other → after ≡ other
+one_round asks cell before after other ones t u =
+    let same : t.0 ≡ u.0 = one_turns asks cell 0 (length cell.tasks) before t.0 u.0 ones t.1 u.1 in
+    one_turn asks cell (length cell.tasks) t.0 after other ones t.2 (subst (λ (h : List Event). TakesTurn asks cell (length cell.tasks) h other) (sym same) u.2)
+
 one_after : (asks : Asking) (cell : CellData) (rounds : ℕ) (history other : List Event) → AsksOne asks → AfterRounds asks cell rounds history → AfterRounds asks cell rounds other → history ≡ other
 unfolding AfterRounds
 one_after asks cell zero history other ones t u = t ∙ sym u
 one_after asks cell (suc rounds) history other ones t u =
     let same : t.0 ≡ u.0 = one_after asks cell rounds t.0 u.0 ones t.1 u.1 in
-    one_turns asks cell 0 (length cell.tasks) t.0 history other ones t.2 (subst (λ (h : List Event). IsRound asks cell h other) (sym same) u.2)
+    one_round asks cell t.0 history other ones t.2 (subst (λ (h : List Event). IsRound asks cell h other) (sym same) u.2)
 
 -- after a round that adds nothing, more rounds change nothing
 stays : (asks : Asking) (cell : CellData) (more rounds : ℕ) (history later : List Event) → AsksOne asks → AfterRounds asks cell rounds history → IsRound asks cell history history
@@ -157,7 +191,7 @@ stays asks cell (suc more) rounds history later ones made over other =
     let count : suc more + rounds ≡ suc (more + rounds) = omega arith in
     let goes : AfterRounds asks cell (suc (more + rounds)) later = subst (λ (n : ℕ). AfterRounds asks cell n later) count other in
     let before : goes.0 ≡ history = stays asks cell more rounds history goes.0 ones made over goes.1 in
-    one_turns asks cell 0 (length cell.tasks) history later history ones (subst (λ (h : List Event). IsRound asks cell h later) before goes.2) over
+    one_round asks cell history later history ones (subst (λ (h : List Event). IsRound asks cell h later) before goes.2) over
 
 at_most_as_long : (asks : Asking) (cell : CellData) (history other : List Event) → AsksOne asks → (run : IsByTurns asks cell history) (that : IsByTurns asks cell other) → run.rounds ≤ that.rounds → other ≡ history
 at_most_as_long asks cell history other ones run that le =

@@ -6,11 +6,14 @@ use Rattle.rapid_model.specs.CellData.{CellData}
 use Rattle.rapid_model.specs.Own.{part_of, answers_of, has_ended}
 use Rattle.rapid_model.specs.declared.event.Event.{Event}
 use Rattle.rapid_model.specs.declared.request.Request.{Request}
-use Rattle.cell_meaning.specs.Answers.{is_counted, counted, is_enabled, can_be_served, answer_after}
+use Rattle.cell_meaning.specs.Answers.{is_enabled}
 use Rattle.cell_meaning.specs.Asking.{Asking}
-use Rattle.cell_meaning.specs.Histories.{Follows, IsLegal, IsWhole, all_ended, is_spent}
+use Rattle.cell_meaning.specs.Counted.{is_counted, counted, can_be_served}
+use Rattle.cell_meaning.specs.Fates.{all_ended, is_spent}
+use Rattle.cell_meaning.specs.Histories.{Follows, IsLegal, IsWhole}
 use Rattle.cell_meaning.specs.Over.{IsOver}
 use Rattle.cell_meaning.specs.Premises.{AsksUntilItsEnd}
+use Rattle.cell_meaning.proofs.OneAnswer.{some_answer}
 
 -- where a task has not ended, not all have
 one_going : (tasks task : ℕ) (history : List Event) → task < tasks → has_ended (part_of task history) ≡ false → all_ended tasks history ≡ false
@@ -35,6 +38,15 @@ spent_so cell history task request lt going unserved =
     ap (λ (b : Bool). not b && nat_le cell.steps (counted history)) (one_going (length cell.tasks) task history lt going)
     ∙ not_served (is_counted request) (counted history) cell.steps unserved
 
+-- after a whole history no actor asks what is enabled and can be served
+pub none_follows : (asks : Asking) (cell : CellData) (history : List Event) (actor : ℕ) (request : Request) → IsWhole asks cell history → asks actor (answers_of actor history) request
+    → IsTrue (is_enabled cell history actor request) → IsTrue (can_be_served cell history request) → ⊥
+none_follows asks cell history actor request whole asked enabled served =
+    some_answer cell history actor request (λ answer is.
+    let next : Event = record { actor = actor; request = request; answer = answer } in
+    let follows : Follows asks cell history next = record { asked = asked; enabled = enabled; served = served; answered = is } in
+    whole.over next follows)
+
 -- a task that asks this has no way on
 asking_over : (asks : Asking) (cell : CellData) (history : List Event) (task : ℕ) (request : Request) (enabled served : Bool) → task < length cell.tasks → IsWhole asks cell history
     → has_ended (part_of task history) ≡ false → asks task (answers_of task history) request
@@ -42,9 +54,7 @@ asking_over : (asks : Asking) (cell : CellData) (history : List Event) (task : �
 asking_over asks cell history task request false served lt whole going asked en se = inr (inl (record { request = request; asked = asked; not_enabled = en }))
 asking_over asks cell history task request true false lt whole going asked en se = inr (inr (spent_so cell history task request lt going se))
 asking_over asks cell history task request true true lt whole going asked en se =
-    let next : Event = record { actor = task; request = request; answer = answer_after cell history task request } in
-    let follows : Follows asks cell history next = record { asked = asked; enabled = en; served = se; answered = refl } in
-    absurd (whole.over next follows)
+    absurd (none_follows asks cell history task request whole asked en se)
 
 task_over : (asks : Asking) (cell : CellData) (history : List Event) (task : ℕ) (ended : Bool) → task < length cell.tasks → AsksUntilItsEnd asks cell → IsLegal asks cell history → IsWhole asks cell history
     → has_ended (part_of task history) ≡ ended → IsOver asks cell history task

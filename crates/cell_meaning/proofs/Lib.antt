@@ -1,9 +1,26 @@
 pub mod Lists
-pub mod Served
 pub mod MoreEvents
-pub mod NoChanges
+pub mod Asked
+pub mod OneAnswer
 pub mod Positions
+pub mod TaskKept
+pub mod InterruptsKept
+pub mod ZonesKept
+pub mod ValuesKept
+pub mod FitAnswers
+pub mod MoreChanges
+pub mod PartChanges
+pub mod MoreFirings
+pub mod BoardsTell
 pub mod ByTurns
 pub mod Ending
 pub mod Same
+pub mod Stalls
+pub mod InputScript
+pub mod ExampleCell
 mod Examples
+mod InterruptExamples
+mod MeetingExamples
+mod ZoneExamples
+mod WaitExamples
+mod MoveExamples

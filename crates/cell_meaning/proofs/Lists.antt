@@ -1,50 +1,25 @@
--- Lists cut at an element.
-use Rattle.std.proofs.Common.{◌≡◌, Bool, true, false, cond, List, [], ◌∷◌, ◌++◌, refl, ap, inl, inr, ◌⊎◌, sym, ◌∙◌, subst, append_assoc}
+-- Lists that grow, and lists that are written.
+use Rattle.std.proofs.Common.{◌≡◌, ℕ, zero, suc, Bool, true, false, List, [], ◌∷◌, ◌++◌, get_or, set, refl, ap, sym, ◌∙◌, subst, append_assoc}
+use Rattle.std.specs.Prelude.{◌&&◌}
+use Rattle.std.proofs.lemmas.Bool.{false≢true}
+use Rattle.std.proofs.lemmas.List.{append-nil}
 
--- where a list with x at its end is cut at e: e is that x, or it stands before it
-pub last_or_before : {A : Type 0} (xs before after : List A) (x e : A) → xs ++ x ∷ [] ≡ before ++ e ∷ after
-    → ((before ≡ xs) × (e ≡ x)) ⊎ ((rest : List A) × (xs ≡ before ++ e ∷ rest))
-last_or_before [] [] after x e p = let q : x ≡ e = cc in inl (refl, sym q)
-last_or_before [] (b ∷ []) after x e p = let q : [] ≡ e ∷ after = cc in cc
-last_or_before [] (b ∷ c ∷ before) after x e p = let q : [] ≡ c ∷ (before ++ e ∷ after) = cc in cc
-last_or_before (y ∷ xs) [] after x e p = let q : y ≡ e = cc in inr (xs, ap (λ z. z ∷ xs) q)
-last_or_before (y ∷ xs) (b ∷ before) after x e p =
-    let q : y ≡ b = cc in
-    let r : xs ++ x ∷ [] ≡ before ++ e ∷ after = cc in
-    elim (last_or_before xs before after x e r) [
-      | inl w ↦ let s : b ∷ before ≡ y ∷ xs = cc in inl (s, w.1)
-      | inr w ↦ let s : y ∷ xs ≡ b ∷ (before ++ e ∷ w.0) = cc in inr (w.0, s)
-    ]
-
--- what holds wherever a list is cut: of the elements before, and the one there
-abbrev pub AtEachCut : {A : Type 0} → (List A → A → Type 0) → List A → Type 0
-AtEachCut {A} P xs = (before after : List A) (e : A) → xs ≡ before ++ e ∷ after → P before e
-
-pub cut_none : {A : Type 0} (P : List A → A → Type 0) → AtEachCut P []
-cut_none P [] after e p = cc
-cut_none P (b ∷ before) after e p = cc
-
-pub cut_more : {A : Type 0} (P : List A → A → Type 0) (xs : List A) (x : A) → AtEachCut P xs → P xs x → AtEachCut P (xs ++ x ∷ [])
-cut_more P xs x all last before after e p =
-    elim (last_or_before xs before after x e p) [
-      | inl w ↦ subst (λ ys. P ys e) (sym w.0) (subst (λ y. P xs y) (sym w.1) last)
-      | inr w ↦ all before w.0 e w.1
-    ]
-
--- the elements before a cut are cut no otherwise
-pub cut_before : {A : Type 0} (P : List A → A → Type 0) (xs front back : List A) → xs ≡ front ++ back → AtEachCut P xs → AtEachCut P front
-cut_before P xs front back is all before after e p =
-    all before (after ++ back) e (is ∙ ap (λ ys. ys ++ back) p ∙ append_assoc before (e ∷ after) back)
-
--- what holds of each element, whatever stands before it
-pub cut_tail : {A : Type 0} (P : A → Type 0) (x : A) (xs : List A) → AtEachCut (λ before e. P e) (x ∷ xs) → AtEachCut (λ before e. P e) xs
-cut_tail P x xs all before after e p = all (x ∷ before) after e (ap (λ ys. x ∷ ys) p)
-
--- it holds of the elements that are kept, as a filter keeps them
-pub cut_if : {A : Type 0} (P : A → Type 0) (b : Bool) (x : A) (kept : List A) → P x → AtEachCut (λ before e. P e) kept → AtEachCut (λ before e. P e) (cond b (x ∷ kept) kept)
-cut_if P false x kept one rest = rest
-cut_if {A = A} P true x kept one rest = λ before after e p. here before after e p
+-- what holds of no elements, and of one more wherever it held before, holds of the whole list
+pub from_front : {A : Type 0} (P : List A → Type 0) (xs : List A) → P [] → ((before after : List A) (e : A) → xs ≡ before ++ e ∷ after → P before → P (before ++ e ∷ [])) → P xs
+from_front {A = A} P xs none more = go [] xs refl none
   where
-    here : (before after : List A) (e : A) → x ∷ kept ≡ before ++ e ∷ after → P e
-    here [] after e p = let same : x ≡ e = cc in subst P same one
-    here (b ∷ before) after e p = rest before after e cc
+    go : (before rest : List A) → xs ≡ before ++ rest → P before → P xs
+    go before [] is p = subst P (sym (is ∙ append-nil before)) p
+    go before (e ∷ rest) is p = go (before ++ e ∷ []) rest (is ∙ sym (append_assoc before (e ∷ []) rest)) (more before rest e is p)
+
+-- what holds of an element, and of the one that is written if it is the same, holds of the element after the write
+pub written_keeps : {A : Type 0} (P : A → Type 0) (xs : List A) (i j : ℕ) (a d : A) → P (get_or xs j d) → (j ≡ i → P a) → P (get_or (set xs i a) j d)
+written_keeps P [] i j a d old new = old
+written_keeps P (x ∷ xs) zero zero a d old new = new refl
+written_keeps P (x ∷ xs) zero (suc j) a d old new = old
+written_keeps P (x ∷ xs) (suc i) zero a d old new = old
+written_keeps P (x ∷ xs) (suc i) (suc j) a d old new = written_keeps P xs i j a d old (λ e. new (ap suc e))
+
+pub both_so : (a b : Bool) → a ≡ true → b ≡ true → (a && b) ≡ true
+both_so true b h k = k
+both_so false b h k = absurd (false≢true h)

@@ -1,18 +1,29 @@
 -- What one more event changes of what a history comes to.
-use Rattle.std.proofs.Common.{◌≡◌, ℕ, ◌+◌, Bool, cond, List, [], ◌∷◌, ◌++◌, Option, Some, None, refl, ◌∙◌, ap, zero-add}
-use Rattle.std.specs.Prelude.{◌==◌, option_map, slice_get}
+use Rattle.std.proofs.Common.{◌≡◌, ℕ, ◌+◌, Bool, cond, List, [], ◌∷◌, ◌++◌, length, map, Option, Some, None, refl, sym, ◌∙◌, ap, arith, zero-add, length-append, append_assoc}
+use Rattle.std.specs.Prelude.{not, ◌&&◌, ◌==◌, count_by, option_map, replicate, slice_get}
+use Rattle.std.specs.List.{fold}
 use Rattle.std.specs.Option.{option_and_then, option_or}
 use Rattle.std.proofs.lemmas.Bool.{eq-eqb, ne_eqb}
 use Rattle.std.proofs.lemmas.List.{append-nil}
 use Rattle.std.proofs.lemmas.List.Elements.{filter-append}
-use Rattle.std.proofs.lemmas.List.Sums.{sum_by-append}
+use Rattle.std.proofs.lemmas.List.Sums.{fold-append, sum_by-append}
 use Rattle.rapid_num.specs.declared.joints.Joints.{Joints}
 use Rattle.rapid_model.specs.CellData.{CellData}
-use Rattle.rapid_model.specs.Own.{part_of, fate_told, end_of}
+use Rattle.rapid_model.specs.Own.{part_of, fate_told, end_of, is_hold, is_held}
 use Rattle.rapid_model.specs.declared.event.Event.{Event}
 use Rattle.rapid_model.specs.declared.fate.Fate.{Fate}
-use Rattle.cell_meaning.specs.Answers.{is_counted, counted}
-use Rattle.cell_meaning.specs.Motion.{moved, arm_along, arm_after}
+use Rattle.sync_tasks.specs.Meetings.{before_all as no_stands}
+use Rattle.trap_dispatch.specs.Tasks.{TaskData, before_all as no_interrupts}
+use Rattle.world_zones.specs.Zones.{before_all as no_own_zones}
+use Rattle.cell_meaning.specs.Changes.{is_change, changes_from, changes_by_others}
+use Rattle.cell_meaning.specs.Counted.{is_counted, counted}
+use Rattle.cell_meaning.specs.Inputs.{inputs_done}
+use Rattle.cell_meaning.specs.Interrupts.{interrupts_with, interrupts_from, interrupts_after}
+use Rattle.cell_meaning.specs.Meetings.{stands_with, stands_after}
+use Rattle.cell_meaning.specs.Motion.{moved, arm_along, arm_after, is_given, setpoints_given}
+use Rattle.cell_meaning.specs.Rising.{seen_with, seen_after}
+use Rattle.cell_meaning.specs.Stored.{signals_with, signals_after, persistents_with, persistents_after}
+use Rattle.cell_meaning.specs.Zones.{zones_with, zones_after}
 
 -- the event where it passes
 abbrev kept_if : Event → Bool → List Event
@@ -43,6 +54,12 @@ end_of-more [] e = option_or-None (fate_told e.request)
 end_of-more (f ∷ es) e =
     ap (λ (told : Option Fate). option_or (fate_told f.request) told) (end_of-more es e) ∙ option_or-assoc (fate_told f.request) (end_of es) (fate_told e.request)
 
+-- a task is held just where its last event is a Hold
+pub is_held-more : (es : List Event) (e : Event) → is_held (es ++ e ∷ []) ≡ is_hold e.request
+is_held-more [] e = refl
+is_held-more (f ∷ []) e = refl
+is_held-more (f ∷ g ∷ es) e = is_held-more (g ∷ es) e
+
 pub arm_along-more : (position : Joints) (es : List Event) (e : Event) → arm_along position (es ++ e ∷ []) ≡ moved (arm_along position es) e.request e.answer
 arm_along-more position [] e = refl
 arm_along-more position (f ∷ es) e = arm_along-more (moved position f.request f.answer) es e
@@ -66,6 +83,78 @@ arm_after-own cell history e =
 pub arm_after-other : (cell : CellData) (history : List Event) (e : Event) (task : ℕ) → (e.actor ≡ task → ⊥) → arm_after cell (history ++ e ∷ []) task ≡ arm_after cell history task
 arm_after-other cell history e task other = ap (λ (mine : List Event). arm_from (start_of cell task) mine) (part_of-other task history e other)
 
+-- how many pass a test, of a list with one more
+pub count_more : (passes : Event → Bool) (es : List Event) (e : Event) → count_by passes (es ++ e ∷ []) ≡ count_by passes es + cond (passes e) 1 0
+count_more passes es e =
+    sum_by-append (λ f. cond (passes f) 1 0) es (e ∷ []) ∙ ap (λ (n : ℕ). count_by passes es + n) (zero-add (cond (passes e) 1 0))
+
 pub counted-more : (history : List Event) (e : Event) → counted (history ++ e ∷ []) ≡ counted history + cond (is_counted e.request) 1 0
-counted-more history e =
-    sum_by-append (λ f. cond (is_counted f.request) 1 0) history (e ∷ []) ∙ ap (λ (n : ℕ). counted history + n) (zero-add (cond (is_counted e.request) 1 0))
+counted-more history e = count_more (λ f. is_counted f.request) history e
+
+pub setpoints_given-own : (history : List Event) (e : Event) → setpoints_given (history ++ e ∷ []) e.actor ≡ setpoints_given history e.actor + cond (is_given e.request e.answer) 1 0
+setpoints_given-own history e =
+    ap (λ (mine : List Event). count_by (λ f. is_given f.request f.answer) mine) (part_of-own e.actor history e refl)
+    ∙ count_more (λ f. is_given f.request f.answer) (part_of e.actor history) e
+
+pub setpoints_given-other : (history : List Event) (e : Event) (task : ℕ) → (e.actor ≡ task → ⊥) → setpoints_given (history ++ e ∷ []) task ≡ setpoints_given history task
+setpoints_given-other history e task other = ap (λ (mine : List Event). count_by (λ f. is_given f.request f.answer) mine) (part_of-other task history e other)
+
+pub seen_after-own : (history : List Event) (e : Event) → seen_after (history ++ e ∷ []) e.actor ≡ seen_with (seen_after history e.actor) e.request
+seen_after-own history e =
+    ap (λ (mine : List Event). fold (λ seen f. seen_with seen f.request) 0 mine) (part_of-own e.actor history e refl)
+    ∙ fold-append (λ seen (f : Event). seen_with seen f.request) 0 (part_of e.actor history) (e ∷ [])
+
+pub seen_after-other : (history : List Event) (e : Event) (task : ℕ) → (e.actor ≡ task → ⊥) → seen_after (history ++ e ∷ []) task ≡ seen_after history task
+seen_after-other history e task other = ap (λ (mine : List Event). fold (λ seen f. seen_with seen f.request) 0 mine) (part_of-other task history e other)
+
+-- the input script does a step with each event of its own
+pub inputs_done-own : (cell : CellData) (history : List Event) (e : Event) → e.actor ≡ length cell.tasks → inputs_done cell (history ++ e ∷ []) ≡ inputs_done cell history + 1
+inputs_done-own cell history e own = ap length (part_of-own (length cell.tasks) history e own) ∙ length-append (part_of (length cell.tasks) history) (e ∷ [])
+
+pub inputs_done-other : (cell : CellData) (history : List Event) (e : Event) → (e.actor ≡ length cell.tasks → ⊥) → inputs_done cell (history ++ e ∷ []) ≡ inputs_done cell history
+inputs_done-other cell history e other = ap length (part_of-other (length cell.tasks) history e other)
+
+pub signals_after-more : (cell : CellData) (history : List Event) (e : Event) → signals_after cell (history ++ e ∷ []) ≡ signals_with cell (signals_after cell history) e.request e.answer
+signals_after-more cell history e =
+    fold-append (λ signals (f : Event). signals_with cell signals f.request f.answer) (map (λ row. row.start) cell.signals) history (e ∷ [])
+
+pub persistents_after-more : (cell : CellData) (history : List Event) (e : Event) → persistents_after cell (history ++ e ∷ []) ≡ persistents_with (persistents_after cell history) e.request e.answer
+persistents_after-more cell history e =
+    fold-append (λ rows (f : Event). persistents_with rows f.request f.answer) (map (λ row. row.first) cell.pers) history (e ∷ [])
+
+pub stands_after-more : (cell : CellData) (history : List Event) (e : Event) → stands_after cell (history ++ e ∷ []) ≡ stands_with (stands_after cell history) e.actor e.request e.answer
+stands_after-more cell history e =
+    fold-append (λ stands (f : Event). stands_with stands f.actor f.request f.answer) (no_stands (length cell.tasks) (length cell.meetings)) history (e ∷ [])
+
+pub zones_after-more : (cell : CellData) (history : List Event) (e : Event) → zones_after cell (history ++ e ∷ []) ≡ zones_with (zones_after cell history) e.actor e.request e.answer
+zones_after-more cell history e =
+    fold-append (λ zones (f : Event). zones_with zones f.actor f.request f.answer) (no_own_zones cell) history (e ∷ [])
+
+interrupts_from-more : (cell : CellData) (tasks : List TaskData) (before es : List Event) (e : Event)
+    → interrupts_from cell tasks before (es ++ e ∷ []) ≡ interrupts_with cell (before ++ es) e (interrupts_from cell tasks before es)
+interrupts_from-more cell tasks before [] e = ap (λ (b : List Event). interrupts_with cell b e tasks) (sym (append-nil before))
+interrupts_from-more cell tasks before (f ∷ es) e =
+    interrupts_from-more cell (interrupts_with cell before f tasks) (before ++ f ∷ []) es e
+    ∙ ap (λ (b : List Event). interrupts_with cell b e (interrupts_from cell (interrupts_with cell before f tasks) (before ++ f ∷ []) es)) (append_assoc before (f ∷ []) es)
+
+pub interrupts_after-more : (cell : CellData) (history : List Event) (e : Event) → interrupts_after cell (history ++ e ∷ []) ≡ interrupts_with cell history e (interrupts_after cell history)
+interrupts_after-more cell history e = interrupts_from-more cell (replicate (length cell.tasks) no_interrupts) [] history e
+
+-- whether an event is a change by another actor
+abbrev by_another : CellData → ℕ → List Event → Event → ℕ
+by_another cell actor before e = cond (not (e.actor == actor) && is_change cell before e) 1 0
+
+changes_from-more : (cell : CellData) (actor : ℕ) (before es : List Event) (e : Event)
+    → changes_from cell actor before (es ++ e ∷ []) ≡ changes_from cell actor before es + by_another cell actor (before ++ es) e
+changes_from-more cell actor before [] e =
+    let same : by_another cell actor (before ++ []) e ≡ by_another cell actor before e = ap (λ (b : List Event). by_another cell actor b e) (append-nil before) in
+    omega (arith, same)
+changes_from-more cell actor before (f ∷ es) e =
+    let rest = changes_from-more cell actor (before ++ f ∷ []) es e in
+    let same : by_another cell actor ((before ++ f ∷ []) ++ es) e ≡ by_another cell actor (before ++ f ∷ es) e = ap (λ (b : List Event). by_another cell actor b e) (append_assoc before (f ∷ []) es) in
+    omega (arith, rest, same)
+
+-- an actor sees one change more where another made it
+pub changes_by_others-more : (cell : CellData) (history : List Event) (e : Event) (actor : ℕ)
+    → changes_by_others cell (history ++ e ∷ []) actor ≡ changes_by_others cell history actor + cond (not (e.actor == actor) && is_change cell history e) 1 0
+changes_by_others-more cell history e actor = changes_from-more cell actor [] history e

@@ -6,7 +6,7 @@ use Rattle.rapid_model.specs.declared.event.Event.{Event}
 use Rattle.cell_meaning.specs.Asking.{Asking}
 use Rattle.cell_meaning.specs.Histories.{Follows, IsLegal, IsWhole}
 use Rattle.cell_meaning.specs.Premises.{AskTheSame}
-use Rattle.cell_meaning.specs.Turns.{TakesTurn, TakeTurns, AfterRounds, IsByTurns}
+use Rattle.cell_meaning.specs.Turns.{TakesTurn, TakeTurns, IsRound, AfterRounds, IsByTurns}
 
 follows_there : (asks other : Asking) (cell : CellData) (before : List Event) (e : Event) → AskTheSame asks other → Follows asks cell before e → Follows other cell before e
 follows_there asks other cell before e same follows = record {
@@ -46,15 +46,19 @@ turns_there asks other cell actor zero before after same is = is
 turns_there asks other cell actor (suc left) before after same (between, turn, rest) =
     (between, turn_there asks other cell actor before between same turn, turns_there asks other cell (actor + 1) left between after same rest)
 
+round_there : (asks other : Asking) (cell : CellData) (before after : List Event) → AskTheSame asks other → IsRound asks cell before after → IsRound other cell before after
+round_there asks other cell before after same (between, turns, last) =
+    (between, turns_there asks other cell 0 (length cell.tasks) before between same turns, turn_there asks other cell (length cell.tasks) between after same last)
+
 rounds_there : (asks other : Asking) (cell : CellData) (rounds : ℕ) (history : List Event) → AskTheSame asks other → AfterRounds asks cell rounds history → AfterRounds other cell rounds history
 unfolding AfterRounds
 rounds_there asks other cell zero history same is = is
 rounds_there asks other cell (suc rounds) history same (before, made, round) =
-    (before, rounds_there asks other cell rounds before same made, turns_there asks other cell 0 (length cell.tasks) before history same round)
+    (before, rounds_there asks other cell rounds before same made, round_there asks other cell before history same round)
 
 pub by_turns_there : (asks other : Asking) (cell : CellData) (history : List Event) → AskTheSame asks other → IsByTurns asks cell history → IsByTurns other cell history
 by_turns_there asks other cell history same run = record {
   rounds = run.rounds;
   made = rounds_there asks other cell run.rounds history same run.made;
-  over = turns_there asks other cell 0 (length cell.tasks) history history same run.over;
+  over = round_there asks other cell history history same run.over;
 }

@@ -1,44 +1,113 @@
--- What one shared cell answers after a history, and when a request can be served.
-use Rattle.std.specs.Prelude.{ℕ, Bool, true, false, not, ◌||◌, nat_lt, List, count_by, Option, Some, None}
+-- What one shared cell answers after a history, and when a request can be answered.
+use Rattle.std.specs.Prelude.{◌≡◌, ℕ, Bool, true, false, List, Option, Some, None, Result, Ok, Err, is_some, if◌then◌else◌}
 use Rattle.rapid_num.specs.declared.joints.Joints.{Joints}
 use Rattle.rapid_model.specs.CellData.{CellData}
 use Rattle.rapid_model.specs.declared.answer.Answer.{Answer}
 use Rattle.rapid_model.specs.declared.answer.Answer.TheVariants as answers
 use Rattle.rapid_model.specs.declared.event.Event.{Event}
 use Rattle.rapid_model.specs.declared.request.Request.{Request}
-use Rattle.rapid_model.specs.declared.request.Request.TheVariants.{Look, Position, Setpoint, Rise, Input, End}
+use Rattle.rapid_model.specs.declared.request.Request.TheVariants as requests
+use Rattle.rapid_model.specs.declared.value.Value.{Value}
+use Rattle.rapid_model.specs.declared.value.Value.TheVariants as values
+use Rattle.rapid_model.specs.declared.zone_name.ZoneName.{ZoneName}
+use Rattle.trap_dispatch.specs.declared.connect_fault.ConnectFault.{ConnectFault}
+use Rattle.trap_dispatch.specs.declared.connect_fault.ConnectFault.TheVariants as connect_faults
+use Rattle.trap_dispatch.specs.declared.connected.Connected.{Connected}
+use Rattle.trap_dispatch.specs.declared.due.Due.{Due}
+use Rattle.trap_dispatch.specs.declared.due.Due.TheVariants as dues
+use Rattle.trap_dispatch.specs.Firing.{connected_at}
+use Rattle.trap_dispatch.specs.Tasks.{connect_answer}
+use Rattle.world_zones.specs.declared.zone_fault.ZoneFault.{ZoneFault}
+use Rattle.world_zones.specs.declared.zone_fault.ZoneFault.TheVariants as zone_faults
+use Rattle.world_zones.specs.Touched.{IsTouched, IsFirstTouched}
+use Rattle.world_zones.specs.Zones.{arm_at, zone_at, set_answer, is_temporary}
 use Rattle.cell_meaning.specs.Changes.{changes_by_others}
+use Rattle.cell_meaning.specs.Inputs.{is_open}
+use Rattle.cell_meaning.specs.Interrupts.{interrupts_of, due_after}
+use Rattle.cell_meaning.specs.Meetings.{is_met}
 use Rattle.cell_meaning.specs.Motion.{arm_after}
+use Rattle.cell_meaning.specs.Rising.{can_rise}
+use Rattle.cell_meaning.specs.Stored.{signal_after, signals_after, persistent_after, value_at}
+use Rattle.cell_meaning.specs.Zones.{zones_after}
 
--- every event is counted but an input and an End
-abbrev pub is_counted : Request → Bool
-is_counted (Input index) = false
-is_counted (End fate) = false
-is_counted _ = true
-
-abbrev pub counted : List Event → ℕ
-counted history = count_by (λ e. is_counted e.request) history
-
--- The request may be answered now. Rise and Input wait; the cell does not serve them yet, so they are never enabled.
+-- the request may be answered now: Rise and Input wait, all others never do
 abbrev pub is_enabled : CellData → List Event → ℕ → Request → Bool
-is_enabled cell history actor Rise = false
-is_enabled cell history actor (Input index) = false
+is_enabled cell history actor requests.Rise = can_rise cell history actor
+is_enabled cell history actor (requests.Input index) = is_open cell history index
 is_enabled cell history actor _ = true
 
--- a counted request is served only while steps are left
-abbrev pub can_be_served : CellData → List Event → Request → Bool
-can_be_served cell history request = not (is_counted request) || nat_lt (counted history) cell.steps
+-- a marked flood, or the trap that is to run, or else how many changes others made
+abbrev pub look_of : Due → ℕ → Answer
+look_of dues.Flood seen = answers.Flood
+look_of (dues.Trap number trap) seen = answers.Trap number trap
+look_of dues.None seen = answers.Go seen
 
--- where the arm is; a task without an arm gets no position
+-- the value of a part; what names none is not asked
+abbrev pub value_of : Option Value → Answer
+value_of (Some value) = answers.Val value
+value_of None = answers.Ok
+
+abbrev pub is_false : Option Value → Bool
+is_false (Some (values.Bool false)) = true
+is_false _ = false
+
+-- where the arm is; a task without an arm does not ask
 abbrev pub position_of : Option Joints → Answer
 position_of (Some position) = answers.At position
 position_of None = answers.Ok
 
--- the cell's answer to a request after a history
+abbrev pub number_of : Result ℕ ConnectFault → Answer
+number_of (Ok number) = answers.Number number
+number_of (Err connect_faults.Already) = answers.Already
+number_of (Err connect_faults.NoMore) = answers.NoMore
+
+-- an interrupt has one order at most
+abbrev pub order_of : Option Connected → Answer
+order_of None = answers.Unknown
+order_of (Some connected) = if is_some connected.order then answers.Already else answers.Ok
+
+abbrev pub known_of : Option Connected → Answer
+known_of None = answers.Unknown
+known_of (Some connected) = answers.Ok
+
+abbrev pub zone_number_of : Result ℕ ZoneFault → Answer
+zone_number_of (Ok number) = answers.Number number
+zone_number_of (Err zone_faults.ZoneUsed) = answers.ZoneUsed
+zone_number_of (Err zone_faults.ZoneFull) = answers.ZoneFull
+
+-- a stationary zone stays as it is
+abbrev pub temporary_of : Bool → Answer
+temporary_of true = answers.Ok
+temporary_of false = answers.NoZone
+
+-- the cell's answer to a request after a history, but to a setpoint
 abbrev pub answer_after : CellData → List Event → ℕ → Request → Answer
-answer_after cell history actor Look = answers.Go (changes_by_others cell history actor)
-answer_after cell history actor Position = position_of (arm_after cell history actor)
-answer_after cell history actor (Setpoint to) = answers.Given
-answer_after cell history actor (End fate) = answers.Ok
--- no cell serves the other requests yet, and no actor may ask them
+answer_after cell history actor requests.Look = look_of (due_after cell history actor) (changes_by_others cell history actor)
+answer_after cell history actor (requests.ReadP pers path) = value_of (value_at (persistent_after cell history pers) path)
+answer_after cell history actor (requests.TestSet pers path) = answers.Yes (is_false (value_at (persistent_after cell history pers) path))
+answer_after cell history actor (requests.ReadS signal) = answers.Bit (signal_after cell history signal)
+answer_after cell history actor requests.Position = position_of (arm_after cell history actor)
+answer_after cell history actor (requests.Connect old trap) = number_of (connect_answer (interrupts_of cell history actor) old)
+answer_after cell history actor (requests.Order number on single) = order_of (connected_at (interrupts_of cell history actor).numbers number)
+answer_after cell history actor (requests.Sleep number) = known_of (connected_at (interrupts_of cell history actor).numbers number)
+answer_after cell history actor (requests.Watch number) = known_of (connected_at (interrupts_of cell history actor).numbers number)
+answer_after cell history actor (requests.Delete number) = known_of (connected_at (interrupts_of cell history actor).numbers number)
+answer_after cell history actor (requests.ZoneSet old temporary shape) = zone_number_of (set_answer (arm_at (zones_after cell history) actor) old)
+answer_after cell history actor (requests.ZoneOn zone) = temporary_of (is_temporary (zone_at (arm_at (zones_after cell history) actor) zone))
+answer_after cell history actor (requests.ZoneOff zone) = temporary_of (is_temporary (zone_at (arm_at (zones_after cell history) actor) zone))
+answer_after cell history actor (requests.ZoneFree zone) = temporary_of (is_temporary (zone_at (arm_at (zones_after cell history) actor) zone))
+answer_after cell history actor (requests.Arrive meeting tasks) = if is_met cell history actor meeting tasks then answers.Met else answers.Apart
 answer_after cell history actor _ = answers.Ok
+
+-- The answer to a setpoint, from where the arm is: given exactly where the way there touches no zone, else stopped by the
+-- first zone that it touches. A task without an arm does not ask.
+abbrev pub IsMoveAnswer : CellData → List Event → ℕ → Joints → Option Joints → Answer → Type 0
+IsMoveAnswer cell history task to None answer = answer ≡ answers.Ok
+IsMoveAnswer cell history task to (Some from) answers.Given = (name : ZoneName) → ¬ IsTouched (zones_after cell history) task (signals_after cell history) from to name
+IsMoveAnswer cell history task to (Some from) (answers.Stopped name) = IsFirstTouched (zones_after cell history) task (signals_after cell history) from to name
+IsMoveAnswer cell history task to (Some from) _ = ⊥
+
+-- the answer is the cell's
+abbrev pub IsAnswer : CellData → List Event → ℕ → Request → Answer → Type 0
+IsAnswer cell history actor (requests.Setpoint to) answer = IsMoveAnswer cell history actor to (arm_after cell history actor) answer
+IsAnswer cell history actor request answer = answer ≡ answer_after cell history actor request

@@ -1,5 +1,5 @@
--- Where an arm is after a history.
-use Rattle.std.specs.Prelude.{ℕ, List, [], ◌∷◌, Option, Some, None, slice_get}
+-- Where an arm is after a history, and how many setpoints it was given.
+use Rattle.std.specs.Prelude.{ℕ, Bool, true, false, List, [], ◌∷◌, Option, Some, None, count_by, slice_get}
 use Rattle.std.specs.Option.{option_and_then}
 use Rattle.rapid_num.specs.declared.joints.Joints.{Joints}
 use Rattle.rapid_model.specs.CellData.{CellData}
@@ -27,3 +27,11 @@ arm_after cell history task = arm_from (option_and_then (λ row. row.arm) (slice
     arm_from : Option Joints → Option Joints
     arm_from None = None
     arm_from (Some start) = Some (arm_along start (part_of task history))
+
+abbrev pub is_given : Request → Answer → Bool
+is_given (Setpoint to) answers.Given = true
+is_given _ _ = false
+
+-- how many setpoints a task's arm was given
+abbrev pub setpoints_given : List Event → ℕ → ℕ
+setpoints_given history task = count_by (λ e. is_given e.request e.answer) (part_of task history)

@@ -6,7 +6,7 @@ use Rattle.rapid_model.specs.declared.event.Event.{Event}
 use Rattle.rapid_model.specs.declared.request.Request.{Request}
 use Rattle.cell_meaning.specs.Answers.{is_enabled}
 use Rattle.cell_meaning.specs.Asking.{Asking}
-use Rattle.cell_meaning.specs.Histories.{is_spent}
+use Rattle.cell_meaning.specs.Fates.{is_spent}
 
 -- the task asks a request that is not enabled
 pub record Waits (asks : Asking) (cell : CellData) (history : List Event) (task : ℕ) : Type 0 where

@@ -1,7 +1,7 @@
 -- The values of signals and persistents after a history.
 use Rattle.std.specs.Prelude.{ℕ, ◌-◌, Bool, true, false, List, [], map, Option, Some, None, slice_get, slice_set, slice_index_or}
 use Rattle.std.specs.List.{fold}
-use Rattle.std.specs.Option.{unwrap_or}
+use Rattle.std.specs.Option.{option_and_then, unwrap_or}
 use Rattle.rapid_model.specs.CellData.{CellData}
 use Rattle.rapid_model.specs.declared.answer.Answer.{Answer}
 use Rattle.rapid_model.specs.declared.answer.Answer.TheVariants as answers
@@ -12,7 +12,7 @@ use Rattle.rapid_model.specs.declared.request.Request.{Request}
 use Rattle.rapid_model.specs.declared.request.Request.TheVariants.{WriteP, TestSet, WriteS, Input}
 use Rattle.rapid_model.specs.declared.value.Value.{Value}
 use Rattle.rapid_model.specs.declared.value.Value.TheVariants as values
-use Rattle.rapid_values.specs.Values.{put_part}
+use Rattle.rapid_values.specs.Values.{part_of, put_part}
 
 abbrev pub with_input : List Bool → Option InputRow → List Bool
 with_input signals (Some row) = slice_set signals row.signal row.value
@@ -21,7 +21,7 @@ with_input signals None = signals
 -- the values of the signals after an event, where these were their values before it
 abbrev pub signals_with : CellData → List Bool → Request → Answer → List Bool
 signals_with cell signals (WriteS signal value) answers.Ok = slice_set signals signal value
-signals_with cell signals (Input index) answer = with_input signals (slice_get cell.inputs index)
+signals_with cell signals (Input index) answers.Ok = with_input signals (slice_get cell.inputs index)
 signals_with cell signals _ _ = signals
 
 abbrev pub signals_after : CellData → List Event → List Bool
@@ -58,3 +58,7 @@ persistents_after cell history = fold (λ rows e. persistents_with rows e.reques
 -- the elements of the persistent of this number
 abbrev pub persistent_after : CellData → List Event → ℕ → List Value
 persistent_after cell history pers = slice_index_or (persistents_after cell history) pers []
+
+-- the part of a persistent that a path names, of these elements
+abbrev pub value_at : List Value → Path → Option Value
+value_at elements path = option_and_then (λ value. part_of value path.part) (slice_get elements (element_of path))

@@ -26,9 +26,10 @@ TakeTurns asks cell actor zero before after = after ≡ before
 TakeTurns asks cell actor (suc left) before after =
     (between : List Event) × TakesTurn asks cell actor before between × TakeTurns asks cell (actor + 1) left between after
 
--- a turn of each task in order
+-- a turn of each task in order, and then of the input script
 abbrev pub IsRound : Asking → CellData → List Event → List Event → Type 0
-IsRound asks cell before after = TakeTurns asks cell 0 (length cell.tasks) before after
+IsRound asks cell before after =
+    (between : List Event) × TakeTurns asks cell 0 (length cell.tasks) before between × TakesTurn asks cell (length cell.tasks) between after
 
 -- what so many rounds make of the empty history
 unfoldable pub AfterRounds : Asking → CellData → ℕ → List Event → Type 0

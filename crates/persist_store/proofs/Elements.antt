@@ -13,7 +13,7 @@ use Rattle.persist_store.specs.Stores.{IsKept, PersData, element_of, with_elemen
 use Rattle.persist_store.proofs.PartsFit.{put_fits}
 
 -- what holds of each item holds of one
-holds_at : {X : Type 0} (p : X → Bool) (xs : List X) (i : ℕ) (d : X) → list_all p xs ≡ true → i < length xs → p (get_or xs i d) ≡ true
+pub holds_at : {X : Type 0} (p : X → Bool) (xs : List X) (i : ℕ) (d : X) → list_all p xs ≡ true → i < length xs → p (get_or xs i d) ≡ true
 holds_at p [] i d all lt = absurd (omega (arith, lt))
 holds_at p (x ∷ xs) zero d all lt = (and_parts _ _ all).0
 holds_at p (x ∷ xs) (suc i) d all lt = holds_at p xs i d (and_parts _ _ all).1 (omega (arith, lt))
@@ -28,7 +28,7 @@ holds_set p (x ∷ xs) (suc i) a all at =
     let parts = and_parts (p x) (list_all p xs) all in
     rw (parts.0, holds_set p xs i a parts.1 at) refl
 
-within_width : (values : List Value) (len : Option ℕ) (index : ℕ) → length values ≡ width len → IsTrue (has_element len index) → index - 1 < length values
+pub within_width : (values : List Value) (len : Option ℕ) (index : ℕ) → length values ≡ width len → IsTrue (has_element len index) → index - 1 < length values
 within_width values None index count there = rw (count, eqb-true index 0 there) (omega arith)
 within_width values (Some n) index count there =
     let parts = and_parts (nat_le 1 index) (nat_le index n) there in

@@ -1,2 +1,2 @@
-mod Elements
-mod PartsFit
+pub mod Elements
+pub mod PartsFit

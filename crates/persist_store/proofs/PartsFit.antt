@@ -95,7 +95,7 @@ fits_none : (sort : Sort) (p : PartName) (value : Value) → part_sort sort p �
 fits_none sort p value is = rw is refl
 
 -- a value of a part's type fits the part
-fits_some : (sort inner : Sort) (p : PartName) (value : Value) → part_sort sort p ≡ Some inner → fits_part sort p value ≡ has_sort inner value
+pub fits_some : (sort inner : Sort) (p : PartName) (value : Value) → part_sort sort p ≡ Some inner → fits_part sort p value ≡ has_sort inner value
 fits_some sort inner p value is = rw is refl
 
 -- a part that a value fits has a type, which the value has

@@ -1,7 +1,7 @@
-mod Fired
+pub mod Fired
 mod Mapped
-mod Places
-mod Queued
+pub mod Places
+pub mod Queued
 mod Room
 mod Tests
 mod Turned

@@ -1,9 +1,10 @@
-use Rattle.std.proofs.Common.{◌∙◌}
-use Rattle.cell_core.proofs.Reading.{all_told}
+use Rattle.std.proofs.Common.{ℕ, length, ◌∙◌, ap, arith}
+use Rattle.cell_core.specs.Reading.{all_told}
+use Rattle.cell_core.proofs.Reading.{all_ended_is}
 use Rattle.cell_core.proofs.shared.Core.all_ended.Goals as goal
 
 pub returns : goal.returns
 returns c =
-    let keeps = c.self.invariant.0 in
     let core = c.self.inside in
-    rw (← c.self.view_is) (c.all_ended.ensures ∙ all_told core.events.items core.boards.ends _ keeps.end_count keeps.end_at)
+    rw (← c.self.view_is) (c.all_told.ensures ∙ ap (λ (n : ℕ). all_told n core.boards.actors) c.self.invariant.3
+    ∙ all_ended_is core.cell core.events.items core.boards core.steps (length core.cell.tasks) c.self.invariant.0 (omega arith))

@@ -1,0 +1,82 @@
+-- What a core keeps before the first event.
+use Rattle.std.proofs.Common.{◌≡◌, ℕ, zero, suc, ◌+◌, ◌≤◌, cond, List, [], ◌∷◌, length, map, Option, Some, None, refl, sym, ◌∙◌, ap, subst, arith, length-append}
+use Rattle.std.specs.Prelude.{is_some, slice_get}
+use Rattle.std.specs.Option.{option_and_then}
+use Rattle.std.proofs.lemmas.List.{length-map}
+use Rattle.std.proofs.lemmas.List.Sums.{sum_by-cons}
+use Rattle.rapid_num.specs.declared.joints.Joints.{Joints}
+use Rattle.rapid_model.specs.CellData.{CellData, IsCell}
+use Rattle.rapid_model.specs.declared.pers_cell.PersCell.{PersCell}
+use Rattle.rapid_model.specs.declared.sort.Sort.{Sort}
+use Rattle.rapid_model.specs.declared.task_row.TaskRow.{TaskRow}
+use Rattle.rapid_model.specs.declared.value.Value.{Value}
+use Rattle.persist_store.specs.Stores.{PersData, first_row}
+use Rattle.cell_meaning.specs.Premises.{StartsFull}
+use Rattle.rapid_model.proofs.Cuts.{cut_none}
+use Rattle.cell_core.specs.Actors.{before, actor_at}
+use Rattle.cell_core.specs.Boards.{BoardData, actors_of, boards_of}
+use Rattle.cell_core.specs.Keeping.{Tells, Keeps, ends_told}
+use Rattle.cell_core.specs.Soundness.{IsServed}
+use Rattle.cell_core.specs.declared.actor.Actor.{Actor}
+
+-- where an arm is at the start, if the task has one
+abbrev start_of : List TaskRow → ℕ → Option Joints
+start_of rows task = option_and_then (λ row. row.arm) (slice_get rows task)
+
+actor_starts : (rows : List TaskRow) (number : ℕ) → number ≤ length rows → actor_at (actors_of rows) number ≡ before (start_of rows number)
+actor_starts [] zero h = refl
+actor_starts [] (suc number) h = absurd (omega arith)
+actor_starts (row ∷ rows) zero h = refl
+actor_starts (row ∷ rows) (suc number) h = actor_starts rows number (omega arith)
+
+same_arm : (arm : Option Joints) → arm ≡ option_and_then (λ start. Some start) arm
+same_arm None = refl
+same_arm (Some start) = refl
+
+starts_told : (cell : CellData) (number : ℕ) → Tells cell [] number (before (start_of cell.tasks number)) 0
+starts_told cell number = record {
+  arm = same_arm (start_of cell.tasks number);
+  end = refl;
+  held = refl;
+  seen = refl;
+  given = refl;
+  begun = refl;
+  left = refl;
+  events = refl;
+  made = refl;
+}
+
+none_told : (rows : List TaskRow) → ends_told (actors_of rows) ≡ 0
+none_told [] = refl
+none_told (row ∷ rows) = omega (arith, sum_by-cons (λ (a : Actor). cond (is_some a.end) 1 0) (before row.arm) (actors_of rows), none_told rows)
+
+same_rows : (rows : List PersCell) → (map (λ (r : PersData). r.sort) (map first_row rows) ≡ map (λ (r : PersCell). r.sort) rows) × (map (λ (r : PersData). r.len) (map first_row rows) ≡ map (λ (r : PersCell). r.len) rows)
+same_rows [] = (refl, refl)
+same_rows (row ∷ rows) =
+    (ap (λ (rest : List Sort). row.sort ∷ rest) (same_rows rows).0, ap (λ (rest : List (Option ℕ)). row.len ∷ rest) (same_rows rows).1)
+
+first_elements : (rows : List PersCell) → map (λ (r : PersData). r.values) (map first_row rows) ≡ map (λ (r : PersCell). r.first) rows
+first_elements [] = refl
+first_elements (row ∷ rows) = ap (λ (rest : List (List Value)). row.first ∷ rest) (first_elements rows)
+
+pub Keeps-none : (cell : CellData) (boards : BoardData) (steps : ℕ) → IsCell cell → StartsFull cell → boards ≡ boards_of cell → steps ≡ cell.steps → Keeps cell [] boards steps
+Keeps-none cell boards steps limits full are steps_are = subst (λ (b : BoardData). Keeps cell [] b steps) (sym are) (record {
+  limits = limits;
+  full = full;
+  sound = record { at = cut_none (λ before e. IsServed cell before e) };
+  pers = same_rows cell.pers;
+  store = first_elements cell.pers;
+  signals = refl;
+  meetings = refl;
+  traps = refl;
+  zones = refl;
+  actor_count = length-append (map (λ (row : TaskRow). before row.arm) cell.tasks) (before None ∷ []) ∙ ap (λ (n : ℕ). n + 1) (length-map cell.tasks (λ (row : TaskRow). before row.arm));
+  actors = λ number h. subst (λ (a : Actor). Tells cell [] number a 0) (sym (actor_starts cell.tasks number h)) (starts_told cell number);
+  steps_same = steps_are;
+  counted_same = refl;
+  changes_few = omega arith;
+  within = omega arith;
+  script_on = ap (λ (a : Actor). a.end) (actor_starts cell.tasks (length cell.tasks) (omega arith));
+  inputs_within = omega (arith, ap (λ (a : Actor). a.events) (actor_starts cell.tasks (length cell.tasks) (omega arith)));
+  events = omega (arith, none_told cell.tasks, ap (λ (a : Actor). a.events) (actor_starts cell.tasks (length cell.tasks) (omega arith)));
+})

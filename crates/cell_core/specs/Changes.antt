@@ -1,0 +1,46 @@
+-- What one event changes that tasks wait for, read off the boards.
+use Rattle.std.specs.Prelude.{ℕ, Bool, true, false, List, [], ◌∷◌, Option, None, Some, slice_index_or, if◌then◌else◌}
+use Rattle.std.specs.Cmp.Lexicographic.{pointwise}
+use Rattle.rapid_model.specs.Truths.{same_truth}
+use Rattle.rapid_model.specs.declared.input_row.InputRow.{InputRow}
+use Rattle.rapid_model.specs.declared.path.Path.{Path}
+use Rattle.rapid_model.specs.declared.value.Value.{Value}
+use Rattle.rapid_model.specs.declared.watched.Watched.{Watched}
+use Rattle.rapid_model.specs.declared.watched.Watched.TheVariants as watched
+use Rattle.rapid_operators.specs.Equality.{same}
+use Rattle.persist_store.specs.Stores.{PersData, row_at}
+use Rattle.cell_meaning.specs.Stored.{with_part}
+use Rattle.cell_core.specs.declared.change.Change.{Change}
+use Rattle.cell_core.specs.declared.change.Change.TheVariants as changes
+
+-- the signal or persistent that has another value
+abbrev pub watched_of : Change → List Watched
+watched_of (changes.Value on) = on ∷ []
+watched_of _ = []
+
+-- it is a change at all
+abbrev pub is_some_change : Change → Bool
+is_some_change changes.Nothing = false
+is_some_change _ = true
+
+-- of what has the same value, or another one
+abbrev pub value_change : Bool → Watched → Change
+value_change still on = if still then changes.Nothing else changes.Value on
+
+abbrev pub signal_change : List Bool → ℕ → Bool → Change
+signal_change signals signal value = value_change (same_truth (slice_index_or signals signal false) value) (watched.Signal signal value)
+
+abbrev pub input_change : List Bool → Option InputRow → Change
+input_change signals None = changes.Nothing
+input_change signals (Some row) = signal_change signals row.signal row.value
+
+-- whether a value put in as a part leaves all elements of a persistent as they were
+abbrev pub stays_same : PersData → Path → Value → Bool
+stays_same row path value = pointwise same row.values (with_part row.values path value)
+
+abbrev pub pers_change : List PersData → ℕ → Path → Value → Change
+pers_change rows pers path value = value_change (stays_same (row_at rows pers) path value) (watched.Pers pers)
+
+-- of an arrival of a task that waits at the meeting already, or does not
+abbrev pub arrival_change : Bool → Change
+arrival_change waits = if waits then changes.Nothing else changes.Arrival

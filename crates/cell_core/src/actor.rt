@@ -1,0 +1,134 @@
+ghost use Rattle.std.specs.Prelude.{◌≡◌, ◌+◌, ◌<◌, ◌^◌, option_map};
+ghost use Rattle.std.specs.Option.{option_or};
+ghost use Rattle.rapid_model.specs.Own.{fate_told, is_hold, is_leave, is_trap};
+ghost use Rattle.cell_meaning.specs.Motion.{is_given, moved};
+ghost use Rattle.cell_meaning.specs.Rising.{seen_with};
+ghost use Rattle.cell_core.specs.Actors.{actor_with, before, one_if};
+ghost use Rattle.cell_core.specs.Ready.{IsFew};
+
+use rapid_model::{Answer, Fate, Request};
+use rapid_num::Joints;
+
+/// What an actor's own events have come to: where its arm is, the fate that it told, whether its last event is a Hold, how
+/// many changes it had seen at its last Hold, how many setpoints its arm was given, how many traps it began and left, how
+/// many events it has, and how many of them changed something that tasks wait for.
+#[derive(Clone, Copy, Debug)]
+pub(crate) struct Actor {
+    pub(crate) arm: Option<Joints>,
+    pub(crate) end: Option<Fate>,
+    pub(crate) held: bool,
+    pub(crate) seen: u32,
+    pub(crate) given: u32,
+    pub(crate) begun: u32,
+    pub(crate) left: u32,
+    pub(crate) events: u32,
+    pub(crate) made: u32,
+}
+
+impl Actor {
+    /// Before its first event.
+    pub(crate) fn new(arm: Option<Joints>) -> Actor
+        ensures { result ≡ before arm }
+    {
+        Actor {
+            arm,
+            end: None,
+            held: false,
+            seen: 0,
+            given: 0,
+            begun: 0,
+            left: 0,
+            events: 0,
+            made: 0,
+        }
+    }
+
+    /// After one more event of its own, which changed something or did not.
+    pub(crate) fn after(self, changes: bool, request: &Request, answer: &Answer) -> Actor
+        requires { IsFew self }
+        ensures { result ≡ actor_with self changes request.now answer.now }
+    {
+        Actor {
+            arm: arm_after(self.arm, request, answer),
+            end: end_after(self.end, request),
+            held: is_hold(request),
+            seen: seen_after(self.seen, request),
+            given: one_more(self.given, is_given(request, answer)),
+            begun: one_more(self.begun, is_trap(answer)),
+            left: one_more(self.left, is_leave(request)),
+            events: self.events + 1,
+            made: one_more(self.made, changes),
+        }
+    }
+}
+
+/// One more where it holds.
+pub(crate) fn one_more(count: u32, more: bool) -> u32
+    requires { count < 2 ^ 31 }
+    ensures { result ≡ count + one_if more }
+{
+    if more { count + 1 } else { count }
+}
+
+fn arm_after(arm: Option<Joints>, request: &Request, answer: &Answer) -> Option<Joints>
+    ensures { result ≡ option_map (λ position. moved position request.now answer.now) arm }
+{
+    match (request, answer) {
+        (Request::Setpoint { to }, Answer::Given) if arm.is_some() => Some(*to),
+        _ => arm,
+    }
+}
+
+fn end_after(end: Option<Fate>, request: &Request) -> Option<Fate>
+    ensures { result ≡ option_or end (fate_told request.now) }
+{
+    match (end, request) {
+        (None, Request::End { fate }) => Some(*fate),
+        _ => end,
+    }
+}
+
+fn seen_after(seen: u32, request: &Request) -> u32
+    ensures { result ≡ seen_with seen request.now }
+{
+    match request {
+        Request::Hold { seen } => *seen,
+        _ => seen,
+    }
+}
+
+fn is_given(request: &Request, answer: &Answer) -> bool
+    ensures { result ≡ is_given request.now answer.now }
+{
+    match (request, answer) {
+        (Request::Setpoint { .. }, Answer::Given) => true,
+        _ => false,
+    }
+}
+
+fn is_hold(request: &Request) -> bool
+    ensures { result ≡ is_hold request.now }
+{
+    match request {
+        Request::Hold { .. } => true,
+        _ => false,
+    }
+}
+
+fn is_leave(request: &Request) -> bool
+    ensures { result ≡ is_leave request.now }
+{
+    match request {
+        Request::Leave => true,
+        _ => false,
+    }
+}
+
+fn is_trap(answer: &Answer) -> bool
+    ensures { result ≡ is_trap answer.now }
+{
+    match answer {
+        Answer::Trap { .. } => true,
+        _ => false,
+    }
+}

@@ -1,0 +1,42 @@
+//! Requests to a task's arm (RAPID Instructions: MoveAbsJ; Functions: CJointT).
+
+ghost use Rattle.std.specs.Prelude.{◌≡◌, ◌<◌, All, length};
+ghost use Rattle.cell_meaning.specs.Answers.{position_of};
+ghost use Rattle.cell_core.specs.Telling.{IsMoveTold};
+
+use rapid_model::Answer;
+use rapid_num::Joints;
+use signal_board::Signals;
+use world_zones::Zones;
+
+/// Where the arm is.
+pub(crate) fn place(arm: Option<Joints>) -> Answer
+    ensures { result ≡ position_of arm }
+{
+    match arm {
+        Some(position) => Answer::At(position),
+        None => Answer::Ok,
+    }
+}
+
+/// Whether the arm goes on to a setpoint, or a zone on the way stops it: the first that it touches. Each signal that a zone of
+/// the cell names is there.
+pub(crate) fn go(
+    zones: &Zones,
+    signals: &Signals,
+    actor: u32,
+    arm: Option<Joints>,
+    to: &Joints,
+) -> Answer
+    requires arm { actor < length zones.now.arms }
+    requires signals { All (λ zone. zone.signal < length signals.now) zones.now.cell }
+    ensures { IsMoveTold zones.now signals.now actor to.now arm result }
+{
+    let Some(from) = arm else {
+        return Answer::Ok;
+    };
+    match zones.blocks(actor, &from, to, signals) {
+        Some(zone) => Answer::Stopped(zone),
+        None => Answer::Given,
+    }
+}

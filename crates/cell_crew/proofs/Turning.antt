@@ -1,0 +1,109 @@
+-- The turn of a task.
+use Rattle.std.proofs.Common.{◌≡◌, ℕ, ◌<◌, true, false, List, [], ◌∷◌, ◌++◌, length, Option, Some, None, refl, ap, sym, ◌∙◌, subst, inl, inr, arith}
+use Rattle.std.specs.Prelude.{◌↔◌, IsTrue}
+use Rattle.std.proofs.lemmas.Bool.{false≢true}
+use Rattle.rapid_model.specs.CellData.{CellData}
+use Rattle.rapid_model.specs.Own.{part_of, answers_of, has_ended}
+use Rattle.rapid_model.specs.declared.answer.Answer.{Answer}
+use Rattle.rapid_model.specs.declared.event.Event.{Event}
+use Rattle.rapid_model.specs.declared.request.Request.{Request}
+use Rattle.cell_meaning.specs.Answers.{is_enabled}
+use Rattle.cell_meaning.specs.Asking.{Asking, with_inputs}
+use Rattle.cell_meaning.specs.Counted.{can_be_served}
+use Rattle.cell_meaning.specs.Histories.{Follows, IsLegal}
+use Rattle.cell_meaning.specs.MayAsk.{may_ask}
+use Rattle.cell_meaning.specs.Premises.{AsksWhatItMay}
+use Rattle.cell_meaning.specs.Turns.{TakesTurn}
+use Rattle.cell_meaning.proofs.Asked.{who_may}
+use Rattle.cell_meaning.proofs.MoreEvents.{part_of-own}
+use Rattle.cell_crew.specs.Crew.{RunsProgram}
+use Rattle.cell_crew.specs.UnderWay.{UnderWay, MayTake, HasGoneOn, is_at_end}
+use Rattle.cell_crew.specs.Turned.{event_of, CannotFollow, CameOf}
+use Rattle.cell_crew.proofs.Amid.{answers_in, answers_in-more, stood, gone_on, end_due}
+
+pub own_more : (task : ℕ) (history after : List Event) (request : Request) (answer : Answer) → after ≡ history ++ event_of task request answer ∷ []
+    → part_of task after ≡ part_of task history ++ event_of task request answer ∷ []
+own_more task history after request answer is = ap (λ (h : List Event). part_of task h) is ∙ part_of-own task history (event_of task request answer) refl
+
+-- a request that cannot follow does not
+cannot_follow : (asks : Asking) (cell : CellData) (history : List Event) (e : Event) (actor : ℕ) (request : Request) → CannotFollow cell history actor request → e.actor ≡ actor → e.request ≡ request
+    → Follows asks cell history e → ⊥
+cannot_follow asks cell history e actor request (inl unserved) by is follows =
+    false≢true (sym unserved ∙ ap (λ (r : Request). can_be_served cell history r) (sym is) ∙ follows.served)
+cannot_follow asks cell history e actor request (inr waits) by is follows =
+    false≢true (sym waits ∙ ap (λ (r : Request). is_enabled cell history actor r) (sym is) ∙ ap (λ (a : ℕ). is_enabled cell history a e.request) (sym by) ∙ follows.enabled)
+
+-- what comes of asking the one request that an actor asks is its turn
+pub came_turn : (asks : Asking) (cell : CellData) (actor : ℕ) (history after : List Event) (request : Request) (answer : Option Answer)
+    → ((other : Request) → asks actor (answers_of actor history) other → other ≡ request)
+    → CameOf asks cell history actor request after answer → TakesTurn asks cell actor history after
+came_turn asks cell actor history after request (Some answer) one came =
+    inl (record { event = event_of actor request answer; by = refl; follows = came.0; added = came.1 })
+came_turn asks cell actor history after request None one came =
+    inr (record {
+      none = λ e by follows. cannot_follow asks cell history e actor request came.0 by (one e.request (subst (λ (a : ℕ). asks a (answers_of a history) e.request) by follows.asked)) follows;
+      same = came.1;
+    })
+
+-- a task that has ended asks nothing
+pub ended_rests : (asks : Asking) (cell : CellData) (task : ℕ) (history : List Event) → task < length cell.tasks → AsksWhatItMay asks cell → IsLegal asks cell history → has_ended (part_of task history) ≡ true
+    → TakesTurn asks cell task history history
+ended_rests asks cell task history within may legal ended = inr (record { none = none; same = refl })
+  where
+    over : (actor : ℕ) (request : Request) → actor ≡ task → IsTrue (may_ask cell actor (part_of actor history) request) → ⊥
+    over actor request by may_it = elim (who_may cell actor (part_of actor history) request may_it) [
+      | inl w ↦ false≢true (sym w.alive ∙ ap (λ (k : ℕ). has_ended (part_of k history)) by ∙ ended)
+      | inr w ↦ let script = w.script in absurd (omega (arith, by, script))
+    ]
+
+    none : (e : Event) → e.actor ≡ task → Follows asks cell history e → ⊥
+    none e by follows = over e.actor e.request by (may.may history e.actor e.request legal follows.asked)
+
+module _ {M P : Type 0} (program : M → P) (fits : P → List Answer → Type 0) (program_asks : P → List Answer → Request → Type 0) (stands_for : M → List Answer → Type 0) (due : M → Option Request) where
+  -- what holds of the machine of a task that has not ended, in its turn
+  pub record AtTurn (asks : Asking) (cell : CellData) (task : ℕ) (m : M) (history : List Event) (request : Request) : Type 0 where
+    pub asks_due : (x : M) (answers : List Answer) (r other : Request) → stands_for x answers → due x ≡ Some r → program_asks (program x) answers other ↔ (other ≡ r)
+    pub within : task < length cell.tasks
+    pub runs : RunsProgram fits program_asks asks cell task (program m)
+    pub legal : IsLegal (with_inputs asks cell) cell history
+    pub way : UnderWay stands_for due m (part_of task history)
+    pub going : has_ended (part_of task history) ≡ false
+    pub is_due : due m ≡ Some request
+
+  -- the program asks just what is due
+  asks_just : (asks : Asking) (cell : CellData) (task : ℕ) (m : M) (history : List Event) (request : Request) → AtTurn asks cell task m history request
+      → (other : Request) → asks task (answers_of task history) other ↔ (other ≡ request)
+  asks_just asks cell task m history request at other =
+      let same = at.runs.same (answers_of task history) other (at.runs.fit history at.legal) in
+      let just = at.asks_due m (answers_of task history) request other (stood stands_for due m (part_of task history) at.way at.going) at.is_due in
+      (λ asked. just.0 (same.0 asked), λ is. same.1 (just.1 is))
+
+  pub asks_it : (asks : Asking) (cell : CellData) (task : ℕ) (m : M) (history : List Event) (request : Request) → AtTurn asks cell task m history request
+      → with_inputs asks cell task (answers_of task history) request
+  asks_it asks cell task m history request at = inl (record { task = at.within; asked = (asks_just asks cell task m history request at request).1 refl })
+
+  pub asks_only : (asks : Asking) (cell : CellData) (task : ℕ) (m : M) (history : List Event) (request : Request) → AtTurn asks cell task m history request
+      → (other : Request) → with_inputs asks cell task (answers_of task history) other → other ≡ request
+  asks_only asks cell task m history request at other (inl t) = (asks_just asks cell task m history request at other).0 t.asked
+  asks_only asks cell task m history request at other (inr s) = let script = s.script in let within = at.within in absurd (omega (arith, script, within))
+
+  -- what the cell answered it may take
+  pub may_take : (asks : Asking) (cell : CellData) (task : ℕ) (m : M) (history after : List Event) (request : Request) (answer : Answer) → AtTurn asks cell task m history request
+      → IsLegal (with_inputs asks cell) cell after → after ≡ history ++ event_of task request answer ∷ [] → MayTake program fits stands_for due m answer
+  may_take asks cell task m history after request answer at legal is =
+      let all : answers_of task after ≡ answers_of task history ++ answer ∷ [] =
+      ap answers_in (own_more task history after request answer is) ∙ answers_in-more (part_of task history) (event_of task request answer) in
+      record {
+        request = request;
+        asked = at.is_due;
+        before = answers_of task history;
+        stands = stood stands_for due m (part_of task history) at.way at.going;
+        fitting = subst (λ (xs : List Answer). fits (program m) xs) all (at.runs.fit after legal);
+      }
+
+  -- and it is under way then
+  pub way_on : (asks : Asking) (cell : CellData) (task : ℕ) (m later : M) (history after : List Event) (request : Request) (answer : Answer) → AtTurn asks cell task m history request
+      → HasGoneOn stands_for due (is_at_end (due m)) m answer later → after ≡ history ++ event_of task request answer ∷ [] → UnderWay stands_for due later (part_of task after)
+  way_on asks cell task m later history after request answer at went is =
+      subst (λ (es : List Event). UnderWay stands_for due later es) (sym (own_more task history after request answer is))
+      (gone_on stands_for due m later (part_of task history) (event_of task request answer) (is_at_end (due m)) (end_due stands_for due m request at.is_due) at.going at.way went)

@@ -1,0 +1,92 @@
+-- What the boards tell, in the words of the looks back over a history.
+use Rattle.std.proofs.Common.{◌≡◌, inl, inr, ℕ, zero, suc, ◌+◌, ◌-◌, ◌≤◌, ◌<◌, Bool, true, false, not, ◌||◌, nat_lt, List, [], ◌∷◌, length, get_or, set, map, Option, Some, refl, sym, ◌∙◌, ap, subst, arith}
+use Rattle.std.specs.Prelude.{◌↔◌, IsTrue}
+use Rattle.std.specs.List.{list_all, range_with_len}
+use Rattle.std.specs.Option.{option_and_then, unwrap_or}
+use Rattle.std.proofs.lemmas.Bool.{and_parts, cases_eq, ltb-true, lt-ltb, false≢true}
+use Rattle.std.proofs.lemmas.List.{get_or-map}
+use Rattle.std.proofs.lemmas.Option.{slice_get-get_or}
+use Rattle.rapid_model.specs.declared.path.Path.{Path}
+use Rattle.rapid_model.specs.declared.value.Value.{Value}
+use Rattle.rapid_model.specs.declared.value.Value.TheVariants as values
+use Rattle.rapid_values.specs.Values.{part_of}
+use Rattle.persist_store.specs.Stores.{PersData, IsPut, IsStored, element_of as kept_element, no_row, row_at}
+use Rattle.sync_tasks.specs.Meetings.{MeetingsData, Meets, stand_at, arrivals, is_listed, come}
+use Rattle.cell_meaning.specs.Meetings.{meets}
+use Rattle.cell_meaning.specs.Stored.{part_put, with_part, put_at, value_at}
+use Rattle.cell_meaning.proofs.Lists.{both_so}
+
+-- a test of all numbers from one on
+each_number : (p : ℕ → Bool) (from count : ℕ) → list_all p (range_with_len from count) ≡ true → (k : ℕ) → from ≤ k → k < from + count → p k ≡ true
+each_number p from zero all k low high = absurd (omega arith)
+each_number p from (suc count) all k low high =
+    let parts = and_parts (p from) (list_all p (range_with_len (from + 1) count)) all in
+    elim (cases_eq k from) [
+      | inl same ↦ subst (λ (j : ℕ). p j ≡ true) (sym same) parts.0
+      | inr other ↦ each_number p (from + 1) count parts.1 k (omega (arith, other)) (omega arith)
+    ]
+
+all_numbers : (p : ℕ → Bool) (from count : ℕ) → ((k : ℕ) → from ≤ k → k < from + count → p k ≡ true) → list_all p (range_with_len from count) ≡ true
+all_numbers p from zero each = refl
+all_numbers p from (suc count) each =
+    both_so (p from) (list_all p (range_with_len (from + 1) count)) (each from (omega arith) (omega arith))
+    (all_numbers p (from + 1) count (λ k low high. each k (omega arith) (omega arith)))
+
+-- an arrival meets the others just where the board says so
+abbrev has_come : MeetingsData → ℕ → ℕ → ℕ → ℕ → Bool
+has_come m task meeting tasks k = not (is_listed tasks k) || nat_lt (stand_at m task meeting).passed (arrivals (stand_at (come m task meeting) k meeting))
+
+listed_came : (listed came : Bool) → (not listed || came) ≡ true → listed ≡ true → came ≡ true
+listed_came true came h is = h
+listed_came false came h is = absurd (false≢true is)
+
+came_if_listed : (listed came : Bool) → (listed ≡ true → came ≡ true) → (not listed || came) ≡ true
+came_if_listed true came h = h refl
+came_if_listed false came h = refl
+
+pub meets_decides : (m : MeetingsData) (task meeting tasks : ℕ) → IsTrue (meets m task meeting tasks) ↔ Meets m task meeting tasks
+meets_decides m task meeting tasks = (there, back)
+  where
+    there : IsTrue (meets m task meeting tasks) → Meets m task meeting tasks
+    there all = record {
+      all = λ k lt listed.
+          ltb-true (stand_at m task meeting).passed (arrivals (stand_at (come m task meeting) k meeting))
+          (listed_came (is_listed tasks k) (nat_lt (stand_at m task meeting).passed (arrivals (stand_at (come m task meeting) k meeting)))
+          (each_number (has_come m task meeting tasks) 0 m.tasks all k (omega arith) (omega arith)) listed);
+    }
+
+    back : Meets m task meeting tasks → IsTrue (meets m task meeting tasks)
+    back each =
+        all_numbers (has_come m task meeting tasks) 0 m.tasks
+        (λ k low high. came_if_listed (is_listed tasks k) (nat_lt (stand_at m task meeting).passed (arrivals (stand_at (come m task meeting) k meeting)))
+        (λ listed. lt-ltb (stand_at m task meeting).passed (arrivals (stand_at (come m task meeting) k meeting)) (each.all k (omega arith) listed)))
+
+-- the part of an element of a persistent that a path names
+pub kept_value : (row : PersData) (path : Path) (value : Value) → path.index - 1 < length row.values → part_of (kept_element row path.index) path.part ≡ Some value → value_at row.values path ≡ Some value
+kept_value row path value within is =
+    ap (λ (o : Option Value). option_and_then (λ v. part_of v path.part) o) (slice_get-get_or row.values (path.index - 1) (values.Bool false) within) ∙ is
+
+-- the elements of each persistent
+abbrev pub elements_of : List PersData → List (List Value)
+elements_of rows = map (λ row. row.values) rows
+
+map-set : (rows : List PersData) (pers : ℕ) (row : PersData) → elements_of (set rows pers row) ≡ set (elements_of rows) pers row.values
+map-set [] pers row = refl
+map-set (r ∷ rows) zero row = refl
+map-set (r ∷ rows) (suc pers) row = ap (λ (rest : List (List Value)). r.values ∷ rest) (map-set rows pers row)
+
+-- a value stored at a path is put there
+put_elements : (old new : PersData) (path : Path) (value : Value) → path.index - 1 < length old.values → IsPut old new path value → new.values ≡ with_part old.values path value
+put_elements old new path value within put =
+    let there = slice_get-get_or old.values (path.index - 1) (values.Bool false) within in
+    let made : with_part old.values path value ≡ set old.values (path.index - 1) (kept_element new path.index) =
+    ap (λ (o : Option Value). part_put old.values path value o) there
+    ∙ ap (λ (o : Option Value). set old.values (path.index - 1) (unwrap_or o (kept_element old path.index))) put.part in
+    ap (λ (row : PersData). row.values) put.others ∙ sym made
+
+pub stored_elements : (old new : List PersData) (pers : ℕ) (path : Path) (value : Value) → pers < length old → path.index - 1 < length (row_at old pers).values → IsStored old new pers path value
+    → elements_of new ≡ put_at (elements_of old) pers path value
+stored_elements old new pers path value there within stored =
+    let row : get_or (elements_of old) pers [] ≡ (row_at old pers).values = get_or-map (λ (r : PersData). r.values) old pers no_row [] there in
+    ap elements_of stored.others ∙ map-set old pers (row_at new pers)
+    ∙ ap (λ (vs : List Value). set (elements_of old) pers vs) (put_elements (row_at old pers) (row_at new pers) path value within stored.put ∙ ap (λ (vs : List Value). with_part vs path value) (sym row))

@@ -1,0 +1,75 @@
+-- Interrupts on worked examples.
+use Rattle.std.proofs.Common.{◌≡◌, true, false, List, [], ◌∷◌, ◌++◌, refl}
+use Rattle.rapid_model.specs.declared.answer.Answer.{Answer}
+use Rattle.rapid_model.specs.declared.answer.Answer.TheVariants as answers
+use Rattle.rapid_model.specs.declared.event.Event.{Event}
+use Rattle.rapid_model.specs.declared.request.Request.{Request}
+use Rattle.rapid_model.specs.declared.request.Request.TheVariants as requests
+use Rattle.rapid_model.specs.declared.watched.Watched.TheVariants as watched
+use Rattle.cell_meaning.specs.Answers.{answer_after}
+use Rattle.cell_meaning.proofs.ExampleCell.{cell, event, cleared, written}
+
+-- what the cell answers to task A
+abbrev to_a : List Event → Request → Answer
+to_a history request = answer_after cell history 0 request
+
+abbrev connected : Event
+connected = event 0 (requests.Connect 0 7) (answers.Number 1)
+
+-- for one firing, where the output is cleared
+abbrev ordered : Event
+ordered = event 0 (requests.Order 1 (watched.Signal 1 false) true) answers.Ok
+
+abbrev both : List Event
+both = connected ∷ ordered ∷ []
+
+first_number : to_a [] (requests.Connect 0 7) ≡ answers.Number 1
+first_number = refl
+
+next_number : to_a (connected ∷ []) (requests.Connect 0 8) ≡ answers.Number 2
+next_number = refl
+
+is_connected : to_a (connected ∷ []) (requests.Connect 1 8) ≡ answers.Already
+is_connected = refl
+
+not_connected : to_a [] (requests.Order 1 (watched.Pers 0) false) ≡ answers.Unknown
+not_connected = refl
+
+one_order : to_a both (requests.Order 1 (watched.Pers 0) false) ≡ answers.Already
+one_order = refl
+
+fires : to_a (both ++ cleared ∷ []) requests.Look ≡ answers.Trap 1 7
+fires = refl
+
+-- of the task that ordered it alone
+not_of_b : answer_after cell (both ++ cleared ∷ []) 1 requests.Look ≡ answers.Go 0
+not_of_b = refl
+
+-- an equal value fires nothing
+no_change : to_a (both ++ event 1 (requests.WriteS 1 true) answers.Ok ∷ []) requests.Look ≡ answers.Go 0
+no_change = refl
+
+-- nor does what was ordered by one that sleeps, nor is it queued
+asleep : to_a (both ++ event 0 (requests.Sleep 1) answers.Ok ∷ cleared ∷ event 0 (requests.Watch 1) answers.Ok ∷ []) requests.Look ≡ answers.Go 1
+asleep = refl
+
+-- what is disabled is held back, and not lost
+disabled : to_a (both ++ event 0 requests.Disable answers.Ok ∷ cleared ∷ []) requests.Look ≡ answers.Go 1
+disabled = refl
+
+enabled_later : to_a (both ++ event 0 requests.Disable answers.Ok ∷ cleared ∷ event 0 requests.Enable answers.Ok ∷ []) requests.Look ≡ answers.Trap 1 7
+enabled_later = refl
+
+-- the trap takes it off the queue, and the Single order has ended
+in_trap : to_a (both ++ cleared ∷ event 0 requests.Look (answers.Trap 1 7) ∷ []) requests.Look ≡ answers.Go 1
+in_trap = refl
+
+order_ended : to_a (both ++ cleared ∷ []) (requests.Order 1 (watched.Pers 0) false) ≡ answers.Ok
+order_ended = refl
+
+-- a number that was deleted waits no longer
+deleted : to_a (both ++ cleared ∷ event 0 (requests.Delete 1) answers.Ok ∷ []) requests.Look ≡ answers.Go 1
+deleted = refl
+
+persistent_fires : to_a (connected ∷ event 0 (requests.Order 1 (watched.Pers 0) false) answers.Ok ∷ written ∷ []) requests.Look ≡ answers.Trap 1 7
+persistent_fires = refl

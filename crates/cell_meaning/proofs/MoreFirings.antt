@@ -1,0 +1,86 @@
+-- What firings and looks leave of the interrupts.
+use Rattle.std.proofs.Common.{◌≡◌, ℕ, zero, suc, ◌+◌, ◌≤◌, Bool, true, false, not, cond, ◌||◌, nat_lt, List, [], ◌∷◌, ◌++◌, length, map, take, Option, None, Some, refl, ◌∙◌, ap, arith}
+use Rattle.std.specs.Prelude.{◌&&◌, if◌then◌else◌}
+use Rattle.std.specs.List.{All, filter, range_with_len}
+use Rattle.std.proofs.lemmas.Bool.{ltb-true, true≢false}
+use Rattle.std.proofs.lemmas.List.{append-nil, take_all}
+use Rattle.rapid_model.specs.declared.request.Request.TheVariants as requests
+use Rattle.trap_dispatch.specs.declared.connected.Connected.{Connected}
+use Rattle.trap_dispatch.specs.declared.order.Order.{Order}
+use Rattle.trap_dispatch.specs.Firing.{connected_at, is_on, fires, fired_numbers, after_its_firing, after_firing}
+use Rattle.trap_dispatch.specs.Tasks.{TaskData, after_changes, look_answer, after_look}
+use Rattle.trap_dispatch.specs.Traps.{task_at, with_task}
+use Rattle.cell_meaning.specs.Answers.{look_of}
+use Rattle.cell_meaning.specs.Interrupts.{asked_with}
+use Rattle.cell_meaning.proofs.InterruptsKept.{own_with, asked_own}
+
+-- without a change nothing fires
+on_none : (order : Option Order) → is_on [] order ≡ false
+on_none None = refl
+on_none (Some order) = refl
+
+and_false : (a b : Bool) → b ≡ false → (a && b) ≡ false
+and_false true b h = h
+and_false false b h = refl
+
+fires_none : (place : Option Connected) → fires [] place ≡ false
+fires_none None = refl
+fires_none (Some c) = and_false (not c.asleep) (is_on [] c.order) (on_none c.order)
+
+none_fired : (numbers : List (Option Connected)) (range : List ℕ) → filter (λ number. fires [] (connected_at numbers number)) range ≡ []
+none_fired numbers [] = refl
+none_fired numbers (n ∷ range) =
+    ap (λ (b : Bool). cond b (n ∷ filter (λ number. fires [] (connected_at numbers number)) range) (filter (λ number. fires [] (connected_at numbers number)) range)) (fires_none (connected_at numbers n))
+    ∙ none_fired numbers range
+
+stays : (place : Option Connected) → after_firing [] place ≡ place
+stays None = refl
+stays (Some c) = by (fires [] (Some c)) (fires_none (Some c))
+  where
+    by : (b : Bool) → b ≡ false → (if b then Some (record c { order = after_its_firing c.order }) else Some c) ≡ Some c
+    by false h = refl
+    by true h = absurd (true≢false h)
+
+all_stay : (numbers : List (Option Connected)) → map (after_firing []) numbers ≡ numbers
+all_stay [] = refl
+all_stay (place ∷ numbers) = ap (λ (p : Option Connected). p ∷ map (after_firing []) numbers) (stays place) ∙ ap (λ (ps : List (Option Connected)). place ∷ ps) (all_stay numbers)
+
+no_flood : (flood : Bool) (n : ℕ) → n ≤ 1_024 → (flood || nat_lt 1_024 n) ≡ flood
+no_flood true n few = refl
+no_flood false n few = by (nat_lt 1_024 n) refl
+  where
+    by : (b : Bool) → nat_lt 1_024 n ≡ b → b ≡ false
+    by false h = refl
+    by true h = absurd (let more = ltb-true 1_024 n h in omega arith)
+
+pub after_changes-none : (t : TaskData) → length t.queue ≤ 1_024 → after_changes [] t ≡ t
+after_changes-none t room =
+    let none : fired_numbers [] t.numbers ≡ [] = none_fired t.numbers (range_with_len 1 (length t.numbers)) in
+    let made : List (Option Connected) → List ℕ → Bool → TaskData = λ numbers queue flood. record { numbers = numbers; queue = queue; flood = flood; disabled = t.disabled; in_trap = t.in_trap } in
+    ap (λ (fired : List ℕ). made (map (after_firing []) t.numbers) (take 1_024 (t.queue ++ fired)) (t.flood || nat_lt 1_024 (length t.queue + length fired))) none
+    ∙ ap (λ (queue : List ℕ). made (map (after_firing []) t.numbers) (take 1_024 queue) (t.flood || nat_lt 1_024 (length t.queue + 0))) (append-nil t.queue)
+    ∙ ap (λ (queue : List ℕ). made (map (after_firing []) t.numbers) queue (t.flood || nat_lt 1_024 (length t.queue + 0))) (take_all 1_024 t.queue room)
+    ∙ ap (λ (flood : Bool). made (map (after_firing []) t.numbers) t.queue flood) (no_flood t.flood (length t.queue + 0) (omega arith))
+    ∙ ap (λ (numbers : List (Option Connected)). made numbers t.queue t.flood) (all_stay t.numbers)
+
+-- without a change the interrupts of all tasks stay, whose queues have their room
+pub fired-none : (tasks : List TaskData) → All (λ t. length t.queue ≤ 1_024) tasks → map (after_changes []) tasks ≡ tasks
+fired-none [] room = refl
+fired-none (t ∷ tasks) room =
+    ap (λ (u : TaskData). u ∷ map (after_changes []) tasks) (after_changes-none t (room zero t (omega arith)))
+    ∙ ap (λ (us : List TaskData). t ∷ us) (fired-none tasks (λ k d lt. room (suc k) d (omega arith)))
+
+-- a Look leaves the interrupts of its task as the board says
+look_parts : (numbers : List (Option Connected)) (queue : List ℕ) (flood disabled in_trap : Bool) (seen : ℕ)
+    → let t : TaskData = record { numbers = numbers; queue = queue; flood = flood; disabled = disabled; in_trap = in_trap } in own_with t requests.Look (look_of (look_answer t) seen) ≡ after_look t
+look_parts numbers queue true disabled in_trap seen = refl
+look_parts numbers queue false disabled true seen = refl
+look_parts numbers queue false true false seen = refl
+look_parts numbers [] false false false seen = refl
+look_parts numbers (first ∷ rest) false false false seen = refl
+
+pub asked_with-Look : (tasks : List TaskData) (task seen : ℕ)
+    → asked_with tasks task requests.Look (look_of (look_answer (task_at tasks task)) seen) ≡ with_task tasks task (after_look (task_at tasks task))
+asked_with-Look tasks task seen =
+    let t = task_at tasks task in
+    asked_own tasks task requests.Look (look_of (look_answer t) seen) ∙ ap (λ (u : TaskData). with_task tasks task u) (look_parts t.numbers t.queue t.flood t.disabled t.in_trap seen)

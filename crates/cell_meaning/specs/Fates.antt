@@ -1,0 +1,30 @@
+-- How the tasks stand after a history.
+use Rattle.std.specs.Prelude.{ℕ, zero, suc, Bool, true, not, ◌&&◌, nat_le, List, [], ◌∷◌, ◌++◌, length, Option, Some, None, if◌then◌else◌}
+use Rattle.rapid_model.specs.CellData.{CellData}
+use Rattle.rapid_model.specs.Own.{part_of, end_of, has_ended}
+use Rattle.rapid_model.specs.declared.event.Event.{Event}
+use Rattle.rapid_model.specs.declared.fate.Fate.{Fate}
+use Rattle.rapid_model.specs.declared.fate.Fate.TheVariants.{Held, Cut}
+use Rattle.cell_meaning.specs.Counted.{counted}
+
+-- each of so many tasks, from 0, has ended
+abbrev pub all_ended : ℕ → List Event → Bool
+all_ended zero history = true
+all_ended (suc tasks) history = all_ended tasks history && has_ended (part_of tasks history)
+
+-- a task has not ended, and the steps are counted
+abbrev pub is_spent : CellData → List Event → Bool
+is_spent cell history = not (all_ended (length cell.tasks) history) && nat_le cell.steps (counted history)
+
+-- how a task stands after a whole history: the fate that it told, else cut where the steps are spent, else held
+abbrev pub fate_after : CellData → List Event → ℕ → Fate
+fate_after cell history task = told_or (end_of (part_of task history))
+  where
+    told_or : Option Fate → Fate
+    told_or (Some fate) = fate
+    told_or None = if is_spent cell history then Cut else Held
+
+-- the fates of the first so many tasks
+abbrev pub fates_after : CellData → List Event → ℕ → List Fate
+fates_after cell history zero = []
+fates_after cell history (suc tasks) = fates_after cell history tasks ++ fate_after cell history tasks ∷ []
