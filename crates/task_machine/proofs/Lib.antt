@@ -1,2 +1,5 @@
-pub mod Transitions
-mod Examples
+mod Fitting
+mod Going
+mod Replies
+mod Settling
+mod Stands

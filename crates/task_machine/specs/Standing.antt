@@ -1,19 +1,24 @@
--- Which answers a machine stands for.
-use Rattle.std.specs.Prelude.{◌≡◌, List, ◌++◌, Option, Some, None, Bool, false}
+-- What a machine stands for.
+use Rattle.std.specs.Prelude.{◌≡◌, List}
 use Rattle.rapid_model.specs.declared.answer.Answer.{Answer}
-use Rattle.rapid_model.specs.declared.request.Request.{Request}
-use Rattle.rapid_model.specs.declared.request.Request.TheVariants.{End}
-use Rattle.move_meaning.specs.Runs.{asked_after}
-use Rattle.move_meaning.specs.Traces.{fits_move}
+use Rattle.stack_code.specs.CodeData.{CodeData}
+use Rattle.stack_code.specs.Entering.{initial}
+use Rattle.live_code.specs.Live.{CodeFits}
+use Rattle.live_code.specs.Reached.{Reached}
+use Rattle.task_steps.specs.Doing.{doing_of}
 use Rattle.task_machine.specs.MachineData.{MachineData}
-use Rattle.task_machine.specs.Left.{left_to_ask}
+use Rattle.task_steps.specs.Seen.{Seen}
+use Rattle.task_steps.specs.declared.phase.Phase.TheVariants as phases
 
--- what the tree asks after these answers and any more is what the machine has left to ask after those
-pub record StandsFor (m : MachineData) (answers : List Answer) : Type 0 where
-  pub goes_on : (more : List Answer) → asked_after m.tree (answers ++ more) ≡ left_to_ask m more
+-- its code has come there after these answers, which fit step by step
+abbrev pub StandsFor : MachineData → List Answer → Type 0
+StandsFor m answers = CodeFits m.code answers × Reached m.code (doing_of m.code m.phase m.conf) m.data' answers
 
--- the answer is one to a request that another may follow
-abbrev pub fits_last : Option Request → Answer → Bool
-fits_last None answer = false
-fits_last (Some (End fate)) answer = false
-fits_last (Some request) answer = fits_move request answer
+-- a task and its code
+abbrev pub machine_of : CodeData → Seen → MachineData
+machine_of code s = record { code = code; phase = s.phase; conf = s.conf; data' = s.data' }
+
+-- One that has not begun has the first data; and a machine stands for some answers.
+pub record IsMachine (m : MachineData) : Type 0 where
+  pub fresh : m.phase ≡ phases.New → m.data' ≡ initial m.code
+  pub stands : (answers : List Answer) × StandsFor m answers

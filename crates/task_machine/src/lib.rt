@@ -1,10 +1,11 @@
-//! A machine runs one task: it asks what the task's tree asks, one request at a time.
+//! The machine that runs a task's stack code, one request at a time.
 #![tactic(auto)]
 
-mod advance;
-mod departure;
+mod course;
+mod laws;
+mod living;
 mod machine;
-mod stage;
+mod programs;
 
+pub use laws::machines_ask_what_code_asks;
 pub use machine::Machine;
-pub use stage::Stage;

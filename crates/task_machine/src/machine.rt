@@ -1,77 +1,115 @@
-ghost use Rattle.std.specs.Prelude.{◌≡◌, List, [], ◌∷◌, ◌++◌, IsTrue, Some, IsSome};
+ghost use Rattle.std.specs.Prelude.{◌≡◌, ◌<◌, List, [], ◌∷◌, ◌++◌, IsTrue, Some, IsSome, IfOk, IfErr, length, slice_get};
+ghost use Rattle.std.specs.Option.{option_map};
+ghost use Rattle.rapid_model.specs.Fits.{fits_request};
 ghost use Rattle.rapid_model.specs.declared.answer.Answer.{Answer};
-ghost use Rattle.move_meaning.specs.Runs as runs;
-ghost use Rattle.move_meaning.specs.Runs.{asked_after};
-ghost use Rattle.task_machine.specs.MachineData.{fresh, request_of};
-ghost use Rattle.task_machine.specs.Standing.{StandsFor, fits_last};
+ghost use Rattle.rapid_model.specs.declared.request.Request.{Request};
+ghost use Rattle.stack_code.specs.CodeRuns.{fitting_by};
+ghost use Rattle.task_machine.specs.MachineData.{request_of};
+ghost use Rattle.task_machine.specs.Standing.{StandsFor};
+ghost use Rattle.task_steps.specs.Tasks.{at_of};
+ghost use Rattle.task_steps.specs.declared.pending.Pending.{Pending};
+ghost use Rattle.task_steps.specs.declared.phase.Phase.TheVariants as phases;
 
-use crate::advance::{advance, before_statement};
-use crate::stage::Stage;
-use rapid_model::{Answer, Request, Tree};
+use crate::course::Course;
+use live_code::Code;
+use machine_stacks::Held;
+use rapid_model::{Answer, Request};
+use stack_code::At;
+use std::alloc::Global;
 use std::marker::Model;
-use std::mem;
+use task_steps::LoadedCode;
 
-/// A task under way: its tree, and how far it has come. It keeps no list of setpoints and takes no memory.
-#[derive(Debug, Drop)]
+/// A task's stack code under way: it asks what the code asks, one request at a time. No call but `new` takes memory.
+#[derive(Drop)]
 pub struct Machine {
-    tree: Tree,
-    begun: usize,
-    stage: Stage,
+    course: Course,
 }
 
 impl Model for Machine {
     ghost use Rattle.task_machine.specs.MachineData.{MachineData};
-    ghost use Rattle.task_machine.specs.Stages.{IsMachine};
+    ghost use Rattle.task_machine.specs.Standing.{IsMachine};
 
     ghost Value = { MachineData };
 
-    ghost view = { λ m. record { tree = m.tree; begun = m.begun; stage = m.stage } };
+    ghost view = { λ m. record { code = m.course.code; phase = m.course.task.phase; conf = m.course.task.conf; data' = m.course.task.data' } };
 
-    ghost invariant = { λ m. IsMachine (record { tree = m.tree; begun = m.begun; stage = m.stage }) };
+    ghost invariant = { λ m. IsMachine (record { code = m.course.code; phase = m.course.task.phase; conf = m.course.task.conf; data' = m.course.task.data' }) };
 }
 
 impl Machine {
-    /// The machine of a task that has asked nothing.
-    pub fn new(tree: Tree) -> Machine
-        ensures { result ≡ fresh tree }
+    /// A machine that has asked nothing yet, with room for 32 frames, 20,000 values and 33 times as many operands as a frame of
+    /// the code has at most. For want of memory the code comes back.
+    pub fn new(alloc: Global, code: Code) -> Result<Machine, Code>
+        ensures code { IfOk result (λ m. m.code ≡ code) }
+        ensures fresh { IfOk result (λ m. m.phase ≡ phases.New) }
+        ensures back { IfErr result (λ back. back ≡ code) }
     {
-        Machine {
-            tree,
-            begun: 0,
-            stage: Stage::Fresh,
+        let loaded = LoadedCode::new(alloc, code)?;
+        match Course::new(alloc, loaded) {
+            Ok(course) => Ok(Machine { course }),
+            Err(loaded) => Err(loaded.into_code()),
         }
     }
 
     /// Asks the first request.
     pub fn first(&mut self) -> Request
-        requires { self.old ≡ fresh self.old.tree }
-        ensures tree { self.new.tree ≡ self.old.tree }
-        ensures last { request_of self.new ≡ Some result }
-        ensures asks { asked_after self.new.tree [] ≡ runs.asks result }
+        requires { self.old.phase ≡ phases.New }
+        ensures code { self.new.code ≡ self.old.code }
+        ensures asks { request_of self.new ≡ Some result }
         ensures stands { StandsFor self.new [] }
     {
-        self.stage = before_statement(&self.tree, 0);
-        self.stage.request()
+        self.course.begin();
+        self.course.settle();
+        self.course.due()
     }
 
-    /// Asks the request that follows the answer to the last one.
+    /// Asks the request that follows the answer to the last one, which was no end of the task.
     pub fn next(&mut self, answer: Answer) -> Request
-        requires { IsTrue (fits_last (request_of self.old) answer) }
-        ensures tree { self.new.tree ≡ self.old.tree }
-        ensures last { request_of self.new ≡ Some result }
-        ensures asks { (answers : List Answer) → StandsFor self.old answers → asked_after self.new.tree (answers ++ answer ∷ []) ≡ runs.asks result }
+        requires asked { (request : Request) × (then : Pending) × (self.old.phase ≡ phases.Asking request then) }
+        requires fits { (request : Request) → request_of self.old ≡ Some request → IsTrue (fits_request (fitting_by self.old.code self.old.data'.trapped) request answer) }
+        ensures code { self.new.code ≡ self.old.code }
+        ensures asks { request_of self.new ≡ Some result }
         ensures stands { (answers : List Answer) → StandsFor self.old answers → StandsFor self.new (answers ++ answer ∷ []) }
     {
-        let stage = mem::replace(&mut self.stage, Stage::Fresh);
-        (self.begun, self.stage) = advance(&self.tree, self.begun, stage, answer);
-        self.stage.request()
+        self.course.reply(answer);
+        self.course.settle();
+        self.course.due()
     }
 
-    /// The request that was asked last.
+    /// The request that is due.
     pub fn last(&self) -> Request
         requires { IsSome (request_of self.now) }
         ensures { request_of self.now ≡ Some result }
     {
-        self.stage.request()
+        self.course.due()
+    }
+
+    /// How many module data the task has.
+    pub fn slots(&self) -> u32
+        ensures { result ≡ length self.now.code.slots }
+    {
+        self.course.slots()
+    }
+
+    /// A module datum of the task, by its number from 0.
+    pub fn datum(&self, slot: u32) -> &Held
+        requires { slot < length self.now.code.slots }
+        ensures { slice_get self.now.data'.slots slot ≡ Some result.now }
+    {
+        self.course.datum(slot)
+    }
+
+    /// The place of the statement that began last, or asked to by a Look; none before the first.
+    pub fn place(&self) -> Option<At>
+        ensures { option_map at_of result ≡ self.now.data'.place }
+    {
+        self.course.place()
+    }
+
+    /// The task's code.
+    pub fn code(&self) -> &Code
+        ensures { result.now ≡ self.now.code }
+    {
+        self.course.code()
     }
 }

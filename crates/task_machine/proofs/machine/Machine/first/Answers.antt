@@ -1,15 +1,18 @@
-use Rattle.std.proofs.Common.{◌≡◌, [], ◌∙◌, ap}
-use Rattle.task_machine.specs.MachineData.{MachineData}
-use Rattle.task_machine.proofs.Transitions.{left-first, left-asked}
+use Rattle.std.proofs.Common.{[]}
+use Rattle.task_machine.specs.Standing.{StandsFor, machine_of}
+use Rattle.task_machine.proofs.Settling.{settled_machine, stands_settled}
 use Rattle.task_machine.proofs.machine.Machine.first.Goals as goal
 
-pub returns-clause-asks : goal.returns-clause-asks
-returns-clause-asks c =
-    let first = c.before_statement-self-inside in
-    left-first c.self.inside.tree first.result [] first.ensures.left ∙ left-asked c.self.inside.tree 0 first.result c.request.result first.ensures.kept c.request.ensures
+pub invariant_of-self : goal.invariant_of-self
+invariant_of-self c =
+    let code = c.self.inside.course.code in
+    let on = rw c.begin.ensures.code at c.settle.ensures.reached in
+    let stands : StandsFor (machine_of code c.settle.new.self.task) [] = stands_settled code c.begin.new.self.task c.settle.new.self.task [] c.begin.ensures.stands (on []) in
+    rw (c.settle.ensures.code, c.begin.ensures.code) (settled_machine code c.settle.new.self.task [] c.settle.ensures.due stands)
 
 pub returns-clause-stands : goal.returns-clause-stands
 returns-clause-stands c =
-    let first = c.before_statement-self-inside in
-    let start : c.self.inside.begun ≡ 0 = ap (λ (m : MachineData). m.begun) (c.self.view_is ∙ c.requires) in
-    record { goes_on = λ more. rw start (left-first c.self.inside.tree first.result more first.ensures.left) }
+    let code = c.self.inside.course.code in
+    let on = rw c.begin.ensures.code at c.settle.ensures.reached in
+    let stands : StandsFor (machine_of code c.settle.new.self.task) [] = stands_settled code c.begin.new.self.task c.settle.new.self.task [] c.begin.ensures.stands (on []) in
+    rw (c.settle.ensures.code, c.begin.ensures.code) stands

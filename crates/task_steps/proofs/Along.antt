@@ -1,0 +1,39 @@
+-- What holds of a doing holds of one that comes to the same.
+use Rattle.std.proofs.Common.{◌≡◌, refl, sym, ap, ◌∙◌, subst, List, []}
+use Rattle.rapid_model.specs.declared.answer.Answer.{Answer}
+use Rattle.rapid_meaning.specs.Answering.{Outcome, Misfits, joined, performed}
+use Rattle.rapid_meaning.specs.Data.{Data}
+use Rattle.rapid_meaning.specs.Doings.{Doing}
+use Rattle.stack_code.specs.CodeData.{CodeData}
+use Rattle.stack_code.specs.CodeRuns.{exec, fitting_by, no_part}
+use Rattle.stack_code.specs.Confs.{Conf}
+use Rattle.live_code.specs.Leads.{Comes, Runs}
+use Rattle.live_code.specs.Reached.{Reached}
+use Rattle.task_steps.specs.Alike.{Alike}
+
+pub alike_is : (code : CodeData) (m n : Doing Conf) (d : Data) → m ≡ n → Alike code m d n d
+alike_is code m n d e = record { same = λ left. ap (λ (x : Doing Conf). performed (fitting_by code) no_part x d left) e }
+
+pub alike_then : (code : CodeData) (m n o : Doing Conf) (d e f : Data) → Alike code m d n e → Alike code n e o f → Alike code m d o f
+alike_then code m n o d e f a b = record { same = λ left. a.same left ∙ b.same left }
+
+pub runs_along : (code : CodeData) (m n : Doing Conf) (d e : Data) → Alike code m d n e → Runs code m d → Runs code n e
+runs_along code m n d e a run = (run.0, subst (λ (o : Outcome Conf). Comes code run.0 o) (a.same []) run.1)
+
+-- by as many operations
+pub runs_along-count : (code : CodeData) (m n : Doing Conf) (d e : Data) (a : Alike code m d n e) (run : Runs code m d) → (runs_along code m n d e a run).0 ≡ run.0
+unfolding runs_along
+runs_along-count code m n d e a run = refl
+
+pub runs_back : (code : CodeData) (m n : Doing Conf) (d e : Data) → Alike code m d n e → Runs code n e → Runs code m d
+runs_back code m n d e a run = (run.0, subst (λ (o : Outcome Conf). Comes code run.0 o) (sym (a.same [])) run.1)
+
+pub runs_is : (code : CodeData) (m n : Doing Conf) (d : Data) → m ≡ n → Runs code m d → Runs code n d
+runs_is code m n d e run = subst (λ (x : Doing Conf). Runs code x d) e run
+
+pub reached_along : (code : CodeData) (m n : Doing Conf) (d e : Data) (answers : List Answer) → Alike code m d n e → Reached code m d answers → Reached code n e answers
+reached_along code m n d e answers a here = (
+  here.0,
+  λ more left.
+      here.1 more left ∙ ap (λ (o : Outcome Conf). joined o (λ next f rest. exec (fitting_by code) code more next f rest) (λ error f rest. Misfits)) (a.same left),
+)

@@ -1,0 +1,233 @@
+-- The data of a FOR.
+use Rattle.std.proofs.Common.{◌≡◌, refl, ap, ◌∙◌, ℕ, suc, ◌+◌, ℤ, length, Bool, Option, None, Some, if◌then◌else◌}
+use Rattle.std.specs.Option.{option_and_then}
+use Rattle.rapid_num.specs.Arithmetic.{sum_of}
+use Rattle.rapid_model.specs.declared.part_name.PartName.TheVariants as parts
+use Rattle.rapid_model.specs.declared.value.Value.{Value}
+use Rattle.rapid_model.specs.declared.value.Value.TheVariants as values
+use Rattle.machine_stacks.specs.Forms.{as_value}
+use Rattle.typed_trees.specs.declared.datum.Datum.{Datum}
+use Rattle.typed_trees.specs.declared.datum.Datum.TheVariants as datums
+use Rattle.typed_trees.specs.declared.datum.Lvalue.{Lvalue}
+use Rattle.typed_trees.specs.declared.datum.Root.TheVariants as roots
+use Rattle.rapid_meaning.specs.Data.{Data, datum_at, put_at}
+use Rattle.rapid_meaning.specs.Doings.{Doing, Gives, Raises, Asks, Ends, Misfit, Reads, Writes, Does, ◌>>=◌, ◌>>◌, after, or_misfit}
+use Rattle.rapid_meaning.specs.Loops.{has_passed}
+use Rattle.rapid_meaning.specs.Places.{own_place, part_in, put_in, read_value, write_value, writes_at}
+use Rattle.rapid_meaning.specs.Values.{num_in, value_in}
+use Rattle.stack_code.specs.CodeData.{CodeData}
+use Rattle.stack_code.specs.Confs.{Conf}
+use Rattle.stack_code.specs.Steps.{Here, act, counter_at, jumps, past_turn, set_counter_at, stepped, to_next}
+use Rattle.stack_code.specs.declared.op.Op.{Op}
+use Rattle.stack_code.specs.declared.op.Op.TheVariants as ops
+use Rattle.task_steps.specs.Alike.{Alike}
+use Rattle.task_steps.proofs.Along.{alike_is, alike_then}
+use Rattle.task_steps.proofs.Readings.{own_missing, own_there, reads_now, writes_now}
+
+-- what follows what follows
+pub after_after : {A B C : Type 0} (m : Doing A) (f : A → Doing B) (r : ℕ → Doing B) (g : B → Doing C) (h : ℕ → Doing C)
+    → after (after m f r) g h ≡ after m (λ v. after (f v) g h) (λ n. after (r n) g h)
+unfolding after
+after_after (Gives v) f r g h = refl
+after_after (Raises n) f r g h = refl
+after_after (Asks request k) f r g h = λ i. Asks request (λ a. after_after (k a) f r g h i)
+after_after (Ends fate) f r g h = refl
+after_after Misfit f r g h = refl
+after_after (Reads k) f r g h = λ i. Reads (λ d. after_after (k d) f r g h i)
+after_after (Writes d m) f r g h = λ i. Writes d (after_after m f r g h i)
+after_after (Does p k q) f r g h = λ i. Does p (λ flow. after_after (k flow) f r g h i) (λ n. after_after (q n) f r g h i)
+
+-- what it gives follows
+pub after_gives : {A B : Type 0} (v : A) (f : A → Doing B) → (Gives v >>= f) ≡ f v
+unfolding after
+after_gives v f = refl
+
+pub after_misfit : {A B : Type 0} (f : A → Doing B) → (Misfit >>= f) ≡ Misfit
+unfolding after
+after_misfit f = refl
+
+-- all of a datum
+whole_of : (x : Datum) → part_in parts.Whole x ≡ Some x
+whole_of (datums.Plain v) = refl
+whole_of (datums.Mark n) = refl
+whole_of (datums.Shape s) = refl
+whole_of (datums.Place p) = refl
+
+-- the num that a datum is
+pub held_num : (x : Datum) (v : Value) (o : Option ℤ) → as_value x ≡ Some v → num_in v ≡ or_misfit o → (value_in x >>= num_in) ≡ or_misfit o
+unfolding after
+held_num (datums.Plain w) v o e is = let same : w ≡ v = cc in ap num_in same ∙ is
+held_num (datums.Mark n) v o e is = cc
+held_num (datums.Shape s) v o e is = cc
+held_num (datums.Place p) v o e is = cc
+
+pub held_none : (x : Datum) → as_value x ≡ None → (value_in x >>= num_in) ≡ Misfit
+unfolding after
+held_none (datums.Plain w) e = cc
+held_none (datums.Mark n) e = refl
+held_none (datums.Shape s) e = refl
+held_none (datums.Place p) e = refl
+
+-- what is done with a place among the data of the frame
+abbrev reading : (ℤ → Doing Conf) → Option Lvalue → Doing Conf
+reading next o = or_misfit o >>= (λ p. read_value p >>= num_in) >>= next
+
+abbrev reading_datum : (ℤ → Doing Conf) → Option Datum → Doing Conf
+reading_datum next o = or_misfit (option_and_then (part_in parts.Whole) o) >>= value_in >>= num_in >>= next
+
+-- there is no frame
+pub counter_missing : (code : CodeData) (d : Data) (at : ℕ) (next : ℤ → Doing Conf) → length d.frames ≡ 0 → Alike code (counter_at at >>= next) d Misfit d
+unfolding after
+counter_missing code d at next none =
+    alike_then code _ _ _ d d d (reads_now code (λ (e : Data). reading next (own_place at e.frames)) d) (alike_is code _ _ d (ap (reading next) (own_missing d.frames at none)))
+
+-- what the frame has there
+counter_reads : (code : CodeData) (d : Data) (k at : ℕ) (o : Option Datum) (next : ℤ → Doing Conf) → length d.frames ≡ suc k → datum_at (roots.Frame k at) d ≡ o
+    → Alike code (counter_at at >>= next) d (reading_datum next o) d
+unfolding after
+counter_reads code d k at o next some there =
+    alike_then code _ _ _ d d d (reads_now code (λ (e : Data). reading next (own_place at e.frames)) d)
+    (alike_then code _ _ _ d d d (alike_is code _ _ d (ap (reading next) (own_there d.frames k at some)))
+    (alike_then code _ _ _ d d d (reads_now code (λ (e : Data). reading_datum next (datum_at (roots.Frame k at) e)) d) (alike_is code _ _ d (ap (reading_datum next) there))))
+
+pub counter_none : (code : CodeData) (d : Data) (k at : ℕ) (next : ℤ → Doing Conf) → length d.frames ≡ suc k → datum_at (roots.Frame k at) d ≡ None → Alike code (counter_at at >>= next) d Misfit d
+unfolding after
+counter_none code d k at next some none = counter_reads code d k at None next some none
+
+pub counter_there : (code : CodeData) (d : Data) (k at : ℕ) (x : Datum) (o : Option ℤ) (next : ℤ → Doing Conf) → length d.frames ≡ suc k → datum_at (roots.Frame k at) d ≡ Some x
+    → (value_in x >>= num_in) ≡ or_misfit o → Alike code (counter_at at >>= next) d (or_misfit o >>= next) d
+counter_there code d k at x o next some there is =
+    alike_then code _ _ _ d d d (counter_reads code d k at (Some x) next some there)
+    (alike_is code _ _ d
+    (ap (λ (y : Option Datum). or_misfit y >>= value_in >>= num_in >>= next) (whole_of x)
+    ∙ ap (λ (m : Doing ℤ). m >>= next) (ap (λ (m : Doing Value). m >>= num_in) (after_gives x value_in) ∙ is)))
+
+-- a counter that was read
+pub counted_some : (code : CodeData) (d : Data) (at : ℕ) (o : Option ℤ) (v : ℤ) (next : ℤ → Doing Conf)
+    → ((more : ℤ → Doing Conf) → Alike code (counter_at at >>= more) d (or_misfit o >>= more) d) → o ≡ Some v → Alike code (counter_at at >>= next) d (next v) d
+unfolding after
+counted_some code d at o v next reads is = alike_then code _ _ _ d d d (reads next) (alike_is code _ _ d (ap (λ (x : Option ℤ). or_misfit x >>= next) is))
+
+pub counted_none : (code : CodeData) (d : Data) (at : ℕ) (o : Option ℤ) (next : ℤ → Doing Conf)
+    → ((more : ℤ → Doing Conf) → Alike code (counter_at at >>= more) d (or_misfit o >>= more) d) → o ≡ None → Alike code (counter_at at >>= next) d Misfit d
+unfolding after
+counted_none code d at o next reads is = alike_then code _ _ _ d d d (reads next) (alike_is code _ _ d (ap (λ (x : Option ℤ). or_misfit x >>= next) is))
+
+-- a Turn reads three, one after the other
+abbrev turned : Here → ℕ → Bool → Doing Conf
+turned h to b = if b then jumps h to h.conf.stack else to_next h h.conf.stack
+
+abbrev with_step : Here → ℕ → ℤ → ℤ → ℤ → Doing Conf
+with_step h to variable last step = turned h to (has_passed variable last step)
+
+abbrev with_last : Here → ℕ → ℕ → ℤ → ℤ → Doing Conf
+with_last h at to variable last = counter_at (at + 2) >>= with_step h to variable last
+
+abbrev with_variable : Here → ℕ → ℕ → ℤ → Doing Conf
+with_variable h at to variable = counter_at (at + 1) >>= with_last h at to variable
+
+turn_step : (h : Here) (at to : ℕ) (variable last : ℤ) → (counter_at (at + 2) >>= λ step. Gives (has_passed variable last step)) >>= turned h to ≡ with_last h at to variable last
+unfolding after
+turn_step h at to variable last = after_after (counter_at (at + 2)) (λ step. Gives (has_passed variable last step)) Raises (turned h to) Raises
+
+turn_last : (h : Here) (at to : ℕ) (variable : ℤ)
+    → (counter_at (at + 1) >>= λ last. counter_at (at + 2) >>= λ step. Gives (has_passed variable last step)) >>= turned h to ≡ with_variable h at to variable
+unfolding after
+turn_last h at to variable =
+    after_after (counter_at (at + 1)) (λ last. counter_at (at + 2) >>= λ step. Gives (has_passed variable last step)) Raises (turned h to) Raises
+    ∙ λ i. after (counter_at (at + 1)) (λ last. turn_step h at to variable last i) Raises
+
+turn_reads : (h : Here) (at to : ℕ) → act h (ops.Turn at to) ≡ counter_at at >>= with_variable h at to
+unfolding after
+turn_reads h at to =
+    after_after (counter_at at) (λ variable. counter_at (at + 1) >>= λ last. counter_at (at + 2) >>= λ step. Gives (has_passed variable last step)) Raises (turned h to) Raises
+    ∙ λ i. after (counter_at at) (λ variable. turn_last h at to variable i) Raises
+
+abbrev pub Reading : CodeData → Data → ℕ → Option ℤ → Type 0
+Reading code d at o = (more : ℤ → Doing Conf) → Alike code (counter_at at >>= more) d (or_misfit o >>= more) d
+
+pub turn_first : (code : CodeData) (h : Here) (d : Data) (at to : ℕ) (o : Option ℤ) → Reading code d at o → o ≡ None → Alike code (act h (ops.Turn at to)) d Misfit d
+turn_first code h d at to o reads is =
+    alike_then code _ _ _ d d d (alike_is code _ _ d (turn_reads h at to)) (counted_none code d at o (with_variable h at to) reads is)
+
+pub turn_second : (code : CodeData) (h : Here) (d : Data) (at to : ℕ) (o p : Option ℤ) (v : ℤ) → Reading code d at o → o ≡ Some v → Reading code d (at + 1) p → p ≡ None
+    → Alike code (act h (ops.Turn at to)) d Misfit d
+turn_second code h d at to o p v first is second none =
+    alike_then code _ _ _ d d d (alike_is code _ _ d (turn_reads h at to))
+    (alike_then code _ _ _ d d d (counted_some code d at o v (with_variable h at to) first is) (counted_none code d (at + 1) p (with_last h at to v) second none))
+
+pub turn_third : (code : CodeData) (h : Here) (d : Data) (at to : ℕ) (o p q : Option ℤ) (v w : ℤ) → Reading code d at o → o ≡ Some v → Reading code d (at + 1) p → p ≡ Some w
+    → Reading code d (at + 2) q → q ≡ None → Alike code (act h (ops.Turn at to)) d Misfit d
+turn_third code h d at to o p q v w first is second its third none =
+    alike_then code _ _ _ d d d (alike_is code _ _ d (turn_reads h at to))
+    (alike_then code _ _ _ d d d (counted_some code d at o v (with_variable h at to) first is)
+    (alike_then code _ _ _ d d d (counted_some code d (at + 1) p w (with_last h at to v) second its) (counted_none code d (at + 2) q (with_step h to v w) third none)))
+
+pub turn_all : (code : CodeData) (h : Here) (d : Data) (at to : ℕ) (o p q : Option ℤ) (v w x : ℤ) (b : Bool) → Reading code d at o → o ≡ Some v → Reading code d (at + 1) p → p ≡ Some w
+    → Reading code d (at + 2) q → q ≡ Some x → has_passed v w x ≡ b → Alike code (act h (ops.Turn at to)) d (if b then jumps h to h.conf.stack else to_next h h.conf.stack) d
+turn_all code h d at to o p q v w x b first is second its third last so =
+    alike_then code _ _ _ d d d (alike_is code _ _ d (turn_reads h at to))
+    (alike_then code _ _ _ d d d (counted_some code d at o v (with_variable h at to) first is)
+    (alike_then code _ _ _ d d d (counted_some code d (at + 1) p w (with_last h at to v) second its)
+    (alike_then code _ _ _ d d d (counted_some code d (at + 2) q x (with_step h to v w) third last) (alike_is code _ _ d (ap (turned h to) so)))))
+
+-- a Step reads two, and takes the first on
+pub step_first : (code : CodeData) (h : Here) (d : Data) (at to : ℕ) (o : Option ℤ) → Reading code d at o → o ≡ None → Alike code (act h (ops.Step at to)) d Misfit d
+step_first code h d at to o reads is = counted_none code d at o (λ variable. counter_at (at + 2) >>= λ step. stepped h at to (sum_of variable step)) reads is
+
+pub step_second : (code : CodeData) (h : Here) (d : Data) (at to : ℕ) (o p : Option ℤ) (v : ℤ) → Reading code d at o → o ≡ Some v → Reading code d (at + 2) p → p ≡ None
+    → Alike code (act h (ops.Step at to)) d Misfit d
+step_second code h d at to o p v first is second none =
+    alike_then code _ _ _ d d d (counted_some code d at o v (λ variable. counter_at (at + 2) >>= λ step. stepped h at to (sum_of variable step)) first is)
+    (counted_none code d (at + 2) p (λ step. stepped h at to (sum_of v step)) second none)
+
+pub step_all : (code : CodeData) (h : Here) (d : Data) (at to : ℕ) (o p : Option ℤ) (v w : ℤ) → Reading code d at o → o ≡ Some v → Reading code d (at + 2) p → p ≡ Some w
+    → Alike code (act h (ops.Step at to)) d (stepped h at to (sum_of v w)) d
+step_all code h d at to o p v w first is second its =
+    alike_then code _ _ _ d d d (counted_some code d at o v (λ variable. counter_at (at + 2) >>= λ step. stepped h at to (sum_of variable step)) first is)
+    (counted_some code d (at + 2) p w (λ step. stepped h at to (sum_of v step)) second its)
+
+-- its Turn alone is taken as passed
+pub past_other : (h : Here) (o : Option Op) → ((k to : ℕ) → o ≡ Some (ops.Turn k to) → ⊥) → past_turn h o ≡ Misfit
+past_other h None other = refl
+past_other h (Some (ops.Turn k to)) other = absurd (other k to refl)
+past_other h (Some op) other = refl
+
+-- the variable is written
+abbrev writing : ℤ → Doing Conf → Option Lvalue → Doing Conf
+writing n m o = or_misfit o >>= (λ p. write_value p (values.Num n)) >> m
+
+abbrev writing_datum : ℕ → ℕ → Data → Doing Conf → Option Datum → Doing Conf
+writing_datum k at d m o = writes_at (roots.Frame k at) d o >> m
+
+abbrev put_whole : ℤ → Option Datum → Option Datum
+put_whole n o = option_and_then (put_in parts.Whole (datums.Plain (values.Num n))) o
+
+pub set_missing : (code : CodeData) (d : Data) (at : ℕ) (n : ℤ) (m : Doing Conf) → length d.frames ≡ 0 → Alike code (set_counter_at at n >> m) d Misfit d
+unfolding after
+set_missing code d at n m none =
+    alike_then code _ _ _ d d d (reads_now code (λ (e : Data). writing n m (own_place at e.frames)) d) (alike_is code _ _ d (ap (writing n m) (own_missing d.frames at none)))
+
+set_reads : (code : CodeData) (d : Data) (k at : ℕ) (n : ℤ) (o : Option Datum) (m : Doing Conf) → length d.frames ≡ suc k → put_whole n (datum_at (roots.Frame k at) d) ≡ o
+    → Alike code (set_counter_at at n >> m) d (writing_datum k at d m o) d
+unfolding after
+set_reads code d k at n o m some there =
+    alike_then code _ _ _ d d d (reads_now code (λ (e : Data). writing n m (own_place at e.frames)) d)
+    (alike_then code _ _ _ d d d (alike_is code _ _ d (ap (writing n m) (own_there d.frames k at some)))
+    (alike_then code _ _ _ d d d (reads_now code (λ (e : Data). writing_datum k at e m (put_whole n (datum_at (roots.Frame k at) e))) d) (alike_is code _ _ d (ap (writing_datum k at d m) there))))
+
+pub set_none : (code : CodeData) (d : Data) (k at : ℕ) (n : ℤ) (m : Doing Conf) → length d.frames ≡ suc k → datum_at (roots.Frame k at) d ≡ None → Alike code (set_counter_at at n >> m) d Misfit d
+unfolding after
+set_none code d k at n m some none = set_reads code d k at n None m some (ap (put_whole n) none)
+
+pub set_lacks : (code : CodeData) (d : Data) (k at : ℕ) (n : ℤ) (x : Datum) (m : Doing Conf) → length d.frames ≡ suc k → datum_at (roots.Frame k at) d ≡ Some x
+    → put_in parts.Whole (datums.Plain (values.Num n)) x ≡ None → Alike code (set_counter_at at n >> m) d Misfit d
+unfolding after
+set_lacks code d k at n x m some there none = set_reads code d k at n None m some (ap (put_whole n) there ∙ none)
+
+pub set_there : (code : CodeData) (d : Data) (k at : ℕ) (n : ℤ) (x y : Datum) (m : Doing Conf) → length d.frames ≡ suc k → datum_at (roots.Frame k at) d ≡ Some x
+    → put_in parts.Whole (datums.Plain (values.Num n)) x ≡ Some y → Alike code (set_counter_at at n >> m) d m (put_at (roots.Frame k at) y d)
+unfolding after
+set_there code d k at n x y m some there put =
+    alike_then code _ _ _ d d (put_at (roots.Frame k at) y d) (set_reads code d k at n (Some y) m some (ap (put_whole n) there ∙ put))
+    (writes_now code (put_at (roots.Frame k at) y d) m d)

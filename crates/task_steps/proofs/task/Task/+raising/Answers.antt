@@ -1,0 +1,50 @@
+use Rattle.std.proofs.Common.{◌≡◌, sym, ap, ◌∙◌, ℕ, List, ◌∷◌, length, Option, None, Some, arith}
+use Rattle.rapid_meaning.specs.Doings.{Misfit}
+use Rattle.stack_code.specs.Confs.{Saved, Started, Called, Trapped}
+use Rattle.stack_code.specs.Placed.{own_of}
+use Rattle.stack_code.specs.Raising.{handler_in, handler_of}
+use Rattle.live_code.proofs.Leading.{runs_misfit}
+use Rattle.task_steps.specs.Seen.{Seen}
+use Rattle.task_steps.specs.Tasks.{seen_task}
+use Rattle.task_steps.specs.declared.phase.Phase.TheVariants as phases
+use Rattle.task_steps.proofs.Along.{alike_then, runs_along}
+use Rattle.task_steps.proofs.Errors.{not_some, out_called, out_none, out_started, out_trapped, part_stands}
+use Rattle.task_steps.proofs.task.Task.+raising.Goals as goal
+
+pub raise-returns-in-Some-clause-on : goal.raise-returns-in-Some-clause-on
+raise-returns-in-Some-clause-on t c =
+    let none : c.self.inside.frame.failed ≡ None = not_some c.self.inside.frame.failed (sym c.is_some.ensures ∙ c.if-is_some.false) in
+    let there : handler_of c.args.code.now c.self.inside.frame.routine ≡ Some c.in-Some.handler =
+    sym (ap (λ (hs : List (Option ℕ)). handler_in hs c.self.inside.frame.routine) c.marks.ensures.handlers) ∙ (sym c.handler_of.ensures ∙ c.in-Some.is) in
+    let going : c.self.inside.phase ≡ phases.Going = ap (λ (s : Seen). s.phase) c.self.view_is ∙ c.requires.going in
+    rw (← c.self.view_is) (part_stands c.args.code.now c.self.inside c.clear.new.self c.args.owner c.args.error c.in-Some.handler going c.clear.ensures none there)
+
+pub raise_out-raise-requires : goal.raise_out-raise-requires
+raise_out-raise-requires t c =
+    let after = c.leave.new.self.conf in
+    let saved : c.args.self.now.conf.saved ≡ Called after.pc (own_of c.in-Some-Called.owner) after.stack after.frame ∷ after.saved = rw c.in-Some-Called.field-0-is at c.in-Some-Called.ensures.saved in
+    let alike = out_called c.args.code.now c.args.self.now.conf.saved c.args.self.now.data' c.leave.new.self.data' after.pc (own_of c.in-Some-Called.owner) after.stack after.frame after.saved c.args.error saved c.leave.ensures.data in
+    (omega (arith, ap (λ (ss : List Saved). length ss) saved), (c.leave.ensures.phase ∙ c.requires.going, runs_along c.args.code.now _ _ _ _ alike c.requires.runs))
+
+pub raise_out-unreachable-requires : goal.raise_out-unreachable-requires
+raise_out-unreachable-requires t c =
+    let alike = out_none c.args.code.now c.args.self.now.conf.saved c.args.self.now.data' c.args.error c.in-None.ensures.saved in
+    runs_misfit c.args.code.now c.args.self.now.data' (runs_along c.args.code.now _ Misfit _ _ alike c.requires.runs)
+
+pub raise_out-returns-in-Some-Called-clause-on : goal.raise_out-returns-in-Some-Called-clause-on
+raise_out-returns-in-Some-Called-clause-on t c =
+    let after = c.leave.new.self.conf in
+    let saved : c.args.self.now.conf.saved ≡ Called after.pc (own_of c.in-Some-Called.owner) after.stack after.frame ∷ after.saved = rw c.in-Some-Called.field-0-is at c.in-Some-Called.ensures.saved in
+    let alike = out_called c.args.code.now c.args.self.now.conf.saved c.args.self.now.data' c.leave.new.self.data' after.pc (own_of c.in-Some-Called.owner) after.stack after.frame after.saved c.args.error saved c.leave.ensures.data in
+    alike_then c.args.code.now _ _ _ _ _ _ alike c.raise.ensures.on
+
+pub raise_out-returns-in-Some-Started-clause-on : goal.raise_out-returns-in-Some-Started-clause-on
+raise_out-returns-in-Some-Started-clause-on t c =
+    let saved : c.args.self.now.conf.saved ≡ Started ∷ c.leave.new.self.conf.saved = rw c.in-Some-Started.field-0-is at c.in-Some-Started.ensures.saved in
+    out_started c.args.code.now c.args.self.now.conf.saved c.args.self.now.data' (seen_task c.self.inside).data' c.leave.new.self.conf.saved c.args.error saved (ap (λ (s : Seen). s.data') c.self.view_is ∙ c.leave.ensures.data)
+
+pub raise_out-returns-in-Some-Trapped-clause-on : goal.raise_out-returns-in-Some-Trapped-clause-on
+raise_out-returns-in-Some-Trapped-clause-on t c =
+    let after = c.leave.new.self.conf in
+    let saved : c.args.self.now.conf.saved ≡ Trapped after.pc after.frame ∷ after.saved = rw c.in-Some-Trapped.field-0-is at c.in-Some-Trapped.ensures.saved in
+    out_trapped c.args.code.now c.args.self.now.conf.saved c.args.self.now.data' (seen_task c.self-in-Some-Trapped.inside).data' after.pc after.frame after.saved c.args.error saved (ap (λ (s : Seen). s.data') c.self-in-Some-Trapped.view_is ∙ c.leave.ensures.data)

@@ -1,0 +1,46 @@
+-- Doings that come to the same.
+use Rattle.std.specs.Prelude.{◌≡◌, List, [], ◌∷◌, Option, None, Some, Result, Ok, Err}
+use Rattle.rapid_model.specs.declared.answer.Answer.{Answer}
+use Rattle.rapid_model.specs.declared.fate.Fault.{Fault}
+use Rattle.typed_trees.specs.declared.datum.Datum.{Datum}
+use Rattle.rapid_meaning.specs.Answering.{performed}
+use Rattle.rapid_meaning.specs.Data.{Data}
+use Rattle.rapid_meaning.specs.Doings.{Doing, Gives, Misfit, fault}
+use Rattle.stack_code.specs.CodeData.{CodeData}
+use Rattle.stack_code.specs.CodeRuns.{fitting_by, no_part}
+use Rattle.stack_code.specs.Confs.{Conf}
+use Rattle.task_steps.specs.Doing.{came, doing_of, here_of}
+use Rattle.task_steps.specs.Seen.{Seen}
+use Rattle.task_steps.specs.declared.done.Done.{Done}
+
+-- whatever answers come, one doing comes with its data to what another does with its own
+pub record Alike (code : CodeData) (m : Doing Conf) (d : Data) (n : Doing Conf) (e : Data) : Type 0 where
+  pub same : (left : List Answer) → performed (fitting_by code) no_part m d left ≡ performed (fitting_by code) no_part n e left
+
+-- a machine stands where a doing leads
+abbrev pub Follows : CodeData → Doing Conf → Data → Seen → Type 0
+Follows code m d s = Alike code m d (doing_of code s.phase s.conf) s.data'
+
+-- an operation comes to this, where a machine stands
+abbrev pub Turns : CodeData → Doing Conf → Data → Option Done → Seen → Type 0
+Turns code m d done s = Alike code m d (came (here_of code s.conf) done) s.data'
+
+-- a machine with these operands of the routine under way
+abbrev pub with_stack : List Datum → Seen → Seen
+with_stack stack s = record s { conf = record s.conf { stack = stack } }
+
+-- what follows an operand that was popped, if it was there
+abbrev pub popped : {A : Type 0} → Option A → List Datum → (A → List Datum → Doing Conf) → Doing Conf
+popped None rest next = Misfit
+popped (Some x) rest next = next x rest
+
+-- a test of a value that may be a fault
+abbrev pub tested : {A : Type 0} → Option (Result A Fault) → Doing A
+tested None = Misfit
+tested (Some (Ok x)) = Gives x
+tested (Some (Err why)) = fault why
+
+-- operands with one on top, or none where there was none
+abbrev pub heaped : Option Datum → List Datum → List Datum
+heaped None rest = []
+heaped (Some x) rest = x ∷ rest

@@ -1,0 +1,83 @@
+-- What a machine does next, by how far it has come.
+use Rattle.std.specs.Prelude.{ℕ, false, ◌∷◌, Option, None, Some}
+use Rattle.std.specs.Option.{option_map, unwrap_or}
+use Rattle.rapid_model.specs.declared.answer.Answer.{Answer}
+use Rattle.rapid_model.specs.declared.request.Request.TheVariants.{Rise}
+use Rattle.typed_trees.specs.declared.datum.Datum.TheVariants.{Plain, Mark}
+use Rattle.rapid_meaning.specs.Doings.{Doing, Gives, Asks, Ends, Misfit, ◌>>◌, change, tells, when_ok}
+use Rattle.rapid_meaning.specs.Functions.{when_at, when_bit}
+use Rattle.rapid_meaning.specs.Interrupts.{when_connected, when_known, when_ordered}
+use Rattle.rapid_meaning.specs.Meetings.{when_arrived}
+use Rattle.rapid_meaning.specs.Moves.{cap_of, move_from, setpoints, when_given}
+use Rattle.rapid_meaning.specs.Places.{store, when_read, when_tested}
+use Rattle.rapid_meaning.specs.Signals.{when_written}
+use Rattle.rapid_meaning.specs.Values.{of_bit}
+use Rattle.rapid_meaning.specs.Zones.{when_numbered, when_zoned}
+use Rattle.stack_code.specs.CodeData.{CodeData}
+use Rattle.stack_code.specs.Confs.{Conf}
+use Rattle.stack_code.specs.Entering.{started}
+use Rattle.stack_code.specs.Placed.{Own, own_of, owner_at}
+use Rattle.stack_code.specs.Raising.{raised_out}
+use Rattle.stack_code.specs.Steps.{Here, as_truth, does, fails, jumps, looked, pushes, to_next}
+use Rattle.task_steps.specs.declared.done.Done.{Done}
+use Rattle.task_steps.specs.declared.done.Done.TheVariants as dones
+use Rattle.task_steps.specs.declared.pending.Pending.{Pending}
+use Rattle.task_steps.specs.declared.pending.Pending.TheVariants as pendings
+use Rattle.task_steps.specs.declared.phase.Phase.{Phase}
+use Rattle.task_steps.specs.declared.phase.Phase.TheVariants as phases
+
+-- the owner of a place outside the code
+abbrev pub no_own : Own
+no_own = record { retry = 0; next = 0; at = record { «module» = 0; byte = 0 } }
+
+abbrev pub own_at : CodeData → ℕ → Own
+own_at code pc = unwrap_or (option_map own_of (owner_at code.owners pc)) no_own
+
+-- code where it stands
+abbrev pub here_of : CodeData → Conf → Here
+here_of code c = record { code = code; own = own_at code c.pc; conf = c }
+
+-- what an operation does with the answer that it waits for
+abbrev pub answered : Here → Pending → Answer → Doing Conf
+answered h pendings.Looked a = looked h a
+answered h pendings.Read a = pushes h h.conf.stack (λ x. x) (when_read a)
+answered h pendings.Told a = does h h.conf.stack (when_ok a)
+answered h pendings.Tested a = pushes h h.conf.stack as_truth (when_tested a)
+answered h pendings.Sensed a = pushes h h.conf.stack (λ bit. Plain (of_bit bit)) (when_bit a)
+answered h pendings.Written a = does h h.conf.stack (when_written a)
+answered h pendings.Arrived a = pushes h h.conf.stack as_truth (when_arrived a)
+answered h pendings.Located a = pushes h h.conf.stack Plain (when_at a)
+answered h (pendings.Departed departure) a = does h h.conf.stack (move_from departure.target (cap_of departure.speed) a)
+answered h (pendings.Moved moving) a = does h h.conf.stack (when_given (setpoints moving.plan.start moving.plan.target moving.plan.count moving.left) a)
+answered h (pendings.Connected place) a = does h h.conf.stack (when_connected place a)
+answered h pendings.Ordered a = does h h.conf.stack (when_ordered a)
+answered h pendings.Known a = does h h.conf.stack (when_known a)
+answered h (pendings.Supervised place) a = does h h.conf.stack (when_numbered place a)
+answered h pendings.Zoned a = does h h.conf.stack (when_zoned a)
+answered h (pendings.Freed place) a = does h h.conf.stack (when_zoned a >> store place (Mark 0))
+answered h (pendings.Held to) a = when_ok a >> (tells Rise >> jumps h to h.conf.stack)
+answered h (pendings.Risen to) a = when_ok a >> jumps h to h.conf.stack
+answered h pendings.Left a = when_ok a >> (change (λ d. record d { trapped = false }) >> Gives h.conf)
+
+-- what an operation comes to
+abbrev pub effect : Here → Done → Doing Conf
+effect h dones.Next = to_next h h.conf.stack
+effect h (dones.Push x) = to_next h (x ∷ h.conf.stack)
+effect h (dones.Jump to) = jumps h to h.conf.stack
+effect h dones.Stay = Gives h.conf
+effect h (dones.Raise error) = fails h error
+effect h (dones.Escape error) = raised_out h.code h.conf.saved error
+effect h (dones.Ask request then) = Asks request (answered h then)
+effect h (dones.End fate) = Ends fate
+
+-- no operation of live code lacks its operands
+abbrev pub came : Here → Option Done → Doing Conf
+came h None = Misfit
+came h (Some done) = effect h done
+
+-- what a machine does, as far as it has come
+abbrev pub doing_of : CodeData → Phase → Conf → Doing Conf
+doing_of code phases.New c = started code
+doing_of code phases.Going c = Gives c
+doing_of code (phases.Asking request then) c = Asks request (answered (here_of code c) then)
+doing_of code (phases.Over fate) c = Ends fate

@@ -1,0 +1,7 @@
+pub mod Savings
+pub mod Seen
+pub mod Own
+pub mod Doing
+pub mod Alike
+pub mod Tasks
+pub mod Loading

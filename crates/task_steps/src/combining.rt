@@ -1,0 +1,86 @@
+//! Operations that make a value of others.
+#![tactic(auto, unfolding(rapid_meaning::specs::Doings::after))]
+
+ghost use Rattle.std.specs.Prelude.{◌≡◌, true, if◌then◌else◌};
+ghost use Rattle.raw_trees.specs.declared.raw_expr.Operator.{Operator};
+ghost use Rattle.rapid_operators.specs.Operators as operators;
+ghost use Rattle.typed_trees.specs.declared.datum.Datum.TheVariants.{Plain};
+ghost use Rattle.rapid_meaning.specs.Statements as statements;
+ghost use Rattle.rapid_meaning.specs.Values.{applied, opposite, with_sign};
+ghost use Rattle.stack_code.specs.Steps.{Here, does, jumps, pushes, to_next};
+ghost use Rattle.task_steps.specs.Doing.{came};
+
+use crate::done::Done;
+use crate::shown::{num_of, truth_of};
+use rapid_model::{Fate, Fault, Value};
+use rapid_operators::{Applied, apply, negated};
+use raw_trees::Operator;
+
+/// An operator with its two operands.
+pub(crate) fn combined(operator: Operator, left: &Value, right: &Value) -> Option<Done>
+    ensures { (h : Here) → pushes h h.conf.stack Plain (applied (operators.apply operator left.now right.now)) ≡ came h result }
+{
+    match apply(operator, left, right) {
+        Applied::Gives(value) => Some(Done::value(value)),
+        Applied::Raises(error) => Some(Done::Raise(error)),
+        Applied::OutOfRange => Some(Done::End(Fate::Fault(Fault::NumRange))),
+        Applied::Unfit => None,
+    }
+}
+
+/// A leading minus.
+pub(crate) fn minus(value: &Value) -> Option<Done>
+    ensures { (h : Here) → pushes h h.conf.stack Plain (with_sign true value.now) ≡ came h result }
+{
+    let number = num_of(value)?;
+    Some(Done::value(Value::Num(negated(number))))
+}
+
+/// NOT.
+pub(crate) fn not(value: &Value) -> Option<Done>
+    ensures { (h : Here) → pushes h h.conf.stack Plain (opposite value.now) ≡ came h result }
+{
+    let truth = truth_of(value)?;
+    Some(Done::value(Value::Bool(!truth)))
+}
+
+/// RAISE with a number, which is whole and from 1 to 90 (RAPID Instructions: RAISE).
+pub(crate) fn raised(value: &Value) -> Option<Done>
+    ensures { (h : Here) → does h h.conf.stack (statements.raised value.now) ≡ came h result }
+{
+    let thousandths = num_of(value)?.thousandths();
+    if thousandths % 1000 == 0 && (1000..=90_000).contains(&thousandths) {
+        Some(Done::Raise((thousandths / 1000) as u8))
+    } else {
+        Some(Done::End(Fate::Fault(Fault::RaiseRange)))
+    }
+}
+
+/// Jumps where a bool is TRUE.
+pub(crate) fn jumped(truth: bool, to: u32) -> Option<Done>
+    ensures { (h : Here) → (if truth then jumps h to h.conf.stack else to_next h h.conf.stack) ≡ came h result }
+{
+    if truth {
+        Some(Done::Jump(to))
+    } else {
+        Some(Done::Next)
+    }
+}
+
+/// Jumps where a bool is FALSE.
+pub(crate) fn gone_on(truth: bool, to: u32) -> Option<Done>
+    ensures { (h : Here) → (if truth then to_next h h.conf.stack else jumps h to h.conf.stack) ≡ came h result }
+{
+    if truth {
+        Some(Done::Next)
+    } else {
+        Some(Done::Jump(to))
+    }
+}
+
+/// Goes on.
+pub(crate) fn dropped() -> Option<Done>
+    ensures { (h : Here) → to_next h h.conf.stack ≡ came h result }
+{
+    Some(Done::Next)
+}

@@ -1,0 +1,53 @@
+//! What each operation of a task's stack code does to the task.
+#![tactic(auto)]
+
+mod answers;
+mod calling;
+mod choosing;
+mod combining;
+mod committing;
+mod departure;
+mod done;
+mod failed;
+mod first_counts;
+mod indexing;
+mod keeping;
+mod left;
+mod living;
+mod loaded;
+mod looking;
+mod looping;
+mod making;
+mod motion;
+mod moving;
+mod operating;
+mod operations;
+mod owning;
+mod parts;
+mod pending;
+mod phase;
+mod pops;
+mod pushing;
+mod raising;
+mod reading;
+mod replying;
+mod requests;
+mod returning;
+mod row;
+mod running;
+mod shaping;
+mod shown;
+mod stepping;
+mod storing;
+mod syncing;
+mod task;
+mod testing;
+
+pub use departure::Departure;
+pub use failed::Failed;
+pub use loaded::LoadedCode;
+pub use moving::Moving;
+pub use pending::Pending;
+pub use phase::Phase;
+pub use running::Running;
+pub use task::Task;

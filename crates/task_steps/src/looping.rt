@@ -1,0 +1,128 @@
+//! FOR (RAPID Kernel, FOR). Its variable, last value and step are three data of the frame.
+
+ghost use Rattle.std.specs.Prelude.{◌≡◌, ℤ, Option, slice_get};
+ghost use Rattle.typed_trees.specs.declared.datum.Datum.{Datum};
+ghost use Rattle.rapid_meaning.specs.Doings.{Doing, Raises, after, or_misfit};
+ghost use Rattle.rapid_meaning.specs.Loops.{has_passed};
+ghost use Rattle.rapid_meaning.specs.Values.{num_in, value_in};
+ghost use Rattle.stack_code.specs.CodeData.{CodeData};
+ghost use Rattle.stack_code.specs.Confs.{Conf};
+ghost use Rattle.stack_code.specs.Steps.{act, counter_at, jumps, past_turn, set_counter_at, stepped};
+ghost use Rattle.stack_code.specs.declared.op.Op.TheVariants as ops;
+ghost use Rattle.task_steps.specs.Alike.{Alike, Turns};
+ghost use Rattle.task_steps.specs.Doing.{came, here_of};
+
+use crate::done::Done;
+use crate::parts::put_in;
+use crate::shown::num_of;
+use crate::task::Task;
+use live_code::Code;
+use machine_stacks::Held;
+use rapid_model::{PartName, Value};
+use rapid_num::Num;
+use stack_code::Op;
+
+/// Whether a FOR has passed its last value; a step of zero counts up.
+fn has_passed(variable: Num, last: Num, step: Num) -> bool
+    ensures { result ≡ has_passed variable last step }
+{
+    if step.thousandths() < 0 {
+        variable.thousandths() < last.thousandths()
+    } else {
+        last.thousandths() < variable.thousandths()
+    }
+}
+
+/// The num that a datum is.
+fn num_held(held: &Held) -> Option<Num>
+    ensures { after (value_in held.now) num_in Raises ≡ or_misfit result }
+{
+    match held.value() {
+        Some(value) => num_of(value),
+        None => None,
+    }
+}
+
+/// Where the Turn of a FOR that is taken as passed jumps.
+fn past_turn(code: &Code, to: u32) -> Option<Done>
+    ensures { (c : Conf) → past_turn (here_of code.now c) (slice_get code.now.ops to) ≡ came (here_of code.now c) result }
+{
+    match code.ops().get(to as usize) {
+        Some(Op::Turn(_, behind)) => Some(Done::Jump(*behind)),
+        _ => None,
+    }
+}
+
+impl Task {
+    /// One of the data of a FOR, if it is there and a num.
+    fn counter(&self, at: usize) -> Option<Num>
+        ensures { (code : CodeData) (next : ℤ → Doing Conf) → Alike code (after (counter_at at) next Raises) self.now.data' (after (or_misfit result) next Raises) self.now.data' }
+    {
+        let count = self.frames.count();
+        if count == 0 {
+            return None;
+        }
+        match self.frames.get(count - 1, at) {
+            Some(held) => num_held(held),
+            None => None,
+        }
+    }
+
+    /// Tests whether the FOR whose variable is there has passed its last value, and then jumps.
+    pub(crate) fn turn(&self, at: u32, to: u32) -> Option<Done>
+        ensures { (code : CodeData) → Turns code (act (here_of code self.now.conf) (ops.Turn at to)) self.now.data' result self.now }
+    {
+        let at = at as usize;
+        let variable = self.counter(at)?;
+        let last = self.counter(at + 1)?;
+        let step = self.counter(at + 2)?;
+        if has_passed(variable, last, step) {
+            Some(Done::Jump(to))
+        } else {
+            Some(Done::Next)
+        }
+    }
+
+    /// Takes a FOR on by its step; past the range of num its Turn is taken as passed.
+    pub(crate) fn step_on(&mut self, code: &Code, at: u32, to: u32) -> Option<Done>
+        ensures phase { self.new.phase ≡ self.old.phase }
+        ensures room { self.new.room ≡ self.old.room }
+        ensures conf { self.new.conf ≡ self.old.conf }
+        ensures turns { Turns code.now (act (here_of code.now self.old.conf) (ops.Step at to)) self.old.data' result self.new }
+    {
+        let variable = self.counter(at as usize)?;
+        let step = self.counter(at as usize + 2)?;
+        self.counted(code, at, to, variable.add(step))
+    }
+
+    /// The variable of a FOR goes on to a num that is in range, or its Turn is taken as passed.
+    fn counted(&mut self, code: &Code, at: u32, to: u32, next: Option<Num>) -> Option<Done>
+        ensures phase { self.new.phase ≡ self.old.phase }
+        ensures room { self.new.room ≡ self.old.room }
+        ensures conf { self.new.conf ≡ self.old.conf }
+        ensures turns { Turns code.now (stepped (here_of code.now self.old.conf) at to next) self.old.data' result self.new }
+    {
+        match next {
+            Some(next) => self.set_counter(at, to, next),
+            None => past_turn(code, to),
+        }
+    }
+
+    /// The variable of a FOR is this num, and the task goes on there.
+    fn set_counter(&mut self, at: u32, to: u32, next: Num) -> Option<Done>
+        ensures phase { self.new.phase ≡ self.old.phase }
+        ensures room { self.new.room ≡ self.old.room }
+        ensures conf { self.new.conf ≡ self.old.conf }
+        ensures turns { (code : CodeData) → Turns code (after (set_counter_at at next) (λ _. jumps (here_of code self.old.conf) to self.old.conf.stack) Raises) self.old.data' result self.new }
+    {
+        let count = self.frames.count();
+        if count == 0 {
+            return None;
+        }
+        let new = Held::of_value(Value::Num(next));
+        let old = self.frames.get(count - 1, at as usize)?;
+        let held = put_in(PartName::Whole, &new, old)?;
+        self.frames.put(count - 1, at as usize, held);
+        Some(Done::Jump(to))
+    }
+}

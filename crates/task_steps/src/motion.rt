@@ -1,0 +1,71 @@
+//! Setpoints of moves.
+#![tactic(auto, unfolding(rapid_meaning::specs::Doings::after, rapid_meaning::specs::Moves::setpoints))]
+
+ghost use Rattle.std.specs.Prelude.{◌≡◌, ◌≤◌, IsTrue, pos};
+ghost use Rattle.rapid_num.specs.Reach.{is_position};
+ghost use Rattle.rapid_model.specs.Fits.{Fitting, fits_request};
+ghost use Rattle.rapid_model.specs.declared.request.Request.{Request};
+ghost use Rattle.rapid_meaning.specs.Moves.{cap_of, move_from, setpoints, when_given};
+ghost use Rattle.stack_code.specs.Steps.{Here, does};
+ghost use Rattle.task_steps.specs.Doing.{came};
+
+use crate::departure::Departure;
+use crate::done::Done;
+use crate::moving::Moving;
+use crate::pending::Pending;
+use joint_planner::{Plan, plan};
+use rapid_model::{Answer, Fate, Fault, Request};
+use rapid_num::Num;
+
+/// The most thousandths of a degree that an axis moves in one setpoint.
+fn cap_of(speed: Num) -> i64
+    ensures { result ≡ pos (cap_of speed) }
+{
+    (speed.thousandths().abs() / 1000).max(1)
+}
+
+/// The last so many setpoints of a plan.
+fn setpoints_of(plan: Plan, left: u32) -> Option<Done>
+    requires { left ≤ plan.count }
+    ensures { (h : Here) → does h h.conf.stack (setpoints plan.start plan.target plan.count left) ≡ came h result }
+{
+    if left == 0 {
+        return Some(Done::Next);
+    }
+    let left = left - 1;
+    let to = plan.at(plan.count() - left);
+    Some(Done::Ask {
+        request: Request::Setpoint { to },
+        then: Pending::Moved(Moving { plan, left }),
+    })
+}
+
+/// The arm is there: its move begins. A position answers a request alone.
+pub(crate) fn departed(departure: Departure, answer: Answer) -> Option<Done>
+    requires fits { (by : Fitting) × (request : Request) × IsTrue (fits_request by request answer) }
+    ensures { (h : Here) → does h h.conf.stack (move_from departure.target (cap_of departure.speed) answer) ≡ came h result }
+{
+    match answer {
+        Answer::At(start) => {
+            let Departure { target, speed } = departure;
+            let plan = plan(&start, &target, cap_of(speed));
+            let count = plan.count();
+            setpoints_of(plan, count)
+        }
+        _ => None,
+    }
+}
+
+/// A setpoint was given, or a zone stopped the move.
+pub(crate) fn moved(moving: Moving, answer: Answer) -> Option<Done>
+    ensures { (h : Here) → does h h.conf.stack (when_given (setpoints moving.plan.start moving.plan.target moving.plan.count moving.left) answer) ≡ came h result }
+{
+    match answer {
+        Answer::Given => {
+            let Moving { plan, left } = moving;
+            setpoints_of(plan, left)
+        }
+        Answer::Stopped(_) => Some(Done::End(Fate::Fault(Fault::ZoneStop))),
+        _ => None,
+    }
+}

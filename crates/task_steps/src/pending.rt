@@ -1,0 +1,46 @@
+use crate::departure::Departure;
+use crate::moving::Moving;
+use typed_trees::Lvalue;
+
+/// What an operation that has asked does with the answer. Its operands are popped. Places of operations count from 0.
+#[derive(Drop)]
+pub enum Pending {
+    /// A Look: it goes on, or a trap begins.
+    Looked,
+    /// Pushes the value that was read.
+    Read,
+    /// Goes on.
+    Told,
+    /// Pushes whether a bool was FALSE.
+    Tested,
+    /// Pushes a signal's value.
+    Sensed,
+    /// A signal was written, or is tied to a zone.
+    Written,
+    /// Pushes whether the tasks of a meeting have come.
+    Arrived,
+    /// Pushes the arm's position.
+    Located,
+    /// A move begins, from where the arm is.
+    Departed(Departure),
+    /// A setpoint of a move was asked.
+    Moved(Moving),
+    /// Stores the number of an interrupt.
+    Connected(Lvalue),
+    /// An order was given.
+    Ordered,
+    /// An interrupt sleeps, wakes or is deleted.
+    Known,
+    /// Stores the number of a zone.
+    Supervised(Lvalue),
+    /// A zone is supervised again or no longer.
+    Zoned,
+    /// A zone was given up: stores 0.
+    Freed(Lvalue),
+    /// A wait was held: it rises, and goes on at this place.
+    Held(u32),
+    /// A wait has risen, and goes on at this place.
+    Risen(u32),
+    /// A trap has ended: what it interrupted goes on.
+    Left,
+}

@@ -1,0 +1,93 @@
+//! Errors (RAPID Overview, error recovery).
+
+ghost use Rattle.std.specs.Prelude.{◌≡◌, ◌≢◌, Some, []};
+ghost use Rattle.live_code.specs.Leads.{Runs};
+ghost use Rattle.rapid_meaning.specs.Data.{below_first};
+ghost use Rattle.stack_code.specs.Placed.{own_of};
+ghost use Rattle.stack_code.specs.Raising.{raised, raised_out};
+ghost use Rattle.task_steps.specs.Alike.{Follows};
+ghost use Rattle.task_steps.specs.Savings.{left_by};
+ghost use Rattle.task_steps.specs.declared.left.Left.TheVariants as lefts;
+ghost use Rattle.task_steps.specs.declared.phase.Phase.TheVariants as phases;
+
+use crate::failed::Failed;
+use crate::left::Left;
+use crate::phase::Phase;
+use crate::row::Row;
+use crate::task::Task;
+use error_recovery::handler_of;
+use live_code::Code;
+use rapid_model::{Fate, Fault};
+use stack_code::Owner;
+
+impl Task {
+    /// The routine under way is left, and the one below it, if there is one, stands where it waited. `None` where there is
+    /// nothing below.
+    pub(crate) fn leave(&mut self) -> Option<Left>
+        ensures saved { self.old.conf.saved ≡ left_by result self.new.conf }
+        ensures data { self.new.data' ≡ record self.old.data' { frames = below_first self.old.data'.frames } }
+        ensures phase { self.new.phase ≡ self.old.phase }
+        ensures room { self.new.room ≡ self.old.room }
+        ensures trapped { result ≡ Some lefts.Trapped → self.new.conf.stack ≡ [] }
+    {
+        self.frames.leave();
+        let row = self.rows.pop()?;
+        self.operands.close();
+        match row {
+            Row::Started => Some(Left::Started),
+            Row::Called { at, owner, frame } => {
+                self.pc = at;
+                self.frame = frame;
+                Some(Left::Called(owner))
+            }
+            Row::Trapped { at, frame } => {
+                self.operands.clear();
+                self.pc = at;
+                self.frame = frame;
+                Some(Left::Trapped)
+            }
+        }
+    }
+
+    /// An error of a statement of the routine under way goes into its ERROR part, where it has one and is not in it; else it
+    /// leaves the routine.
+    #[cycle(raising)]
+    pub(crate) fn raise(&mut self, code: &Code, owner: Owner, error: u8)
+        requires going { self.old.phase ≡ phases.Going }
+        requires runs { Runs code.now (raised code.now (own_of owner) self.old.conf.frame self.old.conf.saved error) self.old.data' }
+        ensures room { self.new.room ≡ self.old.room }
+        ensures begun { self.new.phase ≢ phases.New }
+        ensures on { Follows code.now (raised code.now (own_of owner) self.old.conf.frame self.old.conf.saved error) self.old.data' self.new }
+    {
+        if self.frame.failed.is_some() {
+            return self.raise_out(code, error);
+        }
+        match handler_of(code.marks(), self.frame.routine) {
+            Some(handler) => {
+                self.operands.clear();
+                self.frame.failed = Some(Failed { owner, error });
+                self.errno = error;
+                self.pc = handler;
+            }
+            None => self.raise_out(code, error),
+        }
+    }
+
+    /// An error leaves the routine under way: it is one of the statement that called it, and ends the task where that was the
+    /// first one or a trap.
+    #[cycle(raising)]
+    pub(crate) fn raise_out(&mut self, code: &Code, error: u8)
+        requires going { self.old.phase ≡ phases.Going }
+        requires runs { Runs code.now (raised_out code.now self.old.conf.saved error) self.old.data' }
+        ensures room { self.new.room ≡ self.old.room }
+        ensures begun { self.new.phase ≢ phases.New }
+        ensures on { Follows code.now (raised_out code.now self.old.conf.saved error) self.old.data' self.new }
+    {
+        match self.leave() {
+            Some(Left::Called(owner)) => self.raise(code, owner, error),
+            Some(Left::Started) => self.phase = Phase::Over(Fate::Fault(Fault::Unhandled(error))),
+            Some(Left::Trapped) => self.phase = Phase::Over(Fate::Fault(Fault::Unhandled(error))),
+            None => unreachable!(),
+        }
+    }
+}

@@ -1,0 +1,205 @@
+//! Operations that ask, with their operands.
+#![tactic(auto, unfolding(rapid_meaning::specs::Doings::after))]
+
+ghost use Rattle.std.specs.Prelude.{◌≡◌, ◌∷◌, Some};
+ghost use Rattle.rapid_model.specs.declared.fate.Fate.TheVariants as fates;
+ghost use Rattle.rapid_model.specs.declared.request.Request.TheVariants as asked;
+ghost use Rattle.rapid_model.specs.declared.tail.Tail.TheVariants as tails;
+ghost use Rattle.rapid_model.specs.declared.watched.Watched.TheVariants as watches;
+ghost use Rattle.typed_trees.specs.declared.datum.Datum.TheVariants.{Plain, Mark};
+ghost use Rattle.typed_trees.specs.declared.datum.Lvalue.{Lvalue};
+ghost use Rattle.rapid_meaning.specs.Doings.{Asks, Raises, after, tells};
+ghost use Rattle.rapid_meaning.specs.Functions.{read_signal, when_at};
+ghost use Rattle.rapid_meaning.specs.Interrupts.{asks_of_number, connect, order};
+ghost use Rattle.rapid_meaning.specs.Moves.{move};
+ghost use Rattle.rapid_meaning.specs.Places.{store};
+ghost use Rattle.rapid_meaning.specs.Signals.{write_signal};
+ghost use Rattle.rapid_meaning.specs.Values.{bit_in, num_in, of_bit, target_in, text_in, tool_speed_in, truth_in};
+ghost use Rattle.rapid_meaning.specs.Zones.{asks_of_zone, defined, supervise};
+ghost use Rattle.stack_code.specs.Steps.{Here, does, pushes};
+ghost use Rattle.task_steps.specs.Doing.{came};
+ghost use Rattle.task_steps.specs.declared.done.Done.TheVariants as dones;
+
+use crate::departure::Departure;
+use crate::done::Done;
+use crate::pending::Pending;
+use crate::shown::{bit_of, num_of, target_of, text_of, tool_speed_of, truth_of};
+use rapid_model::{Fate, Fault, Request, Tail, Value, Watched};
+use rapid_num::Shape;
+use typed_trees::Lvalue;
+
+fn ask(request: Request, then: Pending) -> Option<Done>
+    ensures { result ≡ Some (dones.Ask request then) }
+{
+    Some(Done::Ask { request, then })
+}
+
+fn end(why: Fault) -> Option<Done>
+    ensures { result ≡ Some (dones.End (fates.Fault why)) }
+{
+    Some(Done::End(Fate::Fault(why)))
+}
+
+/// Reads a signal.
+pub(crate) fn signal_read(signal: u32) -> Option<Done>
+    ensures { (h : Here) → pushes h h.conf.stack (λ bit. Plain (of_bit bit)) (read_signal signal) ≡ came h result }
+{
+    ask(Request::ReadS { signal }, Pending::Sensed)
+}
+
+/// Writes a signal.
+pub(crate) fn signal_written(signal: u32, value: &Value) -> Option<Done>
+    ensures { (h : Here) → does h h.conf.stack (after (bit_in value.now) (λ bit. write_signal signal bit) Raises) ≡ came h result }
+{
+    match bit_of(value)? {
+        Ok(bit) => ask(Request::WriteS { signal, value: bit }, Pending::Written),
+        Err(why) => end(why),
+    }
+}
+
+/// Tests that a num is a signal's value; the num stays.
+pub(crate) fn bit_kept(value: Value) -> Option<Done>
+    ensures { (h : Here) → does (record h { conf = record h.conf { stack = Plain value ∷ h.conf.stack } }) (Plain value ∷ h.conf.stack) (bit_in value) ≡ came h result }
+{
+    match bit_of(&value)? {
+        Ok(_) => Some(Done::value(value)),
+        Err(why) => end(why),
+    }
+}
+
+/// Where is the arm?
+pub(crate) fn position() -> Option<Done>
+    ensures { (h : Here) → pushes h h.conf.stack Plain (Asks asked.Position when_at) ≡ came h result }
+{
+    ask(Request::Position, Pending::Located)
+}
+
+/// A move to a target at a speed.
+pub(crate) fn move_to(target: &Value, speed: &Value) -> Option<Done>
+    ensures { (h : Here) → does h h.conf.stack (after (target_in target.now) (λ joints. after (tool_speed_in speed.now) (λ n. move joints n) Raises) Raises) ≡ came h result }
+{
+    let target = target_of(target)?;
+    let speed = tool_speed_of(speed)?;
+    if !target.is_reachable() {
+        return end(Fault::JointRange);
+    }
+    if speed.thousandths() <= 0 {
+        return end(Fault::Speed);
+    }
+    ask(
+        Request::Position,
+        Pending::Departed(Departure { target, speed }),
+    )
+}
+
+/// Connects an interrupt with a trap; the old number is that of its variable, at this place.
+pub(crate) fn connected(place: Lvalue, old: u8, trap: u32) -> Option<Done>
+    ensures { (h : Here) → does h h.conf.stack (connect place old trap) ≡ came h result }
+{
+    ask(Request::Connect { old, trap }, Pending::Connected(place))
+}
+
+/// Orders an interrupt on a signal's value.
+pub(crate) fn ordered_on_signal(
+    number: u8,
+    signal: u32,
+    value: &Value,
+    single: bool,
+) -> Option<Done>
+    ensures { (h : Here) → does h h.conf.stack (after (bit_in value.now) (λ bit. order number (watches.Signal signal bit) single) Raises) ≡ came h result }
+{
+    match bit_of(value)? {
+        Ok(bit) => {
+            let on = Watched::Signal { signal, value: bit };
+            ask(Request::Order { number, on, single }, Pending::Ordered)
+        }
+        Err(why) => end(why),
+    }
+}
+
+/// Orders an interrupt on a persistent.
+pub(crate) fn ordered_on_pers(number: u8, pers: u32, single: bool) -> Option<Done>
+    ensures { (h : Here) → does h h.conf.stack (order number (watches.Pers pers) single) ≡ came h result }
+{
+    let on = Watched::Pers { pers };
+    ask(Request::Order { number, on, single }, Pending::Ordered)
+}
+
+/// Asks of an interrupt.
+pub(crate) fn known(request: Request) -> Option<Done>
+    ensures { (h : Here) → does h h.conf.stack (asks_of_number request) ≡ came h result }
+{
+    ask(request, Pending::Known)
+}
+
+/// Tells.
+pub(crate) fn told(request: Request) -> Option<Done>
+    ensures { (h : Here) → does h h.conf.stack (tells request) ≡ came h result }
+{
+    ask(request, Pending::Told)
+}
+
+/// Asks of a zone.
+pub(crate) fn zoned(request: Request) -> Option<Done>
+    ensures { (h : Here) → does h h.conf.stack (asks_of_zone request) ≡ came h result }
+{
+    ask(request, Pending::Zoned)
+}
+
+/// Gives a zone up, whose variable is at this place.
+pub(crate) fn freed(place: Lvalue, zone: u8) -> Option<Done>
+    ensures { (h : Here) → does h h.conf.stack (after (asks_of_zone (asked.ZoneFree zone)) (λ _. store place (Mark 0)) Raises) ≡ came h result }
+{
+    ask(Request::ZoneFree { zone }, Pending::Freed(place))
+}
+
+/// Supervises a shape, which was defined; the old number is that of the zone's variable, at this place.
+pub(crate) fn supervised(
+    place: Lvalue,
+    old: u8,
+    temporary: bool,
+    shape: Option<Shape>,
+) -> Option<Done>
+    ensures { (h : Here) → does h h.conf.stack (after (defined shape) (λ it. supervise place old temporary it) Raises) ≡ came h result }
+{
+    match shape {
+        Some(shape) => ask(
+            Request::ZoneSet {
+                old,
+                temporary,
+                shape,
+            },
+            Pending::Supervised(place),
+        ),
+        None => end(Fault::ZoneShape),
+    }
+}
+
+/// Tells the operator a text.
+pub(crate) fn said(text: Value) -> Option<Done>
+    ensures { (h : Here) → does h h.conf.stack (after (text_in text) (λ it. tells (asked.Say it tails.None)) Raises) ≡ came h result }
+{
+    let text = text_of(text)?;
+    told(Request::Say {
+        text,
+        tail: Tail::None,
+    })
+}
+
+/// Tells the operator a text with a num behind it.
+pub(crate) fn said_num(text: Value, number: &Value) -> Option<Done>
+    ensures { (h : Here) → does h h.conf.stack (after (text_in text) (λ it. after (num_in number.now) (λ n. tells (asked.Say it (tails.Num n))) Raises) Raises) ≡ came h result }
+{
+    let text = text_of(text)?;
+    let tail = Tail::Num(num_of(number)?);
+    told(Request::Say { text, tail })
+}
+
+/// Tells the operator a text with a bool behind it.
+pub(crate) fn said_truth(text: Value, truth: &Value) -> Option<Done>
+    ensures { (h : Here) → does h h.conf.stack (after (text_in text) (λ it. after (truth_in truth.now) (λ b. tells (asked.Say it (tails.Bool b))) Raises) Raises) ≡ came h result }
+{
+    let text = text_of(text)?;
+    let tail = Tail::Bool(truth_of(truth)?);
+    told(Request::Say { text, tail })
+}

@@ -1,0 +1,90 @@
+//! How routines and ERROR parts are left (RAPID Instructions: RETURN, RETRY, TRYNEXT, RAISE).
+
+ghost use Rattle.std.specs.Prelude.{◌≡◌, []};
+ghost use Rattle.rapid_model.specs.declared.value.Value.{Value};
+ghost use Rattle.stack_code.specs.CodeData.{CodeData};
+ghost use Rattle.stack_code.specs.Confs.{behind_part, conf};
+ghost use Rattle.stack_code.specs.Raising.{raised_again, retried, returned, skipped};
+ghost use Rattle.stack_code.specs.Steps.{act};
+ghost use Rattle.stack_code.specs.declared.op.Op.TheVariants as ops;
+ghost use Rattle.task_steps.specs.Alike.{Turns};
+ghost use Rattle.task_steps.specs.Doing.{came, here_of};
+
+use crate::done::Done;
+use crate::left::Left;
+use crate::pending::Pending;
+use crate::task::Task;
+use rapid_model::{Fate, Request, Value};
+
+impl Task {
+    /// The routine under way ends, with its result if it has one.
+    pub(crate) fn back(&mut self, value: Option<Value>) -> Option<Done>
+        ensures phase { self.new.phase ≡ self.old.phase }
+        ensures room { self.new.room ≡ self.old.room }
+        ensures turns { (code : CodeData) → Turns code (returned self.old.conf.saved value) self.old.data' result self.new }
+    {
+        match self.leave() {
+            Some(Left::Started) => Some(Done::End(Fate::Done)),
+            Some(Left::Called(_)) => match value {
+                Some(value) => Some(Done::value(value)),
+                None => Some(Done::Next),
+            },
+            Some(Left::Trapped) => Some(Done::Ask {
+                request: Request::Leave,
+                then: Pending::Left,
+            }),
+            None => None,
+        }
+    }
+
+    /// The routine under way ends, with the value on top as its result.
+    pub(crate) fn back_with(&mut self) -> Option<Done>
+        ensures phase { self.new.phase ≡ self.old.phase }
+        ensures room { self.new.room ≡ self.old.room }
+        ensures turns { (code : CodeData) → Turns code (act (here_of code self.old.conf) ops.BackWith) self.old.data' result self.new }
+    {
+        let value = self.pop_value()?;
+        self.back(Some(value))
+    }
+
+    /// The statement that failed is done again.
+    pub(crate) fn retry(&mut self) -> Option<Done>
+        ensures phase { self.new.phase ≡ self.old.phase }
+        ensures room { self.new.room ≡ self.old.room }
+        ensures data { self.new.data' ≡ self.old.data' }
+        ensures on { (code : CodeData) → retried self.old.conf self.old.conf.frame.failed ≡ came (here_of code self.new.conf) result }
+    {
+        let failed = self.frame.failed?;
+        self.go_behind_part(failed.owner.retry);
+        Some(Done::Stay)
+    }
+
+    /// The statement that failed is left behind.
+    pub(crate) fn skip(&mut self) -> Option<Done>
+        ensures phase { self.new.phase ≡ self.old.phase }
+        ensures room { self.new.room ≡ self.old.room }
+        ensures data { self.new.data' ≡ self.old.data' }
+        ensures on { (code : CodeData) → skipped self.old.conf self.old.conf.frame.failed ≡ came (here_of code self.new.conf) result }
+    {
+        let failed = self.frame.failed?;
+        self.go_behind_part(failed.owner.next);
+        Some(Done::Stay)
+    }
+
+    /// The ERROR part under way is left, for another place.
+    fn go_behind_part(&mut self, pc: u32)
+        ensures { self.new ≡ record self.old { conf = conf pc [] (behind_part self.old.conf.frame) self.old.conf.saved } }
+    {
+        self.operands.clear();
+        self.frame.failed = None;
+        self.pc = pc;
+    }
+
+    /// The error of the ERROR part under way is one of the statement that called the routine.
+    pub(crate) fn again(&self) -> Option<Done>
+        ensures { (code : CodeData) → raised_again code self.now.conf self.now.conf.frame.failed ≡ came (here_of code self.now.conf) result }
+    {
+        let failed = self.frame.failed?;
+        Some(Done::Escape(failed.error))
+    }
+}

@@ -1,0 +1,34 @@
+ghost use Rattle.std.specs.Prelude.{◌≡◌, ◌≢◌, true, false};
+ghost use Rattle.live_code.specs.Leads.{Runs};
+ghost use Rattle.stack_code.specs.Steps.{step};
+ghost use Rattle.task_steps.specs.Alike.{Follows};
+ghost use Rattle.task_steps.specs.Seen.{room_of};
+ghost use Rattle.task_steps.specs.declared.phase.Phase.TheVariants as phases;
+
+use crate::loaded::LoadedCode;
+use crate::phase::Phase;
+use crate::task::Task;
+
+impl Task {
+    /// Whether no request is due, and the task has begun.
+    pub fn is_going(&self) -> bool
+        ensures going { result ≡ true → self.now.phase ≡ phases.Going }
+        ensures other { result ≡ false → self.now.phase ≢ phases.Going }
+    {
+        matches!(self.phase, Phase::Going)
+    }
+
+    /// The operation at the task's place.
+    pub fn step(&mut self, loaded: &LoadedCode)
+        requires going { self.old.phase ≡ phases.Going }
+        requires room { self.old.room ≡ room_of loaded.now }
+        requires runs { Runs loaded.now (step loaded.now self.old.conf) self.old.data' }
+        ensures room { self.new.room ≡ self.old.room }
+        ensures begun { self.new.phase ≢ phases.New }
+        ensures on { Follows loaded.now (step loaded.now self.old.conf) self.old.data' self.new }
+    {
+        let op = &loaded.code().ops()[self.pc as usize];
+        let done = self.operate(loaded, op);
+        self.commit(loaded.code(), done)
+    }
+}
