@@ -1,8 +1,9 @@
 -- What is checked of modules that texts spell is accepted: its tasks go on.
-use Rattle.std.proofs.Common.{◌≡◌, ℕ, ◌+◌, List, [], ◌∷◌, length, map, take, drop, Option, Some, None, Result, Ok, Err, refl, ap, sym, subst, ◌∙◌}
+use Rattle.std.proofs.Common.{◌≡◌, ℕ, ◌+◌, ◌≤◌, List, [], ◌∷◌, length, map, take, drop, Option, Some, None, Result, Ok, Err, refl, ap, sym, subst, ◌∙◌}
 use Rattle.std.specs.Prelude.{is_some}
+use Rattle.std.proofs.lemmas.List.{length-map}
 use Rattle.std.proofs.lemmas.List.Elements.{All-cons, All-drop, All-map, All-nil, All-take}
-use Rattle.rapid_model.specs.ScriptData.{ScriptData}
+use Rattle.rapid_model.specs.ScriptData.{ScriptData, row_of}
 use Rattle.rapid_model.specs.declared.script_task.ScriptTask.{ScriptTask}
 use Rattle.raw_trees.specs.Plain.{PlainModule}
 use Rattle.module_parser.specs.Modules.{ModuleText}
@@ -12,9 +13,10 @@ use Rattle.stmt_types.specs.Task.{task_of}
 use Rattle.cell_assembly.specs.Cells.{Making}
 use Rattle.cell_assembly.specs.Made.{MadeCell, make_cell}
 use Rattle.tree_soundness.specs.Accepted.{AreChecked, AreRead, IsAccepted}
+use Rattle.tree_soundness.proofs.Cells.{tasks_are}
 use Rattle.controller.specs.declared.refused.Refused.{Refused}
 use Rattle.controller.specs.Accepted.{ReadModule, or_refused, names_in, then_trees, typed_tasks, cell_or_refused, cell_from, checked}
-use Rattle.controller.specs.Loaded.{AreSpelled, IsSpelled, TextsDecide}
+use Rattle.controller.specs.Loaded.{AreSpelled, HasScript, IsSpelled, TextsDecide}
 
 -- the modules that texts come to are spelled
 pub texts_spell : (file : ℕ) (texts : List (List ℕ)) (failed : Option Refused) (reads : List ReadModule) → TextsDecide file texts failed (Ok reads) → AreSpelled reads
@@ -62,15 +64,27 @@ made_of_trees : (script : ScriptData) (reads : List ReadModule) (making : Making
 made_of_trees script reads (Ok m) made is = let same : m ≡ made = cc in ap Ok same
 made_of_trees script reads (Err broken) made is = cc
 
-from_trees : (script : ScriptData) (reads : List ReadModule) (found : Result (List TypedTree) Refused) (made : MadeCell) → AreSpelled reads → typed_tasks script script.tasks reads ≡ found
+from_trees : (script : ScriptData) (reads : List ReadModule) (found : Result (List TypedTree) Refused) (made : MadeCell) → length script.tasks ≤ 8 → AreSpelled reads → typed_tasks script script.tasks reads ≡ found
     → cell_from script reads found ≡ Ok made → IsAccepted script made
-from_trees script reads (Ok trees) made spelled typed is = record {
+from_trees script reads (Ok trees) made few spelled typed is = record {
   modules = modules_in script.tasks reads;
   trees = trees;
+  few_tasks = few;
   are_checked = are_checked script script.tasks reads trees spelled typed;
   is_made = made_of_trees script reads (make_cell script trees) made is;
 }
-from_trees script reads (Err refused) made spelled typed is = cc
+from_trees script reads (Err refused) made few spelled typed is = cc
 
-pub checked_is_accepted : (script : ScriptData) (reads : List ReadModule) (made : MadeCell) → AreSpelled reads → checked script reads ≡ Ok made → IsAccepted script made
-checked_is_accepted script reads made spelled is = from_trees script reads (typed_tasks script script.tasks reads) made spelled refl is
+checked_is_accepted : (script : ScriptData) (reads : List ReadModule) (made : MadeCell) → length script.tasks ≤ 8 → AreSpelled reads → checked script reads ≡ Ok made → IsAccepted script made
+checked_is_accepted script reads made few spelled is = from_trees script reads (typed_tasks script script.tasks reads) made few spelled refl is
+
+-- and has a tree for each task
+pub checked_has_script : (script : ScriptData) (reads : List ReadModule) (made : MadeCell) → length script.tasks ≤ 8 → AreSpelled reads → checked script reads ≡ Ok made → length made.trees ≡ length script.tasks
+    → HasScript made
+checked_has_script script reads made few spelled is one_each =
+    let accepted = checked_is_accepted script reads made few spelled is in
+    record {
+      script = script;
+      accepted = accepted;
+      one_each = one_each ∙ sym (length-map script.tasks row_of) ∙ sym (ap length (tasks_are script accepted.trees made accepted.is_made));
+    }

@@ -8,7 +8,7 @@ use Rattle.typed_trees.specs.Plain.{TypedTree}
 use Rattle.controller.specs.declared.refused.Refused.{Refused}
 use Rattle.controller.specs.declared.refused.Refused.TheVariants.{Words, Read, Write}
 use Rattle.controller.specs.declared.report.Report.{Report}
-use Rattle.controller.specs.Answered.{RunsOrMemory}
+use Rattle.controller.specs.Answered.{AnswersAccepted, ListsOrMemory, RunsOrMemory}
 use Rattle.controller.specs.Files.{IsDoneFault, IsLoadFault}
 use Rattle.controller.specs.Printed.{Sunk}
 use Rattle.controller.specs.Words.{refused_place}
@@ -37,3 +37,14 @@ pub run_told : (cell : CellData) (trees : List TypedTree) (report : Report) (out
 run_told cell trees report out err (inl memory) = subst (λ (o : Option Refused). IfSome o (IsDoneFault out.old.faults out.new.faults)) (sym memory.refused_is) tt
 run_told cell trees report out err (inr (inl printed)) = subst (λ (o : Option Refused). IfSome o (IsDoneFault out.old.faults out.new.faults)) (sym printed.refused_is) tt
 run_told cell trees report out err (inr (inr cut)) = subst (λ (o : Option Refused). IfSome o (IsDoneFault out.old.faults out.new.faults)) (sym cut.0.refused_is) cut.1
+
+-- what a list is refused for
+pub list_told : (cell : CellData) (trees : List TypedTree) (report : Report) (out err : Sunk) → ListsOrMemory cell trees report out err → IfSome report.refused (IsDoneFault out.old.faults out.new.faults)
+list_told cell trees report out err (inl memory) = subst (λ (o : Option Refused). IfSome o (IsDoneFault out.old.faults out.new.faults)) (sym memory.refused_is) tt
+list_told cell trees report out err (inr (inl listed)) = subst (λ (o : Option Refused). IfSome o (IsDoneFault out.old.faults out.new.faults)) (sym listed.refused_is) tt
+list_told cell trees report out err (inr (inr part)) = subst (λ (o : Option Refused). IfSome o (IsDoneFault out.old.faults out.new.faults)) (sym part.0.refused_is) part.1
+
+-- what telling that all is accepted is refused for
+pub accepted_told : (report : Report) (out err : Sunk) → AnswersAccepted report out err → IfSome report.refused (IsDoneFault out.old.faults out.new.faults)
+accepted_told report out err (inl told) = subst (λ (o : Option Refused). IfSome o (IsDoneFault out.old.faults out.new.faults)) (sym told.refused_is) tt
+accepted_told report out err (inr part) = subst (λ (o : Option Refused). IfSome o (IsDoneFault out.old.faults out.new.faults)) (sym part.0.refused_is) part.1

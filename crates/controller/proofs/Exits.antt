@@ -1,26 +1,25 @@
 -- Each way in which a call ends answers its words and files.
-use Rattle.std.proofs.Common.{◌≡◌, ℕ, List, [], ◌∷◌, Option, Some, None, Result, Ok, Err, map, refl, ap, sym, ◌∙◌, subst, ◌⊎◌, inl, inr}
+use Rattle.std.proofs.Common.{◌≡◌, ℕ, List, [], ◌∷◌, Option, Some, None, Result, Ok, Err, refl, ap, sym, subst, ◌⊎◌, inl, inr}
 use Rattle.std.specs.Borrow.{Bor}
 use Rattle.std.specs.Prelude.{IfSome, Vec}
 use Rattle.std.specs.declared.alloc.Global.{Global}
 use Rattle.raw_trees.specs.declared.raw_module.RawModule.{RawModule}
-use Rattle.outside.specs.Count.{Rose}
 use Rattle.outside.specs.Told.{Told, found}
 use Rattle.rapid_model.specs.CellData.{CellData}
 use Rattle.rapid_model.specs.ScriptData.{ScriptData, module_names}
 use Rattle.typed_trees.specs.Plain.{TypedTree}
 use Rattle.cell_assembly.specs.Made.{MadeCell}
 use Rattle.controller.specs.declared.command.Action.{Action}
-use Rattle.controller.specs.declared.command.Action.TheVariants.{Check}
+use Rattle.controller.specs.declared.command.Action.TheVariants as actions
 use Rattle.controller.specs.declared.report.Report.{Report}
 use Rattle.controller.specs.declared.refused.Refused.{Refused}
 use Rattle.controller.specs.declared.refused.Refused.TheVariants.{Words, Memory}
 use Rattle.controller.specs.Words.{refused_place, plain_words, first_action, script_name}
 use Rattle.controller.specs.Files.{Reads, told_reads, text_of}
 use Rattle.controller.specs.Loaded.{names_in_turn, file_names, bytes_of, reads_of, IsScriptIn, TextsDecide}
-use Rattle.controller.specs.Accepted.{Verdict, refuses, accepts, runs, Accepted, ReadModule, script_limit, file_text, ModulesOf, checked, not_built, unless_refused, ActionDecides, CheckedDecides, ModulesDecide, FileDecides, WordsDecide}
+use Rattle.controller.specs.Accepted.{Verdict, refuses, accepts, runs, lists, Accepted, ReadModule, script_limit, file_text, ModulesOf, checked, ActionDecides, CheckedDecides, ModulesDecide, FileDecides, WordsDecide}
 use Rattle.controller.specs.Printed.{Sunk}
-use Rattle.controller.specs.Answered.{IsRefused, IsPrinted, IsCutShort, Answers, AnswersAccepted, AnswersReads, AnswersBuilt, IsOutOfMemory, RunsOrMemory, AnswersSome, AnswersWords}
+use Rattle.controller.specs.Answered.{IsRefused, IsCutShort, Answers, AnswersAccepted, AnswersRun, AnswersList, AnswersReads, AnswersMade, IsOutOfMemory, RunsOrMemory, ListsOrMemory, AnswersSome, AnswersWords}
 use Rattle.controller.proofs.GivenReads.{AreFrom, script_given, GivesAll}
 use Rattle.controller.proofs.Loads.{modules_from_texts}
 
@@ -128,12 +127,12 @@ module_refused words told name script ms texts failed refused report out err r g
 
 read_whole : (words : List (List ℕ)) (gave : Reads) (name : List ℕ) (action : Option Action) (script : ScriptData) (ms : List (Bor (List ℕ))) (reads : List ReadModule) (verdict : Verdict)
     → IsRead words name script ms → IsScriptIn (file_text gave 0 script_limit name) (Ok script) → first_action (plain_words words) ≡ action
-    → (let all : Result (List ReadModule) Refused = Ok reads in all ≡ Err Memory) ⊎ ModulesOf gave 1 (names_in_turn ms) (Ok reads) → CheckedDecides action (file_names name ms) script reads (checked script reads) verdict
+    → (let all : Result (List ReadModule) Refused = Ok reads in all ≡ Err Memory) ⊎ ModulesOf gave 1 (names_in_turn ms) (Ok reads) → CheckedDecides action (file_names name ms) (checked script reads) verdict
     → Accepted words gave verdict
 read_whole words gave name action script ms reads verdict r s asked (inl memory) decides = cc
 read_whole words gave name action script ms reads verdict r s asked (inr d) decides =
     modules_decide words gave name script ms (Ok reads) verdict r s d
-    (subst (λ (a : Option Action). CheckedDecides a (file_names name ms) script reads (checked script reads) verdict) (sym asked) decides)
+    (subst (λ (a : Option Action). CheckedDecides a (file_names name ms) (checked script reads) verdict) (sym asked) decides)
 
 -- all is read
 pub all_read : (words : List (List ℕ)) (told : Option Told) (name : List ℕ) (action : Option Action) (script : ScriptData) (ms : List (Bor (List ℕ))) (texts : List (List ℕ)) (failed : Option Refused)
@@ -164,7 +163,7 @@ check_refused names action script reads refused report out err (inl memory) r = 
 check_refused names action script reads refused report out err (inr found) r =
     inr (
       refuses names refused,
-      subst (λ (made : Result MadeCell Refused). CheckedDecides action names script reads made (refuses names refused)) (sym found) refl,
+      subst (λ (made : Result MadeCell Refused). CheckedDecides action names made (refuses names refused)) (sym found) refl,
       r,
     )
 
@@ -172,40 +171,52 @@ accepted_answers : (names : List (List ℕ)) (report : Report) (out err : Sunk) 
 accepted_answers names report out err (inl a) = inl a
 accepted_answers names report out err (inr a) = inr a.0
 
--- all is accepted
-pub all_accepted : (names : List (List ℕ)) (action : Action) (script : ScriptData) (reads : List ReadModule) (made : MadeCell) (report : Report) (out err : Sunk) → action ≡ Check → checked script reads ≡ Ok made
-    → AnswersAccepted report out err → AnswersReads (Some action) names script reads report out err
-all_accepted names action script reads made report out err is found a =
+-- all is accepted, and an action done with it
+pub made_answered : (names : List (List ℕ)) (action : Action) (script : ScriptData) (reads : List ReadModule) (made : MadeCell) (report : Report) (out err : Sunk) → checked script reads ≡ Ok made
+    → AnswersMade action names made report out err → AnswersReads (Some action) names script reads report out err
+made_answered names action script reads made report out err found a =
+    subst (λ (x : Result MadeCell Refused). AnswersSome (CheckedDecides (Some action) names x) report out err) (sym found) a
+
+-- all is accepted, which is told
+pub all_accepted : (names : List (List ℕ)) (action : Action) (made : MadeCell) (report : Report) (out err : Sunk) → action ≡ actions.Check → AnswersAccepted report out err
+    → AnswersMade action names made report out err
+all_accepted names action made report out err is a =
     inr (
       accepts names,
-      subst (λ (x : Result MadeCell Refused). CheckedDecides (Some action) names script reads x (accepts names)) (sym found)
-          (subst (λ (x : Action). ActionDecides (Some x) names script reads made (accepts names)) (sym is) refl),
+      subst (λ (x : Action). ActionDecides (Some x) names made (accepts names)) (sym is) refl,
       accepted_answers names report out err a,
     )
-
--- something is not built, or memory was refused
-pub build_refused : (names : List (List ℕ)) (script : ScriptData) (reads : List ReadModule) (made : MadeCell) (refused : Refused) (report : Report) (out err : Sunk)
-    → (refused ≡ Memory) ⊎ (not_built script reads made.trees ≡ Some refused) → IsRefused names refused report out err → AnswersBuilt names script reads made report out err
-build_refused names script reads made refused report out err (inl memory) r = inl (out_of_memory names refused report out err memory r)
-build_refused names script reads made refused report out err (inr is) r =
-    inr (refuses names refused, ap (λ (o : Option Refused). unless_refused names o (runs names made.cell made.trees)) (sym is), r)
 
 -- a run that was cut short, with other names
 cut_with_names : (names : List (List ℕ)) (cell : CellData) (trees : List TypedTree) (report : Report) (out err : Sunk) → IsCutShort [] cell trees report out err → IsCutShort names cell trees report out err
 cut_with_names names cell trees report out err c = record { run = c.run; refused_is = c.refused_is; status = c.status; printed = c.printed; calls = c.calls; told = c.told }
 
+run_answers : (names : List (List ℕ)) (cell : CellData) (trees : List TypedTree) (report : Report) (out err : Sunk) → AnswersRun cell trees report out err → Answers (runs names cell trees) report out err
+run_answers names cell trees report out err (inl p) = inl p
+run_answers names cell trees report out err (inr c) = inr (cut_with_names names cell trees report out err c.0)
+
 -- the tasks are run
-pub tasks_run : (names : List (List ℕ)) (script : ScriptData) (reads : List ReadModule) (made : MadeCell) (report : Report) (out err : Sunk) → not_built script reads made.trees ≡ None
-    → RunsOrMemory made.cell made.trees report out err → AnswersBuilt names script reads made report out err
-tasks_run names script reads made report out err none (inl memory) = inl memory
-tasks_run names script reads made report out err none (inr run) =
+pub tasks_run : (names : List (List ℕ)) (action : Action) (made : MadeCell) (report : Report) (out err : Sunk) → action ≡ actions.Round → RunsOrMemory made.cell made.trees report out err
+    → AnswersMade action names made report out err
+tasks_run names action made report out err is (inl memory) = inl memory
+tasks_run names action made report out err is (inr run) =
     inr (
       runs names made.cell made.trees,
-      ap (λ (o : Option Refused). unless_refused names o (runs names made.cell made.trees)) (sym none),
-      answers run,
+      subst (λ (x : Action). ActionDecides (Some x) names made (runs names made.cell made.trees)) (sym is) refl,
+      run_answers names made.cell made.trees report out err run,
     )
-  where
-    answers : (IsPrinted made.cell made.trees report out err) ⊎ (IsCutShort [] made.cell made.trees report out err × Rose out.old.faults out.new.faults)
-        → Answers (runs names made.cell made.trees) report out err
-    answers (inl p) = inl p
-    answers (inr c) = inr (cut_with_names names made.cell made.trees report out err c.0)
+
+list_answers : (names : List (List ℕ)) (cell : CellData) (trees : List TypedTree) (report : Report) (out err : Sunk) → AnswersList cell trees report out err → Answers (lists names cell trees) report out err
+list_answers names cell trees report out err (inl l) = inl l
+list_answers names cell trees report out err (inr part) = inr part.0
+
+-- the cell and the code of its tasks are listed
+pub cell_listed : (names : List (List ℕ)) (action : Action) (made : MadeCell) (report : Report) (out err : Sunk) → action ≡ actions.List → ListsOrMemory made.cell made.trees report out err
+    → AnswersMade action names made report out err
+cell_listed names action made report out err is (inl memory) = inl memory
+cell_listed names action made report out err is (inr list) =
+    inr (
+      lists names made.cell made.trees,
+      subst (λ (x : Action). ActionDecides (Some x) names made (lists names made.cell made.trees)) (sym is) refl,
+      list_answers names made.cell made.trees report out err list,
+    )

@@ -6,7 +6,7 @@ use Rattle.std.proofs.lemmas.Bool.{cases_lt}
 use Rattle.rapid_model.specs.CellData.{CellData}
 use Rattle.rapid_model.specs.declared.event.Event.{Event}
 use Rattle.rapid_model.specs.declared.fate.Fate.{Fate}
-use Rattle.cell_meaning.specs.Histories.{fate_after, fates_after}
+use Rattle.cell_meaning.specs.Fates.{fate_after, fates_after}
 
 pub length-fates_after : (cell : CellData) (history : List Event) (n : ℕ) → length (fates_after cell history n) ≡ n
 length-fates_after cell history zero = refl

@@ -5,7 +5,7 @@ use Rattle.std.specs.Cmp.Derive.{both_true}
 use Rattle.std.specs.List.{list_all}
 use Rattle.std.proofs.lemmas.List.{length-map}
 use Rattle.rapid_model.specs.CellData.{CellData}
-use Rattle.rapid_model.specs.ScriptData.{ScriptData, row_of}
+use Rattle.rapid_model.specs.ScriptData.{ScriptData}
 use Rattle.rapid_model.specs.declared.script_task.ScriptTask.{ScriptTask}
 use Rattle.typed_trees.specs.Plain.{TypedTree}
 use Rattle.typed_trees.specs.Sound.{has_sound_pers}
@@ -14,9 +14,7 @@ use Rattle.typed_trees.specs.declared.tree.Tree.{Tree}
 use Rattle.rule_checks.specs.TypeChecks.{Checked}
 use Rattle.stmt_types.proofs.Sound.{task_sound}
 use Rattle.stmt_types.specs.Task.{task_of}
-use Rattle.rule_checks.specs.Checks.{◌>>=◌}
-use Rattle.cell_assembly.specs.Cells.{Making, CellTables, cell_tables}
-use Rattle.cell_assembly.specs.Made.{MadeCell, cell_of, numbered, make_cell}
+use Rattle.cell_assembly.specs.Made.{MadeCell, make_cell}
 use Rattle.cell_assembly.specs.Views.{Fails}
 use Rattle.cell_assembly.specs.declared.cell_fault.CellFault.{CellFault}
 use Rattle.cell_assembly.specs.declared.cell_fault.CellFault.TheVariants as faults

@@ -1,5 +1,5 @@
 -- Words, and what the reads gave, come to at most one verdict, where a text comes to one module.
-use Rattle.std.proofs.Common.{◌≡◌, ℕ, ◌+◌, List, [], ◌∷◌, refl, Option, Some, None, Result, Ok, Err, ap, sym, ◌∙◌, subst, inl, inr}
+use Rattle.std.proofs.Common.{◌≡◌, ℕ, ◌+◌, List, [], ◌∷◌, Option, Some, None, Result, Ok, Err, ap, sym, ◌∙◌, subst, inl, inr}
 use Rattle.toml.specs.Data.{Members}
 use Rattle.cell_assembly.specs.Made.{MadeCell}
 use Rattle.rapid_model.specs.ScriptData.{ScriptData, module_names}
@@ -9,7 +9,7 @@ use Rattle.raw_trees.specs.Plain.{PlainModule}
 use Rattle.rapid_forms.specs.declared.fault.SyntaxFault.{SyntaxFault}
 use Rattle.module_parser.specs.Modules.{ModuleText}
 use Rattle.controller.specs.declared.command.Action.{Action}
-use Rattle.controller.specs.declared.command.Action.TheVariants.{Check, Round}
+use Rattle.controller.specs.declared.command.Action.TheVariants as actions
 use Rattle.controller.specs.declared.refused.Refused.{Refused}
 use Rattle.controller.specs.Words.{refused_place, plain_words, first_action, script_name}
 use Rattle.controller.specs.Files.{Reads}
@@ -89,21 +89,20 @@ modules_one one gave file (n ∷ ns) (Err x) (Err y) (inr p) (inl q) =
 modules_one one gave file (n ∷ ns) (Err x) (Err y) (inr p) (inr q) = modules_one one gave (file + 1) ns (Err x) (Err y) p.2 q.2
 
 -- what is accepted is done in one way
-action_one : (action : Option Action) (names : List (List ℕ)) (script : ScriptData) (reads : List ReadModule) (made : MadeCell) (v w : Verdict) → ActionDecides action names script reads made v
-    → ActionDecides action names script reads made w → v ≡ w
-action_one (Some Round) names script reads made v w p q = p ∙ sym q
-action_one (Some Check) names script reads made v w p q = p ∙ sym q
-action_one None names script reads made v w p q = absurd p
+action_one : (action : Option Action) (names : List (List ℕ)) (made : MadeCell) (v w : Verdict) → ActionDecides action names made v → ActionDecides action names made w → v ≡ w
+action_one (Some actions.Check) names made v w p q = p ∙ sym q
+action_one (Some actions.Round) names made v w p q = p ∙ sym q
+action_one (Some actions.List) names made v w p q = p ∙ sym q
+action_one None names made v w p q = absurd p
 
-checked_one : (action : Option Action) (names : List (List ℕ)) (script : ScriptData) (reads : List ReadModule) (found : Result MadeCell Refused) (v w : Verdict) → CheckedDecides action names script reads found v
-    → CheckedDecides action names script reads found w → v ≡ w
-checked_one action names script reads (Err refused) v w p q = p ∙ sym q
-checked_one action names script reads (Ok made) v w p q = action_one action names script reads made v w p q
+checked_one : (action : Option Action) (names : List (List ℕ)) (found : Result MadeCell Refused) (v w : Verdict) → CheckedDecides action names found v → CheckedDecides action names found w → v ≡ w
+checked_one action names (Err refused) v w p q = p ∙ sym q
+checked_one action names (Ok made) v w p q = action_one action names made v w p q
 
 modules_decide_one : (action : Option Action) (names : List (List ℕ)) (script : ScriptData) (modules : Result (List ReadModule) Refused) (v w : Verdict) → ModulesDecide action names script modules v
     → ModulesDecide action names script modules w → v ≡ w
 modules_decide_one action names script (Err refused) v w p q = p ∙ sym q
-modules_decide_one action names script (Ok reads) v w p q = checked_one action names script reads (checked script reads) v w p q
+modules_decide_one action names script (Ok reads) v w p q = checked_one action names (checked script reads) v w p q
 
 script_decides_one : OneText → (action : Option Action) (gave : Reads) (name : List ℕ) (script : Read ScriptData) (v w : Verdict) → ScriptDecides action gave name script v → ScriptDecides action gave name script w → v ≡ w
 script_decides_one one action gave name (Err broken) v w p q = p ∙ sym q

@@ -6,7 +6,7 @@ use Rattle.rapid_model.specs.CellData.{CellData}
 use Rattle.rapid_model.specs.declared.event.Event.{Event}
 use Rattle.rapid_model.specs.declared.task_row.TaskRow.{TaskRow}
 use Rattle.rapid_model.specs.declared.fate.Fate.{Fate}
-use Rattle.cell_meaning.specs.Histories.{fate_after, fates_after}
+use Rattle.cell_meaning.specs.Fates.{fate_after, fates_after}
 use Rattle.history_text.specs.Lines.{fate_line, fate_lines}
 use Rattle.controller.proofs.Fates.{drop-fates_after}
 use Rattle.controller.specs.Printed.{Seen, Sunk}

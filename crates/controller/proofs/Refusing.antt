@@ -1,26 +1,19 @@
 -- No verdict refuses for want of memory or for a write.
-use Rattle.std.proofs.Common.{◌≡◌, ℕ, ◌+◌, List, [], ◌∷◌, Bool, true, false, refl, ap, sym, ◌∙◌, subst, inl, inr}
-use Rattle.std.specs.Prelude.{Option, Some, None, IfSome, IfErr, Result, Ok, Err, nat_le, length, take, drop, if◌then◌else◌}
-use Rattle.std.specs.Option.{option_map, option_or}
-use Rattle.rapid_model.specs.CellData.{CellData}
+use Rattle.std.proofs.Common.{◌≡◌, ℕ, ◌+◌, List, [], ◌∷◌, Bool, true, false, refl, sym, subst, inl, inr}
+use Rattle.std.specs.Prelude.{Option, Some, None, IfErr, Result, Ok, Err, nat_le, length, if◌then◌else◌}
 use Rattle.rapid_model.specs.ScriptData.{ScriptData, module_names}
-use Rattle.rapid_model.specs.declared.script_rule.ScriptRule.TheVariants as rules
-use Rattle.rapid_model.specs.declared.script_task.ScriptTask.{ScriptTask}
-use Rattle.typed_trees.specs.Plain.{TypedTree}
 use Rattle.cell_assembly.specs.Made.{MadeCell}
-use Rattle.built_tasks.specs.Unbuilt.{first_unbuilt}
-use Rattle.built_tasks.specs.declared.at.At.{At}
 use Rattle.cell_script.specs.Break.{Read}
 use Rattle.module_parser.specs.Modules.{ModuleText}
 use Rattle.rapid_forms.specs.declared.fault.SyntaxFault.{SyntaxFault}
 use Rattle.rapid_forms.specs.declared.fault.SyntaxFault.TheVariants as faults
 use Rattle.controller.specs.declared.command.Action.{Action}
-use Rattle.controller.specs.declared.command.Action.TheVariants.{Check, Round}
+use Rattle.controller.specs.declared.command.Action.TheVariants as actions
 use Rattle.controller.specs.declared.refused.Refused.{Refused}
 use Rattle.controller.specs.declared.refused.Refused.TheVariants as refusals
 use Rattle.controller.specs.Files.{Reads, text_of}
 use Rattle.controller.specs.Words.{refused_place, plain_words, first_action, script_name}
-use Rattle.controller.specs.Accepted.{Verdict, refuses, accepts, runs, Accepted, ReadModule, script_limit, module_limit, file_text, fault_refusal, ModuleIn, ModulesOf, checked, unbuilt_key, form_refusal, unbuilt_form, not_built, unless_refused, ActionDecides, CheckedDecides, ModulesDecide, names_of, ScriptDecides, FileDecides, WordsDecide}
+use Rattle.controller.specs.Accepted.{Verdict, refuses, accepts, runs, lists, Accepted, ReadModule, script_limit, module_limit, file_text, fault_refusal, ModuleIn, ModulesOf, checked, ActionDecides, CheckedDecides, ModulesDecide, names_of, ScriptDecides, FileDecides, WordsDecide}
 use Rattle.controller.proofs.Checking.{checks_refuse}
 
 -- the words, a file, the script or a module is refused
@@ -38,6 +31,7 @@ abbrev RefusesInput : Verdict → Type 0
 RefusesInput (refuses names refused) = IsOfInput refused
 RefusesInput (accepts names) = Unit {0}
 RefusesInput (runs names cell trees) = Unit {0}
+RefusesInput (lists names cell trees) = Unit {0}
 
 is_refused : (names : List (List ℕ)) (refused : Refused) (verdict : Verdict) → IsOfInput refused → verdict ≡ refuses names refused → RefusesInput verdict
 is_refused names refused verdict of is = subst RefusesInput (sym is) of
@@ -66,48 +60,23 @@ of_modules gave file [] refused d = cc
 of_modules gave file (name ∷ names) refused (inl d) = of_module file (file_text gave file module_limit name) refused (of_text file module_limit (gave file name)) d
 of_modules gave file (name ∷ names) refused (inr d) = of_modules gave (file + 1) names refused d.2
 
--- what is not built
-
-of_key : (o : Option (List ℕ)) (rest : Option Refused) → IfSome rest IsOfInput → IfSome (option_or (option_map (λ key. refusals.Script key rules.NotBuilt) o) rest) IsOfInput
-of_key None rest of = of
-of_key (Some key) rest of = tt
-
-of_form : (reads : List ReadModule) (o : Option At) (rest : Option Refused) → IfSome rest IsOfInput → IfSome (option_or (option_map (form_refusal reads) o) rest) IsOfInput
-of_form reads None rest of = of
-of_form reads (Some at) rest of = tt
-
-of_forms : (tasks : List ScriptTask) (reads : List ReadModule) (trees : List TypedTree) → IfSome (unbuilt_form tasks reads trees) IsOfInput
-of_forms [] reads trees = tt
-of_forms (task ∷ tasks) reads [] = tt
-of_forms (task ∷ tasks) reads (tree ∷ trees) =
-    let count = length task.modules in
-    of_form (take count reads) (first_unbuilt tree) (unbuilt_form tasks (drop count reads) trees) (of_forms tasks (drop count reads) trees)
-
-of_not_built : (script : ScriptData) (reads : List ReadModule) (trees : List TypedTree) → IfSome (not_built script reads trees) IsOfInput
-of_not_built script reads trees = of_key (unbuilt_key script) (unbuilt_form script.tasks reads trees) (of_forms script.tasks reads trees)
-
-of_unless : (names : List (List ℕ)) (o : Option Refused) (cell : CellData) (trees : List TypedTree) → IfSome o IsOfInput → RefusesInput (unless_refused names o (runs names cell trees))
-of_unless names None cell trees of = tt
-of_unless names (Some refused) cell trees of = of
-
 -- from what is checked to the words
 
-of_action : (action : Option Action) (names : List (List ℕ)) (script : ScriptData) (reads : List ReadModule) (made : MadeCell) (verdict : Verdict) → ActionDecides action names script reads made verdict → RefusesInput verdict
-of_action (Some Round) names script reads made verdict d =
-    subst RefusesInput (sym d) (of_unless names (not_built script reads made.trees) made.cell made.trees (of_not_built script reads made.trees))
-of_action (Some Check) names script reads made verdict d = subst RefusesInput (sym d) tt
-of_action None names script reads made verdict d = absurd d
+of_action : (action : Option Action) (names : List (List ℕ)) (made : MadeCell) (verdict : Verdict) → ActionDecides action names made verdict → RefusesInput verdict
+of_action (Some actions.Check) names made verdict d = subst RefusesInput (sym d) tt
+of_action (Some actions.Round) names made verdict d = subst RefusesInput (sym d) tt
+of_action (Some actions.List) names made verdict d = subst RefusesInput (sym d) tt
+of_action None names made verdict d = absurd d
 
-of_checked : (action : Option Action) (names : List (List ℕ)) (script : ScriptData) (reads : List ReadModule) (found : Result MadeCell Refused) (verdict : Verdict) → IfErr found IsOfInput
-    → CheckedDecides action names script reads found verdict → RefusesInput verdict
-of_checked action names script reads (Err refused) verdict of d = is_refused names refused verdict of d
-of_checked action names script reads (Ok made) verdict of d = of_action action names script reads made verdict d
+of_checked : (action : Option Action) (names : List (List ℕ)) (found : Result MadeCell Refused) (verdict : Verdict) → IfErr found IsOfInput → CheckedDecides action names found verdict → RefusesInput verdict
+of_checked action names (Err refused) verdict of d = is_refused names refused verdict of d
+of_checked action names (Ok made) verdict of d = of_action action names made verdict d
 
 of_decided : (action : Option Action) (names : List (List ℕ)) (script : ScriptData) (modules : Result (List ReadModule) Refused) (verdict : Verdict) → ((refused : Refused) → modules ≡ Err refused → IsOfInput refused)
     → ModulesDecide action names script modules verdict → RefusesInput verdict
 of_decided action names script (Err refused) verdict of d = is_refused names refused verdict (of refused refl) d
 of_decided action names script (Ok reads) verdict of d =
-    of_checked action names script reads (checked script reads) verdict (checks_refuse IsOfInput (λ key rule. tt) (λ file place rule. tt) script reads) d
+    of_checked action names (checked script reads) verdict (checks_refuse IsOfInput (λ key rule. tt) (λ file place rule. tt) script reads) d
 
 of_script : (action : Option Action) (gave : Reads) (name : List ℕ) (script : Read ScriptData) (verdict : Verdict) → ScriptDecides action gave name script verdict → RefusesInput verdict
 of_script action gave name (Err broken) verdict d = is_refused (name ∷ []) (refusals.Script broken.key broken.rule) verdict tt d

@@ -1,5 +1,5 @@
 -- What the reads gave of a shelf that tells nothing: the texts that they are known by.
-use Rattle.std.proofs.Common.{◌≡◌, ℕ, zero, suc, ◌+◌, ◌<◌, ◌≤◌, List, [], ◌∷◌, length, get_or, refl, ap, sym, ◌∙◌, subst, ◌⊎◌, inl, inr, arith, true, false, Bool}
+use Rattle.std.proofs.Common.{◌≡◌, ℕ, zero, suc, ◌+◌, ◌<◌, ◌≤◌, List, [], ◌∷◌, length, get_or, refl, ap, sym, ◌∙◌, subst, ◌⊎◌, inl, inr, arith, Bool}
 use Rattle.std.specs.Prelude.{Option, Some, None, IfSome, Result, Ok, Err, Vec, All, if◌then◌else◌}
 use Rattle.std.specs.declared.alloc.Global.{Global}
 use Rattle.std.proofs.lemmas.Bool.{le-leb, lt-leb}

@@ -1,9 +1,7 @@
 -- What command words and files come to: the first refusal; or what is checked; or the cell and the trees of its tasks.
-use Rattle.std.specs.Prelude.{◌≡◌, ℕ, zero, suc, ◌+◌, ◌⊎◌, take, drop, slice_get, Bool, true, false, not, nat_lt, List, [], ◌∷◌, ◌++◌, length, map, codes, Option, Some, None, is_some, Result, Ok, Err, ◌==◌, if◌then◌else◌}
-use Rattle.std.specs.Option.{option_map, option_or}
+use Rattle.std.specs.Prelude.{◌≡◌, ℕ, zero, suc, ◌+◌, ◌⊎◌, take, drop, slice_get, List, [], ◌∷◌, length, map, Option, Some, None, is_some, Result, Ok, Err}
 use Rattle.rapid_model.specs.CellData.{CellData}
 use Rattle.rapid_model.specs.ScriptData.{ScriptData, module_names}
-use Rattle.rapid_model.specs.declared.script_rule.ScriptRule.TheVariants as rules
 use Rattle.rapid_model.specs.declared.script_task.ScriptTask.{ScriptTask}
 use Rattle.cell_script.specs.Break.{Read}
 use Rattle.cell_script.specs.ScriptOf.{ScriptOf}
@@ -20,14 +18,12 @@ use Rattle.cell_assembly.specs.Made.{MadeCell, make_cell}
 use Rattle.rapid_forms.specs.declared.fault.SyntaxFault.{SyntaxFault}
 use Rattle.rapid_forms.specs.declared.fault.SyntaxFault.TheVariants as faults
 use Rattle.module_parser.specs.Modules.{ModuleText}
-use Rattle.built_tasks.specs.Unbuilt.{first_unbuilt}
-use Rattle.built_tasks.specs.declared.at.At.{At}
 use Rattle.controller.specs.declared.command.Action.{Action}
-use Rattle.controller.specs.declared.command.Action.TheVariants.{Check, Round}
+use Rattle.controller.specs.declared.command.Action.TheVariants as actions
 use Rattle.controller.specs.declared.refused.Refused.{Refused}
 use Rattle.controller.specs.declared.refused.Refused.TheVariants.{Words, Script, Module, Memory}
 use Rattle.controller.specs.declared.refused.ModuleRule.{ModuleRule}
-use Rattle.controller.specs.declared.refused.ModuleRule.TheVariants.{Lex, Syntax, «Type», NotBuilt}
+use Rattle.controller.specs.declared.refused.ModuleRule.TheVariants.{Lex, Syntax, «Type»}
 use Rattle.controller.specs.Files.{Reads, text_of}
 use Rattle.controller.specs.Words.{refused_place, script_name, plain_words, first_action}
 
@@ -38,12 +34,13 @@ script_limit = 262_144
 abbrev pub module_limit : ℕ
 module_limit = 1_048_576
 
--- The refusal; or all is accepted, for `check`; or the cell and the trees, for a run. And the names of the files, in the
--- order in which they are read, as far as the script is known.
+-- The refusal; or all is accepted, for `check`; or the cell and the trees, for a run or for their list. And the names of the files,
+-- in the order in which they are read, as far as the script is known.
 pub data Verdict : Type 0 where
   refuses : List (List ℕ) → Refused → Verdict
   accepts : List (List ℕ) → Verdict
   runs : List (List ℕ) → CellData → List TypedTree → Verdict
+  lists : List (List ℕ) → CellData → List TypedTree → Verdict
 
 -- what the read of a file of this number comes to
 abbrev pub file_text : Reads → ℕ → ℕ → List ℕ → Result (List ℕ) Refused
@@ -154,51 +151,21 @@ cell_from script reads (Err refused) = Err refused
 abbrev pub checked : ScriptData → List ReadModule → Result MadeCell Refused
 checked script reads = cell_from script reads (typed_tasks script script.tasks reads)
 
--- the first key of the script that is there and not built
-abbrev pub unbuilt_key : ScriptData → Option (List ℕ)
-unbuilt_key script =
-    if not (length script.signals == 0) then Some (codes "signal")
-    else if nat_lt 1 (length script.tasks) then Some (codes "task[1]")
-    else if not (length script.zones == 0) then Some (codes "zone")
-    else if not (length script.inputs == 0) then Some (codes "input")
-    else None
+-- what the action comes to where all is accepted, with this cell and these trees; words without an action are refused
+abbrev pub ActionDecides : Option Action → List (List ℕ) → MadeCell → Verdict → Type 0
+ActionDecides (Some actions.Check) names made verdict = verdict ≡ accepts names
+ActionDecides (Some actions.Round) names made verdict = verdict ≡ runs names made.cell made.trees
+ActionDecides (Some actions.List) names made verdict = verdict ≡ lists names made.cell made.trees
+ActionDecides None names made verdict = ⊥
 
--- the refusal of a form that is not built, in one of these modules of its task
-abbrev pub form_refusal : List ReadModule → At → Refused
-form_refusal reads at = module_refusal reads at.«module» at.byte NotBuilt
-
--- the first form of the modules of these tasks that is not built, each task with its tree and as many of the modules as it names
-abbrev pub unbuilt_form : List ScriptTask → List ReadModule → List TypedTree → Option Refused
-unbuilt_form (task ∷ tasks) reads (tree ∷ trees) =
-    let count = length task.modules in
-    option_or (option_map (form_refusal (take count reads)) (first_unbuilt tree)) (unbuilt_form tasks (drop count reads) trees)
-unbuilt_form _ _ _ = None
-
--- the refusal of what is not built: a key of the script, then a form of a module
-abbrev pub not_built : ScriptData → List ReadModule → List TypedTree → Option Refused
-not_built script reads trees =
-    option_or (option_map (λ key. Script key rules.NotBuilt) (unbuilt_key script)) (unbuilt_form script.tasks reads trees)
-
-abbrev pub unless_refused : List (List ℕ) → Option Refused → Verdict → Verdict
-unless_refused names (Some refused) verdict = refuses names refused
-unless_refused names None verdict = verdict
-
--- what the action comes to where all is accepted, with this cell and these trees: a run needs what is built; words without an
--- action are refused
-abbrev pub ActionDecides : Option Action → List (List ℕ) → ScriptData → List ReadModule → MadeCell → Verdict → Type 0
-ActionDecides (Some Round) names script reads made verdict =
-    verdict ≡ unless_refused names (not_built script reads made.trees) (runs names made.cell made.trees)
-ActionDecides (Some Check) names script reads made verdict = verdict ≡ accepts names
-ActionDecides None names script reads made verdict = ⊥
-
-abbrev pub CheckedDecides : Option Action → List (List ℕ) → ScriptData → List ReadModule → Result MadeCell Refused → Verdict → Type 0
-CheckedDecides action names script reads (Err refused) verdict = verdict ≡ refuses names refused
-CheckedDecides action names script reads (Ok made) verdict = ActionDecides action names script reads made verdict
+abbrev pub CheckedDecides : Option Action → List (List ℕ) → Result MadeCell Refused → Verdict → Type 0
+CheckedDecides action names (Err refused) verdict = verdict ≡ refuses names refused
+CheckedDecides action names (Ok made) verdict = ActionDecides action names made verdict
 
 -- with the script read, its modules and its cell
 abbrev pub ModulesDecide : Option Action → List (List ℕ) → ScriptData → Result (List ReadModule) Refused → Verdict → Type 0
 ModulesDecide action names script (Err refused) verdict = verdict ≡ refuses names refused
-ModulesDecide action names script (Ok reads) verdict = CheckedDecides action names script reads (checked script reads) verdict
+ModulesDecide action names script (Ok reads) verdict = CheckedDecides action names (checked script reads) verdict
 
 abbrev pub names_of : List ℕ → ScriptData → List (List ℕ)
 names_of name script = name ∷ module_names script.tasks

@@ -1,21 +1,24 @@
 -- What a report answers to a verdict.
-use Rattle.std.specs.Prelude.{◌≡◌, ℕ, ◌⊎◌, List, [], ◌∷◌, map, codes, Option, Some, None, IfSome}
+use Rattle.std.specs.Prelude.{◌≡◌, ℕ, ◌⊎◌, List, [], ◌∷◌, length, map, codes, Option, Some, None, slice_get}
+use Rattle.std.specs.List.{concat}
 use Rattle.std.specs.Borrow.{Bor}
 use Rattle.outside.specs.Count.{Rose}
 use Rattle.outside.specs.Told.{Told}
 use Rattle.outside.specs.declared.call.Call.{Call}
 use Rattle.rapid_model.specs.CellData.{CellData}
+use Rattle.rapid_model.specs.ScriptData.{ScriptData}
 use Rattle.typed_trees.specs.Plain.{TypedTree}
+use Rattle.stack_code.specs.CodeData.{CodeData}
+use Rattle.code_liveness.specs.Asking.{AsksAs}
 use Rattle.cell_assembly.specs.Made.{MadeCell}
 use Rattle.history_text.specs.Lines.{lines_of, output_of}
+use Rattle.cell_listing.specs.Listing.{listing_of}
 use Rattle.controller.specs.declared.report.Report.{Report}
 use Rattle.controller.specs.declared.refused.Refused.{Refused}
 use Rattle.controller.specs.declared.refused.Refused.TheVariants.{Write, Memory}
-use Rattle.rapid_model.specs.ScriptData.{ScriptData}
 use Rattle.controller.specs.declared.command.Action.{Action}
-use Rattle.controller.specs.declared.command.Action.TheVariants.{Round}
 use Rattle.controller.specs.Files.{Reads, told_reads}
-use Rattle.controller.specs.Accepted.{Verdict, refuses, accepts, runs, Accepted, ReadModule, checked, ActionDecides, CheckedDecides}
+use Rattle.controller.specs.Accepted.{Verdict, refuses, accepts, runs, lists, Accepted, ReadModule, checked, ActionDecides, CheckedDecides}
 use Rattle.controller.specs.Refusals.{status_of, refusal_line}
 use Rattle.controller.specs.Runs.{IsRun, run_status}
 use Rattle.controller.specs.Sends.{SendsLines, SendsSome}
@@ -85,6 +88,36 @@ pub record IsAcceptedInPart (report : Report) (out err : Sunk) : Type 0 where
   pub calls : TakesBy (SendsSome (accepted_line ∷ [])) out
   pub told : TakesLine (refusal_line [] Write) err
 
+-- a code for each tree, which asks what the tree asks
+pub record AreCodesOf (trees : List TypedTree) (each : List CodeData) : Type 0 where
+  pub one_each : length each ≡ length trees
+  pub ask : (k : ℕ) (tree : TypedTree) (code : CodeData) → slice_get trees k ≡ Some tree → slice_get each k ≡ Some code → AsksAs tree code
+
+-- listed whole, the tables of the cell and the code of its tasks: each line by one call of the first sink, and more only where a
+-- call took part of it; nothing was run
+pub record IsListed (cell : CellData) (trees : List TypedTree) (report : Report) (out err : Sunk) : Type 0 where
+  pub code : List CodeData
+  pub code_is : AreCodesOf trees code
+  pub refused_is : report.refused ≡ None
+  pub status : report.status ≡ 0
+  pub history : report.history.items ≡ []
+  pub fates : report.fates.items ≡ []
+  pub printed : Takes (concat (listing_of cell code)) out
+  pub calls : TakesBy (SendsLines (listing_of cell code)) out
+  pub told : Takes [] err
+
+-- listed in part, since a write failed
+pub record IsListedInPart (cell : CellData) (trees : List TypedTree) (report : Report) (out err : Sunk) : Type 0 where
+  pub code : List CodeData
+  pub code_is : AreCodesOf trees code
+  pub refused_is : report.refused ≡ Some Write
+  pub status : report.status ≡ status_of Write
+  pub history : report.history.items ≡ []
+  pub fates : report.fates.items ≡ []
+  pub printed : GainedPart (concat (listing_of cell code)) out.old.bytes out.new.bytes
+  pub calls : TakesBy (SendsSome (listing_of cell code)) out
+  pub told : TakesLine (refusal_line [] Write) err
+
 -- what is answered where all is accepted; a write fails only where the first sink counted a fault
 abbrev pub AnswersAccepted : Report → Sunk → Sunk → Type 0
 AnswersAccepted report out err = IsAccepted report out err ⊎ (IsAcceptedInPart report out err × Rose out.old.faults out.new.faults)
@@ -94,11 +127,16 @@ abbrev pub AnswersRun : CellData → List TypedTree → Report → Sunk → Sunk
 AnswersRun cell trees report out err =
     IsPrinted cell trees report out err ⊎ (IsCutShort [] cell trees report out err × Rose out.old.faults out.new.faults)
 
+-- what a list is answered by; a write fails only where the first sink counted a fault
+abbrev pub AnswersList : CellData → List TypedTree → Report → Sunk → Sunk → Type 0
+AnswersList cell trees report out err = IsListed cell trees report out err ⊎ (IsListedInPart cell trees report out err × Rose out.old.faults out.new.faults)
+
 -- what a verdict is answered by
 abbrev pub Answers : Verdict → Report → Sunk → Sunk → Type 0
 Answers (refuses names refused) report out err = IsRefused names refused report out err
 Answers (accepts names) report out err = IsAccepted report out err ⊎ IsAcceptedInPart report out err
 Answers (runs names cell trees) report out err = IsPrinted cell trees report out err ⊎ IsCutShort names cell trees report out err
+Answers (lists names cell trees) report out err = IsListed cell trees report out err ⊎ IsListedInPart cell trees report out err
 
 -- want of memory: before the first event, with nothing printed
 abbrev pub IsOutOfMemory : Report → Sunk → Sunk → Type 0
@@ -108,6 +146,10 @@ IsOutOfMemory report out err = IsRefused [] Memory report out err
 abbrev pub RunsOrMemory : CellData → List TypedTree → Report → Sunk → Sunk → Type 0
 RunsOrMemory cell trees report out err = IsOutOfMemory report out err ⊎ AnswersRun cell trees report out err
 
+-- a list, want of memory aside
+abbrev pub ListsOrMemory : CellData → List TypedTree → Report → Sunk → Sunk → Type 0
+ListsOrMemory cell trees report out err = IsOutOfMemory report out err ⊎ AnswersList cell trees report out err
+
 -- it answers a verdict of which this holds, want of memory aside
 abbrev pub AnswersSome : (Verdict → Type 0) → Report → Sunk → Sunk → Type 0
 AnswersSome P report out err = IsOutOfMemory report out err ⊎ ((verdict : Verdict) × P verdict × Answers verdict report out err)
@@ -115,11 +157,11 @@ AnswersSome P report out err = IsOutOfMemory report out err ⊎ ((verdict : Verd
 -- with all modules read
 abbrev pub AnswersReads : Option Action → List (List ℕ) → ScriptData → List ReadModule → Report → Sunk → Sunk → Type 0
 AnswersReads action names script reads report out err =
-    AnswersSome (CheckedDecides action names script reads (checked script reads)) report out err
+    AnswersSome (CheckedDecides action names (checked script reads)) report out err
 
--- with all modules accepted, this cell and its trees, where they are to run
-abbrev pub AnswersBuilt : List (List ℕ) → ScriptData → List ReadModule → MadeCell → Report → Sunk → Sunk → Type 0
-AnswersBuilt names script reads made report out err = AnswersSome (ActionDecides (Some Round) names script reads made) report out err
+-- with all modules accepted, this cell and its trees
+abbrev pub AnswersMade : Action → List (List ℕ) → MadeCell → Report → Sunk → Sunk → Type 0
+AnswersMade action names made report out err = AnswersSome (ActionDecides (Some action) names made) report out err
 
 -- A verdict on the words and the files: on what each read finds of a shelf that tells its files; of a shelf that tells nothing,
 -- on what some reads gave.

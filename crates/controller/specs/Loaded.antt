@@ -1,10 +1,9 @@
 -- What loading a script and its modules comes to, and how contracts see what is loaded.
 use Rattle.std.specs.Prelude.{◌≡◌, ℕ, ◌+◌, ◌≤◌, ◌<◌, ◌^◌, ◌⊎◌, List, [], ◌∷◌, map, length, Option, None, Some, Result, Ok, Err, Vec, All}
 use Rattle.std.specs.Borrow.{Bor}
-use Rattle.std.specs.Option.{option_map}
 use Rattle.std.specs.declared.alloc.Global.{Global}
+use Rattle.rapid_model.specs.CellData.{CellData}
 use Rattle.rapid_model.specs.ScriptData.{ScriptData}
-use Rattle.rapid_model.specs.declared.tree.Tree.{Tree}
 use Rattle.cell_script.specs.Break.{ScriptBreak}
 use Rattle.cell_script.specs.ScriptOf.{ScriptOf}
 use Rattle.raw_trees.specs.Views.{view_module}
@@ -16,17 +15,15 @@ use Rattle.cell_assembly.specs.Cells.{Clash}
 use Rattle.cell_assembly.specs.declared.cell_fault.CellFault.{CellFault}
 use Rattle.cell_assembly.specs.declared.cell_fault.CellFault.TheVariants as cells
 use Rattle.cell_assembly.specs.Made.{MadeCell}
-use Rattle.typed_trees.specs.Plain.{TypedTree}
 use Rattle.typed_trees.specs.Views.{view_tree}
-use Rattle.built_tasks.specs.Moves.{moves_of}
-use Rattle.built_tasks.specs.Unbuilt.{first_unbuilt}
+use Rattle.typed_trees.specs.declared.tree.Tree.{Tree}
+use Rattle.tree_soundness.specs.Accepted.{IsAccepted}
 use Rattle.controller.specs.declared.check.CheckedCell.{CheckedCell}
 use Rattle.controller.specs.declared.modules.Modules.{Modules}
 use Rattle.controller.specs.declared.refused.Refused.{Refused}
 use Rattle.controller.specs.declared.refused.Refused.TheVariants.{Script, Memory}
 use Rattle.controller.specs.Files.{Reads}
-use Rattle.controller.specs.Accepted.{ReadModule, ModuleOf, module_limit, file_text, rule_refusal, cell_refusal, form_refusal, not_built}
-use Rattle.controller.specs.Runs.{AreMoves}
+use Rattle.controller.specs.Accepted.{ReadModule, ModuleOf, module_limit, file_text, rule_refusal, cell_refusal}
 
 -- the names of the modules' files
 abbrev pub names_in_turn : List (Bor (List ℕ)) → List (List ℕ)
@@ -37,8 +34,11 @@ abbrev pub file_names : List ℕ → List (Bor (List ℕ)) → List (List ℕ)
 file_names script names = script ∷ names_in_turn names
 
 -- a cell with its trees
+abbrev pub made_with : CellData → List Tree → MadeCell
+made_with cell trees = record { cell = cell; trees = map view_tree trees }
+
 abbrev pub made_of : CheckedCell → MadeCell
-made_of c = record { cell = c.cell; trees = map view_tree c.trees.items }
+made_of c = made_with c.cell c.trees.items
 
 -- modules by their texts and trees, the first of them in the file of this number
 abbrev pub reads_of : ℕ → List (Vec ℕ Global) → List RawModule → List ReadModule
@@ -116,12 +116,8 @@ IsCellRefusal script reads (cells.Clash task number at) refused = refused ≡ ce
 IsCellRefusal script reads (cells.Script key rule) refused = refused ≡ Script key rule
 IsCellRefusal script reads cells.Memory refused = refused ≡ Memory
 
--- what a task is built to, whose modules these are, want of memory aside
-abbrev pub BuildsOne : List ReadModule → TypedTree → Result Tree Refused → Type 0
-BuildsOne reads tree (Ok moves) = (first_unbuilt tree ≡ None) × (moves ≡ moves_of tree)
-BuildsOne reads tree (Err refused) = (refused ≡ Memory) ⊎ (option_map (form_refusal reads) (first_unbuilt tree) ≡ Some refused)
-
--- what the tasks of a script are built to, want of memory aside
-abbrev pub BuildsTo : ScriptData → List ReadModule → List TypedTree → Result (Vec Tree Global) Refused → Type 0
-BuildsTo script reads trees (Ok moves) = (not_built script reads trees ≡ None) × AreMoves trees moves.items
-BuildsTo script reads trees (Err refused) = (refused ≡ Memory) ⊎ (not_built script reads trees ≡ Some refused)
+-- the cell of some script that is accepted, and a tree for each of its tasks
+pub record HasScript (made : MadeCell) : Type 0 where
+  pub script : ScriptData
+  pub accepted : IsAccepted script made
+  pub one_each : length made.trees ≡ length made.cell.tasks

@@ -24,7 +24,6 @@ abbrev pub module_rule_name : ModuleRule → List ℕ
 module_rule_name (modules.Lex rule) = lex_rule_name rule
 module_rule_name (modules.Syntax rule) = syntax_rule_name rule
 module_rule_name (modules.«Type» rule) = type_rule_name rule
-module_rule_name modules.NotBuilt = codes "NotBuilt"
 
 -- an empty key is shown as a minus
 abbrev pub key_words : List ℕ → List ℕ

@@ -1,27 +1,41 @@
 -- The run theorem: what the report of a run tells.
-use Rattle.std.specs.Prelude.{◌≡◌, ℕ, Bool, true, false, List, length, map, All, None, if◌then◌else◌}
+use Rattle.std.specs.Prelude.{◌≡◌, ℕ, Bool, true, false, List, ◌∷◌, ◌++◌, length, Some, if◌then◌else◌}
 use Rattle.std.specs.List.{list_any}
+use Rattle.rapid_num.specs.declared.joints.Joints.{Joints}
+use Rattle.rapid_num.specs.declared.shape.Shape.{Shape}
+use Rattle.joint_clip.specs.Touches.{Touches}
 use Rattle.rapid_model.specs.CellData.{CellData}
+use Rattle.rapid_model.specs.declared.answer.Answer.TheVariants as answers
 use Rattle.rapid_model.specs.declared.event.Event.{Event}
 use Rattle.rapid_model.specs.declared.fate.Fate.{Fate}
 use Rattle.rapid_model.specs.declared.fate.Fate.TheVariants as fates
-use Rattle.rapid_model.specs.declared.tree.Tree.{Tree}
+use Rattle.rapid_model.specs.declared.request.Request.TheVariants.{Setpoint}
+use Rattle.rapid_model.specs.declared.zone_name.ZoneName.{ZoneName}
 use Rattle.typed_trees.specs.Plain.{TypedTree}
 use Rattle.rapid_meaning.specs.Asking.{tree_asks}
-use Rattle.move_meaning.specs.Traces.{SuitTasks}
-use Rattle.built_tasks.specs.Moves.{moves_of}
-use Rattle.built_tasks.specs.Unbuilt.{first_unbuilt}
-use Rattle.cell_meaning.specs.Histories.{IsLegal, IsWhole, all_ended, is_spent, fates_after}
+use Rattle.world_zones.specs.Touched.{supervised}
+use Rattle.cell_meaning.specs.Asking.{with_inputs}
+use Rattle.cell_meaning.specs.Fates.{all_ended, is_spent, fates_after}
+use Rattle.cell_meaning.specs.Histories.{IsLegal, IsWhole}
+use Rattle.cell_meaning.specs.Motion.{arm_after}
+use Rattle.cell_meaning.specs.Stored.{signals_after}
 use Rattle.cell_meaning.specs.Turns.{IsByTurns}
+use Rattle.cell_meaning.specs.Zones.{zones_after}
 use Rattle.controller.specs.declared.report.Report.{Report}
 
--- The history interleaves whole traces of the tasks' trees, each answer being what one shared cell gives at that point;
--- it is the run by turns, and the fates follow from it.
+-- on its whole way from where the arm was, each setpoint that was given misses every zone that then watched the arm
+pub record MissesZones (cell : CellData) (history : List Event) : Type 0 where
+  pub misses : (before after : List Event) (e : Event) (from to : Joints) (name : ZoneName) (shape : Shape) → history ≡ before ++ e ∷ after → e.request ≡ Setpoint to → e.answer ≡ answers.Given
+      → arm_after cell before e.actor ≡ Some from → supervised (zones_after cell before) e.actor (signals_after cell before) name ≡ Some shape → ¬ Touches from to shape
+
+-- The history interleaves whole traces of the tasks' trees and of the input script, each answer being what one shared cell gives
+-- at that point; it is the run by turns, the fates follow from it, and no arm passed through a zone that watched it.
 pub record IsRun (cell : CellData) (trees : List TypedTree) (report : Report) : Type 0 where
-  pub legal : IsLegal (tree_asks trees) cell report.history.items
-  pub whole : IsWhole (tree_asks trees) cell report.history.items
-  pub by_turns : IsByTurns (tree_asks trees) cell report.history.items
+  pub legal : IsLegal (with_inputs (tree_asks trees) cell) cell report.history.items
+  pub whole : IsWhole (with_inputs (tree_asks trees) cell) cell report.history.items
+  pub by_turns : IsByTurns (with_inputs (tree_asks trees) cell) cell report.history.items
   pub fates : report.fates.items ≡ fates_after cell report.history.items (length cell.tasks)
+  pub clear : MissesZones cell report.history.items
 
 abbrev pub is_fault : Fate → Bool
 is_fault (fates.Fault fault) = true
@@ -35,13 +49,3 @@ run_status cell history =
     (if list_any is_fault (fates_after cell history (length cell.tasks)) then 1 else 0)
     else if is_spent cell history then 9
     else 8
-
--- there is a list of moves for each task of the cell, which asks what that task may ask
-pub record SuitsCell (cell : CellData) (moves : List Tree) : Type 0 where
-  pub one_each : length moves ≡ length cell.tasks
-  pub suit : SuitTasks moves cell
-
--- all these trees are built, and these are their moves
-pub record AreMoves (trees : List TypedTree) (moves : List Tree) : Type 0 where
-  pub built : All (λ tree. first_unbuilt tree ≡ None) trees
-  pub are : moves ≡ map moves_of trees

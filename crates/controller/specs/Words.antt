@@ -3,7 +3,7 @@
 use Rattle.std.specs.Prelude.{ℕ, ◌+◌, Bool, false, not, ◌&&◌, nat_lt, List, [], ◌∷◌, length, filter, position, slice_get, Option, Some, None, is_some, codes, ◌==◌, if◌then◌else◌, bytes_eq}
 use Rattle.std.specs.Option.{option_or}
 use Rattle.controller.specs.declared.command.Action.{Action}
-use Rattle.controller.specs.declared.command.Action.TheVariants.{Check, Round}
+use Rattle.controller.specs.declared.command.Action.TheVariants as actions
 
 abbrev pub begins_with_minus : List ℕ → Bool
 begins_with_minus [] = false
@@ -26,7 +26,11 @@ places test from [] = []
 places test from (word ∷ words) = if test word then from ∷ places test (from + 1) words else places test (from + 1) words
 
 abbrev pub action_of : List ℕ → Option Action
-action_of word = if bytes_eq word (codes "check") then Some Check else if bytes_eq word (codes "round") then Some Round else None
+action_of word =
+    if bytes_eq word (codes "check") then Some actions.Check
+    else if bytes_eq word (codes "round") then Some actions.Round
+    else if bytes_eq word (codes "list") then Some actions.List
+    else None
 
 -- the action and its words
 abbrev pub plain_words : List (List ℕ) → List (List ℕ)

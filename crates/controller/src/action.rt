@@ -1,26 +1,34 @@
-ghost use Rattle.std.specs.Prelude.{◌≡◌, ℕ, ◌↔◌, Some, IfSome};
+ghost use Rattle.std.specs.Prelude.{◌≡◌, ℕ, ◌↔◌, List, Some, IfSome};
 ghost use Rattle.outside.specs.Count.{Rose};
 ghost use Rattle.controller.specs.Files.{IsDoneFault};
-ghost use Rattle.controller.specs.Loaded.{file_names, reads_in, ArePaired, AreSpelled};
+ghost use Rattle.controller.specs.Loaded.{file_names, made_of, reads_in, ArePaired, AreSpelled, HasScript};
 ghost use Rattle.controller.specs.Words.{refused_place};
 ghost use Rattle.controller.specs.Printed.{sunk};
-ghost use Rattle.controller.specs.Answered.{AnswersWords, AnswersReads, word_bytes};
+ghost use Rattle.controller.specs.Answered.{AnswersWords, AnswersReads, AnswersMade, word_bytes};
 
-use crate::check::check_modules;
+use crate::check::{CheckedCell, check_modules};
 use crate::command::{Action, Command, read_words};
 use crate::files::module_files;
+use crate::list::list_cell;
 use crate::modules::{Modules, parse_texts};
 use crate::refused::Refused;
 use crate::report::{Report, refuse, refuse_file, report_accepted};
-use crate::run::run_built;
+use crate::run::run_cell;
 use crate::texts::{Texts, load_script, load_texts};
 use outside::{Shelf, Sink};
 use rapid_model::Script;
 use std::alloc::Global;
 
-/// Does what the command words say, over the script in the file CELL and the modules that it names. `check CELL` tells
-/// whether all is accepted; `round CELL` runs the cell by turns on one thread, and prints its setpoints and how each task
-/// ended. `--history` may stand anywhere among the words, once. It always returns.
+/// Does what the command words say, over the script in the file CELL and the modules that it names. A refusal is one line on
+/// the second sink; else the first sink gets, as lines:
+///
+/// - for `check CELL`: `accepted`;
+/// - for `round CELL`, which runs the cell by turns on one thread: in order, for each setpoint that was given `S`, its task and
+///   the six axes in degrees, and for each text to the operator `T`, its task and the text; then for each task, in script order,
+///   `E`, its name and its fate, which is `Done`, `Exit`, `Fault` and the fault, `Held` or `Cut`;
+/// - for `list CELL`: the persistents, the signals and the meetings by number; then the operations of each task's code.
+///
+/// `--history` may stand anywhere among the words, once. It always returns.
 pub fn quiet<S: Shelf, O: Sink, E: Sink>(
     alloc: Global,
     words: &[&str],
@@ -78,22 +86,29 @@ fn do_action<O: Sink, E: Sink>(
     ensures answers { AnswersReads (Some command.now.action) (file_names command.now.script.now files.now) script.now (reads_in modules.now) result (sunk O.told O.calls O.faults out.old out.new) (sunk E.told E.calls E.faults err.old err.new) }
     ensures causes { IfSome result.refused (IsDoneFault (O.faults out.old) (O.faults out.new)) }
 {
+    // A script is within its limits.
+    prove!(script.steps() > 0);
     match check_modules(alloc, script, modules) {
-        Ok(accepted) => match command.action {
-            Action::Check => report_accepted(alloc, out, err),
-            Action::Round => {
-                run_built(
-                    alloc,
-                    command.script,
-                    script,
-                    files,
-                    modules,
-                    accepted,
-                    out,
-                    err,
-                )
-            }
-        },
+        Ok(accepted) => do_accepted(alloc, command.action, accepted, out, err),
         Err(refused) => refuse_file(alloc, err, command.script, files, refused),
+    }
+}
+
+/// Does the action with a cell that is accepted.
+fn do_accepted<O: Sink, E: Sink>(
+    alloc: Global,
+    action: Action,
+    accepted: CheckedCell,
+    out: &mut O,
+    err: &mut E,
+) -> Report
+    requires { HasScript (made_of accepted) }
+    ensures answers { (names : List (List ℕ)) → AnswersMade action names (made_of accepted) result (sunk O.told O.calls O.faults out.old out.new) (sunk E.told E.calls E.faults err.old err.new) }
+    ensures causes { IfSome result.refused (IsDoneFault (O.faults out.old) (O.faults out.new)) }
+{
+    match action {
+        Action::Check => report_accepted(alloc, out, err),
+        Action::Round => run_cell(alloc, accepted, out, err),
+        Action::List => list_cell(alloc, &accepted, out, err),
     }
 }

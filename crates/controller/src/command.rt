@@ -10,6 +10,8 @@ pub enum Action {
     Check,
     /// Runs the cell by turns on one thread.
     Round,
+    /// Prints the tables of the cell and each task's code.
+    List,
 }
 
 /// The action, and the name of the script's file.
@@ -107,6 +109,7 @@ fn action_of(word: &str) -> Option<Action>
     match word {
         "check" => Some(Action::Check),
         "round" => Some(Action::Round),
+        "list" => Some(Action::List),
         _ => None,
     }
 }

@@ -2,13 +2,15 @@
 #![tactic(auto)]
 
 mod action;
-mod build;
 mod check;
+mod code;
 mod command;
 mod files;
 mod laws;
+mod list;
 mod modules;
 mod print;
+mod print_list;
 mod refused;
 mod report;
 mod run;
@@ -16,6 +18,6 @@ mod texts;
 
 pub use action::quiet;
 pub use command::Action;
-pub use laws::{verdict_is_one, verdicts_refuse_input};
+pub use laws::{given_setpoints_miss_zones, verdict_is_one, verdicts_refuse_input};
 pub use refused::{ModuleRule, Refused};
 pub use report::Report;

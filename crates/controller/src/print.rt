@@ -1,6 +1,6 @@
 ghost use Rattle.std.specs.Prelude.{◌≡◌, ◌<◌, ◌≤◌, [], ◌∷◌, map, length, slice_get, Some};
 ghost use Rattle.rapid_model.specs.declared.event.Event.{Event};
-ghost use Rattle.cell_meaning.specs.Histories.{fates_after};
+ghost use Rattle.cell_meaning.specs.Fates.{fates_after};
 ghost use Rattle.history_text.specs.Lines.{line_of, fate_line, fate_lines, lines_of};
 ghost use Rattle.controller.specs.Printed.{sunk};
 ghost use Rattle.controller.specs.Written.{Writes};

@@ -23,8 +23,6 @@ pub enum ModuleRule {
     Syntax(SyntaxRule),
     /// A rule of names and types.
     Type(TypeRule),
-    /// The module is accepted, and a form of it is not built.
-    NotBuilt,
 }
 
 impl ModuleRule {
@@ -36,7 +34,6 @@ impl ModuleRule {
             ModuleRule::Lex(rule) => rule.name(),
             ModuleRule::Syntax(rule) => rule.name(),
             ModuleRule::Type(rule) => rule.name(),
-            ModuleRule::NotBuilt => b"NotBuilt",
         }
     }
 }

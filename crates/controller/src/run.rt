@@ -1,104 +1,107 @@
-ghost use Rattle.std.specs.Prelude.{◌≡◌, List, Ok, IfOk, IfSome, map, length};
-ghost use Rattle.std.specs.List.{list_any};
-ghost use Rattle.rapid_model.specs.declared.tree.Tree.{Tree};
+ghost use Rattle.std.specs.Prelude.{◌≡◌, List, All, IfOk, map, length};
+ghost use Rattle.std.specs.List.{list_any, AllByRecursion};
+ghost use Rattle.rapid_model.specs.CellData.{IsCell};
 ghost use Rattle.typed_trees.specs.Plain.{TypedTree};
-ghost use Rattle.move_meaning.specs.Runs.{tree_asks};
-ghost use Rattle.cell_meaning.specs.Histories.{fates_after};
+ghost use Rattle.typed_trees.specs.Views.{view_tree};
+ghost use Rattle.rapid_meaning.specs.Asking.{tree_asks};
+ghost use Rattle.stack_code.specs.Compiled.{compiled};
+ghost use Rattle.live_code.specs.Asking.{CodeAsks};
+ghost use Rattle.live_code.specs.Live.{CodeFits};
+ghost use Rattle.code_liveness.specs.Checked.{IsChecked};
+ghost use Rattle.cell_meaning.specs.Asking.{with_inputs};
+ghost use Rattle.cell_meaning.specs.Fates.{fates_after};
+ghost use Rattle.cell_meaning.specs.Premises.{AsksWhatItMay, StartsFull};
 ghost use Rattle.cell_meaning.specs.Turns.{IsByTurns};
-ghost use Rattle.task_machine.specs.MachineData.{fresh};
-ghost use Rattle.controller.specs.Accepted.{checked};
-ghost use Rattle.controller.specs.Files.{IsDoneFault};
-ghost use Rattle.controller.specs.Loaded.{file_names, made_of, reads_in, ArePaired, AreSpelled};
-ghost use Rattle.controller.specs.Runs.{AreMoves, SuitsCell, is_fault, run_status};
+ghost use Rattle.cell_crew.specs.Crew.{RunPrograms};
+ghost use Rattle.task_steps.specs.declared.phase.Phase.TheVariants as phases;
+ghost use Rattle.controller.specs.Loaded.{made_of, HasScript};
+ghost use Rattle.controller.specs.Runs.{is_fault, run_status};
 ghost use Rattle.controller.specs.Printed.{sunk};
-ghost use Rattle.controller.specs.Answered.{RunsOrMemory, AnswersRun, AnswersBuilt};
+ghost use Rattle.controller.specs.Answered.{RunsOrMemory, AnswersRun};
 
-use crate::build::build_tasks;
 use crate::check::CheckedCell;
-use crate::modules::Modules;
+use crate::code::compile_one;
 use crate::print::{print_run, rows_of};
 use crate::refused::{Refused, tell_refusal};
-use crate::report::{Report, refuse, refuse_file};
+use crate::report::{Report, refuse};
+use accepted_runs::{accepted_tasks_ask_well, accepted_tasks_run_their_code};
 use cell_core::Core;
 use cell_crew::run_round;
+use cell_meaning::{Askers, starts_full};
 use outside::Sink;
-use rapid_model::{Cell, Fate, Script, Tree};
+use rapid_model::{Cell, Fate};
 use std::alloc::{AllocError, Global};
 use std::marker::Brand;
 use task_machine::Machine;
+use typed_trees::Tree;
 
-/// Runs the cell of a script whose modules are accepted, unless something of it is not built. `name` is the name of the
-/// script's file, `files` are those of the modules.
-pub(crate) fn run_built<O: Sink, E: Sink>(
+/// Runs the tasks of a cell that is accepted, and reports it.
+pub(crate) fn run_cell<O: Sink, E: Sink>(
     alloc: Global,
-    name: &str,
-    script: &Script,
-    files: &[&str],
-    modules: &Modules<'_, '_>,
     accepted: CheckedCell,
     out: &mut O,
     err: &mut E,
 ) -> Report
-    requires paired { ArePaired modules.now }
-    requires spelled { AreSpelled (reads_in modules.now) }
-    requires accepted { checked script.now (reads_in modules.now) ≡ Ok (made_of accepted) }
-    requires one_each { length accepted.trees.items ≡ length script.now.tasks }
-    ensures answers { AnswersBuilt (file_names name.now files.now) script.now (reads_in modules.now) (made_of accepted) result (sunk O.told O.calls O.faults out.old out.new) (sunk E.told E.calls E.faults err.old err.new) }
-    ensures causes { IfSome result.refused (IsDoneFault (O.faults out.old) (O.faults out.new)) }
+    requires { HasScript (made_of accepted) }
+    ensures { RunsOrMemory accepted.cell (map view_tree accepted.trees.items) result (sunk O.told O.calls O.faults out.old out.new) (sunk E.told E.calls E.faults err.old err.new) }
 {
+    accepted_tasks_ask_well();
+    accepted_tasks_run_their_code();
     let CheckedCell { cell, trees } = accepted;
-    match build_tasks(alloc, script, modules, trees.as_slice()) {
-        Ok(moves) => run_moves(alloc, cell, moves, out, err),
-        Err(refused) => refuse_file(alloc, err, name, files, refused),
-    }
-}
-
-/// Runs the tasks of a cell, which have these moves, and reports it.
-fn run_moves<O: Sink, E: Sink>(
-    alloc: Global,
-    cell: Cell,
-    moves: Vec<Tree>,
-    out: &mut O,
-    err: &mut E,
-) -> Report
-    requires { SuitsCell cell moves.items }
-    ensures { (trees : List TypedTree) → AreMoves trees moves.items → RunsOrMemory cell trees result (sunk O.told O.calls O.faults out.old out.new) (sunk E.told E.calls E.faults err.old err.new) }
-{
-    match run_tasks(alloc, cell, moves) {
+    match run_tasks::<Brand>(alloc, cell, trees.as_slice()) {
         Ok(core) => report_run(core, out, err),
         Err(_) => refuse(alloc, err, "", Refused::Memory),
     }
 }
 
-/// Runs the tasks of a cell by turns. All memory is taken before the first event.
-fn run_tasks(alloc: Global, cell: Cell, moves: Vec<Tree>) -> Result<Core, AllocError>
-    requires { SuitsCell cell moves.items }
+/// Runs the tasks of a cell by turns, whose trees these are. All memory is taken before the first event.
+fn run_tasks<A: Askers>(alloc: Global, cell: Cell, trees: &[Tree]) -> Result<Core, AllocError>
+    requires one_each { length trees.now ≡ length cell.tasks }
+    requires checked { All IsChecked (map view_tree trees.now) }
+    requires programs { RunPrograms CodeFits CodeAsks A.asks cell (map compiled (map view_tree trees.now)) }
+    requires may { AsksWhatItMay (with_inputs A.asks cell) cell }
     ensures cell { IfOk result (λ core. core.cell ≡ cell) }
-    ensures by_turns { IfOk result (λ core. IsByTurns (tree_asks moves.items) cell core.history) }
+    ensures by_turns { IfOk result (λ core. IsByTurns (with_inputs A.asks cell) cell core.history) }
 {
-    let machines = crew_of(alloc, moves)?;
+    let machines = crew_of(alloc, trees)?;
     match Core::new(alloc, cell) {
-        Ok(core) => Ok(run_round::<Brand>(core, machines).core),
+        Ok(core) => Ok(run_round::<A, Machine>(core, machines).core),
         Err(_) => Err(AllocError),
     }
 }
 
-/// A machine for each task.
-fn crew_of(alloc: Global, moves: Vec<Tree>) -> Result<Vec<Machine>, AllocError>
-    ensures { IfOk result (λ machines. machines.items ≡ map fresh moves.items) }
+/// A machine for each task, whose trees these are.
+fn crew_of(alloc: Global, trees: &[Tree]) -> Result<Vec<Machine>, AllocError>
+    requires { All IsChecked (map view_tree trees.now) }
+    ensures programs { IfOk result (λ machines. map (λ m. m.code) machines.items ≡ map compiled (map view_tree trees.now)) }
+    ensures fresh { IfOk result (λ machines. AllByRecursion (λ m. m.phase ≡ phases.New) machines.items) }
 {
-    moves
-        .into_iter()
-        .map(|list| Machine::new(list))
-        .collect(alloc)
+    let mut machines = Vec::new(alloc);
+    for tree in trees {
+        let machine = machine_of(alloc, tree)?;
+        machines.push(machine)?;
+    }
+    Ok(machines)
+}
+
+/// A machine that runs the code of a tree, and has asked nothing yet.
+fn machine_of(alloc: Global, tree: &Tree) -> Result<Machine, AllocError>
+    requires { IsChecked (view_tree tree.now) }
+    ensures program { IfOk result (λ m. m.code ≡ compiled (view_tree tree.now)) }
+    ensures fresh { IfOk result (λ m. m.phase ≡ phases.New) }
+{
+    let code = compile_one(alloc, tree)?;
+    match Machine::new(alloc, code) {
+        Ok(machine) => Ok(machine),
+        Err(_) => Err(AllocError),
+    }
 }
 
 /// Prints a run and reports it.
 fn report_run<O: Sink, E: Sink>(core: Core, out: &mut O, err: &mut E) -> Report
-    ensures { (trees : List TypedTree) (moves : List Tree) → AreMoves trees moves → SuitsCell core.cell moves → IsByTurns (tree_asks moves) core.cell core.history → AnswersRun core.cell trees result (sunk O.told O.calls O.faults out.old out.new) (sunk E.told E.calls E.faults err.old err.new) }
+    ensures { (trees : List TypedTree) → AsksWhatItMay (with_inputs (tree_asks trees) core.cell) core.cell → IsByTurns (with_inputs (tree_asks trees) core.cell) core.cell core.history → AnswersRun core.cell trees result (sunk O.told O.calls O.faults out.old out.new) (sunk E.told E.calls E.faults err.old err.new) }
 {
-    // A cell is within its limits.
-    prove!(core.cell().steps() > 0);
+    within_limits(core.cell());
     let status = status_of_run(&core);
     match print_run(out, &core) {
         Ok(()) => {
@@ -121,6 +124,15 @@ fn report_run<O: Sink, E: Sink>(core: Core, out: &mut O, err: &mut E) -> Report
             }
         }
     }
+}
+
+/// A cell is within its limits, and its persistents are full at the start.
+fn within_limits(cell: &Cell)
+    ensures limits { IsCell cell.now }
+    ensures full { StartsFull cell.now }
+{
+    prove!(cell.steps() > 0);
+    starts_full(cell);
 }
 
 /// The status of a run that was printed: where all tasks ended, 1 where one ended with a fault, else 0; else 9 where the steps

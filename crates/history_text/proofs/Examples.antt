@@ -1,6 +1,6 @@
 -- The lines on examples worked by hand.
 use Rattle.std.proofs.Common.{◌≡◌, refl, List, [], ◌∷◌, None}
-use Rattle.std.specs.Prelude.{codes, pos}
+use Rattle.std.specs.Prelude.{codes, pos, negsuc, true}
 use Rattle.std.specs.Fmt.{digits}
 use Rattle.rapid_num.specs.declared.joints.Joints.{Joints}
 use Rattle.rapid_model.specs.CellData.{CellData}
@@ -9,7 +9,8 @@ use Rattle.rapid_model.specs.declared.event.Event.{Event}
 use Rattle.rapid_model.specs.declared.fate.Fate.TheVariants as fates
 use Rattle.rapid_model.specs.declared.fate.Fault.TheVariants.{JointRange, Unhandled}
 use Rattle.rapid_model.specs.declared.request.Request.{Request}
-use Rattle.rapid_model.specs.declared.request.Request.TheVariants.{Look, Position, Setpoint}
+use Rattle.rapid_model.specs.declared.request.Request.TheVariants.{Look, Position, Setpoint, Say}
+use Rattle.rapid_model.specs.declared.tail.Tail.TheVariants as tails
 use Rattle.rapid_model.specs.declared.answer.Answer.{Answer}
 use Rattle.rapid_model.specs.declared.task_row.TaskRow.{TaskRow}
 use Rattle.history_text.specs.Lines.{line_of, fate_line, lines_of, output_of}
@@ -27,6 +28,19 @@ asked request answer = record { actor = 0; request = request; answer = answer }
 setpoint : line_of tasks (asked (Setpoint turned) answers.Given) ≡ codes "S A 0.833 0.000 0.000 0.000 0.000 0.000\n"
 unfolding digits turned tasks asked
 setpoint = refl
+
+text : line_of tasks (asked (Say (codes "ready") tails.None) answers.Ok) ≡ codes "T A ready\n"
+unfolding digits tasks asked
+text = refl
+
+-- -1.5 behind a text
+text_and_num : line_of tasks (asked (Say (codes "k=") (tails.Num (negsuc 1_499))) answers.Ok) ≡ codes "T A k=-1.5\n"
+unfolding digits tasks asked
+text_and_num = refl
+
+text_and_truth : line_of tasks (asked (Say (codes "on ") (tails.Bool true)) answers.Ok) ≡ codes "T A on TRUE\n"
+unfolding digits tasks asked
+text_and_truth = refl
 
 look : line_of tasks (asked Look (answers.Go 3)) ≡ []
 unfolding tasks asked

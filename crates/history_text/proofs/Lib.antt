@@ -1,3 +1,3 @@
 mod Examples
-mod Printable
+pub mod Printable
 mod NumberWords

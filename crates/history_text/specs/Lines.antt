@@ -1,7 +1,7 @@
 -- The lines that are printed of a history. Each ends with 0A.
 use Rattle.std.specs.Prelude.{ℕ, ℤ, List, [], ◌∷◌, ◌++◌, map, Option, Some, None, codes, decimal, take, slice_get}
 use Rattle.std.specs.List.{concat}
-use Rattle.rapid_num.specs.NumText.{fixed_text}
+use Rattle.rapid_num.specs.NumText.{fixed_text, shortest_text}
 use Rattle.rapid_num.specs.declared.joints.Joints.{Joints}
 use Rattle.rapid_model.specs.CellData.{CellData}
 use Rattle.rapid_model.specs.declared.answer.Answer.{Answer}
@@ -12,8 +12,11 @@ use Rattle.rapid_model.specs.declared.fate.Fate.TheVariants as fates
 use Rattle.rapid_model.specs.declared.fate.Fault.{Fault}
 use Rattle.rapid_model.specs.declared.fate.Fault.TheVariants as faults
 use Rattle.rapid_model.specs.declared.request.Request.{Request}
-use Rattle.rapid_model.specs.declared.request.Request.TheVariants.{Setpoint}
+use Rattle.rapid_model.specs.declared.request.Request.TheVariants.{Setpoint, Say}
+use Rattle.rapid_model.specs.declared.tail.Tail.{Tail}
+use Rattle.rapid_model.specs.declared.tail.Tail.TheVariants as tails
 use Rattle.rapid_model.specs.declared.task_row.TaskRow.{TaskRow}
+use Rattle.value_text.specs.ValueText.{truth_text}
 
 -- numbers with three decimals, each after a space
 abbrev pub number_words : List ℤ → List ℕ
@@ -32,9 +35,20 @@ task_name tasks actor = named (slice_get tasks actor)
 abbrev pub setpoint_line : List ℕ → Joints → List ℕ
 setpoint_line name to = codes "S " ++ (name ++ (number_words (take 6 to.axis) ++ codes "\n"))
 
+-- what stands behind a text for the operator: a num in its shortest form, or a truth
+abbrev pub tail_words : Tail → List ℕ
+tail_words tails.None = []
+tail_words (tails.Num n) = shortest_text n
+tail_words (tails.Bool b) = truth_text b
+
+-- a text for the operator: T, the task, the text, and at once its tail
+abbrev pub text_line : List ℕ → List ℕ → Tail → List ℕ
+text_line name text tail = codes "T " ++ (name ++ (32 ∷ text ++ (tail_words tail ++ codes "\n")))
+
 -- the line of an event, or nothing
 abbrev pub line_between : List ℕ → Request → Answer → List ℕ
 line_between name (Setpoint to) answers.Given = setpoint_line name to
+line_between name (Say text tail) answers.Ok = text_line name text tail
 line_between name _ _ = []
 
 abbrev pub line_of : List TaskRow → Event → List ℕ

@@ -1,23 +1,44 @@
 ghost use Rattle.std.specs.Prelude.{◌≡◌, ◌+◌, ◌≤◌, [], ◌++◌, length};
-ghost use Rattle.history_text.specs.Lines.{line_of, setpoint_line, task_name};
+ghost use Rattle.history_text.specs.Lines.{line_of, setpoint_line, text_line, task_name};
 
 use crate::axes::push_axes;
 use crate::name::push_name;
+use crate::texts::{push_tail, push_text};
 use arrayvec::ArrayString;
-use rapid_model::{Answer, Event, Request, TaskRow};
+use rapid_model::{Answer, Event, Request, Tail, TaskRow, Text};
 use rapid_num::Joints;
 
-/// Writes the event's line: for a setpoint that was given `S TASK` and the six axes in degrees with three decimals. The
-/// line stays empty for an event that has none. Takes no memory.
+/// Writes the event's line: for a setpoint that was given `S TASK` and the six axes in degrees with three decimals; for a text
+/// to the operator `T TASK`, a space, the text, and at once its tail. The line stays empty for an event that has none. Takes no
+/// memory.
 pub fn write_event(tasks: &[TaskRow], event: &Event, line: &mut ArrayString<1200>)
     requires { line.old.bytes ≡ [] }
     ensures { line.new.bytes ≡ line_of tasks.now event.now }
 {
-    if let Request::Setpoint { to } = &event.request
-        && let Answer::Given = &event.answer
-    {
-        write_setpoint(tasks, event.actor, to, line);
+    match (&event.request, &event.answer) {
+        (Request::Setpoint { to }, Answer::Given) => write_setpoint(tasks, event.actor, to, line),
+        (Request::Say { text, tail }, Answer::Ok) => write_text(
+            tasks,
+            event.actor,
+            text,
+            tail,
+            line,
+        ),
+        _ => {}
     }
+}
+
+/// The line of a text for the operator.
+fn write_text(tasks: &[TaskRow], actor: u32, text: &Text, tail: &Tail, line: &mut ArrayString<1200>)
+    requires { line.old.bytes ≡ [] }
+    ensures { line.new.bytes ≡ text_line (task_name tasks.now actor) text.now tail.now }
+{
+    line.push_str("T ");
+    push_task(tasks, actor, line);
+    line.push(' ');
+    push_text(text, line);
+    push_tail(tail, line);
+    line.push('\n');
 }
 
 /// The line of a setpoint that was given.

@@ -5,6 +5,7 @@ mod axes;
 mod event_line;
 mod fate_line;
 mod name;
+mod texts;
 
 pub use event_line::write_event;
 pub use fate_line::write_fate;

@@ -1,11 +1,10 @@
-use Rattle.std.proofs.Common.{ℕ, List, Vec, Global, ap, map, ◌∙◌, inl, subst, sym, length, arith}
-use Rattle.std.specs.Prelude.{Option, Some, IfSome, ◌≤◌, ◌≡◌, None, ◌+◌, ◌<◌}
+use Rattle.std.proofs.Common.{ℕ, List, Vec, Global, ap, ◌∙◌, inl, subst}
 use Rattle.controller.specs.Answered.{word_bytes}
 use Rattle.controller.specs.Loaded.{bytes_of, names_in_turn}
 use Rattle.controller.proofs.Accepting.{texts_spell}
 use Rattle.controller.proofs.Gains.{gained_none}
 use Rattle.controller.proofs.Exits.{AreRefused, words_refused, script_refused, module_refused, parsed_here, all_read}
-use Rattle.controller.proofs.GivenReads.{GivesAll, all_given, loaded_names}
+use Rattle.controller.proofs.GivenReads.{all_given, loaded_names}
 use Rattle.controller.proofs.Causes.{no_words, read_counted, no_write}
 use Rattle.controller.proofs.action.quiet.Goals as goal
 

@@ -1,5 +1,5 @@
 use Rattle.std.proofs.Common.{drop, length}
-use Rattle.cell_meaning.specs.Histories.{fates_after}
+use Rattle.cell_meaning.specs.Fates.{fates_after}
 use Rattle.history_text.specs.Lines.{fate_lines}
 use Rattle.controller.specs.Printed.{sunk}
 use Rattle.controller.proofs.Printing.{Printing}

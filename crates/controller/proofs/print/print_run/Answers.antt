@@ -1,7 +1,7 @@
 use Rattle.std.proofs.Common.{length}
 use Rattle.std.specs.Prelude.{map}
 use Rattle.std.proofs.lemmas.Result.{err_from_is_err_and}
-use Rattle.cell_meaning.specs.Histories.{fates_after}
+use Rattle.cell_meaning.specs.Fates.{fates_after}
 use Rattle.history_text.specs.Lines.{line_of, fate_lines}
 use Rattle.controller.proofs.Gains.{writes_then, wrote_first}
 use Rattle.controller.proofs.print.print_run.Goals as goal

@@ -1,6 +1,6 @@
 use Rattle.std.proofs.Common.{◌≡◌}
 use Rattle.std.specs.List.{list_any}
-use Rattle.cell_meaning.specs.Histories.{fates_after}
+use Rattle.cell_meaning.specs.Fates.{fates_after}
 use Rattle.controller.specs.Runs.{is_fault}
 use Rattle.controller.proofs.run.has_fault.Given as goal
 

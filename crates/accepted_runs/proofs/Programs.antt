@@ -1,0 +1,73 @@
+-- The tasks of an accepted cell run the compiled code of their trees.
+use Rattle.std.proofs.Common.{◌≡◌, refl, ◌∙◌, subst, ℕ, zero, suc, ◌+◌, ◌<◌, List, [], ◌∷◌, length, map, is_some, Some, slice_get}
+use Rattle.std.proofs.lemmas.Option.{slice_get_within}
+use Rattle.rapid_model.specs.Own.{part_of, answers_of}
+use Rattle.rapid_model.specs.ScriptData.{ScriptData}
+use Rattle.rapid_model.specs.declared.answer.Answer.{Answer}
+use Rattle.rapid_model.specs.declared.request.Request.{Request}
+use Rattle.typed_trees.specs.Plain.{TypedTree}
+use Rattle.cell_assembly.specs.Made.{MadeCell}
+use Rattle.rapid_meaning.specs.Answering.{Asking}
+use Rattle.rapid_meaning.specs.Asking.{tree_asks}
+use Rattle.rapid_meaning.specs.Data.{Data}
+use Rattle.rapid_meaning.specs.Runs.{FitsSteps, asks, asked_after, state_after}
+use Rattle.task_typing.proofs.Own.{asks_it}
+use Rattle.task_typing.proofs.Until.{fits_steps}
+use Rattle.stack_code.specs.CodeData.{CodeData}
+use Rattle.stack_code.specs.CodeRuns.{code_after}
+use Rattle.stack_code.specs.Compiled.{compiled}
+use Rattle.live_code.specs.Asking.{CodeAsks}
+use Rattle.live_code.specs.Live.{CodeFits}
+use Rattle.code_liveness.specs.Asking.{AsksAs}
+use Rattle.code_liveness.proofs.Lives.{asks_as}
+use Rattle.cell_crew.specs.Crew.{RunPrograms, RunsProgram}
+use Rattle.tree_soundness.specs.Accepted.{IsAccepted}
+use Rattle.tree_soundness.proofs.Accepted.{accepted_right}
+use Rattle.accepted_code.proofs.Checking.{checked_is}
+use Rattle.accepted_runs.proofs.Asking.{stands_asking}
+use Rattle.accepted_runs.proofs.Parts.{asks_by, due_by, fit_part, own_part}
+
+-- code asks what its tree asks
+
+code_asks : (tree : TypedTree) (code : CodeData) (answers : List Answer) (request : Request) → AsksAs tree code → FitsSteps tree answers → asked_after tree answers ≡ asks request
+    → CodeAsks code answers request
+code_asks tree code answers request same fits due =
+    let now : (d : Data) × (state_after tree answers ≡ Asking request d) = stands_asking tree answers request due in
+    let by : (k : ℕ) × ((more : ℕ) → code_after code (k + more) answers ≡ state_after tree answers) = same.stands answers fits in
+    record { standing = now.0; by = record { operations = by.0; asked = λ more. by.1 more ∙ now.1 } }
+
+tree_due : (tree : TypedTree) (code : CodeData) (answers : List Answer) (request : Request) → AsksAs tree code → FitsSteps tree answers → CodeAsks code answers request
+    → asked_after tree answers ≡ asks request
+tree_due tree code answers request same fits asking =
+    asks_it tree answers request asking.standing (same.asks answers (asking.by.operations + 0) request asking.standing fits (asking.by.asked 0))
+
+-- the program of a tree
+
+run_code : (script : ScriptData) (made : MadeCell) (task : ℕ) (tree : TypedTree) → IsAccepted script made → slice_get made.trees task ≡ Some tree
+    → RunsProgram CodeFits CodeAsks (tree_asks made.trees) made.cell task (compiled tree)
+run_code script made task tree accepted there =
+    let h = accepted_right script made task tree accepted there in
+    let same : AsksAs tree (compiled tree) = asks_as tree (checked_is script made task tree accepted there) in
+    let within : task < length made.cell.tasks = slice_get_within made.cell.tasks task h.row h.there in
+    record {
+      fit = λ history legal. (same.fits (answers_of task history)).1
+          (fits_steps (length made.cell.signals) (is_some h.row.arm) made.cell task tree (part_of task history) h.typed h.numbered (own_part made.trees made.cell history task tree within there legal)
+          (fit_part made.trees made.cell history task tree within there legal));
+      same = λ answers request fits.
+          let steps : FitsSteps tree answers = (same.fits answers).0 fits in (
+            λ asking. code_asks tree (compiled tree) answers request same steps (due_by made.trees task tree answers request there asking),
+            λ asking. asks_by made.trees task tree answers request there (tree_due tree (compiled tree) answers request same steps asking),
+          );
+    }
+
+mapped_at : {A B : Type 0} (f : A → B) (xs : List A) (k : ℕ) (y : B) → slice_get (map f xs) k ≡ Some y → (x : A) × (slice_get xs k ≡ Some x) × (f x ≡ y)
+mapped_at f [] k y is = absurd cc
+mapped_at f (x ∷ xs) zero y is = (x, refl, cc)
+mapped_at f (x ∷ xs) (suc k) y is = mapped_at f xs k y is
+
+pub run_programs : (script : ScriptData) (made : MadeCell) → IsAccepted script made → RunPrograms CodeFits CodeAsks (tree_asks made.trees) made.cell (map compiled made.trees)
+run_programs script made accepted = record {
+  each = λ task program is.
+      let of = mapped_at compiled made.trees task program is in
+      subst (λ (code : CodeData). RunsProgram CodeFits CodeAsks (tree_asks made.trees) made.cell task code) of.2 (run_code script made task of.0 accepted of.1);
+}

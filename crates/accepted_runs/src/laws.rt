@@ -1,0 +1,28 @@
+ghost use Rattle.std.specs.Prelude.{List, map};
+ghost use Rattle.rapid_model.specs.ScriptData.{ScriptData};
+ghost use Rattle.typed_trees.specs.Plain.{TypedTree};
+ghost use Rattle.cell_assembly.specs.Made.{MadeCell};
+ghost use Rattle.cell_meaning.specs.Premises.{AsksOne, TasksAskWell};
+ghost use Rattle.rapid_meaning.specs.Asking.{tree_asks};
+ghost use Rattle.stack_code.specs.Compiled.{compiled};
+ghost use Rattle.live_code.specs.Asking.{CodeAsks};
+ghost use Rattle.live_code.specs.Live.{CodeFits};
+ghost use Rattle.cell_crew.specs.Crew.{RunPrograms};
+ghost use Rattle.tree_soundness.specs.Accepted.{IsAccepted};
+
+/// A law: after given answers a task asks one request at most.
+pub fn tasks_ask_one_request()
+    ensures { (trees : List TypedTree) → AsksOne (tree_asks trees) }
+{}
+
+/// A law: each task of an accepted cell asks only what it may, and something until its End, whatever the other tasks and the input
+/// script do.
+pub fn accepted_tasks_ask_well()
+    ensures { (script : ScriptData) (made : MadeCell) → IsAccepted script made → TasksAskWell (tree_asks made.trees) made.cell }
+{}
+
+/// A law: each task of an accepted cell runs the compiled code of its tree: the answers that it gets in a legal history fit the code,
+/// and after answers that fit, the code asks what the tree asks, and nothing else.
+pub fn accepted_tasks_run_their_code()
+    ensures { (script : ScriptData) (made : MadeCell) → IsAccepted script made → RunPrograms CodeFits CodeAsks (tree_asks made.trees) made.cell (map compiled made.trees) }
+{}

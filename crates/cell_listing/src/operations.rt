@@ -1,0 +1,39 @@
+//! The lines of operations.
+
+ghost use Rattle.std.specs.Prelude.{◌≡◌, ◌+◌, ◌<◌, ◌≤◌, ◌++◌, [], length, slice_get, Some};
+ghost use Rattle.std.specs.Option.{option_map};
+ghost use Rattle.cell_listing.specs.Listing.{code_line};
+ghost use Rattle.code_listing.specs.Listing.{op_text};
+
+use crate::words::{push_name, push_number};
+use arrayvec::ArrayString;
+use code_listing::listing_line;
+use rapid_model::NameText;
+use stack_code::Op;
+
+/// Writes `C`, the name of a task, a place of its code, from 0, and the operation that stands there. Takes no memory.
+pub fn write_operation(task: &NameText, ops: &[Op], pc: u32, line: &mut ArrayString<512>)
+    requires in_code { pc < length ops.now }
+    requires empty { line.old.bytes ≡ [] }
+    ensures { option_map (code_line task.now pc) (slice_get ops.now pc) ≡ Some line.new.bytes }
+{
+    line.push_str("C ");
+    push_name(task, line);
+    line.push(' ');
+    push_number(pc as usize, line);
+    line.push(' ');
+    push_operation(ops, pc, line);
+    line.push('\n');
+}
+
+/// Appends an operation.
+fn push_operation(ops: &[Op], pc: u32, line: &mut ArrayString<512>)
+    requires in_code { pc < length ops.now }
+    requires room { length line.old.bytes + 400 ≤ 512 }
+    ensures text { option_map (λ op. line.old.bytes ++ op_text op) (slice_get ops.now pc) ≡ Some line.new.bytes }
+    ensures short { length line.new.bytes ≤ length line.old.bytes + 400 }
+{
+    let mut text = ArrayString::new();
+    listing_line(ops, pc, &mut text);
+    line.push_str(text.as_str());
+}

@@ -1,0 +1,61 @@
+//! The lines of persistents.
+
+ghost use Rattle.std.specs.Prelude.{◌≡◌, ◌+◌, ◌≤◌, ◌++◌, [], length};
+ghost use Rattle.cell_listing.specs.Listing.{length_text, owner_text, pers_line};
+
+use crate::words::{push_name, push_number};
+use arrayvec::ArrayString;
+use rapid_model::{PersCell, TaskRow};
+use value_text::sort_name;
+
+/// Writes `P` and the number of a persistent, from 0; its owner, `*` where it is all tasks'; its type, with the length in braces
+/// where it is an array; and its name as it is first spelled. Takes no memory.
+pub fn write_persistent(
+    tasks: &[TaskRow],
+    number: usize,
+    row: &PersCell,
+    line: &mut ArrayString<512>,
+)
+    requires { line.old.bytes ≡ [] }
+    ensures { line.new.bytes ≡ pers_line tasks.now number row.now }
+{
+    line.push_str("P");
+    push_number(number, line);
+    line.push(' ');
+    push_owner(tasks, row.owner, line);
+    line.push(' ');
+    line.push_str(sort_name(row.sort));
+    push_length(row.len, line);
+    line.push(' ');
+    push_name(&row.name, line);
+    line.push('\n');
+}
+
+/// Appends whose a persistent is.
+fn push_owner(tasks: &[TaskRow], owner: Option<u32>, line: &mut ArrayString<512>)
+    requires room { length line.old.bytes + 32 ≤ 512 }
+    ensures text { line.new.bytes ≡ line.old.bytes ++ owner_text tasks.now owner }
+    ensures short { length line.new.bytes ≤ length line.old.bytes + 32 }
+{
+    match owner {
+        None => line.push_str("*"),
+        Some(task) => {
+            if let Some(row) = tasks.get(task as usize) {
+                push_name(&row.name, line);
+            }
+        }
+    }
+}
+
+/// Appends the length of an array.
+fn push_length(len: Option<u16>, line: &mut ArrayString<512>)
+    requires room { length line.old.bytes + 42 ≤ 512 }
+    ensures text { line.new.bytes ≡ line.old.bytes ++ length_text len }
+    ensures short { length line.new.bytes ≤ length line.old.bytes + 42 }
+{
+    if let Some(len) = len {
+        line.push('{');
+        push_number(usize::from(len), line);
+        line.push('}');
+    }
+}

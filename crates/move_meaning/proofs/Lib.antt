@@ -1,4 +1,0 @@
-pub mod Grows
-pub mod Suits
-pub mod Asking
-mod Examples

@@ -1,4 +1,0 @@
-pub mod Outcomes
-pub mod Statements
-pub mod Runs
-pub mod Traces
