@@ -1,6 +1,5 @@
-//! Scripts that are read, and the rule and the key of those that are not.
+//! Scripts that are read, with each key or the largest parts; arrays of most and of too many tables; bytes that are no UTF-8.
 
-use super::script_faults::{Fault, HEAD, INPUT_FAULTS, PERS_FAULTS, SCRIPT_FAULTS, ZONE_FAULTS};
 use cell_script::{ScriptFault, read_script};
 use rapid_model::{
     FileName, InputRow, PersValue, ScriptRule as Rule, ScriptTask, SignalRow, Value, ZoneRow,
@@ -128,14 +127,6 @@ fn are_inputs(inputs: &[InputRow]) -> bool {
         && second.when.is_none()
 }
 
-/// Whether the texts behind one another are refused for this rule at this key.
-fn is_refused(alloc: Global, head: &str, rest: &str, key: &str, rule: Rule) -> bool {
-    match &joined(alloc, head, rest) {
-        Ok(text) => breaks(alloc, text.as_slice(), key, rule),
-        Err(_) => false,
-    }
-}
-
 /// Whether a text is refused for this rule at this key.
 fn breaks(alloc: Global, text: &[u8], key: &str, rule: Rule) -> bool {
     match &read_script(alloc, text) {
@@ -149,33 +140,10 @@ fn breaks(alloc: Global, text: &[u8], key: &str, rule: Rule) -> bool {
     }
 }
 
-fn joined(alloc: Global, head: &str, rest: &str) -> Result<Vec<u8>, AllocError> {
-    let mut text = Vec::from_slice(alloc, head.as_bytes())?;
-    text.extend_from_slice(rest.as_bytes())?;
-    Ok(text)
-}
-
-/// The first text of the rows that is not refused as its row says.
-fn first_other(alloc: Global, head: &str, rows: &[Fault]) -> Option<&'static str> {
-    for (text, key, rule) in rows {
-        if !is_refused(alloc, head, text, key, *rule) {
-            return Some(*text);
-        }
-    }
-    None
-}
-
-#[test]
-fn faults(rt: HostRuntime) {
-    assert_eq!(rt; first_other(rt.alloc(), "", &SCRIPT_FAULTS), None);
-    assert_eq!(rt; first_other(rt.alloc(), HEAD, &PERS_FAULTS), None);
-    assert_eq!(rt; first_other(rt.alloc(), HEAD, &ZONE_FAULTS), None);
-    assert_eq!(rt; first_other(rt.alloc(), HEAD, &INPUT_FAULTS), None);
-}
-
 /// A script with an array of so many empty tables at a key.
 fn with_tables(alloc: Global, key: &str, count: usize) -> Result<Vec<u8>, AllocError> {
-    let mut text = joined(alloc, "version=1\ntask=[{name='A',modules=['a']}]\n", key)?;
+    let mut text = Vec::from_slice(alloc, b"version=1\ntask=[{name='A',modules=['a']}]\n")?;
+    text.extend_from_slice(key.as_bytes())?;
     text.extend_from_slice(b"=[")?;
     for _ in 0..count {
         text.extend_from_slice(b"{},")?;
@@ -215,15 +183,8 @@ fn edges(rt: HostRuntime) -> Result<(), Fail> {
         .ok()
         .ok_or("the largest parts")?;
     assert_eq!(rt; script.steps(), 100_000);
-    assert!(rt; is_refused(rt.alloc(), HEAD, LONG_KEY, SHOWN_KEY, Rule::UnknownKey));
     Ok(())
 }
 
 const LARGEST: &str =
     "version=1\ntask=[{name='Z_9zzzzzzzzzzzzzzzzzzzzzzzzzzzzz',modules=['mmmmmmmmmmmmmmmmmmmmmmmmmmmmmmmmmmmmmmmmmmmmmmmmmmmmmmmmmmmmmmmmmmmmmmmmmmmmmmmmmmmmmmmmmmmmmmmmmmmmmmmmmmmmmmmmmmmmmmmmmmmmmmmmmmmmmmmmmmmmmmmmmmmmmmmmmmmmmmmmmmmmmmmmmmmmmmmmmmmmmmmmmmmmmmmmmmmmmmmmmmmmmmmmmmmmmmmmmmmmmmmmmmmmmmmmmmmmmmmmmmmmmmmmmmmmmmm'],arm=[720000,-720000,0,0,0,0]}]";
-
-const LONG_KEY: &str =
-    "kkkkkkkkkkkkkkkkkkkkkkkkkkkkkkkkkkkkkkkkkkkkkkkkkkkkkkkkkkkkkkkkkkkkkkkkkkkkkkkkkkkkkkkkkk=1";
-
-const SHOWN_KEY: &str =
-    "kkkkkkkkkkkkkkkkkkkkkkkkkkkkkkkkkkkkkkkkkkkkkkkkkkkkkkkkkkkkkkkkkkkkkkkkkkkkkkkk";

@@ -29,28 +29,12 @@ const ANY_LAYOUT: &[u8] =
     b"%%%\nVERSION:1\n%%%\nmodule m proc MAIN() movEabsj [[1, 0x0, 0b0,0,0,0],\n[9e9,9E+09,9e9,9e9,9e9,9e9]] \\noeoffs, V1000, FINE, tool0; ! done\nendproc endmodule\n";
 
 /// Modules, each with the place and the rule of its refusal.
-static REFUSED: [(&[u8], &[u8]); 20] = [
+static REFUSED: [(&[u8], &[u8]); 16] = [
     (ASSIGNS, b"3:1 NoName\n"),
-    (
-        b"MODULE M\nPROC main()\nMoveAbsJ [[0,0,0,0,0,0],[9E9,9E9,9E9,9E9,9E9,9E9]]\\NoEOffs, v5, fine, tool0;\n! no move\n  TPErase;\nENDPROC\nENDMODULE\n",
-        b"5:3 NotBuilt\n",
-    ),
     (b"\nMODULE M\nENDMODULE\n", b"1:1 NoMain\n"),
-    (
-        b"MODULE M\nVAR num n;\nPROC main()\n  n := 1;\nENDPROC\nENDMODULE\n",
-        b"4:3 NotBuilt\n",
-    ),
-    (
-        b"MODULE M\nPROC main()\nVAR num n;\nENDPROC\nENDMODULE\n",
-        b"2:1 NotBuilt\n",
-    ),
     (
         b"MODULE M\nLOCAL PROC main()\nENDPROC\nENDMODULE\n",
         b"1:1 NoMain\n",
-    ),
-    (
-        b"MODULE M\nPROC main()\nENDPROC PROC more()\nENDPROC\nENDMODULE\n",
-        b"3:9 NotBuilt\n",
     ),
     (b"", b"1:1 Syntax\n"),
     (b"MODULE M", b"1:9 Syntax\n"),
@@ -122,7 +106,11 @@ const MOVES_BY_DATA: &[u8] =
 const NO_SPEED: &[u8] =
     b"MODULE M\nPROC main()\nMoveAbsJ [[1,0,0,0,0,0],[9E9,9E9,9E9,9E9,9E9,9E9]], [0,500,5000,1000], fine, tool0;\nENDPROC\nENDMODULE\n";
 
-const ANOTHER_ROUTINE: &[u8] = b"MODULE N\nVAR num n;\n  PROC more()\n  ENDPROC\nENDMODULE\n";
+const ONE_SIGNAL: &[u8] =
+    b"version = 1\n[[signal]]\nname = \"go\"\nkind = \"do\"\n[[task]]\nname = \"A\"\nmodules = [\"a.mod\"]\n";
+
+const TABLES: &[u8] =
+    b"MODULE M\nPERS num k := 7;\nTASK PERS bool Kept{2} := [TRUE, FALSE];\nVAR syncident at_table;\nPROC main()\nENDPROC\nENDMODULE\n";
 
 const NOTHING_TO_DO: &[u8] = b"MODULE M\nPROC main()\nENDPROC\nENDMODULE\n";
 
@@ -385,7 +373,6 @@ static BROKEN: [RefusedCell; 11] = [
         3,
         b"rapid_cell: script pers[0] NoSuch\n",
     ),
-    // A rule that is broken comes before a form that is not built.
     (
         ONE_VALUE,
         [ASSIGNS, b""],
@@ -394,7 +381,7 @@ static BROKEN: [RefusedCell; 11] = [
     ),
 ];
 
-/// Both actions refuse them, with the same line.
+/// Each action refuses them, with the same line.
 #[test]
 fn cells_refused(rt: HostRuntime) -> Result<(), Fail> {
     let alloc = rt.alloc();
@@ -403,44 +390,61 @@ fn cells_refused(rt: HostRuntime) -> Result<(), Fail> {
         refused(&rt, &run, *status, line);
         let checked = outcome_of(alloc, &["check", "cell"], script, *modules, None)?;
         refused(&rt, &checked, *status, line);
+        let told = outcome_of(alloc, &["list", "cell"], script, *modules, None)?;
+        refused(&rt, &told, *status, line);
     }
     Ok(())
 }
 
-/// Cells that are accepted and not built.
-static NOT_BUILT: [RefusedCell; 3] = [
-    (
+/// Two tasks take turns, a round at a time.
+#[test]
+fn two_tasks(rt: HostRuntime) -> Result<(), Fail> {
+    let alloc = rt.alloc();
+    let lines: [&[u8]; 8] = [
+        b"S A 0.833 0.000 0.000 0.000 0.000 0.000\n",
+        b"S B 0.833 0.000 0.000 0.000 0.000 0.000\n",
+        b"S A 1.667 0.000 0.000 0.000 0.000 0.000\n",
+        b"S B 1.667 0.000 0.000 0.000 0.000 0.000\n",
+        b"S A 2.500 0.000 0.000 0.000 0.000 0.000\n",
+        b"S B 2.500 0.000 0.000 0.000 0.000 0.000\n",
+        b"E A Done\n",
+        b"E B Done\n",
+    ];
+    let left = outcome_of(
+        alloc,
+        &["round", "cell"],
         TWO_TASKS,
         [ONE_MOVE, ONE_MOVE],
-        3,
-        b"rapid_cell: script task[1] NotBuilt\n",
-    ),
-    (
-        TWO_MODULES,
-        [ONE_MOVE, ANOTHER_ROUTINE],
-        4,
-        b"rapid_cell: module b.mod 3:3 NotBuilt\n",
-    ),
-    // The modules in their order, whatever stands in them.
-    (
-        TWO_MODULES,
-        [ANOTHER_ROUTINE, ONE_MOVE],
-        4,
-        b"rapid_cell: module a.mod 3:3 NotBuilt\n",
-    ),
-];
+        None,
+    )?;
+    printed(&rt, &left, 0, &lines, alloc)?;
+    assert_eq!(rt; left.report.history.len(), 12);
+    Ok(())
+}
 
-/// They are refused only where they are to run.
+/// The tables of a cell, and the code of a task that does nothing.
 #[test]
-fn cells_not_built(rt: HostRuntime) -> Result<(), Fail> {
+fn listed(rt: HostRuntime) -> Result<(), Fail> {
     let alloc = rt.alloc();
-    let accepted: [&[u8]; 1] = [b"accepted\n"];
-    for (script, modules, status, line) in &NOT_BUILT {
-        let run = outcome_of(alloc, &["round", "cell"], script, *modules, None)?;
-        refused(&rt, &run, *status, line);
-        let checked = outcome_of(alloc, &["check", "cell"], script, *modules, None)?;
-        printed(&rt, &checked, 0, &accepted, alloc)?;
-    }
+    let lines: [&[u8]; 5] = [
+        b"P0 * num k\n",
+        b"P1 A bool{2} Kept\n",
+        b"D0 do go\n",
+        b"G0 at_table\n",
+        b"C A 0 Back\n",
+    ];
+    let words = &["list", "cell"];
+    let left = outcome_of(alloc, words, ONE_SIGNAL, [TABLES, b""], None)?;
+    printed(&rt, &left, 0, &lines, alloc)?;
+    assert!(rt; left.report.history.is_empty());
+    assert!(rt; left.report.fates.is_empty());
+    let failed = outcome_of(alloc, words, ONE_SIGNAL, [TABLES, b""], Some(2))?;
+    assert_eq!(rt;
+        failed.out.bytes(),
+        b"P0 * num k\nP1 A bool{2} Kept\n".as_slice()
+    );
+    assert_eq!(rt; failed.err.bytes(), b"rapid_cell: write\n".as_slice());
+    assert_eq!(rt; failed.report.status, 6);
     Ok(())
 }
 

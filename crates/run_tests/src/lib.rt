@@ -1,4 +1,4 @@
-//! Machines, cores, crews and whole cells by hand, with what they ask, answer and print. It holds only tests.
+//! Cores, lines and whole cells by hand, with what they answer and print. It holds only tests.
 #![tactic(auto)]
 
 #[cfg(test)]
@@ -6,8 +6,6 @@ mod cells;
 #[cfg(test)]
 mod cores;
 #[cfg(test)]
-mod crews;
-#[cfg(test)]
 mod lines;
 #[cfg(test)]
-mod machines;
+mod many_inputs;

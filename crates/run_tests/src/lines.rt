@@ -2,7 +2,7 @@
 
 use arrayvec::ArrayString;
 use history_text::{write_event, write_fate};
-use rapid_model::{Answer, Event, Fate, Fault, NameText, Request, TaskRow};
+use rapid_model::{Answer, Event, Fate, Fault, NameText, Request, Tail, TaskRow, Text};
 use rapid_num::{Joints, Num};
 
 /// Axis 1 at 0.833 degrees, and the others at 0.
@@ -47,6 +47,36 @@ fn event_lines(rt: HostRuntime) {
     assert_eq!(rt; Some(given), ArrayString::from(text).ok());
     let look = event_line(Request::Look, Answer::Go { seen: 3 });
     assert_eq!(rt; look, ArrayString::new());
+}
+
+fn letter_k() -> Text {
+    let mut text = Text::new();
+    text.push(b'k');
+    text
+}
+
+fn said(tail: Tail) -> ArrayString<1200> {
+    event_line(
+        Request::Say {
+            text: letter_k(),
+            tail,
+        },
+        Answer::Ok,
+    )
+}
+
+#[test]
+fn text_lines(rt: HostRuntime) {
+    let number = Num::new(-1500).expect(&rt, "num");
+    assert_eq!(rt; Some(said(Tail::None)), ArrayString::from("T A k\n").ok());
+    assert_eq!(rt;
+        Some(said(Tail::Num(number))),
+        ArrayString::from("T A k-1.5\n").ok()
+    );
+    assert_eq!(rt;
+        Some(said(Tail::Bool(true))),
+        ArrayString::from("T A kTRUE\n").ok()
+    );
 }
 
 #[test]

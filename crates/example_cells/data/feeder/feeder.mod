@@ -26,7 +26,7 @@ MODULE Feeder
     VAR jointtarget over := [[0,10,0,0,30,0],[9E9,9E9,9E9,9E9,9E9,9E9]];
 
     over.robax.rax_1 := angle_over(place);
-    MoveAbsJ over\NoEOffs, v1000, fine, tool0;
+    MoveAbsJ over\NoEOffs, v7000, fine, tool0;
     Incr place;
     Decr waiting;
     Incr total;

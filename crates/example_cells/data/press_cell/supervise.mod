@@ -10,5 +10,7 @@ MODULE Supervise
       parts := parts + 1;
     ENDWHILE
     Reset do_press;
+    WaitDI di_door, 0;
+    TPWrite "door closed";
   ENDPROC
 ENDMODULE

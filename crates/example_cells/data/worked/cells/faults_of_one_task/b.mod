@@ -1,0 +1,6 @@
+MODULE M
+PROC main()
+TPWrite "b1";
+TPWrite "b2";
+ENDPROC
+ENDMODULE

@@ -1,0 +1,6 @@
+MODULE M
+PERS num n := 0;
+PROC main()
+n := n + 1;
+ENDPROC
+ENDMODULE

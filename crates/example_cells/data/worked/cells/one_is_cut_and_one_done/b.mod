@@ -1,0 +1,5 @@
+MODULE M
+PROC main()
+TPWrite "b";
+ENDPROC
+ENDMODULE

@@ -1,0 +1,6 @@
+MODULE M
+PERS bool taken := FALSE;
+PROC main()
+TPWrite ""\Bool:=TestAndSet(taken);
+ENDPROC
+ENDMODULE

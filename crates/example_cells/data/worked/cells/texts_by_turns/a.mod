@@ -1,0 +1,6 @@
+MODULE M
+PROC main()
+TPWrite "a1";
+TPWrite "a2";
+ENDPROC
+ENDMODULE

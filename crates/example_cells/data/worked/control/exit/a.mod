@@ -1,0 +1,10 @@
+MODULE M
+PROC p()
+EXIT;
+ENDPROC
+PROC main()
+TPWrite "a";
+p;
+TPWrite "never";
+ENDPROC
+ENDMODULE

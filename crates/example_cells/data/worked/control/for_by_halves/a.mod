@@ -1,0 +1,10 @@
+MODULE M
+PROC main()
+FOR i FROM 1 TO 2 STEP 0.5 DO
+TPWrite ""\Num:=i;
+ENDFOR
+FOR i FROM 1 TO 1 DO
+TPWrite ""\Num:=i;
+ENDFOR
+ENDPROC
+ENDMODULE

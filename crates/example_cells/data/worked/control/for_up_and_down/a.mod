@@ -1,0 +1,13 @@
+MODULE M
+PROC main()
+FOR i FROM 1 TO 3 DO
+TPWrite ""\Num:=i;
+ENDFOR
+FOR i FROM 3 TO 1 DO
+TPWrite ""\Num:=i;
+ENDFOR
+FOR i FROM 5 TO 1 STEP -2 DO
+TPWrite ""\Num:=i;
+ENDFOR
+ENDPROC
+ENDMODULE

@@ -1,0 +1,11 @@
+MODULE M
+PROC main()
+FOR i FROM 2 TO 1 STEP 1 DO
+TPWrite "never";
+ENDFOR
+FOR i FROM 1 TO 2 STEP -1 DO
+TPWrite "never";
+ENDFOR
+TPWrite "end";
+ENDPROC
+ENDMODULE

@@ -1,0 +1,8 @@
+MODULE M
+PROC main()
+GOTO skip;
+TPWrite "never";
+skip:
+TPWrite "here";
+ENDPROC
+ENDMODULE

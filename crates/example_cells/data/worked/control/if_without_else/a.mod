@@ -1,0 +1,9 @@
+MODULE M
+PROC main()
+IF FALSE THEN
+TPWrite "no";
+ENDIF
+IF TRUE TPWrite "yes";
+IF FALSE TPWrite "no";
+ENDPROC
+ENDMODULE

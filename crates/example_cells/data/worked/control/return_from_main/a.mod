@@ -1,0 +1,7 @@
+MODULE M
+PROC main()
+TPWrite "a";
+IF TRUE RETURN;
+TPWrite "never";
+ENDPROC
+ENDMODULE

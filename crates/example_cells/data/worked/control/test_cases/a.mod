@@ -1,0 +1,16 @@
+MODULE M
+PROC main()
+FOR i FROM 1 TO 5 DO
+TEST i
+CASE 1:
+TPWrite "one";
+CASE 2, 3:
+TPWrite "some";
+CASE 3, 4:
+TPWrite "four";
+DEFAULT:
+TPWrite "more";
+ENDTEST
+ENDFOR
+ENDPROC
+ENDMODULE

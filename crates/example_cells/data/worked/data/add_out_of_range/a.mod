@@ -1,0 +1,6 @@
+MODULE M
+VAR num n := 9999999999.999;
+PROC main()
+Incr n;
+ENDPROC
+ENDMODULE

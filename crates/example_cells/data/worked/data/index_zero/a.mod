@@ -1,0 +1,6 @@
+MODULE M
+VAR num a{3};
+PROC main()
+a{0} := 1;
+ENDPROC
+ENDMODULE

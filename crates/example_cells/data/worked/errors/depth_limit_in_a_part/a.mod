@@ -1,0 +1,12 @@
+MODULE M
+PROC p(num n)
+IF n > 0 p n - 1;
+ENDPROC
+PROC main()
+RAISE 7;
+ERROR
+TPWrite "part";
+p 40;
+TRYNEXT;
+ENDPROC
+ENDMODULE

@@ -1,0 +1,11 @@
+MODULE M
+VAR num z;
+PROC main()
+TPWrite ""\Num:=8 / z;
+ERROR
+IF ERRNO = ERR_DIVZERO THEN
+z := z + 2;
+RETRY;
+ENDIF
+ENDPROC
+ENDMODULE

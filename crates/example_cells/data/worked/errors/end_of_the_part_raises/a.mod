@@ -1,0 +1,8 @@
+MODULE M
+VAR num z;
+PROC main()
+TPWrite ""\Num:=1 / z;
+ERROR
+TPWrite "part";
+ENDPROC
+ENDMODULE

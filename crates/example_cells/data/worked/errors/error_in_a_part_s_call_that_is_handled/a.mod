@@ -1,0 +1,20 @@
+MODULE M
+VAR num z;
+PROC q()
+TPWrite ""\Num:=1 / z;
+ERROR
+TPWrite "q"\Num:=ERRNO;
+TRYNEXT;
+ENDPROC
+PROC p()
+RAISE 7;
+ERROR
+q;
+TPWrite "p"\Num:=ERRNO;
+TRYNEXT;
+ENDPROC
+PROC main()
+p;
+TPWrite "end";
+ENDPROC
+ENDMODULE

@@ -1,0 +1,13 @@
+MODULE M
+PROC main()
+RAISE 7;
+TPWrite "behind";
+ERROR
+FOR i FROM 1 TO 9 DO
+IF i = 3 GOTO out;
+TPWrite ""\Num:=i;
+ENDFOR
+out:
+TRYNEXT;
+ENDPROC
+ENDMODULE

@@ -1,0 +1,9 @@
+MODULE M
+PROC main()
+RAISE 90;
+TPWrite "behind";
+ERROR
+TPWrite ""\Num:=ERRNO;
+TRYNEXT;
+ENDPROC
+ENDMODULE

@@ -1,0 +1,21 @@
+MODULE M
+PROC r()
+RAISE 7;
+ERROR
+TPWrite "r"\Num:=ERRNO;
+RAISE;
+ENDPROC
+PROC q()
+r;
+ERROR
+TPWrite "q"\Num:=ERRNO;
+RAISE;
+ENDPROC
+PROC main()
+q;
+TPWrite "behind";
+ERROR
+TPWrite "m"\Num:=ERRNO;
+TRYNEXT;
+ENDPROC
+ENDMODULE

@@ -1,0 +1,11 @@
+MODULE M
+VAR num z;
+PROC main()
+FOR i FROM 1 TO 2 / z DO
+TPWrite "never";
+ENDFOR
+TPWrite "end";
+ERROR
+TRYNEXT;
+ENDPROC
+ENDMODULE

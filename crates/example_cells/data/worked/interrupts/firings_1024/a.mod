@@ -1,0 +1,18 @@
+MODULE M
+VAR intnum i1;
+TRAP t1
+TPWrite "t1";
+ENDTRAP
+PROC main()
+CONNECT i1 WITH t1;
+ISignalDO do1, 1, i1;
+IDisable;
+FOR i FROM 1 TO 1024 DO
+Set do1;
+Reset do1;
+ENDFOR
+TPWrite "end";
+IDelete i1;
+IEnable;
+ENDPROC
+ENDMODULE

@@ -1,0 +1,16 @@
+MODULE M
+VAR intnum v{65};
+VAR num n;
+TRAP t1
+ENDTRAP
+PROC main()
+FOR i FROM 1 TO 65 DO
+CONNECT v{i} WITH t1;
+Incr n;
+ENDFOR
+ERROR
+TPWrite ""\Num:=ERRNO;
+TPWrite ""\Num:=n;
+TRYNEXT;
+ENDPROC
+ENDMODULE

@@ -1,0 +1,9 @@
+MODULE M
+VAR intnum i1;
+TRAP t1
+TPWrite "t1";
+ENDTRAP
+PROC main()
+ISleep i1;
+ENDPROC
+ENDMODULE

@@ -1,0 +1,17 @@
+MODULE M
+VAR intnum i1;
+TRAP t1
+TPWrite "t1";
+ENDTRAP
+PROC main()
+CONNECT i1 WITH t1;
+ISignalDO do1, 1, i1;
+ISleep i1;
+Set do1;
+Reset do1;
+IWatch i1;
+TPWrite "awake";
+Set do1;
+TPWrite "end";
+ENDPROC
+ENDMODULE

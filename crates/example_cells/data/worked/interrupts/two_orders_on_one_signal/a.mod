@@ -1,0 +1,18 @@
+MODULE M
+VAR intnum i1;
+VAR intnum i2;
+TRAP t1
+TPWrite "t1";
+ENDTRAP
+TRAP t2
+TPWrite "t2";
+ENDTRAP
+PROC main()
+CONNECT i1 WITH t1;
+CONNECT i2 WITH t2;
+ISignalDO do1, 1, i2;
+ISignalDO do1, 1, i1;
+Set do1;
+TPWrite "end";
+ENDPROC
+ENDMODULE

@@ -1,0 +1,6 @@
+MODULE M
+PROC main()
+TPWrite "w";
+WaitDI di_part, 1;
+ENDPROC
+ENDMODULE

@@ -1,0 +1,6 @@
+MODULE M
+PROC main()
+WaitDI di1, 1;
+Set do1;
+ENDPROC
+ENDMODULE

@@ -1,0 +1,5 @@
+MODULE M
+PROC main()
+SetDO do1, 2;
+ENDPROC
+ENDMODULE

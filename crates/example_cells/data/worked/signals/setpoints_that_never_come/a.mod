@@ -1,0 +1,6 @@
+MODULE M
+PROC main()
+WaitDI di1, 1;
+MoveAbsJ [[2,0,0,0,0,0],[9E9,9E9,9E9,9E9,9E9,9E9]], v1000, fine, tool0;
+ENDPROC
+ENDMODULE

@@ -1,0 +1,5 @@
+MODULE M
+PROC main()
+WaitDO do1, 0.5;
+ENDPROC
+ENDMODULE

@@ -1,0 +1,8 @@
+MODULE M
+PROC main()
+TPWrite ""\Bool:=NOT FALSE AND FALSE;
+TPWrite ""\Bool:=(NOT FALSE) AND FALSE;
+TPWrite ""\Bool:=NOT TRUE OR TRUE;
+TPWrite ""\Bool:=NOT (TRUE OR TRUE);
+ENDPROC
+ENDMODULE

@@ -1,0 +1,6 @@
+MODULE M
+VAR num x := 9999999999;
+PROC main()
+TPWrite ""\Num:=x / 0.5;
+ENDPROC
+ENDMODULE

@@ -1,0 +1,6 @@
+MODULE M
+VAR num z;
+PROC main()
+TPWrite ""\Num:=1 MOD z;
+ENDPROC
+ENDMODULE

@@ -1,0 +1,10 @@
+MODULE M
+VAR shapedata s;
+VAR wztemporary y{11};
+PROC main()
+WZLimJointDef\Inside, s, [[100,9E9,9E9,9E9,9E9,9E9],[9E9,9E9,9E9,9E9,9E9,9E9]], [[101,9E9,9E9,9E9,9E9,9E9],[9E9,9E9,9E9,9E9,9E9,9E9]];
+FOR i FROM 1 TO 11 DO
+WZLimSup\Temp, y{i}, s;
+ENDFOR
+ENDPROC
+ENDMODULE

@@ -1,0 +1,8 @@
+MODULE M
+VAR shapedata s;
+VAR wztemporary z;
+VAR wzstationary w;
+PROC main()
+WZLimJointDef\Inside, s, [[6,9E9,9E9,9E9,9E9,9E9],[9E9,9E9,9E9,9E9,9E9,9E9]], [[5,9E9,9E9,9E9,9E9,9E9],[9E9,9E9,9E9,9E9,9E9,9E9]];
+ENDPROC
+ENDMODULE

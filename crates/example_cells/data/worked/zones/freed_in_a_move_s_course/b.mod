@@ -1,0 +1,5 @@
+MODULE M
+PROC main()
+Reset do1;
+ENDPROC
+ENDMODULE

@@ -1,0 +1,10 @@
+MODULE M
+VAR shapedata s;
+VAR wztemporary z;
+VAR wzstationary w;
+PROC main()
+WZLimJointDef\Inside, s, [[9E9,9E9,9E9,9E9,9E9,9E9],[9E9,9E9,9E9,9E9,9E9,9E9]], [[-1,9E9,9E9,9E9,9E9,9E9],[9E9,9E9,9E9,9E9,9E9,9E9]];
+WZLimSup\Temp, z, s;
+MoveAbsJ [[-2,0,0,0,0,0],[9E9,9E9,9E9,9E9,9E9,9E9]], v1000, fine, tool0;
+ENDPROC
+ENDMODULE

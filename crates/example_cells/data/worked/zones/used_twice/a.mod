@@ -1,0 +1,10 @@
+MODULE M
+VAR shapedata s;
+VAR wztemporary z;
+VAR wzstationary w;
+PROC main()
+WZLimJointDef\Inside, s, [[5,9E9,9E9,9E9,9E9,9E9],[9E9,9E9,9E9,9E9,9E9,9E9]], [[6,9E9,9E9,9E9,9E9,9E9],[9E9,9E9,9E9,9E9,9E9,9E9]];
+WZLimSup\Temp, z, s;
+WZLimSup\Temp, z, s;
+ENDPROC
+ENDMODULE

@@ -1,7 +1,0 @@
--- The machines ask what their trees ask.
-use Rattle.move_meaning.specs.Runs.{tree_asks}
-use Rattle.cell_crew.specs.Crew.{trees_of}
-use Rattle.run_tests.proofs.crews.report.Given as goal
-
-abbrev pub ghosts-run_round : goal.ghosts-run_round
-ghosts-run_round a = record { asks = tree_asks (trees_of a.machines.items) }
