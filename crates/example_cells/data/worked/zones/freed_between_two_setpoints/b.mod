@@ -1,0 +1,8 @@
+MODULE M
+PROC main()
+FOR i FROM 1 TO 2 DO
+ENDFOR
+Reset do1;
+TPWrite "free";
+ENDPROC
+ENDMODULE
