@@ -1,0 +1,6 @@
+MODULE M
+PERS num k := 0;
+PROC main()
+k := 1;
+ENDPROC
+ENDMODULE

@@ -1,0 +1,11 @@
+MODULE M
+VAR num z;
+PROC main()
+FOR i FROM 1 TO 5 STEP 4 / z DO
+TPWrite ""\Num:=i;
+ENDFOR
+ERROR
+z := 2;
+RETRY;
+ENDPROC
+ENDMODULE

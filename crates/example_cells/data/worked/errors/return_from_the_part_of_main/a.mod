@@ -1,0 +1,8 @@
+MODULE M
+PROC main()
+RAISE 7;
+TPWrite "never";
+ERROR
+RETURN;
+ENDPROC
+ENDMODULE

@@ -1,0 +1,13 @@
+MODULE M
+VAR num z;
+FUNC num f()
+RETURN 1 / z;
+ERROR
+TRYNEXT;
+ENDFUNC
+PROC main()
+TPWrite ""\Num:=f();
+ERROR
+TRYNEXT;
+ENDPROC
+ENDMODULE

@@ -1,0 +1,13 @@
+MODULE M
+VAR num x;
+PROC p(INOUT num n)
+n := 5;
+RAISE 3;
+ENDPROC
+PROC main()
+p x;
+TPWrite ""\Num:=x;
+ERROR
+TRYNEXT;
+ENDPROC
+ENDMODULE

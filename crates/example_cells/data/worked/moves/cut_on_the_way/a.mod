@@ -1,0 +1,5 @@
+MODULE M
+PROC main()
+MoveAbsJ [[2.5,0,0,0,0,0],[9E9,9E9,9E9,9E9,9E9,9E9]], v1000, fine, tool0;
+ENDPROC
+ENDMODULE
