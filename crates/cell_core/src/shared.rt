@@ -1,4 +1,4 @@
-ghost use Rattle.std.specs.Prelude.{◌≡◌, ◌≤◌, ◌<◌, ◌+◌, ◌++◌, ◌&&◌, not, [], ◌∷◌, length, IfOk, IfErr, IsTrue, Some, slice_get};
+ghost use Rattle.std.specs.Prelude.{◌≡◌, ◌≤◌, ◌<◌, ◌+◌, ◌++◌, ◌&&◌, not, [], ◌∷◌, length, nat_lt, IfOk, IfErr, IsTrue, Some, slice_get};
 ghost use Rattle.rapid_model.specs.Fits.{fits_request, fitting_in};
 ghost use Rattle.rapid_model.specs.Own.{has_ended, is_held, part_of};
 ghost use Rattle.rapid_model.specs.Requests.{of_pers};
@@ -173,6 +173,14 @@ impl Core {
             Some(row) => self.lets_pass(row),
             None => false,
         }
+    }
+
+    /// Whether a step of the input script is left.
+    pub fn input_left(&self) -> bool
+        ensures { result ≡ nat_lt (inputs_done self.now.cell self.now.history) (length self.now.cell.inputs) }
+    {
+        let script = self.boards.actor(self.tasks);
+        (script.events as usize) < self.cell.inputs().as_slice().len()
     }
 
     /// Whether the next step of the input script, which is there, is open: its gate holds, a task has not ended, and steps of

@@ -16,6 +16,7 @@ pub mod Running
 pub mod ZonesMissed
 pub mod FileNames
 pub mod Sending
+pub mod Stalling
 pub mod Gains
 pub mod RefusalLines
 pub mod Fates

@@ -6,11 +6,11 @@ use Rattle.typed_trees.specs.Plain.{TypedTree}
 use Rattle.rapid_meaning.specs.Asking.{tree_asks}
 use Rattle.cell_meaning.specs.Asking.{with_inputs}
 use Rattle.cell_meaning.specs.Fates.{fates_after}
-use Rattle.cell_meaning.specs.Histories.{IsLegal}
-use Rattle.cell_meaning.specs.Premises.{AsksWhatItMay, StartsFull}
+use Rattle.cell_meaning.specs.Histories.{IsLegal, IsWhole}
+use Rattle.cell_meaning.specs.Premises.{StartsFull, TasksAskWell}
 use Rattle.cell_meaning.specs.Turns.{IsByTurns}
 use Rattle.cell_meaning.proofs.ByTurns.{by_turns_legal, by_turns_whole}
-use Rattle.cell_meaning.proofs.InputScript.{only_actors}
+use Rattle.cell_meaning.proofs.InputScript.{asks_what_it_may, only_actors}
 use Rattle.history_text.specs.Lines.{lines_of}
 use Rattle.controller.specs.declared.report.Report.{Report}
 use Rattle.controller.specs.declared.refused.Refused.TheVariants.{Write}
@@ -19,13 +19,14 @@ use Rattle.controller.specs.Runs.{IsRun, run_status}
 use Rattle.controller.specs.Printed.{Sunk, Gained}
 use Rattle.controller.specs.Written.{WritesAll, WritesPart}
 use Rattle.controller.specs.Answered.{TakesLine, AnswersRun, RunsOrMemory}
+use Rattle.controller.proofs.Stalling.{stalled_wait}
 use Rattle.controller.proofs.ZonesMissed.{zones_missed}
 
--- a cell within its limits, of which each actor asks only what it may, and its run by turns
+-- a cell within its limits, of which each task asks only what it may and something until its End, and its run by turns
 pub record IsSound (cell : CellData) (trees : List TypedTree) (history : List Event) : Type 0 where
   pub limits : IsCell cell
   pub full : StartsFull cell
-  pub may : AsksWhatItMay (with_inputs (tree_asks trees) cell) cell
+  pub well : TasksAskWell (tree_asks trees) cell
   pub run : IsByTurns (with_inputs (tree_asks trees) cell) cell history
 
 -- the report has this history of the cell, and the fates that follow from it
@@ -38,13 +39,16 @@ run_is cell trees history report sound tells =
     let here : IsByTurns (with_inputs (tree_asks trees) cell) cell report.history.items =
     subst (λ (h : List Event). IsByTurns (with_inputs (tree_asks trees) cell) cell h) (sym tells.history_is) sound.run in
     let legal : IsLegal (with_inputs (tree_asks trees) cell) cell report.history.items =
-    by_turns_legal (with_inputs (tree_asks trees) cell) cell report.history.items sound.limits sound.full sound.may here in
+    by_turns_legal (with_inputs (tree_asks trees) cell) cell report.history.items sound.limits sound.full (asks_what_it_may (tree_asks trees) cell sound.well) here in
+    let whole : IsWhole (with_inputs (tree_asks trees) cell) cell report.history.items =
+    by_turns_whole (with_inputs (tree_asks trees) cell) cell report.history.items (only_actors (tree_asks trees) cell) here in
     record {
       legal = legal;
-      whole = by_turns_whole (with_inputs (tree_asks trees) cell) cell report.history.items (only_actors (tree_asks trees) cell) here;
+      whole = whole;
       by_turns = here;
       fates = tells.fates_is ∙ ap (λ (h : List Event). fates_after cell h (length cell.tasks)) (sym tells.history_is);
       clear = zones_missed (with_inputs (tree_asks trees) cell) cell report.history.items legal;
+      stalled = λ status task within going. stalled_wait cell trees report.history.items sound.well legal whole status task within going;
     }
 
 -- what is printed, in the words of the report
@@ -86,11 +90,11 @@ run_cut_short cell trees history report out err sound tells write status printed
     )
 
 -- the run of the tasks of a cell
-pub run_answered : (cell here : CellData) (trees seen : List TypedTree) (history : List Event) (report : Report) (out err : Sunk) → here ≡ cell → seen ≡ trees → AsksWhatItMay (with_inputs (tree_asks seen) cell) cell
+pub run_answered : (cell here : CellData) (trees seen : List TypedTree) (history : List Event) (report : Report) (out err : Sunk) → here ≡ cell → seen ≡ trees → TasksAskWell (tree_asks seen) cell
     → IsByTurns (with_inputs (tree_asks seen) cell) cell history
-    → ((ts : List TypedTree) → AsksWhatItMay (with_inputs (tree_asks ts) here) here → IsByTurns (with_inputs (tree_asks ts) here) here history → AnswersRun here ts report out err)
+    → ((ts : List TypedTree) → TasksAskWell (tree_asks ts) here → IsByTurns (with_inputs (tree_asks ts) here) here history → AnswersRun here ts report out err)
     → RunsOrMemory cell trees report out err
-run_answered cell here trees seen history report out err same alike may run answered =
-    let may_here : AsksWhatItMay (with_inputs (tree_asks seen) here) here = subst (λ (c : CellData). AsksWhatItMay (with_inputs (tree_asks seen) c) c) (sym same) may in
+run_answered cell here trees seen history report out err same alike well run answered =
+    let well_here : TasksAskWell (tree_asks seen) here = subst (λ (c : CellData). TasksAskWell (tree_asks seen) c) (sym same) well in
     let run_here : IsByTurns (with_inputs (tree_asks seen) here) here history = subst (λ (c : CellData). IsByTurns (with_inputs (tree_asks seen) c) c history) (sym same) run in
-    inr (subst (λ (ts : List TypedTree). AnswersRun cell ts report out err) alike (subst (λ (c : CellData). AnswersRun c seen report out err) same (answered seen may_here run_here)))
+    inr (subst (λ (ts : List TypedTree). AnswersRun cell ts report out err) alike (subst (λ (c : CellData). AnswersRun c seen report out err) same (answered seen well_here run_here)))

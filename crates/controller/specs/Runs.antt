@@ -1,15 +1,16 @@
 -- The run theorem: what the report of a run tells.
-use Rattle.std.specs.Prelude.{◌≡◌, ℕ, Bool, true, false, List, ◌∷◌, ◌++◌, length, Some, if◌then◌else◌}
+use Rattle.std.specs.Prelude.{◌≡◌, ℕ, ◌<◌, Bool, true, false, List, ◌∷◌, ◌++◌, length, Some, if◌then◌else◌}
 use Rattle.std.specs.List.{list_any}
 use Rattle.rapid_num.specs.declared.joints.Joints.{Joints}
 use Rattle.rapid_num.specs.declared.shape.Shape.{Shape}
 use Rattle.joint_clip.specs.Touches.{Touches}
 use Rattle.rapid_model.specs.CellData.{CellData}
+use Rattle.rapid_model.specs.Own.{part_of, answers_of, has_ended}
 use Rattle.rapid_model.specs.declared.answer.Answer.TheVariants as answers
 use Rattle.rapid_model.specs.declared.event.Event.{Event}
 use Rattle.rapid_model.specs.declared.fate.Fate.{Fate}
 use Rattle.rapid_model.specs.declared.fate.Fate.TheVariants as fates
-use Rattle.rapid_model.specs.declared.request.Request.TheVariants.{Setpoint}
+use Rattle.rapid_model.specs.declared.request.Request.TheVariants.{Setpoint, Rise}
 use Rattle.rapid_model.specs.declared.zone_name.ZoneName.{ZoneName}
 use Rattle.typed_trees.specs.Plain.{TypedTree}
 use Rattle.rapid_meaning.specs.Asking.{tree_asks}
@@ -18,6 +19,7 @@ use Rattle.cell_meaning.specs.Asking.{with_inputs}
 use Rattle.cell_meaning.specs.Fates.{all_ended, is_spent, fates_after}
 use Rattle.cell_meaning.specs.Histories.{IsLegal, IsWhole}
 use Rattle.cell_meaning.specs.Motion.{arm_after}
+use Rattle.cell_meaning.specs.Rising.{can_rise}
 use Rattle.cell_meaning.specs.Stored.{signals_after}
 use Rattle.cell_meaning.specs.Turns.{IsByTurns}
 use Rattle.cell_meaning.specs.Zones.{zones_after}
@@ -27,15 +29,6 @@ use Rattle.controller.specs.declared.report.Report.{Report}
 pub record MissesZones (cell : CellData) (history : List Event) : Type 0 where
   pub misses : (before after : List Event) (e : Event) (from to : Joints) (name : ZoneName) (shape : Shape) → history ≡ before ++ e ∷ after → e.request ≡ Setpoint to → e.answer ≡ answers.Given
       → arm_after cell before e.actor ≡ Some from → supervised (zones_after cell before) e.actor (signals_after cell before) name ≡ Some shape → ¬ Touches from to shape
-
--- The history interleaves whole traces of the tasks' trees and of the input script, each answer being what one shared cell gives
--- at that point; it is the run by turns, the fates follow from it, and no arm passed through a zone that watched it.
-pub record IsRun (cell : CellData) (trees : List TypedTree) (report : Report) : Type 0 where
-  pub legal : IsLegal (with_inputs (tree_asks trees) cell) cell report.history.items
-  pub whole : IsWhole (with_inputs (tree_asks trees) cell) cell report.history.items
-  pub by_turns : IsByTurns (with_inputs (tree_asks trees) cell) cell report.history.items
-  pub fates : report.fates.items ≡ fates_after cell report.history.items (length cell.tasks)
-  pub clear : MissesZones cell report.history.items
 
 abbrev pub is_fault : Fate → Bool
 is_fault (fates.Fault fault) = true
@@ -49,3 +42,20 @@ run_status cell history =
     (if list_any is_fault (fates_after cell history (length cell.tasks)) then 1 else 0)
     else if is_spent cell history then 9
     else 8
+
+-- after the history the task asks to rise from its wait, and can not
+pub record WaitsToRise (cell : CellData) (trees : List TypedTree) (history : List Event) (task : ℕ) : Type 0 where
+  pub asks : tree_asks trees task (answers_of task history) Rise
+  pub cannot : can_rise cell history task ≡ false
+
+-- The history interleaves whole traces of the tasks' trees and of the input script, each answer being what one shared cell gives
+-- at that point; it is the run by turns, the fates follow from it, and no arm passed through a zone that watched it. Where the
+-- status is 8, each task that has not ended waits, and can not rise.
+pub record IsRun (cell : CellData) (trees : List TypedTree) (report : Report) : Type 0 where
+  pub legal : IsLegal (with_inputs (tree_asks trees) cell) cell report.history.items
+  pub whole : IsWhole (with_inputs (tree_asks trees) cell) cell report.history.items
+  pub by_turns : IsByTurns (with_inputs (tree_asks trees) cell) cell report.history.items
+  pub fates : report.fates.items ≡ fates_after cell report.history.items (length cell.tasks)
+  pub clear : MissesZones cell report.history.items
+  pub stalled : run_status cell report.history.items ≡ 8 → (task : ℕ) → task < length cell.tasks → has_ended (part_of task report.history.items) ≡ false
+      → WaitsToRise cell trees report.history.items task

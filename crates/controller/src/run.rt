@@ -10,7 +10,7 @@ ghost use Rattle.live_code.specs.Live.{CodeFits};
 ghost use Rattle.code_liveness.specs.Checked.{IsChecked};
 ghost use Rattle.cell_meaning.specs.Asking.{with_inputs};
 ghost use Rattle.cell_meaning.specs.Fates.{fates_after};
-ghost use Rattle.cell_meaning.specs.Premises.{AsksWhatItMay, StartsFull};
+ghost use Rattle.cell_meaning.specs.Premises.{AsksWhatItMay, StartsFull, TasksAskWell};
 ghost use Rattle.cell_meaning.specs.Turns.{IsByTurns};
 ghost use Rattle.cell_crew.specs.Crew.{RunPrograms};
 ghost use Rattle.task_steps.specs.declared.phase.Phase.TheVariants as phases;
@@ -99,7 +99,7 @@ fn machine_of(alloc: Global, tree: &Tree) -> Result<Machine, AllocError>
 
 /// Prints a run and reports it.
 fn report_run<O: Sink, E: Sink>(core: Core, out: &mut O, err: &mut E) -> Report
-    ensures { (trees : List TypedTree) → AsksWhatItMay (with_inputs (tree_asks trees) core.cell) core.cell → IsByTurns (with_inputs (tree_asks trees) core.cell) core.cell core.history → AnswersRun core.cell trees result (sunk O.told O.calls O.faults out.old out.new) (sunk E.told E.calls E.faults err.old err.new) }
+    ensures { (trees : List TypedTree) → TasksAskWell (tree_asks trees) core.cell → IsByTurns (with_inputs (tree_asks trees) core.cell) core.cell core.history → AnswersRun core.cell trees result (sunk O.told O.calls O.faults out.old out.new) (sunk E.told E.calls E.faults err.old err.new) }
 {
     within_limits(core.cell());
     let status = status_of_run(&core);

@@ -32,5 +32,5 @@ returns-in-Ok g c =
     let has : HasScript (made_with c.args.accepted.cell c.as_slice.result.now) = subst (λ (ts : List Tree). HasScript (made_with c.args.accepted.cell ts)) (sym c.as_slice.ensures.value) c.requires in
     run_answered c.args.accepted.cell c.in-Ok.core.cell (map view_tree c.args.accepted.trees.items) (map view_tree c.as_slice.result.now) c.in-Ok.core.history _ _ _ c.in-Ok.ensures.cell
     (ap (map view_tree) c.as_slice.ensures.value)
-    (asks_what_it_may (tree_asks (map view_tree c.as_slice.result.now)) c.args.accepted.cell (c.accepted_tasks_ask_well.ensures has.script (made_with c.args.accepted.cell c.as_slice.result.now) has.accepted))
+    (c.accepted_tasks_ask_well.ensures has.script (made_with c.args.accepted.cell c.as_slice.result.now) has.accepted)
     c.in-Ok.ensures.by_turns c.report_run.ensures
