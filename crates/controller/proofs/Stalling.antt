@@ -9,7 +9,7 @@ use Rattle.rapid_model.specs.declared.request.Request.{Request}
 use Rattle.typed_trees.specs.Plain.{TypedTree}
 use Rattle.rapid_meaning.specs.Asking.{tree_asks}
 use Rattle.cell_meaning.specs.Answers.{is_enabled}
-use Rattle.cell_meaning.specs.Asking.{Asking, TaskAsks, with_inputs}
+use Rattle.cell_meaning.specs.Asking.{Asking, with_inputs}
 use Rattle.cell_meaning.specs.Fates.{all_ended, fates_after, is_spent}
 use Rattle.cell_meaning.specs.Histories.{IsLegal, IsWhole}
 use Rattle.cell_meaning.specs.Premises.{TasksAskWell}
@@ -22,7 +22,11 @@ record IsEight (ended spent : Bool) : Type 0 where
   going : ended ≡ false
   left : spent ≡ false
 
-eight : (ended faulty spent : Bool) → (if ended then (if faulty then 1 else 0) else if spent then 9 else 8) ≡ 8 → IsEight ended spent
+-- the status, by whether all have ended, one with a fault, and whether the steps are spent
+abbrev of_ends : Bool → Bool → Bool → ℕ
+of_ends ended faulty spent = if ended then (if faulty then 1 else 0) else if spent then 9 else 8
+
+eight : (ended faulty spent : Bool) → of_ends ended faulty spent ≡ 8 → IsEight ended spent
 eight true true spent is = absurd (omega (arith, is))
 eight true false spent is = absurd (omega (arith, is))
 eight false faulty true is = absurd (omega (arith, is))
