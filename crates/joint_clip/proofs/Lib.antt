@@ -4,5 +4,6 @@ pub mod Parts
 pub mod Sides
 pub mod Axes
 pub mod Beyond
+pub mod PassingBy
 pub mod Bounds
 mod Examples

@@ -1,9 +1,10 @@
-//! Inside zones: a segment is cut by the bounds of one axis after the other.
+//! Inside zones: a segment that is not beside one is cut by the bounds of one axis after the other.
 
 ghost use Rattle.std.specs.Prelude.{◌↔◌, IsTrue};
 ghost use Rattle.joint_clip.specs.Touches.{LiesInside, SomeFraction, point_at};
 ghost use Rattle.joint_clip.specs.Parts.{IsPartWhere};
 
+use crate::beside::passes_beside;
 use crate::part::Part;
 use rapid_num::{Bound, Joints};
 
@@ -11,6 +12,9 @@ use rapid_num::{Bound, Joints};
 pub(crate) fn passes_inside(p: &Joints, q: &Joints, bounds: &[Option<Bound>; 12]) -> bool
     ensures { IsTrue result ↔ SomeFraction (λ k m. LiesInside bounds.now (point_at p.now q.now k m) m) }
 {
+    if passes_beside(p, q, bounds) {
+        return false;
+    }
     part_inside(p, q, bounds).is_some()
 }
 

@@ -1,6 +1,7 @@
 //! Zones in joint space: the shape that two bound positions make, and whether a segment of a move touches a shape.
 #![tactic(auto)]
 
+mod beside;
 mod cut;
 mod fraction;
 mod inside;

@@ -92,7 +92,7 @@ impl ArmZones {
         ensures first { IsFirstPlace (λ place. Stops p.now q.now (own_shape (slice_index_or self.now place None))) result }
     {
         for place in 0..10 {
-            if stops(own_shape(self.zones[place]), p, q) {
+            if stops(own_shape(&self.zones[place]), p, q) {
                 return Some(place);
             }
         }

@@ -1,4 +1,4 @@
-ghost use Rattle.std.specs.Prelude.{◌≡◌, ◌<◌, length};
+ghost use Rattle.std.specs.Prelude.{◌≡◌, ◌<◌, length, option_copied};
 ghost use Rattle.world_zones.specs.Zones.{cell_shape};
 
 use rapid_model::SignalValues;
@@ -14,12 +14,16 @@ pub struct CellZone {
 }
 
 /// The shape of the zone, if it watches the task's arm now.
-pub(crate) fn cell_shape<V: SignalValues>(zone: &CellZone, task: u32, signals: &V) -> Option<Shape>
+pub(crate) fn cell_shape<'a, V: SignalValues>(
+    zone: &'a CellZone,
+    task: u32,
+    signals: &V,
+) -> Option<&'a Shape>
     requires there { zone.now.signal < length (V.values signals.now) }
-    ensures { result ≡ cell_shape task (V.values signals.now) zone.now }
+    ensures { option_copied result ≡ cell_shape task (V.values signals.now) zone.now }
 {
     if zone.task == task && signals.value(zone.signal) == zone.value {
-        return Some(zone.shape);
+        return Some(&zone.shape);
     }
     None
 }

@@ -1,4 +1,4 @@
-ghost use Rattle.std.specs.Prelude.{◌≡◌, ◌<◌, is_none, length, IfSome};
+ghost use Rattle.std.specs.Prelude.{◌≡◌, ◌<◌, is_none, length, option_copied, IfSome};
 ghost use Rattle.std.specs.List.{position_from};
 ghost use Rattle.world_zones.specs.Zones.{own_shape, zone_at};
 
@@ -32,11 +32,11 @@ pub(crate) fn free_place(zones: &[Option<OwnZone>]) -> Option<usize>
 }
 
 /// The shape of the zone, if there is one and it is on.
-pub(crate) fn own_shape(zone: Option<OwnZone>) -> Option<Shape>
-    ensures { result ≡ own_shape zone }
+pub(crate) fn own_shape(zone: &Option<OwnZone>) -> Option<&Shape>
+    ensures { option_copied result ≡ own_shape zone.now }
 {
     match zone {
-        Some(zone) if zone.on => Some(zone.shape),
+        Some(zone) if zone.on => Some(&zone.shape),
         _ => None,
     }
 }

@@ -1,0 +1,28 @@
+//! Inside zones that a segment is beside: where an axis is past a bound at both ends, it is so all the way.
+
+ghost use Rattle.std.specs.Prelude.{◌↔◌, IsTrue};
+ghost use Rattle.joint_clip.specs.Beside.{IsBeside, PassesBeside};
+
+use rapid_num::{Bound, Joints, Num};
+
+/// Whether some named axis is past one and the same bound at both ends of a segment.
+pub(crate) fn passes_beside(p: &Joints, q: &Joints, bounds: &[Option<Bound>; 12]) -> bool
+    ensures { IsTrue result ↔ PassesBeside bounds.now p.now q.now }
+{
+    for axis in 0..12 {
+        if let Some(bound) = &bounds[axis] {
+            if is_beside(p.axis[axis], q.axis[axis], bound) {
+                return true;
+            }
+        }
+    }
+    false
+}
+
+/// Whether two angles are past one and the same bound.
+fn is_beside(p: Num, q: Num, bound: &Bound) -> bool
+    ensures { IsTrue result ↔ IsBeside bound.now p q }
+{
+    let (p, q) = (p.thousandths(), q.thousandths());
+    p.max(q) < bound.low.thousandths() || bound.high.thousandths() < p.min(q)
+}
