@@ -116,15 +116,15 @@ const NOTHING_TO_DO: &[u8] = b"MODULE M\nPROC main()\nENDPROC\nENDMODULE\n";
 
 /// What a call left: its report, and the bytes of both sinks.
 #[derive(Drop)]
-struct Outcome {
-    report: Report,
+pub(crate) struct Outcome {
+    pub(crate) report: Report,
     out: MemorySink,
     err: MemorySink,
 }
 
 /// Does what the words say over a script and the modules `a.mod` and `b.mod`; the write of this number to the first sink
 /// fails.
-fn outcome_of(
+pub(crate) fn outcome_of(
     alloc: Global,
     words: &[&str],
     script: &[u8],

@@ -6,6 +6,8 @@ mod cells;
 #[cfg(test)]
 mod cores;
 #[cfg(test)]
+mod events;
+#[cfg(test)]
 mod lines;
 #[cfg(test)]
 mod many_inputs;
