@@ -2,7 +2,8 @@
 //! VAR, a FOR over a PERS, 31 routines one in another, 100,000 setpoints. The task asks a cell in the same process for the same,
 //! in the same order, as `docs/MEANING.md` says of these forms, and the cell keeps the history. It prints the lines that `round`
 //! prints of the cell, and then how many events were counted, and seconds. It knows no more of the language than the four need:
-//! no files, names or types, one task, no signals, zones, interrupts, waits or ERROR parts. Nothing of it is proved.
+//! no files, names or types, one task, no signals, zones, interrupts, waits or ERROR parts. Nothing of it is proved. Its values
+//! are small; built with `--cfg wide` they, requests, answers and events take as many bytes as the program's do.
 use std::io::{self, BufWriter, Write};
 use std::time::Instant;
 
@@ -18,7 +19,8 @@ const REACH: Num = 720_000;
 const ZERO: Value = Value::Num(0);
 
 #[derive(Clone)]
-enum Value { Num(Num), Bool(bool), Target(Box<Joints>), Speed(Box<[Num; 4]>) }
+#[allow(dead_code)]
+enum Value { Num(Num), Bool(bool), Target(Box<Joints>), Speed(Box<[Num; 4]>), #[cfg(wide)] Wide([Num; 38]) }
 
 /// A datum of the module; one of the routine, parameters first; a persistent.
 #[derive(Clone, Copy)]
@@ -45,14 +47,15 @@ struct Routine(usize, Vec<Stmt>);
 #[allow(dead_code)]
 enum Request { Look, ReadP(usize), WriteP(usize, Value), Position, Setpoint(Box<Joints>), End(Fate) }
 
-/// `Go` tells how many changes others have made.
+/// `Go` tells how many changes others have made. The persistent here is a num.
 #[derive(Clone)]
-enum Answer { Ok, Go(u32), Val(Value), At(Box<Joints>), Given }
+#[allow(dead_code)]
+enum Answer { Ok, Go(u32), Val(Num), At(Box<Joints>), Given, #[cfg(wide)] Wide([Num; 12]) }
 
 #[allow(dead_code)]
 struct Event { actor: u32, request: Request, answer: Answer }
 
-struct Cell { pers: Vec<Value>, arm: Joints, steps: usize, history: Vec<Event> }
+struct Cell { pers: Vec<Num>, arm: Joints, steps: usize, history: Vec<Event> }
 
 impl Cell {
     /// Answers the request, and keeps both. Where no steps are left End alone is answered.
@@ -63,8 +66,8 @@ impl Cell {
         let mut answer = Answer::Ok;
         match &request {
             Request::Look => answer = Answer::Go(0),
-            Request::ReadP(pers) => answer = Answer::Val(self.pers[*pers].clone()),
-            Request::WriteP(pers, value) => self.pers[*pers] = value.clone(),
+            Request::ReadP(pers) => answer = Answer::Val(self.pers[*pers]),
+            Request::WriteP(pers, value) => self.pers[*pers] = num_in(value.clone()),
             Request::Position => answer = Answer::At(Box::new(self.arm)),
             Request::Setpoint(to) => (self.arm, answer) = (**to, Answer::Given),
             Request::End(_) => {}
@@ -97,7 +100,7 @@ impl<'t> Task<'t> {
             Place::Slot(row) => self.slots[row].clone(),
             Place::Local(row) => self.frame().values[row].clone(),
             Place::Pers(row) => match self.cell.ask(Request::ReadP(row))? {
-                Answer::Val(value) => value,
+                Answer::Val(number) => Value::Num(number),
                 _ => misfit(),
             },
         })
@@ -288,7 +291,7 @@ fn arm_at(axes: [Num; 6]) -> Joints {
 fn main() -> io::Result<()> {
     let begun = Instant::now();
     let (routines, steps) = cell_of(&std::env::args().nth(1).unwrap_or_default());
-    let cell = Cell { pers: vec![ZERO], arm: arm_at([0; 6]), steps, history: Vec::with_capacity(steps + 1) };
+    let cell = Cell { pers: vec![0], arm: arm_at([0; 6]), steps, history: Vec::with_capacity(steps + 1) };
     let mut task = Task { routines: &routines, cell, slots: vec![ZERO], frames: Vec::new() };
     let fate = task.call(0, Vec::new()).err().unwrap_or("Done");
     let counted = task.cell.history.len();
