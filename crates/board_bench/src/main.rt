@@ -1,17 +1,18 @@
 //! Puts segments against zones, and fires interrupts, so many times, and tells what it came to. The words are which of `touches`,
-//! `blocks` and `firings`, and how many times; without words each is done once. For `bench/run`.
+//! `blocks` (`blocks_last` and `blocks_none`) and `firings`, and how many times; without words each is done once. For `bench/run`.
 #![tactic(auto)]
 
 mod segments;
+mod setpoints;
 mod six_axes;
 mod sixty_four_orders;
-mod ten_zones;
+mod zoned_arm;
 
 use segments::touching;
+use setpoints::{under_no_zone, under_zones_of_last, under_zones_of_six};
 use sixty_four_orders::SixtyFourOrders;
 use std::alloc::Global;
 use std::{env, io};
-use ten_zones::TenZones;
 
 fn main(rt: HostRuntime) -> io::Result<()> {
     let mut words = env::args(&rt)?.skip(1);
@@ -23,7 +24,7 @@ fn main(rt: HostRuntime) -> io::Result<()> {
     match &work {
         Some(work) => println!(rt; "{}", told(rt.alloc(), work.as_str(), times)),
         None => {
-            for work in ["touches", "blocks", "firings"] {
+            for work in ["touches", "blocks", "blocks_last", "blocks_none", "firings"] {
                 println!(rt; "{work} {}", told(rt.alloc(), work, times))?;
             }
             Ok(())
@@ -35,7 +36,9 @@ fn main(rt: HostRuntime) -> io::Result<()> {
 fn told(alloc: Global, work: &str, times: u32) -> u32 {
     match work {
         "touches" => touching(times),
-        "blocks" => TenZones::new(alloc).map_or(0, |zones| zones.stops(times)),
+        "blocks" => under_zones_of_six(alloc, times),
+        "blocks_last" => under_zones_of_last(alloc, times),
+        "blocks_none" => under_no_zone(alloc, times),
         _ => SixtyFourOrders::new(alloc).map_or(0, |mut orders| orders.traps(times)),
     }
 }

@@ -1,7 +1,7 @@
 ghost use Rattle.std.specs.Prelude.{◌≡◌, [], length, IfOk, IsTrue};
 ghost use Rattle.rapid_num.specs.Reach.{is_position};
 
-use crate::six_axes::{position, zone};
+use crate::six_axes::position;
 use rapid_model::{Cell, NameText, Sequence, TaskRow};
 use rapid_num::{Joints, Memory, Num, Shape};
 use signal_board::Signals;
@@ -9,43 +9,33 @@ use std::alloc::Global;
 use std::marker::Model;
 use world_zones::Zones;
 
-/// Bounds within which axes 1 to 5 stay, so that axis 6 alone, the last one, is out of the zone.
-const BESIDE: [(i32, i32); 6] = [
-    (-720_000, 720_000),
-    (-720_000, 720_000),
-    (-720_000, 720_000),
-    (-720_000, 720_000),
-    (-720_000, 720_000),
-    (60_000, 90_000),
-];
-
-/// An arm with ten zones of its own.
+/// An arm with zones of its own.
 #[derive(Drop)]
-pub(crate) struct TenZones {
+pub(crate) struct ZonedArm {
     zones: Zones,
     signals: Signals,
 }
 
-impl Model for TenZones {
+impl Model for ZonedArm {
     ghost use Rattle.std.specs.Prelude.{◌≡◌, [], length};
     ghost use Rattle.world_zones.specs.Zones.{ZonesData};
 
     ghost Value = { ZonesData };
 
-    ghost view = { λ t. t.zones };
+    ghost view = { λ a. a.zones };
 
-    ghost invariant = { λ t. (length t.zones.arms ≡ 1) × (t.zones.cell ≡ []) };
+    ghost invariant = { λ a. (length a.zones.arms ≡ 1) × (a.zones.cell ≡ []) };
 }
 
-impl TenZones {
-    pub(crate) fn new(alloc: Global) -> Result<TenZones, Memory> {
+impl ZonedArm {
+    /// With so many zones of one shape, ten at most.
+    pub(crate) fn new(alloc: Global, count: u8, shape: &Shape) -> Result<ZonedArm, Memory> {
         let cell = one_arm(alloc)?;
         let zones = Zones::new(alloc, &cell)?;
         let signals = Signals::new(alloc, &cell)?;
-        let mut arm = TenZones { zones, signals };
-        let shape = zone(BESIDE);
-        for _zone in 0..10 {
-            arm.set(&shape);
+        let mut arm = ZonedArm { zones, signals };
+        for _zone in 0..count {
+            arm.set(shape);
         }
         Ok(arm)
     }
@@ -54,7 +44,7 @@ impl TenZones {
         let _number = self.zones.set(0, 0, false, shape);
     }
 
-    /// How many of so many setpoints, a thousandth of a degree of axis 1 apart, a zone stops, which none does.
+    /// How many of so many setpoints, a thousandth of a degree of axis 1 apart, a zone stops.
     pub(crate) fn stops(&self, setpoints: u32) -> u32 {
         let mut count = 0_u32;
         let mut from = position([0; 6]);
