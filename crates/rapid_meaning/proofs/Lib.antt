@@ -1,6 +1,7 @@
 pub mod Trees
 pub mod Asked
 pub mod SmallTasks
+mod Interrupted
 pub mod Forms
 pub mod Begins
 pub mod Fuel
