@@ -1,0 +1,4 @@
+mod Places
+mod Parts
+mod Compiles
+mod Examples

@@ -1,0 +1,21 @@
+-- That code does what a part of a program does, and what follows it.
+use Rattle.std.specs.Prelude.{◌≡◌, ℕ, List, ⊤}
+use Rattle.rapid_model.specs.declared.answer.Answer.{Answer}
+use Rattle.rapid_meaning.specs.Answering.{Outcome, joined}
+use Rattle.rapid_meaning.specs.Data.{Data}
+use Rattle.rapid_meaning.specs.Doings.{Doing}
+use Rattle.stack_code.specs.CodeData.{CodeData}
+use Rattle.stack_code.specs.CodeRuns.{fitting_by, goes}
+use Rattle.stack_code.specs.Confs.{Conf}
+use Rattle.code_simulation.specs.Standing.{Fine}
+
+-- what follows an outcome in code, by so many operations: where what was given leads, or the error
+abbrev pub followed : {A : Type 0} → CodeData → ℕ → (A → Doing Conf) → (ℕ → Doing Conf) → Outcome A → Outcome ⊤
+followed code k next failed o =
+    joined o (λ v d left. goes (fitting_by code) code k (next v) d left) (λ error d left. goes (fitting_by code) code k (failed error) d left)
+
+-- From `start` on code does as a part of a program, with whatever data and answers: what the part comes to, followed by so many
+-- operations, code comes to as well, by some number of them, wherever that neither misfits nor is cut short.
+pub record DoesAs {A : Type 0} (code : CodeData) (start : Doing Conf) (part : Data → List Answer → Outcome A) (next : A → Doing Conf) (failed : ℕ → Doing Conf) : Type 0 where
+  pub comes : (d : Data) (answers : List Answer) (k : ℕ) → Fine (followed code k next failed (part d answers))
+      → (j : ℕ) × (goes (fitting_by code) code j start d answers ≡ followed code k next failed (part d answers))

@@ -1,0 +1,3 @@
+pub mod Following
+pub mod Routines
+pub mod Parts
