@@ -4,7 +4,10 @@ ghost use Rattle.std.specs.Prelude.{◌≡◌, ◌≤◌, IsTrue, IfSome, pos, c
 ghost use Rattle.rapid_num.specs.Reach.{is_position};
 
 use cell_core::{Core, Served};
-use rapid_model::{Answer, Cell, Event, Fate, NameText, Request, Sequence, TaskRow};
+use rapid_model::{
+    Answer, Cell, Event, Fate, NameText, PartName, Path, PersCell, Request, Sequence, Sort,
+    TaskRow, Value,
+};
 use rapid_num::{Joints, Num};
 use std::alloc::{AllocError, Global};
 use std::process::Abort;
@@ -42,7 +45,7 @@ fn name() -> NameText
     name
 }
 
-// One task, whose arm is at 0.
+// One task, whose arm is at 0, and a bool that is kept, FALSE at first.
 fn cell_of_one(alloc: Global, steps: u32) -> Result<Cell, AllocError>
     requires some { 1 ≤ steps }
     requires few { steps ≤ 1000 }
@@ -52,11 +55,18 @@ fn cell_of_one(alloc: Global, steps: u32) -> Result<Cell, AllocError>
         name: name(),
         arm: Some(position(false)),
     })?;
+    let kept = PersCell {
+        name: name(),
+        owner: None,
+        sort: Sort::Bool,
+        len: None,
+        first: Sequence::from_vec(vec![in alloc; Value::Bool(false)]?),
+    };
     Ok(Cell {
         steps,
         tasks: Sequence::from_vec(rows),
         signals: Sequence::from_vec(Vec::new(alloc)),
-        pers: Sequence::from_vec(Vec::new(alloc)),
+        pers: Sequence::from_vec(vec![in alloc; kept]?),
         meetings: Sequence::from_vec(Vec::new(alloc)),
         zones: Sequence::from_vec(Vec::new(alloc)),
         inputs: Sequence::from_vec(Vec::new(alloc)),
@@ -84,14 +94,38 @@ fn answered(answer: Answer) -> Option<Served> {
     Some(Served::Answered(answer))
 }
 
-// A core can be given to a thread.
-fn sent<T: Send>(value: T) -> T {
-    value
-}
-
 // To one degree.
 fn setpoint() -> Request {
     Request::Setpoint { to: position(true) }
+}
+
+const WHOLE: Path = Path {
+    index: 0,
+    part: PartName::Whole,
+};
+
+// TRUE, to the bool that is kept.
+fn write() -> Request {
+    Request::WriteP {
+        pers: 0,
+        path: WHOLE,
+        value: Value::Bool(true),
+    }
+}
+
+// The value of the first persistent, where it is no array.
+fn kept(core: &Core) -> Option<Value> {
+    match core.cell().pers().as_slice().first() {
+        Some(row) if row.len.is_none() => Some(core.pers(0, &WHOLE)),
+        _ => None,
+    }
+}
+
+// Whether the first task is held, and whether the cell is stalled.
+fn stands(core: &Core) -> (bool, bool) {
+    // A cell has a task.
+    let _steps = core.cell().steps();
+    (core.held(0), core.stalled())
 }
 
 #[test]
@@ -140,7 +174,24 @@ fn a_task_is_cut(rt: HostRuntime) {
     );
     assert_eq!(rt; core.len(), 2);
     assert_eq!(rt; core.event(1).answer, Answer::At(position(true)));
-    let (_events, fates) = sent(core).into_report();
+    let (_events, fates) = core.into_report();
     assert_eq!(rt; fates.len(), 1);
     assert_eq!(rt; fates[0], Fate::Cut);
+}
+
+#[test]
+fn a_task_waits_for_no_one(rt: HostRuntime) {
+    let mut core = core_of_one(&rt, rt.alloc(), 10);
+    assert_eq!(rt; kept(&core), Some(Value::Bool(false)));
+    assert_eq!(rt; ask(&mut core, write()), answered(Answer::Ok));
+    assert_eq!(rt; kept(&core), Some(Value::Bool(true)));
+    assert_eq!(rt; stands(&core), (false, false));
+    assert_eq!(rt;
+        ask(&mut core, Request::Hold { seen: 0 }),
+        answered(Answer::Ok)
+    );
+    assert_eq!(rt; stands(&core), (true, true));
+    assert_eq!(rt; ask(&mut core, Request::Rise), Some(Served::NotYet));
+    let (_events, fates) = core.into_report();
+    assert_eq!(rt; fates.as_slice(), [Fate::Held].as_slice());
 }
