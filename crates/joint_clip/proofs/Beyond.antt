@@ -1,15 +1,13 @@
 -- An axis is past a bound on the way exactly where it is so at one of the ends.
-use Rattle.std.proofs.Common.{◌≡◌, ◌≤◌, ◌<◌, ◌+◌, ℕ, Bool, true, false, IsTrue, List, length, Option, Some, None, inl, inr, subst, refl, arith, ℤ, pos, ◌≤ℤ◌}
-use Rattle.std.specs.Prelude.{slice_get}
+use Rattle.std.proofs.Common.{◌≡◌, ◌≤◌, ◌<◌, ℕ, Bool, true, false, IsTrue, List, length, Option, Some, inl, inr, subst, refl, arith, ℤ, pos, ◌≤ℤ◌}
 use Rattle.std.specs.List.{slice_index_or}
 use Rattle.std.proofs.lemmas.Int.{ints, by_lt_z}
 use Rattle.std.proofs.lemmas.Bool.{false≢true}
 use Rattle.std.proofs.lemmas.Option.{slice_get_within}
-use borrow.Author.Count.{below_more}
 use Rattle.rapid_num.specs.declared.joints.Joints.{Joints}
 use Rattle.rapid_num.specs.declared.shape.Bound.{Bound}
 use Rattle.joint_clip.specs.Touches.{Names, IsBeyond, LiesOutside, SomeFraction, way_at, point_at}
-use Rattle.joint_clip.proofs.Axes.{same_bound, not_named}
+use Rattle.joint_clip.proofs.NamedAxes.{NoneOf}
 use Rattle.joint_clip.proofs.Ways.{way_at-least, way_at-most}
 
 -- an axis that goes from p to q is somewhere past one of its bounds
@@ -51,29 +49,13 @@ end_beyond bound p q true from is = (λ true. beyond_at_end bound p q (is.0 true
 end_beyond bound p q false from is =
     (λ true. absurd (false≢true true), λ passes. absurd (beyond_at_an_end bound p q from (λ beyond. false≢true (is.1 beyond)) passes))
 
--- none of the first axes that are named is past its bounds on the way
-abbrev pub NoneBeyond : ℕ → List (Option Bound) → Joints → Joints → Type 0
-NoneBeyond axes bounds p q = (axis : ℕ) → axis < axes → (bound : Bound) → Names bounds axis bound → ¬ SomeFraction (λ k m. IsBeyond bound (point_at p q k m axis) m)
-
-pub none_more : (axes : ℕ) (bounds : List (Option Bound)) (p q : Joints) (bound : Bound) (from to : ℤ)
-    → Names bounds axes bound → from ≡ slice_index_or p.axis axes (pos 0) → to ≡ slice_index_or q.axis axes (pos 0)
-    → NoneBeyond axes bounds p q → ¬ PassesBeyond bound from to → NoneBeyond (axes + 1) bounds p q
-none_more axes bounds p q bound from to named start end below here =
-    below_more (λ axis. (b : Bound) → Names bounds axis b → ¬ SomeFraction (λ k m. IsBeyond b (point_at p q k m axis) m)) axes below
-    (λ b other passes. here (rw (start, end) (subst (λ (x : Bound). SomeFraction (λ k m. IsBeyond x (point_at p q k m axes) m)) (same_bound bounds axes b bound other named) passes)))
-
-pub none_skip : (axes : ℕ) (bounds : List (Option Bound)) (p q : Joints) → slice_get bounds axes ≡ Some None → NoneBeyond axes bounds p q → NoneBeyond (axes + 1) bounds p q
-none_skip axes bounds p q none below =
-    below_more (λ axis. (b : Bound) → Names bounds axis b → ¬ SomeFraction (λ k m. IsBeyond b (point_at p q k m axis) m)) axes below
-    (λ b named passes. not_named bounds axes b none named)
-
 pub found_beyond : (axis : ℕ) (bounds : List (Option Bound)) (p q : Joints) (bound : Bound) (from to : ℤ)
     → Names bounds axis bound → from ≡ slice_index_or p.axis axis (pos 0) → to ≡ slice_index_or q.axis axis (pos 0)
     → PassesBeyond bound from to → SomeFraction (λ k m. LiesOutside bounds (point_at p q k m) m)
 found_beyond axis bounds p q bound from to named start end passes =
     record { k = passes.k; m = passes.m; whole = passes.whole; on_the_way = passes.on_the_way; holds = record { axis = axis; bound = bound; named = named; beyond = rw (start, end) at passes.holds } }
 
-pub none_outside : (axes : ℕ) (bounds : List (Option Bound)) (p q : Joints) → length bounds ≤ axes → NoneBeyond axes bounds p q → ¬ SomeFraction (λ k m. LiesOutside bounds (point_at p q k m) m)
+pub none_outside : (axes : ℕ) (bounds : List (Option Bound)) (p q : Joints) → length bounds ≤ axes → NoneOf PassesBeyond axes bounds p q → ¬ SomeFraction (λ k m. LiesOutside bounds (point_at p q k m) m)
 none_outside axes bounds p q all none passes =
     let out = passes.holds in
     let within : out.axis < length bounds = slice_get_within bounds out.axis (Some out.bound) out.named in

@@ -1,15 +1,13 @@
 -- An axis that is past one and the same bound at both ends of a segment is past it all the way.
-use Rattle.std.proofs.Common.{◌≡◌, ◌≤◌, ◌<◌, ◌+◌, ℕ, List, length, Option, Some, None, inl, inr, subst, arith, ℤ, pos, negsuc, ◌-ℤ◌, ◌*ℤ◌, ◌<ℤ◌}
-use Rattle.std.specs.Prelude.{slice_get}
+use Rattle.std.proofs.Common.{◌≤◌, ◌<◌, ℕ, List, length, Option, Some, inl, inr, arith, ℤ, pos, negsuc, ◌-ℤ◌, ◌*ℤ◌, ◌<ℤ◌}
 use Rattle.std.specs.List.{slice_index_or}
 use Rattle.std.proofs.lemmas.Int.{ints}
 use Rattle.std.proofs.lemmas.Option.{slice_get_within}
-use borrow.Author.Count.{below_more}
 use Rattle.rapid_num.specs.declared.joints.Joints.{Joints}
 use Rattle.rapid_num.specs.declared.shape.Bound.{Bound}
 use Rattle.joint_clip.specs.Beside.{IsBeside, PassesBeside}
-use Rattle.joint_clip.specs.Touches.{Names, IsWithin, LiesInside, SomeFraction, way_at, point_at}
-use Rattle.joint_clip.proofs.Axes.{same_bound, not_named}
+use Rattle.joint_clip.specs.Touches.{IsWithin, LiesInside, SomeFraction, way_at, point_at}
+use Rattle.joint_clip.proofs.NamedAxes.{NoneOf}
 use Rattle.joint_clip.proofs.Ways.{times-sub, way_at-least, way_at-most}
 
 -- past a bound at both ends, past it all the way
@@ -36,23 +34,7 @@ none_inside bounds p q by inside =
     never_within by.bound (slice_index_or p.axis by.axis (pos 0)) (slice_index_or q.axis by.axis (pos 0)) inside.k inside.m inside.whole inside.on_the_way by.beside
     (inside.holds by.axis by.bound by.named)
 
--- none of the first axes that are named is past one and the same bound at both ends
-abbrev pub NoneBeside : ℕ → List (Option Bound) → Joints → Joints → Type 0
-NoneBeside axes bounds p q = (axis : ℕ) → axis < axes → (bound : Bound) → Names bounds axis bound → ¬ IsBeside bound (slice_index_or p.axis axis (pos 0)) (slice_index_or q.axis axis (pos 0))
-
-pub none_more : (axes : ℕ) (bounds : List (Option Bound)) (p q : Joints) (bound : Bound) (from to : ℤ)
-    → Names bounds axes bound → from ≡ slice_index_or p.axis axes (pos 0) → to ≡ slice_index_or q.axis axes (pos 0)
-    → NoneBeside axes bounds p q → ¬ IsBeside bound from to → NoneBeside (axes + 1) bounds p q
-none_more axes bounds p q bound from to named start end below here =
-    below_more (λ axis. (b : Bound) → Names bounds axis b → ¬ IsBeside b (slice_index_or p.axis axis (pos 0)) (slice_index_or q.axis axis (pos 0))) axes below
-    (λ b other beside. here (rw (start, end) (subst (λ (x : Bound). IsBeside x (slice_index_or p.axis axes (pos 0)) (slice_index_or q.axis axes (pos 0))) (same_bound bounds axes b bound other named) beside)))
-
-pub none_skip : (axes : ℕ) (bounds : List (Option Bound)) (p q : Joints) → slice_get bounds axes ≡ Some None → NoneBeside axes bounds p q → NoneBeside (axes + 1) bounds p q
-none_skip axes bounds p q none below =
-    below_more (λ axis. (b : Bound) → Names bounds axis b → ¬ IsBeside b (slice_index_or p.axis axis (pos 0)) (slice_index_or q.axis axis (pos 0))) axes below
-    (λ b named beside. not_named bounds axes b none named)
-
-pub none_beside : (axes : ℕ) (bounds : List (Option Bound)) (p q : Joints) → length bounds ≤ axes → NoneBeside axes bounds p q → ¬ PassesBeside bounds p q
+pub none_beside : (axes : ℕ) (bounds : List (Option Bound)) (p q : Joints) → length bounds ≤ axes → NoneOf IsBeside axes bounds p q → ¬ PassesBeside bounds p q
 none_beside axes bounds p q all none by =
     let within : by.axis < length bounds = slice_get_within bounds by.axis (Some by.bound) by.named in
     none by.axis (omega arith) by.bound by.named by.beside

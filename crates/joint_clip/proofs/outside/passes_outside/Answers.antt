@@ -2,7 +2,8 @@ use Rattle.std.proofs.Common.{◌<◌, ◌≤◌, length, pos, arith}
 use Rattle.std.proofs.lemmas.Bool.{false≢true}
 use Rattle.std.proofs.lemmas.List.{get_or_default}
 use Rattle.joint_clip.proofs.Axes.{element_at}
-use Rattle.joint_clip.proofs.Beyond.{none_more, none_skip, none_outside}
+use Rattle.joint_clip.proofs.Beyond.{PassesBeyond, none_outside}
+use Rattle.joint_clip.proofs.NamedAxes.{none_more, none_skip}
 use Rattle.joint_clip.proofs.outside.passes_outside.Goals as goal
 use Rattle.joint_clip.proofs.outside.passes_outside.Goals.{in-Some+else-passes_beyond, in_default}
 
@@ -16,14 +17,14 @@ loop-axis-preserved c =
     elim c.match-bounds-axis.branch [
       | in-Some+else-passes_beyond w ↦ record {
         so_far =
-            none_more axis bounds p q w.in-Some.bound _ _
+            none_more PassesBeyond axis bounds p q w.in-Some.bound _ _
             (element_at bounds axis _ _ inside w.in-Some.is)
             (get_or_default p.axis axis w.index-p-axis.result (pos 0) (omega arith))
             (get_or_default q.axis axis w.index-q-axis.result (pos 0) (omega arith))
             c.loop-axis.invariant.so_far
             (λ passes. false≢true (w.if-passes_beyond.ensures.1 passes));
       }
-      | in_default w ↦ record { so_far = none_skip axis bounds p q (element_at bounds axis _ _ inside w.in_default.is) c.loop-axis.invariant.so_far }
+      | in_default w ↦ record { so_far = none_skip PassesBeyond axis bounds p q (element_at bounds axis _ _ inside w.in_default.is) c.loop-axis.invariant.so_far }
     ]
 
 pub returns : goal.returns
