@@ -38,7 +38,8 @@ const ONE_INPUT: &[u8] =
 const WAITS: &[u8] =
     b"MODULE M\nPROC main()\nWaitDI di1, 1;\nTPWrite \"go\";\nENDPROC\nENDMODULE\n";
 
-/// The input comes as soon as the task has looked, read and begun to wait. The bytes of the text are `go`.
+/// The input, whose actor is the one behind the last task, comes as soon as the task has looked, read and begun to wait. The bytes
+/// of the text are `go`.
 static INPUT_EVENTS: [&str; 10] = [
     "0 Look > Go { seen: 0 }",
     "0 ReadS { signal: 0 } > Bit(false)",
