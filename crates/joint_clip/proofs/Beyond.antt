@@ -67,12 +67,6 @@ none_skip axes bounds p q none below =
     below_more (λ axis. (b : Bound) → Names bounds axis b → ¬ SomeFraction (λ k m. IsBeyond b (point_at p q k m axis) m)) axes below
     (λ b named passes. not_named bounds axes b none named)
 
-pub found_beyond : (axis : ℕ) (bounds : List (Option Bound)) (p q : Joints) (bound : Bound) (from to : ℤ)
-    → Names bounds axis bound → from ≡ slice_index_or p.axis axis (pos 0) → to ≡ slice_index_or q.axis axis (pos 0)
-    → PassesBeyond bound from to → SomeFraction (λ k m. LiesOutside bounds (point_at p q k m) m)
-found_beyond axis bounds p q bound from to named start end passes =
-    record { k = passes.k; m = passes.m; whole = passes.whole; on_the_way = passes.on_the_way; holds = record { axis = axis; bound = bound; named = named; beyond = rw (start, end) at passes.holds } }
-
 pub none_outside : (axes : ℕ) (bounds : List (Option Bound)) (p q : Joints) → length bounds ≤ axes → NoneBeyond axes bounds p q → ¬ SomeFraction (λ k m. LiesOutside bounds (point_at p q k m) m)
 none_outside axes bounds p q all none passes =
     let out = passes.holds in
