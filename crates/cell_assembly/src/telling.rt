@@ -2,7 +2,7 @@
 
 ghost use Rattle.std.specs.Prelude.{◌≡◌, ◌+◌, ◌≤◌, ◌++◌, ◌&&◌, IsTrue, length, map, slice_get};
 ghost use Rattle.std.specs.List.{list_all};
-ghost use Rattle.rapid_model.specs.Printable.{is_printable};
+ghost use Rattle.rapid_num.specs.Characters.{is_printable};
 ghost use Rattle.cell_assembly.specs.declared.cell_fault.CellFault.TheVariants.{Script};
 ghost use Rattle.cell_assembly.specs.Cells;
 ghost use Rattle.cell_assembly.specs.Parts.{view_infos};

@@ -11,7 +11,7 @@ use Rattle.rapid_model.specs.declared.request.Request.{Request}
 use Rattle.cell_meaning.specs.Asking.{Asking, with_inputs}
 use Rattle.cell_meaning.specs.Histories.{IsLegal}
 use Rattle.cell_meaning.specs.Inputs.{inputs_done}
-use Rattle.cell_meaning.specs.Turns.{TakesTurn, TakeTurns, IsRound, AfterRounds, IsByTurns}
+use Rattle.cell_meaning.specs.Turns.{TakesTurn, TakeTurns, IsRound, AfterRounds}
 use Rattle.cell_crew.specs.Crew.{RunsProgram, RunPrograms}
 use Rattle.cell_crew.specs.UnderWay.{UnderWay, AreUnderWay}
 use Rattle.cell_crew.proofs.Crews.{map_set, map_at, turn_others, under_way_turn, under_way_other}
@@ -182,11 +182,3 @@ module _ {M P : Type 0} (program : M → P) (stands_for : M → List Answer → 
     fed = fed ∙ ap (λ (c : CellData). inputs_done c after) amid.same_cell;
     past = rounds_more (with_inputs asks first) first history after amid.past (subst (λ (c : CellData). IsRound (with_inputs asks c) c history after) amid.same_cell round);
   }
-
-  -- after a round that added nothing the run is over
-  pub run_over : (asks : Asking) (first cell : CellData) (history after : List Event) → cell ≡ first → AreRounds (with_inputs asks first) first history → IsRound (with_inputs asks cell) cell history after → after ≡ history
-      → IsByTurns (with_inputs asks first) first after
-  run_over asks first cell history after same past round still =
-      let again : IsRound (with_inputs asks first) first after after =
-      subst (λ (h : List Event). IsRound (with_inputs asks first) first h after) (sym still) (subst (λ (c : CellData). IsRound (with_inputs asks c) c history after) same round) in
-      record { rounds = past.rounds; made = subst (λ (h : List Event). AfterRounds (with_inputs asks first) first past.rounds h) (sym still) past.made; over = again }

@@ -1,6 +1,6 @@
 -- The turn of a task.
 use Rattle.std.proofs.Common.{◌≡◌, ℕ, ◌<◌, true, false, List, [], ◌∷◌, ◌++◌, length, Option, Some, None, refl, ap, sym, ◌∙◌, subst, inl, inr, arith}
-use Rattle.std.specs.Prelude.{◌↔◌, IsTrue}
+use Rattle.std.specs.Prelude.{◌↔◌}
 use Rattle.std.proofs.lemmas.Bool.{false≢true}
 use Rattle.rapid_model.specs.CellData.{CellData}
 use Rattle.rapid_model.specs.Own.{part_of, answers_of, has_ended}
@@ -11,10 +11,7 @@ use Rattle.cell_meaning.specs.Answers.{is_enabled}
 use Rattle.cell_meaning.specs.Asking.{Asking, with_inputs}
 use Rattle.cell_meaning.specs.Counted.{can_be_served}
 use Rattle.cell_meaning.specs.Histories.{Follows, IsLegal}
-use Rattle.cell_meaning.specs.MayAsk.{may_ask}
-use Rattle.cell_meaning.specs.Premises.{AsksWhatItMay}
 use Rattle.cell_meaning.specs.Turns.{TakesTurn}
-use Rattle.cell_meaning.proofs.Asked.{who_may}
 use Rattle.cell_meaning.proofs.MoreEvents.{part_of-own}
 use Rattle.cell_crew.specs.Crew.{RunsProgram}
 use Rattle.cell_crew.specs.UnderWay.{UnderWay, MayTake, HasGoneOn, is_at_end}
@@ -44,20 +41,6 @@ came_turn asks cell actor history after request None one came =
       none = λ e by follows. cannot_follow asks cell history e actor request came.0 by (one e.request (subst (λ (a : ℕ). asks a (answers_of a history) e.request) by follows.asked)) follows;
       same = came.1;
     })
-
--- a task that has ended asks nothing
-pub ended_rests : (asks : Asking) (cell : CellData) (task : ℕ) (history : List Event) → task < length cell.tasks → AsksWhatItMay asks cell → IsLegal asks cell history → has_ended (part_of task history) ≡ true
-    → TakesTurn asks cell task history history
-ended_rests asks cell task history within may legal ended = inr (record { none = none; same = refl })
-  where
-    over : (actor : ℕ) (request : Request) → actor ≡ task → IsTrue (may_ask cell actor (part_of actor history) request) → ⊥
-    over actor request by may_it = elim (who_may cell actor (part_of actor history) request may_it) [
-      | inl w ↦ false≢true (sym w.alive ∙ ap (λ (k : ℕ). has_ended (part_of k history)) by ∙ ended)
-      | inr w ↦ let script = w.script in absurd (omega (arith, by, script))
-    ]
-
-    none : (e : Event) → e.actor ≡ task → Follows asks cell history e → ⊥
-    none e by follows = over e.actor e.request by (may.may history e.actor e.request legal follows.asked)
 
 module _ {M P : Type 0} (program : M → P) (fits : P → List Answer → Type 0) (program_asks : P → List Answer → Request → Type 0) (stands_for : M → List Answer → Type 0) (due : M → Option Request) where
   -- what holds of the machine of a task that has not ended, in its turn

@@ -4,16 +4,15 @@ use Rattle.std.specs.Prelude.{◌↔◌, IsTrue}
 use Rattle.std.specs.List.{list_all, range_with_len}
 use Rattle.std.specs.Option.{option_and_then, unwrap_or}
 use Rattle.std.proofs.lemmas.Bool.{and_parts, cases_eq, ltb-true, lt-ltb, false≢true}
-use Rattle.std.proofs.lemmas.List.{get_or-map}
 use Rattle.std.proofs.lemmas.Option.{slice_get-get_or}
 use Rattle.rapid_model.specs.declared.path.Path.{Path}
 use Rattle.rapid_model.specs.declared.value.Value.{Value}
 use Rattle.rapid_model.specs.declared.value.Value.TheVariants as values
 use Rattle.rapid_values.specs.Values.{part_of}
-use Rattle.persist_store.specs.Stores.{PersData, IsPut, IsStored, element_of as kept_element, no_row, row_at}
+use Rattle.persist_store.specs.Stores.{PersData, IsPut, element_of as kept_element}
 use Rattle.sync_tasks.specs.Meetings.{MeetingsData, Meets, stand_at, arrivals, is_listed, come}
 use Rattle.cell_meaning.specs.Meetings.{meets}
-use Rattle.cell_meaning.specs.Stored.{part_put, with_part, put_at, value_at}
+use Rattle.cell_meaning.specs.Stored.{part_put, with_part, value_at}
 use Rattle.cell_meaning.proofs.Lists.{both_so}
 
 -- a test of all numbers from one on
@@ -83,10 +82,3 @@ put_elements old new path value within put =
     ap (λ (o : Option Value). part_put old.values path value o) there
     ∙ ap (λ (o : Option Value). set old.values (path.index - 1) (unwrap_or o (kept_element old path.index))) put.part in
     ap (λ (row : PersData). row.values) put.others ∙ sym made
-
-pub stored_elements : (old new : List PersData) (pers : ℕ) (path : Path) (value : Value) → pers < length old → path.index - 1 < length (row_at old pers).values → IsStored old new pers path value
-    → elements_of new ≡ put_at (elements_of old) pers path value
-stored_elements old new pers path value there within stored =
-    let row : get_or (elements_of old) pers [] ≡ (row_at old pers).values = get_or-map (λ (r : PersData). r.values) old pers no_row [] there in
-    ap elements_of stored.others ∙ map-set old pers (row_at new pers)
-    ∙ ap (λ (vs : List Value). set (elements_of old) pers vs) (put_elements (row_at old pers) (row_at new pers) path value within stored.put ∙ ap (λ (vs : List Value). with_part vs path value) (sym row))

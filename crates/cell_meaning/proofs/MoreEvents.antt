@@ -1,5 +1,5 @@
 -- What one more event changes of what a history comes to.
-use Rattle.std.proofs.Common.{◌≡◌, ℕ, ◌+◌, Bool, cond, List, [], ◌∷◌, ◌++◌, length, map, Option, Some, None, refl, sym, ◌∙◌, ap, arith, zero-add, length-append, append_assoc}
+use Rattle.std.proofs.Common.{◌≡◌, ℕ, ◌+◌, Bool, cond, List, [], ◌∷◌, ◌++◌, length, map, Option, Some, None, refl, sym, ◌∙◌, ap, arith, zero-add, append_assoc}
 use Rattle.std.specs.Prelude.{not, ◌&&◌, ◌==◌, count_by, option_map, replicate, slice_get}
 use Rattle.std.specs.List.{fold}
 use Rattle.std.specs.Option.{option_and_then, option_or}
@@ -17,7 +17,6 @@ use Rattle.trap_dispatch.specs.Tasks.{TaskData, before_all as no_interrupts}
 use Rattle.world_zones.specs.Zones.{before_all as no_own_zones}
 use Rattle.cell_meaning.specs.Changes.{is_change, changes_from, changes_by_others}
 use Rattle.cell_meaning.specs.Counted.{is_counted, counted}
-use Rattle.cell_meaning.specs.Inputs.{inputs_done}
 use Rattle.cell_meaning.specs.Interrupts.{interrupts_with, interrupts_from, interrupts_after}
 use Rattle.cell_meaning.specs.Meetings.{stands_with, stands_after}
 use Rattle.cell_meaning.specs.Motion.{moved, arm_along, arm_after, is_given, setpoints_given}
@@ -106,13 +105,6 @@ seen_after-own history e =
 
 pub seen_after-other : (history : List Event) (e : Event) (task : ℕ) → (e.actor ≡ task → ⊥) → seen_after (history ++ e ∷ []) task ≡ seen_after history task
 seen_after-other history e task other = ap (λ (mine : List Event). fold (λ seen f. seen_with seen f.request) 0 mine) (part_of-other task history e other)
-
--- the input script does a step with each event of its own
-pub inputs_done-own : (cell : CellData) (history : List Event) (e : Event) → e.actor ≡ length cell.tasks → inputs_done cell (history ++ e ∷ []) ≡ inputs_done cell history + 1
-inputs_done-own cell history e own = ap length (part_of-own (length cell.tasks) history e own) ∙ length-append (part_of (length cell.tasks) history) (e ∷ [])
-
-pub inputs_done-other : (cell : CellData) (history : List Event) (e : Event) → (e.actor ≡ length cell.tasks → ⊥) → inputs_done cell (history ++ e ∷ []) ≡ inputs_done cell history
-inputs_done-other cell history e other = ap length (part_of-other (length cell.tasks) history e other)
 
 pub signals_after-more : (cell : CellData) (history : List Event) (e : Event) → signals_after cell (history ++ e ∷ []) ≡ signals_with cell (signals_after cell history) e.request e.answer
 signals_after-more cell history e =

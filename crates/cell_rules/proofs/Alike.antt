@@ -20,9 +20,6 @@ one_transitive d e f one other = record { global = one.global; other_global = ot
 pub for_both : (value : PersValue) (d e : Declared) → IsFor value d → IsFor value e → AreOne d e
 for_both value d e is other = record { global = is.global; other_global = other.global; named = sym is.named ∙ other.named }
 
-pub for_one_too : (value : PersValue) (d e : Declared) → IsFor value d → AreOne d e → IsFor value e
-for_one_too value d e is one = record { global = one.other_global; named = is.named ∙ one.named }
-
 alike_symmetric : (row other : TypedPers) → AreAlike row other → AreAlike other row
 alike_symmetric row other alike = record { sort = sym alike.sort; len = sym alike.len }
 

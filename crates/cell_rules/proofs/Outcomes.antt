@@ -1,5 +1,5 @@
 -- What a check comes to: what is true of its value, or of the rule that is broken.
-use Rattle.std.proofs.Common.{◌≡◌, Bool, true, false, Result, Ok, Err, if◌then◌else◌, refl, sym, subst}
+use Rattle.std.proofs.Common.{◌≡◌, Bool, true, false, Result, Ok, Err, if◌then◌else◌, refl}
 use Rattle.rule_checks.specs.Checks.{◌>>=◌, ◌>>◌, must}
 
 abbrev pub Outcome : {A Break : Type 0} → (A → Type 0) → (Break → Type 0) → Result A Break → Type 0
@@ -19,6 +19,3 @@ module _ {A Break : Type 0} (P : A → Type 0) (E : Break → Type 0) where
   pub chosen : (test : Bool) (first second : Result A Break) → (test ≡ true → Outcome P E first) → (test ≡ false → Outcome P E second) → Outcome P E (if test then first else second)
   chosen true first second one other = one refl
   chosen false first second one other = other refl
-
-  pub outcome_same : (check other : Result A Break) → check ≡ other → Outcome P E other → Outcome P E check
-  outcome_same check other same is = subst (Outcome P E) (sym same) is

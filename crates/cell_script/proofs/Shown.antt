@@ -2,7 +2,8 @@
 use Rattle.std.proofs.Common.{◌+◌, get_or, ◌≡◌, ℕ, ◌<◌, Bool, true, false, nat_lt, List, [], ◌∷◌, ◌++◌, length, map, take, if◌then◌else◌, inl, inr, refl, sym, ap, ◌∙◌, arith, append_assoc}
 use Rattle.std.proofs.lemmas.Bool.{cases_lt, lt-ltb, le-ltb}
 use Rattle.std.proofs.lemmas.List.{map-append, take-append-le, take_all, length-take-le, length-append, take_more}
-use Rattle.rapid_model.specs.Printable.{is_printable, takes}
+use Rattle.rapid_num.specs.Characters.{is_printable}
+use Rattle.rapid_model.specs.Printable.{takes}
 use Rattle.cell_script.specs.Break.{shown, shown_byte, element_of, key_in}
 
 pub take_one : (n : ℕ) (xs : List ℕ) (y : ℕ) → take n (xs ++ y ∷ []) ≡ (if nat_lt (length (take n xs)) n then take n xs ++ y ∷ [] else take n xs)

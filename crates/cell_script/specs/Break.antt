@@ -1,6 +1,6 @@
 -- A rule of the script that is broken, and the key at which it is.
 use Rattle.std.specs.Prelude.{ℕ, List, [], ◌∷◌, ◌++◌, map, take, decimal, Result, if◌then◌else◌}
-use Rattle.rapid_model.specs.Printable.{is_printable}
+use Rattle.rapid_num.specs.Characters.{is_printable}
 use Rattle.rapid_model.specs.declared.script_rule.ScriptRule.{ScriptRule}
 
 pub record ScriptBreak : Type 0 where

@@ -12,7 +12,7 @@ use Rattle.rapid_num.specs.declared.shape.Shape.{Shape}
 use Rattle.rapid_builtins.specs.Names.{is_predefined}
 use Rattle.rapid_model.specs.Limits.{is_within, has_arm, is_input_signal}
 use Rattle.rapid_model.specs.Names.{is_among}
-use Rattle.rapid_model.specs.Printable.{is_printable}
+use Rattle.rapid_num.specs.Characters.{is_printable}
 use Rattle.rapid_model.specs.ScriptData.{is_file_name}
 use Rattle.rapid_model.specs.declared.input_row.InputRow.{InputRow}
 use Rattle.rapid_model.specs.declared.pers_value.PersValue.{PersValue}

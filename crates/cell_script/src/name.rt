@@ -4,7 +4,8 @@ ghost use Rattle.std.specs.Prelude.{◌≡◌, IsTrue, map, position};
 ghost use Rattle.std.specs.List.{list_all, list_any};
 ghost use Rattle.std.specs.Str.{str_eq_ignore_ascii_case};
 ghost use Rattle.toml.specs.View.{view};
-ghost use Rattle.rapid_model.specs.Names.{is_name_byte, is_name};
+ghost use Rattle.rapid_num.specs.Characters.{is_name_byte};
+ghost use Rattle.rapid_model.specs.Names.{is_name};
 ghost use Rattle.cell_script.specs.Keys.{at, name_at};
 ghost use Rattle.cell_script.specs.Gives.{Gives, view_keys};
 

@@ -3,7 +3,7 @@
 ghost use Rattle.std.specs.Prelude.{◌≡◌, ◌≤◌, [], IsTrue, codes, map, length, Some, None, Ok};
 ghost use Rattle.std.specs.List.{list_all};
 ghost use Rattle.toml.specs.View.{view};
-ghost use Rattle.rapid_model.specs.Printable.{is_printable};
+ghost use Rattle.rapid_num.specs.Characters.{is_printable};
 ghost use Rattle.cell_script.specs.Keys.{at, optional, value_of, whole_at, each_row};
 ghost use Rattle.cell_script.specs.Rows.{signed_literal, number_value_at, truth_value_at, text_value_at, given_value, pers_of};
 ghost use Rattle.cell_script.specs.Parts.{rows_in, where_there};

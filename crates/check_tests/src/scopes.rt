@@ -77,12 +77,12 @@ fn what_names_mean(rt: HostRuntime) -> Result<(), Fail> {
         };
         assert_eq!(rt; scopes.find(spot, name), *wanted);
     }
-    assert_eq!(rt; scopes.sort(1), None);
-    let Some(sort) = scopes.sort(0) else {
-        return Err("the constant has a type".into());
+    assert_eq!(rt; scopes.constant(1), None);
+    let Some(row) = scopes.constant(0) else {
+        return Err("the constant has a row".into());
     };
     assert_eq!(rt; scopes.kept(0), None);
-    match sort {
+    match row.sort {
         Sort::Bool => scopes.keep(0, Value::Bool(true)),
         _ => return Err("the constant is a bool".into()),
     }

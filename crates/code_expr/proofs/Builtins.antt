@@ -1,5 +1,5 @@
 -- Calls of predefined functions, by the forms of their arguments.
-use Rattle.std.proofs.Common.{◌≡◌, ℕ, ◌+◌, ◌≤◌, List, [], ◌∷◌, length, get_or, map, refl, sym, ap, ◌∙◌, arith}
+use Rattle.std.proofs.Common.{◌≡◌, ℕ, ◌+◌, ◌≤◌, List, [], ◌∷◌, length, map, refl, arith}
 use Rattle.std.specs.Option.{unwrap_or}
 use Rattle.rapid_model.specs.declared.function.Function.{Function}
 use Rattle.rapid_model.specs.declared.function.Function.TheVariants as functions
@@ -17,13 +17,6 @@ use Rattle.typed_trees.specs.declared.expr.Arg.{Arg}
 use Rattle.code_expr.specs.BuiltinForms.{form_of}
 use Rattle.code_expr.specs.declared.builtin_form.BuiltinForm.{BuiltinForm}
 use Rattle.code_expr.specs.declared.builtin_form.BuiltinForm.TheVariants.{Nothing, Values, Signal, Place, Array, Other}
-
--- two arguments
-pub two_args : (list : List Arg) (a b : Arg) → length list ≡ 2 → a ≡ get_or list 0 a → b ≡ get_or list 1 b → args_of (map view_arg list) ≡ MoreArgs (view_arg a) (MoreArgs (view_arg b) NoArgs)
-two_args [] a b count first second = absurd (omega (arith, count))
-two_args (x ∷ []) a b count first second = absurd (omega (arith, count))
-two_args (x ∷ y ∷ []) a b count first second = ap (λ z. MoreArgs (view_arg z) (MoreArgs (view_arg y) NoArgs)) (sym first) ∙ ap (λ z. MoreArgs (view_arg a) (MoreArgs (view_arg z) NoArgs)) (sym second)
-two_args (x ∷ y ∷ z ∷ list) a b count first second = absurd (omega (arith, count))
 
 -- three or more
 many_form : (a b c : TypedArg) (more : TypedArgs) → form_of (MoreArgs a (MoreArgs b (MoreArgs c more))) ≡ Other

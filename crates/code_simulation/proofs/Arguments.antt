@@ -1,14 +1,13 @@
 -- Arguments of calls of routines, and the calls.
-use Rattle.std.proofs.Common.{◌≡◌, refl, ◌∙◌, ℕ, ◌+◌, ◌≤◌, List, length, Option, None, arith}
+use Rattle.std.proofs.Common.{◌≡◌, refl, ◌∙◌, ℕ, ◌+◌, ◌≤◌, List, length, Option, None}
 use Rattle.rapid_model.specs.declared.value.Value.{Value}
 use Rattle.typed_trees.specs.Plain.{TypedArgs}
 use Rattle.typed_trees.specs.declared.datum.Datum.{Datum}
 use Rattle.rapid_meaning.specs.Doings as doings
-use Rattle.rapid_meaning.specs.Doings.{Doing, Raises, after}
 use Rattle.rapid_meaning.specs.Expressions.{arguments}
 use Rattle.rapid_meaning.specs.Flows.{Flow, Call}
 use Rattle.rapid_meaning.specs.Statements.{call}
-use Rattle.stack_code.specs.Confs.{Conf, Saved}
+use Rattle.stack_code.specs.Confs.{Saved}
 use Rattle.stack_code.specs.Entering.{enter}
 use Rattle.stack_code.specs.ExprLayouts.{args_code, put}
 use Rattle.stack_code.specs.Needs.{args_need}
@@ -17,25 +16,14 @@ use Rattle.stack_code.specs.Raising.{back_to, raised_to, with_result}
 use Rattle.stack_code.specs.Sizes.{args_size}
 use Rattle.stack_code.specs.declared.op.Op.TheVariants as ops
 use Rattle.code_simulation.specs.Calls.{ArgsCalls, IsProcedure, Takes, args_count}
-use Rattle.code_simulation.proofs.Bodies.{value_of}
 use Rattle.code_simulation.proofs.Calling.{call_at}
 use Rattle.code_simulation.proofs.Claims.{Claims}
 use Rattle.code_simulation.proofs.CodeOf.{IsCodeOf}
 use Rattle.code_simulation.proofs.Expressions.{arguments_sim}
-use Rattle.code_simulation.proofs.Operands.{pushed, pushed_length}
 use Rattle.code_simulation.proofs.Ops.{ends_at}
 use Rattle.code_simulation.proofs.Past.{past_args}
 use Rattle.code_simulation.proofs.Sim.{Sim, SimPart}
 use Rattle.code_simulation.proofs.Spots.{Holds, Spot, failing, standing}
-
--- the arguments, and what follows them, where there are as many as the call gives, and there is room for them
-pub args_sim : (s : Spot) → IsCodeOf s.tree s.target → Claims s.target s.tree s.run → (pc end : ℕ) (stack : List Datum) (args : TypedArgs) (ps : List Placed)
-    (k : List Datum → Doing Flow) (next : Flow → Doing Conf) → ArgsCalls s.tree args → Holds s pc (args_code s.tree s.routine s.own pc args ps)
-    → length stack + args_need args ≤ s.target.code.deepest → pc + args_size args ≡ end
-    → ((xs : List Datum) → length xs ≡ args_count args → length stack + length xs ≤ s.target.code.deepest → Sim s.target s.run (standing s end (pushed xs stack)) (k xs) next (failing s))
-    → Sim s.target s.run (standing s pc stack) (after (arguments s.tree s.routine args) k Raises) next (failing s)
-args_sim s code claims pc end stack args ps k next calls there room past more =
-    arguments_sim s code claims pc end stack args ps k next calls there room past (λ xs many fits. more xs many (omega (arith, pushed_length xs stack)))
 
 -- the arguments, and then the operation, by what is claimed of the routine; what it gives lies on the operands
 called_sim : (s : Spot) → IsCodeOf s.tree s.target → Claims s.target s.tree s.run → (pc end : ℕ) (stack : List Datum) (called : ℕ) (args : TypedArgs) (ps : List Placed) (value : Flow → Option Value)
@@ -50,14 +38,6 @@ called_sim s code claims pc end stack called args ps value takes calls there roo
     (λ flow. standing s (pc + args_size args + 1) (with_result (value flow) stack)) calls there room refl
     (λ xs many fits. call_at s called (pc + args_size args) xs stack value code (past_args s.target.code s.tree s.routine s.own pc args (put s.own (ops.Call called) ps) there).0 fits
     (λ routine found. many ∙ takes routine found) (λ saved. part xs saved (λ routine found. many ∙ takes routine found))))
-
--- the arguments and the call, with what it gives, if it gives something
-pub call_sim : (s : Spot) → IsCodeOf s.tree s.target → Claims s.target s.tree s.run → (pc end : ℕ) (stack : List Datum) (called : ℕ) (args : TypedArgs) (ps : List Placed)
-    → Takes s.tree called (args_count args) → ArgsCalls s.tree args → Holds s pc (args_code s.tree s.routine s.own pc args (put s.own (ops.Call called) ps))
-    → length stack + args_need args ≤ s.target.code.deepest → pc + args_size args + 1 ≡ end
-    → Sim s.target s.run (standing s pc stack) (call s.tree s.routine called args) (λ flow. standing s end (with_result (value_of flow) stack)) (failing s)
-call_sim s code claims pc end stack called args ps takes calls there room past =
-    called_sim s code claims pc end stack called args ps value_of takes calls there room past (λ xs saved many. claims.calls called xs saved many)
 
 -- the same of a PROC, which gives nothing
 pub procedure_sim : (s : Spot) → IsCodeOf s.tree s.target → Claims s.target s.tree s.run → (pc end : ℕ) (stack : List Datum) (called : ℕ) (args : TypedArgs) (ps : List Placed)

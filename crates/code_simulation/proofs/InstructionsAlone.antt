@@ -19,7 +19,7 @@ use Rattle.typed_trees.specs.declared.datum.Lvalue.{Lvalue}
 use Rattle.rapid_model.specs.declared.watched.Watched.{Watched}
 use Rattle.rapid_meaning.specs.Doings.{Act, Gives, Asks, done, fault, tells}
 use Rattle.rapid_meaning.specs.Interrupts.{asks_of_number, order, when_known, when_ordered}
-use Rattle.rapid_meaning.specs.Meetings.{task_or_fault, when_arrived}
+use Rattle.rapid_meaning.specs.Meetings.{when_arrived}
 use Rattle.rapid_meaning.specs.Moves.{cap_of, move, move_from, setpoints, still, when_given}
 use Rattle.rapid_meaning.specs.Signals.{when_written, write_signal}
 use Rattle.rapid_meaning.specs.Values.{bit_in, in_range, tool_speed_in}
@@ -143,7 +143,3 @@ pub arrived_alone : (a : Answer) → NoPart (when_arrived a)
 arrived_alone answers.Met = tt
 arrived_alone answers.Apart = tt
 arrived_alone a = tt
-
-pub task_alone : (o : Option ℕ) → NoPart (task_or_fault o)
-task_alone None = tt
-task_alone (Some task) = tt

@@ -1,5 +1,5 @@
 -- The value of an expression that is known before the run (RAPID Kernel, constant expressions), by recursion on its tree.
-use Rattle.std.specs.Prelude.{ℕ, ◌/◌, ◌%◌, ◌-◌, Bool, true, false, not, ◌&&◌, ◌==◌, nat_le, ℤ, pos, negsuc, neg_ℤ, List, [], ◌∷◌, length, map, is_some, slice_get, Option, None, Some, if◌then◌else◌}
+use Rattle.std.specs.Prelude.{ℕ, ◌-◌, Bool, true, false, not, ◌&&◌, neg_ℤ, List, [], ◌∷◌, length, map, is_some, slice_get, Option, None, Some, if◌then◌else◌}
 use Rattle.std.specs.Option.{option_and_then, option_map}
 use Rattle.std.specs.declared.alloc.Global.{Global}
 use Rattle.std.specs.declared.vec.Vec.{Vec}
@@ -10,6 +10,7 @@ use Rattle.raw_trees.specs.declared.raw_expr.Operator.{Operator}
 use Rattle.raw_trees.specs.declared.raw_expr.Operator.TheVariants as operators
 use Rattle.rapid_operators.specs.declared.applied.Applied.{Applied}
 use Rattle.rapid_operators.specs.declared.applied.Applied.TheVariants.{Gives, Raises, OutOfRange, Unfit}
+use Rattle.rapid_operators.specs.Elements.{element_number}
 use Rattle.rapid_operators.specs.Operators.{apply}
 use Rattle.rapid_values.specs.Values.{part_of, made_of}
 use Rattle.rapid_model.specs.declared.part_name.PartName.{PartName}
@@ -47,11 +48,6 @@ array_of known (roots.Slot k) = flat (slice_get known.slots k)
 array_of known (roots.Local k) = flat (slice_get known.locals k)
 array_of known (roots.Ref k) = None
 array_of known (roots.Pers k) = None
-
--- the element, from 1, that a count of thousandths names in an array of so many
-abbrev pub element_number : ℕ → ℤ → Option ℕ
-element_number len (pos n) = if n % 1_000 == 0 && nat_le 1 (n / 1_000) && nat_le (n / 1_000) len then Some (n / 1_000) else None
-element_number len (negsuc n) = None
 
 abbrev pub value_or_not_known : Option Value → Outcome
 value_or_not_known (Some v) = outcomes.Value v

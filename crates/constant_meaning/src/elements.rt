@@ -1,7 +1,8 @@
 //! Elements of constant arrays (RAPID Overview, arrays).
 
 ghost use Rattle.std.specs.Prelude.{◌≡◌, length, map, slice_get, option_map};
-ghost use Rattle.constant_meaning.specs.Constants.{array_of, element_at, element_number, element_part, elements_of, flat, items_of};
+ghost use Rattle.rapid_operators.specs.Elements.{element_number};
+ghost use Rattle.constant_meaning.specs.Constants.{array_of, element_at, element_part, elements_of, flat, items_of};
 ghost use Rattle.constant_meaning.specs.declared.outcome.Outcome.TheVariants as outcomes;
 
 use crate::arrays::Arrays;
@@ -9,6 +10,7 @@ use crate::operands::value_or_not_known;
 use crate::outcome::Outcome;
 use rapid_model::{PartName, Value};
 use rapid_num::Num;
+use rapid_operators::element_number;
 use rapid_values::part;
 use typed_trees::TreeRoot;
 
@@ -61,18 +63,4 @@ fn element_part(elements: &[Value], name: PartName, number: Num) -> Outcome
         return Outcome::NotKnown;
     };
     value_or_not_known(part(element, name))
-}
-
-/// The element, counted from 1, that a num names in an array of so many: None where it is no whole number from 1 to the
-/// length.
-pub fn element_number(len: usize, number: Num) -> Option<usize>
-    ensures { result ≡ element_number len number }
-{
-    let Ok(count) = usize::try_from(number.thousandths()) else {
-        return None;
-    };
-    if count % 1_000 == 0 && 1 <= count / 1_000 && count / 1_000 <= len {
-        return Some(count / 1_000);
-    }
-    None
 }

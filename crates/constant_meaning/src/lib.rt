@@ -9,6 +9,5 @@ mod operands;
 mod outcome;
 
 pub use arrays::Arrays;
-pub use elements::element_number;
 pub use evaluate::{are_constant, constant_value, is_constant};
 pub use outcome::Outcome;

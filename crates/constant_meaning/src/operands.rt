@@ -6,7 +6,7 @@ ghost use Rattle.constant_meaning.specs.declared.outcome.Outcome.TheVariants as 
 
 use crate::outcome::Outcome;
 use rapid_model::Value;
-use rapid_operators::{Applied, apply, negated};
+use rapid_operators::{Applied, apply};
 use raw_trees::Operator;
 
 /// A value, where there is one.
@@ -80,6 +80,6 @@ fn signed(minus: bool, operand: &Value) -> Outcome
     let Value::Num(number) = operand else {
         return Outcome::NotKnown;
     };
-    let number = if minus { negated(*number) } else { *number };
+    let number = if minus { number.negated() } else { *number };
     Outcome::Value(Value::Num(number))
 }

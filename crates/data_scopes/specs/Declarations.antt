@@ -63,14 +63,9 @@ datum_sort tables number routine d =
     must (has_values sort || not (is_const d.kind)) (at_spot spot TypeClash) >>= (λ _.
     must (has_values sort || not (is_pers d.kind)) (at_spot spot PersKind) >>= (λ _. Ok sort)))
 
--- the types so far, and behind them that of a CONST that is no array
-abbrev pub with_const : List Sort → PlainDatum → Sort → List Sort
-with_const sorts d sort = if is_scalar_const d then sorts ++ sort ∷ [] else sorts
-
-abbrev pub datum_rules : Tables → ℕ → Bool → Counts → PlainDatum → List Sort → Checked (List Sort)
-datum_rules tables number local c d sorts =
-    datum_sort tables number None d >>= (λ sort.
-    item_name_rules tables (spot_of number None d.name) local (datum_meant c d) d.name >>= (λ _. Ok (with_const sorts d sort)))
+abbrev pub datum_rules : Tables → ℕ → Bool → Counts → PlainDatum → Checked (Unit {0})
+datum_rules tables number local c d =
+    datum_sort tables number None d >>= (λ _. item_name_rules tables (spot_of number None d.name) local (datum_meant c d) d.name)
 
 -- an argument by value has a value
 abbrev pub takes_sort : Mode → Sort → Bool
@@ -97,17 +92,16 @@ abbrev pub counted : List PlainParam → Checked (Unit {0}) → Checked ℕ
 counted params checked = checked >>= (λ _. Ok (length params))
 
 -- a datum of a routine at this place, with so many CONSTs before
-abbrev pub local_rules : Tables → ℕ → ℕ → ℕ → ℕ → PlainDatum → List Sort → Checked (List Sort)
-local_rules tables number routine place consts d sorts =
-    datum_sort tables number (Some routine) d >>= (λ sort.
-    must (is_own (local_meant place consts d) (meant_in d.name.text (list_at tables.inner routine))) (at_spot (spot_of number (Some routine) d.name) NameTwice)
-    >>= (λ _. Ok (with_const sorts d sort)))
+abbrev pub local_rules : Tables → ℕ → ℕ → ℕ → ℕ → PlainDatum → Checked (Unit {0})
+local_rules tables number routine place consts d =
+    datum_sort tables number (Some routine) d >>= (λ _.
+    must (is_own (local_meant place consts d) (meant_in d.name.text (list_at tables.inner routine))) (at_spot (spot_of number (Some routine) d.name) NameTwice))
 
-abbrev pub locals_rules : Tables → ℕ → ℕ → ℕ → ℕ → List PlainDatum → List Sort → Checked (List Sort)
-locals_rules tables number routine place consts [] sorts = Ok sorts
-locals_rules tables number routine place consts (d ∷ ds) sorts =
-    local_rules tables number routine place consts d sorts >>= (λ more.
-    locals_rules tables number routine (place + 1) (consts + (if is_scalar_const d then 1 else 0)) ds more)
+abbrev pub locals_rules : Tables → ℕ → ℕ → ℕ → ℕ → List PlainDatum → Checked (Unit {0})
+locals_rules tables number routine place consts [] = Ok tt
+locals_rules tables number routine place consts (d ∷ ds) =
+    local_rules tables number routine place consts d >>= (λ _.
+    locals_rules tables number routine (place + 1) (consts + (if is_scalar_const d then 1 else 0)) ds)
 
 -- the type of a function's result, which has values
 abbrev pub result_rules : Tables → ℕ → ℕ → Option PlainName → Checked (Unit {0})
@@ -116,36 +110,35 @@ result_rules tables number routine (Some name) =
     let spot = spot_of number (Some routine) name in
     sort_at tables spot name >>= (λ sort. must (has_values sort) (at_spot spot TypeClash))
 
-abbrev pub routine_rules : Tables → ℕ → Counts → PlainRoutine → List Sort → Checked (List Sort)
-routine_rules tables number c r sorts =
+abbrev pub routine_rules : Tables → ℕ → Counts → PlainRoutine → Checked (Unit {0})
+routine_rules tables number c r =
     result_rules tables number c.routines r.result >>= (λ _.
     item_name_rules tables (spot_of number None r.name) r.local (meants.Routine c.routines) r.name >>= (λ _.
     params_rules tables number c.routines 0 r.params >>= (λ _.
-    locals_rules tables number c.routines (length r.params) c.consts r.locals sorts)))
+    locals_rules tables number c.routines (length r.params) c.consts r.locals)))
 
--- an item of a module, behind CONSTs of these types
-abbrev pub item_rules : Tables → ℕ → Counts → PlainItem → List Sort → Checked (List Sort)
-item_rules tables number c (Datum local task d at) sorts = datum_rules tables number local c d sorts
-item_rules tables number c (Routine r) sorts = routine_rules tables number c r sorts
+-- an item of a module
+abbrev pub item_rules : Tables → ℕ → Counts → PlainItem → Checked (Unit {0})
+item_rules tables number c (Datum local task d at) = datum_rules tables number local c d
+item_rules tables number c (Routine r) = routine_rules tables number c r
 
--- the items of a module; the types of their CONSTs that are no arrays go behind these
-abbrev pub items_rules : Tables → ℕ → Counts → List PlainItem → List Sort → Checked (List Sort)
-items_rules tables number c [] sorts = Ok sorts
-items_rules tables number c (item ∷ items) sorts =
-    item_rules tables number c item sorts >>= (λ more. items_rules tables number (after_item c item) items more)
+-- the items of a module
+abbrev pub items_rules : Tables → ℕ → Counts → List PlainItem → Checked (Unit {0})
+items_rules tables number c [] = Ok tt
+items_rules tables number c (item ∷ items) = item_rules tables number c item >>= (λ _. items_rules tables number (after_item c item) items)
 
 -- the names of modules are compared with each other alone
 abbrev pub names : List PlainModule → List (List ℕ)
 names modules = map (λ m. m.name.text) modules
 
 -- a module of this number, behind modules of these names
-abbrev pub module_rules : Tables → ℕ → List (List ℕ) → Counts → PlainModule → List Sort → Checked (List Sort)
-module_rules tables number before c m sorts =
-    must (not (is_among m.name.text before)) (at_spot (spot_of number None m.name) NameTwice) >>= (λ _. items_rules tables number c m.items sorts)
+abbrev pub module_rules : Tables → ℕ → List (List ℕ) → Counts → PlainModule → Checked (Unit {0})
+module_rules tables number before c m =
+    must (not (is_among m.name.text before)) (at_spot (spot_of number None m.name) NameTwice) >>= (λ _. items_rules tables number c m.items)
 
 -- the modules, the first of which has this number
-abbrev pub modules_rules : Tables → ℕ → List (List ℕ) → Counts → List PlainModule → List Sort → Checked (List Sort)
-modules_rules tables number before c [] sorts = Ok sorts
-modules_rules tables number before c (m ∷ ms) sorts =
-    module_rules tables number before c m sorts >>= (λ more.
-    modules_rules tables (number + 1) (before ++ (m.name.text ∷ [])) (after_items c m.items) ms more)
+abbrev pub modules_rules : Tables → ℕ → List (List ℕ) → Counts → List PlainModule → Checked (Unit {0})
+modules_rules tables number before c [] = Ok tt
+modules_rules tables number before c (m ∷ ms) =
+    module_rules tables number before c m >>= (λ _.
+    modules_rules tables (number + 1) (before ++ (m.name.text ∷ [])) (after_items c m.items) ms)

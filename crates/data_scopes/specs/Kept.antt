@@ -2,6 +2,7 @@
 use Rattle.std.specs.Prelude.{ℕ, ◌<◌, List, [], ◌∷◌, length, set, Option, Some, None, IsTrue}
 use Rattle.rapid_model.specs.declared.sort.Sort.{Sort}
 use Rattle.rapid_model.specs.declared.value.Value.{Value}
+use Rattle.data_scopes.specs.declared.data_row.DatumRow.{DatumRow}
 use Rattle.data_scopes.specs.declared.meant.Meant.{Meant}
 use Rattle.data_scopes.specs.declared.meant.Meant.TheVariants as meants
 use Rattle.data_scopes.specs.Scopes.{Scope, Tables, Names}
@@ -11,7 +12,6 @@ use Rattle.rapid_model.specs.Sorts.{is_value_of}
 abbrev pub with_kept : Names → ℕ → Value → Names
 with_kept names constant value = record {
   tables = names.tables;
-  sorts = names.sorts;
   kept = set names.kept constant (Some value);
   rows = names.rows;
   outputs = names.outputs;
@@ -44,12 +44,12 @@ abbrev pub IsOfType : Sort → Option Value → Type 0
 IsOfType sort None = Unit {0}
 IsOfType sort (Some value) = IsTrue (is_value_of sort value)
 
--- for each type a value of it, or none
-abbrev pub AreOfTypes : List Sort → List (Option Value) → Type 0
+-- for each CONST a value of its type, or none
+abbrev pub AreOfTypes : List DatumRow → List (Option Value) → Type 0
 AreOfTypes [] [] = Unit {0}
-AreOfTypes (sort ∷ sorts) (kept ∷ more) = IsOfType sort kept × AreOfTypes sorts more
+AreOfTypes (row ∷ rows) (kept ∷ more) = IsOfType row.sort kept × AreOfTypes rows more
 AreOfTypes _ _ = ⊥
 
-pub record AreKept (tables : Tables) (sorts : List Sort) (kept : List (Option Value)) : Type 0 where
+pub record AreKept (tables : Tables) (consts : List DatumRow) (kept : List (Option Value)) : Type 0 where
   pub below : TablesMean (IsBelow (length kept)) tables
-  pub types : AreOfTypes sorts kept
+  pub types : AreOfTypes consts kept

@@ -13,12 +13,11 @@ use Rattle.data_scopes.specs.Scopes.{Names}
 abbrev pub names_of : List PlainModule → List SignalRow → Bool → Checked Names
 names_of modules signals arm =
     let tables = tables_of modules signals in
-    modules_rules tables 0 [] no_counts modules [] >>= (λ sorts.
+    modules_rules tables 0 [] no_counts modules >>= (λ _.
     modules_rows tables 0 modules no_rows >>= (λ rows.
     Ok (record {
       tables = tables;
-      sorts = sorts;
-      kept = replicate (length sorts) None;
+      kept = replicate (length rows.consts) None;
       rows = rows;
       outputs = outputs_of signals;
       arm = arm;

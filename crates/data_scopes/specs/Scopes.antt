@@ -56,11 +56,10 @@ pub record Rows : Type 0 where
   pub pers : List DatumRow
   pub routines : List RoutineRow
 
--- The names; the type of each CONST that is no array, and the values that are kept for these so far; the declarations; of each
--- signal whether it is an output, and whether the task has an arm.
+-- The names; the values that are kept so far for the CONSTs that are no arrays; the declarations; of each signal whether it is
+-- an output, and whether the task has an arm.
 pub record Names : Type 0 where
   pub tables : Tables
-  pub sorts : List Sort
   pub kept : List (Option Value)
   pub rows : Rows
   pub outputs : List Bool

@@ -9,7 +9,7 @@ ghost use Rattle.rule_checks.specs.TypeChecks.{Gives, at_spot};
 ghost use Rattle.rule_checks.specs.declared.fault.TypeFault.TheVariants.{Rule};
 
 use crate::meant::Meant;
-use crate::numbers::{is_const, is_pers, is_scalar_const};
+use crate::numbers::{is_const, is_pers};
 use crate::own::is_own;
 use crate::sorts::sort_of;
 use crate::tables::NameTables;
@@ -125,19 +125,4 @@ fn item_meant(tables: &NameTables, number: u32, local: bool, name: &[u8]) -> Opt
         return tables.own(number, name);
     }
     tables.task(name)
-}
-
-/// The types so far, and behind them that of a CONST that is no array. Its error is want of memory.
-pub(crate) fn with_const(
-    sorts: Vec<Sort>,
-    datum: &RawDatum<'_>,
-    sort: Sort,
-) -> Result<Vec<Sort>, TypeFault>
-    ensures { Gives (λ v. v.items) result (Ok (Declarations.with_const sorts.items (view_datum datum.now) sort)) }
-{
-    let mut sorts = sorts;
-    if is_scalar_const(datum) {
-        sorts.push(sort)?;
-    }
-    Ok(sorts)
 }

@@ -1,6 +1,6 @@
 //! Laws of kept values, and of the numbers that names mean.
 
-ghost use Rattle.std.specs.Prelude.{◌≡◌, ◌≢◌, ◌<◌, ℕ, Bool, List, Ok, Some, length, map, slice_get};
+ghost use Rattle.std.specs.Prelude.{◌≡◌, ◌≢◌, ◌<◌, ℕ, Bool, List, Ok, Some, length, slice_get};
 ghost use Rattle.rapid_model.specs.declared.signal_row.SignalRow.{SignalRow};
 ghost use Rattle.rapid_model.specs.declared.value.Value.{Value};
 ghost use Rattle.raw_trees.specs.Plain.{PlainModule};
@@ -17,9 +17,7 @@ pub fn kept_by_number()
     ensures others { (names : Names) (constant other : ℕ) (value : Value) → other ≢ constant → slice_get (with_kept names constant value).kept other ≡ slice_get names.kept other }
 {}
 
-/// Among the names of a task's modules, each VAR, PERS, CONST and routine that a name means at a spot has its row, and the
-/// type of each CONST that is no array is that of its row.
+/// Among the names of a task's modules, each VAR, PERS, CONST and routine that a name means at a spot has its row.
 pub fn numbers_have_rows()
-    ensures rows { (modules : List PlainModule) (signals : List SignalRow) (arm : Bool) (names : Names) → names_of modules signals arm ≡ Ok names → (spot : Spot) (name : List ℕ) (meant : Meant) → meaning names.tables spot name ≡ Some meant → HasRow names.rows meant }
-    ensures types { (modules : List PlainModule) (signals : List SignalRow) (arm : Bool) (names : Names) → names_of modules signals arm ≡ Ok names → names.sorts ≡ map (λ row. row.sort) names.rows.consts }
+    ensures { (modules : List PlainModule) (signals : List SignalRow) (arm : Bool) (names : Names) → names_of modules signals arm ≡ Ok names → (spot : Spot) (name : List ℕ) (meant : Meant) → meaning names.tables spot name ≡ Some meant → HasRow names.rows meant }
 {}

@@ -1,4 +1,4 @@
-ghost use Rattle.std.specs.Prelude.{◌≡◌, slice_get};
+ghost use Rattle.std.specs.Prelude.{◌≡◌, length, slice_get};
 ghost use Rattle.data_scopes.specs.Called.{kind_of, local_of, param_of, params_of, place_row, places_in, places_of, result_of, value_row};
 
 use crate::data_row::{DatumRow, ParamRow};
@@ -27,6 +27,20 @@ impl Model for RowTables {
 }
 
 impl RowTables {
+    /// How many CONSTs there are that are no arrays.
+    pub(crate) fn constants(&self) -> usize
+        ensures { result ≡ length self.now.consts }
+    {
+        self.consts.len()
+    }
+
+    /// The CONST of this number, which is no array.
+    pub(crate) fn constant(&self, number: u32) -> Option<DatumRow>
+        ensures { result ≡ slice_get self.now.consts number }
+    {
+        self.consts.get(number as usize).copied()
+    }
+
     /// The word that a routine begins with.
     pub(crate) fn kind(&self, routine: u32) -> Option<RoutineKind>
         ensures { result ≡ kind_of self.now routine }

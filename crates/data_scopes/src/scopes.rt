@@ -27,7 +27,6 @@ use std::marker::Model;
 #[derive(Drop)]
 pub struct Scopes {
     tables: NameTables,
-    sorts: Vec<Sort>,
     kept: Vec<Option<Value>>,
     rows: RowTables,
     outputs: Vec<bool>,
@@ -40,9 +39,9 @@ impl Model for Scopes {
 
     ghost Value = { Names };
 
-    ghost view = { λ s. record { tables = s.tables; sorts = s.sorts.items; kept = s.kept.items; rows = s.rows; outputs = s.outputs.items; arm = s.arm } };
+    ghost view = { λ s. record { tables = s.tables; kept = s.kept.items; rows = s.rows; outputs = s.outputs.items; arm = s.arm } };
 
-    ghost invariant = { λ s. AreKept s.tables s.sorts.items s.kept.items };
+    ghost invariant = { λ s. AreKept s.tables s.rows.consts s.kept.items };
 }
 
 impl Scopes {
@@ -57,13 +56,12 @@ impl Scopes {
         ensures { Gives (λ scopes. scopes) result (names_of (map view_module modules.now) known.now.signals.now known.now.arm) }
     {
         let tables = tables_of(alloc, modules, known.signals)?;
-        let sorts = modules_rules(alloc, modules, &tables)?;
-        let kept = no_values(alloc, sorts.len())?;
+        modules_rules(modules, &tables)?;
         let rows = modules_rows(alloc, &tables, modules)?;
+        let kept = no_values(alloc, rows.constants())?;
         let outputs = outputs_of(alloc, known.signals)?;
         Ok(Scopes {
             tables,
-            sorts,
             kept,
             rows,
             outputs,
@@ -81,19 +79,11 @@ impl Scopes {
         self.tables.meaning(spot, name)
     }
 
-    /// The type of a constant; `None` exactly where there is none of this number.
-    pub fn sort(&self, constant: u32) -> Option<Sort>
-        ensures sort { result ≡ slice_get self.now.sorts constant }
-        ensures named { IfSome result (λ _. constant < length self.now.kept) }
-    {
-        sort_at(&self.sorts, constant)
-    }
-
     /// Keeps the value of a constant; all else stays.
     pub fn keep(&mut self, constant: u32, value: Value)
         requires named { constant < length self.old.kept }
         // The value is of the constant's type.
-        requires value { IfSome (slice_get self.old.sorts constant) (λ sort. IsTrue (is_value_of sort value)) }
+        requires value { IfSome (slice_get self.old.rows.consts constant) (λ row. IsTrue (is_value_of row.sort value)) }
         ensures { self.new ≡ with_kept self.old constant value }
     {
         self.kept[constant as usize] = Some(value);
@@ -134,9 +124,11 @@ impl Scopes {
 
     /// The CONST of this number, which is no array.
     pub fn constant(&self, number: u32) -> Option<DatumRow>
-        ensures { result ≡ slice_get self.now.rows.consts number }
+        ensures row { result ≡ slice_get self.now.rows.consts number }
+        // It can be asked of `keep` and `kept`.
+        ensures named { IfSome result (λ _. number < length self.now.kept) }
     {
-        row_at(&self.rows.consts, number)
+        self.rows.constant(number)
     }
 
     /// The datum at a place of a routine, among its parameters and then its data; a parameter as if it were one by value.
@@ -194,13 +186,6 @@ impl Scopes {
     {
         self.arm
     }
-}
-
-/// The type of this number.
-fn sort_at(sorts: &[Sort], number: u32) -> Option<Sort>
-    ensures { result ≡ slice_get sorts.now number }
-{
-    sorts.get(number as usize).copied()
 }
 
 /// No values for so many constants.

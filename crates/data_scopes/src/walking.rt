@@ -8,7 +8,7 @@ ghost use Rattle.data_scopes.specs.Declarations;
 ghost use Rattle.data_scopes.specs.Numbers.{no_counts};
 ghost use Rattle.rule_checks.specs.TypeChecks.{Gives};
 
-use crate::checking::{datum_sort, item_name_rules, must, sort_at, spot_of, with_const};
+use crate::checking::{datum_sort, item_name_rules, must, sort_at, spot_of};
 use crate::counts::Counts;
 use crate::meant::Meant;
 use crate::numbers::{
@@ -19,7 +19,6 @@ use crate::tables::NameTables;
 use rapid_model::{Sort, has_values};
 use raw_trees::{Mode, RawDatum, RawItem, RawModule, RawName, RawParam, RawRoutine};
 use rule_checks::{TypeFault, TypeRule};
-use std::alloc::Global;
 
 /// A datum of a module.
 fn datum_rules(
@@ -28,14 +27,12 @@ fn datum_rules(
     local: bool,
     counts: Counts,
     datum: &RawDatum<'_>,
-    sorts: Vec<Sort>,
-) -> Result<Vec<Sort>, TypeFault>
-    ensures { Gives (λ v. v.items) result (Declarations.datum_rules tables.now number local counts (view_datum datum.now) sorts.items) }
+) -> Result<(), TypeFault>
+    ensures { Gives (λ u. u) result (Declarations.datum_rules tables.now number local counts (view_datum datum.now)) }
 {
-    let sort = datum_sort(tables, number, None, datum)?;
+    datum_sort(tables, number, None, datum)?;
     let spot = spot_of(number, None, &datum.name);
-    item_name_rules(tables, spot, local, datum_meant(counts, datum), &datum.name)?;
-    with_const(sorts, datum, sort)
+    item_name_rules(tables, spot, local, datum_meant(counts, datum), &datum.name)
 }
 
 /// An argument by value has a value.
@@ -97,19 +94,17 @@ fn local_rules(
     place: u32,
     consts: u32,
     datum: &RawDatum<'_>,
-    sorts: Vec<Sort>,
-) -> Result<Vec<Sort>, TypeFault>
-    ensures { Gives (λ v. v.items) result (Declarations.local_rules tables.now number routine place consts (view_datum datum.now) sorts.items) }
+) -> Result<(), TypeFault>
+    ensures { Gives (λ u. u) result (Declarations.local_rules tables.now number routine place consts (view_datum datum.now)) }
 {
-    let sort = datum_sort(tables, number, Some(routine), datum)?;
+    datum_sort(tables, number, Some(routine), datum)?;
     let meant = tables.inner(routine, datum.name.text);
     let holds = is_own(local_meant(place, consts, datum), meant);
     must(
         holds,
         spot_of(number, Some(routine), &datum.name),
         TypeRule::NameTwice,
-    )?;
-    with_const(sorts, datum, sort)
+    )
 }
 
 /// The data of a routine, the first of which has this place, with so many CONSTs before.
@@ -120,19 +115,17 @@ fn locals_rules(
     first: u32,
     before: u32,
     locals: &[RawDatum<'_>],
-    sorts: Vec<Sort>,
-) -> Result<Vec<Sort>, TypeFault>
-    ensures { Gives (λ v. v.items) result (Declarations.locals_rules tables.now number routine first before (map view_datum locals.now) sorts.items) }
+) -> Result<(), TypeFault>
+    ensures { Gives (λ u. u) result (Declarations.locals_rules tables.now number routine first before (map view_datum locals.now)) }
 {
     let mut place = first;
     let mut consts = before;
-    let mut more = sorts;
     for datum in locals {
-        more = local_rules(tables, number, routine, place, consts, datum, more)?;
+        local_rules(tables, number, routine, place, consts, datum)?;
         place = number_after(place)?;
         consts = after_local(consts, datum)?;
     }
-    Ok(more)
+    Ok(())
 }
 
 /// The type of a function's result.
@@ -160,9 +153,8 @@ fn routine_rules(
     number: u32,
     counts: Counts,
     routine: &RawRoutine<'_>,
-    sorts: Vec<Sort>,
-) -> Result<Vec<Sort>, TypeFault>
-    ensures { Gives (λ v. v.items) result (Declarations.routine_rules tables.now number counts (view_routine routine.now) sorts.items) }
+) -> Result<(), TypeFault>
+    ensures { Gives (λ u. u) result (Declarations.routine_rules tables.now number counts (view_routine routine.now)) }
 {
     let own = Meant::Routine(counts.routines);
     result_rules(tables, number, counts.routines, &routine.result)?;
@@ -176,7 +168,6 @@ fn routine_rules(
         place,
         counts.consts,
         &routine.locals,
-        sorts,
     )
 }
 
@@ -186,15 +177,12 @@ fn item_rules(
     number: u32,
     counts: Counts,
     item: &RawItem<'_>,
-    sorts: Vec<Sort>,
-) -> Result<Vec<Sort>, TypeFault>
-    ensures { Gives (λ v. v.items) result (Declarations.item_rules tables.now number counts (view_item item.now) sorts.items) }
+) -> Result<(), TypeFault>
+    ensures { Gives (λ u. u) result (Declarations.item_rules tables.now number counts (view_item item.now)) }
 {
     match item {
-        RawItem::Datum { local, datum, .. } => {
-            datum_rules(tables, number, *local, counts, datum, sorts)
-        }
-        RawItem::Routine(routine) => routine_rules(tables, number, counts, routine, sorts),
+        RawItem::Datum { local, datum, .. } => datum_rules(tables, number, *local, counts, datum),
+        RawItem::Routine(routine) => routine_rules(tables, number, counts, routine),
     }
 }
 
@@ -204,17 +192,15 @@ fn items_rules(
     number: u32,
     before: Counts,
     items: &[RawItem<'_>],
-    sorts: Vec<Sort>,
-) -> Result<Vec<Sort>, TypeFault>
-    ensures { Gives (λ v. v.items) result (Declarations.items_rules tables.now number before (map view_item items.now) sorts.items) }
+) -> Result<(), TypeFault>
+    ensures { Gives (λ u. u) result (Declarations.items_rules tables.now number before (map view_item items.now)) }
 {
     let mut counts = before;
-    let mut more = sorts;
     for item in items {
-        more = item_rules(tables, number, counts, item, more)?;
+        item_rules(tables, number, counts, item)?;
         counts = after_item(counts, item)?;
     }
-    Ok(more)
+    Ok(())
 }
 
 /// Whether the module has the name, letters of either case being the same.
@@ -243,9 +229,8 @@ fn module_rules(
     number: u32,
     before: &[RawModule<'_>],
     counts: Counts,
-    sorts: Vec<Sort>,
-) -> Result<Vec<Sort>, TypeFault>
-    ensures { Gives (λ v. v.items) result (Declarations.module_rules tables.now number (Declarations.names (map view_module before.now)) counts (view_module unit.now) sorts.items) }
+) -> Result<(), TypeFault>
+    ensures { Gives (λ u. u) result (Declarations.module_rules tables.now number (Declarations.names (map view_module before.now)) counts (view_module unit.now)) }
 {
     let holds = !is_among(unit.name.text, before);
     must(
@@ -253,24 +238,19 @@ fn module_rules(
         spot_of(number, None, &unit.name),
         TypeRule::NameTwice,
     )?;
-    items_rules(tables, number, counts, &unit.items, sorts)
+    items_rules(tables, number, counts, &unit.items)
 }
 
-/// The modules; it answers the types of their CONSTs that are no arrays.
-pub(crate) fn modules_rules(
-    alloc: Global,
-    modules: &[RawModule<'_>],
-    tables: &NameTables,
-) -> Result<Vec<Sort>, TypeFault>
-    ensures { Gives (λ v. v.items) result (Declarations.modules_rules tables.now 0 [] no_counts (map view_module modules.now) []) }
+/// The modules.
+pub(crate) fn modules_rules(modules: &[RawModule<'_>], tables: &NameTables) -> Result<(), TypeFault>
+    ensures { Gives (λ u. u) result (Declarations.modules_rules tables.now 0 [] no_counts (map view_module modules.now)) }
 {
     let mut number = 0;
     let mut counts = Counts::new();
-    let mut sorts = Vec::new(alloc);
     for (index, unit) in modules.iter().enumerate() {
-        sorts = module_rules(unit, tables, number, &modules[..index], counts, sorts)?;
+        module_rules(unit, tables, number, &modules[..index], counts)?;
         number = number_after(number)?;
         counts = after_items(counts, &unit.items)?;
     }
-    Ok(sorts)
+    Ok(())
 }

@@ -1,7 +1,7 @@
 -- What checking of data takes is sound: lengths are within bounds, values are of their types, and so are the persistents.
-use Rattle.std.proofs.Common.{◌≡◌, ℕ, ℤ, pos, negsuc, zero, suc, ◌+◌, ◌/◌, ◌%◌, Bool, true, false, ◌&&◌, ◌||◌, ◌==◌, nat_le, List, [], ◌∷◌, length, Option, Some, None, slice_get, Ok, refl, sym, ap, subst, ◌∙◌, if◌then◌else◌}
+use Rattle.std.proofs.Common.{◌≡◌, ℕ, ℤ, zero, suc, ◌+◌, Bool, true, false, ◌&&◌, ◌||◌, ◌==◌, nat_le, List, [], ◌∷◌, length, Option, Some, None, slice_get, Ok, refl, sym, ap, subst, ◌∙◌, if◌then◌else◌}
 use Rattle.std.specs.List.{list_all}
-use Rattle.std.proofs.lemmas.Bool.{and_from, and_parts}
+use Rattle.std.proofs.lemmas.Bool.{and_from, and_parts, le-leb}
 use Rattle.raw_trees.specs.Plain.{PlainDatum, PlainExpr, PlainItem, PlainModule, Datum, Routine}
 use Rattle.rapid_model.specs.Limits.{is_within, holds_where_there}
 use Rattle.rapid_model.specs.Sorts.{has_values, is_value_of, width}
@@ -11,7 +11,9 @@ use Rattle.rapid_model.specs.declared.sort.Sort.TheVariants as sorts
 use Rattle.rapid_model.specs.declared.value.Value.{Value}
 use Rattle.rapid_model.specs.declared.value.Value.TheVariants as values
 use Rattle.typed_trees.specs.Sound.{is_sound}
-use Rattle.constant_meaning.specs.Constants.{Elements, Outcomes, all, stops, constant_value, constant_values, is_constant, are_constant, element_number}
+use Rattle.rapid_operators.specs.Elements.{element_number}
+use Rattle.rapid_operators.proofs.Elements.{element_within}
+use Rattle.constant_meaning.specs.Constants.{Elements, Outcomes, all, stops, constant_value, constant_values, is_constant, are_constant}
 use Rattle.constant_meaning.specs.declared.outcome.Outcome.{Outcome}
 use Rattle.constant_meaning.specs.declared.outcome.Outcome.TheVariants as outcomes
 use Rattle.data_scopes.specs.declared.data_row.DatumRow.{DatumRow}
@@ -42,17 +44,10 @@ is_short len = is_within 1 1_000 len
 abbrev are_fit : Sort → Option ℕ → List Value → Bool
 are_fit sort len vs = length vs == width len && list_all (is_value_of sort) vs
 
-short_if : (whole low high : Bool) (n len : ℕ) → (if whole && low && high then Some n else None) ≡ Some len → (n ≡ len) × ((low && high) ≡ true)
-short_if true true true n len is = (cc, refl)
-short_if true true false n len is = absurd cc
-short_if true false high n len is = absurd cc
-short_if false low high n len is = absurd cc
-
 number_short : (v : ℤ) (len : ℕ) → element_number longest_array v ≡ Some len → is_short len ≡ true
-number_short (pos n) len is =
-    let both = short_if (n % 1_000 == 0) (nat_le 1 (n / 1_000)) (nat_le (n / 1_000) longest_array) (n / 1_000) len is in
-    subst (λ k. is_short k ≡ true) both.0 both.1
-number_short (negsuc n) len is = absurd cc
+number_short v len is =
+    let within = element_within longest_array v len is in
+    and_from (nat_le 1 len) (nat_le len 1_000) (le-leb 1 len within.0) (le-leb len 1_000 within.1)
 
 found_short : (s : Site) (at : ℕ) (number : Option ℕ) (len : ℕ) → ((n : ℕ) → number ≡ Some n → is_short n ≡ true) → length_or_fault s at number ≡ Ok len → is_short len ≡ true
 found_short s at (Some n) len short is = subst (λ k. is_short k ≡ true) (ok_same n len is) (short n refl)

@@ -11,7 +11,8 @@ use Rattle.typed_trees.specs.Plain
 use Rattle.typed_trees.specs.Plain.{TypedExpr, TypedExprs}
 use Rattle.typed_trees.specs.declared.datum.Datum.{Datum}
 use Rattle.typed_trees.specs.declared.datum.Datum.TheVariants as held
-use Rattle.constant_meaning.specs.Constants.{Elements, Outcomes, all, stops, constant_value, constant_values, is_constant, are_constant, element_number}
+use Rattle.rapid_operators.specs.Elements.{element_number}
+use Rattle.constant_meaning.specs.Constants.{Elements, Outcomes, all, stops, constant_value, constant_values, is_constant, are_constant}
 use Rattle.constant_meaning.specs.declared.outcome.Outcome.{Outcome}
 use Rattle.constant_meaning.specs.declared.outcome.Outcome.TheVariants as outcomes
 use Rattle.rule_checks.specs.declared.rule.TypeRule.TheVariants.{TypeClash, NoInit, NotConst, ConstFault, DimRange}

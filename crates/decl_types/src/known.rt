@@ -10,16 +10,15 @@ use data_scopes::Scopes;
 use rapid_model::{Value, is_value_of};
 use rule_checks::TypeFault;
 
-/// The names with the value of one more CONST. Its error is want of memory. A value that is no value of the type that the
-/// names have for the CONST is refused as such, though it never comes: that type is the type of the CONST's row, and each
-/// initial value is a value of its row's type.
+/// The names with the value of one more CONST. Its error is want of memory. A value that is no value of the type of the
+/// CONST's row is refused as such, though it never comes: each initial value is a value of its row's type.
 fn with_kept(scopes: Scopes, constant: u32, value: Value) -> Result<Scopes, TypeFault>
     ensures { Gives (λ s. s) result (Ok (with_kept scopes constant value)) }
 {
-    let Some(sort) = scopes.sort(constant) else {
+    let Some(row) = scopes.constant(constant) else {
         return Err(TypeFault::Memory);
     };
-    if !is_value_of(sort, &value) {
+    if !is_value_of(row.sort, &value) {
         return Err(TypeFault::Memory);
     }
     let mut scopes = scopes;

@@ -1,32 +1,23 @@
 //! Lengths of arrays (RAPID Kernel, variable declarations).
 
-ghost use Rattle.std.specs.Prelude.{◌≡◌};
 ghost use Rattle.raw_trees.specs.Views.{view_expr as view_raw};
-ghost use Rattle.constant_meaning.specs.Constants.{element_number, elements_of};
+ghost use Rattle.constant_meaning.specs.Constants.{elements_of};
 ghost use Rattle.constant_meaning.specs.declared.outcome.Outcome.TheVariants as outcomes;
 ghost use Rattle.rule_checks.specs.TypeChecks.{Gives};
 ghost use Rattle.named_data.specs.Views.{view_site};
 ghost use Rattle.decl_types.specs.Values;
 
-use constant_meaning::{Arrays, Outcome, constant_value, element_number, is_constant};
+use constant_meaning::{Arrays, Outcome, constant_value, is_constant};
 use data_scopes::begin_of;
 use expr_types::typed;
 use named_data::{Site, Wanted, fault, must};
 use rapid_model::{Sort, Value};
-use rapid_num::Num;
+use rapid_operators::whole_index;
 use raw_trees::RawExpr;
 use rule_checks::{TypeFault, TypeRule};
 
 /// The greatest length of an array.
-const LONGEST_ARRAY: usize = 1_000;
-
-/// The length that a num is: `None` where it is no whole number from 1 to the greatest length.
-fn length_of(number: Num) -> Option<u16>
-    ensures { result ≡ element_number Values.longest_array number }
-{
-    let length = element_number(LONGEST_ARRAY, number)?;
-    u16::try_from(length).ok()
-}
+const LONGEST_ARRAY: u16 = 1_000;
 
 fn length_or_fault(site: &Site<'_>, at: usize, length: Option<u16>) -> Result<u16, TypeFault>
     ensures { Gives (λ n. n) result (Values.length_or_fault (view_site site.now) at length) }
@@ -42,7 +33,7 @@ fn length_by(site: &Site<'_>, at: usize, value: &Value) -> Result<u16, TypeFault
     ensures { Gives (λ n. n) result (Values.whole_length (view_site site.now) at (outcomes.Value value.now)) }
 {
     match value {
-        Value::Num(number) => length_or_fault(site, at, length_of(*number)),
+        Value::Num(number) => length_or_fault(site, at, whole_index(*number, LONGEST_ARRAY)),
         _ => Err(fault(site, at, TypeRule::DimRange)),
     }
 }

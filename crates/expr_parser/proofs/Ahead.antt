@@ -360,10 +360,6 @@ inside_above n m le = record {
   args = up_levels (λ k. (inside k).args) (λ k. (inside_up k).args) n m le;
 }
 
-pub expr_up : (n : ℕ) → Up (expr n) (expr (suc n))
-unfolding expr
-expr_up n = expr_of_up (inside_up n)
-
 pub args_up : (n : ℕ) → Up (args n) (args (suc n))
 unfolding args
 args_up n = made_up _ (optional_up (inside_up n).args)

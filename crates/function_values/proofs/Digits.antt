@@ -3,7 +3,7 @@ use Rattle.std.proofs.Common.{◌≡◌, ℕ, ◌+◌, ◌<◌, ◌^◌, ◌%◌
 use Rattle.std.specs.List.{list_all}
 use Rattle.std.proofs.lemmas.Fmt.{decimal_by_steps}
 use Rattle.std.proofs.lemmas.Grind.{common_steps}
-use Rattle.rapid_model.specs.Printable.{is_printable}
+use Rattle.rapid_num.specs.Characters.{is_printable}
 
 printable_digit : (n : ℕ) → n < 10 → is_printable (48 + n) ≡ true
 printable_digit n small = grind (arith, common_steps)

@@ -4,7 +4,7 @@ ghost use Rattle.std.specs.Prelude.{◌≡◌, ◌+◌, ◌-◌, ◌^◌, ◌<�
 ghost use Rattle.std.specs.List.{list_all};
 ghost use Rattle.std.specs.Prelude.{IsTrue};
 ghost use Rattle.rapid_num.specs.Arithmetic.{rounded};
-ghost use Rattle.rapid_model.specs.Printable.{is_printable};
+ghost use Rattle.rapid_num.specs.Characters.{is_printable};
 ghost use Rattle.rapid_meaning.specs.Functions;
 
 use itoa::Buffer;

@@ -72,16 +72,3 @@ leaving (pos a) (negsuc b) k m way here beyond h =
     let parts : m ≡ (m - k) + k = omega arith in
     let step : suc b * k ≤ a * (m - k) = omega (arith, ap (λ t. a * t) parts) in
     omega (arith, ints)
-
--- a way between two angles beyond has no point on the inner side
-pub always_beyond : (u v : ℤ) (k m : ℕ) → 1 ≤ m → k ≤ m → u <ℤ pos 0 → v <ℤ pos 0 → way_at u v k m <ℤ pos 0
-always_beyond (pos a) v k m some way from to = absurd (omega (arith, ints))
-always_beyond (negsuc a) (pos b) k m some way from to = absurd (omega (arith, ints))
-always_beyond (negsuc a) (negsuc b) k m some way from to =
-    let parts : m ≡ (m - k) + k = omega arith in
-    omega (arith, ints)
-
-pub always_inner : (u v : ℤ) (k m : ℕ) → pos 0 ≤ℤ u → pos 0 ≤ℤ v → pos 0 ≤ℤ way_at u v k m
-always_inner (negsuc a) v k m from to = absurd (omega (arith, ints))
-always_inner (pos a) (negsuc b) k m from to = absurd (omega (arith, ints))
-always_inner (pos a) (pos b) k m from to = omega (arith, ints)

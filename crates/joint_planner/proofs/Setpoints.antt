@@ -73,10 +73,6 @@ setpoint_position p q n j from to first last =
     let start = and_parts (is_reachable p) (are_absent (drop 6 p.axis)) from in
     and_from _ _ (setpoint_reach p q n j start.0 to first last) (ap are_absent (drop-step_of 6 p.axis q.axis n j) ∙ start.1)
 
--- a setpoint has the start's number of axes
-pub length-setpoint : (p q : Joints) (n j : ℕ) → length (setpoint p q n j).axis ≡ length p.axis
-length-setpoint p q n j = length-step_of 6 p.axis q.axis n j
-
 -- the last setpoint is the target
 pub take-setpoint_last : (p q : Joints) (n : ℕ) → 6 ≤ length p.axis → 6 ≤ length q.axis → 1 ≤ n → take 6 (setpoint p q n n).axis ≡ take 6 q.axis
 take-setpoint_last p q n from to some = take-step_of_last 6 p.axis q.axis n from to some

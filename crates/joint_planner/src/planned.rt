@@ -34,14 +34,14 @@ impl Plan {
         self.count
     }
 
-    /// Setpoint `j`, from 1: on each axis the nearest thousandth to that part of the way, halves away from zero. The
-    /// last one is the target. External axes stay.
+    /// Setpoint `j`, from 1: on axes 1 to 6 the nearest thousandth to that part of the way, halves away from zero, and
+    /// on the last setpoint the target's. The other axes stay where they are.
     pub fn at(&self, j: u32) -> Joints
         requires first { 1 ≤ j }
         requires last { j ≤ self.now.count }
         ensures setpoint { result ≡ setpoint self.now.start self.now.target self.now.count j }
 
-        // It is in reach again, a position where the start is one, and at the end the target.
+        // It is in reach again, a position where the start is one, and at the end on axes 1 to 6 the target.
         ensures reach { IsTrue (is_reachable result) }
         ensures position { IsTrue (is_position self.now.start) → IsTrue (is_position result) }
         ensures last_is_target { j ≡ self.now.count → take moved_axes result.axis ≡ take moved_axes self.now.target.axis }

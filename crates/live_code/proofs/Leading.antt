@@ -2,16 +2,12 @@
 use Rattle.std.proofs.Common.{◌≡◌, ap, ℕ, zero, suc, nat_le, [], length, IsTrue}
 use Rattle.rapid_meaning.specs.Answering.{performed}
 use Rattle.rapid_meaning.specs.Data.{Data}
-use Rattle.rapid_meaning.specs.Doings.{Doing, Gives, Raises, Misfit, Reads, Writes}
+use Rattle.rapid_meaning.specs.Doings.{Doing, Gives, Raises, Misfit}
 use Rattle.stack_code.specs.CodeData.{CodeData}
 use Rattle.stack_code.specs.CodeRuns.{fitting_by, no_part}
 use Rattle.stack_code.specs.Confs.{Conf}
 use Rattle.stack_code.specs.Steps.{step}
 use Rattle.live_code.specs.Leads.{Comes, Coming, Leads, Runs, comes_once}
-
-pub leads_step : (code : CodeData) (k : ℕ) (c : Conf) (d : Data) → Leads code (suc k) (Gives c) d → Leads code k (step code c) d
-unfolding Comes performed
-leads_step code k c d lead = lead.1
 
 pub leads_room : (code : CodeData) (k : ℕ) (c : Conf) (d : Data) → Leads code k (Gives c) d → IsTrue (nat_le (length c.stack) code.deepest)
 unfolding Comes performed
@@ -32,14 +28,6 @@ runs_step code c d run = stepped code run.0 c d run.1
 
 pub runs_room : (code : CodeData) (c : Conf) (d : Data) → Runs code (Gives c) d → IsTrue (nat_le (length c.stack) code.deepest)
 runs_room code c d run = leads_room code run.0 c d run.1
-
-pub runs_reads : (code : CodeData) (f : Data → Doing Conf) (d : Data) → Runs code (Reads f) d → Runs code (f d) d
-unfolding performed
-runs_reads code f d run = (run.0, run.1)
-
-pub runs_writes : (code : CodeData) (e : Data) (m : Doing Conf) (d : Data) → Runs code (Writes e m) d → Runs code m e
-unfolding performed
-runs_writes code e m d run = (run.0, run.1)
 
 -- what does not go on
 

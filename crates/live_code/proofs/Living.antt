@@ -4,7 +4,7 @@ use Rattle.std.specs.Prelude.{⊤}
 use Rattle.rapid_model.specs.declared.answer.Answer.{Answer}
 use Rattle.rapid_meaning.specs.Answering.{Outcome, Gave, Asking, Ended, Misfits, joined, performed}
 use Rattle.rapid_meaning.specs.Data.{Data}
-use Rattle.rapid_meaning.specs.Doings.{Doing, Gives, Raises, Misfit}
+use Rattle.rapid_meaning.specs.Doings.{Doing}
 use Rattle.stack_code.specs.CodeData.{CodeData}
 use Rattle.stack_code.specs.CodeRuns.{code_after, exec, fitting_by, goes, no_part}
 use Rattle.stack_code.specs.Confs.{Conf}
@@ -12,7 +12,6 @@ use Rattle.stack_code.specs.Steps.{step}
 use Rattle.live_code.specs.Leads.{Comes, Runs}
 use Rattle.live_code.specs.Live.{CodeFits, IsLive, Stands}
 use Rattle.live_code.specs.Reached.{Reached}
-use Rattle.live_code.proofs.Leading.{runs_misfit, runs_raises, runs_room}
 use Rattle.live_code.proofs.Reaching.{stands_at}
 
 room_in : (b : Bool) (o : Outcome ⊤) → Stands (if b then o else Misfits) → IsTrue b × Stands o
@@ -43,13 +42,3 @@ live_runs code m d answers live fits here =
     let same : code_after code (on.0 + here.0) answers ≡ goes (fitting_by code) code on.0 m d [] =
     ap (λ (k : ℕ). code_after code k answers) moved ∙ stands_at code m d answers here on.0 in
     comes_in code on.0 (performed (fitting_by code) no_part m d []) (subst (λ (o : Outcome ⊤). Stands o) same (on.1 here.0))
-
-pub live_misfit : (code : CodeData) (d : Data) (answers : List Answer) → IsLive code → CodeFits code answers → Reached code Misfit d answers → ⊥
-live_misfit code d answers live fits here = runs_misfit code d (live_runs code Misfit d answers live fits here)
-
-pub live_raises : (code : CodeData) (n : ℕ) (d : Data) (answers : List Answer) → IsLive code → CodeFits code answers → Reached code (Raises n) d answers → ⊥
-live_raises code n d answers live fits here = runs_raises code n d (live_runs code (Raises n) d answers live fits here)
-
-pub live_room : (code : CodeData) (c : Conf) (d : Data) (answers : List Answer) → IsLive code → CodeFits code answers → Reached code (Gives c) d answers
-    → IsTrue (nat_le (length c.stack) code.deepest)
-live_room code c d answers live fits here = runs_room code c d (live_runs code (Gives c) d answers live fits here)

@@ -54,13 +54,6 @@ impl Operands {
         self.items.len() - self.base
     }
 
-    /// How many operands all routines have.
-    pub fn total(&self) -> usize
-        ensures { result ≡ operands_in self.now }
-    {
-        self.items.len()
-    }
-
     /// An operand of the routine under way, by how many lie on it, from 0; none where there are no more than so many.
     pub fn peek(&self, above: usize) -> Option<&Held>
         ensures { option_copied result ≡ slice_get self.now.top above }

@@ -126,10 +126,6 @@ unfolding bare_routine
 bare_routine_ll n =
     larger_ll (either_ll (made_ll _ (proc_ll n)) (made_ll _ (either_ll (made_ll _ (func_ll n)) (made_ll _ (trap_ll n)) refl refl)) refl refl) refl refl
 
-pub routine_ll : (n : ℕ) → LL false (signs.Local ∷ routine_signs) [] (routine n)
-unfolding routine_joined
-routine_ll n = same_ll (same_sym (routine_same n)) (larger_ll (made_ll _ (seq_ll local_ll (bare_routine_ll n) refl)) refl refl)
-
 pub behind_local_ll : (n : ℕ) → LL false (datum_signs ++ routine_signs) [] (behind_local n)
 unfolding behind_local
 behind_local_ll n = either_ll (made_ll _ (datum_ll _ n)) (made_ll _ (bare_routine_ll n)) refl refl

@@ -45,7 +45,7 @@ consts_of_names : (modules : List PlainModule) (signals : List SignalRow) (arm :
 consts_of_names modules signals arm names e =
     let tables = tables_of modules signals in
     let P : Type 0 = AllModules (rows_are.RowIn tables names.rows) 0 no_counts modules in
-    behind P names (modules_rules tables 0 [] no_counts modules []) _ e (λ sorts is rest.
+    behind P names (modules_rules tables 0 [] no_counts modules) _ e (λ u is rest.
     behind P names (modules_rows tables 0 modules no_rows) _ rest (λ rows found done.
     let after = modules_walked Rows (item_rows tables) (items_rows tables) (modules_rows tables) (rows_are.AreCounted tables) (rows_are.Grow tables) (rows_are.RowIn tables) (rows_are.consts_walk tables)
     0 no_counts modules no_rows rows (record { consts = refl; routines = refl }) found in
@@ -142,9 +142,9 @@ none_kept : (modules : List PlainModule) (signals : List SignalRow) (arm : Bool)
 none_kept modules signals arm names e =
     let tables = tables_of modules signals in
     let P : Type 0 = (j : ℕ) (value : Option Value) → slice_get names.kept j ≡ Some value → value ≡ None in
-    behind P names (modules_rules tables 0 [] no_counts modules []) _ e (λ sorts is rest.
+    behind P names (modules_rules tables 0 [] no_counts modules) _ e (λ u is rest.
     behind P names (modules_rows tables 0 modules no_rows) _ rest (λ rows found done.
-    subst (λ (n : Names). (j : ℕ) (value : Option Value) → slice_get n.kept j ≡ Some value → value ≡ None) (ok_same _ names done) (λ j value at. all_none (length sorts) j value at)))
+    subst (λ (n : Names). (j : ℕ) (value : Option Value) → slice_get n.kept j ≡ Some value → value ≡ None) (ok_same _ names done) (λ j value at. all_none (length rows.consts) j value at)))
 
 -- the number of a CONST is that of its declaration, its row and its value
 pub consts_are : (modules : List PlainModule) (tasks : List (List ℕ)) (signals : List SignalRow) (arm : Bool) (tree : TypedTree) (names : Names) (p : Progress) → task_of modules tasks signals arm ≡ Ok tree → names_of modules signals arm ≡ Ok names

@@ -205,7 +205,7 @@ pub rows_of_names : (modules : List PlainModule) (signals : List SignalRow) (arm
 rows_of_names modules signals arm names e =
     let tables = tables_of modules signals in
     let P : Type 0 = HaveRows modules signals names.rows in
-    behind P names (modules_rules tables 0 [] no_counts modules []) _ e (λ sorts is rest.
+    behind P names (modules_rules tables 0 [] no_counts modules) _ e (λ u is rest.
     behind P names (modules_rows tables 0 modules no_rows) _ rest (λ rows found done.
     let after = modules_walked Rows (item_rows tables) (items_rows tables) (modules_rows tables) (declared.AreCounted tables) (declared.Grow tables) (declared.RowIn tables) (declared.rows_walk tables)
     0 no_counts modules no_rows rows (record { slots = refl; pers = refl; routines = refl }) found in

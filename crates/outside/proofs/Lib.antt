@@ -1,4 +1,3 @@
 mod Examples
 pub mod Counting
-pub mod Reading
 pub mod Writing

@@ -104,9 +104,3 @@ pub loop_smaller : {A : Type 0} {a : Reader A} → Takes a → (tokens : Tokens)
 loop_smaller t tokens next after x e =
     let less = t.less (rest_from tokens next) x (rest_from tokens after) e in
     omega (arith, less, length-drop next (views tokens.list.now), length-drop after (views tokens.list.now), length-map tokens.list.now view)
-
--- where a form that takes a token is read, one is there
-pub taken_there : {A : Type 0} {a : Reader A} → Takes a → (tokens : Tokens) (at : ℕ) (x : A) (rest : List Lexeme) → a (rest_from tokens at) ≡ Ok (x, rest) → at < length tokens.list.now
-taken_there t tokens at x rest e =
-    let less = t.less (rest_from tokens at) x rest e in
-    omega (arith, less, length-drop at (views tokens.list.now), length-map tokens.list.now view)

@@ -62,18 +62,6 @@ made_opens f o = record { opens = λ t h. o.opens t h }
 pub deeper_opens : {A : Type 0} {first : List Sign} (F : ℕ → Form A) → Opens first (λ n. F (suc n)) → Opens first F
 deeper_opens F o = record { opens = λ t h. let (m, b) = o.opens t h in (suc m, b) }
 
-pub seq_empties : {A B : Type 0} {F : ℕ → Form A} {G : ℕ → Form B} → Empties F → Empties G → Empties (λ n. seq (F n) (G n))
-unfolding seq
-seq_empties e e' = record { empty = λ m. let (x, w) = e.empty m in let (y, w') = e'.empty m in ((x, y), ([], [], refl, w, w')) }
-
 pub optional_empties : {A : Type 0} (F : ℕ → Form A) → Empties (λ n. optional (F n))
 unfolding optional
 optional_empties F = record { empty = λ m. (None, refl) }
-
-pub many_empties : {A : Type 0} (F : ℕ → Form A) → Empties (λ n. many (F n))
-unfolding many
-many_empties F = record { empty = λ m. ([], refl) }
-
-pub made_empties : {A B : Type 0} {F : ℕ → Form A} (f : ℕ → A → B) → Empties F → Empties (λ n. made f (F n))
-unfolding made
-made_empties f e = record { empty = λ m. let (x, w) = e.empty m in (f 0 x, (x, w, refl)) }

@@ -448,9 +448,6 @@ module _ {A : Type 0} (F G : ℕ → Form A) (same : (m : ℕ) → G (suc m) ≡
 pub level_reads : {A : Type 0} {F G : ℕ → Form A} {n : ℕ} {a : Reader A} → Reads F n a → ((m : ℕ) → G (suc m) ≡ F m) → Reads G (suc n) a
 level_reads {F = F} {G = G} {n = n} {a = a} ra same = record { right = λ ts. level_right F G same n ts (a ts) (ra.right ts) }
 
-pub level_opens : {A : Type 0} {signs : List Sign} {F G : ℕ → Form A} → Opens signs F → ((m : ℕ) → G (suc m) ≡ F m) → Opens signs G
-level_opens o same = record { opens = λ t h. let (m, b) = o.opens t h in (suc m, rw (same m) b) }
-
 -- A list is nothing, or one and a list: many is made of optional and seq, and what holds of those holds of it.
 join_list : {A : Type 0} → Option (A × List A) → List A
 join_list None = []

@@ -5,7 +5,7 @@ use Rattle.rapid_forms.specs.declared.sign.Sign.{Sign}
 use Rattle.rapid_forms.specs.Forms.{Form, seq, either, optional, many, made, place}
 use Rattle.rapid_forms.proofs.Cuts.{ahead, behind, no_front}
 use Rattle.rapid_forms.proofs.Laws.{LL}
-use Rattle.rapid_forms.proofs.Up.{Up, up_refl, up_trans, seq_up, either_up, optional_up, many_up, made_up}
+use Rattle.rapid_forms.proofs.Up.{Up, up_refl, up_trans, seq_up, either_up, many_up, made_up}
 
 pub record Same {A : Type 0} (f g : Form A) : Type 0 where
   pub to : Up f g
@@ -25,9 +25,6 @@ seq_same s r = record { to = seq_up s.to r.to; back = seq_up s.back r.back }
 
 pub either_same : {A : Type 0} {a a' b b' : Form A} → Same a a' → Same b b' → Same (either a b) (either a' b')
 either_same s r = record { to = either_up s.to r.to; back = either_up s.back r.back }
-
-pub optional_same : {A : Type 0} {a a' : Form A} → Same a a' → Same (optional a) (optional a')
-optional_same s = record { to = optional_up s.to; back = optional_up s.back }
 
 pub many_same : {A : Type 0} {a a' : Form A} → Same a a' → Same (many a) (many a')
 many_same s = record { to = many_up s.to; back = many_up s.back }

@@ -132,17 +132,6 @@ next_is : (list : List Lexeme) (at next k : ℕ) → at ≤ length list → next
 next_is list at next k le le' le'' e = omega (arith, ap length e, length-drop next list, length-drop k (drop at list), length-drop at list)
 
 module _ {A : Type 0} (F : ℕ → Form A) (n : ℕ) where
-  -- and only one
-  answer_once : {null : Bool} {first more : List Sign} → LL null first more (F n) → (ts : List Lexeme) (r s : Read A) → Answers F n ts r → Answers F n ts s → r ≡ s
-  answer_once l ts (Ok (x, rest)) (Ok (y, left)) (j, h, e) (k, h', e') = let (same, at) = parsed_once h h' in cc
-  answer_once l ts (Ok x) (Err (Fails rest)) (j, h, e) (k, h', e') = absurd (parsed_faulty h h')
-  answer_once l ts (Ok x) (Err (Deep rest)) (j, h, e) (k, h', e') = absurd (parsed_deep l h h')
-  answer_once l ts (Err (Fails rest)) (Ok y) (j, h, e) (k, h', e') = absurd (parsed_faulty h' h)
-  answer_once l ts (Err (Fails rest)) (Err (Fails left)) (j, h, e) (k, h', e') = let at = faulty_once h h' in cc
-  answer_once l ts (Err (Fails rest)) (Err (Deep left)) (j, h, e) (k, h', e') = absurd (faulty_deep l h h')
-  answer_once l ts (Err (Deep rest)) (Ok y) (j, h, e) (k, h', e') = absurd (parsed_deep l h' h)
-  answer_once l ts (Err (Deep rest)) (Err (Fails left)) (j, h, e) (k, h', e') = absurd (faulty_deep l h' h)
-  answer_once l ts (Err (Deep rest)) (Err (Deep left)) (j, h, e) (k, h', e') = let at = deep_once l h h' in cc
 
   module _ {X : Type 0} (tokens : Tokens) (at : ℕ) (view : X → A) where
     answer_parses : (result : Result (X × ℕ) SyntaxFault) (read : Read A) → Answers F n (rest_from tokens at) read → IfOk result (λ x. (at ≤ length tokens.list.now) × (x.1 ≤ length tokens.list.now)) → Gives tokens view result read → Parses F n (views tokens.list.now) tokens.end at view result

@@ -13,10 +13,6 @@ plus-plus : (m n : ℕ) (o : Option ℕ) → plus m (plus n o) ≡ plus (m + n) 
 plus-plus m n None = refl
 plus-plus m n (Some k) = ap (λ (x : ℕ). Some x) (let e : m + (n + k) ≡ m + n + k = omega arith in e)
 
-pub plus_zero : (o : Option ℕ) → plus 0 o ≡ o
-plus_zero None = refl
-plus_zero (Some k) = ap (λ (x : ℕ). Some x) (let e : 0 + k ≡ k = omega arith in e)
-
 characters_at : (left : ℕ) (bytes : List ℕ) → character_len bytes ≡ 0 → characters_len left bytes ≡ Some 0
 unfolding characters_len
 characters_at zero bytes e = rw e refl

@@ -6,7 +6,8 @@ use Rattle.rapid_lexer.specs.declared.kind.Kind.{Kind}
 use Rattle.rapid_lexer.specs.declared.kind.Kind.TheVariants.{Quoted}
 use Rattle.rapid_lexer.specs.declared.state.State.{State}
 use Rattle.rapid_lexer.specs.declared.state.State.TheVariants.{Inside, Closed, Escape, Code, Dead}
-use Rattle.rapid_lexer.specs.Bytes.{is_printable, is_hex}
+use Rattle.rapid_num.specs.Characters.{is_printable}
+use Rattle.rapid_lexer.specs.Bytes.{is_hex}
 use Rattle.rapid_lexer.specs.Strings.{is_code, is_character, AreCharacters}
 use Rattle.rapid_lexer.specs.Scanning.{step, accepted, after_character, after_escape, where_so}
 use Rattle.rapid_lexer.proofs.Scan.{dead_accepted}

@@ -9,7 +9,8 @@ use Rattle.rapid_lexer.specs.declared.fault.LexRule.{LexRule}
 use Rattle.rapid_lexer.specs.declared.fault.LexRule.TheVariants.{BadByte, OpenString, BadEscape, LongString, LongName, BadLiteral, OpenHeader}
 use Rattle.rapid_lexer.specs.declared.fault.LexFault.{LexFault}
 use Rattle.rapid_lexer.specs.declared.state.State.TheVariants.{Start}
-use Rattle.rapid_lexer.specs.Bytes.{is_blank, is_printable}
+use Rattle.rapid_num.specs.Characters.{is_printable}
+use Rattle.rapid_lexer.specs.Bytes.{is_blank}
 use Rattle.rapid_lexer.specs.Strings.{AreCharacters}
 use Rattle.rapid_lexer.specs.Tokens.{Lexeme, IsToken, IsLongest}
 use Rattle.rapid_lexer.specs.Faults.{NoToken, IsBroken, IsAtEnd, IsBadEscape, IsBadInString, IsBadAtFront, StopsString, IsMisfit}

@@ -9,7 +9,7 @@ use Rattle.rapid_num.specs.Literal.{digit_value, are_digits, is_point, is_expone
 use Rattle.rapid_lexer.specs.declared.kind.Kind.TheVariants.{Number}
 use Rattle.rapid_lexer.specs.declared.state.State.{State}
 use Rattle.rapid_lexer.specs.declared.state.State.TheVariants.{Zero, Whole, Dot, Fraction, Exponent, ExponentSign, Power, HexMark, Hex, OctalMark, Octal, BinaryMark, Binary, Dead}
-use Rattle.rapid_lexer.specs.Bytes.{is_digit}
+use Rattle.rapid_num.specs.Characters.{is_digit}
 use Rattle.rapid_lexer.specs.Scanning.{accepted, after_whole}
 use Rattle.rapid_lexer.proofs.Scan.{dead_accepted}
 use Rattle.rapid_lexer.proofs.Runs.{kind_if, run, some_run, suc_not_zero}

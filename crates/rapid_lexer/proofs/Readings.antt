@@ -99,14 +99,6 @@ read_falls source l newer ts next t is r h e =
     let at : newer.at ≡ t.at + length t.text.now = ap (λ (x : Lexing). x.at) (e ∙ ap (λ (n : Result Token LexFault). lexing_after l (Some (seen n))) is) in
     omega (arith, m.0, m.1, at, length-drop l.at l.source, ap length r.same)
 
--- behind the last token the tokens tile the source
-pub read_all : (source : List ℕ) (l : Lexing) (ts : List Lexeme) → IsRead source l ts → IsAnswer l None → Tiles source ts
-read_all source l ts r h = at l.fault r.read h
-  where
-    at : (o : Option LexFault) → IsReadBehind o source l ts → IsAnswerBehind o l None → Tiles source ts
-    at None begins k = record { there = l.at; left = drop l.at source; begins = begins; is_gap = subst (λ (s : List ℕ). IsNext l.at (drop l.at s) None) r.same k }
-    at (Some f) x k = absurd cc
-
 pub read_fault : (source : List ℕ) (l : Lexing) (ts : List Lexeme) (f : LexFault) → IsRead source l ts → IsAnswer l (Some (Err f)) → IsFirstMisfit source f
 read_fault source l ts f r h = at l.fault r.read h
   where

@@ -4,7 +4,7 @@ use Rattle.std.specs.Option.{option_map}
 use Rattle.std.specs.List.{concat}
 use Rattle.std.proofs.lemmas.Bool.{eqb-true, and_parts, or_cases, ne_eqb, cases_eq}
 use Rattle.std.proofs.lemmas.List.{take-append-drop, length-append, drop-drop, drop_at}
-use Rattle.rapid_lexer.specs.Bytes.{is_printable}
+use Rattle.rapid_num.specs.Characters.{is_printable}
 use Rattle.rapid_lexer.specs.Strings.{is_code, is_character, AreCharacters}
 use Rattle.rapid_lexer.specs.Reading.{doubled_len, escape_len, character_len, characters_len}
 use Rattle.rapid_lexer.proofs.Characters.{plain_parts, code_parts, plain_character}

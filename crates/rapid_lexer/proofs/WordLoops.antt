@@ -1,27 +1,12 @@
 -- Comparing a text with words.
-use Rattle.std.proofs.Common.{◌≡◌, ℕ, suc, ◌+◌, ◌≤◌, ◌<◌, Bool, true, false, ◌&&◌, cond, if◌then◌else◌, eqb, List, [], ◌∷◌, length, get_or, map, drop, Bor, Option, Some, refl, sym, ap, ◌∙◌, arith}
+use Rattle.std.proofs.Common.{◌≡◌, ℕ, suc, ◌+◌, ◌<◌, Bool, true, false, ◌&&◌, cond, if◌then◌else◌, eqb, List, [], ◌∷◌, length, get_or, map, drop, Bor, Option, Some, refl, sym, ap, ◌∙◌}
 use Rattle.std.specs.List.{filter}
-use Rattle.std.proofs.lemmas.List.{drop_more, drop_all, at_drop_more}
-use Rattle.std.proofs.lemmas.Bool.{eq-eqb, ne_eqb}
+use Rattle.std.proofs.lemmas.List.{at_drop_more}
+use Rattle.std.proofs.lemmas.Bool.{eq-eqb}
 use Rattle.rapid_lexer.specs.Bytes.{upper}
 use Rattle.rapid_lexer.specs.declared.word.Word.{Word}
 use Rattle.rapid_lexer.specs.Words.{words, word_in, word_of}
 use Rattle.rapid_lexer.specs.Reading.{is_word}
-
-pub is_word_more : (word text : List ℕ) (i : ℕ) → i < length word → length word ≡ length text → get_or word i 0 ≡ upper (get_or text i 0) → is_word (drop i word) (drop i text) ≡ is_word (drop (i + 1) word) (drop (i + 1) text)
-is_word_more word text i lt len e =
-    let lt2 : i < length text = omega arith in
-    rw (drop_more word i 0 lt, drop_more text i 0 lt2, eq-eqb (get_or word i 0) (upper (get_or text i 0)) e) refl
-
-pub is_word_other : (word text : List ℕ) (i : ℕ) → i < length word → length word ≡ length text → (get_or word i 0 ≡ upper (get_or text i 0) → ⊥) → is_word (drop i word) (drop i text) ≡ false
-is_word_other word text i lt len ne =
-    let lt2 : i < length text = omega arith in
-    rw (drop_more word i 0 lt, drop_more text i 0 lt2, ne_eqb (get_or word i 0) (upper (get_or text i 0)) ne) refl
-
-pub is_word_all : (word text : List ℕ) (i : ℕ) → length word ≤ i → length word ≡ length text → is_word (drop i word) (drop i text) ≡ true
-is_word_all word text i le len =
-    let le2 : length text ≤ i = omega arith in
-    rw (drop_all i word le, drop_all i text le2) refl
 
 pub is_word-length : (word text : List ℕ) → is_word word text ≡ true → length word ≡ length text
 is_word-length [] [] e = refl
@@ -32,13 +17,6 @@ is_word-length (x ∷ xs) (y ∷ ys) e = ap suc (is_word-length xs ys (second (e
     second : (a b : Bool) → (a && b) ≡ true → b ≡ true
     second true b h = h
     second false b h = absurd cc
-
-pub other_length : (word text : List ℕ) → (length word ≡ length text → ⊥) → is_word word text ≡ false
-other_length word text ne = elim_false (is_word word text) (λ t. ne (is_word-length word text t))
-  where
-    elim_false : (b : Bool) → (b ≡ true → ⊥) → b ≡ false
-    elim_false true h = absurd (h refl)
-    elim_false false h = refl
 
 abbrev pub plain : List (Bor (List ℕ) × Word) → List (List ℕ × Word)
 plain rows = map (λ row. (row.0.now, row.1)) rows

@@ -8,7 +8,8 @@ use Rattle.rapid_lexer.specs.declared.fault.LexRule.{LexRule}
 use Rattle.rapid_lexer.specs.declared.fault.LexRule.TheVariants.{BadByte, OpenString, BadEscape, LongString, LongName, BadLiteral, OpenHeader}
 use Rattle.rapid_lexer.specs.declared.fault.LexFault.{LexFault}
 use Rattle.rapid_lexer.specs.declared.token.Token.{Token}
-use Rattle.rapid_lexer.specs.Bytes.{is_blank, is_printable}
+use Rattle.rapid_num.specs.Characters.{is_printable}
+use Rattle.rapid_lexer.specs.Bytes.{is_blank}
 use Rattle.rapid_lexer.specs.Strings.{is_character, AreCharacters, IsString}
 use Rattle.rapid_lexer.specs.Gaps.{IsGap, front_of}
 use Rattle.rapid_lexer.specs.Tokens.{Lexeme, view, IsToken, IsLongest, Follows, Begins}

@@ -10,7 +10,8 @@ use Rattle.rapid_lexer.specs.declared.state.State.TheVariants.{Start}
 use Rattle.rapid_lexer.specs.declared.fault.LexRule.{LexRule}
 use Rattle.rapid_lexer.specs.declared.fault.LexRule.TheVariants.{BadByte, OpenString, BadEscape, LongString, LongName, BadLiteral}
 use Rattle.rapid_lexer.specs.declared.fault.LexFault.{LexFault}
-use Rattle.rapid_lexer.specs.Bytes.{is_blank, is_printable, upper}
+use Rattle.rapid_num.specs.Characters.{is_printable}
+use Rattle.rapid_lexer.specs.Bytes.{is_blank, upper}
 use Rattle.rapid_lexer.specs.Words.{word_of}
 use Rattle.rapid_lexer.specs.Strings.{is_code}
 use Rattle.rapid_lexer.specs.Tokens.{Lexeme}

@@ -8,7 +8,8 @@ use Rattle.rapid_lexer.specs.declared.mark.Mark.{Mark}
 use Rattle.rapid_lexer.specs.declared.mark.Mark.TheVariants as marks
 use Rattle.rapid_lexer.specs.declared.state.State.{State}
 use Rattle.rapid_lexer.specs.declared.state.State.TheVariants.{Start, InName, Zero, Whole, Dot, Fraction, Exponent, ExponentSign, Power, HexMark, Hex, OctalMark, Octal, BinaryMark, Binary, Inside, Closed, Escape, Code, Colon, Less, Greater, Single, Dead}
-use Rattle.rapid_lexer.specs.Bytes.{is_digit, is_letter, is_name_byte, is_printable, is_hex}
+use Rattle.rapid_num.specs.Characters.{is_digit, is_letter, is_name_byte, is_printable}
+use Rattle.rapid_lexer.specs.Bytes.{is_hex}
 use Rattle.rapid_lexer.specs.Strings.{is_code}
 use Rattle.rapid_lexer.specs.Marks.{mark_text}
 

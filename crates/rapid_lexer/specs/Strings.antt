@@ -2,7 +2,8 @@
 use Rattle.std.specs.Prelude.{◌≡◌, ℕ, ◌+◌, ◌*◌, Bool, true, false, not, ◌&&◌, ◌||◌, ◌==◌, List, [], ◌∷◌, ◌++◌}
 use Rattle.std.specs.List.{concat, AllByRecursion}
 use Rattle.rapid_num.specs.Literal.{digit_value}
-use Rattle.rapid_lexer.specs.Bytes.{is_printable, is_hex}
+use Rattle.rapid_num.specs.Characters.{is_printable}
+use Rattle.rapid_lexer.specs.Bytes.{is_hex}
 
 -- two hexadecimal digits that name a printable character
 abbrev pub is_code : ℕ → ℕ → Bool

@@ -4,7 +4,8 @@ use Rattle.std.specs.List.{list_all, Contains}
 use Rattle.std.specs.Str.{bytes_eq}
 use Rattle.rapid_lexer.specs.declared.word.Word.{Word}
 use Rattle.rapid_lexer.specs.declared.word.Word.TheVariants.{Alias, And, Backward, Case, Connect, Const, Default, Div, Do, Else, ElseIf, EndFor, EndFunc, EndIf, EndModule, EndProc, EndRecord, EndTest, EndTrap, EndWhile, Error, Exit, False, For, From, Func, Goto, If, Inout, Local, Mod, Module, NoStepIn, Not, NoView, Or, Pers, Proc, Raise, ReadOnly, Record, Retry, Return, Step, SysModule, Task, Test, Then, To, Trap, True, TryNext, Undo, Var, ViewOnly, While, With, Xor}
-use Rattle.rapid_lexer.specs.Bytes.{is_letter, is_name_byte, upper}
+use Rattle.rapid_num.specs.Characters.{is_letter, is_name_byte}
+use Rattle.rapid_lexer.specs.Bytes.{upper}
 
 -- a letter, then letters, digits and _
 abbrev pub is_name : List ℕ → Bool

@@ -1,12 +1,14 @@
 //! Tests of bytes.
 
-ghost use Rattle.std.specs.Prelude.{◌≡◌, ◌≤◌};
-ghost use Rattle.rapid_num.specs.Literal.{digit_value, is_exponent_letter};
-ghost use Rattle.rapid_lexer.specs.Bytes.{is_blank, is_digit, is_hex, is_letter, is_name_byte, is_printable, upper};
+ghost use Rattle.std.specs.Prelude.{◌≡◌};
+ghost use Rattle.rapid_num.specs.Literal.{is_exponent_letter};
+ghost use Rattle.rapid_num.specs.Characters.{is_digit, is_letter, is_name_byte, is_printable};
+ghost use Rattle.rapid_lexer.specs.Bytes.{is_blank, is_hex, upper};
 ghost use Rattle.rapid_lexer.specs.Scanning.{single_of};
 ghost use Rattle.rapid_lexer.specs.Strings.{is_code};
 
 use crate::mark::Mark;
+use rapid_num::digit_value;
 
 pub(crate) fn is_digit(byte: u8) -> bool
     ensures { result ≡ is_digit byte }
@@ -50,22 +52,6 @@ pub fn is_printable(byte: u8) -> bool
     ensures { result ≡ is_printable byte }
 {
     byte >= 32 && byte <= 126
-}
-
-/// What a byte counts as a hexadecimal digit, its letter in either case; 16 for a byte that is none.
-pub fn digit_value(byte: u8) -> u8
-    ensures same { result ≡ digit_value byte }
-    ensures small { result ≤ 16 }
-{
-    if byte >= 48 && byte <= 57 {
-        byte - 48
-    } else if byte >= 65 && byte <= 70 {
-        byte - 55
-    } else if byte >= 97 && byte <= 102 {
-        byte - 87
-    } else {
-        16
-    }
 }
 
 /// Whether a byte is a hexadecimal digit, its letter in either case.

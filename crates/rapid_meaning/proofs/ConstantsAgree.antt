@@ -13,7 +13,8 @@ use Rattle.rapid_operators.specs.declared.applied.Applied.{Applied}
 use Rattle.rapid_operators.specs.declared.applied.Applied.TheVariants as applies
 use Rattle.rapid_values.specs.Values.{made_of, part_of}
 use Rattle.constant_meaning.specs.Constants as constants
-use Rattle.constant_meaning.specs.Constants.{Elements, Outcomes, all, stops, constant_value, constant_values, array_of, element_number}
+use Rattle.rapid_operators.specs.Elements.{element_number}
+use Rattle.constant_meaning.specs.Constants.{Elements, Outcomes, all, stops, constant_value, constant_values, array_of}
 use Rattle.constant_meaning.specs.declared.outcome.Outcome.{Outcome}
 use Rattle.constant_meaning.specs.declared.outcome.Outcome.TheVariants as outcomes
 use Rattle.typed_trees.specs.Plain.{TypedExpr, TypedExprs, TypedRoutine, TypedSteps, TypedTree, Known, ErrorNumber, SignalValue, Stored, Group, Aggregate, Builtin, Invoke, Not, Signed, Chain, NoExprs, MoreExprs, NoSteps, MoreSteps, NotHeld, Held, PlaceOf}

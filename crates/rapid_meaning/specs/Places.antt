@@ -19,7 +19,7 @@ use Rattle.typed_trees.specs.declared.datum.Root.{Root}
 use Rattle.typed_trees.specs.declared.datum.Root.TheVariants as roots
 use Rattle.typed_trees.specs.declared.expr.TreeRoot.{TreeRoot}
 use Rattle.typed_trees.specs.declared.expr.TreeRoot.TheVariants as tree_roots
-use Rattle.constant_meaning.specs.Constants.{element_number}
+use Rattle.rapid_operators.specs.Elements.{element_number}
 use Rattle.rapid_meaning.specs.Data.{Data, Frame, datum_at, put_at}
 use Rattle.rapid_meaning.specs.Doings.{Doing, Gives, Misfit, Asks, Reads, Writes, Act, ◌>>=◌, ◌>>◌, done, fault, or_misfit, tells}
 use Rattle.rapid_meaning.specs.Layouts.{slot_start, local_start}

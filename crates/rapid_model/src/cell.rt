@@ -1,8 +1,8 @@
 ghost use Rattle.std.specs.Prelude.{◌≡◌};
 
 use crate::input_row::InputRow;
-use crate::name_text::NameText;
 use crate::pers_cell::PersCell;
+use crate::printable::NameText;
 use crate::sequence::Sequence;
 use crate::signal_row::SignalRow;
 use crate::task_row::TaskRow;

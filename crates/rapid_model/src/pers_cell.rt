@@ -1,4 +1,4 @@
-use crate::name_text::NameText;
+use crate::printable::NameText;
 use crate::sequence::Sequence;
 use crate::sort::Sort;
 use crate::value::Value;

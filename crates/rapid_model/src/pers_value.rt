@@ -1,4 +1,4 @@
-use crate::name_text::NameText;
+use crate::printable::NameText;
 use crate::value::Value;
 
 /// The first value that a script gives a global persistent, or one element of an array: its number from 1.

@@ -2,8 +2,8 @@ ghost use Rattle.std.specs.Prelude.{◌≡◌};
 
 use crate::fate::Fate;
 use crate::path::Path;
+use crate::printable::Text;
 use crate::tail::Tail;
-use crate::text::Text;
 use crate::value::Value;
 use crate::watched::Watched;
 use rapid_num::{Joints, Shape};

@@ -1,5 +1,5 @@
 use crate::file_name::FileName;
-use crate::name_text::NameText;
+use crate::printable::NameText;
 use crate::sequence::Sequence;
 use rapid_num::Joints;
 

@@ -1,4 +1,4 @@
-use crate::name_text::NameText;
+use crate::printable::NameText;
 
 /// A signal of the cell: its name, whether it is an output (kind "do") or an input (kind "di"), and its value at the
 /// start, which is 1 where `start` holds (RAPID Instructions, Functions and Data types: signaldi, signaldo).

@@ -1,4 +1,4 @@
-use crate::name_text::NameText;
+use crate::printable::NameText;
 use rapid_num::Joints;
 
 /// A task of the cell: its name, and where its arm starts, if it has one.

@@ -1,6 +1,6 @@
 ghost use Rattle.std.specs.Prelude.{◌≡◌};
 
-use crate::text::Text;
+use crate::printable::Text;
 use rapid_num::{Joints, Num};
 
 /// A value of RAPID (RAPID Overview, basic elements; RAPID Instructions, Functions and Data types).

@@ -1,4 +1,4 @@
-use crate::name_text::NameText;
+use crate::printable::NameText;
 use rapid_num::Shape;
 
 /// A zone of the cell: it watches the arm of the task of this number while the signal of this number has the value.

@@ -1,5 +1,5 @@
 -- One more digit of a number.
-use Rattle.std.proofs.Common.{◌≡◌, ℕ, ◌+◌, ◌*◌, ◌^◌, ◌<◌, ◌≤◌, List, ◌∷◌, length, get_or, drop, refl, None, arith, add-one, drop-cons}
+use Rattle.std.proofs.Common.{◌≡◌, ℕ, ◌+◌, ◌*◌, ◌^◌, ◌<◌, ◌≤◌, List, ◌∷◌, length, get_or, drop, refl, arith, add-one, drop-cons}
 use Rattle.std.proofs.Math.Nat.{one-le-pow, pow-suc, mul-le-mul_right, le-mul_of_pos_right}
 use Rattle.std.proofs.lemmas.Bool.Decides.{nat_tests}
 use Rattle.rapid_num.specs.Literal.{digit_value}
@@ -8,14 +8,8 @@ use Rattle.rapid_num.specs.Reading.{number_onto}
 pub number_onto_next : (base n x : ℕ) (xs : List ℕ) → digit_value x < base → number_onto base n (x ∷ xs) ≡ number_onto base (n * base + digit_value x) xs
 number_onto_next base n x xs h = grind (arith, nat_tests)
 
-pub number_onto_stops : (base n x : ℕ) (xs : List ℕ) → base ≤ digit_value x → number_onto base n (x ∷ xs) ≡ None
-number_onto_stops base n x xs h = grind (arith, nat_tests)
-
 pub number_onto_at : (base n i : ℕ) (ds : List ℕ) → i < length ds → digit_value (get_or ds i 0) < base → number_onto base n (drop i ds) ≡ number_onto base (n * base + digit_value (get_or ds i 0)) (drop (i + 1) ds)
 number_onto_at base n i ds l h = rw (add-one, drop-cons ds i 0 l) (number_onto_next base n (get_or ds i 0) _ h)
-
-pub number_onto_stops_at : (base n i : ℕ) (ds : List ℕ) → i < length ds → base ≤ digit_value (get_or ds i 0) → number_onto base n (drop i ds) ≡ None
-number_onto_stops_at base n i ds l h = rw (drop-cons ds i 0 l) (number_onto_stops base n (get_or ds i 0) _ h)
 
 pub room_next : (base n d j k limit : ℕ) → d < base → j ≡ k + 1 → (n + 1) * base ^ j ≤ limit → (n * base + d + 1) * base ^ k ≤ limit
 room_next base n d j k limit h e room =

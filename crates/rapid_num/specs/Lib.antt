@@ -1,6 +1,7 @@
 pub mod Range
 pub mod Reach
 pub mod Arithmetic
+pub mod Characters
 pub mod Literal
 pub mod NumText
 pub mod Reading

@@ -18,7 +18,7 @@ fraction_text n =
     else if n % 10 == 0 then 46 ∷ (48 + n / 100) ∷ (48 + n / 10 % 10) ∷ []
     else 46 ∷ three_digits n
 
--- the shortest decimal text of a num, as 5, 2.5 and -0.001
+-- the decimal text of a num without needless digits, as 5, 2.5 and -0.001
 abbrev pub shortest_text : ℤ → List ℕ
 shortest_text z = sign_text z ++ (decimal (nat_abs z / 1000) ++ fraction_text (nat_abs z % 1000))
 

@@ -3,8 +3,8 @@ ghost use Rattle.std.specs.Prelude.{◌≡◌, ◌+◌, ◌*◌, ◌^◌, ◌≤
 ghost use Rattle.rapid_num.specs.Literal.{digit_value};
 ghost use Rattle.rapid_num.specs.Reading.{number_of, number_onto};
 
-/// What a byte counts as a digit, and 16 for a byte that is none.
-fn digit_value(byte: u8) -> u8
+/// What a byte counts as a digit up to 15, its letter in either case; 16 for a byte that is none.
+pub fn digit_value(byte: u8) -> u8
     ensures value { result ≡ digit_value byte }
     ensures at_most { result ≤ 16 }
 {

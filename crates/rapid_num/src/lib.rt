@@ -12,6 +12,7 @@ mod scale;
 mod shape;
 mod write;
 
+pub use digits::digit_value;
 pub use joints::Joints;
 pub use literal::{BadLiteral, read_literal};
 pub use num::Num;

@@ -9,7 +9,7 @@ use crate::num::Num;
 use arrayvec::ArrayString;
 use itoa::Buffer;
 
-/// The shortest decimal text, as `5`, `2.5` and `-0.001`: at most 15 bytes.
+/// The decimal text without needless digits, as `5`, `2.5` and `-0.001`: at most 15 bytes.
 pub fn write_num(value: Num, text: &mut ArrayString<24>)
     requires empty { text.old.bytes ≡ [] }
     ensures text { text.new.bytes ≡ shortest_text value }

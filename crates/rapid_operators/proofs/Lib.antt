@@ -1,2 +1,3 @@
+pub mod Elements
 mod Examples
 pub mod Equalities

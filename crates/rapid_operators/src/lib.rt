@@ -11,7 +11,6 @@ mod texts;
 
 pub use applied::Applied;
 pub use equality::same_value;
-pub use index::whole_index;
+pub use index::{element_number, whole_index};
 pub use laws::{equal_values, equality_is_symmetric};
-pub use numbers::negated;
 pub use operation::apply;

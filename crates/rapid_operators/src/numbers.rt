@@ -1,5 +1,5 @@
 //! Operators on nums (RAPID Overview, expressions; RAPID Kernel, operators).
-ghost use Rattle.std.specs.Prelude.{◌≡◌, int_lt, neg_ℤ};
+ghost use Rattle.std.specs.Prelude.{◌≡◌, int_lt};
 ghost use Rattle.rapid_num.specs.Arithmetic.{quotient_of, remainder_of, whole_quotient_of};
 ghost use Rattle.rapid_operators.specs.Operators.{num_or_fault, of_nums, unless_zero};
 
@@ -7,13 +7,6 @@ use crate::applied::Applied;
 use rapid_model::Value;
 use rapid_num::Num;
 use raw_trees::Operator;
-
-/// The opposite of a num, which is in range too (RAPID Overview, expressions).
-pub fn negated(value: Num) -> Num
-    ensures { result ≡ neg_ℤ value }
-{
-    value.negated()
-}
 
 /// What an operator other than `=` and `<>` comes to at two nums.
 pub(crate) fn of_nums(operator: Operator, left: Num, right: Num) -> Applied

@@ -9,11 +9,11 @@ use Rattle.rapid_forms.specs.declared.sign.Sign.TheVariants as signs
 use Rattle.rapid_forms.specs.Forms.{Form, seq, either, optional, many, made, WholeEach}
 use Rattle.rapid_forms.proofs.Laws.{LL, one_ll, seq_ll, either_ll, optional_ll, many_ll, made_ll, nothing_ll, larger_ll, begun_one, begun_more, begun_many}
 use Rattle.rapid_forms.proofs.Up.{Up, up_refl, seq_up, either_up, optional_up, many_up, made_up, nothing_up}
-use Rattle.rapid_forms.proofs.Opens.{Opens, fewer_opens, one_opens, seq_opens, either_opens, optional_opens, many_opens, made_opens, deeper_opens}
+use Rattle.rapid_forms.proofs.Opens.{Opens, fewer_opens, one_opens, seq_opens, either_opens, optional_opens, made_opens, deeper_opens}
 use Rattle.rapid_forms.proofs.Same.{Same, same_refl, same_sym, same_trans, seq_same, either_same, made_same, either_swapped, either_bracketed, crossed, same_ll, left, right, shared, both_shared, made_made, made_itself, made_behind, fronted}
 use Rattle.expr_parser.specs.Grammar.{Inside, inside, mark, name, parts_of, place, expr_of, place_tree, behind, none_or, first_and_more}
 use Rattle.expr_parser.specs.Reads.{expr_signs, arg_signs}
-use Rattle.expr_parser.proofs.Ahead.{InsideLL, inside_ll, name_ll, parts_ll, place_ll, expr_of_ll, exprs_ll, InsideUp, inside_up, parts_up, place_up, expr_of_up, exprs_up, name_opens}
+use Rattle.expr_parser.proofs.Ahead.{InsideLL, inside_ll, name_ll, parts_ll, place_ll, expr_of_ll, exprs_ll, InsideUp, inside_up, place_up, expr_of_up, exprs_up, name_opens}
 use Rattle.stmt_parser.specs.Grammar.{assign_tree, call_tree, goto_tree, return_tree, exit_tree, raise_tree, retry_tree, try_next_tree, connect_tree, label_tree, arm_tree, if_tree, if_one_tree, simple, arm, branches, loop_for, loop_while, case, choice, stmt_of, list_of, stmts, list, stmt, items}
 use Rattle.stmt_parser.specs.Reads.{worded_signs, stmt_signs, assigned_signs, Assigned, Called, assigned_tree, named_simple_tree, named_tree, Branched, branched_tree, tested_tree}
 
@@ -209,11 +209,6 @@ branched_ll l ls =
     (seq_ll (optional_ll (made_ll _ (seq_ll (one_ll _) ls refl))) (one_ll _) refl) refl) refl)
     refl refl
 
-pub branches_ll : {i : Inside} {list : Form (List PlainStmt)} → InsideLL i → LL true stmt_signs stmt_signs list
-    → LL false (signs.If ∷ []) [] (branches i list)
-branches_ll l ls =
-    same_ll (same_sym (branched_same l ls)) (larger_ll (made_ll _ (seq_ll (one_ll _) (seq_ll (expr_of_ll l) (branched_ll l ls) refl) refl)) refl refl)
-
 pub tested_ll : {i : Inside} {list : Form (List PlainStmt)} → InsideLL i → LL true stmt_signs stmt_signs list → LL false (signs.If ∷ []) [] (tested i list)
 unfolding tested
 tested_ll l ls =
@@ -291,22 +286,6 @@ items_ll n = larger_ll (many_ll (stmt_ll n) refl) refl refl
 
 -- from one level to those above
 
-pub assigned_up : {i j : Inside} → InsideUp i j → Up (assigned i) (assigned j)
-unfolding assigned
-assigned_up p = seq_up (parts_up p) (seq_up (up_refl _) (seq_up (expr_of_up p) (up_refl _)))
-
-pub behind_name_up : {i j : Inside} → InsideUp i j → Up (behind_name i) (behind_name j)
-unfolding behind_name called
-behind_name_up p = either_up (made_up _ (assigned_up p)) (made_up _ (seq_up (made_up _ (optional_up p.args)) (up_refl _)))
-
-pub named_simple_up : {i j : Inside} → InsideUp i j → Up (named_simple i) (named_simple j)
-unfolding named_simple
-named_simple_up p = made_up _ (seq_up (up_refl _) (behind_name_up p))
-
-pub named_up : {i j : Inside} → InsideUp i j → Up (named i) (named j)
-unfolding named
-named_up p = made_up _ (seq_up (up_refl _) (either_up (up_refl _) (made_up _ (behind_name_up p))))
-
 pub simple_up : {i j : Inside} → InsideUp i j → Up (simple i) (simple j)
 unfolding simple
 simple_up p =
@@ -330,16 +309,6 @@ branches_up p q =
     (seq_up (up_refl _)
     (seq_up (arm_up p q)
     (seq_up (many_up (made_up _ (seq_up (up_refl _) (arm_up p q)))) (seq_up (optional_up (made_up _ (seq_up (up_refl _) q))) (up_refl _)))))
-
-pub branched_up : {i j : Inside} {list list' : Form (List PlainStmt)} → InsideUp i j → Up list list' → Up (branched i list) (branched j list')
-unfolding branched
-branched_up p q =
-    seq_up (seq_up (up_refl _) q)
-    (seq_up (many_up (made_up _ (seq_up (up_refl _) (arm_up p q)))) (seq_up (optional_up (made_up _ (seq_up (up_refl _) q))) (up_refl _)))
-
-pub tested_up : {i j : Inside} {list list' : Form (List PlainStmt)} → InsideUp i j → Up list list' → Up (tested i list) (tested j list')
-unfolding tested
-tested_up p q = made_up _ (seq_up (up_refl _) (seq_up (expr_of_up p) (either_up (made_up _ (branched_up p q)) (made_up _ (simple_up p)))))
 
 pub loop_for_up : {i j : Inside} {list list' : Form (List PlainStmt)} → InsideUp i j → Up list list' → Up (loop_for i list) (loop_for j list')
 unfolding loop_for
@@ -433,7 +402,3 @@ stmts_opens = deeper_opens stmts (made_opens _ (seq_opens _ stmt_opens))
 pub list_opens : Opens stmt_signs list
 unfolding list list_of
 list_opens = made_opens _ (optional_opens stmts_opens)
-
-pub items_opens : Opens stmt_signs items
-unfolding items
-items_opens = many_opens stmt_opens

@@ -5,7 +5,7 @@ use Rattle.std.proofs.lemmas.Bool.Decides.{nat_tests}
 use Rattle.std.specs.Option.{option_map}
 use Rattle.rapid_num.specs.Literal.{digit_value}
 use Rattle.rapid_model.specs.Printable.{takes}
-use Rattle.rapid_lexer.specs.Bytes.{is_printable}
+use Rattle.rapid_num.specs.Characters.{is_printable}
 use Rattle.rapid_lexer.specs.Strings.{is_code}
 use Rattle.string_texts.specs.Spelled.{limited, text_behind, text_in, with_character}
 use Rattle.string_texts.specs.Reading.{continued_by, first_of}

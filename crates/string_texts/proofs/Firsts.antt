@@ -2,7 +2,8 @@
 use Rattle.std.proofs.Common.{◌≡◌, ℕ, ◌+◌, ◌*◌, Bool, true, false, ◌&&◌, cond, eqb, List, [], ◌∷◌, ◌++◌, length, Option, Some, None, refl, sym, ap, subst, inl, inr}
 use Rattle.std.proofs.lemmas.Bool.{eqb-true, and_parts, or_cases}
 use Rattle.rapid_num.specs.Literal.{digit_value}
-use Rattle.rapid_lexer.specs.Bytes.{is_printable, is_hex}
+use Rattle.rapid_num.specs.Characters.{is_printable}
+use Rattle.rapid_lexer.specs.Bytes.{is_hex}
 use Rattle.rapid_lexer.specs.Strings.{is_code, is_character}
 use Rattle.rapid_lexer.proofs.Characters.{plain_parts, plain_character, code_parts}
 use Rattle.string_texts.specs.Spelled.{character_of}

@@ -3,7 +3,7 @@ use Rattle.std.specs.Prelude.{◌≡◌, ℕ, ◌+◌, ◌-◌, ◌*◌, ◌==�
 use Rattle.std.specs.List.{concat}
 use Rattle.std.specs.Option.{option_map}
 use Rattle.rapid_num.specs.Literal.{digit_value}
-use Rattle.rapid_lexer.specs.Bytes.{is_printable}
+use Rattle.rapid_num.specs.Characters.{is_printable}
 use Rattle.rapid_lexer.specs.Strings.{is_code, AreCharacters}
 use Rattle.string_texts.specs.Spelled.{character_of, limited}
 

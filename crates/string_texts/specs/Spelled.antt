@@ -2,7 +2,7 @@
 use Rattle.std.specs.Prelude.{◌≡◌, ℕ, ◌+◌, ◌*◌, ◌==◌, nat_le, if◌then◌else◌, List, [], ◌∷◌, length, map, Option, None, Some}
 use Rattle.std.specs.Option.{option_map}
 use Rattle.rapid_num.specs.Literal.{digit_value}
-use Rattle.rapid_lexer.specs.Bytes.{is_printable}
+use Rattle.rapid_num.specs.Characters.{is_printable}
 use Rattle.rapid_lexer.specs.Strings.{IsString, is_code}
 
 -- the character that its bytes stand for: itself, a doubled quote or backslash, or a code of two hexadecimal digits

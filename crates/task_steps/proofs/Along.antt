@@ -25,12 +25,6 @@ pub runs_along-count : (code : CodeData) (m n : Doing Conf) (d e : Data) (a : Al
 unfolding runs_along
 runs_along-count code m n d e a run = refl
 
-pub runs_back : (code : CodeData) (m n : Doing Conf) (d e : Data) → Alike code m d n e → Runs code n e → Runs code m d
-runs_back code m n d e a run = (run.0, subst (λ (o : Outcome Conf). Comes code run.0 o) (sym (a.same [])) run.1)
-
-pub runs_is : (code : CodeData) (m n : Doing Conf) (d : Data) → m ≡ n → Runs code m d → Runs code n d
-runs_is code m n d e run = subst (λ (x : Doing Conf). Runs code x d) e run
-
 pub reached_along : (code : CodeData) (m n : Doing Conf) (d e : Data) (answers : List Answer) → Alike code m d n e → Reached code m d answers → Reached code n e answers
 reached_along code m n d e answers a here = (
   here.0,

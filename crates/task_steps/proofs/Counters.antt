@@ -42,10 +42,6 @@ pub after_gives : {A B : Type 0} (v : A) (f : A → Doing B) → (Gives v >>= f)
 unfolding after
 after_gives v f = refl
 
-pub after_misfit : {A B : Type 0} (f : A → Doing B) → (Misfit >>= f) ≡ Misfit
-unfolding after
-after_misfit f = refl
-
 -- all of a datum
 whole_of : (x : Datum) → part_in parts.Whole x ≡ Some x
 whole_of (datums.Plain v) = refl
@@ -186,12 +182,6 @@ pub step_all : (code : CodeData) (h : Here) (d : Data) (at to : ℕ) (o p : Opti
 step_all code h d at to o p v w first is second its =
     alike_then code _ _ _ d d d (counted_some code d at o v (λ variable. counter_at (at + 2) >>= λ step. stepped h at to (sum_of variable step)) first is)
     (counted_some code d (at + 2) p w (λ step. stepped h at to (sum_of v step)) second its)
-
--- its Turn alone is taken as passed
-pub past_other : (h : Here) (o : Option Op) → ((k to : ℕ) → o ≡ Some (ops.Turn k to) → ⊥) → past_turn h o ≡ Misfit
-past_other h None other = refl
-past_other h (Some (ops.Turn k to)) other = absurd (other k to refl)
-past_other h (Some op) other = refl
 
 -- the variable is written
 abbrev writing : ℤ → Doing Conf → Option Lvalue → Doing Conf

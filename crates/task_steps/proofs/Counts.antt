@@ -51,12 +51,3 @@ put_count frames k at new = by (frame_at frames k)
     by : (o : Option Frame) → length (put_in_frame frames k at new o) ≡ length frames
     by None = refl
     by (Some f) = count_with frames k (with_datum f at new)
-
--- another number that a Look told
-pub seen_values : (frames : List Frame) (seen : ℕ) → values_in (with_seen seen frames) ≡ values_in frames
-seen_values [] seen = refl
-seen_values (frame ∷ below) seen = refl
-
-pub seen_count : (frames : List Frame) (seen : ℕ) → length (with_seen seen frames) ≡ length frames
-seen_count [] seen = refl
-seen_count (frame ∷ below) seen = refl

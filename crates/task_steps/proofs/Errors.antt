@@ -47,19 +47,6 @@ pub out_none : (code : CodeData) (saved : List Saved) (d : Data) (error : ℕ) �
 unfolding performed after raised_to
 out_none code saved d error is = rw is (record { same = λ left. refl })
 
--- a routine that is in its ERROR part, or has none, lets it pass
-pub passes_in : (code : CodeData) (own : Own) (frame : Running) (saved : List Saved) (error : ℕ) (failed : Failed) → frame.failed ≡ Some failed
-    → raised code own frame saved error ≡ raised_out code saved error
-passes_in code own frame saved error failed is = by (handler_of code frame.routine) (ap (λ (f : Option Failed). f) is)
-  where
-    by : (handler : Option ℕ) → frame.failed ≡ Some failed → part_or handler own frame saved error (raised_out code saved error) ≡ raised_out code saved error
-    by None there = refl
-    by (Some h) there = rw there refl
-
-pub passes_without : (code : CodeData) (own : Own) (frame : Running) (saved : List Saved) (error : ℕ) → handler_of code frame.routine ≡ None
-    → raised code own frame saved error ≡ raised_out code saved error
-passes_without code own frame saved error none = rw none refl
-
 -- the ERROR part begins
 pub part_begins : (code : CodeData) (own : Own) (frame : Running) (saved : List Saved) (error handler : ℕ) (d : Data) → frame.failed ≡ None → handler_of code frame.routine ≡ Some handler
     → Alike code (raised code own frame saved error) d (Gives (conf handler [] (in_part frame own error) saved)) (record d { errno = error })

@@ -27,10 +27,6 @@ beside_it runs (start ∷ starts) (other ∷ rows) (suc k) row same there =
     let it = beside_it runs starts rows k row more there in
     (omega (arith, it.0), it.1)
 
--- the start of a routine that is there
-pub start_within : (code : CodeData) (runs : List FirstRun) (starts : List RunStart) (k : ℕ) (row : RoutineRow) → IsLoaded code runs starts → slice_get code.routines k ≡ Some row → k < length starts
-start_within code runs starts k row loaded there = (beside_it runs starts code.routines k row loaded.places there).0
-
 pub start_place : (code : CodeData) (runs : List FirstRun) (starts : List RunStart) (k : ℕ) (row : RoutineRow) (d : RunStart) → IsLoaded code runs starts → slice_get code.routines k ≡ Some row
     → place_of runs (get_or starts k d) ≡ row.first
 start_place code runs starts k row d loaded there = (beside_it runs starts code.routines k row loaded.places there).1 d

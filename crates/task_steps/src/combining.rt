@@ -13,7 +13,7 @@ ghost use Rattle.task_steps.specs.Doing.{came};
 use crate::done::Done;
 use crate::shown::{num_of, truth_of};
 use rapid_model::{Fate, Fault, Value};
-use rapid_operators::{Applied, apply, negated};
+use rapid_operators::{Applied, apply};
 use raw_trees::Operator;
 
 /// An operator with its two operands.
@@ -33,7 +33,7 @@ pub(crate) fn minus(value: &Value) -> Option<Done>
     ensures { (h : Here) → pushes h h.conf.stack Plain (with_sign true value.now) ≡ came h result }
 {
     let number = num_of(value)?;
-    Some(Done::value(Value::Num(negated(number))))
+    Some(Done::value(Value::Num(number.negated())))
 }
 
 /// NOT.

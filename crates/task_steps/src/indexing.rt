@@ -1,9 +1,8 @@
 //! Elements of arrays (RAPID Kernel, data references).
 #![tactic(auto, unfolding(rapid_meaning::specs::Doings::after))]
 
-ghost use Rattle.std.specs.Prelude.{◌≡◌, ◌+◌, ◌≤◌, IfSome, Some, slice_get};
+ghost use Rattle.std.specs.Prelude.{◌≡◌, ◌+◌, ◌≤◌, Some, slice_get};
 ghost use Rattle.std.specs.Option.{option_and_then, option_map};
-ghost use Rattle.constant_meaning.specs.Constants.{element_number};
 ghost use Rattle.typed_trees.specs.declared.datum.Datum.TheVariants.{Place};
 ghost use Rattle.rapid_meaning.specs.Data.{frame_at};
 ghost use Rattle.rapid_meaning.specs.Places.{at_element, element_of, element_root, indexed, there_in};
@@ -17,21 +16,9 @@ use crate::done::Done;
 use crate::pushing::place_pushed;
 use crate::shown::num_of;
 use crate::task::Task;
-use constant_meaning::element_number;
 use rapid_model::{Fate, Fault, Value};
-use rapid_num::Num;
+use rapid_operators::whole_index;
 use typed_trees::{Lvalue, Root};
-
-/// The element, counted from 1, that a num names in an array of so many.
-fn element_named(len: u16, index: Num) -> Option<u16>
-    ensures named { result ≡ element_number len index }
-    ensures first { IfSome result (λ number. 1 ≤ number) }
-{
-    match element_number(len as usize, index) {
-        Some(number) => Some(number as u16),
-        None => None,
-    }
-}
 
 impl Task {
     /// The place of a module datum so far behind another, if there is one.
@@ -104,7 +91,7 @@ impl Task {
         ensures { (code : CodeData) → Turns code (pushes (here_of code self.now.conf) self.now.conf.stack Place (indexed (Some len) place index.now)) self.now.data' result self.now }
     {
         let index = num_of(index)?;
-        match element_named(len, index) {
+        match whole_index(index, len) {
             Some(number) => self.element_pushed(place, number),
             None => Some(Done::End(Fate::Fault(Fault::IndexRange))),
         }

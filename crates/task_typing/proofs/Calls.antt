@@ -57,9 +57,6 @@ left_by c g name args cells n e is = (
   record { slots = is.slots; frames_are = frames_below c.tree cells g.frames e.frames is.frames_are; in_trap = is.in_trap },
 )
 
-never_func : {A : Type 0} (kind : RoutineKind) → kind ≡ kinds.Func → kind ≡ kinds.Proc → A
-never_func kind e f = let same : kinds.Func ≡ kinds.Proc = sym e ∙ f in absurd cc
-
 -- how a routine ends
 result_goes : (c : Setting) (g : Ghost) (name : ℕ) (args : List Datum) (routine : TypedRoutine) (kind : RoutineKind) (flow : Flow) (e : Data)
     → ((x : Flow) → IsResultBy kind routine.result x → IsEnd c g (Call name args) x) → IsFlow (outside routine kind false) flow → IsState c.tree g.trapped (local_cells routine ∷ g.frames) e

@@ -38,11 +38,6 @@ extax_part (parts.Axis n) sort e =
     (parts.Axis n, refl, num_here (nat_lt n 12) sort (and_parts (nat_le 6 n) (nat_lt n 12) there.0).1 there.1)
 extax_part part sort e = absurd cc
 
--- a num or a text has no part but the whole
-end_part : (outer part : PartName) (whole mid sort : Sort) → part_sort mid parts.Whole ≡ part_sort mid part → part_sort whole outer ≡ Some mid → part_sort mid part ≡ Some sort
-    → part_sort whole outer ≡ Some sort
-end_part outer part whole mid sort same e f = e ∙ same ∙ f
-
 num_whole : (part : PartName) (sort : Sort) → part_sort sorts.Num part ≡ Some sort → (part ≡ parts.Whole) × (sort ≡ sorts.Num)
 num_whole parts.Whole sort e = (refl, cc)
 num_whole part sort e = absurd cc

@@ -1,7 +1,7 @@
 -- Places of data, from their typed forms.
-use Rattle.std.proofs.Common.{◌≡◌, refl, sym, ap, ◌∙◌, subst, ℕ, ◌+◌, ◌-◌, ◌%◌, ◌/◌, ◌<◌, ◌≤◌, ◌==◌, Bool, true, false, ◌&&◌, nat_le, ℤ, pos, negsuc, List, [], ◌∷◌, length, Option, Some, None, slice_get, if◌then◌else◌, IsTrue, arith}
+use Rattle.std.proofs.Common.{◌≡◌, refl, sym, ap, ◌∙◌, subst, ℕ, ◌+◌, ◌-◌, ◌<◌, ◌≤◌, Bool, ℤ, List, [], ◌∷◌, length, Option, Some, None, slice_get, IsTrue, arith}
 use Rattle.std.specs.Option.{option_and_then, option_map}
-use Rattle.std.proofs.lemmas.Bool.{leb-true, le-leb, and_parts}
+use Rattle.std.proofs.lemmas.Bool.{le-leb}
 use Rattle.std.proofs.lemmas.List.{length-replicate}
 use Rattle.rapid_model.specs.Sorts.{width}
 use Rattle.rapid_model.specs.Paths.{has_element, has_sort, part_sort}
@@ -11,7 +11,8 @@ use Rattle.rapid_model.specs.declared.sort.Sort.{Sort}
 use Rattle.rapid_model.specs.declared.sort.Sort.TheVariants as sorts
 use Rattle.rapid_model.specs.declared.value.Value.{Value}
 use Rattle.rapid_model.specs.declared.value.Value.TheVariants as values
-use Rattle.constant_meaning.specs.Constants.{element_number}
+use Rattle.rapid_operators.specs.Elements.{element_number}
+use Rattle.rapid_operators.proofs.Elements.{element_within}
 use Rattle.typed_trees.specs.Plain.{TypedPers, TypedRoutine, TypedSlot, TypedTree}
 use Rattle.typed_trees.specs.declared.datum.Datum.{Datum}
 use Rattle.typed_trees.specs.declared.datum.Datum.TheVariants as datums
@@ -195,18 +196,6 @@ part_safe s q whole sort part is e =
     safe_or s (λ r. IsThere s r sort) (option_map (λ x. record q { part = x }) (part_within q.part part)) (record q { part = inner.0 })
     (ap (option_map (λ x. record q { part = x })) inner.1) (is.0, is.1, inner.2)
 
--- an index that is found lies in the array
-found_within : (t : Bool) (m k len : ℕ) → (t ≡ true → (1 ≤ m) × (m ≤ len)) → (if t then Some m else None) ≡ Some k → (1 ≤ k) × (k ≤ len)
-found_within true m k len is e = let same : m ≡ k = cc in subst (λ (x : ℕ). (1 ≤ x) × (x ≤ len)) same (is refl)
-found_within false m k len is e = absurd cc
-
-number_within : (len : ℕ) (n : ℤ) (k : ℕ) → element_number len n ≡ Some k → (1 ≤ k) × (k ≤ len)
-number_within len (pos n) k e =
-    found_within (n % 1_000 == 0 && nat_le 1 (n / 1_000) && nat_le (n / 1_000) len) (n / 1_000) k len
-    (λ t. let both : ((n % 1_000 == 0 && nat_le 1 (n / 1_000)) ≡ true) × (nat_le (n / 1_000) len ≡ true) = and_parts (n % 1_000 == 0 && nat_le 1 (n / 1_000)) (nat_le (n / 1_000) len) t in
-    (leb-true 1 (n / 1_000) (and_parts (n % 1_000 == 0) (nat_le 1 (n / 1_000)) both.0).1, leb-true (n / 1_000) len both.1)) e
-number_within len (negsuc n) k e = absurd cc
-
 -- a place of the scene is among its data
 there_safe : (s : Scene) (q : Lvalue) (root : Root) (whole sort : Sort) → IsRootOf s.c.tree s.frames root whole → IsThere s q sort
     → Safe s (λ r. IsThere s r sort) (Reads (λ d. or_misfit (there_in d q root)))
@@ -239,4 +228,4 @@ pub indexed_safe : (s : Scene) (q : Lvalue) (sort : Sort) (len : ℕ) (o : Optio
 indexed_safe s q sort len o v e rooted h =
     subst (λ (x : Option ℕ). Safe s (λ r. IsThere s r sort) (indexed x q v)) (sym e)
     (safe_then s Anything (λ r. IsThere s r sort) (num_in v) (λ n. element_or_fault q (element_number len n)) (num_safe s v h)
-    (λ n _. element_safe s q sort len (element_number len n) rooted (number_within len n)))
+    (λ n _. element_safe s q sort len (element_number len n) rooted (element_within len n)))

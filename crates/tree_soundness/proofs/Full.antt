@@ -26,7 +26,8 @@ use Rattle.rapid_values.specs.Values.{made_of, num_at, nums_of, part_of, so_many
 use Rattle.typed_trees.specs.Plain.{TypedExpr, TypedExprs, TypedSteps, Known, ErrorNumber, SignalValue, Stored, Group, Aggregate, Builtin, Invoke, Not, Signed, Chain, NoExprs, MoreExprs, NoSteps, MoreSteps, NotHeld, Held, PlaceOf}
 use Rattle.typed_trees.specs.declared.expr.TreeRoot.{TreeRoot}
 use Rattle.typed_trees.specs.declared.expr.TreeRoot.TheVariants as roots
-use Rattle.constant_meaning.specs.Constants.{Elements, Outcomes, all, along, and_more, applied, array_of, between, constant_value, constant_values, decides, element_at, element_number, element_part, flat, made, on_right, opposite, stops, value_or_not_known, with_sign}
+use Rattle.rapid_operators.specs.Elements.{element_number}
+use Rattle.constant_meaning.specs.Constants.{Elements, Outcomes, all, along, and_more, applied, array_of, between, constant_value, constant_values, decides, element_at, element_part, flat, made, on_right, opposite, stops, value_or_not_known, with_sign}
 use Rattle.constant_meaning.specs.declared.outcome.Outcome.{Outcome}
 use Rattle.constant_meaning.specs.declared.outcome.Outcome.TheVariants as outcomes
 use Rattle.task_typing.specs.Expressions.{AreComponents, IsExpr}

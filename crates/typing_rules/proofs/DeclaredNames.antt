@@ -9,7 +9,7 @@ use Rattle.data_scopes.specs.declared.meant.Meant.TheVariants as meants
 use Rattle.rule_checks.specs.declared.spot.Spot.{Spot}
 use Rattle.rule_checks.specs.Checks.{must}
 use Rattle.rule_checks.specs.TypeChecks.{at_spot}
-use Rattle.data_scopes.specs.Declarations.{spot_of, type_of, sort_meant, sort_at, is_own, item_scope, item_name_rules, datum_sort, with_const, takes_sort, param_rules, params_rules, locals_rules, result_rules, item_rules, items_rules, module_rules, modules_rules}
+use Rattle.data_scopes.specs.Declarations.{spot_of, type_of, sort_meant, sort_at, is_own, item_scope, item_name_rules, datum_sort, takes_sort, param_rules, params_rules, locals_rules, result_rules, item_rules, items_rules, module_rules, modules_rules}
 use Rattle.data_scopes.specs.Numbers.{Tally, is_const, is_pers, datum_meant, after_item, after_items, param_meant, local_meant}
 use Rattle.data_scopes.specs.Scopes.{Tables, list_at, meant_in, meant_outside, meaning}
 use Rattle.rapid_model.specs.Sorts.{has_values}
@@ -62,18 +62,17 @@ params_law tables number routine place [] t = (λ e. tt, λ u. refl)
 params_law tables number routine place (p ∷ ps) t =
     where_they_hold (param_rules tables number routine place p) _ t (param_law tables number routine place p) (params_law tables number routine (place + 1) ps t)
 
-locals_law : (tables : Tables) (number routine place consts : ℕ) (ds : List PlainDatum) (before past : List Sort)
-    → (locals_rules tables number routine place consts ds before ≡ Ok past) ↔ AreLocals tables number routine place consts ds before past
-locals_law tables number routine place consts [] before past = done before past
-locals_law tables number routine place consts (d ∷ ds) before past =
+locals_law : (tables : Tables) (number routine place consts : ℕ) (ds : List PlainDatum) (t : Unit {0})
+    → (locals_rules tables number routine place consts ds ≡ Ok t) ↔ AreLocals tables number routine place consts ds
+locals_law tables number routine place consts [] t = (λ e. tt, λ u. refl)
+locals_law tables number routine place consts (d ∷ ds) t =
     let spot : Spot = spot_of number (Some routine) d.name in
     let is_first : Bool = is_own (local_meant place consts d) (meant_in d.name.text (list_at tables.inner routine)) in
     in_words
-    (regrouped (datum_sort tables number (Some routine) d) _ _ past (
-    then (datum_sort tables number (Some routine) d) _ past (datum_sort_law tables number (Some routine) d) (λ sort.
-    regrouped (must is_first (at_spot spot NameTwice)) _ _ past (
-    where_they_hold (must is_first (at_spot spot NameTwice)) _ past (it_holds is_first (at_spot spot NameTwice)) (
-    locals_law tables number routine (place + 1) _ ds (with_const before d sort) past)))))
+    (regrouped (datum_sort tables number (Some routine) d) _ _ t (
+    then (datum_sort tables number (Some routine) d) _ t (datum_sort_law tables number (Some routine) d) (λ sort.
+    where_they_hold (must is_first (at_spot spot NameTwice)) _ t (it_holds is_first (at_spot spot NameTwice)) (
+    locals_law tables number routine (place + 1) _ ds t))))
     (λ (sort, is, (first, are)). (sort, is, first, are))
     (λ (sort, is, first, are). (sort, is, (first, are)))
 
@@ -83,38 +82,32 @@ result_law tables number routine (Some name) t =
     let spot : Spot = spot_of number (Some routine) name in
     then (sort_at tables spot name) _ t (sort_law tables spot name) (λ sort. it_holds (has_values sort) (at_spot spot TypeClash) t)
 
-item_law : (tables : Tables) (number : ℕ) (c : Tally) (i : PlainItem) (before past : List Sort) → (item_rules tables number c i before ≡ Ok past) ↔ IsItem tables number c i before past
-item_law tables number c (Datum local task d at) before past =
-    in_words
-    (then (datum_sort tables number None d) _ past (datum_sort_law tables number None d) (λ sort.
-    where_they_hold (item_name_rules tables (spot_of number None d.name) local (datum_meant c d) d.name) _ past (item_name_law tables number local (datum_meant c d) d.name) (
-    done (with_const before d sort) past)))
-    (λ (sort, is, (named, same)). (sort, is, named, same))
-    (λ (sort, is, named, same). (sort, is, (named, same)))
-item_law tables number c (Routine r) before past =
+item_law : (tables : Tables) (number : ℕ) (c : Tally) (i : PlainItem) (t : Unit {0}) → (item_rules tables number c i ≡ Ok t) ↔ IsItem tables number c i
+item_law tables number c (Datum local task d at) t =
+    then (datum_sort tables number None d) _ t (datum_sort_law tables number None d) (λ sort. item_name_law tables number local (datum_meant c d) d.name t)
+item_law tables number c (Routine r) t =
     let own : Meant = meants.Routine c.routines in
     in_words
-    (where_they_hold (result_rules tables number c.routines r.result) _ past (result_law tables number c.routines r.result) (
-    where_they_hold (item_name_rules tables (spot_of number None r.name) r.local own r.name) _ past (item_name_law tables number r.local own r.name) (
-    where_they_hold (params_rules tables number c.routines 0 r.params) _ past (params_law tables number c.routines 0 r.params) (
-    locals_law tables number c.routines (length r.params) c.consts r.locals before past))))
+    (where_they_hold (result_rules tables number c.routines r.result) _ t (result_law tables number c.routines r.result) (
+    where_they_hold (item_name_rules tables (spot_of number None r.name) r.local own r.name) _ t (item_name_law tables number r.local own r.name) (
+    where_they_hold (params_rules tables number c.routines 0 r.params) _ t (params_law tables number c.routines 0 r.params) (
+    locals_law tables number c.routines (length r.params) c.consts r.locals t))))
     (λ (result, (named, (params, locals))). (result, named, params, locals))
     (λ (result, named, params, locals). (result, (named, (params, locals))))
 
-items_law : (tables : Tables) (number : ℕ) (c : Tally) (is : List PlainItem) (before past : List Sort) → (items_rules tables number c is before ≡ Ok past) ↔ AreItems tables number c is before past
-items_law tables number c [] before past = done before past
-items_law tables number c (i ∷ is) before past =
-    then (item_rules tables number c i before) _ past (item_law tables number c i before) (λ middle. items_law tables number (after_item c i) is middle past)
+items_law : (tables : Tables) (number : ℕ) (c : Tally) (is : List PlainItem) (t : Unit {0}) → (items_rules tables number c is ≡ Ok t) ↔ AreItems tables number c is
+items_law tables number c [] t = (λ e. tt, λ u. refl)
+items_law tables number c (i ∷ is) t = where_they_hold (item_rules tables number c i) _ t (item_law tables number c i) (items_law tables number (after_item c i) is t)
 
-pub modules_law : (tables : Tables) (number : ℕ) (names : List (List ℕ)) (c : Tally) (ms : List PlainModule) (before past : List Sort)
-    → (modules_rules tables number names c ms before ≡ Ok past) ↔ AreModules tables number names c ms before past
-modules_law tables number names c [] before past = done before past
-modules_law tables number names c (m ∷ ms) before past =
+pub modules_law : (tables : Tables) (number : ℕ) (names : List (List ℕ)) (c : Tally) (ms : List PlainModule) (t : Unit {0})
+    → (modules_rules tables number names c ms ≡ Ok t) ↔ AreModules tables number names c ms
+modules_law tables number names c [] t = (λ e. tt, λ u. refl)
+modules_law tables number names c (m ∷ ms) t =
     let is_twice : Bool = is_among m.name.text names in
     let spot : Spot = spot_of number None m.name in
     in_words
-    (then (module_rules tables number names c m before) _ past (λ middle.
-    where_they_hold (must (not is_twice) (at_spot spot NameTwice)) _ middle (it_fails is_twice (at_spot spot NameTwice)) (items_law tables number c m.items before middle)) (λ middle.
-    modules_law tables (number + 1) (names ++ m.name.text ∷ []) (after_items c m.items) ms middle past))
-    (λ (middle, (is_first, are), more). (middle, is_first, are, more))
-    (λ (middle, is_first, are, more). (middle, (is_first, are), more))
+    (where_they_hold (module_rules tables number names c m) _ t (λ u.
+    where_they_hold (must (not is_twice) (at_spot spot NameTwice)) _ u (it_fails is_twice (at_spot spot NameTwice)) (items_law tables number c m.items u))
+    (modules_law tables (number + 1) (names ++ m.name.text ∷ []) (after_items c m.items) ms t))
+    (λ ((is_first, are), more). (is_first, are, more))
+    (λ (is_first, are, more). ((is_first, are), more))

@@ -13,7 +13,7 @@ use Rattle.data_scopes.specs.Rows.{datum_row, param_rows, local_rows, result_row
 use Rattle.data_scopes.specs.Scopes.{Tables, Names, RoutineRow, Rows}
 use Rattle.typing_rules.proofs.Steps.{in_words, done, then}
 use Rattle.typing_rules.specs.DeclaredNames.{IsDatumRow, AreParamRows, AreLocalRows, IsResultRow, IsRoutineRow, IsItemRow, AreItemRows, AreModuleRows, AreNames}
-use Rattle.typing_rules.proofs.TaskSteps.{regrouped}
+use Rattle.typing_rules.proofs.TaskSteps.{regrouped, where_they_hold}
 use Rattle.typing_rules.proofs.DeclaredNames.{sort_law, modules_law}
 
 datum_row_law : (tables : Tables) (number : ℕ) (routine : Option ℕ) (d : PlainDatum) (row : DatumRow) → (datum_row tables number routine d ≡ Ok row) ↔ IsDatumRow tables number routine d row
@@ -71,7 +71,7 @@ pub names_law : (modules : List PlainModule) (signals : List SignalRow) (arm : B
 names_law modules signals arm names =
     let tables : Tables = tables_of modules signals in
     in_words
-    (then (modules_rules tables 0 [] no_counts modules []) _ names (modules_law tables 0 [] no_counts modules []) (λ sorts.
+    (where_they_hold (modules_rules tables 0 [] no_counts modules) _ names (modules_law tables 0 [] no_counts modules) (
     then (modules_rows tables 0 modules no_rows) _ names (modules_rows_law tables 0 modules no_rows) (λ rows. done _ names)))
-    (λ (sorts, right, (rows, are_rows, are)). record { sorts = sorts; rows = rows; right = right; are_rows = are_rows; are_names = are })
-    (λ h. (h.sorts, h.right, (h.rows, h.are_rows, h.are_names)))
+    (λ (right, (rows, are_rows, are)). record { rows = rows; right = right; are_rows = are_rows; are_names = are })
+    (λ h. (h.right, (h.rows, h.are_rows, h.are_names)))

@@ -9,7 +9,8 @@ use Rattle.rapid_model.specs.declared.value.Value.{Value}
 use Rattle.rapid_model.specs.declared.value.Value.TheVariants as values
 use Rattle.typed_trees.specs.Plain
 use Rattle.typed_trees.specs.Plain.{TypedExprs}
-use Rattle.constant_meaning.specs.Constants.{Elements, Outcomes, all, stops, and_more, constant_value, constant_values, is_constant, are_constant, element_number}
+use Rattle.rapid_operators.specs.Elements.{element_number}
+use Rattle.constant_meaning.specs.Constants.{Elements, Outcomes, all, stops, and_more, constant_value, constant_values, is_constant, are_constant}
 use Rattle.constant_meaning.specs.declared.outcome.Outcome.{Outcome}
 use Rattle.constant_meaning.specs.declared.outcome.Outcome.TheVariants as outcomes
 use Rattle.rule_checks.specs.declared.rule.TypeRule.TheVariants.{NoInit, NotConst, ConstFault, DimRange}

@@ -8,7 +8,8 @@ use Rattle.rapid_model.specs.declared.value.Value.{Value}
 use Rattle.rapid_model.specs.declared.value.Value.TheVariants as values
 use Rattle.typed_trees.specs.Plain
 use Rattle.typed_trees.specs.Plain.{TypedExpr, TypedExprs}
-use Rattle.constant_meaning.specs.Constants.{Elements, all, constant_value, constant_values, is_constant, are_constant, element_number}
+use Rattle.rapid_operators.specs.Elements.{element_number}
+use Rattle.constant_meaning.specs.Constants.{Elements, all, constant_value, constant_values, is_constant, are_constant}
 use Rattle.constant_meaning.specs.declared.outcome.Outcome.TheVariants as outcomes
 use Rattle.data_scopes.specs.Called.{local_of}
 use Rattle.data_scopes.specs.Numbers.{is_const, is_pers, is_scalar_const}

@@ -9,7 +9,7 @@ use Rattle.data_scopes.specs.declared.data_row.ParamRow.{ParamRow}
 use Rattle.data_scopes.specs.declared.meant.Meant.{Meant}
 use Rattle.data_scopes.specs.declared.meant.Meant.TheVariants as meants
 use Rattle.rule_checks.specs.declared.spot.Spot.{Spot}
-use Rattle.data_scopes.specs.Declarations.{spot_of, type_of, is_own, item_scope, takes_sort, with_const}
+use Rattle.data_scopes.specs.Declarations.{spot_of, type_of, is_own, item_scope, takes_sort}
 use Rattle.data_scopes.specs.Numbers.{Tally, no_counts, is_const, is_pers, is_scalar_const, datum_meant, after_item, after_items, param_meant, local_meant, tables_of}
 use Rattle.data_scopes.specs.Rows.{since_of, no_rows, with_datum, with_routine, outputs_of}
 use Rattle.data_scopes.specs.Scopes.{Tables, Names, RoutineRow, Rows, list_at, meant_in, meant_outside, meaning}
@@ -40,13 +40,13 @@ abbrev pub AreParams : Tables → ℕ → ℕ → ℕ → List PlainParam → Ty
 AreParams tables number routine place [] = Unit {0}
 AreParams tables number routine place (p ∷ ps) = IsParam tables number routine place p × AreParams tables number routine (place + 1) ps
 
--- the data of a routine, the first at this place, with so many CONSTs before; the types of those that are no arrays go behind these
-abbrev pub AreLocals : Tables → ℕ → ℕ → ℕ → ℕ → List PlainDatum → List Sort → List Sort → Type 0
-AreLocals tables number routine place consts [] before past = past ≡ before
-AreLocals tables number routine place consts (d ∷ ds) before past =
+-- the data of a routine, the first at this place, with so many CONSTs before
+abbrev pub AreLocals : Tables → ℕ → ℕ → ℕ → ℕ → List PlainDatum → Type 0
+AreLocals tables number routine place consts [] = Unit {0}
+AreLocals tables number routine place consts (d ∷ ds) =
     (sort : Sort) × IsDatumSort tables number (Some routine) d sort
     × (is_own (local_meant place consts d) (meant_in d.name.text (list_at tables.inner routine)) ≡ true)
-    × AreLocals tables number routine (place + 1) (consts + (if is_scalar_const d then 1 else 0)) ds (with_const before d sort) past
+    × AreLocals tables number routine (place + 1) (consts + (if is_scalar_const d then 1 else 0)) ds
 
 -- the type of a function's result, which has values
 abbrev pub IsResult : Tables → ℕ → ℕ → Option PlainName → Type 0
@@ -54,24 +54,23 @@ IsResult tables number routine None = Unit {0}
 IsResult tables number routine (Some name) =
     (sort : Sort) × IsSort tables (spot_of number (Some routine) name) name sort × (has_values sort ≡ true)
 
-abbrev pub IsItem : Tables → ℕ → Tally → PlainItem → List Sort → List Sort → Type 0
-IsItem tables number c (Datum local task d at) before past =
-    (sort : Sort) × IsDatumSort tables number None d sort × IsItemName tables number local (datum_meant c d) d.name × (past ≡ with_const before d sort)
-IsItem tables number c (Routine r) before past =
+abbrev pub IsItem : Tables → ℕ → Tally → PlainItem → Type 0
+IsItem tables number c (Datum local task d at) =
+    (sort : Sort) × IsDatumSort tables number None d sort × IsItemName tables number local (datum_meant c d) d.name
+IsItem tables number c (Routine r) =
     IsResult tables number c.routines r.result × IsItemName tables number r.local (meants.Routine c.routines) r.name
-    × AreParams tables number c.routines 0 r.params × AreLocals tables number c.routines (length r.params) c.consts r.locals before past
+    × AreParams tables number c.routines 0 r.params × AreLocals tables number c.routines (length r.params) c.consts r.locals
 
-abbrev pub AreItems : Tables → ℕ → Tally → List PlainItem → List Sort → List Sort → Type 0
-AreItems tables number c [] before past = past ≡ before
-AreItems tables number c (i ∷ is) before past =
-    (middle : List Sort) × IsItem tables number c i before middle × AreItems tables number (after_item c i) is middle past
+abbrev pub AreItems : Tables → ℕ → Tally → List PlainItem → Type 0
+AreItems tables number c [] = Unit {0}
+AreItems tables number c (i ∷ is) = IsItem tables number c i × AreItems tables number (after_item c i) is
 
 -- modules, the first of which has this number, behind modules of these names
-abbrev pub AreModules : Tables → ℕ → List (List ℕ) → Tally → List PlainModule → List Sort → List Sort → Type 0
-AreModules tables number names c [] before past = past ≡ before
-AreModules tables number names c (m ∷ ms) before past =
-    (middle : List Sort) × (is_among m.name.text names ≡ false) × AreItems tables number c m.items before middle
-    × AreModules tables (number + 1) (names ++ m.name.text ∷ []) (after_items c m.items) ms middle past
+abbrev pub AreModules : Tables → ℕ → List (List ℕ) → Tally → List PlainModule → Type 0
+AreModules tables number names c [] = Unit {0}
+AreModules tables number names c (m ∷ ms) =
+    (is_among m.name.text names ≡ false) × AreItems tables number c m.items
+    × AreModules tables (number + 1) (names ++ m.name.text ∷ []) (after_items c m.items) ms
 
 -- a datum by its type
 abbrev pub IsDatumRow : Tables → ℕ → Option ℕ → PlainDatum → DatumRow → Type 0
@@ -116,14 +115,12 @@ AreModuleRows tables number (m ∷ ms) before past =
 
 -- the names of modules, whose declared names are right
 pub record AreNames (modules : List PlainModule) (signals : List SignalRow) (arm : Bool) (names : Names) : Type 0 where
-  pub sorts : List Sort
   pub rows : Rows
-  pub right : AreModules (tables_of modules signals) 0 [] no_counts modules [] sorts
+  pub right : AreModules (tables_of modules signals) 0 [] no_counts modules
   pub are_rows : AreModuleRows (tables_of modules signals) 0 modules no_rows rows
   pub are_names : names ≡ record {
     tables = tables_of modules signals;
-    sorts = sorts;
-    kept = replicate (length sorts) None;
+    kept = replicate (length rows.consts) None;
     rows = rows;
     outputs = outputs_of signals;
     arm = arm;

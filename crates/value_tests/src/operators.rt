@@ -4,7 +4,7 @@ use Wanted::{Gives, OutOfRange, Raises, Unfit};
 use Written::{Bool, Ext, Num, Rob, Speed, Target, Text};
 use rapid_model::Value;
 use rapid_num::Joints;
-use rapid_operators::{Applied, apply, negated, same_value, whole_index};
+use rapid_operators::{Applied, apply, same_value, whole_index};
 use raw_trees::Operator;
 use raw_trees::Operator::{
     Add, And, Div, Equal, Greater, GreaterEqual, IntDiv, Less, LessEqual, Mod, Mul, NotEqual, Or,
@@ -149,6 +149,6 @@ fn values(rt: HostRuntime) -> Result<(), Fail> {
         assert_eq!(rt; whole_index(count, len), wanted);
     }
     let greatest = num(9_999_999_999_999).ok_or("the greatest num is in range")?;
-    assert_eq!(rt; negated(greatest).thousandths(), -9_999_999_999_999);
+    assert_eq!(rt; greatest.negated().thousandths(), -9_999_999_999_999);
     Ok(())
 }

@@ -1,4 +1,4 @@
-//! Nums in their shortest form.
+//! Nums without needless digits.
 
 ghost use Rattle.std.specs.Prelude.{◌≡◌, ◌+◌, ◌≤◌, ◌++◌, ◌∷◌, length};
 ghost use Rattle.rapid_num.specs.NumText.{shortest_text};

@@ -7,7 +7,7 @@ use arrayvec::ArrayString;
 use rapid_model::Value;
 use rapid_num::Joints;
 
-/// Appends a value as RAPID writes it, without spaces: a num in its shortest form, TRUE, FALSE, a text in quotes, in which a
+/// Appends a value as RAPID writes it, without spaces: a num without needless digits, TRUE, FALSE, a text in quotes, in which a
 /// quote and a backslash stand twice, or a list in brackets. At most 200 bytes.
 pub fn push_value<const N: usize>(value: &Value, line: &mut ArrayString<N>)
     requires room { length line.old.bytes + 200 ≤ N }

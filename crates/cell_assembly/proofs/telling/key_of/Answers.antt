@@ -1,6 +1,6 @@
 use Rattle.std.proofs.Common.{◌∙◌, ap}
 use Rattle.std.specs.List.{list_all}
-use Rattle.rapid_model.specs.Printable.{is_printable}
+use Rattle.rapid_num.specs.Characters.{is_printable}
 use Rattle.cell_assembly.proofs.Keys.{printable_decimal}
 use Rattle.cell_assembly.proofs.telling.key_of.Goals as goal
 

@@ -5,5 +5,5 @@ use Rattle.data_scopes.proofs.walking.items_rules.Given as goal
 
 abbrev pub invariant-loop-item : goal.invariant-loop-item
 invariant-loop-item l =
-    items_rules l.tables l.number l.counts (map view_item (drop l.item-index l.items)) l.more.items
-    ≡ items_rules l.tables l.number l.fn.before (map view_item l.items) l.initial.more.items
+    items_rules l.tables l.number l.counts (map view_item (drop l.item-index l.items))
+    ≡ items_rules l.tables l.number l.fn.before (map view_item l.items)

@@ -7,5 +7,5 @@ use Rattle.data_scopes.proofs.scopes.Scopes.keep.Goals as goal
 pub invariant_of-self : goal.invariant_of-self
 invariant_of-self c =
     let within = subst (λ (n : Names). c.args.constant < length n.kept) (sym c.self.view_is) c.requires.named in
-    let typed = subst (λ (n : Names). IfSome (slice_get n.sorts c.args.constant) (λ sort. IsTrue (is_value_of sort c.args.value))) (sym c.self.view_is) c.requires.value in
-    one_more_kept c.self.inside.tables c.self.inside.sorts.items c.self.inside.kept.items _ c.args.constant c.args.value within typed refl c.self.invariant
+    let typed = subst (λ (n : Names). IfSome (slice_get n.rows.consts c.args.constant) (λ row. IsTrue (is_value_of row.sort c.args.value))) (sym c.self.view_is) c.requires.value in
+    one_more_kept c.self.inside.tables c.self.inside.rows.consts c.self.inside.kept.items _ c.args.constant c.args.value within typed refl c.self.invariant

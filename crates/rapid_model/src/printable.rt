@@ -4,13 +4,13 @@ ghost use Rattle.rapid_model.specs.Printable.{IsPrintable, ArePrintable, takes};
 use arrayvec::ArrayVec;
 use std::marker::Model;
 
-/// A text of at most 80 bytes, each from 20 to 7E hexadecimal. Contracts see it as the list of its bytes.
+/// A text of at most `ROOM` bytes, each from 20 to 7E hexadecimal. Contracts see it as the list of its bytes.
 #[derive(Debug, PartialEq, Eq, Drop)]
-pub struct Text {
-    characters: ArrayVec<u8, 80>,
+pub struct Printable<const ROOM: usize> {
+    characters: ArrayVec<u8, ROOM>,
 }
 
-impl Model for Text {
+impl<const ROOM: usize> Model for Printable<ROOM> {
     ghost use Rattle.std.specs.Prelude.{ℕ, List};
     ghost use Rattle.rapid_model.specs.Printable.{ArePrintable};
 
@@ -23,20 +23,20 @@ impl Model for Text {
     ghost inverse = { λ bytes. record { characters = record { items = bytes } } };
 }
 
-impl Text {
+impl<const ROOM: usize> Printable<ROOM> {
     /// The empty text.
-    pub fn new() -> Text
+    pub fn new() -> Printable<ROOM>
         ensures { result ≡ [] }
     {
-        Text {
+        Printable {
             characters: ArrayVec::new(),
         }
     }
 
-    /// Appends the byte. No exactly where 80 bytes are held or the byte is outside 20 to 7E hexadecimal; nothing
+    /// Appends the byte. No exactly where `ROOM` bytes are held or the byte is outside 20 to 7E hexadecimal; nothing
     /// changes then.
     pub fn push(&mut self, byte: u8) -> bool
-        ensures taken { result ≡ takes 80 self.old byte }
+        ensures taken { result ≡ takes ROOM self.old byte }
         ensures pushed { self.new ≡ (if result then self.old ++ byte ∷ [] else self.old) }
     {
         if !(32..=126).contains(&byte) {
@@ -49,18 +49,24 @@ impl Text {
     pub fn bytes(&self) -> &[u8]
         ensures same { result.now ≡ self.now }
         ensures printable { ArePrintable self.now }
-        ensures short { length self.now ≤ 80 }
+        ensures short { length self.now ≤ ROOM }
     {
         self.characters.as_slice()
     }
 
     /// An equal text.
-    pub fn copy(&self) -> Text
+    pub fn copy(&self) -> Printable<ROOM>
         ensures { result ≡ self.now }
     {
         let mut characters = ArrayVec::new();
         let copied = characters.try_extend_from_slice(self.characters.as_slice());
         prove!(copied.is_ok());
-        Text { characters }
+        Printable { characters }
     }
 }
+
+/// A text of at most 80 bytes.
+pub type Text = Printable<80>;
+
+/// A name of at most 32 bytes.
+pub type NameText = Printable<32>;
