@@ -49,12 +49,6 @@ end_beyond bound p q true from is = (λ true. beyond_at_end bound p q (is.0 true
 end_beyond bound p q false from is =
     (λ true. absurd (false≢true true), λ passes. absurd (beyond_at_an_end bound p q from (λ beyond. false≢true (is.1 beyond)) passes))
 
-pub found_beyond : (axis : ℕ) (bounds : List (Option Bound)) (p q : Joints) (bound : Bound) (from to : ℤ)
-    → Names bounds axis bound → from ≡ slice_index_or p.axis axis (pos 0) → to ≡ slice_index_or q.axis axis (pos 0)
-    → PassesBeyond bound from to → SomeFraction (λ k m. LiesOutside bounds (point_at p q k m) m)
-found_beyond axis bounds p q bound from to named start end passes =
-    record { k = passes.k; m = passes.m; whole = passes.whole; on_the_way = passes.on_the_way; holds = record { axis = axis; bound = bound; named = named; beyond = rw (start, end) at passes.holds } }
-
 pub none_outside : (axes : ℕ) (bounds : List (Option Bound)) (p q : Joints) → length bounds ≤ axes → NoneOf PassesBeyond axes bounds p q → ¬ SomeFraction (λ k m. LiesOutside bounds (point_at p q k m) m)
 none_outside axes bounds p q all none passes =
     let out = passes.holds in
