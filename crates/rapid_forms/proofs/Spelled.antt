@@ -132,7 +132,6 @@ next_is : (list : List Lexeme) (at next k : ℕ) → at ≤ length list → next
 next_is list at next k le le' le'' e = omega (arith, ap length e, length-drop next list, length-drop k (drop at list), length-drop at list)
 
 module _ {A : Type 0} (F : ℕ → Form A) (n : ℕ) where
-
   module _ {X : Type 0} (tokens : Tokens) (at : ℕ) (view : X → A) where
     answer_parses : (result : Result (X × ℕ) SyntaxFault) (read : Read A) → Answers F n (rest_from tokens at) read → IfOk result (λ x. (at ≤ length tokens.list.now) × (x.1 ≤ length tokens.list.now)) → Gives tokens view result read → Parses F n (views tokens.list.now) tokens.end at view result
     answer_parses (Ok x) read a within g =
