@@ -5,7 +5,6 @@ mod meetings;
 mod operations;
 mod persistents;
 mod signals;
-mod words;
 
 pub use meetings::write_meeting;
 pub use operations::write_operation;

@@ -3,9 +3,9 @@
 ghost use Rattle.std.specs.Prelude.{◌≡◌, []};
 ghost use Rattle.cell_listing.specs.Listing.{meeting_line};
 
-use crate::words::{push_name, push_number};
 use arrayvec::ArrayString;
 use rapid_model::NameText;
+use value_text::{push_count, push_name};
 
 /// Writes `G` and the number of a meeting, from 0, and its name as it is first spelled. Takes no memory.
 pub fn write_meeting(number: usize, name: &NameText, line: &mut ArrayString<512>)
@@ -13,7 +13,7 @@ pub fn write_meeting(number: usize, name: &NameText, line: &mut ArrayString<512>
     ensures { line.new.bytes ≡ meeting_line number name.now }
 {
     line.push_str("G");
-    push_number(number, line);
+    push_count(number, line);
     line.push(' ');
     push_name(name, line);
     line.push('\n');

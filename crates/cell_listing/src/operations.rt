@@ -5,11 +5,11 @@ ghost use Rattle.std.specs.Option.{option_map};
 ghost use Rattle.cell_listing.specs.Listing.{code_line};
 ghost use Rattle.code_listing.specs.Listing.{op_text};
 
-use crate::words::{push_name, push_number};
 use arrayvec::ArrayString;
 use code_listing::listing_line;
 use rapid_model::NameText;
 use stack_code::Op;
+use value_text::{push_count, push_name};
 
 /// Writes `C`, the name of a task, a place of its code, from 0, and the operation that stands there. Takes no memory.
 pub fn write_operation(task: &NameText, ops: &[Op], pc: u32, line: &mut ArrayString<512>)
@@ -20,7 +20,7 @@ pub fn write_operation(task: &NameText, ops: &[Op], pc: u32, line: &mut ArrayStr
     line.push_str("C ");
     push_name(task, line);
     line.push(' ');
-    push_number(pc as usize, line);
+    push_count(pc as usize, line);
     line.push(' ');
     push_operation(ops, pc, line);
     line.push('\n');

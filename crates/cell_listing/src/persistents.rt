@@ -3,10 +3,9 @@
 ghost use Rattle.std.specs.Prelude.{◌≡◌, ◌+◌, ◌≤◌, ◌++◌, [], length};
 ghost use Rattle.cell_listing.specs.Listing.{length_text, owner_text, pers_line};
 
-use crate::words::{push_name, push_number};
 use arrayvec::ArrayString;
 use rapid_model::{PersCell, TaskRow};
-use value_text::sort_name;
+use value_text::{push_count, push_name, sort_name};
 
 /// Writes `P` and the number of a persistent, from 0; its owner, `*` where it is all tasks'; its type, with the length in braces
 /// where it is an array; and its name as it is first spelled. Takes no memory.
@@ -20,7 +19,7 @@ pub fn write_persistent(
     ensures { line.new.bytes ≡ pers_line tasks.now number row.now }
 {
     line.push_str("P");
-    push_number(number, line);
+    push_count(number, line);
     line.push(' ');
     push_owner(tasks, row.owner, line);
     line.push(' ');
@@ -55,7 +54,7 @@ fn push_length(len: Option<u16>, line: &mut ArrayString<512>)
 {
     if let Some(len) = len {
         line.push('{');
-        push_number(usize::from(len), line);
+        push_count(usize::from(len), line);
         line.push('}');
     }
 }

@@ -3,9 +3,9 @@
 ghost use Rattle.std.specs.Prelude.{◌≡◌, ◌≤◌, [], length};
 ghost use Rattle.cell_listing.specs.Listing.{kind_text, signal_line};
 
-use crate::words::{push_name, push_number};
 use arrayvec::ArrayString;
 use rapid_model::SignalRow;
+use value_text::{push_count, push_name};
 
 /// Writes `D` and the number of a signal, from 0; `di` for an input, `do` for an output; and its name. Takes no memory.
 pub fn write_signal(number: usize, row: &SignalRow, line: &mut ArrayString<512>)
@@ -13,7 +13,7 @@ pub fn write_signal(number: usize, row: &SignalRow, line: &mut ArrayString<512>)
     ensures { line.new.bytes ≡ signal_line number row.now }
 {
     line.push_str("D");
-    push_number(number, line);
+    push_count(number, line);
     line.push(' ');
     line.push_str(kind_name(row.output));
     line.push(' ');

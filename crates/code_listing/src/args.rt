@@ -1,14 +1,13 @@
 //! What an operation has.
 
-ghost use Rattle.std.specs.Prelude.{◌≡◌, ◌+◌, ◌≤◌, ◌∷◌, ◌++◌, decimal, length};
+ghost use Rattle.std.specs.Prelude.{◌≡◌, ◌+◌, ◌≤◌, ◌∷◌, ◌++◌, length};
 ghost use Rattle.value_text.specs.ValueText.{truth_text};
 ghost use Rattle.code_listing.specs.Listing.{datum_text, op_args, word, number_word, order_text};
 
 use crate::kinds::{function_name, irq_name, operator_name, tail_name, unary_name, zone_name};
 use arrayvec::ArrayString;
-use itoa::Buffer;
 use stack_code::{Op, OrderOn, Pushed};
-use value_text::{part_name, push_value, sort_name, truth_name};
+use value_text::{part_name, push_count, push_value, sort_name, truth_name};
 
 /// Appends what an operation has, each after a space.
 pub(crate) fn push_args(op: &Op, line: &mut ArrayString<400>)
@@ -88,16 +87,6 @@ fn push_word(text: &'static str, line: &mut ArrayString<400>)
     line.push_str(text);
 }
 
-/// Appends the number's digits.
-fn push_digits(number: u32, line: &mut ArrayString<400>)
-    requires room { length line.old.bytes + 40 ≤ 400 }
-    ensures text { line.new.bytes ≡ line.old.bytes ++ decimal number }
-    ensures short { length line.new.bytes ≤ length line.old.bytes + 40 }
-{
-    let mut digits = Buffer::new();
-    line.push_str(digits.format(number));
-}
-
 /// Appends a space and a number.
 fn push_number(number: u32, line: &mut ArrayString<400>)
     requires room { length line.old.bytes + 41 ≤ 400 }
@@ -105,7 +94,7 @@ fn push_number(number: u32, line: &mut ArrayString<400>)
     ensures short { length line.new.bytes ≤ length line.old.bytes + 41 }
 {
     line.push(' ');
-    push_digits(number, line);
+    push_count(number as usize, line);
 }
 
 /// Appends two numbers, each after a space.
@@ -144,11 +133,11 @@ fn push_watched(on: OrderOn, line: &mut ArrayString<400>)
     match on {
         OrderOn::Signal(signal) => {
             line.push_str(" D");
-            push_digits(signal, line);
+            push_count(signal as usize, line);
         }
         OrderOn::Pers(pers) => {
             line.push_str(" P");
-            push_digits(pers, line);
+            push_count(pers as usize, line);
         }
     }
 }

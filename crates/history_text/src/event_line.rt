@@ -2,11 +2,11 @@ ghost use Rattle.std.specs.Prelude.{◌≡◌, ◌+◌, ◌≤◌, [], ◌++◌,
 ghost use Rattle.history_text.specs.Lines.{line_of, setpoint_line, text_line, task_name};
 
 use crate::axes::push_axes;
-use crate::name::push_name;
 use crate::texts::{push_tail, push_text};
 use arrayvec::ArrayString;
 use rapid_model::{Answer, Event, Request, Tail, TaskRow, Text};
 use rapid_num::Joints;
+use value_text::push_name;
 
 /// Writes the event's line: for a setpoint that was given `S TASK` and the six axes in degrees with three decimals; for a text
 /// to the operator `T TASK`, a space, the text, and at once its tail. The line stays empty for an event that has none. Takes no

@@ -1,10 +1,9 @@
-ghost use Rattle.std.specs.Prelude.{◌≡◌, ◌+◌, ◌≤◌, ◌++◌, [], decimal, length};
+ghost use Rattle.std.specs.Prelude.{◌≡◌, ◌+◌, ◌≤◌, ◌++◌, [], length};
 ghost use Rattle.history_text.specs.Lines.{fate_line, fate_words, fault_name, fault_words};
 
-use crate::name::push_name;
 use arrayvec::ArrayString;
-use itoa::Buffer;
 use rapid_model::{Fate, Fault, NameText};
+use value_text::{push_count, push_name};
 
 /// Writes `E TASK FATE`: Done, Exit, Held, Cut, or Fault and the fault's name, for Unhandled also its number. Takes no memory.
 pub fn write_fate(name: &NameText, fate: &Fate, line: &mut ArrayString<1200>)
@@ -45,18 +44,8 @@ fn push_fault(fault: Fault, line: &mut ArrayString<1200>)
     line.push_str(name_of(fault));
     if let Fault::Unhandled(number) = fault {
         line.push(' ');
-        push_number(number, line);
+        push_count(usize::from(number), line);
     }
-}
-
-/// Appends the number's digits.
-fn push_number(number: u8, line: &mut ArrayString<1200>)
-    requires room { length line.old.bytes + 40 ≤ 1200 }
-    ensures text { line.new.bytes ≡ line.old.bytes ++ decimal number }
-    ensures short { length line.new.bytes ≤ length line.old.bytes + 40 }
-{
-    let mut digits = Buffer::new();
-    line.push_str(digits.format(number));
 }
 
 fn name_of(fault: Fault) -> &'static str

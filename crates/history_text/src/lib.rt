@@ -4,7 +4,6 @@
 mod axes;
 mod event_line;
 mod fate_line;
-mod name;
 mod texts;
 
 pub use event_line::write_event;

@@ -1,17 +1,15 @@
 //! Texts for the operator.
 
 ghost use Rattle.std.specs.Prelude.{◌≡◌, ◌+◌, ◌≤◌, ◌++◌, length};
-ghost use Rattle.rapid_num.specs.NumText.{shortest_text};
 ghost use Rattle.history_text.specs.Lines.{tail_words};
 
 use arrayvec::ArrayString;
 use rapid_model::{Tail, Text};
-use rapid_num::{Num, write_num};
 use std::str;
-use value_text::truth_name;
+use value_text::{push_num, truth_name};
 
 /// Appends the bytes of a text.
-#[tactic(auto, using(crate::proofs::Printable::utf8_from_printable))]
+#[tactic(auto, using(value_text::proofs::Printable::utf8_from_printable))]
 pub(crate) fn push_text(text: &Text, line: &mut ArrayString<1200>)
     requires room { length line.old.bytes + 80 ≤ 1200 }
     ensures text { line.new.bytes ≡ line.old.bytes ++ text.now }
@@ -31,15 +29,4 @@ pub(crate) fn push_tail(tail: &Tail, line: &mut ArrayString<1200>)
         Tail::Num(number) => push_num(*number, line),
         Tail::Bool(truth) => line.push_str(truth_name(*truth)),
     }
-}
-
-/// Appends a num.
-fn push_num(number: Num, line: &mut ArrayString<1200>)
-    requires room { length line.old.bytes + 15 ≤ 1200 }
-    ensures text { line.new.bytes ≡ line.old.bytes ++ shortest_text number }
-    ensures short { length line.new.bytes ≤ length line.old.bytes + 15 }
-{
-    let mut text = ArrayString::new();
-    write_num(number, &mut text);
-    line.push_str(text.as_str());
 }

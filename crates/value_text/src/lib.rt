@@ -1,12 +1,18 @@
-//! Values, parts of values and types as text, as they stand in lines that are printed.
+//! Values, parts of values, types, names and counts as text, as they stand in lines that are printed.
 #![tactic(auto)]
 
+mod count;
+mod name;
+mod num;
 mod nums;
 mod parts;
 mod quoted;
 mod sorts;
 mod values;
 
+pub use count::push_count;
+pub use name::push_name;
+pub use num::push_num;
 pub use parts::part_name;
 pub use sorts::sort_name;
 pub use values::{push_value, truth_name};

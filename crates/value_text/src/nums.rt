@@ -1,22 +1,12 @@
-//! Nums without needless digits.
+//! Nums in brackets.
 
 ghost use Rattle.std.specs.Prelude.{◌≡◌, ◌+◌, ◌≤◌, ◌++◌, ◌∷◌, length};
 ghost use Rattle.rapid_num.specs.NumText.{shortest_text};
 ghost use Rattle.value_text.specs.ValueText.{nums_text};
 
+use crate::num::push_num;
 use arrayvec::ArrayString;
-use rapid_num::{Num, write_num};
-
-/// Appends a num.
-pub(crate) fn push_num<const N: usize>(number: Num, line: &mut ArrayString<N>)
-    requires room { length line.old.bytes + 15 ≤ N }
-    ensures text { line.new.bytes ≡ line.old.bytes ++ shortest_text number }
-    ensures short { length line.new.bytes ≤ length line.old.bytes + 15 }
-{
-    let mut text = ArrayString::new();
-    write_num(number, &mut text);
-    line.push_str(text.as_str());
-}
+use rapid_num::Num;
 
 /// Appends a comma and a num.
 fn push_next<const N: usize>(number: Num, line: &mut ArrayString<N>)

@@ -1,7 +1,8 @@
 ghost use Rattle.std.specs.Prelude.{◌≡◌, ◌+◌, ◌≤◌, ◌++◌, length};
 ghost use Rattle.value_text.specs.ValueText.{target_text, truth_text, value_text};
 
-use crate::nums::{push_num, push_nums};
+use crate::num::push_num;
+use crate::nums::push_nums;
 use crate::quoted::push_quoted;
 use arrayvec::ArrayString;
 use rapid_model::Value;

@@ -4,10 +4,10 @@ use arrayvec::ArrayString;
 use rapid_model::NameText;
 use std::str;
 
-/// Appends the bytes of a name.
+/// Appends the bytes of a name. At most 32 bytes.
 #[tactic(auto, using(crate::proofs::Printable::utf8_from_printable))]
-pub(crate) fn push_name(name: &NameText, line: &mut ArrayString<1200>)
-    requires room { length line.old.bytes + 32 ≤ 1200 }
+pub fn push_name<const N: usize>(name: &NameText, line: &mut ArrayString<N>)
+    requires room { length line.old.bytes + 32 ≤ N }
     ensures text { line.new.bytes ≡ line.old.bytes ++ name.now }
     ensures short { length line.new.bytes ≤ length line.old.bytes + 32 }
 {

@@ -1,0 +1,16 @@
+ghost use Rattle.std.specs.Prelude.{◌≡◌, ◌+◌, ◌≤◌, ◌++◌, length};
+ghost use Rattle.rapid_num.specs.NumText.{shortest_text};
+
+use arrayvec::ArrayString;
+use rapid_num::{Num, write_num};
+
+/// Appends a num without needless digits. At most 15 bytes.
+pub fn push_num<const N: usize>(number: Num, line: &mut ArrayString<N>)
+    requires room { length line.old.bytes + 15 ≤ N }
+    ensures text { line.new.bytes ≡ line.old.bytes ++ shortest_text number }
+    ensures short { length line.new.bytes ≤ length line.old.bytes + 15 }
+{
+    let mut text = ArrayString::new();
+    write_num(number, &mut text);
+    line.push_str(text.as_str());
+}
