@@ -1,4 +1,4 @@
-ghost use Rattle.std.specs.Prelude.{◌++◌, ◌≡◌, ◌+◌, ◌≤◌, ◌∷◌, [], codes, decimal, length};
+ghost use Rattle.std.specs.Prelude.{◌++◌, ◌≡◌, ◌≤◌, ◌∷◌, [], codes};
 ghost use Rattle.controller.specs.Refusals.{status_of, file_of, refusal_text, key_words, place_words, module_rule_name};
 ghost use Rattle.controller.specs.Printed.{sunk, GainedUnlessFaults};
 ghost use Rattle.controller.specs.Written.{Writes, WritesPieces};
@@ -6,13 +6,13 @@ ghost use Rattle.controller.specs.declared.refused.Refused.TheVariants.{Memory};
 
 use crate::print::{write_three, write_two};
 use arrayvec::ArrayString;
-use itoa::Buffer;
 use outside::{Failed, Sink};
 use rapid_forms::SyntaxRule;
 use rapid_lexer::{LexRule, Place};
 use rapid_model::{ScriptRule, Text};
 use rule_checks::TypeRule;
 use std::alloc::{AllocError, AllocFailed};
+use value_text::push_count;
 
 /// The rules of a module.
 #[derive(Clone, Copy, Debug, PartialEq, Eq)]
@@ -132,9 +132,10 @@ fn write_refusal<E: Sink>(err: &mut E, name: &str, refused: &Refused) -> Result<
 {
     match refused {
         Refused::Words { place } => {
-            let mut digits = Buffer::new();
-            let text = digits.format(*place);
-            write_three(err, b"rapid_cell: words ", text.as_bytes(), b"\n")
+            let mut digits = ArrayString::<20>::new();
+            push_count(*place, &mut digits);
+            let text = digits.as_str().as_bytes();
+            write_three(err, b"rapid_cell: words ", text, b"\n")
         }
         Refused::Script { key, rule } => {
             let key = shown(key.bytes());
@@ -167,19 +168,10 @@ fn push_place(place: &Place, words: &mut ArrayString<128>)
     ensures { words.new.bytes ≡ 32 ∷ place_words place.now ++ codes " " }
 {
     words.push(' ');
-    push_number(place.line, words);
+    push_count(place.line as usize, words);
     words.push(':');
-    push_number(place.column, words);
+    push_count(place.column as usize, words);
     words.push(' ');
-}
-
-fn push_number(number: u32, line: &mut ArrayString<128>)
-    requires { length line.old.bytes + 40 ≤ 128 }
-    ensures text { line.new.bytes ≡ line.old.bytes ++ decimal number }
-    ensures short { length line.new.bytes ≤ length line.old.bytes + 40 }
-{
-    let mut digits = Buffer::new();
-    line.push_str(digits.format(number));
 }
 
 /// Writes the line of a rule that is broken: what is refused, its name, what stands between that and the rule's name.
