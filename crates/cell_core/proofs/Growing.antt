@@ -28,6 +28,7 @@ use Rattle.world_zones.specs.Zones.{ZonesData}
 use Rattle.cell_meaning.specs.Changes.{is_change}
 use Rattle.cell_meaning.specs.Counted.{is_counted, counted, can_be_served}
 use Rattle.cell_meaning.specs.Interrupts.{asked_with, interrupts_after}
+use Rattle.cell_meaning.specs.MayAsk.{may_ask}
 use Rattle.cell_meaning.specs.Meetings.{stands_with}
 use Rattle.cell_meaning.specs.Motion.{moved, is_given}
 use Rattle.cell_meaning.specs.Rising.{seen_with}
@@ -207,6 +208,15 @@ script_counts cell history actors changes changed actor request answer count tel
     or_none None = refl
     or_none (Some fate) = refl
 
+-- one more event of an actor that may ask this
+counts_more : (cell : CellData) (history : List Event) (boards : BoardData) (steps : ℕ) (changed : Bool) (actor : ℕ) (request : Request) (answer : Answer) → Keeps cell history boards steps
+    → TaskMay cell actor (part_of actor history) request ⊎ ScriptMay cell actor (part_of actor history) request
+    → Counts boards.actors (set boards.actors actor (actor_with (actor_at boards.actors actor) changed request answer)) (length cell.tasks) request (length cell.inputs)
+counts_more cell history boards steps changed actor request answer keeps (inl task) =
+    task_counts cell history boards.actors boards.changes changed actor request answer keeps.actor_count (keeps.actors actor (omega (arith, task.within))) keeps.script_on keeps.inputs_within task
+counts_more cell history boards steps changed actor request answer keeps (inr script) =
+    script_counts cell history boards.actors boards.changes changed actor request answer keeps.actor_count (keeps.actors actor (omega (arith, script.script))) keeps.script_on script
+
 pub Keeps-more : (cell : CellData) (history : List Event) (boards : BoardData) (steps : ℕ) (e : Event) → Keeps cell history boards steps → IsServed cell history e → CanAnswer cell boards e.actor e.request
     → Keeps cell (history ++ e ∷ []) (boards_with cell boards e) steps
 Keeps-more cell history boards steps e keeps now can =
@@ -217,7 +227,7 @@ Keeps-more cell history boards steps e keeps now can =
     let there : e.actor ≤ length cell.tasks = actor_within who in
     let own = keeps.actors e.actor there in
     let within : e.actor < length boards.actors = omega (arith, there, keeps.actor_count) in
-    let numbers = parts who own in
+    let numbers = counts_more cell history boards steps (is_some_change change) e.actor e.request e.answer keeps who in
     record {
       limits = keeps.limits;
       full = keeps.full;
@@ -245,11 +255,6 @@ Keeps-more cell history boards steps e keeps now can =
     actor_within (inl task) = omega (arith, task.within)
     actor_within (inr script) = omega (arith, script.script)
 
-    parts : TaskMay cell e.actor (part_of e.actor history) e.request ⊎ ScriptMay cell e.actor (part_of e.actor history) e.request → Tells cell history e.actor (actor_at boards.actors e.actor) boards.changes
-        → Counts boards.actors (set boards.actors e.actor (actor_with (actor_at boards.actors e.actor) (is_some_change (change_on cell boards e.actor e.request e.answer)) e.request e.answer)) (length cell.tasks) e.request (length cell.inputs)
-    parts (inl task) own = task_counts cell history boards.actors boards.changes (is_some_change (change_on cell boards e.actor e.request e.answer)) e.actor e.request e.answer keeps.actor_count own keeps.script_on keeps.inputs_within task
-    parts (inr script) own = script_counts cell history boards.actors boards.changes (is_some_change (change_on cell boards e.actor e.request e.answer)) e.actor e.request e.answer keeps.actor_count own keeps.script_on script
-
 -- no more than one event for each step of the run, each task and each step of the input script, which tells no fate
 few_ends : (actors : List Actor) (tasks : ℕ) → length actors ≡ tasks + 1 → (actor_at actors tasks).end ≡ None → ends_told actors ≤ tasks
 few_ends actors tasks count on =
@@ -261,8 +266,12 @@ pub few_events : (cell : CellData) (history : List Event) (boards : BoardData) (
 few_events cell history boards steps keeps =
     omega (arith, keeps.events, keeps.within, keeps.steps_same, keeps.inputs_within, few_ends boards.actors (length cell.tasks) keeps.actor_count keeps.script_on)
 
--- there is room for one more event that is served
-pub room_for_event : (cell : CellData) (history : List Event) (boards : BoardData) (steps : ℕ) (e : Event) → Keeps cell history boards steps → IsServed cell history e → CanAnswer cell boards e.actor e.request
-    → length history < cell.steps + length cell.tasks + length cell.inputs
-room_for_event cell history boards steps e keeps now can =
-    omega (arith, few_events _ _ _ _ (Keeps-more cell history boards steps e keeps now can), length-append history (e ∷ []))
+-- there is room for one more event, whatever its answer is
+pub room_for_event : (cell : CellData) (history : List Event) (boards : BoardData) (steps actor : ℕ) (request : Request) → Keeps cell history boards steps
+    → IsTrue (may_ask cell actor (part_of actor history) request) → IsTrue (can_be_served cell history request) → length history < cell.steps + length cell.tasks + length cell.inputs
+room_for_event cell history boards steps actor request keeps may left =
+    let now = actor_with (actor_at boards.actors actor) false request answers.Ok in
+    let numbers = counts_more cell history boards steps false actor request answers.Ok keeps (who_may cell actor (part_of actor history) request may) in
+    let ends = few_ends (set boards.actors actor now) (length cell.tasks) (length-set boards.actors actor now ∙ keeps.actor_count) numbers.script_on in
+    let counted = count_within cell history boards.counted request keeps.counted_same (omega (arith, keeps.within, keeps.steps_same)) left in
+    omega (arith, keeps.events, numbers.ends, numbers.inputs_within, counted, ends)

@@ -1,5 +1,5 @@
 -- What the boards tell of one more task, what a request leaves of them, and what an event made of them is.
-use Rattle.std.proofs.Common.{◌≡◌, ℕ, suc, ◌+◌, ◌<◌, ◌≤◌, Bool, true, false, List, [], ◌∷◌, ◌++◌, length, refl, sym, ◌∙◌, ap, subst, arith, length-set}
+use Rattle.std.proofs.Common.{◌≡◌, ℕ, suc, ◌+◌, ◌<◌, ◌≤◌, Bool, true, false, List, [], ◌∷◌, ◌++◌, length, refl, sym, ap, subst, arith, length-set}
 use Rattle.std.specs.Prelude.{IsTrue, ◌&&◌, ◌||◌, not, is_some}
 use Rattle.std.specs.List.{All}
 use Rattle.rapid_model.specs.CellData.{CellData}
@@ -85,18 +85,16 @@ count_kept cell boards actor request answer can = record {
   changes = can.changes;
 }
 
--- an event that the boards made of a request was served
-pub served_event : (cell : CellData) (history : List Event) (boards : BoardData) (steps actor : ℕ) (request : Request) (e : Event) → Keeps cell history boards steps
-    → IsTrue (may_ask cell actor (part_of actor history) request) → IsTrue (can_be_served cell history request) → IsTrue (is_enabled cell history actor request)
-    → e.actor ≡ actor → e.request ≡ request → IsTold boards actor request e.answer → IsServed cell history e
-served_event cell history boards steps actor request e keeps may served enabled by asks told =
-    let is = answer_is cell history boards steps actor request e.answer keeps (actor_there cell actor (part_of actor history) request may) told in
-    let make : ℕ → Request → Event = λ a r. record { actor = a; request = r; answer = e.answer } in
-    let now : IsServed cell history (make actor request) = record {
+-- a request and the answer that the boards gave it are an event that was served
+pub served_event : (cell : CellData) (history : List Event) (boards : BoardData) (steps : ℕ) (e : Event) → Keeps cell history boards steps
+    → IsTrue (may_ask cell e.actor (part_of e.actor history) e.request) → IsTrue (can_be_served cell history e.request) → IsTrue (is_enabled cell history e.actor e.request)
+    → IsTold boards e.actor e.request e.answer → IsServed cell history e
+served_event cell history boards steps e keeps may served enabled told =
+    let is = answer_is cell history boards steps e.actor e.request e.answer keeps (actor_there cell e.actor (part_of e.actor history) e.request may) told in
+    record {
       asked = may;
       enabled = enabled;
       served = served;
       answered = is;
-      fits = answer_fits cell history actor request e.answer keeps.limits keeps.full (all_answered cell history keeps.sound) may is;
-    } in
-    subst (λ (f : Event). IsServed cell history f) (sym (ap (λ (a : ℕ). make a e.request) by ∙ ap (λ (r : Request). make actor r) asks)) now
+      fits = answer_fits cell history e.actor e.request e.answer keeps.limits keeps.full (all_answered cell history keeps.sound) may is;
+    }

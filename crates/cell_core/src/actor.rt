@@ -43,22 +43,20 @@ impl Actor {
         }
     }
 
-    /// After one more event of its own, which changed something or did not.
-    pub(crate) fn after(self, changes: bool, request: &Request, answer: &Answer) -> Actor
-        requires { IsFew self }
-        ensures { result ≡ actor_with self changes request.now answer.now }
+    /// Counts one more event of its own, which changed something or did not.
+    pub(crate) fn count(&mut self, changes: bool, request: &Request, answer: &Answer)
+        requires { IsFew self.old }
+        ensures { self.new ≡ actor_with self.old changes request.now answer.now }
     {
-        Actor {
-            arm: arm_after(self.arm, request, answer),
-            end: end_after(self.end, request),
-            held: is_hold(request),
-            seen: seen_after(self.seen, request),
-            given: one_more(self.given, is_given(request, answer)),
-            begun: one_more(self.begun, is_trap(answer)),
-            left: one_more(self.left, is_leave(request)),
-            events: self.events + 1,
-            made: one_more(self.made, changes),
-        }
+        go_on(&mut self.arm, request, answer);
+        self.end = end_after(self.end, request);
+        self.held = is_hold(request);
+        self.seen = seen_after(self.seen, request);
+        self.given = one_more(self.given, is_given(request, answer));
+        self.begun = one_more(self.begun, is_trap(answer));
+        self.left = one_more(self.left, is_leave(request));
+        self.events += 1;
+        self.made = one_more(self.made, changes);
     }
 }
 
@@ -70,12 +68,13 @@ pub(crate) fn one_more(count: u32, more: bool) -> u32
     if more { count + 1 } else { count }
 }
 
-fn arm_after(arm: Option<Joints>, request: &Request, answer: &Answer) -> Option<Joints>
-    ensures { result ≡ option_map (λ position. moved position request.now answer.now) arm }
+/// An arm goes on to a setpoint that it was given.
+fn go_on(arm: &mut Option<Joints>, request: &Request, answer: &Answer)
+    ensures { arm.new ≡ option_map (λ position. moved position request.now answer.now) arm.old }
 {
     match (request, answer) {
-        (Request::Setpoint { to }, Answer::Given) if arm.is_some() => Some(*to),
-        _ => arm,
+        (Request::Setpoint { to }, Answer::Given) if arm.is_some() => *arm = Some(*to),
+        _ => {}
     }
 }
 

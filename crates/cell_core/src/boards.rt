@@ -16,10 +16,10 @@ use crate::meetings::arrive;
 use crate::motion::{go, place};
 use crate::outcome::Outcome;
 use crate::starting::actors_of;
-use crate::values::{read, set_signal, test_set, write};
+use crate::values::{read, set_signal, test_set, value_of, write};
 use crate::{interrupts, zones};
 use persist_store::Store;
-use rapid_model::{Answer, Cell, Event, InputRow, Path, Request, Value};
+use rapid_model::{Answer, Cell, InputRow, Path, Request, Value};
 use signal_board::Signals;
 use std::alloc::Global;
 use std::marker::Model;
@@ -72,22 +72,16 @@ impl Boards {
         })
     }
 
-    /// Takes a request of an actor, for which the boards have what it needs, and makes one event of it and its answer.
-    pub(crate) fn take(&mut self, cell: &Cell, actor: u32, request: Request) -> Event
-        requires ready { CanAnswer cell.now self.old actor request }
+    /// Answers a request of an actor, for which the boards have what it needs, and counts the two as one event.
+    pub(crate) fn take(&mut self, cell: &Cell, actor: u32, request: &Request) -> Answer
+        requires ready { CanAnswer cell.now self.old actor request.now }
         requires few { CanCount self.old actor }
-        ensures actor { result.actor ≡ actor }
-        ensures request { result.request ≡ request }
-        ensures answer { IsTold self.old actor request result.answer }
-        ensures boards { self.new ≡ boards_with cell.now self.old result }
+        ensures answer { IsTold self.old actor request.now result }
+        ensures boards { self.new ≡ boards_with cell.now self.old (record { actor = actor; request = request.now; answer = result }) }
     {
-        let Outcome { answer, change } = self.answer(cell, actor, &request);
-        self.tally(actor, &request, &answer, change);
-        Event {
-            actor,
-            request,
-            answer,
-        }
+        let Outcome { answer, change } = self.answer(cell, actor, request);
+        self.tally(actor, request, &answer, change);
+        answer
     }
 
     /// The answer to a request, and what it changes of the boards.
@@ -100,9 +94,9 @@ impl Boards {
                 let seen = self.made_by_others(actor);
                 unchanged(interrupts::look(&mut self.traps, actor, seen))
             }
-            Request::ReadP { pers, path } => unchanged(Answer::Val(read(&self.store, *pers, path))),
+            Request::ReadP { pers, path } => unchanged(value_of(&self.store, *pers, path)),
             Request::WriteP { pers, path, value } => {
-                done(write(&mut self.store, *pers, path, value.copy()))
+                done(write(&mut self.store, *pers, path, value))
             }
             Request::TestSet { pers, path } => test_set(&mut self.store, *pers, path),
             Request::ReadS { signal } => unchanged(Answer::Bit(self.signals.get(*signal))),
@@ -111,9 +105,9 @@ impl Boards {
                 *signal,
                 *value,
             )),
-            Request::Position => unchanged(place(self.actors[actor as usize].arm)),
+            Request::Position => unchanged(place(&self.actors[actor as usize].arm)),
             Request::Setpoint { to } => {
-                let arm = self.actors[actor as usize].arm;
+                let arm = &self.actors[actor as usize].arm;
                 unchanged(go(&self.zones, &self.signals, actor, arm, to))
             }
             Request::Connect { old, trap } => {
@@ -177,8 +171,7 @@ impl Boards {
     {
         interrupts::fire(&mut self.traps, change);
         let changes = change.is_some();
-        let own = self.actors[actor as usize];
-        self.actors[actor as usize] = own.after(changes, request, answer);
+        self.actors[actor as usize].count(changes, request, answer);
         self.counted = one_more(self.counted, is_counted(request));
         self.changes = one_more(self.changes, changes);
     }

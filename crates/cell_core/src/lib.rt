@@ -2,7 +2,6 @@
 #![tactic(auto)]
 
 mod actor;
-mod append;
 mod boards;
 mod change;
 mod fits;

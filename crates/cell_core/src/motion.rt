@@ -10,11 +10,11 @@ use signal_board::Signals;
 use world_zones::Zones;
 
 /// Where the arm is.
-pub(crate) fn place(arm: Option<Joints>) -> Answer
-    ensures { result ≡ position_of arm }
+pub(crate) fn place(arm: &Option<Joints>) -> Answer
+    ensures { result ≡ position_of arm.now }
 {
     match arm {
-        Some(position) => Answer::At(position),
+        Some(position) => Answer::At(*position),
         None => Answer::Ok,
     }
 }
@@ -25,17 +25,17 @@ pub(crate) fn go(
     zones: &Zones,
     signals: &Signals,
     actor: u32,
-    arm: Option<Joints>,
+    arm: &Option<Joints>,
     to: &Joints,
 ) -> Answer
     requires arm { actor < length zones.now.arms }
     requires signals { All (λ zone. zone.signal < length signals.now) zones.now.cell }
-    ensures { IsMoveTold zones.now signals.now actor to.now arm result }
+    ensures { IsMoveTold zones.now signals.now actor to.now arm.now result }
 {
     let Some(from) = arm else {
         return Answer::Ok;
     };
-    match zones.blocks(actor, &from, to, signals) {
+    match zones.blocks(actor, from, to, signals) {
         Some(zone) => Answer::Stopped(zone),
         None => Answer::Given,
     }

@@ -16,7 +16,6 @@ ghost use Rattle.cell_core.specs.Reading.{fates_of, standing};
 ghost use Rattle.cell_core.specs.Serving.{IfAnswered, Serves, history_with};
 ghost use Rattle.cell_core.specs.Soundness.{IsSound};
 
-use crate::append::append;
 use crate::boards::{Boards, is_counted};
 use crate::fits::{allows, feeds, goes_with};
 use crate::served::Served;
@@ -129,9 +128,17 @@ impl Core {
         ensures history { self.new.history ≡ self.old.history ++ record { actor = actor; request = request; answer = result } ∷ [] }
         ensures fits { IsTrue (fits_request (fitting_in self.old.cell (part_of actor self.old.history)) request result) }
     {
-        let event = self.boards.take(&self.cell, actor, request);
-        let answer = event.answer.copy();
-        append(&mut self.events, event);
+        let place = self.events.len();
+        // The request is long: it is moved once, to its place in the history, where the boards read it. Then comes the answer.
+        self.events.push_reserved(Event {
+            actor,
+            request,
+            answer: Answer::Ok,
+        });
+        let answer = self
+            .boards
+            .take(&self.cell, actor, &self.events[place].request);
+        self.events[place].answer = answer.copy();
         answer
     }
 
@@ -264,6 +271,14 @@ impl Core {
         ensures { slice_get self.now.history k ≡ Some result }
     {
         self.events[k as usize].copy()
+    }
+
+    /// Lends event `k`, from 0.
+    pub fn lend_event(&self, k: u32) -> &Event
+        requires { k < length self.now.history }
+        ensures { slice_get self.now.history k ≡ Some result.now }
+    {
+        &self.events[k as usize]
     }
 
     /// The cell.

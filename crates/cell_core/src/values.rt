@@ -5,7 +5,7 @@ ghost use Rattle.std.specs.Prelude.{◌≡◌, ◌<◌, true, length, slice_set,
 ghost use Rattle.rapid_model.specs.Paths.{fits_part, part_sort};
 ghost use Rattle.rapid_model.specs.declared.sort.Sort.TheVariants as sorts;
 ghost use Rattle.persist_store.specs.Stores.{IsStored, row_at};
-ghost use Rattle.cell_meaning.specs.Answers.{is_false};
+ghost use Rattle.cell_meaning.specs.Answers.{is_false, value_of};
 ghost use Rattle.cell_meaning.specs.Stored.{value_at};
 ghost use Rattle.cell_core.specs.Boards.{elements_at, put_in};
 ghost use Rattle.cell_core.specs.Changes.{pers_change, signal_change};
@@ -27,15 +27,23 @@ pub(crate) fn read(store: &Store, pers: u32, path: &Path) -> Value
     store.get(pers, path).unwrap()
 }
 
-/// Puts a value in as a part of a persistent, which it fits.
-pub(crate) fn write(store: &mut Store, pers: u32, path: &Path, value: Value) -> Change
-    requires part { HasPart store.old pers path.now }
-    requires fits { IsTrue (fits_part (row_at store.old pers).sort path.now.part value) }
-    ensures change { result ≡ pers_change store.old pers path.now value }
-    ensures store { store.new ≡ put_in store.old pers path.now value }
+/// The same as an answer.
+pub(crate) fn value_of(store: &Store, pers: u32, path: &Path) -> Answer
+    requires { HasPart store.now pers path.now }
+    ensures { result ≡ value_of (value_at (elements_at store.now pers) path.now) }
 {
-    let still = same_value(&read(store, pers, path), &value);
-    put(store, pers, path, value);
+    Answer::Val(read(store, pers, path))
+}
+
+/// Puts a value in as a part of a persistent, which it fits.
+pub(crate) fn write(store: &mut Store, pers: u32, path: &Path, value: &Value) -> Change
+    requires part { HasPart store.old pers path.now }
+    requires fits { IsTrue (fits_part (row_at store.old pers).sort path.now.part value.now) }
+    ensures change { result ≡ pers_change store.old pers path.now value.now }
+    ensures store { store.new ≡ put_in store.old pers path.now value.now }
+{
+    let still = same_value(&read(store, pers, path), value);
+    put(store, pers, path, value.copy());
     Change::of_value(still, Watched::Pers { pers })
 }
 
@@ -48,7 +56,7 @@ pub(crate) fn test_set(store: &mut Store, pers: u32, path: &Path) -> Outcome
     ensures store { store.new ≡ (if is_false (value_at (elements_at store.old pers) path.now) then put_in store.old pers path.now (Value.Bool true) else store.old) }
 {
     if let Value::Bool(false) = read(store, pers, path) {
-        let change = write(store, pers, path, Value::Bool(true));
+        let change = write(store, pers, path, &Value::Bool(true));
         return Outcome {
             answer: Answer::Yes(true),
             change,

@@ -7,9 +7,9 @@ ghost use Rattle.controller.specs.Written.{Writes};
 
 use arrayvec::ArrayString;
 use cell_core::Core;
-use history_text::{write_event, write_fate};
+use history_text::{has_line, write_event, write_fate};
 use outside::{Failed, Sink};
-use rapid_model::{Fate, NameText, TaskRow};
+use rapid_model::{Event, Fate, NameText, TaskRow};
 
 /// Prints the lines of the history, and then how each task stands. Takes no memory.
 pub(crate) fn print_run<O: Sink>(out: &mut O, core: &Core) -> Result<(), Failed>
@@ -34,9 +34,19 @@ fn print_event<O: Sink>(out: &mut O, core: &Core, k: u32) -> Result<(), Failed>
     requires { k < length core.now.history }
     ensures { (e : Event) → slice_get core.now.history k ≡ Some e → Writes (line_of core.now.cell.tasks e ∷ []) result (sunk O.told O.calls O.faults out.old out.new) }
 {
-    let event = core.event(k);
+    let event = core.lend_event(k);
+    if !has_line(event) {
+        return Ok(());
+    }
+    print_line(out, rows_of(core), event)
+}
+
+/// Prints the line of an event.
+fn print_line<O: Sink>(out: &mut O, tasks: &[TaskRow], event: &Event) -> Result<(), Failed>
+    ensures { Writes (line_of tasks.now event.now ∷ []) result (sunk O.told O.calls O.faults out.old out.new) }
+{
     let mut line = ArrayString::new();
-    write_event(rows_of(core), &event, &mut line);
+    write_event(tasks, event, &mut line);
     write_all(out, line.as_str().as_bytes())
 }
 

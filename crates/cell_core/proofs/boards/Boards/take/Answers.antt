@@ -7,4 +7,4 @@ use Rattle.cell_core.proofs.boards.Boards.take.Goals as goal
 pub tally-requires : goal.tally-requires
 tally-requires c =
     subst (λ (b : BoardData). CanCount b c.args.actor) (sym c.answer-answer.ensures.boards)
-    (count_kept c.args.cell.now c.args.self.now c.args.actor c.args.request c.answer-answer.result.answer c.requires.few)
+    (count_kept c.args.cell.now c.args.self.now c.args.actor c.args.request.now c.answer-answer.result.answer c.requires.few)
