@@ -15,7 +15,8 @@ use Rattle.cell_assembly.specs.Made.{MadeCell, make_cell}
 use Rattle.tree_soundness.specs.Accepted.{AreChecked, AreRead, IsAccepted}
 use Rattle.tree_soundness.proofs.Cells.{tasks_are}
 use Rattle.controller.specs.declared.refused.Refused.{Refused}
-use Rattle.controller.specs.Accepted.{ReadModule, or_refused, names_in, then_trees, typed_tasks, cell_or_refused, cell_from, checked}
+use Rattle.controller.specs.Accepted.{ReadModule, or_refused, names_in, typed_tasks, cell_or_refused, checked}
+use Rattle.controller.proofs.TreesInTurn.{then_trees, cell_from}
 use Rattle.controller.specs.Loaded.{AreSpelled, HasScript, IsSpelled, TextsDecide}
 
 -- the modules that texts come to are spelled

@@ -26,7 +26,8 @@ use Rattle.rapid_lexer.specs.declared.place.Place.{Place}
 use Rattle.rapid_model.specs.declared.script_rule.ScriptRule.{ScriptRule}
 use Rattle.rule_checks.specs.declared.rule.TypeRule.TheVariants.{PersType}
 use Rattle.controller.specs.declared.modules.Modules.{Modules}
-use Rattle.controller.specs.Accepted.{ReadModule, place_at, read_text, read_file, rule_refusal, or_refused, names_in, typed_task, with_tree, then_trees, typed_tasks, modules_before, cell_or_refused, cell_from, checked}
+use Rattle.controller.specs.Accepted.{ReadModule, place_at, read_text, read_file, rule_refusal, or_refused, names_in, typed_task, typed_tasks, modules_before, cell_or_refused, checked}
+use Rattle.controller.proofs.TreesInTurn.{with_tree, then_trees, cell_from}
 use Rattle.controller.specs.Files.{IsDoneFault}
 use Rattle.controller.specs.Loaded.{reads_in, ArePaired, IsRuleRefusal}
 use Rattle.controller.proofs.Lists.{drop-element}

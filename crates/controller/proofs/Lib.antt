@@ -8,6 +8,7 @@ pub mod GivenReads
 pub mod Loads
 pub mod ReadModules
 pub mod Parsing
+pub mod TreesInTurn
 pub mod Checking
 pub mod Made
 pub mod Compiling

@@ -20,7 +20,8 @@ use Rattle.cell_assembly.specs.declared.cell_fault.CellFault.{CellFault}
 use Rattle.cell_assembly.specs.declared.cell_fault.CellFault.TheVariants as faults
 use Rattle.controller.specs.declared.refused.Refused.{Refused}
 use Rattle.controller.specs.declared.refused.Refused.TheVariants.{Memory}
-use Rattle.controller.specs.Accepted.{ReadModule, or_refused, names_in, typed_task, then_trees, typed_tasks, cell_or_refused, cell_from, checked}
+use Rattle.controller.specs.Accepted.{ReadModule, or_refused, names_in, typed_task, typed_tasks, cell_or_refused, checked}
+use Rattle.controller.proofs.TreesInTurn.{then_trees, cell_from}
 use Rattle.controller.specs.Loaded.{IsCellRefusal}
 
 -- a tree for each task, and the persistents of each are sound

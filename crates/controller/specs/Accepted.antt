@@ -11,6 +11,7 @@ use Rattle.raw_trees.specs.Plain.{PlainModule}
 use Rattle.typed_trees.specs.Plain.{TypedTree}
 use Rattle.rule_checks.specs.declared.rule.TypeRule.{TypeRule}
 use Rattle.rule_checks.specs.declared.rule.TypeRule.TheVariants.{PersType}
+use Rattle.rule_checks.specs.Checks.{◌>>=◌}
 use Rattle.rule_checks.specs.TypeChecks.{Checked}
 use Rattle.stmt_types.specs.Task.{task_of}
 use Rattle.cell_assembly.specs.Cells.{CellBreak, Clash, InScript, Making}
@@ -111,21 +112,12 @@ abbrev pub typed_task : ScriptData → ScriptTask → List ReadModule → Result
 typed_task script task reads =
     or_refused reads (task_of (map (λ read. read.raw) reads) (names_in script.tasks) script.signals (is_some task.arm))
 
-abbrev pub with_tree : TypedTree → Result (List TypedTree) Refused → Result (List TypedTree) Refused
-with_tree tree (Ok trees) = Ok (tree ∷ trees)
-with_tree tree (Err refused) = Err refused
-
--- a tree and those of further tasks; or the first refusal
-abbrev pub then_trees : Result TypedTree Refused → Result (List TypedTree) Refused → Result (List TypedTree) Refused
-then_trees (Ok tree) more = with_tree tree more
-then_trees (Err refused) more = Err refused
-
--- the typed trees of these tasks, each with as many of the modules as it names
+-- the typed trees of these tasks, each with as many of the modules as it names; or the first refusal
 abbrev pub typed_tasks : ScriptData → List ScriptTask → List ReadModule → Result (List TypedTree) Refused
 typed_tasks script [] reads = Ok []
 typed_tasks script (task ∷ tasks) reads =
     let count = length task.modules in
-    then_trees (typed_task script task (take count reads)) (typed_tasks script tasks (drop count reads))
+    typed_task script task (take count reads) >>= (λ tree. typed_tasks script tasks (drop count reads) >>= (λ trees. Ok (tree ∷ trees)))
 
 -- how many modules the tasks before the one of this number have
 abbrev pub modules_before : List ScriptTask → ℕ → ℕ
@@ -142,14 +134,10 @@ abbrev pub cell_or_refused : ScriptData → List ReadModule → Making MadeCell 
 cell_or_refused script reads (Ok made) = Ok made
 cell_or_refused script reads (Err broken) = Err (cell_refusal script reads broken)
 
-abbrev pub cell_from : ScriptData → List ReadModule → Result (List TypedTree) Refused → Result MadeCell Refused
-cell_from script reads (Ok trees) = cell_or_refused script reads (make_cell script trees)
-cell_from script reads (Err refused) = Err refused
-
 -- The cell of a script and of its modules, and the trees of its tasks with its numbers; or the first refusal of these: by names
 -- and types, task by task; then by what the tasks share; then by the script's values of persistents.
 abbrev pub checked : ScriptData → List ReadModule → Result MadeCell Refused
-checked script reads = cell_from script reads (typed_tasks script script.tasks reads)
+checked script reads = typed_tasks script script.tasks reads >>= (λ trees. cell_or_refused script reads (make_cell script trees))
 
 -- what the action comes to where all is accepted, with this cell and these trees; words without an action are refused
 abbrev pub ActionDecides : Option Action → List (List ℕ) → MadeCell → Verdict → Type 0
