@@ -1,6 +1,6 @@
 -- A machine amid a run: what an event of its own task makes of it.
-use Rattle.std.proofs.Common.{◌≡◌, Bool, true, false, cond, List, [], ◌∷◌, ◌++◌, map, Option, Some, None, refl, ap, sym, ◌∙◌, subst}
-use Rattle.std.specs.Prelude.{is_some, is_none, filter}
+use Rattle.std.proofs.Common.{◌≡◌, true, false, cond, List, [], ◌∷◌, ◌++◌, map, Option, Some, None, refl, ap, sym, ◌∙◌, subst}
+use Rattle.std.specs.Prelude.{IsSome, is_some, is_none, filter}
 use Rattle.std.specs.Option.{option_or}
 use Rattle.std.proofs.lemmas.Bool.{false≢true}
 use Rattle.std.proofs.lemmas.List.{append-nil, map-append}
@@ -12,7 +12,7 @@ use Rattle.rapid_model.specs.declared.fate.Fate.{Fate}
 use Rattle.rapid_model.specs.declared.request.Request.{Request}
 use Rattle.cell_meaning.proofs.MoreEvents.{end_of-more}
 use Rattle.cell_crew.specs.Crew.{answers_before_end}
-use Rattle.cell_crew.specs.UnderWay.{UnderWay, HasGoneOn, is_at_end}
+use Rattle.cell_crew.specs.UnderWay.{UnderWay}
 
 -- the answers of some events
 abbrev pub answers_in : List Event → List Answer
@@ -61,7 +61,7 @@ ended_more mine e p = ap (λ (o : Option Fate). is_some o) (end_of-more mine e) 
     by None b q = refl
     by (Some x) b q = cc
 
-told_none : (told : Option Fate) → is_some told ≡ false → told ≡ None
+pub told_none : (told : Option Fate) → is_some told ≡ false → told ≡ None
 told_none None p = refl
 told_none (Some fate) p = cc
 
@@ -70,26 +70,24 @@ told_some answers answer None p = cc
 told_some answers answer (Some fate) p = append-nil answers
 
 module _ {M : Type 0} (stands_for : M → List Answer → Type 0) (due : M → Option Request) where
-  -- a machine that was handed the answer of its task's next event is under way
-  pub gone_on : (m later : M) (mine : List Event) (e : Event) (at_end : Bool) → is_some (fate_told e.request) ≡ at_end → has_ended mine ≡ false → UnderWay stands_for due m mine
-      → HasGoneOn stands_for due at_end m e.answer later → UnderWay stands_for due later (mine ++ e ∷ [])
-  gone_on m later mine e true end going way same = record {
-    stands = subst (λ (xs : List Answer). stands_for later xs) (sym (before_end_more mine e ∙ told_some (answers_before_end mine) e.answer (fate_told e.request) end))
-        (subst (λ (x : M). stands_for x (answers_before_end mine)) (sym same) way.stands);
+  -- the machine of a task that its next event ends is under way as it is
+  pub way_ended : (m : M) (mine : List Event) (e : Event) → is_some (fate_told e.request) ≡ true → has_ended mine ≡ false → UnderWay stands_for due m mine → UnderWay stands_for due m (mine ++ e ∷ [])
+  way_ended m mine e end going way = record {
+    stands = subst (λ (xs : List Answer). stands_for m xs) (sym (before_end_more mine e ∙ told_some (answers_before_end mine) e.answer (fate_told e.request) end)) way.stands;
     goes_on = λ going_on. absurd (false≢true (sym going_on ∙ ended_more mine e going ∙ end));
   }
-  gone_on m later mine e false no_end going way went = record {
-    stands = subst (λ (xs : List Answer). stands_for later xs) (sym (before_end_more mine e ∙ ap (λ (told : Option Fate). answers_before_end mine ++ and_answer e.answer [] told) (told_none (fate_told e.request) no_end)))
-        (went.1 (answers_before_end mine) way.stands);
-    goes_on = λ going_on. went.0;
-  }
 
-  -- whether its End was due
-  pub end_due : (m : M) (request : Request) → due m ≡ Some request → is_some (fate_told request) ≡ is_at_end (due m)
-  end_due m request is = sym (ap (λ (o : Option Request). is_at_end o) is)
+  -- and one that has gone on with the answer of its task's next event
+  pub way_on : (m later : M) (mine : List Event) (e : Event) → is_some (fate_told e.request) ≡ false → UnderWay stands_for due m mine → IsSome (due later)
+      → ((before : List Answer) → stands_for m before → stands_for later (before ++ e.answer ∷ [])) → UnderWay stands_for due later (mine ++ e ∷ [])
+  way_on m later mine e no_end way asks on = record {
+    stands = subst (λ (xs : List Answer). stands_for later xs) (sym (before_end_more mine e ∙ ap (λ (told : Option Fate). answers_before_end mine ++ and_answer e.answer [] told) (told_none (fate_told e.request) no_end)))
+        (on (answers_before_end mine) way.stands);
+    goes_on = λ going_on. asks;
+  }
 
   pub stood : (m : M) (mine : List Event) → UnderWay stands_for due m mine → has_ended mine ≡ false → stands_for m (answers_in mine)
   stood m mine way going = subst (λ (xs : List Answer). stands_for m xs) (before_end_all mine going) way.stands
 
-  pub has_begun : (m : M) (request : Request) → due m ≡ Some request → stands_for m [] → UnderWay stands_for due m []
-  has_begun m request is stands = record { stands = stands; goes_on = λ going. ap (λ (o : Option Request). is_some o) is }
+  pub has_begun : (m : M) → IsSome (due m) → stands_for m [] → UnderWay stands_for due m []
+  has_begun m asks stands = record { stands = stands; goes_on = λ going. asks }

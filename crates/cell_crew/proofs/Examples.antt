@@ -1,5 +1,5 @@
 -- The definitions on a task that looks and ends, and a machine of it that counts the answers that it got.
-use Rattle.std.proofs.Common.{◌≡◌, ℕ, zero, suc, true, false, List, [], ◌∷◌, length, Option, Some, None, refl, arith, length-append}
+use Rattle.std.proofs.Common.{◌≡◌, ℕ, zero, suc, List, [], ◌∷◌, length, Option, Some, refl}
 use Rattle.rapid_model.specs.declared.answer.Answer.{Answer}
 use Rattle.rapid_model.specs.declared.answer.Answer.TheVariants as answers
 use Rattle.rapid_model.specs.declared.event.Event.{Event}
@@ -7,7 +7,7 @@ use Rattle.rapid_model.specs.declared.fate.Fate.TheVariants as fates
 use Rattle.rapid_model.specs.declared.request.Request.{Request}
 use Rattle.rapid_model.specs.declared.request.Request.TheVariants.{Look, End}
 use Rattle.cell_crew.specs.Crew.{answers_before_end}
-use Rattle.cell_crew.specs.UnderWay.{UnderWay, HasGoneOn, is_at_end}
+use Rattle.cell_crew.specs.UnderWay.{UnderWay}
 use Rattle.cell_crew.specs.Turned.{event_of}
 
 looked : Event
@@ -27,10 +27,6 @@ the_end_is_left_out : answers_before_end (looked ∷ told ∷ []) ≡ answers.Go
 unfolding looked told
 the_end_is_left_out = refl
 
-ends_next : (is_at_end (due 0) ≡ false) × (is_at_end (due 1) ≡ true) × (is_at_end None ≡ false)
-unfolding due
-ends_next = (refl, refl, refl)
-
 -- after its Look the machine has asked its End, and stays so when that was answered
 under_way : UnderWay counts due 1 (looked ∷ [])
 unfolding looked counts due
@@ -39,10 +35,3 @@ under_way = record { stands = refl; goes_on = λ going. refl }
 has_ended : UnderWay counts due 1 (looked ∷ told ∷ [])
 unfolding looked told counts due
 has_ended = record { stands = refl; goes_on = λ going. refl }
-
-goes_on : HasGoneOn counts due false 0 (answers.Go 0) 1
-unfolding counts due
-goes_on = (refl, λ before stands. omega (arith, stands, length-append before (answers.Go 0 ∷ [])))
-
-stays_at_its_end : HasGoneOn counts due true 1 answers.Ok 1
-stays_at_its_end = refl

@@ -1,9 +1,9 @@
 -- The turn of a task.
 use Rattle.std.proofs.Common.{◌≡◌, ℕ, ◌<◌, true, false, List, [], ◌∷◌, ◌++◌, length, Option, Some, None, refl, ap, sym, ◌∙◌, subst, inl, inr, arith}
-use Rattle.std.specs.Prelude.{◌↔◌}
+use Rattle.std.specs.Prelude.{◌↔◌, IsSome, IsSomeAnd, is_some}
 use Rattle.std.proofs.lemmas.Bool.{false≢true}
 use Rattle.rapid_model.specs.CellData.{CellData}
-use Rattle.rapid_model.specs.Own.{part_of, answers_of, has_ended}
+use Rattle.rapid_model.specs.Own.{part_of, answers_of, fate_told, has_ended}
 use Rattle.rapid_model.specs.declared.answer.Answer.{Answer}
 use Rattle.rapid_model.specs.declared.event.Event.{Event}
 use Rattle.rapid_model.specs.declared.request.Request.{Request}
@@ -14,9 +14,9 @@ use Rattle.cell_meaning.specs.Histories.{Follows, IsLegal}
 use Rattle.cell_meaning.specs.Turns.{TakesTurn}
 use Rattle.cell_meaning.proofs.MoreEvents.{part_of-own}
 use Rattle.cell_crew.specs.Crew.{RunsProgram}
-use Rattle.cell_crew.specs.UnderWay.{UnderWay, MayTake, HasGoneOn, is_at_end}
+use Rattle.cell_crew.specs.UnderWay.{UnderWay}
 use Rattle.cell_crew.specs.Turned.{event_of, CannotFollow, CameOf}
-use Rattle.cell_crew.proofs.Amid.{answers_in, answers_in-more, stood, gone_on, end_due}
+use Rattle.cell_crew.proofs.Amid.{answers_in, answers_in-more, ended_more, told_none, stood, way_ended, way_on}
 
 pub own_more : (task : ℕ) (history after : List Event) (request : Request) (answer : Answer) → after ≡ history ++ event_of task request answer ∷ []
     → part_of task after ≡ part_of task history ++ event_of task request answer ∷ []
@@ -70,23 +70,37 @@ module _ {M P : Type 0} (program : M → P) (fits : P → List Answer → Type 0
   asks_only asks cell task m history request at other (inl t) = (asks_just asks cell task m history request at other).0 t.asked
   asks_only asks cell task m history request at other (inr s) = let script = s.script in let within = at.within in absurd (omega (arith, script, within))
 
-  -- what the cell answered it may take
-  pub may_take : (asks : Asking) (cell : CellData) (task : ℕ) (m : M) (history after : List Event) (request : Request) (answer : Answer) → AtTurn asks cell task m history request
-      → IsLegal (with_inputs asks cell) cell after → after ≡ history ++ event_of task request answer ∷ [] → MayTake program fits stands_for due m answer
-  may_take asks cell task m history after request answer at legal is =
+  -- the answer that the cell gave fits its program
+  pub fits_it : (asks : Asking) (cell : CellData) (task : ℕ) (m : M) (history after : List Event) (request : Request) (answer : Answer) → AtTurn asks cell task m history request
+      → IsLegal (with_inputs asks cell) cell after → after ≡ history ++ event_of task request answer ∷ [] → (answers : List Answer) × stands_for m answers × fits (program m) (answers ++ answer ∷ [])
+  fits_it asks cell task m history after request answer at legal is =
       let all : answers_of task after ≡ answers_of task history ++ answer ∷ [] =
       ap answers_in (own_more task history after request answer is) ∙ answers_in-more (part_of task history) (event_of task request answer) in
-      record {
-        request = request;
-        asked = at.is_due;
-        before = answers_of task history;
-        stands = stood stands_for due m (part_of task history) at.way at.going;
-        fitting = subst (λ (xs : List Answer). fits (program m) xs) all (at.runs.fit after legal);
-      }
+      (answers_of task history, stood stands_for due m (part_of task history) at.way at.going, subst (λ (xs : List Answer). fits (program m) xs) all (at.runs.fit after legal))
 
-  -- and it is under way then
-  pub way_on : (asks : Asking) (cell : CellData) (task : ℕ) (m later : M) (history after : List Event) (request : Request) (answer : Answer) → AtTurn asks cell task m history request
-      → HasGoneOn stands_for due (is_at_end (due m)) m answer later → after ≡ history ++ event_of task request answer ∷ [] → UnderWay stands_for due later (part_of task after)
-  way_on asks cell task m later history after request answer at went is =
+  -- whether it has ended with that event
+  ends_it : (asks : Asking) (cell : CellData) (task : ℕ) (m : M) (history after : List Event) (request : Request) (answer : Answer) → AtTurn asks cell task m history request
+      → after ≡ history ++ event_of task request answer ∷ [] → has_ended (part_of task after) ≡ is_some (fate_told request)
+  ends_it asks cell task m history after request answer at is =
+      ap (λ (es : List Event). has_ended es) (own_more task history after request answer is) ∙ ended_more (part_of task history) (event_of task request answer) at.going
+
+  -- where it has not, its End was not due
+  pub goes_on_it : (asks : Asking) (cell : CellData) (task : ℕ) (m : M) (history after : List Event) (request : Request) (answer : Answer) → AtTurn asks cell task m history request
+      → after ≡ history ++ event_of task request answer ∷ [] → has_ended (part_of task after) ≡ false → IsSomeAnd (due m) (λ r. fate_told r ≡ None)
+  goes_on_it asks cell task m history after request answer at is going =
+      subst (λ (o : Option Request). IsSomeAnd o (λ r. fate_told r ≡ None)) (sym at.is_due) (told_none (fate_told request) (sym (ends_it asks cell task m history after request answer at is) ∙ going))
+
+  -- where it has, its machine is under way as it is
+  pub way_ends : (asks : Asking) (cell : CellData) (task : ℕ) (m : M) (history after : List Event) (request : Request) (answer : Answer) → AtTurn asks cell task m history request
+      → after ≡ history ++ event_of task request answer ∷ [] → has_ended (part_of task after) ≡ true → UnderWay stands_for due m (part_of task after)
+  way_ends asks cell task m history after request answer at is end =
+      subst (λ (es : List Event). UnderWay stands_for due m es) (sym (own_more task history after request answer is))
+      (way_ended stands_for due m (part_of task history) (event_of task request answer) (sym (ends_it asks cell task m history after request answer at is) ∙ end) at.going at.way)
+
+  -- and where it has not, the machine is once it has gone on with the answer
+  pub way_goes_on : (asks : Asking) (cell : CellData) (task : ℕ) (m later : M) (history after : List Event) (request : Request) (answer : Answer) → AtTurn asks cell task m history request
+      → after ≡ history ++ event_of task request answer ∷ [] → has_ended (part_of task after) ≡ false → IsSome (due later)
+      → ((before : List Answer) → stands_for m before → stands_for later (before ++ answer ∷ [])) → UnderWay stands_for due later (part_of task after)
+  way_goes_on asks cell task m later history after request answer at is going asked on =
       subst (λ (es : List Event). UnderWay stands_for due later es) (sym (own_more task history after request answer is))
-      (gone_on stands_for due m later (part_of task history) (event_of task request answer) (is_at_end (due m)) (end_due stands_for due m request at.is_due) at.going at.way went)
+      (way_on stands_for due m later (part_of task history) (event_of task request answer) (sym (ends_it asks cell task m history after request answer at is) ∙ going) at.way asked on)

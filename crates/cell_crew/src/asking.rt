@@ -1,11 +1,11 @@
 //! What passes between a machine and the core.
-ghost use Rattle.std.specs.Prelude.{◌≡◌, [], map, IsTrue, is_some};
+ghost use Rattle.std.specs.Prelude.{◌≡◌, [], map};
 ghost use Rattle.std.specs.List.{AllByRecursion};
-ghost use Rattle.rapid_model.specs.Own.{answers_of, fate_told};
+ghost use Rattle.rapid_model.specs.Own.{answers_of};
 ghost use Rattle.cell_meaning.specs.Asking.{with_inputs};
 ghost use Rattle.cell_meaning.specs.Histories.{IsLegal};
 ghost use Rattle.cell_meaning.specs.Premises.{AsksWhatItMay};
-ghost use Rattle.cell_crew.specs.UnderWay.{AreUnderWay, MayTake, HasGoneOn, is_at_end};
+ghost use Rattle.cell_crew.specs.UnderWay.{AreUnderWay};
 ghost use Rattle.cell_crew.specs.Turned.{CameOf};
 
 use cell_core::{Core, Served};
@@ -37,21 +37,4 @@ pub(crate) fn ask<A: Askers>(core: &mut Core, actor: u32, request: Request) -> O
         Served::Answered(answer) => Some(answer),
         Served::Spent | Served::NotYet => None,
     }
-}
-
-/// Hands a machine the answer to the request that is due, and it asks the next; but the answer to its End it is not handed.
-pub(crate) fn hand_on<M: TaskMachine>(machine: &mut M, answer: Answer)
-    requires { MayTake M.program M.fits M.stands_for M.due machine.old answer }
-    ensures program { M.program machine.new ≡ M.program machine.old }
-    ensures went_on { HasGoneOn M.stands_for M.due (is_at_end (M.due machine.old)) machine.old answer machine.new }
-{
-    if !is_end(&machine.last()) {
-        machine.next(answer);
-    }
-}
-
-fn is_end(request: &Request) -> bool
-    ensures { result ≡ is_some (fate_told request.now) }
-{
-    matches!(request, Request::End { .. })
 }

@@ -8,7 +8,7 @@ ghost use Rattle.cell_meaning.specs.Turns.{TakesTurn};
 ghost use Rattle.cell_crew.specs.Crew.{RunsProgram};
 ghost use Rattle.cell_crew.specs.UnderWay.{UnderWay};
 
-use crate::asking::{ask, hand_on};
+use crate::asking::ask;
 use cell_core::Core;
 use cell_meaning::Askers;
 use task_programs::TaskMachine;
@@ -30,7 +30,10 @@ pub(crate) fn turn<A: Askers, M: TaskMachine>(core: &mut Core, machine: &mut M, 
         return;
     }
     if let Some(answer) = ask::<A>(core, task, machine.last()) {
-        hand_on(machine, answer);
+        // A machine is not handed the answer to its End.
+        if !core.ended(task) {
+            machine.next(answer);
+        }
     }
 }
 

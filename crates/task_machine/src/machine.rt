@@ -58,9 +58,8 @@ impl Machine {
         ensures asks { request_of self.new ≡ Some result }
         ensures stands { StandsFor self.new [] }
     {
-        self.course.begin();
-        self.course.settle();
-        self.course.due()
+        self.begin();
+        self.last()
     }
 
     /// Asks the request that follows the answer to the last one, which was no end of the task.
@@ -71,9 +70,8 @@ impl Machine {
         ensures asks { request_of self.new ≡ Some result }
         ensures stands { (answers : List Answer) → StandsFor self.old answers → StandsFor self.new (answers ++ answer ∷ []) }
     {
-        self.course.reply(answer);
-        self.course.settle();
-        self.course.due()
+        self.go_on(answer);
+        self.last()
     }
 
     /// The request that is due.
@@ -82,6 +80,29 @@ impl Machine {
         ensures { request_of self.now ≡ Some result }
     {
         self.course.due()
+    }
+
+    /// Asks the first request, and gives no copy of it.
+    pub(crate) fn begin(&mut self)
+        requires { self.old.phase ≡ phases.New }
+        ensures code { self.new.code ≡ self.old.code }
+        ensures due { IsSome (request_of self.new) }
+        ensures stands { StandsFor self.new [] }
+    {
+        self.course.begin();
+        self.course.settle();
+    }
+
+    /// Asks the request that follows the answer to the last one, which was no end of the task, and gives no copy of it.
+    pub(crate) fn go_on(&mut self, answer: Answer)
+        requires asked { (request : Request) × (then : Pending) × (self.old.phase ≡ phases.Asking request then) }
+        requires fits { (request : Request) → request_of self.old ≡ Some request → IsTrue (fits_request (fitting_by self.old.code self.old.data'.trapped) request answer) }
+        ensures code { self.new.code ≡ self.old.code }
+        ensures due { IsSome (request_of self.new) }
+        ensures stands { (answers : List Answer) → StandsFor self.old answers → StandsFor self.new (answers ++ answer ∷ []) }
+    {
+        self.course.reply(answer);
+        self.course.settle();
     }
 
     /// How many module data the task has.

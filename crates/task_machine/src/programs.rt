@@ -28,12 +28,12 @@ impl TaskMachine for Machine {
 
     ghost due = { request_of };
 
-    fn first(&mut self) -> Request {
-        Machine::first(self)
+    fn first(&mut self) {
+        self.begin();
     }
 
-    fn next(&mut self, answer: Answer) -> Request {
-        Machine::next(self, answer)
+    fn next(&mut self, answer: Answer) {
+        self.go_on(answer);
     }
 
     fn last(&self) -> Request {

@@ -28,19 +28,20 @@ pub trait TaskMachine {
     // The request that is due: asked last, and not answered yet.
     ghost due: { Self → Option Request };
 
-    /// Asks the first request.
-    fn first(&mut self) -> Request
+    /// Asks the first request, which is due then.
+    fn first(&mut self)
         requires { is_fresh self.old }
         ensures program { program self.new ≡ program self.old }
-        ensures due { due self.new ≡ Some result }
+        ensures due { IsSome (due self.new) }
         ensures stands { stands_for self.new [] };
 
-    /// Goes on with an answer to the request that is due, which it fits, and asks the next. After an End there is none.
-    fn next(&mut self, answer: Answer) -> Request
+    /// Goes on with an answer to the request that is due, which it fits, and asks the next, which is due then. After an End there
+    /// is none.
+    fn next(&mut self, answer: Answer)
         requires goes_on { IsSomeAnd (due self.old) (λ request. fate_told request ≡ None) }
         requires fitting { (answers : List Answer) × stands_for self.old answers × fits (program self.old) (answers ++ answer ∷ []) }
         ensures program { program self.new ≡ program self.old }
-        ensures due { due self.new ≡ Some result }
+        ensures due { IsSome (due self.new) }
         ensures stands { (answers : List Answer) → stands_for self.old answers → stands_for self.new (answers ++ answer ∷ []) };
 
     /// The request that is due.

@@ -1,7 +1,7 @@
 use Rattle.std.proofs.Common.{[]}
 use Rattle.task_machine.specs.Standing.{StandsFor, machine_of}
 use Rattle.task_machine.proofs.Settling.{settled_machine, stands_settled}
-use Rattle.task_machine.proofs.machine.Machine.first.Goals as goal
+use Rattle.task_machine.proofs.machine.Machine.begin.Goals as goal
 
 pub invariant_of-self : goal.invariant_of-self
 invariant_of-self c =

@@ -1,7 +1,7 @@
 use Rattle.std.proofs.Common.{[], ◌∷◌, ◌++◌}
 use Rattle.task_machine.specs.Standing.{StandsFor, machine_of}
 use Rattle.task_machine.proofs.Settling.{settled_machine, stands_settled}
-use Rattle.task_machine.proofs.machine.Machine.next.Goals as goal
+use Rattle.task_machine.proofs.machine.Machine.go_on.Goals as goal
 
 pub reply-requires-clause-fits : goal.reply-requires-clause-fits
 reply-requires-clause-fits c = rw (← c.self.view_is) at c.requires.fits
