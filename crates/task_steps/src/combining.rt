@@ -2,31 +2,15 @@
 #![tactic(auto, unfolding(rapid_meaning::specs::Doings::after))]
 
 ghost use Rattle.std.specs.Prelude.{◌≡◌, true, if◌then◌else◌};
-ghost use Rattle.raw_trees.specs.declared.raw_expr.Operator.{Operator};
-ghost use Rattle.rapid_operators.specs.Operators as operators;
 ghost use Rattle.typed_trees.specs.declared.datum.Datum.TheVariants.{Plain};
 ghost use Rattle.rapid_meaning.specs.Statements as statements;
-ghost use Rattle.rapid_meaning.specs.Values.{applied, opposite, with_sign};
+ghost use Rattle.rapid_meaning.specs.Values.{opposite, with_sign};
 ghost use Rattle.stack_code.specs.Steps.{Here, does, jumps, pushes, to_next};
 ghost use Rattle.task_steps.specs.Doing.{came};
 
 use crate::done::Done;
 use crate::shown::{num_of, truth_of};
 use rapid_model::{Fate, Fault, Value};
-use rapid_operators::{Applied, apply};
-use raw_trees::Operator;
-
-/// An operator with its two operands.
-pub(crate) fn combined(operator: Operator, left: &Value, right: &Value) -> Option<Done>
-    ensures { (h : Here) → pushes h h.conf.stack Plain (applied (operators.apply operator left.now right.now)) ≡ came h result }
-{
-    match apply(operator, left, right) {
-        Applied::Gives(value) => Some(Done::value(value)),
-        Applied::Raises(error) => Some(Done::Raise(error)),
-        Applied::OutOfRange => Some(Done::End(Fate::Fault(Fault::NumRange))),
-        Applied::Unfit => None,
-    }
-}
 
 /// A leading minus.
 pub(crate) fn minus(value: &Value) -> Option<Done>

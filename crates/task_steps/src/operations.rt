@@ -16,7 +16,7 @@ ghost use Rattle.stack_code.specs.declared.zone_op.ZoneOp.TheVariants as zones;
 ghost use Rattle.task_steps.specs.Alike.{with_stack};
 ghost use Rattle.task_steps.specs.Doing.{came, here_of};
 
-use crate::combining::{combined, dropped, gone_on, jumped, minus, not, raised};
+use crate::combining::{dropped, gone_on, jumped, minus, not, raised};
 use crate::done::Done;
 use crate::pushing::{narrowed, of_one, of_two};
 use crate::requests::{
@@ -25,19 +25,8 @@ use crate::requests::{
 };
 use crate::task::Task;
 use rapid_model::{Function, PartName, Request};
-use raw_trees::Operator;
 
 impl Task {
-    /// An operator with two operands.
-    pub(crate) fn binary(&mut self, operator: Operator) -> Option<Done>
-        ensures on { (code : CodeData) → act (here_of code self.old.conf) (ops.Binary operator) ≡ came (here_of code self.new.conf) result }
-        ensures rest { self.new ≡ with_stack self.new.conf.stack self.old }
-    {
-        let right = self.pop_value()?;
-        let left = self.pop_value()?;
-        combined(operator, &left, &right)
-    }
-
     /// A leading minus.
     pub(crate) fn minus(&mut self) -> Option<Done>
         ensures on { (code : CodeData) → act (here_of code self.old.conf) (ops.Unary unary.Minus) ≡ came (here_of code self.new.conf) result }
