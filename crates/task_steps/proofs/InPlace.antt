@@ -1,5 +1,5 @@
 -- Operations that are done where their operands lie.
-use Rattle.std.proofs.Common.{◌≡◌, refl, sym, ap, ◌∙◌, ℤ, ◌≤◌, List, [], ◌∷◌, length, drop, Option, None, Some, slice_get}
+use Rattle.std.proofs.Common.{◌≡◌, refl, sym, ap, ◌∙◌, Bool, ℤ, ◌≤◌, List, [], ◌∷◌, length, drop, Option, None, Some, slice_get}
 use Rattle.std.specs.Option.{option_and_then, option_map}
 use Rattle.raw_trees.specs.declared.raw_expr.Operator.{Operator}
 use Rattle.rapid_model.specs.declared.value.Value.{Value}
@@ -14,15 +14,15 @@ use Rattle.typed_trees.specs.declared.datum.Lvalue.{Lvalue}
 use Rattle.typed_trees.specs.declared.datum.Root.{Root}
 use Rattle.typed_trees.specs.declared.datum.Root.TheVariants as roots
 use Rattle.rapid_meaning.specs.Data.{Data, datum_at, put_at}
-use Rattle.rapid_meaning.specs.Doings.{Doing}
+use Rattle.rapid_meaning.specs.Doings.{Doing, Misfit, Raises, after, or_misfit}
 use Rattle.rapid_meaning.specs.Places.{load, part_in, put_in, store}
-use Rattle.rapid_meaning.specs.Values.{applied}
+use Rattle.rapid_meaning.specs.Values.{applied, truth_in}
 use Rattle.stack_code.specs.CodeData.{CodeData}
 use Rattle.stack_code.specs.Confs.{Conf}
-use Rattle.stack_code.specs.Operands.{on_place, on_top, on_value}
+use Rattle.stack_code.specs.Operands.{on_place, on_top, on_truth, on_value}
 use Rattle.stack_code.specs.Steps.{Here, act, does, pushes, to_next}
 use Rattle.stack_code.specs.declared.op.Op.TheVariants as ops
-use Rattle.task_steps.specs.Alike.{Alike}
+use Rattle.task_steps.specs.Alike.{Alike, popped}
 use Rattle.task_steps.specs.Doing.{here_of}
 use Rattle.task_steps.specs.Own.{IsNumAt, IsOwn}
 use Rattle.task_steps.proofs.Along.{alike_is, alike_then}
@@ -74,6 +74,24 @@ there_value (Some (datums.Plain w)) v e = let same : w ≡ v = cc in ap (λ (u :
 there_value (Some (datums.Mark n)) v e = cc
 there_value (Some (datums.Shape s)) v e = cc
 there_value (Some (datums.Place p)) v e = cc
+
+-- a bool on top, or none
+truth_there : (m : Doing Bool) (r : Option Bool) (rest : List Datum) (next : Bool → List Datum → Doing Conf) → m ≡ or_misfit r → after m (λ b. next b rest) Raises ≡ popped r rest next
+unfolding after
+truth_there m None rest next e = rw e refl
+truth_there m (Some b) rest next e = rw e refl
+
+pub truth_on : (xs : List Datum) (v : Value) (r : Option Bool) (next : Bool → List Datum → Doing Conf) → Some v ≡ option_and_then as_value (slice_get xs 0) → truth_in v ≡ or_misfit r
+    → on_truth xs next ≡ popped r (drop 1 xs) next
+truth_on xs v r next top is =
+    ap (λ (ys : List Datum). on_truth ys next) (top_is xs (Plain v) (there_value (slice_get xs 0) v (sym top))) ∙ truth_there (truth_in v) r (drop 1 xs) next is
+
+pub truth_none : (xs : List Datum) (next : Bool → List Datum → Doing Conf) → None ≡ option_and_then as_value (slice_get xs 0) → on_truth xs next ≡ Misfit
+truth_none [] next e = refl
+truth_none (datums.Plain w ∷ rest) next e = cc
+truth_none (datums.Mark n ∷ rest) next e = refl
+truth_none (datums.Shape s ∷ rest) next e = refl
+truth_none (datums.Place p ∷ rest) next e = refl
 
 -- an operator with its operands
 abbrev applies : Here → Operator → List Datum → Doing Conf

@@ -1,15 +1,18 @@
 //! Operations that make a value of others.
 #![tactic(auto, unfolding(rapid_meaning::specs::Doings::after))]
 
-ghost use Rattle.std.specs.Prelude.{◌≡◌, true, if◌then◌else◌};
+ghost use Rattle.std.specs.Prelude.{◌≡◌, true, Some, if◌then◌else◌};
 ghost use Rattle.typed_trees.specs.declared.datum.Datum.TheVariants.{Plain};
 ghost use Rattle.rapid_meaning.specs.Statements as statements;
 ghost use Rattle.rapid_meaning.specs.Values.{opposite, with_sign};
+ghost use Rattle.stack_code.specs.CodeData.{CodeData};
 ghost use Rattle.stack_code.specs.Steps.{Here, does, jumps, pushes, to_next};
-ghost use Rattle.task_steps.specs.Doing.{came};
+ghost use Rattle.task_steps.specs.Doing.{came, gone, here_of};
+ghost use Rattle.task_steps.specs.Seen.{Seen};
 
 use crate::done::Done;
 use crate::shown::{num_of, truth_of};
+use crate::way::Way;
 use rapid_model::{Fate, Fault, Value};
 
 /// A leading minus.
@@ -41,25 +44,17 @@ pub(crate) fn raised(value: &Value) -> Option<Done>
 }
 
 /// Jumps where a bool is TRUE.
-pub(crate) fn jumped(truth: bool, to: u32) -> Option<Done>
-    ensures { (h : Here) → (if truth then jumps h to h.conf.stack else to_next h h.conf.stack) ≡ came h result }
+pub(crate) fn jumped(truth: bool, to: u32) -> Way
+    ensures { (code : CodeData) (s : Seen) → (if truth then jumps (here_of code s.conf) to s.conf.stack else to_next (here_of code s.conf) s.conf.stack) ≡ gone code (Some result) s }
 {
-    if truth {
-        Some(Done::Jump(to))
-    } else {
-        Some(Done::Next)
-    }
+    if truth { Way::Jump(to) } else { Way::Next }
 }
 
 /// Jumps where a bool is FALSE.
-pub(crate) fn gone_on(truth: bool, to: u32) -> Option<Done>
-    ensures { (h : Here) → (if truth then to_next h h.conf.stack else jumps h to h.conf.stack) ≡ came h result }
+pub(crate) fn gone_on(truth: bool, to: u32) -> Way
+    ensures { (code : CodeData) (s : Seen) → (if truth then to_next (here_of code s.conf) s.conf.stack else jumps (here_of code s.conf) to s.conf.stack) ≡ gone code (Some result) s }
 {
-    if truth {
-        Some(Done::Next)
-    } else {
-        Some(Done::Jump(to))
-    }
+    if truth { Way::Next } else { Way::Jump(to) }
 }
 
 /// Goes on.

@@ -37,8 +37,6 @@ impl Task {
             Op::Pack(sort) => self.pack(*sort),
             Op::Unary(operator) => self.unary(*operator),
             Op::Func(function) => self.call_function(*function),
-            Op::JumpTrue(to) => self.jump_if(*to),
-            Op::JumpFalse(to) => self.jump_unless(*to),
             Op::Call(routine) => self.call(loaded, *routine),
             Op::Back => self.back(None),
             Op::BackWith => self.back_with(),

@@ -39,6 +39,8 @@ impl Task {
             Op::Store => self.store(code),
             Op::Binary(operator) => self.binary(*operator),
             Op::Jump(to) => Some(Way::Jump(*to)),
+            Op::JumpTrue(to) => self.jump_if(*to),
+            Op::JumpFalse(to) => self.jump_unless(*to),
             Op::Turn(at, to) => self.turn(*at, *to),
             Op::Step(at, to) => self.step_on(code, *at, *to),
             Op::Look => self.look(code),

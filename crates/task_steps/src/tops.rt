@@ -1,12 +1,17 @@
 //! Operands where they lie.
 
-ghost use Rattle.std.specs.Prelude.{◌≡◌, ◌≢◌, [], ◌∷◌, drop, slice_get, Some, IfSome};
+ghost use Rattle.std.specs.Prelude.{◌≡◌, ◌≢◌, Bool, List, [], ◌∷◌, drop, slice_get, Some, IfSome};
 ghost use Rattle.std.specs.Option.{option_and_then, option_copied};
 ghost use Rattle.rapid_model.specs.declared.value.Value.TheVariants as values;
+ghost use Rattle.typed_trees.specs.declared.datum.Datum.{Datum};
 ghost use Rattle.typed_trees.specs.declared.datum.Datum.TheVariants.{Place, Plain};
+ghost use Rattle.rapid_meaning.specs.Doings.{Doing};
+ghost use Rattle.stack_code.specs.Confs.{Conf};
+ghost use Rattle.stack_code.specs.Operands.{on_truth};
 ghost use Rattle.machine_stacks.specs.Forms.{as_value};
-ghost use Rattle.task_steps.specs.Alike.{with_stack};
+ghost use Rattle.task_steps.specs.Alike.{popped, with_stack};
 
+use crate::shown::truth_of;
 use crate::task::Task;
 use rapid_model::Value;
 use rapid_num::Num;
@@ -35,6 +40,15 @@ impl Task {
         ensures { IfSome result (λ place. slice_get self.now.conf.stack above ≡ Some (Place place)) }
     {
         self.operands.peek(above)?.place()
+    }
+
+    /// The bool on top, if it is there and one.
+    pub(crate) fn top_truth(&self) -> Option<bool>
+        ensures some { IfSome result (λ truth. self.now.conf.stack ≢ []) }
+        ensures on { (next : Bool → List Datum → Doing Conf) → on_truth self.now.conf.stack next ≡ popped result (drop 1 self.now.conf.stack) next }
+    {
+        let value = self.value_at(0)?;
+        truth_of(value)
     }
 
     /// Puts a num in the place of the operand on top.
