@@ -1,6 +1,6 @@
 -- Operands of routines that lie one behind the other.
-use Rattle.std.proofs.Common.{◌≡◌, ℕ, suc, ◌+◌, ◌-◌, ◌≤◌, List, [], ◌∷◌, ◌++◌, length, reverse, take, drop, sum_by, refl, sym, ap, ◌∙◌, arith}
-use Rattle.std.proofs.lemmas.List.{take-append-drop, drop-append-le, take-append-le, length-take-le, length-drop, length-reverse, reverse-append, reverse-reverse}
+use Rattle.std.proofs.Common.{◌≡◌, ◌≢◌, ℕ, suc, ◌+◌, ◌-◌, ◌<◌, ◌≤◌, List, [], ◌∷◌, ◌++◌, length, reverse, take, drop, sum_by, slice_set, refl, sym, ap, ◌∙◌, arith}
+use Rattle.std.proofs.lemmas.List.{drop_all, set_split, take-set-le, take-append-drop, drop-append-le, take-append-le, length-take-le, length-drop, length-reverse, reverse-append, reverse-reverse}
 use Rattle.std.proofs.lemmas.List.Sums.{sum_by-cons}
 use Rattle.std.proofs.Math.Seq.{take-append_seam, drop-append_seam}
 use Rattle.typed_trees.specs.declared.datum.Datum.{Datum}
@@ -67,3 +67,35 @@ stack_of top below room depth = record { top = top; below = below; room = room; 
 pub same_stack : (a b : List Datum) (x y : List (List Datum)) (m n depth : ℕ) → a ≡ b → x ≡ y → m ≡ n → stack_of a x m depth ≡ stack_of b y n depth
 same_stack a b x y m n depth top below room =
     ap (λ t. stack_of t x m depth) top ∙ ap (λ u. stack_of b u m depth) below ∙ ap (λ r. stack_of b y r depth) room
+
+-- where there is an operand, it lies behind the base
+top_within : (items : List Datum) (base : ℕ) → reverse (drop base items) ≢ [] → base < length items
+top_within items base some = by (drop base items) (length-drop base items) some
+  where
+    by : (above : List Datum) → length above ≡ length items - base → reverse above ≢ [] → base < length items
+    by [] n some = absurd (some refl)
+    by (x ∷ above) n some = omega (arith, n)
+
+-- one operand fewer
+pub stack_dropped : (items : List Datum) (bases : List ℕ) (base at room depth : ℕ) → reverse (drop base items) ≢ [] → at ≡ length items - 1
+    → stack_of (reverse (drop base (take at items))) (stacked (take base (take at items)) bases) room depth ≡ stack_of (drop 1 (reverse (drop base items))) (stacked (take base items) bases) room depth
+stack_dropped items bases base at room depth some is =
+    let within = top_within items base some in
+    let last : at + 1 ≡ length items = omega (arith, is, within) in
+    same_stack _ _ _ _ _ _ _ (sym (top_left items base at 1 (omega arith) last)) (ap (λ xs. stacked xs bases) (below_kept items base at (omega arith) (omega arith))) refl
+
+-- another operand on top
+pub stack_set : (items : List Datum) (bases : List ℕ) (base at room depth : ℕ) (x : Datum) → reverse (drop base items) ≢ [] → at ≡ length items - 1
+    → stack_of (reverse (drop base (slice_set items at x))) (stacked (take base (slice_set items at x)) bases) room depth ≡ stack_of (x ∷ drop 1 (reverse (drop base items))) (stacked (take base items) bases) room depth
+stack_set items bases base at room depth x some is =
+    let within = top_within items base some in
+    let last : at + 1 ≡ length items = omega (arith, is, within) in
+    let len : length (take at items) ≡ at = length-take-le at items (omega arith) in
+    let below : base ≤ length (take at items) = omega arith in
+    let split : slice_set items at x ≡ take at items ++ x ∷ [] = set_split items at x (omega arith) ∙ ap (λ xs. take at items ++ x ∷ xs) (drop_all (suc at) items (omega arith)) in
+    let top : reverse (drop base (slice_set items at x)) ≡ x ∷ drop 1 (reverse (drop base items)) =
+    ap (λ xs. reverse (drop base xs)) split
+    ∙ ap reverse (drop-append-le base (take at items) (x ∷ []) below)
+    ∙ reverse-append (drop base (take at items)) (x ∷ [])
+    ∙ ap (λ xs. x ∷ xs) (sym (top_left items base at 1 (omega arith) last)) in
+    same_stack _ _ _ _ _ _ _ top (ap (λ xs. stacked xs bases) (take-set-le base items at x (omega arith))) refl

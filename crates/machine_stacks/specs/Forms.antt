@@ -1,13 +1,18 @@
 -- What a datum of each form has. The place of one that stands for a place is `place_in` of rapid_meaning.
-use Rattle.std.specs.Prelude.{ℕ, Option, None, Some}
+use Rattle.std.specs.Prelude.{ℕ, ℤ, Option, None, Some}
 use Rattle.rapid_num.specs.declared.shape.Shape.{Shape}
 use Rattle.rapid_model.specs.declared.value.Value.{Value}
+use Rattle.rapid_model.specs.declared.value.Value.TheVariants as values
 use Rattle.typed_trees.specs.declared.datum.Datum.{Datum}
 use Rattle.typed_trees.specs.declared.datum.Datum.TheVariants as datums
 
 abbrev pub as_value : Datum → Option Value
 as_value (datums.Plain value) = Some value
 as_value _ = None
+
+abbrev pub as_num : Datum → Option ℤ
+as_num (datums.Plain (values.Num number)) = Some number
+as_num _ = None
 
 abbrev pub as_mark : Datum → Option ℕ
 as_mark (datums.Mark number) = Some number

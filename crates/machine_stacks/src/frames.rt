@@ -1,5 +1,7 @@
 ghost use Rattle.std.specs.Prelude.{◌≡◌, ◌+◌, ◌<◌, ◌≤◌, [], ◌∷◌, length, reverse, take, drop, slice_get, IfOk};
 ghost use Rattle.std.specs.Option.{option_and_then, option_copied};
+ghost use Rattle.rapid_model.specs.declared.value.Value.TheVariants as values;
+ghost use Rattle.typed_trees.specs.declared.datum.Datum.TheVariants.{Plain};
 ghost use Rattle.rapid_meaning.specs.Data.{below_first, frame_at, put_in_frame, seen_in, values_in, with_seen};
 ghost use Rattle.machine_stacks.specs.Starts.{frame_from};
 
@@ -7,8 +9,9 @@ use crate::first_values::append_firsts;
 use crate::held::Held;
 use crate::mark::Mark;
 use crate::operands::Operands;
-use crate::places::{place_at, value_at, write_at};
+use crate::places::{place_at, value_at, write_at, write_num_at};
 use crate::run_start::RunStart;
+use rapid_num::Num;
 use stack_code::FirstRun;
 use std::alloc::{AllocError, Global};
 use std::marker::Model;
@@ -126,5 +129,14 @@ impl Frames {
     {
         let place = place_at(self.values.len(), &self.marks, frame, at);
         write_at(&mut self.values, place, datum);
+    }
+
+    /// Puts a num in the place of a value of a frame, by the number of frames below it and the place in it, from 0. Where the
+    /// frame has none there nothing changes; where it has a num there, no more than the num is written.
+    pub fn put_num(&mut self, frame: usize, at: usize, number: Num)
+        ensures { self.new ≡ record self.old { frames = put_in_frame self.old.frames frame at (Plain (values.Num number)) (frame_at self.old.frames frame) } }
+    {
+        let place = place_at(self.values.len(), &self.marks, frame, at);
+        write_num_at(&mut self.values, place, number);
     }
 }

@@ -1,11 +1,12 @@
 ghost use Rattle.std.specs.Prelude.{◌≡◌};
 ghost use Rattle.std.specs.Option.{option_copied};
 ghost use Rattle.rapid_meaning.specs.Places.{place_in};
+ghost use Rattle.rapid_model.specs.declared.value.Value.TheVariants as values;
 ghost use Rattle.typed_trees.specs.declared.datum.Datum.TheVariants as datums;
-ghost use Rattle.machine_stacks.specs.Forms.{as_mark, as_shape, as_value};
+ghost use Rattle.machine_stacks.specs.Forms.{as_mark, as_num, as_shape, as_value};
 
 use rapid_model::Value;
-use rapid_num::Shape;
+use rapid_num::{Num, Shape};
 use std::marker::Model;
 use typed_trees::{Datum, Lvalue};
 
@@ -114,6 +115,36 @@ impl Held {
         match kept {
             Kept::Plain(value) => Some(value),
             _ => None,
+        }
+    }
+
+    /// The num; none where it is no num.
+    pub fn num(&self) -> Option<Num>
+        ensures { result ≡ as_num self.now }
+    {
+        match &self.kept {
+            Kept::Plain(Value::Num(number)) => Some(*number),
+            _ => None,
+        }
+    }
+
+    /// The datum is this num now. Where it was a num, no more than that is written.
+    pub fn set_num(&mut self, number: Num)
+        ensures { self.new ≡ datums.Plain (values.Num number) }
+    {
+        match &mut self.kept {
+            Kept::Plain(Value::Num(old)) => *old = number,
+            _ => self.kept = Kept::Plain(Value::Num(number)),
+        }
+    }
+
+    /// The datum is this value now. Where both are nums, no more than the num is written.
+    pub fn set_value(&mut self, value: Value)
+        ensures { self.new ≡ datums.Plain value }
+    {
+        match value {
+            Value::Num(number) => self.set_num(number),
+            other => self.kept = Kept::Plain(other),
         }
     }
 

@@ -1,10 +1,14 @@
 ghost use Rattle.std.specs.Prelude.{◌≡◌, ◌≢◌, ◌+◌, ◌<◌, ◌≤◌, ◌++◌, [], ◌∷◌, length, reverse, take, drop, slice_get, IfOk, vec_len};
 ghost use Rattle.std.specs.Option.{option_copied};
 ghost use Rattle.std.specs.Vec.{vec_capacity};
+ghost use Rattle.rapid_model.specs.declared.value.Value.TheVariants as values;
+ghost use Rattle.typed_trees.specs.declared.datum.Datum.TheVariants.{Plain};
 ghost use Rattle.machine_stacks.specs.OperandStack.{OperandStack, operands_in};
 
 use crate::held::Held;
 use crate::moving::move_tail;
+use rapid_model::Value;
+use rapid_num::Num;
 use std::alloc::{AllocError, Global};
 use std::marker::Model;
 
@@ -82,6 +86,32 @@ impl Operands {
             Some(datum) => datum,
             None => unreachable!(),
         }
+    }
+
+    /// Drops the operand on top.
+    pub fn drop_top(&mut self)
+        requires some { self.old.top ≢ [] }
+        ensures { self.new ≡ record self.old { top = drop 1 self.old.top } }
+    {
+        self.items.truncate(self.items.len() - 1);
+    }
+
+    /// Puts a value in the place of the operand on top. Where both are nums, no more than the num is written. Takes no memory.
+    pub fn set_top_value(&mut self, value: Value)
+        requires some { self.old.top ≢ [] }
+        ensures { self.new ≡ record self.old { top = Plain value ∷ drop 1 self.old.top } }
+    {
+        let last = self.items.len() - 1;
+        self.items[last].set_value(value);
+    }
+
+    /// Puts a num in the place of the operand on top. Where that is a num, no more than the num is written.
+    pub fn set_top_num(&mut self, number: Num)
+        requires some { self.old.top ≢ [] }
+        ensures { self.new ≡ record self.old { top = Plain (values.Num number) ∷ drop 1 self.old.top } }
+    {
+        let last = self.items.len() - 1;
+        self.items[last].set_num(number);
     }
 
     /// A routine begins: it has no operands, and those of the routine that waits for it lie below. Takes no memory.

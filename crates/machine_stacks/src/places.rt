@@ -1,11 +1,14 @@
 ghost use Rattle.std.specs.Prelude.{◌≡◌, ◌<◌, length, reverse, slice_get, vec_len, IfSome};
 ghost use Rattle.std.specs.Option.{option_and_then, option_copied};
 ghost use Rattle.std.specs.Vec.{vec_capacity};
+ghost use Rattle.rapid_model.specs.declared.value.Value.TheVariants.{Num as OfNum};
+ghost use Rattle.typed_trees.specs.declared.datum.Datum.TheVariants.{Plain};
 ghost use Rattle.machine_stacks.specs.Cuts.{IsCut};
 ghost use Rattle.machine_stacks.specs.FrameStack.{bases_of, end_of, place_in, written};
 
 use crate::held::Held;
 use crate::mark::Mark;
+use rapid_num::Num;
 use std::mem;
 
 /// Where a value of a frame stands among so many values of all frames, by the number of frames below it and the place in it;
@@ -55,5 +58,16 @@ pub fn write_at(values: &mut Vec<Held>, place: Option<usize>, datum: Held)
     match place {
         Some(place) => drop(mem::replace(&mut values[place], datum)),
         None => drop(datum),
+    }
+}
+
+/// Puts a num at a place, if there is one. Takes no memory.
+pub fn write_num_at(values: &mut Vec<Held>, place: Option<usize>, number: Num)
+    requires { IfSome place (λ p. p < vec_len values.old) }
+    ensures items { values.new.items ≡ written place (Plain (OfNum number)) values.old.items }
+    ensures capacity { vec_capacity values.new ≡ vec_capacity values.old }
+{
+    if let Some(place) = place {
+        values[place].set_num(number);
     }
 }

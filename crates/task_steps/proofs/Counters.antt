@@ -183,6 +183,19 @@ step_all code h d at to o p v w first is second its =
     alike_then code _ _ _ d d d (counted_some code d at o v (λ variable. counter_at (at + 2) >>= λ step. stepped h at to (sum_of variable step)) first is)
     (counted_some code d (at + 2) p w (λ step. stepped h at to (sum_of v step)) second its)
 
+-- a num over a value, and over what is none
+pub put_over : (x : Datum) (v : Value) (n : ℤ) → as_value x ≡ Some v → put_in parts.Whole (datums.Plain (values.Num n)) x ≡ Some (datums.Plain (values.Num n))
+put_over (datums.Plain w) v n e = refl
+put_over (datums.Mark m) v n e = cc
+put_over (datums.Shape s) v n e = cc
+put_over (datums.Place p) v n e = cc
+
+pub put_over-none : (x : Datum) (n : ℤ) → as_value x ≡ None → put_in parts.Whole (datums.Plain (values.Num n)) x ≡ None
+put_over-none (datums.Plain w) n e = cc
+put_over-none (datums.Mark m) n e = refl
+put_over-none (datums.Shape s) n e = refl
+put_over-none (datums.Place p) n e = refl
+
 -- the variable is written
 abbrev writing : ℤ → Doing Conf → Option Lvalue → Doing Conf
 writing n m o = or_misfit o >>= (λ p. write_value p (values.Num n)) >> m

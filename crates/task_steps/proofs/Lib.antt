@@ -11,6 +11,7 @@ pub mod Popped
 pub mod Looks
 pub mod Readings
 pub mod Storings
+pub mod InPlace
 pub mod Packs
 pub mod Picks
 pub mod TaskSets

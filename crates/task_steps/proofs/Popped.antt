@@ -13,9 +13,10 @@ use Rattle.stack_code.specs.CodeData.{CodeData}
 use Rattle.stack_code.specs.Confs.{Conf}
 use Rattle.stack_code.specs.Steps.{Here}
 use Rattle.task_steps.specs.Alike.{popped, with_stack}
-use Rattle.task_steps.specs.Doing.{came, here_of}
+use Rattle.task_steps.specs.Doing.{came, gone, here_of}
 use Rattle.task_steps.specs.Seen.{Seen}
 use Rattle.task_steps.specs.declared.done.Done.{Done}
+use Rattle.task_steps.specs.declared.way.Way.{Way}
 
 -- one operand after another
 pub with_more : (s0 s1 s2 : Seen) → s1 ≡ with_stack s1.conf.stack s0 → s2 ≡ with_stack s2.conf.stack s1 → s2 ≡ with_stack s2.conf.stack s0
@@ -29,6 +30,15 @@ ends_at code s0 s K done same finish stable =
     let stands : K (here_of code s0.conf) s.conf.stack ≡ came (here_of code (with_stack s.conf.stack s0).conf) done =
     sym (stable (here_of code s0.conf) s.conf.stack s.conf.stack) ∙ finish (here_of code (with_stack s.conf.stack s0).conf) in
     subst (λ (t : Seen). K (here_of code s0.conf) s.conf.stack ≡ came (here_of code t.conf) done) (sym same) stands
+
+-- and how the machine goes on then
+pub goes_at : (code : CodeData) (s0 s : Seen) (K : Here → List Datum → Doing Conf) (way : Option Way) → s ≡ with_stack s.conf.stack s0
+    → ((t : Seen) → K (here_of code t.conf) t.conf.stack ≡ gone code way t) → ((h : Here) (stack rest : List Datum) → K (record h { conf = record h.conf { stack = stack } }) rest ≡ K h rest)
+    → K (here_of code s0.conf) s.conf.stack ≡ gone code way s
+goes_at code s0 s K way same finish stable =
+    let stands : K (here_of code s0.conf) s.conf.stack ≡ gone code way (with_stack s.conf.stack s0) =
+    sym (stable (here_of code s0.conf) s.conf.stack s.conf.stack) ∙ finish (with_stack s.conf.stack s0) in
+    subst (λ (t : Seen). K (here_of code s0.conf) s.conf.stack ≡ gone code way t) (sym same) stands
 
 -- an operand of each form, on top
 pub value_on : (x : Datum) (rest : List Datum) (next : Value → List Datum → Doing Conf) → on_value (x ∷ rest) next ≡ popped (as_value x) rest next

@@ -9,9 +9,10 @@ use Rattle.rapid_meaning.specs.Doings.{Doing, Gives, Misfit, fault}
 use Rattle.stack_code.specs.CodeData.{CodeData}
 use Rattle.stack_code.specs.CodeRuns.{fitting_by, no_part}
 use Rattle.stack_code.specs.Confs.{Conf}
-use Rattle.task_steps.specs.Doing.{came, doing_of, here_of}
+use Rattle.task_steps.specs.Doing.{came, doing_of, gone, here_of}
 use Rattle.task_steps.specs.Seen.{Seen}
 use Rattle.task_steps.specs.declared.done.Done.{Done}
+use Rattle.task_steps.specs.declared.way.Way.{Way}
 
 -- whatever answers come, one doing comes with its data to what another does with its own
 pub record Alike (code : CodeData) (m : Doing Conf) (d : Data) (n : Doing Conf) (e : Data) : Type 0 where
@@ -24,6 +25,10 @@ Follows code m d s = Alike code m d (doing_of code s.phase s.conf) s.data'
 -- an operation comes to this, where a machine stands
 abbrev pub Turns : CodeData → Doing Conf → Data → Option Done → Seen → Type 0
 Turns code m d done s = Alike code m d (came (here_of code s.conf) done) s.data'
+
+-- an operation was done, and the machine goes this way
+abbrev pub Goes : CodeData → Doing Conf → Data → Option Way → Seen → Type 0
+Goes code m d way s = Alike code m d (gone code way s) s.data'
 
 -- a machine with these operands of the routine under way
 abbrev pub with_stack : List Datum → Seen → Seen

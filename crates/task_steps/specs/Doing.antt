@@ -25,6 +25,9 @@ use Rattle.task_steps.specs.declared.pending.Pending.{Pending}
 use Rattle.task_steps.specs.declared.pending.Pending.TheVariants as pendings
 use Rattle.task_steps.specs.declared.phase.Phase.{Phase}
 use Rattle.task_steps.specs.declared.phase.Phase.TheVariants as phases
+use Rattle.task_steps.specs.declared.way.Way.{Way}
+use Rattle.task_steps.specs.declared.way.Way.TheVariants as ways
+use Rattle.task_steps.specs.Seen.{Seen}
 
 -- the owner of a place outside the code
 abbrev pub no_own : Own
@@ -81,3 +84,13 @@ doing_of code phases.New c = started code
 doing_of code phases.Going c = Gives c
 doing_of code (phases.Asking request then) c = Asks request (answered (here_of code c) then)
 doing_of code (phases.Over fate) c = Ends fate
+
+-- what a machine does that goes this way from where it stands
+abbrev pub gone : CodeData → Option Way → Seen → Doing Conf
+gone code None s = Misfit
+gone code (Some ways.Next) s = to_next (here_of code s.conf) s.conf.stack
+gone code (Some (ways.Jump to)) s = jumps (here_of code s.conf) to s.conf.stack
+gone code (Some ways.Stay) s = doing_of code s.phase s.conf
+gone code (Some (ways.Raise error)) s = fails (here_of code s.conf) error
+gone code (Some (ways.Escape error)) s = raised_out code s.conf.saved error
+gone code (Some (ways.End fate)) s = Ends fate

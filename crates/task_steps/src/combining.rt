@@ -1,32 +1,19 @@
 //! Operations that make a value of others.
 #![tactic(auto, unfolding(rapid_meaning::specs::Doings::after))]
 
-ghost use Rattle.std.specs.Prelude.{◌≡◌, true, if◌then◌else◌};
-ghost use Rattle.raw_trees.specs.declared.raw_expr.Operator.{Operator};
-ghost use Rattle.rapid_operators.specs.Operators as operators;
+ghost use Rattle.std.specs.Prelude.{◌≡◌, true, Some, if◌then◌else◌};
 ghost use Rattle.typed_trees.specs.declared.datum.Datum.TheVariants.{Plain};
 ghost use Rattle.rapid_meaning.specs.Statements as statements;
-ghost use Rattle.rapid_meaning.specs.Values.{applied, opposite, with_sign};
+ghost use Rattle.rapid_meaning.specs.Values.{opposite, with_sign};
+ghost use Rattle.stack_code.specs.CodeData.{CodeData};
 ghost use Rattle.stack_code.specs.Steps.{Here, does, jumps, pushes, to_next};
-ghost use Rattle.task_steps.specs.Doing.{came};
+ghost use Rattle.task_steps.specs.Doing.{came, gone, here_of};
+ghost use Rattle.task_steps.specs.Seen.{Seen};
 
 use crate::done::Done;
 use crate::shown::{num_of, truth_of};
+use crate::way::Way;
 use rapid_model::{Fate, Fault, Value};
-use rapid_operators::{Applied, apply};
-use raw_trees::Operator;
-
-/// An operator with its two operands.
-pub(crate) fn combined(operator: Operator, left: &Value, right: &Value) -> Option<Done>
-    ensures { (h : Here) → pushes h h.conf.stack Plain (applied (operators.apply operator left.now right.now)) ≡ came h result }
-{
-    match apply(operator, left, right) {
-        Applied::Gives(value) => Some(Done::value(value)),
-        Applied::Raises(error) => Some(Done::Raise(error)),
-        Applied::OutOfRange => Some(Done::End(Fate::Fault(Fault::NumRange))),
-        Applied::Unfit => None,
-    }
-}
 
 /// A leading minus.
 pub(crate) fn minus(value: &Value) -> Option<Done>
@@ -57,25 +44,17 @@ pub(crate) fn raised(value: &Value) -> Option<Done>
 }
 
 /// Jumps where a bool is TRUE.
-pub(crate) fn jumped(truth: bool, to: u32) -> Option<Done>
-    ensures { (h : Here) → (if truth then jumps h to h.conf.stack else to_next h h.conf.stack) ≡ came h result }
+pub(crate) fn jumped(truth: bool, to: u32) -> Way
+    ensures { (code : CodeData) (s : Seen) → (if truth then jumps (here_of code s.conf) to s.conf.stack else to_next (here_of code s.conf) s.conf.stack) ≡ gone code (Some result) s }
 {
-    if truth {
-        Some(Done::Jump(to))
-    } else {
-        Some(Done::Next)
-    }
+    if truth { Way::Jump(to) } else { Way::Next }
 }
 
 /// Jumps where a bool is FALSE.
-pub(crate) fn gone_on(truth: bool, to: u32) -> Option<Done>
-    ensures { (h : Here) → (if truth then to_next h h.conf.stack else jumps h to h.conf.stack) ≡ came h result }
+pub(crate) fn gone_on(truth: bool, to: u32) -> Way
+    ensures { (code : CodeData) (s : Seen) → (if truth then to_next (here_of code s.conf) s.conf.stack else jumps (here_of code s.conf) to s.conf.stack) ≡ gone code (Some result) s }
 {
-    if truth {
-        Some(Done::Next)
-    } else {
-        Some(Done::Jump(to))
-    }
+    if truth { Way::Next } else { Way::Jump(to) }
 }
 
 /// Goes on.

@@ -2,6 +2,7 @@
 #![tactic(auto)]
 
 mod answers;
+mod applying;
 mod calling;
 mod choosing;
 mod combining;
@@ -20,11 +21,13 @@ mod looping;
 mod making;
 mod motion;
 mod moving;
+mod numbers;
 mod operating;
 mod operations;
 mod owning;
 mod parts;
 mod pending;
+mod performing;
 mod phase;
 mod pops;
 mod pushing;
@@ -42,6 +45,8 @@ mod storing;
 mod syncing;
 mod task;
 mod testing;
+mod tops;
+mod way;
 
 pub use departure::Departure;
 pub use failed::Failed;

@@ -1,35 +1,41 @@
 //! Looks and waits.
 
-ghost use Rattle.std.specs.Prelude.{◌≡◌, ◌<◌, length};
+ghost use Rattle.std.specs.Prelude.{◌≡◌, ◌≢◌, ◌<◌, length, Some};
 ghost use Rattle.stack_code.specs.CodeData.{CodeData};
 ghost use Rattle.stack_code.specs.Steps.{act, looks};
 ghost use Rattle.stack_code.specs.declared.op.Op.TheVariants as ops;
-ghost use Rattle.task_steps.specs.Alike.{Turns, with_stack};
+ghost use Rattle.task_steps.specs.Alike.{Goes, Turns, with_stack};
 ghost use Rattle.task_steps.specs.Doing.{here_of};
+ghost use Rattle.task_steps.specs.declared.phase.Phase.TheVariants as phases;
+ghost use Rattle.task_steps.specs.declared.way.Way.TheVariants as ways;
 
 use crate::done::Done;
 use crate::living::keep_code;
 use crate::pending::Pending;
+use crate::phase::Phase;
 use crate::task::Task;
+use crate::way::Way;
 use error_recovery::owner_of;
 use live_code::Code;
 use rapid_model::Request;
 
 impl Task {
     /// Asks whether the statement may begin, whose place is kept.
-    pub(crate) fn look(&mut self, code: &Code) -> Option<Done>
+    pub(crate) fn look(&mut self, code: &Code) -> Option<Way>
         requires within { self.old.conf.pc < length code.now.ops }
-        ensures phase { self.new.phase ≡ self.old.phase }
         ensures room { self.new.room ≡ self.old.room }
-        ensures turns { Turns code.now (looks (here_of code.now self.old.conf)) self.old.data' result self.new }
+        ensures stay { result ≡ Some ways.Stay }
+        ensures begun { self.new.phase ≢ phases.New }
+        ensures goes { Goes code.now (looks (here_of code.now self.old.conf)) self.old.data' result self.new }
     {
         keep_code(code);
         let owner = owner_of(code.marks(), self.pc);
         self.place = Some(owner.at);
-        Some(Done::Ask {
+        self.phase = Phase::Asking {
             request: Request::Look,
             then: Pending::Looked,
-        })
+        };
+        Some(Way::Stay)
     }
 
     /// A condition that is TRUE goes on; else the task waits for a change by another actor.

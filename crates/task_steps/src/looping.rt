@@ -9,16 +9,15 @@ ghost use Rattle.stack_code.specs.CodeData.{CodeData};
 ghost use Rattle.stack_code.specs.Confs.{Conf};
 ghost use Rattle.stack_code.specs.Steps.{act, counter_at, jumps, past_turn, set_counter_at, stepped};
 ghost use Rattle.stack_code.specs.declared.op.Op.TheVariants as ops;
-ghost use Rattle.task_steps.specs.Alike.{Alike, Turns};
-ghost use Rattle.task_steps.specs.Doing.{came, here_of};
+ghost use Rattle.task_steps.specs.Alike.{Alike, Goes};
+ghost use Rattle.task_steps.specs.Doing.{gone, here_of};
+ghost use Rattle.task_steps.specs.Seen.{Seen};
 
-use crate::done::Done;
-use crate::parts::put_in;
 use crate::shown::num_of;
 use crate::task::Task;
+use crate::way::Way;
 use live_code::Code;
 use machine_stacks::Held;
-use rapid_model::{PartName, Value};
 use rapid_num::Num;
 use stack_code::Op;
 
@@ -44,11 +43,11 @@ fn num_held(held: &Held) -> Option<Num>
 }
 
 /// Where the Turn of a FOR that is taken as passed jumps.
-fn past_turn(code: &Code, to: u32) -> Option<Done>
-    ensures { (c : Conf) → past_turn (here_of code.now c) (slice_get code.now.ops to) ≡ came (here_of code.now c) result }
+fn past_turn(code: &Code, to: u32) -> Option<Way>
+    ensures { (s : Seen) → past_turn (here_of code.now s.conf) (slice_get code.now.ops to) ≡ gone code.now result s }
 {
     match code.ops().get(to as usize) {
-        Some(Op::Turn(_, behind)) => Some(Done::Jump(*behind)),
+        Some(Op::Turn(_, behind)) => Some(Way::Jump(*behind)),
         _ => None,
     }
 }
@@ -69,26 +68,26 @@ impl Task {
     }
 
     /// Tests whether the FOR whose variable is there has passed its last value, and then jumps.
-    pub(crate) fn turn(&self, at: u32, to: u32) -> Option<Done>
-        ensures { (code : CodeData) → Turns code (act (here_of code self.now.conf) (ops.Turn at to)) self.now.data' result self.now }
+    pub(crate) fn turn(&self, at: u32, to: u32) -> Option<Way>
+        ensures { (code : CodeData) → Goes code (act (here_of code self.now.conf) (ops.Turn at to)) self.now.data' result self.now }
     {
         let at = at as usize;
         let variable = self.counter(at)?;
         let last = self.counter(at + 1)?;
         let step = self.counter(at + 2)?;
         if has_passed(variable, last, step) {
-            Some(Done::Jump(to))
+            Some(Way::Jump(to))
         } else {
-            Some(Done::Next)
+            Some(Way::Next)
         }
     }
 
     /// Takes a FOR on by its step; past the range of num its Turn is taken as passed.
-    pub(crate) fn step_on(&mut self, code: &Code, at: u32, to: u32) -> Option<Done>
+    pub(crate) fn step_on(&mut self, code: &Code, at: u32, to: u32) -> Option<Way>
         ensures phase { self.new.phase ≡ self.old.phase }
         ensures room { self.new.room ≡ self.old.room }
         ensures conf { self.new.conf ≡ self.old.conf }
-        ensures turns { Turns code.now (act (here_of code.now self.old.conf) (ops.Step at to)) self.old.data' result self.new }
+        ensures turns { Goes code.now (act (here_of code.now self.old.conf) (ops.Step at to)) self.old.data' result self.new }
     {
         let variable = self.counter(at as usize)?;
         let step = self.counter(at as usize + 2)?;
@@ -96,11 +95,11 @@ impl Task {
     }
 
     /// The variable of a FOR goes on to a num that is in range, or its Turn is taken as passed.
-    fn counted(&mut self, code: &Code, at: u32, to: u32, next: Option<Num>) -> Option<Done>
+    fn counted(&mut self, code: &Code, at: u32, to: u32, next: Option<Num>) -> Option<Way>
         ensures phase { self.new.phase ≡ self.old.phase }
         ensures room { self.new.room ≡ self.old.room }
         ensures conf { self.new.conf ≡ self.old.conf }
-        ensures turns { Turns code.now (stepped (here_of code.now self.old.conf) at to next) self.old.data' result self.new }
+        ensures turns { Goes code.now (stepped (here_of code.now self.old.conf) at to next) self.old.data' result self.new }
     {
         match next {
             Some(next) => self.set_counter(at, to, next),
@@ -109,20 +108,19 @@ impl Task {
     }
 
     /// The variable of a FOR is this num, and the task goes on there.
-    fn set_counter(&mut self, at: u32, to: u32, next: Num) -> Option<Done>
+    fn set_counter(&mut self, at: u32, to: u32, next: Num) -> Option<Way>
         ensures phase { self.new.phase ≡ self.old.phase }
         ensures room { self.new.room ≡ self.old.room }
         ensures conf { self.new.conf ≡ self.old.conf }
-        ensures turns { (code : CodeData) → Turns code (after (set_counter_at at next) (λ _. jumps (here_of code self.old.conf) to self.old.conf.stack) Raises) self.old.data' result self.new }
+        ensures turns { (code : CodeData) → Goes code (after (set_counter_at at next) (λ _. jumps (here_of code self.old.conf) to self.old.conf.stack) Raises) self.old.data' result self.new }
     {
         let count = self.frames.count();
         if count == 0 {
             return None;
         }
-        let new = Held::of_value(Value::Num(next));
         let old = self.frames.get(count - 1, at as usize)?;
-        let held = put_in(PartName::Whole, &new, old)?;
-        self.frames.put(count - 1, at as usize, held);
-        Some(Done::Jump(to))
+        let _value = old.value()?;
+        self.frames.put_num(count - 1, at as usize, next);
+        Some(Way::Jump(to))
     }
 }

@@ -14,9 +14,9 @@ ghost use Rattle.stack_code.specs.declared.tail_kind.TailKind.TheVariants as kin
 ghost use Rattle.stack_code.specs.declared.unary_op.UnaryOp.TheVariants as unary;
 ghost use Rattle.stack_code.specs.declared.zone_op.ZoneOp.TheVariants as zones;
 ghost use Rattle.task_steps.specs.Alike.{with_stack};
-ghost use Rattle.task_steps.specs.Doing.{came, here_of};
+ghost use Rattle.task_steps.specs.Doing.{came, gone, here_of};
 
-use crate::combining::{combined, dropped, gone_on, jumped, minus, not, raised};
+use crate::combining::{dropped, gone_on, jumped, minus, not, raised};
 use crate::done::Done;
 use crate::pushing::{narrowed, of_one, of_two};
 use crate::requests::{
@@ -24,20 +24,10 @@ use crate::requests::{
     said_truth, signal_written, supervised, zoned,
 };
 use crate::task::Task;
+use crate::way::Way;
 use rapid_model::{Function, PartName, Request};
-use raw_trees::Operator;
 
 impl Task {
-    /// An operator with two operands.
-    pub(crate) fn binary(&mut self, operator: Operator) -> Option<Done>
-        ensures on { (code : CodeData) → act (here_of code self.old.conf) (ops.Binary operator) ≡ came (here_of code self.new.conf) result }
-        ensures rest { self.new ≡ with_stack self.new.conf.stack self.old }
-    {
-        let right = self.pop_value()?;
-        let left = self.pop_value()?;
-        combined(operator, &left, &right)
-    }
-
     /// A leading minus.
     pub(crate) fn minus(&mut self) -> Option<Done>
         ensures on { (code : CodeData) → act (here_of code self.old.conf) (ops.Unary unary.Minus) ≡ came (here_of code self.new.conf) result }
@@ -103,21 +93,21 @@ impl Task {
     }
 
     /// Jumps where a bool is TRUE.
-    pub(crate) fn jump_if(&mut self, to: u32) -> Option<Done>
-        ensures on { (code : CodeData) → act (here_of code self.old.conf) (ops.JumpTrue to) ≡ came (here_of code self.new.conf) result }
+    pub(crate) fn jump_if(&mut self, to: u32) -> Option<Way>
+        ensures on { (code : CodeData) → act (here_of code self.old.conf) (ops.JumpTrue to) ≡ gone code result self.new }
         ensures rest { self.new ≡ with_stack self.new.conf.stack self.old }
     {
         let truth = self.pop_truth()?;
-        jumped(truth, to)
+        Some(jumped(truth, to))
     }
 
     /// Jumps where a bool is FALSE.
-    pub(crate) fn jump_unless(&mut self, to: u32) -> Option<Done>
-        ensures on { (code : CodeData) → act (here_of code self.old.conf) (ops.JumpFalse to) ≡ came (here_of code self.new.conf) result }
+    pub(crate) fn jump_unless(&mut self, to: u32) -> Option<Way>
+        ensures on { (code : CodeData) → act (here_of code self.old.conf) (ops.JumpFalse to) ≡ gone code result self.new }
         ensures rest { self.new ≡ with_stack self.new.conf.stack self.old }
     {
         let truth = self.pop_truth()?;
-        gone_on(truth, to)
+        Some(gone_on(truth, to))
     }
 
     /// Drops the operand on top.

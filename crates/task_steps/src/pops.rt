@@ -10,7 +10,6 @@ ghost use Rattle.stack_code.specs.Confs.{Conf};
 ghost use Rattle.stack_code.specs.Operands.{on_mark, on_place, on_shape, on_top, on_truth, on_value};
 ghost use Rattle.task_steps.specs.Alike.{heaped, popped, with_stack};
 
-use crate::shown::truth_of;
 use crate::task::Task;
 use machine_stacks::Held;
 use rapid_model::Value;
@@ -102,7 +101,8 @@ impl Task {
         ensures on { (next : Bool → List Datum → Doing Conf) → on_truth self.old.conf.stack next ≡ popped result self.new.conf.stack next }
         ensures rest { self.new ≡ with_stack self.new.conf.stack self.old }
     {
-        let value = self.pop_value()?;
-        truth_of(&value)
+        let truth = self.top_truth()?;
+        self.drop_operand();
+        Some(truth)
     }
 }

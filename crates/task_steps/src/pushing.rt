@@ -19,22 +19,7 @@ use function_values::{value_of, value_of_two};
 use machine_stacks::Held;
 use rapid_model::{Fate, Fault, Function, PartName, Value};
 use rapid_num::Num;
-use stack_code::Pushed;
 use typed_trees::{Lvalue, Root};
-
-/// Pushes the value that the operation keeps.
-pub(crate) fn pushed(datum: &Pushed) -> Option<Done>
-    ensures { (h : Here) → act h (ops.Push datum.now) ≡ came h result }
-{
-    Some(Done::value(datum.kept_value()))
-}
-
-/// Pushes the place of a module datum.
-pub(crate) fn slot_place(slot: u32) -> Option<Done>
-    ensures { (h : Here) → act h (ops.Slot slot) ≡ came h result }
-{
-    place_pushed(whole_at(Root::Slot(slot)))
-}
 
 /// Pushes the place of a persistent.
 pub(crate) fn pers_place(pers: u32) -> Option<Done>
@@ -58,13 +43,6 @@ pub(crate) fn place_pushed(place: Lvalue) -> Option<Done>
     ensures { result ≡ Some (dones.Push (Place place)) }
 {
     Some(Done::Push(Held::of_place(place)))
-}
-
-/// Goes on at another place.
-pub(crate) fn gone_to(to: u32) -> Option<Done>
-    ensures { (h : Here) → act h (ops.Jump to) ≡ came h result }
-{
-    Some(Done::Jump(to))
 }
 
 /// A function has not returned.

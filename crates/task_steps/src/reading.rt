@@ -5,12 +5,16 @@ ghost use Rattle.rapid_meaning.specs.Places.{kept_place, own_place};
 ghost use Rattle.stack_code.specs.CodeData.{CodeData};
 ghost use Rattle.stack_code.specs.Steps.{act};
 ghost use Rattle.stack_code.specs.declared.op.Op.TheVariants as ops;
-ghost use Rattle.task_steps.specs.Alike.{Turns};
+ghost use Rattle.live_code.specs.Leads.{Runs};
+ghost use Rattle.task_steps.specs.Alike.{Goes, Turns, with_stack};
 ghost use Rattle.task_steps.specs.Doing.{came, here_of};
+ghost use Rattle.task_steps.specs.Seen.{room_of};
 
 use crate::done::Done;
 use crate::pushing::{place_pushed, whole, whole_at};
 use crate::task::Task;
+use crate::way::Way;
+use live_code::Code;
 use machine_stacks::Held;
 use rapid_model::{Fate, Fault};
 use typed_trees::{Lvalue, Root};
@@ -91,11 +95,14 @@ impl Task {
     }
 
     /// Pushes the place of a datum of the frame.
-    pub(crate) fn local(&self, at: u32) -> Option<Done>
-        ensures { (code : CodeData) → Turns code (act (here_of code self.now.conf) (ops.Local at)) self.now.data' result self.now }
+    pub(crate) fn local(&mut self, code: &Code, at: u32) -> Option<Way>
+        requires room { self.old.room ≡ room_of code.now }
+        requires runs { Runs code.now (act (here_of code.now self.old.conf) (ops.Local at)) self.old.data' }
+        ensures rest { self.new ≡ with_stack self.new.conf.stack self.old }
+        ensures goes { Goes code.now (act (here_of code.now self.old.conf) (ops.Local at)) self.old.data' result self.new }
     {
         match self.own_place(at) {
-            Some(place) => place_pushed(place),
+            Some(place) => self.put(code, Held::of_place(place)),
             None => None,
         }
     }

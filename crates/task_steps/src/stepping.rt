@@ -28,7 +28,7 @@ impl Task {
         ensures on { Follows loaded.now (step loaded.now self.old.conf) self.old.data' self.new }
     {
         let op = &loaded.code().ops()[self.pc as usize];
-        let done = self.operate(loaded, op);
-        self.commit(loaded.code(), done)
+        let way = self.perform(loaded, op);
+        self.go(loaded.code(), way)
     }
 }

@@ -1,24 +1,34 @@
 //! Operations that read and write data: the task's own silently, persistents by a request.
 
-ghost use Rattle.std.specs.Prelude.{◌≡◌};
+ghost use Rattle.std.specs.Prelude.{◌≡◌, ◌≢◌, ℤ, Some, IfSome, slice_get};
 ghost use Rattle.std.specs.Option.{option_and_then, option_copied, option_map};
+ghost use Rattle.rapid_model.specs.declared.value.Value.TheVariants as values;
+ghost use Rattle.typed_trees.specs.declared.datum.Datum.TheVariants.{Place, Plain};
+ghost use Rattle.typed_trees.specs.declared.datum.Lvalue.{Lvalue};
 ghost use Rattle.typed_trees.specs.declared.datum.Root.TheVariants as roots;
+ghost use Rattle.live_code.specs.Leads.{Runs};
 ghost use Rattle.rapid_meaning.specs.Data.{datum_at, put_at};
 ghost use Rattle.rapid_meaning.specs.Places.{load, part_in, put_in, store, store_at};
 ghost use Rattle.stack_code.specs.CodeData.{CodeData};
 ghost use Rattle.stack_code.specs.Steps.{Here, act, does, pushes};
 ghost use Rattle.stack_code.specs.declared.op.Op.TheVariants as ops;
-ghost use Rattle.task_steps.specs.Alike.{Turns, with_stack};
+ghost use Rattle.task_steps.specs.Alike.{Goes, Turns, with_stack};
 ghost use Rattle.task_steps.specs.Doing.{came, here_of};
-ghost use Rattle.task_steps.specs.Own.{IsOwn};
+ghost use Rattle.task_steps.specs.Own.{IsNumAt, IsOwn};
+ghost use Rattle.task_steps.specs.Seen.{room_of};
 ghost use Rattle.task_steps.specs.declared.done.Done.TheVariants as dones;
+ghost use Rattle.task_steps.specs.declared.phase.Phase.TheVariants as phases;
+ghost use Rattle.task_steps.specs.declared.way.Way.TheVariants as ways;
 
 use crate::done::Done;
 use crate::parts::{part_in, put_in};
 use crate::pending::Pending;
 use crate::task::Task;
+use crate::way::Way;
+use live_code::Code;
 use machine_stacks::Held;
 use rapid_model::{PartName, Path, Request};
+use rapid_num::Num;
 use std::mem;
 use typed_trees::{Lvalue, Root};
 
@@ -160,8 +170,72 @@ impl Task {
         Some(Done::Next)
     }
 
+    /// The num that the place on top holds, where it is all of a datum of the task's own.
+    fn num_there(&self) -> Option<Num>
+        ensures { IfSome result (λ n. (place : Lvalue) × (slice_get self.now.conf.stack 0 ≡ Some (Place place)) × IsNumAt self.now.data' place n) }
+    {
+        let place = self.place_at(0)?;
+        self.own_num(place)
+    }
+
+    /// Pushes what the place on top holds. A num is put where the place lies.
+    pub(crate) fn load(&mut self, code: &Code) -> Option<Way>
+        requires going { self.old.phase ≡ phases.Going }
+        requires room { self.old.room ≡ room_of code.now }
+        requires runs { Runs code.now (act (here_of code.now self.old.conf) ops.Load) self.old.data' }
+        ensures room { self.new.room ≡ self.old.room }
+        ensures going { result ≢ Some ways.Stay → self.new.phase ≡ phases.Going }
+        ensures begun { self.new.phase ≢ phases.New }
+        ensures goes { Goes code.now (act (here_of code.now self.old.conf) ops.Load) self.old.data' result self.new }
+    {
+        match self.num_there() {
+            Some(number) => {
+                self.set_top_num(number);
+                Some(Way::Next)
+            }
+            None => {
+                let done = self.load_any();
+                self.settle(code, done)
+            }
+        }
+    }
+
+    /// The num on top and the place below it, where that is all of a num of the task's own.
+    fn num_for(&self) -> Option<(Num, Lvalue)>
+        ensures { IfSome result (λ it. (slice_get self.now.conf.stack 0 ≡ Some (Plain (values.Num it.0))) × (slice_get self.now.conf.stack 1 ≡ Some (Place it.1)) × (old : ℤ) × IsNumAt self.now.data' it.1 old) }
+    {
+        let number = self.num_at(0)?;
+        let place = self.place_at(1)?;
+        let _old = self.own_num(place)?;
+        Some((number, place))
+    }
+
+    /// Stores the datum on top at the place below it. A num is written over another in place.
+    pub(crate) fn store(&mut self, code: &Code) -> Option<Way>
+        requires going { self.old.phase ≡ phases.Going }
+        requires room { self.old.room ≡ room_of code.now }
+        requires runs { Runs code.now (act (here_of code.now self.old.conf) ops.Store) self.old.data' }
+        ensures room { self.new.room ≡ self.old.room }
+        ensures going { result ≢ Some ways.Stay → self.new.phase ≡ phases.Going }
+        ensures begun { self.new.phase ≢ phases.New }
+        ensures goes { Goes code.now (act (here_of code.now self.old.conf) ops.Store) self.old.data' result self.new }
+    {
+        match self.num_for() {
+            Some((number, place)) => {
+                self.put_num(place, number);
+                self.drop_operand();
+                self.drop_operand();
+                Some(Way::Next)
+            }
+            None => {
+                let done = self.store_any();
+                self.settle(code, done)
+            }
+        }
+    }
+
     /// Pushes what the place on top holds.
-    pub(crate) fn load(&mut self) -> Option<Done>
+    fn load_any(&mut self) -> Option<Done>
         ensures rest { self.new ≡ with_stack self.new.conf.stack self.old }
         ensures turns { (code : CodeData) → Turns code (act (here_of code self.old.conf) ops.Load) self.old.data' result self.new }
     {
@@ -170,7 +244,7 @@ impl Task {
     }
 
     /// Stores the datum on top at the place below it.
-    pub(crate) fn store(&mut self) -> Option<Done>
+    fn store_any(&mut self) -> Option<Done>
         ensures phase { self.new.phase ≡ self.old.phase }
         ensures room { self.new.room ≡ self.old.room }
         ensures turns { (code : CodeData) → Turns code (act (here_of code self.old.conf) ops.Store) self.old.data' result self.new }

@@ -14,17 +14,26 @@ bounds-ops-self-inside c =
     let here : c.self.inside.pc < length c.args.loaded.now.ops = rw (← c.self.view_is) at within in
     rw all here
 
-pub operate-done-requires : goal.operate-done-requires
-operate-done-requires c = record { within = runs_within c.args.loaded.now c.args.self.now.conf c.args.self.now.data' c.requires.runs }
+pub perform-way-requires-clause-within : goal.perform-way-requires-clause-within
+perform-way-requires-clause-within c = runs_within c.args.loaded.now c.args.self.now.conf c.args.self.now.data' c.requires.runs
 
-pub commit-requires-clause-runs : goal.commit-requires-clause-runs
-commit-requires-clause-runs c =
+pub perform-way-requires-clause-runs : goal.perform-way-requires-clause-runs
+perform-way-requires-clause-runs c =
     let code = c.args.loaded.now in
     let s = c.args.self.now in
     let all : c.ops.result.now ≡ code.ops = c.ops.ensures ∙ ap (λ (k : CodeData). k.ops) c.code.ensures in
     let same : step code s.conf ≡ act (here_of code s.conf) c.index-ops-self.result =
     step_reads code s.conf s.data' c.ops.result.now c.self.inside.pc c.index-ops-self.result c.requires.runs all (ap (λ (t : Seen). t.conf.pc) c.self.view_is) c.index-ops-self.is in
-    rw c.code-2.ensures (runs_along code _ _ _ _ (alike_then code _ _ _ _ _ _ (alike_is code _ _ s.data' same) c.operate-done.ensures.turns) c.requires.runs)
+    rw same at c.requires.runs
+
+pub go-requires-clause-runs : goal.go-requires-clause-runs
+go-requires-clause-runs c =
+    let code = c.args.loaded.now in
+    let s = c.args.self.now in
+    let all : c.ops.result.now ≡ code.ops = c.ops.ensures ∙ ap (λ (k : CodeData). k.ops) c.code.ensures in
+    let same : step code s.conf ≡ act (here_of code s.conf) c.index-ops-self.result =
+    step_reads code s.conf s.data' c.ops.result.now c.self.inside.pc c.index-ops-self.result c.requires.runs all (ap (λ (t : Seen). t.conf.pc) c.self.view_is) c.index-ops-self.is in
+    rw c.code-2.ensures (runs_along code _ _ _ _ (alike_then code _ _ _ _ _ _ (alike_is code _ _ s.data' same) c.perform-way.ensures.goes) c.requires.runs)
 
 pub returns-clause-on : goal.returns-clause-on
 returns-clause-on c =
@@ -33,4 +42,4 @@ returns-clause-on c =
     let all : c.ops.result.now ≡ code.ops = c.ops.ensures ∙ ap (λ (k : CodeData). k.ops) c.code.ensures in
     let same : step code s.conf ≡ act (here_of code s.conf) c.index-ops-self.result =
     step_reads code s.conf s.data' c.ops.result.now c.self.inside.pc c.index-ops-self.result c.requires.runs all (ap (λ (t : Seen). t.conf.pc) c.self.view_is) c.index-ops-self.is in
-    alike_then code _ _ _ _ _ _ (alike_then code _ _ _ _ _ _ (alike_is code _ _ s.data' same) c.operate-done.ensures.turns) (rw c.code-2.ensures at c.commit.ensures.on)
+    alike_then code _ _ _ _ _ _ (alike_then code _ _ _ _ _ _ (alike_is code _ _ s.data' same) c.perform-way.ensures.goes) (rw c.code-2.ensures at c.go.ensures.on)

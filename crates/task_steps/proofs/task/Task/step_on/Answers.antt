@@ -1,6 +1,6 @@
 use Rattle.std.proofs.Common.{subst, ℤ, Option}
 use Rattle.stack_code.specs.Steps.{stepped}
-use Rattle.task_steps.specs.Alike.{Turns}
+use Rattle.task_steps.specs.Alike.{Goes}
 use Rattle.task_steps.specs.Doing.{here_of}
 use Rattle.task_steps.proofs.Along.{alike_then}
 use Rattle.task_steps.proofs.Counters.{step_all, step_first, step_second}
@@ -26,4 +26,4 @@ returns-clause-turns c =
     let h = here_of code s.conf in
     alike_then code _ _ _ _ _ _
     (step_all code h s.data' c.args.at c.args.to c.counter.result c.counter-2.result c.in_ok-variable.variable c.in_ok-step.step (c.counter.ensures code) c.in_ok-variable.was (c.counter-2.ensures code) c.in_ok-step.was)
-    (subst (λ (o : Option ℤ). Turns code (stepped h c.args.at c.args.to o) s.data' c.counted.result c.counted.new.self) c.add.ensures c.counted.ensures.turns)
+    (subst (λ (o : Option ℤ). Goes code (stepped h c.args.at c.args.to o) s.data' c.counted.result c.counted.new.self) c.add.ensures c.counted.ensures.turns)
