@@ -49,7 +49,7 @@ static INPUT_EVENTS: [&str; 10] = [
     "0 Look > Go { seen: 1 }",
     "0 ReadS { signal: 0 } > Bit(true)",
     "0 Look > Go { seen: 1 }",
-    "0 Say { text: Text { characters: [103, 111] }, tail: None } > Ok",
+    "0 Say { text: Printable { characters: [103, 111] }, tail: None } > Ok",
     "0 End { fate: Done } > Ok",
 ];
 
