@@ -2,6 +2,7 @@
 use Rattle.std.proofs.Common.{◌≡◌, ◌≤◌, ◌++◌, ℕ, zero, suc, Bool, true, false, ◌∷◌, replicate, Some, None, Ok, Err, inl, inr, refl, sym, subst, arith, ℤ, pos, neg_ℤ}
 use Rattle.std.proofs.lemmas.Int.{ints}
 use Rattle.rapid_num.specs.Range.{greatest}
+use Rattle.rapid_num.specs.Absent.{absent}
 use Rattle.rapid_num.specs.declared.joints.Joints.{Joints}
 use Rattle.rapid_num.specs.declared.shape.Bound.{Bound}
 use Rattle.rapid_num.specs.declared.shape.Shape.{Shape}
@@ -9,18 +10,15 @@ use Rattle.joint_clip.specs.declared.shape_fault.ShapeFault.TheVariants as fault
 use Rattle.joint_clip.specs.Shapes.{made_shape}
 use Rattle.joint_clip.specs.Touches.{Names, IsWithin, LiesInside, LiesOutside, IsBeyond, Touches, way_at}
 
-abbrev unlimited : ℤ
-unlimited = pos 9_000_000_000_000
-
 -- bounds of axis 1 alone, of axes 1 and 2, and of axes 1 and 7
 abbrev on_one : ℤ → Joints
-on_one a = record { axis = a ∷ replicate 11 unlimited }
+on_one a = record { axis = a ∷ replicate 11 absent }
 
 abbrev on_two : ℤ → ℤ → Joints
-on_two a b = record { axis = a ∷ b ∷ replicate 10 unlimited }
+on_two a b = record { axis = a ∷ b ∷ replicate 10 absent }
 
 abbrev on_seventh : ℤ → ℤ → Joints
-on_seventh a g = record { axis = (a ∷ replicate 5 unlimited) ++ (g ∷ replicate 5 unlimited) }
+on_seventh a g = record { axis = (a ∷ replicate 5 absent) ++ (g ∷ replicate 5 absent) }
 
 abbrev bound : ℤ → ℤ → Bound
 bound low high = record { low = low; high = high }
@@ -33,14 +31,14 @@ limits : made_shape true (on_one (pos 10_500)) (on_one (pos 11_500)) 6 ≡ Ok (z
 limits = refl
 
 -- 9E9 is no limit below, and none above
-no_low_limit : made_shape true (on_one unlimited) (on_one (pos 1000)) 6 ≡ Ok (zone true (neg_ℤ (pos greatest)) (pos 1000))
+no_low_limit : made_shape true (on_one absent) (on_one (pos 1000)) 6 ≡ Ok (zone true (neg_ℤ (pos greatest)) (pos 1000))
 no_low_limit = refl
 
-no_high_limit : made_shape false (on_one (pos 1000)) (on_one unlimited) 6 ≡ Ok (zone false (pos 1000) (pos greatest))
+no_high_limit : made_shape false (on_one (pos 1000)) (on_one absent) 6 ≡ Ok (zone false (pos 1000) (pos greatest))
 no_high_limit = refl
 
 -- no axis is named, the bounds are one angle, or the low one is above the high one
-no_limits : made_shape true (on_one unlimited) (on_one unlimited) 6 ≡ Err faults.ZoneShape
+no_limits : made_shape true (on_one absent) (on_one absent) 6 ≡ Err faults.ZoneShape
 no_limits = refl
 
 one_angle : made_shape true (on_one (pos 1000)) (on_one (pos 1000)) 6 ≡ Err faults.ZoneShape
@@ -50,14 +48,14 @@ turned_round : made_shape true (on_two (pos 0) (pos 20_000)) (on_two (pos 1000) 
 turned_round = refl
 
 -- no num is below the least one
-below_the_least : made_shape true (on_one unlimited) (on_one (neg_ℤ (pos greatest))) 6 ≡ Err faults.ZoneShape
+below_the_least : made_shape true (on_one absent) (on_one (neg_ℤ (pos greatest))) 6 ≡ Err faults.ZoneShape
 below_the_least = refl
 
 -- axis 7 of an arm of six axes, which comes before all else, and of one of seven
-no_such_axis : made_shape true (on_seventh (pos 1000) unlimited) (on_seventh (pos 1000) (pos 0)) 6 ≡ Err faults.ExtAxis
+no_such_axis : made_shape true (on_seventh (pos 1000) absent) (on_seventh (pos 1000) (pos 0)) 6 ≡ Err faults.ExtAxis
 no_such_axis = refl
 
-seventh_axis : made_shape true (on_seventh unlimited (pos 0)) (on_seventh unlimited (pos 1)) 7
+seventh_axis : made_shape true (on_seventh absent (pos 0)) (on_seventh absent (pos 1)) 7
     ≡ Ok (record { inside = true; bounds = replicate 6 None ++ (Some (bound (pos 0) (pos 1)) ∷ replicate 5 None) })
 seventh_axis = refl
 

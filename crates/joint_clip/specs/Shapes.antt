@@ -1,29 +1,25 @@
 -- The shape that a low and a high position make, where 9E9 is no limit.
-use Rattle.std.specs.Prelude.{◌==◌, ◌&&◌, ◌||◌, Bool, false, not, if◌then◌else◌, ℕ, ℤ, pos, negsuc, neg_ℤ, int_lt, List, [], ◌∷◌, drop, Option, None, Some, is_some, Result, Ok, Err}
+use Rattle.std.specs.Prelude.{◌&&◌, ◌||◌, Bool, false, not, if◌then◌else◌, ℕ, ℤ, pos, neg_ℤ, int_lt, List, [], ◌∷◌, drop, Option, None, Some, is_some, Result, Ok, Err}
 use Rattle.std.specs.List.{list_any}
 use Rattle.rapid_num.specs.Range.{greatest}
+use Rattle.rapid_num.specs.Absent.{is_absent}
 use Rattle.rapid_num.specs.declared.joints.Joints.{Joints}
 use Rattle.rapid_num.specs.declared.shape.Bound.{Bound}
 use Rattle.rapid_num.specs.declared.shape.Shape.{Shape}
 use Rattle.joint_clip.specs.declared.shape_fault.ShapeFault.{ShapeFault}
 use Rattle.joint_clip.specs.declared.shape_fault.ShapeFault.TheVariants as faults
 
--- 9E9
-abbrev pub no_limit : ℤ → Bool
-no_limit (pos n) = n == 9_000_000_000_000
-no_limit (negsuc n) = false
-
 -- what is kept of a low and of a high bound: no num passes the least or the greatest one
 abbrev pub kept_low : ℤ → ℤ
-kept_low low = if no_limit low then neg_ℤ (pos greatest) else low
+kept_low low = if is_absent low then neg_ℤ (pos greatest) else low
 
 abbrev pub kept_high : ℤ → ℤ
-kept_high high = if no_limit high then pos greatest else high
+kept_high high = if is_absent high then pos greatest else high
 
 -- the bounds of an axis, which is named where one of them is a limit
 abbrev pub bound_of : ℤ → ℤ → Option Bound
 bound_of low high =
-    if no_limit low && no_limit high then None else Some (record { low = kept_low low; high = kept_high high })
+    if is_absent low && is_absent high then None else Some (record { low = kept_low low; high = kept_high high })
 
 -- the bounds of each axis
 abbrev pub bounds_of : List ℤ → List ℤ → List (Option Bound)

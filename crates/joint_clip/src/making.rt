@@ -1,7 +1,8 @@
 ghost use Rattle.std.specs.Prelude.{◌≡◌, ◌≤◌, ◌≤ℤ◌, ℤ, IsTrue, is_some};
 ghost use Rattle.std.specs.List.{list_any};
 ghost use Rattle.rapid_num.specs.Range.{IsNum};
-ghost use Rattle.joint_clip.specs.Shapes.{no_limit, kept_low, kept_high, bound_of, bounds_of, has_no_room, made_shape};
+ghost use Rattle.rapid_num.specs.Absent.{is_absent};
+ghost use Rattle.joint_clip.specs.Shapes.{kept_low, kept_high, bound_of, bounds_of, has_no_room, made_shape};
 
 use crate::shape_fault::ShapeFault;
 use rapid_num::{Bound, Joints, Num, Shape};
@@ -44,7 +45,7 @@ fn bounds_of(lows: &[Num; 12], highs: &[Num; 12]) -> [Option<Bound>; 12]
 fn bound_of(low: Num, high: Num) -> Option<Bound>
     ensures { result ≡ bound_of low high }
 {
-    if is_no_limit(low) && is_no_limit(high) {
+    if low.is_absent() && high.is_absent() {
         return None;
     }
     Some(Bound {
@@ -56,9 +57,9 @@ fn bound_of(low: Num, high: Num) -> Option<Bound>
 /// What is kept of a low bound: the least num for 9E9.
 fn kept_low(low: Num) -> Num
     ensures kept { result ≡ kept_low low }
-    ensures passed_by_none { IsTrue (no_limit low) → (angle : ℤ) → IsNum angle → result ≤ℤ angle }
+    ensures passed_by_none { IsTrue (is_absent low) → (angle : ℤ) → IsNum angle → result ≤ℤ angle }
 {
-    if is_no_limit(low) {
+    if low.is_absent() {
         Num::new(-9_999_999_999_999).unwrap()
     } else {
         low
@@ -68,20 +69,13 @@ fn kept_low(low: Num) -> Num
 /// What is kept of a high bound: the greatest num for 9E9.
 fn kept_high(high: Num) -> Num
     ensures kept { result ≡ kept_high high }
-    ensures passed_by_none { IsTrue (no_limit high) → (angle : ℤ) → IsNum angle → angle ≤ℤ result }
+    ensures passed_by_none { IsTrue (is_absent high) → (angle : ℤ) → IsNum angle → angle ≤ℤ result }
 {
-    if is_no_limit(high) {
+    if high.is_absent() {
         Num::new(9_999_999_999_999).unwrap()
     } else {
         high
     }
-}
-
-/// 9E9.
-fn is_no_limit(bound: Num) -> bool
-    ensures { result ≡ no_limit bound }
-{
-    bound.thousandths() == 9_000_000_000_000
 }
 
 fn is_any_named(bounds: &[Option<Bound>]) -> bool

@@ -1,12 +1,13 @@
 -- World zones (RAPID Instructions: WZLimJointDef, WZHomeJointDef, WZLimSup, WZDisable, WZEnable, WZFree).
-use Rattle.std.specs.Prelude.{ℕ, Bool, ◌||◌, ℤ, pos, List, [], ◌∷◌, Option, None, Some, Result, Ok, Err, if◌then◌else◌}
+use Rattle.std.specs.Prelude.{ℕ, Bool, ◌||◌, ℤ, List, [], ◌∷◌, Option, None, Some, Result, Ok, Err, if◌then◌else◌}
 use Rattle.std.specs.Option.{option_and_then, option_map}
+use Rattle.rapid_num.specs.Absent.{absent, is_absent}
 use Rattle.rapid_num.specs.Arithmetic.{sum_of, difference_of}
 use Rattle.rapid_num.specs.declared.joints.Joints.{Joints}
 use Rattle.rapid_num.specs.declared.shape.Shape.{Shape}
 use Rattle.rapid_model.specs.declared.answer.Answer.{Answer}
 use Rattle.rapid_model.specs.declared.answer.Answer.TheVariants as answers
-use Rattle.joint_clip.specs.Shapes.{made_shape, no_limit}
+use Rattle.joint_clip.specs.Shapes.{made_shape}
 use Rattle.joint_clip.specs.declared.shape_fault.ShapeFault.{ShapeFault}
 use Rattle.joint_clip.specs.declared.shape_fault.ShapeFault.TheVariants as shape_faults
 use Rattle.rapid_model.specs.declared.fate.Fault.{Fault}
@@ -35,16 +36,12 @@ shaped place (Err why) = fault (fault_of why)
 abbrev pub define : Lvalue → Bool → Joints → Joints → Act
 define place inside low high = shaped place (made_shape inside low high arm_axes)
 
--- 9E9
-abbrev pub unlimited : ℤ
-unlimited = pos 9_000_000_000_000
-
 -- the bound of an axis below and above its middle; none of both where the middle or the delta is 9E9
 abbrev pub home_low : ℤ → ℤ → Option ℤ
-home_low middle delta = if no_limit middle || no_limit delta then Some unlimited else difference_of middle delta
+home_low middle delta = if is_absent middle || is_absent delta then Some absent else difference_of middle delta
 
 abbrev pub home_high : ℤ → ℤ → Option ℤ
-home_high middle delta = if no_limit middle || no_limit delta then Some unlimited else sum_of middle delta
+home_high middle delta = if is_absent middle || is_absent delta then Some absent else sum_of middle delta
 
 -- of each axis, where all are in range
 unfoldable pub on_axes : (ℤ → ℤ → Option ℤ) → List ℤ → List ℤ → Option (List ℤ)

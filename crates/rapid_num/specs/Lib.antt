@@ -1,4 +1,5 @@
 pub mod Range
+pub mod Absent
 pub mod Reach
 pub mod Arithmetic
 pub mod Characters

@@ -1,16 +1,12 @@
 -- Where an arm may be.
-use Rattle.std.specs.Prelude.{◌&&◌, Bool, false, nat_le, ℤ, pos, negsuc, nat_abs, List, length, replicate, take, drop, ◌==◌}
+use Rattle.std.specs.Prelude.{◌&&◌, Bool, nat_le, ℤ, nat_abs, List, length, replicate, take, drop, ◌==◌}
 use Rattle.std.specs.List.{list_all}
+use Rattle.rapid_num.specs.Absent.{absent, is_absent}
 use Rattle.rapid_num.specs.declared.joints.Joints.{Joints}
 
 -- an axis within 720.000 degrees
 abbrev pub is_in_reach : ℤ → Bool
 is_in_reach angle = nat_le (nat_abs angle) 720_000
-
--- 9E9, which stands for an external axis that is not there
-abbrev pub is_absent : ℤ → Bool
-is_absent (pos n) = n == 9_000_000_000_000
-is_absent (negsuc n) = false
 
 -- six external axes, none of them there
 abbrev pub are_absent : List ℤ → Bool
@@ -18,7 +14,7 @@ are_absent angles = length angles == 6 && list_all is_absent angles
 
 -- external axes that are not given
 abbrev pub absent_axes : List ℤ
-absent_axes = replicate 6 (pos 9_000_000_000_000)
+absent_axes = replicate 6 absent
 
 -- axes 1 to 6 are in reach
 abbrev pub is_reachable : Joints → Bool

@@ -1,6 +1,7 @@
 ghost use Rattle.std.specs.Prelude.{◌≡◌};
 ghost use Rattle.std.specs.List.{list_all};
-ghost use Rattle.rapid_num.specs.Reach.{is_in_reach, is_absent, are_absent, is_reachable, is_position};
+ghost use Rattle.rapid_num.specs.Absent.{is_absent};
+ghost use Rattle.rapid_num.specs.Reach.{is_in_reach, are_absent, is_reachable, is_position};
 
 use crate::num::Num;
 
@@ -43,11 +44,5 @@ fn are_absent(axes: &[Num]) -> bool
 fn none_is_given(axes: &[Num]) -> bool
     ensures { result ≡ list_all is_absent axes.now }
 {
-    axes.iter().all(|axis| is_absent(*axis))
-}
-
-fn is_absent(angle: Num) -> bool
-    ensures { result ≡ is_absent angle }
-{
-    angle.thousandths() == 9_000_000_000_000
+    axes.iter().all(|axis| axis.is_absent())
 }

@@ -1,5 +1,6 @@
 ghost use Rattle.std.specs.Prelude.{◌≡◌};
 ghost use Rattle.rapid_num.specs.Range.{IsNum};
+ghost use Rattle.rapid_num.specs.Absent.{is_absent};
 ghost use Rattle.rapid_num.specs.Arithmetic.{num_of};
 
 use std::marker::Model;
@@ -41,6 +42,14 @@ impl Num {
         ensures range { IsNum self }
     {
         self.thousandths
+    }
+
+    /// Whether it is 9E9, which stands for what is not given: an external axis of a position, or the bound of an axis
+    /// (RAPID Instructions, Functions and Data types: extjoint, WZLimJointDef).
+    pub fn is_absent(self) -> bool
+        ensures { result ≡ is_absent self }
+    {
+        self.thousandths() == 9_000_000_000_000
     }
 
     /// The num of a count in range.

@@ -2,7 +2,6 @@
 
 ghost use Rattle.std.specs.Prelude.{◌≡◌, Some, if◌then◌else◌};
 ghost use Rattle.std.specs.Option.{option_map};
-ghost use Rattle.joint_clip.specs.Shapes.{no_limit};
 ghost use Rattle.typed_trees.specs.declared.datum.Datum.TheVariants as datums;
 ghost use Rattle.typed_trees.specs.declared.datum.Lvalue.{Lvalue};
 ghost use Rattle.rapid_meaning.specs.Doings.{Raises, after};
@@ -101,18 +100,11 @@ fn on_axes(above: bool, middles: &[Num; 12], deltas: &[Num; 12]) -> Option<[Num;
 fn home_bound(above: bool, middle: Num, delta: Num) -> Option<Num>
     ensures { result ≡ (if above then home_high middle delta else home_low middle delta) }
 {
-    if is_no_limit(middle) || is_no_limit(delta) {
+    if middle.is_absent() || delta.is_absent() {
         Num::new(9_000_000_000_000)
     } else if above {
         middle.add(delta)
     } else {
         middle.sub(delta)
     }
-}
-
-/// 9E9.
-fn is_no_limit(bound: Num) -> bool
-    ensures { result ≡ no_limit bound }
-{
-    bound.thousandths() == 9_000_000_000_000
 }

@@ -5,7 +5,8 @@ use Rattle.std.specs.List.{list_all}
 use Rattle.std.proofs.lemmas.Bool.{and_parts, eq-eqb, eqb-true}
 use Rattle.std.proofs.lemmas.List.{length-drop}
 use Rattle.rapid_num.specs.Arithmetic.{whole_part}
-use Rattle.rapid_num.specs.Reach.{are_absent, is_absent, is_position, is_reachable}
+use Rattle.rapid_num.specs.Absent.{is_absent}
+use Rattle.rapid_num.specs.Reach.{are_absent, is_position, is_reachable}
 use Rattle.rapid_num.specs.declared.joints.Joints.{Joints}
 use Rattle.rapid_model.specs.Paths.{has_sort}
 use Rattle.rapid_model.specs.declared.answer.Answer.TheVariants as answers

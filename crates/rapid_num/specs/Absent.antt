@@ -1,0 +1,9 @@
+-- 9E9, which stands for what is not given: an axis that is not there, or a bound that is no limit.
+use Rattle.std.specs.Prelude.{◌==◌, Bool, false, ℤ, pos, negsuc}
+
+abbrev pub absent : ℤ
+absent = pos 9_000_000_000_000
+
+abbrev pub is_absent : ℤ → Bool
+is_absent (pos n) = n == 9_000_000_000_000
+is_absent (negsuc n) = false
