@@ -5,23 +5,13 @@ use Rattle.raw_trees.specs.declared.raw_expr.Operator.TheVariants as operators
 use Rattle.raw_trees.specs.Plain.{PlainSteps, NoSteps, MoreSteps}
 use Rattle.rapid_model.specs.declared.sort.Sort.{Sort}
 use Rattle.rapid_model.specs.declared.sort.Sort.TheVariants as sorts
+use Rattle.rapid_model.specs.Sorts.{is_compared}
 use Rattle.rapid_values.specs.Components.{Component, components}
 use Rattle.rule_checks.specs.declared.rule.TypeRule.{TypeRule}
 use Rattle.rule_checks.specs.declared.rule.TypeRule.TheVariants.{TypeClash, BadRef, SyncName}
 pub use Rattle.data_scopes.specs.Sorts.{same_sort}
 use Rattle.named_data.specs.declared.wanted.Wanted.{Wanted}
 use Rattle.named_data.specs.declared.wanted.Wanted.TheVariants.{Any, Brackets, Is, Same, Fits, Nothing, Reference, ReferenceTo, Meeting}
-
--- types whose values are compared
-abbrev pub is_compared : Sort → Bool
-is_compared sorts.Num = true
-is_compared sorts.Bool = true
-is_compared sorts.Text = true
-is_compared sorts.RobJoint = true
-is_compared sorts.ExtJoint = true
-is_compared sorts.JointTarget = true
-is_compared sorts.SpeedData = true
-is_compared _ = false
 
 -- an operator takes operands of this type, both of one type
 abbrev pub suits : Operator → Sort → Bool

@@ -1,6 +1,7 @@
 //! What the place of an expression asks of its type.
 
 ghost use Rattle.std.specs.Prelude.{◌≡◌, length};
+ghost use Rattle.rapid_model.specs.Sorts.{is_compared};
 ghost use Rattle.rapid_values.specs.Components.{components};
 ghost use Rattle.named_data.specs.Wants;
 
@@ -12,7 +13,7 @@ use rule_checks::TypeRule;
 
 /// Whether values of the type are compared by `=` and `<>` (RAPID Overview, expressions).
 fn is_compared(sort: Sort) -> bool
-    ensures { result ≡ Wants.is_compared sort }
+    ensures { result ≡ is_compared sort }
 {
     matches!(
         sort,

@@ -14,6 +14,17 @@ has_values sorts.WzTemporary = false
 has_values sorts.WzStationary = false
 has_values _ = true
 
+-- values of the type are compared by `=` and `<>` (RAPID Overview, expressions)
+abbrev pub is_compared : Sort → Bool
+is_compared sorts.Num = true
+is_compared sorts.Bool = true
+is_compared sorts.Text = true
+is_compared sorts.RobJoint = true
+is_compared sorts.ExtJoint = true
+is_compared sorts.JointTarget = true
+is_compared sorts.SpeedData = true
+is_compared _ = false
+
 -- a value of the type; the value of a tasks is the text of its one component
 abbrev pub is_value_of : Sort → Value → Bool
 is_value_of sorts.Num (values.Num n) = true

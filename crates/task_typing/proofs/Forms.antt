@@ -3,13 +3,12 @@ use Rattle.std.proofs.Common.{◌≡◌, refl, ℕ, Bool, ℤ, List, [], ◌∷�
 use Rattle.std.proofs.lemmas.Bool.{eqb-true}
 use Rattle.rapid_num.specs.declared.joints.Joints.{Joints}
 use Rattle.rapid_model.specs.Paths.{has_sort}
-use Rattle.rapid_model.specs.Sorts.{has_values}
+use Rattle.rapid_model.specs.Sorts.{has_values, is_compared}
 use Rattle.rapid_model.specs.declared.sort.Sort.{Sort}
 use Rattle.rapid_model.specs.declared.sort.Sort.TheVariants as sorts
 use Rattle.rapid_model.specs.declared.value.Value.{Value}
 use Rattle.rapid_model.specs.declared.value.Value.TheVariants as values
 use Rattle.rapid_operators.specs.Equality.{are_alike}
-use Rattle.task_typing.specs.Operations.{is_compared}
 
 pub num_form : (v : Value) → IsTrue (has_sort sorts.Num v) → (n : ℤ) × (v ≡ values.Num n)
 num_form (values.Num n) h = (n, refl)

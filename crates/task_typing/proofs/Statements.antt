@@ -8,6 +8,7 @@ use Rattle.rapid_model.specs.declared.sort.Sort.{Sort}
 use Rattle.rapid_model.specs.declared.sort.Sort.TheVariants as sorts
 use Rattle.rapid_model.specs.declared.value.Value.{Value}
 use Rattle.rapid_model.specs.declared.value.Value.TheVariants as values
+use Rattle.rapid_model.specs.Sorts.{is_compared}
 use Rattle.raw_trees.specs.declared.raw_expr.Operator.TheVariants as operators
 use Rattle.rapid_operators.specs.Operators.{apply}
 use Rattle.typed_trees.specs.Plain as trees
@@ -31,7 +32,6 @@ use Rattle.rapid_meaning.specs.Values.{applied, num_in, truth_in}
 use Rattle.rapid_meaning.specs.Doings as doings
 use Rattle.task_typing.specs.Expressions.{AreArgs, IsExpr, IsPlace}
 use Rattle.task_typing.specs.Kinds.{Counts, Holds, Kind, cells_of, kind_of, kinds_of, need_of}
-use Rattle.task_typing.specs.Operations.{is_compared}
 use Rattle.task_typing.specs.Setting.{Setting}
 use Rattle.task_typing.specs.Statements.{Around, AreArms, AreCaseValues, AreCases, AreStmts, IsElse, IsStep, IsStmt, Sees, into}
 use Rattle.task_typing.proofs.Acts.{connect_safe, number_safe, num_expr, truth_expr, when_safe}

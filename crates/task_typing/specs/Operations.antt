@@ -1,20 +1,10 @@
 -- The types of operands (RAPID Overview, expressions).
-use Rattle.std.specs.Prelude.{◌≡◌, ◌⊎◌, Bool, true, false, IsTrue}
+use Rattle.std.specs.Prelude.{◌≡◌, ◌⊎◌, IsTrue}
 use Rattle.rapid_model.specs.declared.sort.Sort.{Sort}
 use Rattle.rapid_model.specs.declared.sort.Sort.TheVariants as sorts
+use Rattle.rapid_model.specs.Sorts.{is_compared}
 use Rattle.raw_trees.specs.declared.raw_expr.Operator.{Operator}
 use Rattle.raw_trees.specs.declared.raw_expr.Operator.TheVariants as operators
-
--- types whose values are compared
-abbrev pub is_compared : Sort → Bool
-is_compared sorts.Num = true
-is_compared sorts.Bool = true
-is_compared sorts.Text = true
-is_compared sorts.RobJoint = true
-is_compared sorts.ExtJoint = true
-is_compared sorts.JointTarget = true
-is_compared sorts.SpeedData = true
-is_compared _ = false
 
 -- an operator between operands of the first type comes to a value of the second
 abbrev pub Operates : Operator → Sort → Sort → Type 0

@@ -1,6 +1,6 @@
 -- When the typed forms of statements are well typed, one line a form.
 use Rattle.std.specs.Prelude.{◌≡◌, ◌⊎◌, ℕ, Bool, IsTrue, List, [], ◌∷◌, map, Option, Some, None, is_some, slice_get, ⊤}
-use Rattle.rapid_model.specs.Sorts.{has_values}
+use Rattle.rapid_model.specs.Sorts.{has_values, is_compared}
 use Rattle.rapid_model.specs.declared.sort.Sort.{Sort}
 use Rattle.rapid_model.specs.declared.sort.Sort.TheVariants as sorts
 use Rattle.raw_trees.specs.declared.raw_routine.RoutineKind.{RoutineKind}
@@ -10,7 +10,6 @@ use Rattle.rapid_meaning.specs.Lists.{behind}
 use Rattle.task_typing.specs.Expressions.{AreArgs, IsExpr, IsPlace}
 use Rattle.task_typing.specs.Instructions.{IsInstruction}
 use Rattle.task_typing.specs.Kinds.{Kind, Counts, need_of}
-use Rattle.task_typing.specs.Operations.{is_compared}
 use Rattle.task_typing.specs.Setting.{Setting}
 
 -- What is around a statement: the kinds of its routine's rows; whether that is a procedure, a function or a trap, and the type

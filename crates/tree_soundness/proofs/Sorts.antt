@@ -1,26 +1,15 @@
 -- What is wanted of an expression, as a fact on its type.
-use Rattle.std.proofs.Common.{◌≡◌, inl, inr, true, false, IsTrue, refl}
+use Rattle.std.proofs.Common.{◌≡◌, inl, inr, true, false, refl}
 use Rattle.raw_trees.specs.declared.raw_expr.Operator.{Operator}
 use Rattle.raw_trees.specs.declared.raw_expr.Operator.TheVariants as operators
 use Rattle.rapid_model.specs.declared.sort.Sort.{Sort}
 use Rattle.rapid_model.specs.declared.sort.Sort.TheVariants as sorts
 use Rattle.named_data.specs.declared.wanted.Wanted.{Wanted}
 use Rattle.named_data.specs.declared.wanted.Wanted.TheVariants.{Any, Brackets, Is, Same, Fits, Nothing, Reference, ReferenceTo, Meeting}
-use Rattle.named_data.specs.Wants as wants
 use Rattle.named_data.specs.Wants.{comes_to, fits, hands_on, inside, needed_components, needed_sort, suits}
 use Rattle.named_data.specs.Data.{is_none}
 use Rattle.cell_assembly.proofs.SoundInfo.{same_sort_is}
-use Rattle.task_typing.specs.Operations.{Operates, is_compared}
-
-pub compared : (sort : Sort) → wants.is_compared sort ≡ true → IsTrue (is_compared sort)
-compared sorts.Num e = refl
-compared sorts.Bool e = refl
-compared sorts.Text e = refl
-compared sorts.RobJoint e = refl
-compared sorts.ExtJoint e = refl
-compared sorts.JointTarget e = refl
-compared sorts.SpeedData e = refl
-compared _ e = absurd cc
+use Rattle.task_typing.specs.Operations.{Operates}
 
 -- what is wanted, as far as it tells the type
 abbrev pub IsWanted : Wanted → Sort → Type 0
@@ -58,8 +47,8 @@ wanted_brackets _ e = tt
 
 -- operators between operands that suit them
 pub operates : (o : Operator) (left : Sort) → suits o left ≡ true → Operates o left (comes_to o left)
-operates operators.Equal left e = (compared left e, refl)
-operates operators.NotEqual left e = (compared left e, refl)
+operates operators.Equal left e = (e, refl)
+operates operators.NotEqual left e = (e, refl)
 operates operators.And left e = (same_sort_is left sorts.Bool e, refl)
 operates operators.Or left e = (same_sort_is left sorts.Bool e, refl)
 operates operators.Xor left e = (same_sort_is left sorts.Bool e, refl)

@@ -34,7 +34,6 @@ use Rattle.tree_soundness.proofs.Expressions.{arguments_taken, expr_right, index
 use Rattle.tree_soundness.proofs.Instructions.{instruction_right}
 use Rattle.tree_soundness.proofs.Labels.{owned, sees}
 use Rattle.tree_soundness.proofs.Named.{Right, Suits}
-use Rattle.tree_soundness.proofs.Sorts.{compared}
 
 -- the number of the next FOR does not fall
 pub stmts_grow : (body : Body) (list : PlainStmts) (around : bodies.Around) (next : ℕ) (ts : TypedStmts) (past : ℕ) → AreTypedStmts body list around next ts past → next ≤ past
@@ -184,7 +183,7 @@ module _ (c : Setting) (kinds : List Kind) (body : Body) (loops : ℕ) (suits : 
         let h : Right c kinds (Fits operators.Equal) u = expr_right c kinds (site body around at) (suits around at) value (Fits operators.Equal) u part in
         subst (IsStmt c (inside around.handler lists)) (sym is) (
           sort_of u,
-          compared (sort_of u) h.1,
+          h.1,
           h.0,
           choices_right cases at (sort_of u) around next us middle lists are (omega (arith, grows, few)) lands.0,
           otherwise_right other around middle v past lists is_other few lands.1,
