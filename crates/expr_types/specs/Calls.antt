@@ -3,8 +3,6 @@ use Rattle.std.specs.Prelude.{ℕ, Bool, true, false, not, ◌&&◌, ◌||◌, �
 use Rattle.std.specs.Option.{option_map}
 use Rattle.std.specs.Str.{str_eq_ignore_ascii_case}
 use Rattle.raw_trees.specs.Plain.{PlainName, PlainExpr, PlainArg, PlainArgs, Needed, Optional, NoArgs, MoreArgs}
-use Rattle.raw_trees.specs.declared.raw_routine.Mode.{Mode}
-use Rattle.raw_trees.specs.declared.raw_routine.Mode.TheVariants as modes
 use Rattle.raw_trees.specs.declared.raw_routine.RoutineKind.{RoutineKind}
 use Rattle.raw_trees.specs.declared.raw_routine.RoutineKind.TheVariants as kinds
 use Rattle.rapid_model.specs.declared.function.Function.{Function}
@@ -26,6 +24,7 @@ use Rattle.data_scopes.specs.declared.meant.Meant.TheVariants as meants
 use Rattle.data_scopes.specs.Called.{kind_of, params_of, result_of}
 use Rattle.rule_checks.specs.Checks.{◌>>=◌, must}
 use Rattle.rule_checks.specs.TypeChecks.{Checked}
+use Rattle.rapid_builtins.specs.Parameters.{parameter_need}
 use Rattle.expr_types.specs.declared.callee.Callee.{Callee}
 use Rattle.expr_types.specs.declared.callee.Callee.TheVariants as callees
 use Rattle.named_data.specs.declared.wanted.Wanted.{Wanted}
@@ -53,14 +52,8 @@ abbrev pub taking : Signature → Taking
 taking s = record { needs = s.needs; options = s.options; choice = s.choice; before = [] }
 
 -- the need of a parameter
-abbrev pub by_mode : Mode → Sort → Need
-by_mode modes.Value sort = needs.Value sort
-by_mode modes.Inout sort = needs.VarOrPers sort
-by_mode modes.Var sort = needs.Var sort
-by_mode modes.Pers sort = needs.Pers sort
-
 abbrev pub need_of : ParamRow → Need
-need_of p = by_mode p.mode p.sort
+need_of p = parameter_need p.mode p.sort
 
 -- a routine of the task
 abbrev pub routine_signature : List ParamRow → Signature

@@ -5,9 +5,7 @@ ghost use Rattle.expr_types.specs.Calls;
 ghost use Rattle.expr_types.specs.Views.{view_needs};
 
 use data_scopes::ParamRow;
-use rapid_builtins::Need;
-use rapid_model::Sort;
-use raw_trees::Mode;
+use rapid_builtins::{Need, parameter_need};
 
 /// The needs of the arguments that are left, in their order (RAPID Kernel, procedure calls).
 #[derive(Clone, Copy)]
@@ -97,16 +95,5 @@ fn told(zone: Need, need: Need) -> Need
 fn need_of(param: ParamRow) -> Need
     ensures { result ≡ Calls.need_of param }
 {
-    by_mode(param.mode, param.sort)
-}
-
-fn by_mode(mode: Mode, sort: Sort) -> Need
-    ensures { result ≡ Calls.by_mode mode sort }
-{
-    match mode {
-        Mode::Value => Need::Value(sort),
-        Mode::Inout => Need::VarOrPers(sort),
-        Mode::Var => Need::Var(sort),
-        Mode::Pers => Need::Pers(sort),
-    }
+    parameter_need(param.mode, param.sort)
 }

@@ -1,5 +1,5 @@
 //! RAPID's predefined names of this profile, and what they take: its instructions, functions, types and data, the arguments and
-//! options of calls, and whether they need an arm.
+//! options of calls, and whether they need an arm; and what arguments for parameters have to be.
 #![tactic(auto)]
 
 mod arms;
@@ -14,6 +14,7 @@ mod need;
 mod option_choice;
 mod option_laws;
 mod option_rows;
+mod parameters;
 mod table;
 mod types_and_data;
 
@@ -29,4 +30,5 @@ pub use need::Need;
 pub use option_choice::Choice;
 pub use option_laws::options_differ;
 pub use option_rows::{choice, first_named, option_of, options};
+pub use parameters::parameter_need;
 pub use types_and_data::{is_predefined, predefined};

@@ -38,8 +38,9 @@ use Rattle.rapid_meaning.specs.Layouts.{length_at}
 use Rattle.rapid_meaning.specs.Places.{indexed, part_at, read_value, rooted, test_and_set}
 use Rattle.rapid_meaning.specs.Values.{between, num_in, of_bit, opposite, text_in, whole, with_sign}
 use Rattle.rapid_builtins.specs.declared.need.Need.TheVariants as needs
+use Rattle.rapid_builtins.specs.Parameters.{parameter_need}
 use Rattle.task_typing.specs.Expressions.{AreArgs, AreComponents, AreSteps, IsArg, IsArray, IsExpr, IsPlace}
-use Rattle.task_typing.specs.Kinds.{Cell, Holds, Lends, cells_of, kind_by, kind_of, kinds_of, local_cells, need_by, need_of}
+use Rattle.task_typing.specs.Kinds.{Cell, Holds, Lends, cells_of, kind_by, kind_of, kinds_of, local_cells, need_of}
 use Rattle.task_typing.specs.States.{AreInCells}
 use Rattle.task_typing.proofs.Forms.{bool_form, num_form, text_form}
 use Rattle.task_typing.proofs.Loads.{read_safe, test_safe}
@@ -236,7 +237,7 @@ lent_step i sort p more cells safe is rest =
     (λ q there. safe_then (scene i) (AreArgsOf (scene i) cells) (AreArgsOf (scene i) (Lends sort ∷ cells)) (arguments i.c.tree i.routine more) (λ xs. Gives (datums.Place q ∷ xs)) rest
     (λ xs are. safe_gives (scene i) (AreArgsOf (scene i) (Lends sort ∷ cells)) (datums.Place q ∷ xs) (there, are)))
 
-arg_step : (i : Inside) (mode : Mode) (sort : Sort) (arg : TypedArg) (more : TypedArgs) (cells : List Cell) → ArgSafe i arg → IsArg i.c (kinds_of i.routine) arg (need_by mode sort)
+arg_step : (i : Inside) (mode : Mode) (sort : Sort) (arg : TypedArg) (more : TypedArgs) (cells : List Cell) → ArgSafe i arg → IsArg i.c (kinds_of i.routine) arg (parameter_need mode sort)
     → Safe (scene i) (AreArgsOf (scene i) cells) (arguments i.c.tree i.routine more)
     → Safe (scene i) (AreArgsOf (scene i) (cells_of (kind_by mode sort) ++ cells)) (arguments i.c.tree i.routine (MoreArgs arg more))
 arg_step i modes.Value sort arg more cells safe is rest = given_step i sort arg more cells safe is rest

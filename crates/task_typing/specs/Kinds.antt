@@ -6,7 +6,7 @@ use Rattle.rapid_model.specs.declared.sort.Sort.TheVariants as sorts
 use Rattle.raw_trees.specs.declared.raw_routine.Mode.{Mode}
 use Rattle.raw_trees.specs.declared.raw_routine.Mode.TheVariants as modes
 use Rattle.rapid_builtins.specs.declared.need.Need.{Need}
-use Rattle.rapid_builtins.specs.declared.need.Need.TheVariants as needs
+use Rattle.rapid_builtins.specs.Parameters.{parameter_need}
 use Rattle.typed_trees.specs.Plain.{TypedParam, TypedRoutine, TypedSlot, TypedTree}
 
 -- Owns: a datum of the routine's own, of a type, and of a length where it is an array. Refers: a place of a type that the
@@ -28,14 +28,8 @@ abbrev pub kinds_of : TypedRoutine → List Kind
 kinds_of routine = map kind_of routine.params ++ (map (λ row. Owns row.sort row.len) routine.locals ++ replicate routine.loops Counts)
 
 -- what an argument for a parameter has to be
-abbrev pub need_by : Mode → Sort → Need
-need_by modes.Value sort = needs.Value sort
-need_by modes.Inout sort = needs.VarOrPers sort
-need_by modes.Var sort = needs.Var sort
-need_by modes.Pers sort = needs.Pers sort
-
 abbrev pub need_of : TypedParam → Need
-need_of param = need_by param.mode param.sort
+need_of param = parameter_need param.mode param.sort
 
 -- what one place holds: a datum of a type, or a place of a type
 pub data Cell : Type 0 where

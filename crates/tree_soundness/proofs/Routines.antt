@@ -4,8 +4,7 @@ use Rattle.std.specs.Option.{option_and_then, option_map}
 use Rattle.std.proofs.lemmas.Option.{get_or_from_slice_get, slice_get_within}
 use Rattle.raw_trees.specs.Plain.{PlainItem, PlainModule, PlainParam, PlainRoutine, Datum, Routine}
 use Rattle.raw_trees.specs.declared.raw_routine.Mode.{Mode}
-use Rattle.raw_trees.specs.declared.raw_routine.Mode.TheVariants as modes
-use Rattle.rapid_model.specs.declared.sort.Sort.{Sort}
+use Rattle.rapid_builtins.specs.Parameters.{parameter_need}
 use Rattle.typed_trees.specs.Plain.{TypedLocal, TypedParam, TypedRoutine}
 use Rattle.data_scopes.specs.declared.data_row.DatumRow.{DatumRow}
 use Rattle.data_scopes.specs.declared.data_row.ParamRow.{ParamRow}
@@ -13,13 +12,12 @@ use Rattle.data_scopes.specs.Called.{params_in}
 use Rattle.data_scopes.specs.Numbers.{is_pers, is_scalar_const}
 use Rattle.data_scopes.specs.Scopes.{Names, RoutineRow, Rows, Tables}
 use Rattle.expr_types.specs.Calls as calls
-use Rattle.expr_types.specs.Calls.{by_mode}
 use Rattle.data_scopes.proofs.ListAt.{list_at-there}
 use Rattle.stmt_types.specs.Task.{is_main, main_among, routines_in, routines_of, typed_params}
 use Rattle.typing_rules.specs.DeclaredNames.{AreItemRows, AreModuleRows, IsRoutineRow}
 use Rattle.typing_rules.specs.Tasks.{AreItemRoutines, AreRoutines, IsRoutine}
 use Rattle.name_laws.specs.Declared.{AreEach}
-use Rattle.task_typing.specs.Kinds.{need_by, need_of}
+use Rattle.task_typing.specs.Kinds.{need_of}
 use Rattle.tree_soundness.proofs.Lists.{AreFrom, Behind, each_of, from_at, from_length, none_behind, one_behind, partner, then_behind}
 use Rattle.tree_soundness.proofs.Rows.{LocalAlike, LocalsAlike, params_long, rows_by}
 
@@ -40,18 +38,12 @@ params_alike (p ∷ ps) [] e = absurd (omega arith)
 params_alike (p ∷ ps) (row ∷ rows) e = ((refl, refl), params_alike ps rows (omega arith))
 
 -- the needs of parameters that are alike
-same_need : (mode : Mode) (sort : Sort) → need_by mode sort ≡ by_mode mode sort
-same_need modes.Value sort = refl
-same_need modes.Inout sort = refl
-same_need modes.Var sort = refl
-same_need modes.Pers sort = refl
-
 pub needs_alike : (rows : List ParamRow) (params : List TypedParam) → AreEach ParamAlike rows params → map need_of params ≡ map calls.need_of rows
 needs_alike [] [] h = refl
 needs_alike [] (p ∷ ps) h = absurd h
 needs_alike (row ∷ rows) [] h = absurd h
 needs_alike (row ∷ rows) (p ∷ ps) h =
-    let one : need_of p ≡ calls.need_of row = ap (λ (m : Mode). need_by m p.sort) h.0.0 ∙ ap (need_by row.mode) h.0.1 ∙ same_need row.mode row.sort in
+    let one : need_of p ≡ calls.need_of row = ap (λ (m : Mode). parameter_need m p.sort) h.0.0 ∙ ap (parameter_need row.mode) h.0.1 in
     let more = needs_alike rows ps h.1 in
     cc
 

@@ -1,0 +1,12 @@
+-- What an argument for a parameter of a routine has to be.
+use Rattle.raw_trees.specs.declared.raw_routine.Mode.{Mode}
+use Rattle.raw_trees.specs.declared.raw_routine.Mode.TheVariants as modes
+use Rattle.rapid_model.specs.declared.sort.Sort.{Sort}
+use Rattle.rapid_builtins.specs.declared.need.Need.{Need}
+use Rattle.rapid_builtins.specs.declared.need.Need.TheVariants as needs
+
+abbrev pub parameter_need : Mode → Sort → Need
+parameter_need modes.Value sort = needs.Value sort
+parameter_need modes.Inout sort = needs.VarOrPers sort
+parameter_need modes.Var sort = needs.Var sort
+parameter_need modes.Pers sort = needs.Pers sort
