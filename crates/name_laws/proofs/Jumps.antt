@@ -22,6 +22,7 @@ use Rattle.rule_checks.specs.TypeChecks.{Checked}
 use Rattle.rule_checks.specs.declared.rule.TypeRule.TheVariants.{NoLabel, LabelTwice, HandlerOnly, ReturnKind}
 use Rattle.rule_checks.proofs.Steps.{behind, ok_same, it_holds}
 use Rattle.rule_checks.proofs.Keeps.{Keeps, Keeps-any, kept}
+use Rattle.typed_trees.specs.Labels.{numbers_of, numbers_in, numbers_in_arms, numbers_in_cases, numbers_in_else, error_part}
 use Rattle.data_scopes.specs.declared.meant.Meant.{Meant}
 use Rattle.data_scopes.specs.declared.meant.Meant.TheVariants as meants
 use Rattle.data_scopes.specs.Called.{kind_of, params_of, result_of}
@@ -34,7 +35,7 @@ use Rattle.expr_types.specs.Typing.{typed, call_arguments, sort_of}
 use Rattle.body_types.specs.Bodies.{Body, Around, Typed, outside, site, into, into_loop, target, place_sort, name_of, no_signal, is_function, trap_meant, assigned, called, call_meant, procedure, labelled, jumped, returned, returned_value, raised, in_handler, connected, bounds, case_values, then_next, stmt, stmts, branches, choices, otherwise}
 use Rattle.body_types.specs.Labels.{own_labels, names_label, labels_of, labels_in, labels_in_arms, labels_in_cases, labels_in_else, label_number, is_first, is_visible}
 use Rattle.stmt_types.specs.Task.{handler_of}
-use Rattle.name_laws.specs.Jumps.{own_label, own, numbers_of, numbers_in, numbers_in_arms, numbers_in_cases, numbers_in_else, Lands, Land, LandInArms, LandInCases, LandInElse, error_part, IsApart, AreApart, AreInOrder}
+use Rattle.name_laws.specs.Jumps.{own_label, own, Lands, Land, LandInArms, LandInCases, LandInElse, IsApart, AreApart, AreInOrder}
 
 -- a form without labels, jumps and lists
 record IsSimple (t : TypedStmt) : Type 0 where

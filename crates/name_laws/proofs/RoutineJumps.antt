@@ -7,6 +7,7 @@ use Rattle.typed_trees.specs.Plain.{TypedLocal, TypedRoutine, TypedTree}
 use Rattle.rule_checks.specs.Checks.{must}
 use Rattle.rule_checks.specs.declared.rule.TypeRule.TheVariants.{DataRange}
 use Rattle.rule_checks.proofs.Steps.{behind, ok_same}
+use Rattle.typed_trees.specs.Labels.{numbers_in_routine}
 use Rattle.data_scopes.specs.Naming.{names_of}
 use Rattle.data_scopes.specs.Scopes.{Names}
 use Rattle.named_data.specs.Rules.{at_byte}
@@ -15,7 +16,7 @@ use Rattle.body_types.specs.Bodies.{outside, stmts, into}
 use Rattle.body_types.specs.Labels.{labels_in, labels_in_else, labels_in_routine}
 use Rattle.stmt_types.specs.Task.{task_of, handler_of, body_of, typed_routine, item_bodies, items_bodies, bodies, main_or, top, main_among, routines_of, most_values, tree_of}
 use Rattle.name_laws.specs.Declared.{StandsIn}
-use Rattle.name_laws.specs.Jumps.{JumpsLand, AreApart, AreInOrder, LabelsApart, labels_of_routine}
+use Rattle.name_laws.specs.Jumps.{JumpsLand, AreApart, AreInOrder, LabelsApart}
 use Rattle.name_laws.proofs.Items.{Rest, rest_all, rest_first, rest_more}
 use Rattle.name_laws.proofs.Jumps.{numbered, AreFirst, first_append, appended, all_apart, in_order, list_done, within, handler_done}
 use Rattle.name_laws.proofs.Meetings.{last_or}
@@ -23,7 +24,7 @@ use Rattle.name_laws.proofs.Meetings.{last_or}
 -- of the GOTOs and labels of a typed routine
 record AreRight (r : PlainRoutine) (t : TypedRoutine) : Type 0 where
   pub lands : JumpsLand t
-  pub all : labels_of_routine t ≡ numbered (labels_in_routine r) (labels_in_routine r)
+  pub all : numbers_in_routine t ≡ numbered (labels_in_routine r) (labels_in_routine r)
   pub first : AreFirst (labels_in_routine r) (labels_in_routine r)
 
 routine_right : (names : Names) (locals : List (List TypedLocal)) (number routine : ℕ) (r : PlainRoutine) (t : TypedRoutine) → typed_routine names locals number routine r ≡ Ok t → AreRight r t
@@ -80,8 +81,8 @@ module _ (modules : List PlainModule) (names : Names) (locals : List (List Typed
 -- a routine of a checked tree
 pub record IsRight (modules : List PlainModule) (t : TypedRoutine) : Type 0 where
   pub lands : JumpsLand t
-  pub once : ((number : ℕ) (r : PlainRoutine) → StandsIn modules number (Routine r) → LabelsApart r) → AreApart (labels_of_routine t)
-  pub in_text_order : ((number : ℕ) (r : PlainRoutine) → StandsIn modules number (Routine r) → LabelsApart r) → AreInOrder (labels_of_routine t)
+  pub once : ((number : ℕ) (r : PlainRoutine) → StandsIn modules number (Routine r) → LabelsApart r) → AreApart (numbers_in_routine t)
+  pub in_text_order : ((number : ℕ) (r : PlainRoutine) → StandsIn modules number (Routine r) → LabelsApart r) → AreInOrder (numbers_in_routine t)
 
 pub jumps_right : (modules : List PlainModule) (tasks : List (List ℕ)) (signals : List SignalRow) (arm : Bool) (tree : TypedTree) → task_of modules tasks signals arm ≡ Ok tree →
     (k : ℕ) (t : TypedRoutine) → slice_get tree.routines k ≡ Some t → IsRight modules t

@@ -1,8 +1,9 @@
 -- To which labels the GOTOs of a typed routine go, that no label is another one, and how labels are numbered.
-use Rattle.std.specs.Prelude.{◌≡◌, ◌≢◌, ℕ, List, [], ◌∷◌, ◌++◌, map, Option, Some, None, slice_get}
+use Rattle.std.specs.Prelude.{◌≡◌, ◌≢◌, ℕ, List, [], ◌∷◌, ◌++◌, map, Some, slice_get}
 use Rattle.std.specs.List.{Contains}
 use Rattle.raw_trees.specs.Plain.{PlainRoutine}
 use Rattle.typed_trees.specs.Plain.{TypedStmt, TypedStmts, TypedArms, TypedCases, TypedElse, TypedRoutine, Label, Goto, If, IfOne, For, While, Test, NoStmts, MoreStmts, NoArms, MoreArms, NoCases, MoreCases, NoElse, Else}
+use Rattle.typed_trees.specs.Labels.{error_part}
 use Rattle.body_types.specs.Labels.{labels_in_routine}
 
 -- the labels that stand in a list itself
@@ -13,33 +14,6 @@ own_label _ = []
 abbrev pub own : TypedStmts → List ℕ
 own NoStmts = []
 own (MoreStmts stmt list) = own_label stmt ++ own list
-
--- all labels, in text order
-abbrev mutual
-  pub numbers_of : TypedStmt → List ℕ
-  numbers_of (Label at number) = number ∷ []
-  numbers_of (If at arms other) = numbers_in_arms arms ++ numbers_in_else other
-  numbers_of (IfOne at test simple) = numbers_of simple
-  numbers_of (For at place first last step list) = numbers_in list
-  numbers_of (While at test list) = numbers_in list
-  numbers_of (Test at value cases other) = numbers_in_cases cases ++ numbers_in_else other
-  numbers_of _ = []
-
-  pub numbers_in : TypedStmts → List ℕ
-  numbers_in NoStmts = []
-  numbers_in (MoreStmts stmt list) = numbers_of stmt ++ numbers_in list
-
-  pub numbers_in_arms : TypedArms → List ℕ
-  numbers_in_arms NoArms = []
-  numbers_in_arms (MoreArms test list arms) = numbers_in list ++ numbers_in_arms arms
-
-  pub numbers_in_cases : TypedCases → List ℕ
-  numbers_in_cases NoCases = []
-  numbers_in_cases (MoreCases values list cases) = numbers_in list ++ numbers_in_cases cases
-
-  pub numbers_in_else : TypedElse → List ℕ
-  numbers_in_else NoElse = []
-  numbers_in_else (Else list) = numbers_in list
 
 -- each GOTO goes to a label of its own list or of a list around it; these are the labels of the lists around
 abbrev mutual
@@ -68,11 +42,6 @@ abbrev mutual
   LandInElse around NoElse = Unit {0}
   LandInElse around (Else list) = Land (own list ++ around) list
 
--- the statements of an ERROR part
-abbrev pub error_part : Option TypedStmts → TypedElse
-error_part None = NoElse
-error_part (Some list) = Else list
-
 -- the GOTOs of a routine's list and of its ERROR part go to labels of the same part
 pub record JumpsLand (t : TypedRoutine) : Type 0 where
   pub list : Land (own t.list ++ []) t.list
@@ -94,6 +63,3 @@ AreInOrder numbers = (place number : ℕ) → slice_get numbers place ≡ Some n
 -- the labels of a routine stand at different bytes, as those of each text do
 abbrev pub LabelsApart : PlainRoutine → Type 0
 LabelsApart r = AreApart (map (λ label. label.at) (labels_in_routine r))
-
-abbrev pub labels_of_routine : TypedRoutine → List ℕ
-labels_of_routine t = numbers_in t.list ++ numbers_in_else (error_part t.handler)

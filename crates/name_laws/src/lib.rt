@@ -7,6 +7,7 @@ ghost use Rattle.raw_trees.specs.Plain.{PlainModule, PlainRoutine, Routine};
 ghost use Rattle.rapid_model.specs.declared.signal_row.SignalRow.{SignalRow};
 ghost use Rattle.rule_checks.specs.declared.spot.Spot.{Spot};
 ghost use Rattle.typed_trees.specs.Plain.{TypedRoutine, TypedTree};
+ghost use Rattle.typed_trees.specs.Labels.{numbers_in_routine};
 ghost use Rattle.data_scopes.specs.declared.meant.Meant.{Meant};
 ghost use Rattle.data_scopes.specs.declared.meant.Meant.TheVariants as meants;
 ghost use Rattle.data_scopes.specs.Meetings.{is_meeting};
@@ -17,7 +18,7 @@ ghost use Rattle.decl_types.specs.Data.{Progress, beginning, data_of};
 ghost use Rattle.stmt_types.specs.Task.{task_of};
 ghost use Rattle.name_laws.specs.Constants.{IsConst};
 ghost use Rattle.name_laws.specs.Declared.{StandsIn};
-ghost use Rattle.name_laws.specs.Jumps.{AreApart, AreInOrder, JumpsLand, LabelsApart, labels_of_routine};
+ghost use Rattle.name_laws.specs.Jumps.{AreApart, AreInOrder, JumpsLand, LabelsApart};
 ghost use Rattle.name_laws.specs.Meant.{HasItsRow};
 ghost use Rattle.name_laws.specs.Meetings.{IsMeeting};
 
@@ -45,6 +46,6 @@ pub fn meetings_have_their_names()
 /// routines stand at different bytes, as in each text, no label of a routine is another one, and they are numbered in text order.
 pub fn jumps_have_one_label()
     ensures lands { (modules : List PlainModule) (tasks : List (List ℕ)) (signals : List SignalRow) (arm : Bool) (tree : TypedTree) → task_of modules tasks signals arm ≡ Ok tree → (routine : ℕ) (t : TypedRoutine) → slice_get tree.routines routine ≡ Some t → JumpsLand t }
-    ensures once { (modules : List PlainModule) (tasks : List (List ℕ)) (signals : List SignalRow) (arm : Bool) (tree : TypedTree) → task_of modules tasks signals arm ≡ Ok tree → ((number : ℕ) (r : PlainRoutine) → StandsIn modules number (Routine r) → LabelsApart r) → (routine : ℕ) (t : TypedRoutine) → slice_get tree.routines routine ≡ Some t → AreApart (labels_of_routine t) }
-    ensures in_text_order { (modules : List PlainModule) (tasks : List (List ℕ)) (signals : List SignalRow) (arm : Bool) (tree : TypedTree) → task_of modules tasks signals arm ≡ Ok tree → ((number : ℕ) (r : PlainRoutine) → StandsIn modules number (Routine r) → LabelsApart r) → (routine : ℕ) (t : TypedRoutine) → slice_get tree.routines routine ≡ Some t → AreInOrder (labels_of_routine t) }
+    ensures once { (modules : List PlainModule) (tasks : List (List ℕ)) (signals : List SignalRow) (arm : Bool) (tree : TypedTree) → task_of modules tasks signals arm ≡ Ok tree → ((number : ℕ) (r : PlainRoutine) → StandsIn modules number (Routine r) → LabelsApart r) → (routine : ℕ) (t : TypedRoutine) → slice_get tree.routines routine ≡ Some t → AreApart (numbers_in_routine t) }
+    ensures in_text_order { (modules : List PlainModule) (tasks : List (List ℕ)) (signals : List SignalRow) (arm : Bool) (tree : TypedTree) → task_of modules tasks signals arm ≡ Ok tree → ((number : ℕ) (r : PlainRoutine) → StandsIn modules number (Routine r) → LabelsApart r) → (routine : ℕ) (t : TypedRoutine) → slice_get tree.routines routine ≡ Some t → AreInOrder (numbers_in_routine t) }
 {}

@@ -3,8 +3,9 @@ ghost use Rattle.raw_trees.specs.Plain.{PlainModule};
 ghost use Rattle.module_parser.specs.Modules.{SpellsWithin};
 ghost use Rattle.rapid_model.specs.declared.signal_row.SignalRow.{SignalRow};
 ghost use Rattle.typed_trees.specs.Plain.{TypedRoutine, TypedTree};
+ghost use Rattle.typed_trees.specs.Labels.{numbers_in_routine};
 ghost use Rattle.stmt_types.specs.Task.{task_of};
-ghost use Rattle.name_laws.specs.Jumps.{AreApart, AreInOrder, JumpsLand, labels_of_routine};
+ghost use Rattle.name_laws.specs.Jumps.{AreApart, AreInOrder, JumpsLand};
 ghost use Rattle.text_order.specs.Stated.{AreAscending, byte_of, stated_in_module};
 ghost use Rattle.text_order.specs.Texts.{AreSpelled};
 
@@ -17,6 +18,6 @@ pub fn statements_stand_in_order()
 /// it; no label of a routine is another one, and they are numbered in text order.
 pub fn accepted_jumps_have_one_label()
     ensures lands { (levels : ℕ) (modules : List PlainModule) (tasks : List (List ℕ)) (signals : List SignalRow) (arm : Bool) (tree : TypedTree) → AreSpelled levels modules → task_of modules tasks signals arm ≡ Ok tree → (routine : ℕ) (t : TypedRoutine) → slice_get tree.routines routine ≡ Some t → JumpsLand t }
-    ensures once { (levels : ℕ) (modules : List PlainModule) (tasks : List (List ℕ)) (signals : List SignalRow) (arm : Bool) (tree : TypedTree) → AreSpelled levels modules → task_of modules tasks signals arm ≡ Ok tree → (routine : ℕ) (t : TypedRoutine) → slice_get tree.routines routine ≡ Some t → AreApart (labels_of_routine t) }
-    ensures in_text_order { (levels : ℕ) (modules : List PlainModule) (tasks : List (List ℕ)) (signals : List SignalRow) (arm : Bool) (tree : TypedTree) → AreSpelled levels modules → task_of modules tasks signals arm ≡ Ok tree → (routine : ℕ) (t : TypedRoutine) → slice_get tree.routines routine ≡ Some t → AreInOrder (labels_of_routine t) }
+    ensures once { (levels : ℕ) (modules : List PlainModule) (tasks : List (List ℕ)) (signals : List SignalRow) (arm : Bool) (tree : TypedTree) → AreSpelled levels modules → task_of modules tasks signals arm ≡ Ok tree → (routine : ℕ) (t : TypedRoutine) → slice_get tree.routines routine ≡ Some t → AreApart (numbers_in_routine t) }
+    ensures in_text_order { (levels : ℕ) (modules : List PlainModule) (tasks : List (List ℕ)) (signals : List SignalRow) (arm : Bool) (tree : TypedTree) → AreSpelled levels modules → task_of modules tasks signals arm ≡ Ok tree → (routine : ℕ) (t : TypedRoutine) → slice_get tree.routines routine ≡ Some t → AreInOrder (numbers_in_routine t) }
 {}

@@ -7,53 +7,20 @@ use Rattle.std.proofs.lemmas.Slice.Eq.{bytes_eq-Decides}
 use Rattle.raw_trees.specs.Plain as Raw
 use Rattle.raw_trees.specs.Plain.{PlainModule, PlainName, PlainRoutine, else_of, stmts_of}
 use Rattle.rapid_model.specs.declared.signal_row.SignalRow.{SignalRow}
-use Rattle.typed_trees.specs.Plain.{TypedArms, TypedCases, TypedElse, TypedLocal, TypedRoutine, TypedStmt, TypedStmts, TypedTree, Label, If, IfOne, For, While, Test, NoStmts, MoreStmts, NoArms, MoreArms, NoCases, MoreCases, NoElse, Else}
+use Rattle.typed_trees.specs.Plain.{TypedLocal, TypedRoutine, TypedStmts, TypedTree}
+use Rattle.typed_trees.specs.Labels.{error_part, numbers_in, numbers_in_else}
 use Rattle.data_scopes.specs.Scopes.{Names}
 use Rattle.body_types.specs.Bodies.{Body, into, outside}
 use Rattle.body_types.specs.Labels.{is_first, label_number, labels_in, labels_in_else, labels_in_routine, names_label}
 use Rattle.stmt_types.specs.Task.{body_of, routines_of}
 use Rattle.typing_rules.specs.Tasks.{IsHandler, IsRoutine, IsTyped}
 use Rattle.typing_rules.proofs.StatementLaws.{stmts_law}
-use Rattle.name_laws.specs.Jumps.{AreApart, IsApart, LabelsApart, error_part, numbers_in, numbers_in_arms, numbers_in_cases, numbers_in_else, numbers_of}
+use Rattle.name_laws.specs.Jumps.{AreApart, IsApart, LabelsApart}
 use Rattle.name_laws.proofs.Jumps.{AreFirst, appended, first_append, list_done, numbered}
 use Rattle.task_typing.proofs.Rows.{all_at}
-use Rattle.code_simulation.specs.Orderly.{Counts, NumbersLabels, arms_numbers, cases_numbers, else_numbers, part_numbers, stmt_numbers, stmts_numbers}
+use Rattle.code_simulation.specs.Orderly.{Counts, NumbersLabels}
 use Rattle.tree_soundness.proofs.Lists.{all_behind, all_of, between, from_at}
 use Rattle.tree_soundness.proofs.Routines.{IsTypedOf, modules_typed}
-
--- the numbers of a tree's labels, as code counts them and as jumps do
-both : {a b x y : List ℕ} → a ≡ x → b ≡ y → a ++ b ≡ x ++ y
-both e f = λ i. e i ++ f i
-
-mutual
-  stmt_same : (t : TypedStmt) → stmt_numbers t ≡ numbers_of t
-  stmt_same (Label at number) = refl
-  stmt_same (If at arms other) = both (arms_same arms) (else_same other)
-  stmt_same (IfOne at test one) = stmt_same one
-  stmt_same (For at place first last step list) = stmts_same list
-  stmt_same (While at test list) = stmts_same list
-  stmt_same (Test at value cases other) = both (cases_same cases) (else_same other)
-  stmt_same _ = refl
-
-  stmts_same : (ts : TypedStmts) → stmts_numbers ts ≡ numbers_in ts
-  stmts_same NoStmts = refl
-  stmts_same (MoreStmts t more) = both (stmt_same t) (stmts_same more)
-
-  arms_same : (ts : TypedArms) → arms_numbers ts ≡ numbers_in_arms ts
-  arms_same NoArms = refl
-  arms_same (MoreArms test list more) = both (stmts_same list) (arms_same more)
-
-  cases_same : (ts : TypedCases) → cases_numbers ts ≡ numbers_in_cases ts
-  cases_same NoCases = refl
-  cases_same (MoreCases values list more) = both (stmts_same list) (cases_same more)
-
-  else_same : (t : TypedElse) → else_numbers t ≡ numbers_in_else t
-  else_same NoElse = refl
-  else_same (Else list) = stmts_same list
-
-part_same : (h : Option TypedStmts) → part_numbers h ≡ numbers_in_else (error_part h)
-part_same None = refl
-part_same (Some list) = stmts_same list
 
 -- a label is not at the byte of one that stands apart
 not_at : (x : ℕ) (ls : List PlainName) (k : ℕ) (l : PlainName) → slice_get ls k ≡ Some l → IsApart x (map (λ label. label.at) ls) → x ≡ l.at → ⊥
@@ -104,7 +71,7 @@ routine_counts names locals number k r t (ts, middle, h, loops, are, is_handler,
     let other = else_of r.handler in
     let d = list_done body list (into (outside false) list) 0 (record { tree = ts; next = middle }) ((stmts_law body list (into (outside false) list) 0 (record { tree = ts; next = middle })).1 are) in
     let e = handler_done body r.handler middle h loops is_handler in
-    let all : stmts_numbers ts ++ part_numbers h ≡ numbered labels labels = both (stmts_same ts) (part_same h) ∙ appended labels (labels_in list) (labels_in_else other) _ _ d.all e.0 in
+    let all : numbers_in ts ++ numbers_in_else (error_part h) ≡ numbered labels labels = appended labels (labels_in list) (labels_in_else other) _ _ d.all e.0 in
     let counts : Counts 0 (numbered labels labels) = counted labels [] labels refl (first_append labels (labels_in list) (labels_in_else other) d.first e.1) apart in
     subst NumbersLabels (sym is) (subst (Counts 0) (sym all) counts)
 

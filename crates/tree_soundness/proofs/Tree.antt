@@ -17,6 +17,7 @@ use Rattle.rapid_model.specs.declared.signal_row.SignalRow.{SignalRow}
 use Rattle.rapid_model.specs.declared.value.Value.{Value}
 use Rattle.typed_trees.specs.Plain.{TypedPers, TypedRoutine, TypedStmts, TypedTree}
 use Rattle.typed_trees.specs.Sound.{fits, is_sound}
+use Rattle.typed_trees.specs.Labels.{error_part}
 use Rattle.data_scopes.specs.declared.data_row.ParamRow.{ParamRow}
 use Rattle.data_scopes.specs.Called.{params_of, result_of}
 use Rattle.data_scopes.specs.Numbers.{tables_of}
@@ -33,7 +34,7 @@ use Rattle.typing_rules.specs.Tasks.{IsHandler as IsTypedHandler, IsRoutine as I
 use Rattle.typing_rules.proofs.Rows.{names_law}
 use Rattle.typing_rules.proofs.TaskLaws.{task_law}
 use Rattle.name_laws.specs.Declared.{AreEach}
-use Rattle.name_laws.specs.Jumps.{JumpsLand, Land, LandInElse, error_part}
+use Rattle.name_laws.specs.Jumps.{JumpsLand, Land, LandInElse}
 use Rattle.name_laws.proofs.Means.{has_its_row}
 use Rattle.name_laws.proofs.RoutineJumps.{jumps_right}
 use Rattle.name_laws.proofs.Tree.{meetings_checked, task_checked}
