@@ -4,8 +4,9 @@ use Rattle.std.specs.Str.{str_to_ascii_lowercase}
 use Rattle.std.proofs.lemmas.Bool.{cases_order}
 use Rattle.std.proofs.lemmas.Option.{slice_get_within}
 use Rattle.rapid_model.specs.declared.pers_value.PersValue.{PersValue}
+use Rattle.rapid_model.specs.Names.{IsOneName}
 use Rattle.typed_trees.specs.Plain.{TypedPers}
-use Rattle.cell_rules.specs.Declared.{Declared, AreOne, AreOneName, AreAlike, AreAlikeBefore}
+use Rattle.cell_rules.specs.Declared.{Declared, AreOne, AreAlike, AreAlikeBefore}
 use Rattle.cell_rules.specs.First.{IsIndexOf}
 use Rattle.cell_rules.specs.Given.{IsFor, Finds, Suits, IsInside}
 use Rattle.cell_rules.specs.Numbering.{AreNumbered, HasNumber}
@@ -56,7 +57,7 @@ same_index (Some a) (Some b) element is other both = ap Some (is ∙ sym other)
 
 module _ (ds : List Declared) (ks : List ℕ) (count : ℕ) (is : AreNumbered AreOne ds ks count) where
   -- declarations of one number have one name
-  pub one_named : (k i j : ℕ) (d e : Declared) → HasNumber ds ks k i d → HasNumber ds ks k j e → AreOneName d.row.name e.row.name
+  pub one_named : (k i j : ℕ) (d e : Declared) → HasNumber ds ks k i d → HasNumber ds ks k j e → IsOneName d.row.name e.row.name
   one_named k i j d e has other =
       elim (cases_order i j) [
         | inl equal ↦ let same : d ≡ e = same_there (slice_get ds i) d e has.there (ap (slice_get ds) equal ∙ other.there) in ap (λ (x : Declared). str_to_ascii_lowercase x.row.name) same

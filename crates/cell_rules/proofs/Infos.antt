@@ -5,18 +5,19 @@ use Rattle.std.proofs.lemmas.Bool.{and_parts, cases_order}
 use Rattle.std.proofs.lemmas.Slice.Eq.{bytes_eq-Decides}
 use Rattle.rapid_model.specs.Sorts.{width}
 use Rattle.rapid_model.specs.declared.value.Value.{Value}
+use Rattle.rapid_model.specs.Names.{IsOneName}
 use Rattle.cell_assembly.specs.Cells.{PersInfo, is_global}
-use Rattle.cell_rules.specs.Declared.{Declared, AreOne, AreOneName}
+use Rattle.cell_rules.specs.Declared.{Declared, AreOne}
 use Rattle.cell_rules.specs.First.{IsDeclared, IsUndeclared, owner_of}
 use Rattle.cell_rules.specs.Numbering.{AreNumbered, HasNumber, IsFirst}
 use Rattle.cell_rules.proofs.Alike.{one_named}
 use Rattle.cell_rules.proofs.Lists.{same_there}
 
 -- names are one by the language's test
-pub one_name : (name other : List ℕ) → str_eq_ignore_ascii_case name other ≡ true → AreOneName name other
+pub one_name : (name other : List ℕ) → str_eq_ignore_ascii_case name other ≡ true → IsOneName name other
 one_name name other is = (bytes_eq-Decides (str_to_ascii_lowercase name) (str_to_ascii_lowercase other)).0 is
 
-pub named_alike : (name other : List ℕ) → AreOneName name other → str_eq_ignore_ascii_case name other ≡ true
+pub named_alike : (name other : List ℕ) → IsOneName name other → str_eq_ignore_ascii_case name other ≡ true
 named_alike name other one = (bytes_eq-Decides (str_to_ascii_lowercase name) (str_to_ascii_lowercase other)).1 one
 
 -- what declarations say of first values
@@ -41,14 +42,14 @@ pub record AreInfos (ds : List Declared) (ks : List ℕ) (ps : List PersInfo) : 
   pub untold : (k : ℕ) (p : PersInfo) → slice_get ps k ≡ Some p → p.told ≡ replicate (width p.len) None
 
 -- a global persistent of a name
-pub global_is : (name : List ℕ) (p : PersInfo) → is_global name p ≡ true → (p.owner ≡ None) × AreOneName name p.name
+pub global_is : (name : List ℕ) (p : PersInfo) → is_global name p ≡ true → (p.owner ≡ None) × IsOneName name p.name
 global_is name p is = let (free, named) = and_parts (is_none p.owner) (str_eq_ignore_ascii_case name p.name) is in (no_owner p.owner free, one_name name p.name named)
   where
     no_owner : (o : Option ℕ) → is_none o ≡ true → o ≡ None
     no_owner None e = refl
     no_owner (Some task) e = absurd (cc e)
 
-is_global_from : (name : List ℕ) (p : PersInfo) → p.owner ≡ None → AreOneName name p.name → is_global name p ≡ true
+is_global_from : (name : List ℕ) (p : PersInfo) → p.owner ≡ None → IsOneName name p.name → is_global name p ≡ true
 is_global_from name p free named = ap (λ o. is_none o && str_eq_ignore_ascii_case name p.name) free ∙ named_alike name p.name named
 
 pub owner_global : (d : Declared) → owner_of d ≡ None → d.row.own ≡ false
@@ -63,7 +64,7 @@ global_owner d own = ap (λ o. let owner : Option ℕ = if o then Some d.task el
 
 module _ (ds : List Declared) (ks : List ℕ) (count : ℕ) (numbered : AreNumbered AreOne ds ks count) where
   -- the persistent of a global declaration is global, and of its name
-  pub info_global : (k place : ℕ) (p : PersInfo) (e : Declared) → IsInfo ds ks k p → HasNumber ds ks k place e → e.row.own ≡ false → (name : List ℕ) → AreOneName name e.row.name → is_global name p ≡ true
+  pub info_global : (k place : ℕ) (p : PersInfo) (e : Declared) → IsInfo ds ks k p → HasNumber ds ks k place e → e.row.own ≡ false → (name : List ℕ) → IsOneName name e.row.name → is_global name p ≡ true
   info_global k place p e is has own name named =
       let first = is.is_first in
       let d_named = one_named ds ks count numbered k first.place place is.d e first.has_number has in
@@ -80,7 +81,7 @@ module _ (ds : List Declared) (ks : List ℕ) (count : ℕ) (numbered : AreNumbe
           ]
 
   -- and a global persistent of a name is of global declarations of that name
-  pub info_one : (k : ℕ) (p : PersInfo) (name : List ℕ) → (is : IsInfo ds ks k p) → is_global name p ≡ true → (is.d.row.own ≡ false) × AreOneName name is.d.row.name
+  pub info_one : (k : ℕ) (p : PersInfo) (name : List ℕ) → (is : IsInfo ds ks k p) → is_global name p ≡ true → (is.d.row.own ≡ false) × IsOneName name is.d.row.name
   info_one k p name is global =
       let (free, named) = global_is name p global in
       (owner_global is.d (sym is.owner ∙ free), named ∙ ap str_to_ascii_lowercase is.name)

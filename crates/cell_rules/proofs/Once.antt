@@ -4,10 +4,11 @@ use Rattle.std.proofs.lemmas.Bool.{cases_lt}
 use Rattle.std.proofs.lemmas.Option.{slice_get_past}
 use Rattle.rapid_model.specs.CellData.{CellData}
 use Rattle.rapid_model.specs.ScriptData.{ScriptData}
+use Rattle.rapid_model.specs.Names.{IsOneName}
 use Rattle.typed_trees.specs.Plain.{TypedTree}
 use Rattle.cell_assembly.specs.Made.{MadeCell}
 use Rattle.cell_rules.specs.Cell.{IsCellOf, IsNumberedTree, pers_numbers, meeting_numbers}
-use Rattle.cell_rules.specs.Declared.{AreOne, AreOneName, AreAlikeBefore, declared_by, meetings_of}
+use Rattle.cell_rules.specs.Declared.{AreOne, AreAlikeBefore, declared_by, meetings_of}
 use Rattle.cell_rules.specs.First.{IsPersistent}
 use Rattle.cell_rules.specs.Numbering.{AreNumbered, HasNumber, IsFirst}
 use Rattle.cell_rules.proofs.Lists.{there_is, same_list}
@@ -62,7 +63,7 @@ module _ (script : ScriptData) (trees : List TypedTree) where
     same_pers_numbers = same_numbers AreOne (declared_by trees) (pers_numbers numbered) (pers_numbers also) (length cell.pers) (length other.pers) is.pers_numbered too.pers_numbered
 
     same_meeting_numbers : meeting_numbers numbered ≡ meeting_numbers also
-    same_meeting_numbers = same_numbers AreOneName (meetings_of trees) (meeting_numbers numbered) (meeting_numbers also) (length cell.meetings) (length other.meetings) is.meetings_numbered too.meetings_numbered
+    same_meeting_numbers = same_numbers IsOneName (meetings_of trees) (meeting_numbers numbered) (meeting_numbers also) (length cell.meetings) (length other.meetings) is.meetings_numbered too.meetings_numbered
 
     as_many_pers : length cell.pers ≡ length other.pers
     as_many_pers =
@@ -71,8 +72,8 @@ module _ (script : ScriptData) (trees : List TypedTree) where
 
     as_many_meetings : length cell.meetings ≡ length other.meetings
     as_many_meetings =
-        same_count AreOneName (meetings_of trees) (meeting_numbers numbered) (length cell.meetings) (length other.meetings) is.meetings_numbered
-        (subst (λ ks. AreNumbered AreOneName (meetings_of trees) ks (length other.meetings)) (sym same_meeting_numbers) too.meetings_numbered)
+        same_count IsOneName (meetings_of trees) (meeting_numbers numbered) (length cell.meetings) (length other.meetings) is.meetings_numbered
+        (subst (λ ks. AreNumbered IsOneName (meetings_of trees) ks (length other.meetings)) (sym same_meeting_numbers) too.meetings_numbered)
 
     same_pers_there : (k : ℕ) → slice_get cell.pers k ≡ slice_get other.pers k
     same_pers_there k =
@@ -92,7 +93,7 @@ module _ (script : ScriptData) (trees : List TypedTree) where
               let (p, at) = there_is cell.meetings k within in
               let (q, there) = there_is other.meetings k (omega (arith, within, as_many_meetings)) in
               let q_is = subst (λ ks. IsFirst (meetings_of trees) ks k q) (sym same_meeting_numbers) (too.meetings k q there) in
-              at ∙ ap Some (same_first AreOneName (meetings_of trees) (meeting_numbers numbered) k p q (is.meetings k p at) q_is) ∙ sym there
+              at ∙ ap Some (same_first IsOneName (meetings_of trees) (meeting_numbers numbered) k p q (is.meetings k p at) q_is) ∙ sym there
           | inr past ↦ slice_get_past cell.meetings k past ∙ sym (slice_get_past other.meetings k (omega (arith, past, as_many_meetings)))
         ]
 

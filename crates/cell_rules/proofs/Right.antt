@@ -5,12 +5,13 @@ use Rattle.std.proofs.lemmas.List.{length-map, length-replicate}
 use Rattle.rapid_model.specs.CellData.{CellData}
 use Rattle.rapid_model.specs.ScriptData.{ScriptData, is_pers_value}
 use Rattle.rapid_model.specs.Sorts.{width}
+use Rattle.rapid_model.specs.Names.{IsOneName}
 use Rattle.typed_trees.specs.Plain.{TypedTree}
 use Rattle.typed_trees.specs.Sound.{has_sound_pers}
 use Rattle.cell_assembly.specs.Cells.{CellBreak, Making, CellTables, PersInfo, PersTables, cell_tables, tables, tell_all, trees_meetings, trees_pers}
 use Rattle.cell_assembly.specs.Made.{MadeCell, cell_of, make_cell, numbered, pers_cell}
 use Rattle.cell_rules.specs.Cell.{IsCellOf, pers_numbers}
-use Rattle.cell_rules.specs.Declared.{AreOne, AreOneName, declared_by, meetings_of}
+use Rattle.cell_rules.specs.Declared.{AreOne, declared_by, meetings_of}
 use Rattle.cell_rules.specs.First.{IsPersistent}
 use Rattle.cell_rules.specs.Numbering.{AreNumbered, IsFirst}
 use Rattle.cell_rules.specs.Refused.{IsRefused}
@@ -77,7 +78,7 @@ module _ (script : ScriptData) (trees : List TypedTree) (indexed : list_all is_p
                 (subst (λ ks. IsPersistent script.pers (declared_by trees) ks k (pers_cell p)) (sym by_trees.pers_are)
                 (persistent_right script.pers (declared_by trees) (concat t.lists) k p (told.infos k p is_p) (sound_there 0 trees sound) (told.each k p is_p) (told.told k p is_p) (told.untold k p is_p)));
             given = told.right;
-            meetings_numbered = subst (λ ks. AreNumbered AreOneName (meetings_of trees) ks (length m.names)) (sym by_trees.meetings_are) meetings.are.are_numbered;
+            meetings_numbered = subst (λ ks. AreNumbered IsOneName (meetings_of trees) ks (length m.names)) (sym by_trees.meetings_are) meetings.are.are_numbered;
             meetings = λ k name at. subst (λ ks. IsFirst (meetings_of trees) ks k name) (sym by_trees.meetings_are) (meetings.are.firsts k name at);
           }
 

@@ -6,11 +6,12 @@ use Rattle.std.proofs.lemmas.Bool.{both_ways, cases_order}
 use Rattle.std.proofs.lemmas.List.{append_assoc, append-nil}
 use Rattle.std.proofs.lemmas.Option.{slice_get_within}
 use Rattle.rapid_model.specs.declared.pers_value.PersValue.{PersValue}
+use Rattle.rapid_model.specs.Names.{IsOneName}
 use Rattle.typed_trees.specs.Plain.{TypedPers, TypedTree}
 use Rattle.cell_assembly.specs.Cells.{Making, Numbered, PersTables, Meetings, MeetingTables, one_pers, all_pers, with_list, trees_pers, meeting_number, met, meet_all, meetings_with, trees_meetings}
 use Rattle.cell_assembly.specs.Made.{numbered, with_numbers}
 use Rattle.cell_rules.specs.Cell.{IsNumberedTree, pers_numbers, meeting_numbers}
-use Rattle.cell_rules.specs.Declared.{Declared, AreOneName, declared_from, meetings_of, of_task}
+use Rattle.cell_rules.specs.Declared.{Declared, declared_from, meetings_of, of_task}
 use Rattle.cell_rules.specs.Numbering.{AreNumbered, HasNumber, IsFirst}
 use Rattle.cell_rules.specs.Refused.{IsRefusal}
 use Rattle.cell_rules.proofs.Declares.{one_right}
@@ -73,49 +74,49 @@ module _ (given : List PersValue) (whole : List Declared) where
       })))
 
 -- the first meeting of a name is one
-found_meeting : (name : List ℕ) (names : List (List ℕ)) (k : ℕ) → meeting_number name names ≡ Some k → (m : List ℕ) × (slice_get names k ≡ Some m) × AreOneName name m
+found_meeting : (name : List ℕ) (names : List (List ℕ)) (k : ℕ) → meeting_number name names ≡ Some k → (m : List ℕ) × (slice_get names k ≡ Some m) × IsOneName name m
 found_meeting name names k is =
     let (m, at, named) = position_there (str_eq_ignore_ascii_case name) names k is in
     (m, at, one_name name m named)
 
-no_meeting : (name : List ℕ) (names : List (List ℕ)) → meeting_number name names ≡ None → (k : ℕ) (m : List ℕ) → slice_get names k ≡ Some m → AreOneName name m → ⊥
+no_meeting : (name : List ℕ) (names : List (List ℕ)) → meeting_number name names ≡ None → (k : ℕ) (m : List ℕ) → slice_get names k ≡ Some m → IsOneName name m → ⊥
 no_meeting name names is k m at one = both_ways (str_eq_ignore_ascii_case name m) (position_nowhere (str_eq_ignore_ascii_case name) names is k m at) (named_alike name m one)
 
 -- the meetings of the names so far, each by its first name
 pub record AreMeetings (named : List (List ℕ)) (ks : List ℕ) (names : List (List ℕ)) : Type 0 where
-  pub are_numbered : AreNumbered AreOneName named ks (length names)
+  pub are_numbered : AreNumbered IsOneName named ks (length names)
   pub firsts : (k : ℕ) (name : List ℕ) → slice_get names k ≡ Some name → IsFirst named ks k name
 
 module _ (named : List (List ℕ)) (ks : List ℕ) (names : List (List ℕ)) (are : AreMeetings named ks names) (name : List ℕ) where
-  found_again : (k : ℕ) (m : List ℕ) → slice_get names k ≡ Some m → AreOneName name m → AreMeetings (named ++ name ∷ []) (ks ++ k ∷ []) names
+  found_again : (k : ℕ) (m : List ℕ) → slice_get names k ≡ Some m → IsOneName name m → AreMeetings (named ++ name ∷ []) (ks ++ k ∷ []) names
   found_again k m at one =
       let first = are.firsts k m at in
       record {
-        are_numbered = joined_numbered AreOneName named ks (length names) are.are_numbered name (λ e f same. sym same) (λ e f g same other. same ∙ other) first.place k m first.has_number (sym one);
-        firsts = λ j other there. first_stays AreOneName named ks (length names) are.are_numbered name j k other (are.firsts j other there);
+        are_numbered = joined_numbered IsOneName named ks (length names) are.are_numbered name (λ e f same. sym same) (λ e f g same other. same ∙ other) first.place k m first.has_number (sym one);
+        firsts = λ j other there. first_stays IsOneName named ks (length names) are.are_numbered name j k other (are.firsts j other there);
       }
 
-  named_first : ((k : ℕ) (m : List ℕ) → slice_get names k ≡ Some m → AreOneName name m → ⊥) → AreMeetings (named ++ name ∷ []) (ks ++ length names ∷ []) (names ++ name ∷ [])
+  named_first : ((k : ℕ) (m : List ℕ) → slice_get names k ≡ Some m → IsOneName name m → ⊥) → AreMeetings (named ++ name ∷ []) (ks ++ length names ∷ []) (names ++ name ∷ [])
   named_first none =
       record {
-        are_numbered = subst (AreNumbered AreOneName (named ++ name ∷ []) (ks ++ length names ∷ [])) (sym (one_longer names name))
-            (new_numbered AreOneName named ks (length names) are.are_numbered name apart);
+        are_numbered = subst (AreNumbered IsOneName (named ++ name ∷ []) (ks ++ length names ∷ [])) (sym (one_longer names name))
+            (new_numbered IsOneName named ks (length names) are.are_numbered name apart);
         firsts = λ j other there. elim (earlier_or_last names name j other there) [
-          | inl early ↦ first_stays AreOneName named ks (length names) are.are_numbered name j (length names) other (are.firsts j other early)
+          | inl early ↦ first_stays IsOneName named ks (length names) are.are_numbered name j (length names) other (are.firsts j other early)
           | inr last ↦
               subst (λ i. IsFirst (named ++ name ∷ []) (ks ++ length names ∷ []) i other) (sym last.0)
-              (subst (IsFirst (named ++ name ∷ []) (ks ++ length names ∷ []) (length names)) last.1 (first_new AreOneName named ks (length names) are.are_numbered name))
+              (subst (IsFirst (named ++ name ∷ []) (ks ++ length names ∷ []) (length names)) last.1 (first_new IsOneName named ks (length names) are.are_numbered name))
         ];
       }
     where
-      apart : (i : ℕ) (e : List ℕ) → slice_get named i ≡ Some e → AreOneName e name → ⊥
+      apart : (i : ℕ) (e : List ℕ) → slice_get named i ≡ Some e → IsOneName e name → ⊥
       apart i e there one =
           let (k, at) = there_is ks i (omega (arith, are.are_numbered.as_many, slice_get_within named i e there)) in
           let (m, is_m) = there_is names k (are.are_numbered.below i k at) in
           let first = are.firsts k m is_m in
           none k m is_m (sym (alike first.place i k m e first.has_number (record { there = there; numbered = at }) ∙ one))
         where
-          alike : (i j k : ℕ) (m e : List ℕ) → HasNumber named ks k i m → HasNumber named ks k j e → AreOneName m e
+          alike : (i j k : ℕ) (m e : List ℕ) → HasNumber named ks k i m → HasNumber named ks k j e → IsOneName m e
           alike i j k m e has other =
               elim (cases_order i j) [
                 | inl equal ↦ ap str_to_ascii_lowercase (same_there (slice_get named i) m e has.there (ap (slice_get named) equal ∙ other.there))
@@ -174,7 +175,7 @@ meetings_right named lengths t (tree ∷ trees) are =
     (subst (λ xs. AreMeetingTables xs ((lengths ++ length tree.meetings ∷ []) ++ map (λ (x : TypedTree). length x.meetings) trees) next) (append_assoc named tree.meetings (meetings_of trees)) all)
 
 pub no_meetings : AreMeetingTables [] [] (record { names = []; lists = [] })
-no_meetings = record { are = record { are_numbered = none_numbered AreOneName; firsts = λ k name at. absurd (cc at) }; lengths_are = refl }
+no_meetings = record { are = record { are_numbered = none_numbered IsOneName; firsts = λ k name at. absurd (cc at) }; lengths_are = refl }
 
 -- trees with lists of numbers, as many as each has persistents and meetings
 pub record AreNumberedTrees (trees made : List TypedTree) (pers meetings : List (List ℕ)) : Type 0 where

@@ -4,8 +4,9 @@ use Rattle.rapid_model.specs.CellData.{CellData}
 use Rattle.rapid_model.specs.ScriptData.{ScriptData, row_of}
 use Rattle.rapid_model.specs.declared.pers_cell.PersCell.{PersCell}
 use Rattle.rapid_model.specs.declared.pers_value.PersValue.{PersValue}
+use Rattle.rapid_model.specs.Names.{IsOneName}
 use Rattle.typed_trees.specs.Plain.{TypedTree}
-use Rattle.cell_rules.specs.Declared.{AreOne, AreOneName, declared_by, meetings_of}
+use Rattle.cell_rules.specs.Declared.{AreOne, declared_by, meetings_of}
 use Rattle.cell_rules.specs.First.{IsPersistent}
 use Rattle.cell_rules.specs.Given.{IsRight}
 use Rattle.cell_rules.specs.Numbering.{AreNumbered, IsFirst}
@@ -36,5 +37,5 @@ pub record IsCellOf (script : ScriptData) (trees : List TypedTree) (cell : CellD
   pub pers_numbered : AreNumbered AreOne (declared_by trees) (pers_numbers numbered) (length cell.pers)
   pub persistents : (k : ℕ) (p : PersCell) → slice_get cell.pers k ≡ Some p → IsPersistent script.pers (declared_by trees) (pers_numbers numbered) k p
   pub given : (number : ℕ) (value : PersValue) → slice_get script.pers number ≡ Some value → IsRight (declared_by trees) script.pers number value
-  pub meetings_numbered : AreNumbered AreOneName (meetings_of trees) (meeting_numbers numbered) (length cell.meetings)
+  pub meetings_numbered : AreNumbered IsOneName (meetings_of trees) (meeting_numbers numbered) (length cell.meetings)
   pub meetings : (k : ℕ) (name : List ℕ) → slice_get cell.meetings k ≡ Some name → IsFirst (meetings_of trees) (meeting_numbers numbered) k name

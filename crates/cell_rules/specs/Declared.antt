@@ -1,11 +1,7 @@
 -- The persistents and meetings that the tasks of a cell declare, and which of them are one (RAPID Overview, persistent data).
 use Rattle.std.specs.Prelude.{◌≡◌, ℕ, ◌+◌, ◌<◌, false, List, [], ◌∷◌, ◌++◌, map, flat_map, Some, slice_get}
-use Rattle.std.specs.Str.{str_to_ascii_lowercase}
+use Rattle.rapid_model.specs.Names.{IsOneName}
 use Rattle.typed_trees.specs.Plain.{TypedPers, TypedTree}
-
--- letters of either case are the same
-abbrev pub AreOneName : List ℕ → List ℕ → Type 0
-AreOneName name other = str_to_ascii_lowercase name ≡ str_to_ascii_lowercase other
 
 -- a PERS of the task of this number
 pub record Declared : Type 0 where
@@ -27,7 +23,7 @@ declared_by trees = declared_from 0 trees
 pub record AreOne (d e : Declared) : Type 0 where
   pub global : d.row.own ≡ false
   pub other_global : e.row.own ≡ false
-  pub named : AreOneName d.row.name e.row.name
+  pub named : IsOneName d.row.name e.row.name
 
 -- of one type and one length
 pub record AreAlike (row other : TypedPers) : Type 0 where

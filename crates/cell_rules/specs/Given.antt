@@ -7,8 +7,9 @@ use Rattle.rapid_model.specs.declared.sort.Sort.{Sort}
 use Rattle.rapid_model.specs.declared.sort.Sort.TheVariants as sorts
 use Rattle.rapid_model.specs.declared.value.Value.{Value}
 use Rattle.rapid_model.specs.declared.value.Value.TheVariants as values
+use Rattle.rapid_model.specs.Names.{IsOneName}
 use Rattle.typed_trees.specs.Plain.{TypedPers}
-use Rattle.cell_rules.specs.Declared.{Declared, AreOneName}
+use Rattle.cell_rules.specs.Declared.{Declared}
 
 -- a script gives nums, truths and texts, each to a persistent of just that type
 abbrev pub given_sort : Value → Option Sort
@@ -20,7 +21,7 @@ given_sort _ = None
 -- the value is for the global persistent that is declared here
 pub record IsFor (value : PersValue) (d : Declared) : Type 0 where
   pub global : d.row.own ≡ false
-  pub named : AreOneName value.name d.row.name
+  pub named : IsOneName value.name d.row.name
 
 -- a declaration of the persistent that the value is for
 pub record Finds (declared : List Declared) (value : PersValue) (row : TypedPers) : Type 0 where
@@ -42,7 +43,7 @@ IsInside _ _ = Unit {0}
 
 -- the values are for one element of persistents of one name
 pub record AreForOne (value other : PersValue) : Type 0 where
-  pub named : AreOneName value.name other.name
+  pub named : IsOneName value.name other.name
   pub index : value.index ≡ other.index
 
 module _ (declared : List Declared) (given : List PersValue) (number : ℕ) (value : PersValue) where

@@ -6,6 +6,7 @@ use Rattle.raw_trees.specs.Plain.{PlainDatum, PlainParam, PlainRoutine, PlainIte
 use Rattle.raw_trees.specs.declared.raw_routine.Mode.{Mode}
 use Rattle.raw_trees.specs.declared.raw_routine.Mode.TheVariants as modes
 use Rattle.rapid_model.specs.declared.signal_row.SignalRow.{SignalRow}
+use Rattle.rapid_model.specs.Names.{IsOneName}
 use Rattle.rule_checks.specs.declared.spot.Spot.{Spot}
 use Rattle.typed_trees.specs.Plain.{TypedTree}
 use Rattle.data_scopes.specs.declared.meant.Meant.{Meant}
@@ -13,7 +14,7 @@ use Rattle.data_scopes.specs.declared.meant.Meant.TheVariants as meants
 use Rattle.data_scopes.specs.Loops.{loops_in_routine}
 use Rattle.data_scopes.specs.Numbers.{Tally, is_pers, is_scalar_const, item_meant, param_meant, tables_of}
 use Rattle.data_scopes.specs.Scopes.{Loop, Tables, meaning}
-use Rattle.name_laws.specs.Declared.{IsOneName, IsSeen, AreEach}
+use Rattle.name_laws.specs.Declared.{IsSeen, AreEach}
 use Rattle.name_laws.specs.Rows.{IsParamRow, IsLocalRow}
 use Rattle.name_laws.specs.Meant.{HasItsRow, Inside, is_by_value}
 use Rattle.name_laws.specs.Meant as specs

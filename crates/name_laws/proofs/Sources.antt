@@ -3,13 +3,14 @@ use Rattle.std.proofs.Common.{◌≡◌, ℕ, ◌+◌, true, List, [], length, S
 use Rattle.std.specs.Str.{str_to_ascii_lowercase}
 use Rattle.raw_trees.specs.Plain.{PlainRoutine, PlainItem, PlainModule, Routine}
 use Rattle.rapid_model.specs.declared.signal_row.SignalRow.{SignalRow}
+use Rattle.rapid_model.specs.Names.{IsOneName}
 use Rattle.rule_checks.specs.declared.spot.Spot.{Spot}
 use Rattle.data_scopes.specs.declared.meant.Meant.{Meant}
 use Rattle.data_scopes.specs.declared.meant.Meant.TheVariants as meants
 use Rattle.data_scopes.specs.Loops.{loops_in_routine}
 use Rattle.data_scopes.specs.Numbers.{Tally, item_meant, no_counts, tables_of, own_scopes, inner_scopes, task_scope, signal_scope}
 use Rattle.data_scopes.specs.Scopes.{Loop, Tables, list_at, meant_in, meaning}
-use Rattle.name_laws.specs.Declared.{IsOneName, IsSeen, StandsIn}
+use Rattle.name_laws.specs.Declared.{IsSeen, StandsIn}
 use Rattle.name_laws.proofs.Entries.{Counter, Holds, IsElsewhere, found_there, holds_at, meaning_such, raised}
 use Rattle.name_laws.proofs.Items.{AllModules, Fact, rest_all}
 use Rattle.name_laws.proofs.Seen.{InnerEntry, ItemEntry, PlaceEntry, SignalEntry, TaskEntry, inner_scopes_entered, loop_found, loops_there, own_scopes_entered, signals_entered, task_scope_entered}

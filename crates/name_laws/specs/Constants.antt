@@ -4,6 +4,7 @@ use Rattle.raw_trees.specs.Plain.{PlainDatum, PlainModule, Datum}
 use Rattle.rapid_model.specs.declared.signal_row.SignalRow.{SignalRow}
 use Rattle.rapid_model.specs.declared.sort.Sort.{Sort}
 use Rattle.rapid_model.specs.declared.value.Value.{Value}
+use Rattle.rapid_model.specs.Names.{IsOneName}
 use Rattle.rule_checks.specs.declared.spot.Spot.{Spot}
 use Rattle.typed_trees.specs.Plain.{TypedTree}
 use Rattle.constant_meaning.specs.Constants.{Elements}
@@ -13,7 +14,7 @@ use Rattle.data_scopes.specs.Numbers.{is_scalar_const, tables_of}
 use Rattle.data_scopes.specs.Rows.{value_at}
 use Rattle.data_scopes.specs.Scopes.{Names, Tables}
 use Rattle.decl_types.specs.Values.{initial}
-use Rattle.name_laws.specs.Declared.{IsOneName, IsSeen, IsType}
+use Rattle.name_laws.specs.Declared.{IsSeen, IsType}
 use Rattle.name_laws.specs.Meant.{Inside}
 
 -- a CONST that is no array of the module of this number, and of this routine where it stands in one; what begins behind its value may

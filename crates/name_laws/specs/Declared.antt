@@ -1,17 +1,13 @@
 -- The declarations of a task's modules, by where they stand and where they are seen.
 use Rattle.std.specs.Prelude.{◌≡◌, ℕ, true, List, [], ◌∷◌, Option, Some, None, slice_get}
-use Rattle.std.specs.Str.{str_to_ascii_lowercase}
 use Rattle.raw_trees.specs.Plain.{PlainItem, PlainModule, PlainName}
 use Rattle.rapid_model.specs.declared.sort.Sort.{Sort}
+use Rattle.rapid_model.specs.Names.{IsOneName}
 use Rattle.rule_checks.specs.declared.spot.Spot.{Spot}
 use Rattle.data_scopes.specs.declared.meant.Meant.{Meant}
 use Rattle.data_scopes.specs.Declarations.{type_of}
 use Rattle.data_scopes.specs.Numbers.{item_name, is_local}
 use Rattle.data_scopes.specs.Scopes.{Tables, meaning}
-
--- letters of either case are the same
-abbrev pub IsOneName : List ℕ → List ℕ → Type 0
-IsOneName name other = str_to_ascii_lowercase name ≡ str_to_ascii_lowercase other
 
 -- an item stands in the module of this number
 pub record StandsIn (modules : List PlainModule) (number : ℕ) (item : PlainItem) : Type 0 where

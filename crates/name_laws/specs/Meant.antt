@@ -5,6 +5,7 @@ use Rattle.raw_trees.specs.Plain.{PlainDatum, PlainParam, PlainRoutine, PlainMod
 use Rattle.raw_trees.specs.declared.raw_routine.Mode.{Mode}
 use Rattle.raw_trees.specs.declared.raw_routine.Mode.TheVariants as modes
 use Rattle.rapid_model.specs.declared.signal_row.SignalRow.{SignalRow}
+use Rattle.rapid_model.specs.Names.{IsOneName}
 use Rattle.rule_checks.specs.declared.spot.Spot.{Spot}
 use Rattle.typed_trees.specs.Plain.{TypedParam, TypedLocal, TypedRoutine, TypedSlot, TypedPers, TypedTree}
 use Rattle.data_scopes.specs.declared.meant.Meant.{Meant}
@@ -12,7 +13,7 @@ use Rattle.data_scopes.specs.declared.meant.Meant.TheVariants as meants
 use Rattle.data_scopes.specs.Loops.{loops_in_routine}
 use Rattle.data_scopes.specs.Numbers.{is_scalar_const, tables_of}
 use Rattle.data_scopes.specs.Scopes.{Loop}
-use Rattle.name_laws.specs.Declared.{IsOneName, StandsIn, IsSeen}
+use Rattle.name_laws.specs.Declared.{StandsIn, IsSeen}
 use Rattle.name_laws.specs.Rows.{IsSlotRow, IsPersRow, IsParamRow, IsLocalRow, IsRoutineRow}
 
 -- an argument by value is the routine's own; any other parameter is a reference
