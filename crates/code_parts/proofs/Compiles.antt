@@ -4,14 +4,14 @@ use Rattle.std.proofs.Math.Nat.{le-max_left}
 use Rattle.std.proofs.lemmas.Option.{slice_get_within}
 use Rattle.typed_trees.specs.Plain.{TypedRoutine, TypedTree}
 use Rattle.stack_code.specs.Compiled.{compiled, deepest_in, placed_in, routine_code}
-use Rattle.stack_code.specs.Placed.{Placed, placed_at}
+use Rattle.stack_code.specs.Placed.{Placed, placed_at, StandsAt}
 use Rattle.error_recovery.proofs.Rows.{placed_there}
 use Rattle.task_typing.proofs.Rows.{at_left, at_right}
 use Rattle.code_simulation.specs.Orderly.{IsOrderly}
 use Rattle.code_simulation.proofs.CodeOf.{Found, IsCodeOf}
 use Rattle.code_simulation.proofs.Compiles.{compiled_is, target_of}
-use Rattle.code_parts.specs.Routines.{HasRoutine, HasRoutines, StandsAt, extended}
-use Rattle.code_parts.proofs.Places.{each_stands, stands_at}
+use Rattle.code_simulation.proofs.Spots.{each_stands}
+use Rattle.code_parts.specs.Routines.{HasRoutine, HasRoutines, extended}
 
 has_found : (tree : TypedTree) (number : ℕ) (routine : TypedRoutine) → Found tree (target_of tree) number routine → HasRoutine tree (compiled tree) number routine
 has_found tree number routine found = record {
@@ -19,7 +19,7 @@ has_found tree number routine found = record {
   first = found.first;
   row = found.row;
   behind = found.behind;
-  stands = stands_at (compiled tree) found.entry (routine_code tree found.entry routine found.behind) found.code;
+  stands = found.code;
   others = found.others;
   firsts = found.firsts;
   handler = found.handler;

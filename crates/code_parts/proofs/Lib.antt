@@ -1,4 +1,3 @@
-mod Places
 mod Parts
 mod Compiles
 mod Examples

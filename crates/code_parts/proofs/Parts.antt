@@ -10,9 +10,7 @@ use Rattle.rapid_meaning.specs.Expressions.{expr}
 use Rattle.rapid_meaning.specs.Runs.{deep}
 use Rattle.stack_code.specs.CodeData.{CodeData}
 use Rattle.stack_code.specs.CodeRuns.{fitting_by}
-use Rattle.stack_code.specs.Compiled.{routine_code}
 use Rattle.stack_code.specs.Confs.{Running, Saved, conf}
-use Rattle.stack_code.specs.ExprLayouts.{expr_code}
 use Rattle.stack_code.specs.Placed.{Own}
 use Rattle.stack_code.specs.Raising.{raised}
 use Rattle.stack_code.specs.Sizes.{expr_size}
@@ -28,7 +26,6 @@ use Rattle.code_simulation.proofs.Whole.{claims}
 use Rattle.code_parts.specs.Following.{DoesAs}
 use Rattle.code_parts.specs.Parts.{CallDoes, ExprDoes, ExprStands}
 use Rattle.code_parts.specs.Routines.{HasRoutine, HasRoutines}
-use Rattle.code_parts.proofs.Places.{has_at}
 
 abbrev target : CodeData → Target
 target code = record { code = code; by = fitting_by code }
@@ -40,7 +37,7 @@ found tree code number routine orderly has = record {
   first = has.first;
   row = has.row;
   behind = has.behind;
-  code = has_at code has.entry (routine_code tree has.entry routine has.behind) has.stands;
+  code = has.stands;
   others = has.others;
   firsts = has.firsts;
   handler = has.handler;
@@ -68,7 +65,7 @@ pub expr_does : (tree : TypedTree) (code : CodeData) (routine : TypedRoutine) (o
 expr_does tree code routine own pc e stack frame saved depth orderly has at =
     let spot : Spot = record { target = target code; run = deep tree depth; tree = tree; routine = routine; own = own; frame = frame; saved = saved } in
     let sim = expr_sim spot (is_code tree code orderly has) (all_claims tree code depth orderly has) pc (pc + expr_size e) stack e at.behind at.calls
-    (has_at code pc (expr_code tree routine own pc e at.behind) at.stands) at.room refl in
+    at.stands at.room refl in
     let does : DoesAs code (Gives (conf pc stack frame saved)) (performed (fitting_by code) (deep tree depth) (expr tree routine e))
     (λ v. Gives (conf (pc + expr_size e) (Plain v ∷ stack) frame saved)) (raised code own frame saved) = record { comes = sim.by } in
     subst (λ (by : Bool → Fitting). DoesAs code (Gives (conf pc stack frame saved)) (performed by (deep tree depth) (expr tree routine e))

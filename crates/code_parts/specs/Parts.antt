@@ -14,12 +14,11 @@ use Rattle.stack_code.specs.Confs.{Running, Saved, conf}
 use Rattle.stack_code.specs.Entering.{enter}
 use Rattle.stack_code.specs.ExprLayouts.{expr_code}
 use Rattle.stack_code.specs.Needs.{expr_need}
-use Rattle.stack_code.specs.Placed.{Own, Placed}
+use Rattle.stack_code.specs.Placed.{Own, Placed, StandsAt}
 use Rattle.stack_code.specs.Raising.{back_to, raised, raised_to}
 use Rattle.stack_code.specs.Sizes.{expr_size}
 use Rattle.code_simulation.specs.Calls.{ExprCalls}
 use Rattle.code_parts.specs.Following.{DoesAs}
-use Rattle.code_parts.specs.Routines.{StandsAt}
 
 -- The code of an expression of a routine stands at a place, as one of this statement, with whatever behind it. It calls as the
 -- routines of the tree take, and above so many operands there is room for its own.

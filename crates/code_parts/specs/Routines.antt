@@ -1,5 +1,5 @@
 -- Code that has the routines of a tree.
-use Rattle.std.specs.Prelude.{◌≡◌, ℕ, ◌+◌, ◌≤◌, max, List, [], ◌∷◌, ◌++◌, map, drop, None, Some, ⊤, slice_get}
+use Rattle.std.specs.Prelude.{◌≡◌, ℕ, ◌+◌, ◌≤◌, max, List, ◌++◌, map, drop, None, Some, slice_get}
 use Rattle.std.specs.Option.{option_map}
 use Rattle.typed_trees.specs.Plain.{TypedRoutine, TypedTree}
 use Rattle.typed_trees.specs.declared.datum.Datum.{Datum}
@@ -9,13 +9,8 @@ use Rattle.stack_code.specs.CodeData.{CodeData}
 use Rattle.stack_code.specs.CodeRuns.{fitting_by}
 use Rattle.stack_code.specs.Compiled.{compiled, deepest_in, owner_rows, part_need, part_start, placed_in, routine_code, routine_row}
 use Rattle.stack_code.specs.Needs.{stmts_need}
-use Rattle.stack_code.specs.Placed.{Placed, placed_at}
+use Rattle.stack_code.specs.Placed.{Placed, StandsAt}
 use Rattle.stack_code.specs.Raising.{handler_of}
-
--- these operations, each its statement's, stand from a place on
-abbrev pub StandsAt : CodeData → ℕ → List Placed → Type 0
-StandsAt code pc [] = ⊤
-StandsAt code pc (p ∷ ps) = (placed_at code pc ≡ Some p) × StandsAt code (pc + 1) ps
 
 -- a routine by its number: its row, its operations at its entry, its first values, its ERROR part, and room for its operands
 pub record HasRoutine (tree : TypedTree) (code : CodeData) (number : ℕ) (routine : TypedRoutine) : Type 0 where

@@ -4,11 +4,11 @@ ghost use Rattle.typed_trees.specs.declared.datum.Datum.{Datum};
 ghost use Rattle.stack_code.specs.CodeData.{CodeData};
 ghost use Rattle.stack_code.specs.Compiled.{compiled, placed_in};
 ghost use Rattle.stack_code.specs.Confs.{Running, Saved};
-ghost use Rattle.stack_code.specs.Placed.{Own, Placed};
+ghost use Rattle.stack_code.specs.Placed.{Own, Placed, StandsAt};
 ghost use Rattle.code_simulation.specs.Calls.{Takes};
 ghost use Rattle.code_simulation.specs.Orderly.{IsOrderly};
 ghost use Rattle.code_parts.specs.Parts.{CallDoes, ExprDoes, ExprStands};
-ghost use Rattle.code_parts.specs.Routines.{HasRoutines, StandsAt, extended};
+ghost use Rattle.code_parts.specs.Routines.{HasRoutines, extended};
 
 /// A law: wherever the code of an expression stands in code that has the routines of an orderly tree, above any operands that
 /// leave it room and any frames, it does what the expression does, however deep the parts of the program are one in another. It

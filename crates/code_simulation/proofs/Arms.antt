@@ -9,7 +9,7 @@ use Rattle.rapid_meaning.specs.Instructions.{truth}
 use Rattle.rapid_meaning.specs.Statements.{chosen, inner_or_not}
 use Rattle.stack_code.specs.ExprLayouts.{put}
 use Rattle.stack_code.specs.Needs.{arms_need, else_need, expr_need, stmts_need}
-use Rattle.stack_code.specs.Placed.{Own, Placed}
+use Rattle.stack_code.specs.Placed.{Own, Placed, StandsAt}
 use Rattle.stack_code.specs.Raising.{raised}
 use Rattle.stack_code.specs.Sizes.{arms_size, expr_size, stmt_size, stmts_size}
 use Rattle.stack_code.specs.StmtLayouts.{arms_code, else_code, own_of, stmts_code}
@@ -26,13 +26,13 @@ use Rattle.code_simulation.proofs.PastStmts.{past_arms, past_stmts}
 use Rattle.code_simulation.proofs.Recovery.{failed_sim}
 use Rattle.code_simulation.proofs.Rooms.{first_room, second_room}
 use Rattle.code_simulation.proofs.Sim.{Sim, Target, sim_after, sim_assoc, sim_from, sim_gives}
-use Rattle.code_simulation.proofs.Spots.{HasAt, sim_op}
+use Rattle.code_simulation.proofs.Spots.{sim_op}
 use Rattle.code_simulation.proofs.Truths.{truth_sim}
 
 -- a list, and the Jump behind the statement
 pub arm_list : (t : Target) (tree : TypedTree) (run : Run) → Claims t tree run → (b : Body) (from : ℕ) (s : TypedStmt) (pc : ℕ) (list : TypedStmts) (ps : List Placed) → Stands t tree b b.stands.errors
     → ListAt t tree b pc (pc + stmts_size tree b.stands.routine list) list
-    → HasAt t.code (pc + stmts_size tree b.stands.routine list) (put (own_of tree b.stands.routine from s) (ops.Jump (from + stmt_size tree b.stands.routine s)) ps)
+    → StandsAt t.code (pc + stmts_size tree b.stands.routine list) (put (own_of tree b.stands.routine from s) (ops.Jump (from + stmt_size tree b.stands.routine s)) ps)
     → Sim t run (begins b pc) (inner_or_not b.stands (Else list)) (lands b (from + stmt_size tree b.stands.routine s)) (leaving t b)
 arm_list t tree run claims b from s pc list ps stands at there =
     list_sim t tree run claims b pc (pc + stmts_size tree b.stands.routine list) (from + stmt_size tree b.stands.routine s) list stands at
@@ -52,7 +52,7 @@ arm_when t tree run b from s x next list more other here further false = further
 -- from a condition on; what follows the last of them is given
 arms_sim : (t : Target) (tree : TypedTree) (run : Run) → IsCodeOf tree t → Claims t tree run → (b : Body) (from : ℕ) (s : TypedStmt) → Stands t tree b b.stands.errors → StmtAt t tree b from s
     → (pc end : ℕ) (arms : TypedArms) (other : TypedElse) (ps : List Placed)
-    → HasAt t.code pc (arms_code tree b.stands.routine b.labels (own_of tree b.stands.routine from s) pc arms ps) → ArmsCalls tree arms → ArmsLabels tree b.stands.routine b.labels pc arms
+    → StandsAt t.code pc (arms_code tree b.stands.routine b.labels (own_of tree b.stands.routine from s) pc arms ps) → ArmsCalls tree arms → ArmsLabels tree b.stands.routine b.labels pc arms
     → arms_need tree b.stands.routine arms ≤ t.code.deepest → pc + arms_size tree b.stands.routine arms ≡ end
     → Sim t run (begins b end) (inner_or_not b.stands other) (lands b (from + stmt_size tree b.stands.routine s)) (leaving t b)
     → Sim t run (begins b pc) (after (chosen tree b.stands.routine arms other) (inner_or_not b.stands) (failed b.stands s)) (lands b (from + stmt_size tree b.stands.routine s)) (leaving t b)
@@ -65,7 +65,7 @@ arms_sim t tree run code claims b from s stands place pc end (MoreArms e list mo
     let x : ℕ = pc + expr_size e + 1 in
     let next : ℕ = x + stmts_size tree b.stands.routine list + 1 in
     let behind : List Placed = put own (ops.Jump own.next) (arms_code tree b.stands.routine b.labels own next more ps) in
-    let inside : HasAt t.code x (stmts_code tree b.stands.routine b.labels x list behind) =
+    let inside : StandsAt t.code x (stmts_code tree b.stands.routine b.labels x list behind) =
     (past_expr t.code tree b.stands.routine own pc e (put own (ops.JumpFalse next) (stmts_code tree b.stands.routine b.labels x list behind)) there).1 in
     let jump = past_stmts t.code tree b.stands.routine b.labels x list behind inside in
     let rooms = second_room (expr_need e) (max (stmts_need tree b.stands.routine list) (arms_need tree b.stands.routine more)) t.code.deepest room in

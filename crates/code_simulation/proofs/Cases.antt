@@ -15,7 +15,7 @@ use Rattle.rapid_meaning.specs.Statements.{inner_or_not, is_among, selected}
 use Rattle.rapid_meaning.specs.Values.{applied, truth_in}
 use Rattle.stack_code.specs.ExprLayouts.{put}
 use Rattle.stack_code.specs.Needs.{cases_need, else_need, expr_need, stmts_need, values_need}
-use Rattle.stack_code.specs.Placed.{Own, Placed}
+use Rattle.stack_code.specs.Placed.{Own, Placed, StandsAt}
 use Rattle.stack_code.specs.Raising.{raised}
 use Rattle.stack_code.specs.Sizes.{cases_size, expr_size, stmt_size, stmts_size, values_size}
 use Rattle.stack_code.specs.StmtLayouts.{cases_code, else_code, own_of, stmts_code, values_code}
@@ -36,7 +36,7 @@ use Rattle.code_simulation.proofs.Recovery.{failed_sim}
 use Rattle.code_simulation.proofs.Rooms.{expr_needs, first_room, second_room}
 use Rattle.code_simulation.proofs.Same.{sim_same}
 use Rattle.code_simulation.proofs.Sim.{Sim, Target, sim_after, sim_assoc, sim_from, sim_gives, sim_misfit, sim_raises, sim_then}
-use Rattle.code_simulation.proofs.Spots.{HasAt, Holds, Spot, failing, sim_op, standing}
+use Rattle.code_simulation.proofs.Spots.{Holds, Spot, failing, sim_op, standing}
 
 -- a value is compared with what is tested, and then the next ones are
 compared : (s : Spot) (pc to end : ℕ) (v equal : Value) (es : TypedExprs) → OpAt s pc (ops.JumpTrue to) → 2 ≤ s.target.code.deepest
@@ -84,7 +84,7 @@ case_when t tree run b from s x next v list more other here further false = furt
 -- from a CASE on; what follows the last of them is given
 cases_sim : (t : Target) (tree : TypedTree) (run : Run) → IsCodeOf tree t → Claims t tree run → (b : Body) (from : ℕ) (s : TypedStmt) → Stands t tree b b.stands.errors → StmtAt t tree b from s
     → (pc end : ℕ) (v : Value) (cases : TypedCases) (other : TypedElse) (ps : List Placed)
-    → HasAt t.code pc (cases_code tree b.stands.routine b.labels (own_of tree b.stands.routine from s) pc cases ps) → CasesCalls tree cases → CasesLabels tree b.stands.routine b.labels pc cases
+    → StandsAt t.code pc (cases_code tree b.stands.routine b.labels (own_of tree b.stands.routine from s) pc cases ps) → CasesCalls tree cases → CasesLabels tree b.stands.routine b.labels pc cases
     → cases_need tree b.stands.routine cases ≤ t.code.deepest → 1 ≤ t.code.deepest → pc + cases_size tree b.stands.routine cases ≡ end
     → Sim t run (standing (spot_at t tree run b from s) end (Plain v ∷ [])) (inner_or_not b.stands other) (lands b (from + stmt_size tree b.stands.routine s)) (leaving t b)
     → Sim t run (standing (spot_at t tree run b from s) pc (Plain v ∷ [])) (after (selected tree b.stands.routine v cases other) (inner_or_not b.stands) (failed b.stands s))

@@ -10,14 +10,13 @@ use Rattle.stack_code.specs.Compiled.{part_code}
 use Rattle.stack_code.specs.Confs.{Saved}
 use Rattle.stack_code.specs.Entering.{enter}
 use Rattle.stack_code.specs.Needs.{stmt_need, stmts_need}
-use Rattle.stack_code.specs.Placed.{Own, Placed}
+use Rattle.stack_code.specs.Placed.{Own, Placed, StandsAt}
 use Rattle.stack_code.specs.Raising.{back_to, handler_of, raised_to}
 use Rattle.stack_code.specs.Sizes.{arms_size, bounds_size, cases_size, expr_size, stmt_size, stmts_size, values_size}
 use Rattle.stack_code.specs.StmtLayouts.{label_at, own_of, stmt_code, stmts_code}
 use Rattle.code_simulation.specs.Calls.{IsProcedure, StmtCalls, StmtsCalls, Takes}
 use Rattle.code_simulation.proofs.Bodies.{Body, begins, lands, leaving, value_of}
 use Rattle.code_simulation.proofs.Sim.{SimPart, Target}
-use Rattle.code_simulation.proofs.Spots.{HasAt}
 
 -- each label of a form, whose code begins at this place, has its own place among the places of the labels
 abbrev mutual
@@ -56,7 +55,7 @@ abbrev mutual
 -- the code of a statement stands at a place, and the statement is orderly: its calls, its labels, and the room for its operands
 pub record StmtAt (t : Target) (tree : TypedTree) (b : Body) (pc : ℕ) (s : TypedStmt) : Type 0 where
   pub behind : List Placed
-  pub code : HasAt t.code pc (stmt_code tree b.stands.routine b.labels (own_of tree b.stands.routine pc s) pc s behind)
+  pub code : StandsAt t.code pc (stmt_code tree b.stands.routine b.labels (own_of tree b.stands.routine pc s) pc s behind)
   pub calls : StmtCalls tree s
   pub labels : StmtLabels tree b.stands.routine b.labels pc s
   pub room : stmt_need tree b.stands.routine s ≤ t.code.deepest
@@ -64,7 +63,7 @@ pub record StmtAt (t : Target) (tree : TypedTree) (b : Body) (pc : ℕ) (s : Typ
 -- the code of a list stands at a place, up to another
 pub record ListAt (t : Target) (tree : TypedTree) (b : Body) (pc end : ℕ) (list : TypedStmts) : Type 0 where
   pub behind : List Placed
-  pub code : HasAt t.code pc (stmts_code tree b.stands.routine b.labels pc list behind)
+  pub code : StandsAt t.code pc (stmts_code tree b.stands.routine b.labels pc list behind)
   pub calls : StmtsCalls tree list
   pub labels : StmtsLabels tree b.stands.routine b.labels pc list
   pub room : stmts_need tree b.stands.routine list ≤ t.code.deepest
@@ -73,7 +72,7 @@ pub record ListAt (t : Target) (tree : TypedTree) (b : Body) (pc end : ℕ) (lis
 -- the ERROR part of a routine begins at a place
 pub record PartAt (t : Target) (tree : TypedTree) (b : Body) (pc : ℕ) (list : TypedStmts) : Type 0 where
   pub behind : List Placed
-  pub code : HasAt t.code pc (part_code tree b.stands.routine b.labels pc (Some list) behind)
+  pub code : StandsAt t.code pc (part_code tree b.stands.routine b.labels pc (Some list) behind)
   pub calls : StmtsCalls tree list
   pub labels : StmtsLabels tree b.stands.routine b.labels pc list
   pub room : stmts_need tree b.stands.routine list ≤ t.code.deepest

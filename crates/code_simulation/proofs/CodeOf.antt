@@ -7,12 +7,11 @@ use Rattle.rapid_meaning.specs.Answering.{fitting_of}
 use Rattle.rapid_meaning.specs.Frames.{first_values}
 use Rattle.stack_code.specs.Compiled.{part_need, part_start, routine_code, routine_row}
 use Rattle.stack_code.specs.Needs.{stmts_need}
-use Rattle.stack_code.specs.Placed.{Placed}
+use Rattle.stack_code.specs.Placed.{Placed, StandsAt}
 use Rattle.stack_code.specs.Raising.{handler_of}
 use Rattle.code_simulation.specs.Calls.{Takes}
 use Rattle.code_simulation.specs.Orderly.{IsOrderlyRoutine}
 use Rattle.code_simulation.proofs.Sim.{Target}
-use Rattle.code_simulation.proofs.Spots.{HasAt}
 
 -- a routine by its number: its row, its code, its first values, its ERROR part, and room for its operands
 pub record Found (tree : TypedTree) (t : Target) (number : ℕ) (routine : TypedRoutine) : Type 0 where
@@ -20,7 +19,7 @@ pub record Found (tree : TypedTree) (t : Target) (number : ℕ) (routine : Typed
   pub first : ℕ
   pub row : slice_get t.code.routines number ≡ Some (routine_row entry first routine)
   pub behind : List Placed
-  pub code : HasAt t.code entry (routine_code tree entry routine behind)
+  pub code : StandsAt t.code entry (routine_code tree entry routine behind)
   pub others : List Datum
   pub firsts : drop first t.code.firsts ≡ first_values routine ++ others
   pub handler : handler_of t.code number ≡ option_map (λ list. part_start tree routine entry) routine.handler

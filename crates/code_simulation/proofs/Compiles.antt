@@ -10,17 +10,16 @@ use Rattle.typed_trees.specs.Plain.{TypedPers, TypedRoutine, TypedTree}
 use Rattle.typed_trees.specs.declared.datum.Datum.{Datum}
 use Rattle.rapid_meaning.specs.Answering.{fitting_of, is_trap_row, sort_of_pers}
 use Rattle.rapid_meaning.specs.Frames.{first_values}
-use Rattle.stack_code.specs.CodeData.{CodeData}
 use Rattle.stack_code.specs.CodeRuns.{fitting_by, is_trap, sort_in}
 use Rattle.stack_code.specs.Compiled.{compiled, deepest_in, handlers_of, part_need, placed_in, routine_rows, routine_size, routines_code, sorts_of}
 use Rattle.stack_code.specs.Needs.{stmts_need}
-use Rattle.stack_code.specs.Placed.{Placed, placed_at}
+use Rattle.stack_code.specs.Placed.{placed_at, StandsAt}
 use Rattle.error_recovery.proofs.Rows.{placed_there}
 use Rattle.code_simulation.specs.Orderly.{IsOrderly, IsOrderlyRoutine}
 use Rattle.code_simulation.proofs.CodeOf.{Found, IsCodeOf}
 use Rattle.code_simulation.proofs.PastRoutines.{past_routine}
 use Rattle.code_simulation.proofs.Sim.{Target}
-use Rattle.code_simulation.proofs.Spots.{HasAt}
+use Rattle.code_simulation.proofs.Spots.{each_stands}
 
 -- the compiled code, and which answers fit it
 abbrev pub target_of : TypedTree → Target
@@ -51,7 +50,7 @@ same_fits tree = λ i trapped. record {
 record From (tree : TypedTree) (t : Target) (base pc first : ℕ) (routines : List TypedRoutine) : Type 0 where
   rows : (k : ℕ) → slice_get t.code.routines (base + k) ≡ slice_get (routine_rows tree pc first routines) k
   handlers : (k : ℕ) → slice_get t.code.handlers (base + k) ≡ slice_get (handlers_of tree pc routines) k
-  code : HasAt t.code pc (routines_code tree pc routines)
+  code : StandsAt t.code pc (routines_code tree pc routines)
   firsts : drop first t.code.firsts ≡ flat_map first_values routines
   room : deepest_in tree routines ≤ t.code.deepest
   orderly : All (IsOrderlyRoutine tree) routines
@@ -103,19 +102,11 @@ missing_in tree pc first [] number there = refl
 missing_in tree pc first (routine ∷ more) zero there = cc
 missing_in tree pc first (routine ∷ more) (suc number) there = missing_in tree (pc + routine_size tree routine) (first + length (first_values routine)) more number there
 
--- operations that stand from a place on, one by one
-all_at : (code : CodeData) (base : ℕ) (ps : List Placed) → ((k : ℕ) → placed_at code (base + k) ≡ slice_get ps k) → HasAt code base ps
-all_at code base [] each = tt
-all_at code base (p ∷ ps) each = (
-  ap (λ (n : ℕ). placed_at code n) (omega arith) ∙ each 0,
-  all_at code (base + 1) ps (λ k. ap (λ (n : ℕ). placed_at code n) (omega arith) ∙ each (suc k)),
-)
-
 whole : (tree : TypedTree) → IsOrderly tree → From tree (target_of tree) 0 0 0 tree.routines
 whole tree orderly = record {
   rows = λ k. ap (λ (n : ℕ). slice_get (compiled tree).routines n) (omega arith);
   handlers = λ k. ap (λ (n : ℕ). slice_get (compiled tree).handlers n) (omega arith);
-  code = all_at (compiled tree) 0 (placed_in tree) (λ k. ap (λ (n : ℕ). placed_at (compiled tree) n) (omega arith) ∙ placed_there (placed_in tree) k);
+  code = each_stands (compiled tree) 0 (placed_in tree) (λ k. ap (λ (n : ℕ). placed_at (compiled tree) n) (omega arith) ∙ placed_there (placed_in tree) k);
   firsts = refl;
   room = omega arith;
   orderly = orderly.routines;

@@ -9,32 +9,32 @@ use Rattle.typed_trees.specs.Plain as trees
 use Rattle.typed_trees.specs.Plain.{TypedArgs, TypedExpr, TypedExprs, TypedPlace, TypedRoutine, TypedSteps, TypedTree, NoExprs, MoreExprs, NoSteps, MoreSteps, NotHeld, Held, PlaceOf, Given, Lent, OfSignal, NoArgs, MoreArgs}
 use Rattle.stack_code.specs.CodeData.{CodeData}
 use Rattle.stack_code.specs.ExprLayouts.{args_code, builtin_code, expr_code, exprs_code, index_op, part_code, place_code, put, sign_code, signal_code, steps_code}
-use Rattle.stack_code.specs.Placed.{Own, Placed}
+use Rattle.stack_code.specs.Placed.{Own, Placed, StandsAt}
 use Rattle.stack_code.specs.Sizes.{args_size, builtin_size, expr_size, exprs_size, part_size, place_size, sign_size, signal_size, steps_size}
 use Rattle.stack_code.specs.declared.op.Op.TheVariants as ops
 use Rattle.stack_code.specs.declared.unary_op.UnaryOp.TheVariants as unary
-use Rattle.code_simulation.proofs.Spots.{HasAt, moved}
+use Rattle.code_simulation.proofs.Spots.{moved}
 
 -- behind one operation
-past_op : (code : CodeData) (a b : ℕ) (p : Placed) (ps : List Placed) → a + 1 ≡ b → HasAt code a (p ∷ ps) → HasAt code b ps
+past_op : (code : CodeData) (a b : ℕ) (p : Placed) (ps : List Placed) → a + 1 ≡ b → StandsAt code a (p ∷ ps) → StandsAt code b ps
 past_op code a b p ps e h = moved code (a + 1) b ps e h.1
 
-past_part : (code : CodeData) (own : Own) (pc : ℕ) (part : PartName) (ps : List Placed) → HasAt code pc (part_code own part ps) → HasAt code (pc + part_size part) ps
+past_part : (code : CodeData) (own : Own) (pc : ℕ) (part : PartName) (ps : List Placed) → StandsAt code pc (part_code own part ps) → StandsAt code (pc + part_size part) ps
 past_part code own pc parts.Whole ps h = moved code pc (pc + 0) ps (omega arith) h
 past_part code own pc part ps h = h.1
 
-past_sign : (code : CodeData) (own : Own) (pc : ℕ) (minus : Bool) (ps : List Placed) → HasAt code pc (sign_code own minus ps) → HasAt code (pc + sign_size minus) ps
+past_sign : (code : CodeData) (own : Own) (pc : ℕ) (minus : Bool) (ps : List Placed) → StandsAt code pc (sign_code own minus ps) → StandsAt code (pc + sign_size minus) ps
 past_sign code own pc true ps h = h.1
 past_sign code own pc false ps h = moved code pc (pc + 0) ps (omega arith) h
 
 past_signal : (code : CodeData) (own : Own) (pc : ℕ) (function : Function) (signal : ℕ) (ps : List Placed)
-    → HasAt code pc (signal_code own function signal ps) → HasAt code (pc + signal_size function) ps
+    → StandsAt code pc (signal_code own function signal ps) → StandsAt code (pc + signal_size function) ps
 past_signal code own pc functions.TestDI signal ps h = moved code (pc + 1 + 1 + 1) (pc + 3) ps (omega arith) h.1.1.1
 past_signal code own pc function signal ps h = h.1
 
 mutual
   pub past_expr : (code : CodeData) (tree : TypedTree) (routine : TypedRoutine) (own : Own) (pc : ℕ) (e : TypedExpr) (ps : List Placed)
-      → HasAt code pc (expr_code tree routine own pc e ps) → HasAt code (pc + expr_size e) ps
+      → StandsAt code pc (expr_code tree routine own pc e ps) → StandsAt code (pc + expr_size e) ps
   past_expr code tree routine own pc (trees.Known at sort v) ps h = h.1
   past_expr code tree routine own pc (trees.ErrorNumber at sort) ps h = h.1
   past_expr code tree routine own pc (trees.SignalValue at sort signal) ps h = h.1
@@ -56,14 +56,14 @@ mutual
       (past_steps code tree routine own (pc + expr_size e) steps ps (past_expr code tree routine own pc e (steps_code tree routine own (pc + expr_size e) steps ps) h))
 
   pub past_exprs : (code : CodeData) (tree : TypedTree) (routine : TypedRoutine) (own : Own) (pc : ℕ) (es : TypedExprs) (ps : List Placed)
-      → HasAt code pc (exprs_code tree routine own pc es ps) → HasAt code (pc + exprs_size es) ps
+      → StandsAt code pc (exprs_code tree routine own pc es ps) → StandsAt code (pc + exprs_size es) ps
   past_exprs code tree routine own pc NoExprs ps h = moved code pc (pc + 0) ps (omega arith) h
   past_exprs code tree routine own pc (MoreExprs e es) ps h =
       moved code (pc + expr_size e + exprs_size es) (pc + (expr_size e + exprs_size es)) ps (omega arith)
       (past_exprs code tree routine own (pc + expr_size e) es ps (past_expr code tree routine own pc e (exprs_code tree routine own (pc + expr_size e) es ps) h))
 
   pub past_steps : (code : CodeData) (tree : TypedTree) (routine : TypedRoutine) (own : Own) (pc : ℕ) (steps : TypedSteps) (ps : List Placed)
-      → HasAt code pc (steps_code tree routine own pc steps ps) → HasAt code (pc + steps_size steps) ps
+      → StandsAt code pc (steps_code tree routine own pc steps ps) → StandsAt code (pc + steps_size steps) ps
   past_steps code tree routine own pc NoSteps ps h = moved code pc (pc + 0) ps (omega arith) h
   past_steps code tree routine own pc (MoreSteps operators.And e steps) ps h =
       moved code (pc + 1 + 1 + 1 + expr_size e + steps_size steps) (pc + (3 + expr_size e + steps_size steps)) ps (omega arith)
@@ -79,7 +79,7 @@ mutual
       (past_expr code tree routine own pc e (put own (ops.Binary o) (steps_code tree routine own (pc + expr_size e + 1) steps ps)) h).1)
 
   pub past_place : (code : CodeData) (tree : TypedTree) (routine : TypedRoutine) (own : Own) (pc : ℕ) (p : TypedPlace) (ps : List Placed)
-      → HasAt code pc (place_code tree routine own pc p ps) → HasAt code (pc + place_size p) ps
+      → StandsAt code pc (place_code tree routine own pc p ps) → StandsAt code (pc + place_size p) ps
   past_place code tree routine own pc (PlaceOf root NotHeld part sort) ps h =
       moved code (pc + 1 + part_size part) (pc + (1 + part_size part)) ps (omega arith) (past_part code own (pc + 1) part ps h.1)
   past_place code tree routine own pc (PlaceOf root (Held e) part sort) ps h =
@@ -88,7 +88,7 @@ mutual
       (past_expr code tree routine own (pc + 1) e (put own (index_op tree routine root) (part_code own part ps)) h.1).1)
 
   pub past_args : (code : CodeData) (tree : TypedTree) (routine : TypedRoutine) (own : Own) (pc : ℕ) (args : TypedArgs) (ps : List Placed)
-      → HasAt code pc (args_code tree routine own pc args ps) → HasAt code (pc + args_size args) ps
+      → StandsAt code pc (args_code tree routine own pc args ps) → StandsAt code (pc + args_size args) ps
   past_args code tree routine own pc NoArgs ps h = moved code pc (pc + 0) ps (omega arith) h
   past_args code tree routine own pc (MoreArgs (Given e) more) ps h =
       moved code (pc + expr_size e + args_size more) (pc + (expr_size e + args_size more)) ps (omega arith)
@@ -99,7 +99,7 @@ mutual
   past_args code tree routine own pc (MoreArgs other more) ps h = past_args code tree routine own pc more ps h
 
   past_builtin : (code : CodeData) (tree : TypedTree) (routine : TypedRoutine) (own : Own) (pc : ℕ) (function : Function) (args : TypedArgs) (ps : List Placed)
-      → HasAt code pc (builtin_code tree routine own pc function args ps) → HasAt code (pc + builtin_size function args) ps
+      → StandsAt code pc (builtin_code tree routine own pc function args ps) → StandsAt code (pc + builtin_size function args) ps
   past_builtin code tree routine own pc function NoArgs ps h = h.1
   past_builtin code tree routine own pc function (MoreArgs (Given e) NoArgs) ps h =
       past_op code (pc + expr_size e) (pc + (expr_size e + 1)) _ ps (omega arith) (past_expr code tree routine own pc e (put own (ops.Func function) ps) h)

@@ -7,15 +7,15 @@ use Rattle.rapid_meaning.specs.Layouts.{local_start}
 use Rattle.stack_code.specs.CodeData.{CodeData}
 use Rattle.stack_code.specs.ExprLayouts.{put}
 use Rattle.stack_code.specs.Pieces.{Piece, OfExpr, OfPlace, OfArgs, Does, Waits, GoesTo, Chooses, bounds_pieces, pieces}
-use Rattle.stack_code.specs.Placed.{Own, Placed}
+use Rattle.stack_code.specs.Placed.{Own, Placed, StandsAt}
 use Rattle.stack_code.specs.Sizes.{args_size, arms_size, bounds_size, cases_size, else_size, expr_size, pieces_size, place_size, stmt_size, stmts_size, values_size}
 use Rattle.stack_code.specs.StmtLayouts.{arms_code, cases_code, else_code, own_of, pieces_code, stmt_code, stmts_code, values_code}
 use Rattle.stack_code.specs.declared.op.Op.TheVariants as ops
 use Rattle.code_simulation.proofs.Past.{past_args, past_expr, past_place}
-use Rattle.code_simulation.proofs.Spots.{HasAt, moved}
+use Rattle.code_simulation.proofs.Spots.{moved}
 
 pub past_pieces : (code : CodeData) (tree : TypedTree) (routine : TypedRoutine) (labels : List ℕ) (own : Own) (pc : ℕ) (list : List Piece) (ps : List Placed)
-    → HasAt code pc (pieces_code tree routine labels own pc list ps) → HasAt code (pc + pieces_size list) ps
+    → StandsAt code pc (pieces_code tree routine labels own pc list ps) → StandsAt code (pc + pieces_size list) ps
 unfolding pieces_code pieces_size
 past_pieces code tree routine labels own pc [] ps h = moved code pc (pc + 0) ps (omega arith) h
 past_pieces code tree routine labels own pc (OfExpr e ∷ more) ps h =
@@ -40,7 +40,7 @@ past_pieces code tree routine labels own pc (Chooses a b ∷ more) ps h =
     moved code (pc + 1 + 1 + 1 + 1 + pieces_size more) (pc + (4 + pieces_size more)) ps (omega arith) (past_pieces code tree routine labels own (pc + 1 + 1 + 1 + 1) more ps h.1.1.1.1)
 
 pub past_values : (code : CodeData) (tree : TypedTree) (routine : TypedRoutine) (own : Own) (list pc : ℕ) (es : TypedExprs) (ps : List Placed)
-    → HasAt code pc (values_code tree routine own list pc es ps) → HasAt code (pc + values_size es) ps
+    → StandsAt code pc (values_code tree routine own list pc es ps) → StandsAt code (pc + values_size es) ps
 unfolding values_code values_size
 past_values code tree routine own list pc NoExprs ps h = moved code pc (pc + 0) ps (omega arith) h
 past_values code tree routine own list pc (MoreExprs e es) ps h =
@@ -51,13 +51,13 @@ past_values code tree routine own list pc (MoreExprs e es) ps h =
 
 -- a statement without a list of its own
 past_plain : (code : CodeData) (tree : TypedTree) (routine : TypedRoutine) (labels : List ℕ) (own : Own) (pc : ℕ) (list : List Piece) (ps : List Placed)
-    → HasAt code pc (put own ops.Look (pieces_code tree routine labels own (pc + 1) list ps)) → HasAt code (pc + (1 + pieces_size list)) ps
+    → StandsAt code pc (put own ops.Look (pieces_code tree routine labels own (pc + 1) list ps)) → StandsAt code (pc + (1 + pieces_size list)) ps
 past_plain code tree routine labels own pc list ps h =
     moved code (pc + 1 + pieces_size list) (pc + (1 + pieces_size list)) ps (omega arith) (past_pieces code tree routine labels own (pc + 1) list ps h.1)
 
 mutual
   pub past_stmt : (code : CodeData) (tree : TypedTree) (routine : TypedRoutine) (labels : List ℕ) (own : Own) (pc : ℕ) (s : TypedStmt) (ps : List Placed)
-      → HasAt code pc (stmt_code tree routine labels own pc s ps) → HasAt code (pc + stmt_size tree routine s) ps
+      → StandsAt code pc (stmt_code tree routine labels own pc s ps) → StandsAt code (pc + stmt_size tree routine s) ps
   past_stmt code tree routine labels own pc (trees.Label at label) ps h = moved code pc (pc + 0) ps (omega arith) h
   past_stmt code tree routine labels own pc (trees.If at arms other) ps h =
       moved code (pc + 1 + arms_size tree routine arms + else_size tree routine other) (pc + (1 + arms_size tree routine arms + else_size tree routine other)) ps (omega arith)
@@ -94,7 +94,7 @@ mutual
   past_stmt code tree routine labels own pc s ps h = past_plain code tree routine labels own pc (pieces tree routine s) ps h
 
   pub past_stmts : (code : CodeData) (tree : TypedTree) (routine : TypedRoutine) (labels : List ℕ) (pc : ℕ) (list : TypedStmts) (ps : List Placed)
-      → HasAt code pc (stmts_code tree routine labels pc list ps) → HasAt code (pc + stmts_size tree routine list) ps
+      → StandsAt code pc (stmts_code tree routine labels pc list ps) → StandsAt code (pc + stmts_size tree routine list) ps
   past_stmts code tree routine labels pc NoStmts ps h = moved code pc (pc + 0) ps (omega arith) h
   past_stmts code tree routine labels pc (MoreStmts s more) ps h =
       moved code (pc + stmt_size tree routine s + stmts_size tree routine more) (pc + (stmt_size tree routine s + stmts_size tree routine more)) ps (omega arith)
@@ -102,7 +102,7 @@ mutual
       (past_stmt code tree routine labels (own_of tree routine pc s) pc s (stmts_code tree routine labels (pc + stmt_size tree routine s) more ps) h))
 
   pub past_arms : (code : CodeData) (tree : TypedTree) (routine : TypedRoutine) (labels : List ℕ) (own : Own) (pc : ℕ) (arms : TypedArms) (ps : List Placed)
-      → HasAt code pc (arms_code tree routine labels own pc arms ps) → HasAt code (pc + arms_size tree routine arms) ps
+      → StandsAt code pc (arms_code tree routine labels own pc arms ps) → StandsAt code (pc + arms_size tree routine arms) ps
   past_arms code tree routine labels own pc NoArms ps h = moved code pc (pc + 0) ps (omega arith) h
   past_arms code tree routine labels own pc (MoreArms e list more) ps h =
       moved code (pc + expr_size e + 1 + stmts_size tree routine list + 1 + arms_size tree routine more)
@@ -115,7 +115,7 @@ mutual
       (put own (ops.Jump own.next) (arms_code tree routine labels own (pc + expr_size e + 1 + stmts_size tree routine list + 1) more ps)))) h).1).1)
 
   pub past_cases : (code : CodeData) (tree : TypedTree) (routine : TypedRoutine) (labels : List ℕ) (own : Own) (pc : ℕ) (cases : TypedCases) (ps : List Placed)
-      → HasAt code pc (cases_code tree routine labels own pc cases ps) → HasAt code (pc + cases_size tree routine cases) ps
+      → StandsAt code pc (cases_code tree routine labels own pc cases ps) → StandsAt code (pc + cases_size tree routine cases) ps
   past_cases code tree routine labels own pc NoCases ps h = moved code pc (pc + 0) ps (omega arith) h
   past_cases code tree routine labels own pc (MoreCases es list more) ps h =
       moved code (pc + values_size es + 1 + 1 + stmts_size tree routine list + 1 + cases_size tree routine more)
@@ -129,6 +129,6 @@ mutual
       (cases_code tree routine labels own (pc + values_size es + 1 + 1 + stmts_size tree routine list + 1) more ps))))) h).1.1).1)
 
   pub past_else : (code : CodeData) (tree : TypedTree) (routine : TypedRoutine) (labels : List ℕ) (pc : ℕ) (other : TypedElse) (ps : List Placed)
-      → HasAt code pc (else_code tree routine labels pc other ps) → HasAt code (pc + else_size tree routine other) ps
+      → StandsAt code pc (else_code tree routine labels pc other ps) → StandsAt code (pc + else_size tree routine other) ps
   past_else code tree routine labels pc NoElse ps h = moved code pc (pc + 0) ps (omega arith) h
   past_else code tree routine labels pc (Else list) ps h = past_stmts code tree routine labels pc list ps h

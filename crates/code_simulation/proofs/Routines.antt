@@ -23,7 +23,7 @@ use Rattle.stack_code.specs.Compiled.{counted, end_op, own_end, part_code, part_
 use Rattle.stack_code.specs.Confs.{Saved, begun, conf}
 use Rattle.stack_code.specs.Entering.{enter, entered, frame_in}
 use Rattle.stack_code.specs.ExprLayouts.{put}
-use Rattle.stack_code.specs.Placed.{placed_at}
+use Rattle.stack_code.specs.Placed.{placed_at, StandsAt}
 use Rattle.stack_code.specs.Raising.{back_to, raised_to}
 use Rattle.stack_code.specs.Sizes.{stmts_size}
 use Rattle.stack_code.specs.declared.routine_row.RoutineRow.{RoutineRow}
@@ -39,7 +39,7 @@ use Rattle.code_simulation.proofs.Lists.{rest_sim}
 use Rattle.code_simulation.proofs.PastStmts.{past_stmts}
 use Rattle.code_simulation.proofs.Same.{IsCalm, sim_calm}
 use Rattle.code_simulation.proofs.Sim.{Sim, Target, sim_after, sim_ends, sim_from, sim_gives, sim_misfit, sim_raises, sim_reads, sim_to}
-use Rattle.code_simulation.proofs.Spots.{HasAt, Spot, sim_op}
+use Rattle.code_simulation.proofs.Spots.{Spot, sim_op}
 
 -- data of a routine
 
@@ -144,14 +144,14 @@ stands_in tree t number routine found saved (Some list) e = (
   refl,
   record {
     behind = found.behind;
-    code = subst (λ (p : Option TypedStmts). HasAt t.code (part_start tree routine found.entry) (part_code tree routine (routine_labels tree routine found.entry) (part_start tree routine found.entry) p found.behind)) e behind_list;
+    code = subst (λ (p : Option TypedStmts). StandsAt t.code (part_start tree routine found.entry) (part_code tree routine (routine_labels tree routine found.entry) (part_start tree routine found.entry) p found.behind)) e behind_list;
     calls = part_calls tree list routine.handler e found.orderly.part;
     labels = subst (λ (p : Option TypedStmts). PartLabels tree routine (routine_labels tree routine found.entry) (part_start tree routine found.entry) p) e (labels_of tree routine found.entry found.orderly).1;
     room = let room = found.room in let need = ap (λ (p : Option TypedStmts). part_need tree routine p) e in omega (arith, room, need);
   },
 )
   where
-    behind_list : HasAt t.code (part_start tree routine found.entry) (part_code tree routine (routine_labels tree routine found.entry) (part_start tree routine found.entry) routine.handler found.behind)
+    behind_list : StandsAt t.code (part_start tree routine found.entry) (part_code tree routine (routine_labels tree routine found.entry) (part_start tree routine found.entry) routine.handler found.behind)
     behind_list =
         (past_stmts t.code tree routine (routine_labels tree routine found.entry) found.entry routine.list
         (put (own_end routine (found.entry + stmts_size tree routine routine.list)) (end_op routine.kind) (part_code tree routine (routine_labels tree routine found.entry) (part_start tree routine found.entry) routine.handler found.behind))

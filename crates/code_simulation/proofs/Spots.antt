@@ -1,6 +1,5 @@
 -- Where code stands in a routine: its operations from a place on, and what one of them does.
-use Rattle.std.proofs.Common.{◌≡◌, sym, subst, ℕ, ◌+◌, ◌≤◌, List, [], ◌∷◌, length, Option, Some}
-use Rattle.std.specs.Prelude.{⊤}
+use Rattle.std.proofs.Common.{◌≡◌, sym, ap, ◌∙◌, subst, ℕ, suc, ◌+◌, ◌≤◌, List, [], ◌∷◌, length, Option, Some, slice_get, arith}
 use Rattle.std.proofs.lemmas.Bool.{le-leb}
 use Rattle.typed_trees.specs.Plain.{TypedRoutine, TypedTree}
 use Rattle.typed_trees.specs.declared.datum.Datum.{Datum}
@@ -8,19 +7,22 @@ use Rattle.rapid_meaning.specs.Answering.{Run}
 use Rattle.rapid_meaning.specs.Doings.{Doing, Gives}
 use Rattle.stack_code.specs.CodeData.{CodeData}
 use Rattle.stack_code.specs.Confs.{Conf, Running, Saved, conf}
-use Rattle.stack_code.specs.Placed.{Own, Placed, placed_at}
+use Rattle.stack_code.specs.Placed.{Own, Placed, placed_at, StandsAt}
 use Rattle.stack_code.specs.Raising.{raised}
 use Rattle.stack_code.specs.Steps.{Here, act, act_at}
 use Rattle.stack_code.specs.declared.op.Op.{Op}
 use Rattle.code_simulation.proofs.Sim.{Sim, Target, sim_step}
 
--- these operations stand from a place on
-abbrev pub HasAt : CodeData → ℕ → List Placed → Type 0
-HasAt code pc [] = ⊤
-HasAt code pc (p ∷ ps) = (placed_at code pc ≡ Some p) × HasAt code (pc + 1) ps
+-- operations that stand from a place on, one by one
+pub each_stands : (code : CodeData) (base : ℕ) (ps : List Placed) → ((k : ℕ) → placed_at code (base + k) ≡ slice_get ps k) → StandsAt code base ps
+each_stands code base [] each = tt
+each_stands code base (p ∷ ps) each = (
+  ap (λ (n : ℕ). placed_at code n) (omega arith) ∙ each 0,
+  each_stands code (base + 1) ps (λ k. ap (λ (n : ℕ). placed_at code n) (omega arith) ∙ each (suc k)),
+)
 
-pub moved : (code : CodeData) (a b : ℕ) (ps : List Placed) → a ≡ b → HasAt code a ps → HasAt code b ps
-moved code a b ps e h = subst (λ (x : ℕ). HasAt code x ps) e h
+pub moved : (code : CodeData) (a b : ℕ) (ps : List Placed) → a ≡ b → StandsAt code a ps → StandsAt code b ps
+moved code a b ps e h = subst (λ (x : ℕ). StandsAt code x ps) e h
 
 -- Code of a routine of a tree, and how the parts of the tree are done: the routine, the statement whose operations stand here, the
 -- frame, and what stands below it.
@@ -46,7 +48,7 @@ failing s error = raised s.target.code s.own s.frame s.saved error
 
 -- a place that holds these operations
 abbrev pub Holds : Spot → ℕ → List Placed → Type 0
-Holds s pc ps = HasAt s.target.code pc ps
+Holds s pc ps = StandsAt s.target.code pc ps
 
 -- so many operands have room
 abbrev pub Fits : Spot → ℕ → Type 0

@@ -16,7 +16,7 @@ use Rattle.stack_code.specs.Confs.{Conf}
 use Rattle.stack_code.specs.ExprLayouts.{put}
 use Rattle.stack_code.specs.Needs.{pieces_need, stmts_need}
 use Rattle.stack_code.specs.Pieces.{bounds_pieces}
-use Rattle.stack_code.specs.Placed.{Own, Placed, beside, owner_at, placed_at}
+use Rattle.stack_code.specs.Placed.{Own, Placed, beside, owner_at, placed_at, StandsAt}
 use Rattle.stack_code.specs.Sizes.{bounds_size, stmt_size, stmts_size}
 use Rattle.stack_code.specs.Steps.{counter_at, past_turn, set_counter_at, stepped}
 use Rattle.stack_code.specs.StmtLayouts.{own_of, stmts_code}
@@ -35,12 +35,12 @@ use Rattle.code_simulation.proofs.PastStmts.{past_pieces, past_stmts}
 use Rattle.code_simulation.proofs.Rooms.{second_room}
 use Rattle.code_simulation.proofs.Same.{sim_calm}
 use Rattle.code_simulation.proofs.Sim.{Sim, Target, after_after, sim_from, sim_gives, sim_to}
-use Rattle.code_simulation.proofs.Spots.{HasAt, here, sim_op}
+use Rattle.code_simulation.proofs.Spots.{here, sim_op}
 
 -- the code behind the bounds: the Turn, its Look, the list, and the Step
 abbrev pub ForCode : Target → TypedTree → Body → ℕ → ℕ → ℕ → TypedExpr → TypedExpr → Option TypedExpr → TypedStmts → List Placed → Type 0
 ForCode t tree b pc at local first last step list behind =
-    HasAt t.code (pc + 1 + bounds_size b.stands.routine local first last step)
+    StandsAt t.code (pc + 1 + bounds_size b.stands.routine local first last step)
     (put (own_of tree b.stands.routine pc (trees.For at local first last step list)) (ops.Turn (local_start b.stands.routine local) (pc + stmt_size tree b.stands.routine (trees.For at local first last step list)))
     (put (own_of tree b.stands.routine pc (trees.For at local first last step list)) ops.Look
     (stmts_code tree b.stands.routine b.labels (pc + 1 + bounds_size b.stands.routine local first last step + 1 + 1) list

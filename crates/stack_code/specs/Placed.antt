@@ -1,5 +1,5 @@
 -- Operations beside the statements that own them.
-use Rattle.std.specs.Prelude.{ℕ, nat_lt, List, [], ◌∷◌, Option, None, Some, if◌then◌else◌, slice_get}
+use Rattle.std.specs.Prelude.{◌≡◌, ℕ, ◌+◌, nat_lt, List, [], ◌∷◌, Option, None, Some, if◌then◌else◌, slice_get, ⊤}
 use Rattle.std.specs.Option.{option_and_then, option_map}
 use Rattle.rapid_meaning.specs.Data.{At}
 use Rattle.stack_code.specs.CodeData.{CodeData}
@@ -31,3 +31,8 @@ beside owner op = record { own = own_of owner; op = op }
 -- the operation at a place
 abbrev pub placed_at : CodeData → ℕ → Option Placed
 placed_at code pc = option_and_then (λ op. option_map (λ owner. beside owner op) (owner_at code.owners pc)) (slice_get code.ops pc)
+
+-- these operations, each its statement's, stand from a place on
+abbrev pub StandsAt : CodeData → ℕ → List Placed → Type 0
+StandsAt code pc [] = ⊤
+StandsAt code pc (p ∷ ps) = (placed_at code pc ≡ Some p) × StandsAt code (pc + 1) ps
