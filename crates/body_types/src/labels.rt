@@ -4,7 +4,7 @@ ghost use Rattle.std.specs.Prelude.{◌≡◌, ◌++◌, not, Ok};
 ghost use Rattle.raw_trees.specs.Plain.{stmts_of, MoreStmts, NoStmts};
 ghost use Rattle.raw_trees.specs.Views.{view_list, view_stmt};
 ghost use Rattle.rule_checks.specs.TypeChecks.{Gives};
-ghost use Rattle.named_data.specs.Data.{is_none};
+ghost use Rattle.named_data.specs.Data.{is_empty};
 ghost use Rattle.body_types.specs.Labels;
 ghost use Rattle.body_types.specs.Labels.{labels_around};
 
@@ -26,14 +26,14 @@ pub(crate) fn is_visible(text: &[u8], levels: &[&LabelList<'_>]) -> bool
 }
 
 fn is_label(stmt: &RawStmt<'_>) -> bool
-    ensures { result ≡ not (is_none (Labels.own_labels (MoreStmts (view_stmt stmt.now) NoStmts))) }
+    ensures { result ≡ not (is_empty (Labels.own_labels (MoreStmts (view_stmt stmt.now) NoStmts))) }
 {
     matches!(stmt.form, RawForm::Label(_))
 }
 
 /// Whether a label stands in a list itself.
 pub(crate) fn has_labels(list: &Vec<RawStmt<'_>>) -> bool
-    ensures { result ≡ not (is_none (Labels.own_labels (stmts_of (view_list list.now)))) }
+    ensures { result ≡ not (is_empty (Labels.own_labels (stmts_of (view_list list.now)))) }
 {
     for stmt in list {
         if is_label(stmt) {

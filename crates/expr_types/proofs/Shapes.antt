@@ -30,7 +30,7 @@ use Rattle.data_scopes.specs.Rows.{begin_of}
 use Rattle.rapid_model.specs.Sorts.{has_values}
 use Rattle.named_data.specs.declared.wanted.Wanted.{Wanted}
 use Rattle.named_data.specs.declared.wanted.Wanted.TheVariants.{Any, Nothing}
-use Rattle.named_data.specs.Data.{NamedPart, given, named, is_none}
+use Rattle.named_data.specs.Data.{NamedPart, given, named, is_empty}
 use Rattle.named_data.specs.Rules.{Site, fail}
 use Rattle.named_data.specs.Wants.{first_operand, needed_components, same_sort}
 use Rattle.expr_types.specs.Arguments.{any_place, argument, bare, is_held, is_whole, lent, lent_as, lent_of, lent_whole, meeting, meeting_meant, pers_name, reference, referred, signal, signal_meant, whole_array}
@@ -97,14 +97,14 @@ pub array_in : (site : Site) (e : PlainExpr) →
     whole_array site has_values e (typed site e) (index_in site e) ≡ (place_in site true Nothing TypeClash e >>= (λ p. lent_whole site needs.Array (begin_of e) (is_whole e) p))
 unfolding index_in
 array_in site (Place at (PlaceOf name held components)) =
-    lent_both site at (not (is_held held)) (is_none components) has_values (Places.place site true (PlaceOf name held components))
+    lent_both site at (not (is_held held)) (is_empty components) has_values (Places.place site true (PlaceOf name held components))
 array_in site e = never (typed site e Nothing) (record { «module» = site.spot.«module»; at = begin_of e; rule = TypeClash }) (λ p. lent_whole site needs.Array (begin_of e) false p)
 
 pub task_list_in : (site : Site) (e : PlainExpr) →
     whole_array site (same_sort sorts.Tasks) e (typed site e) (index_in site e) ≡ (place_in site true Nothing TypeClash e >>= (λ p. lent_whole site needs.TaskList (begin_of e) (is_whole e) p))
 unfolding index_in
 task_list_in site (Place at (PlaceOf name held components)) =
-    lent_both site at (not (is_held held)) (is_none components) (same_sort sorts.Tasks) (Places.place site true (PlaceOf name held components))
+    lent_both site at (not (is_held held)) (is_empty components) (same_sort sorts.Tasks) (Places.place site true (PlaceOf name held components))
 task_list_in site e = never (typed site e Nothing) (record { «module» = site.spot.«module»; at = begin_of e; rule = TypeClash }) (λ p. lent_whole site needs.TaskList (begin_of e) false p)
 
 -- by the name that an expression is, if it is one

@@ -34,7 +34,7 @@ use Rattle.named_data.specs.declared.wanted.Wanted.{Wanted}
 use Rattle.named_data.specs.declared.wanted.Wanted.TheVariants.{Is, Nothing, Reference, ReferenceTo, Meeting}
 use Rattle.named_data.specs.Rules.{Site, fail, at_byte}
 use Rattle.named_data.specs.Wants.{same_sort}
-use Rattle.named_data.specs.Data.{NamedPart, named, datum_at, place, part_at, whole_of, is_none}
+use Rattle.named_data.specs.Data.{NamedPart, named, datum_at, place, part_at, whole_of, is_empty}
 
 abbrev pub is_held : PlainHeld → Bool
 is_held NotHeld = false
@@ -42,7 +42,7 @@ is_held (Held e) = true
 
 -- neither an index nor components
 abbrev pub is_whole : PlainExpr → Bool
-is_whole (Place at (PlaceOf name held components)) = not (is_held held) && is_none components
+is_whole (Place at (PlaceOf name held components)) = not (is_held held) && is_empty components
 is_whole e = false
 
 -- a name of this spelling alone
@@ -148,7 +148,7 @@ any_place site sort e value index = value Nothing >>= (λ t. fail site (begin_of
 abbrev pub whole_array : Site → (Sort → Bool) → PlainExpr → (Wanted → Checked TypedExpr) → Checked TypedHeld → Checked TypedArg
 whole_array site of_sort (Place at (PlaceOf name held components)) value index =
     place site true name (is_held held) index components >>= (λ p.
-    lent site (p.array && not (is_held held) && is_none components && of_sort p.sort) at TypeClash p p.source)
+    lent site (p.array && not (is_held held) && is_empty components && of_sort p.sort) at TypeClash p p.source)
 whole_array site of_sort e value index = value Nothing >>= (λ t. fail site (begin_of e) TypeClash)
 
 abbrev pub is_one : Option ℤ → Bool
@@ -209,7 +209,7 @@ whole_pers site bare at sort _ = fail site at BadRef
 abbrev pub pers_name : Site → PlainExpr → (Wanted → Checked TypedExpr) → Checked TypedHeld → Checked TypedArg
 pers_name site (Place at (PlaceOf name held components)) value index =
     datum_at site name >>= (λ d. index >>= (λ i. part_at site (whole_of d.sort) components >>= (λ c.
-    whole_pers site (not (is_held held) && is_none components) at d.sort d.source)))
+    whole_pers site (not (is_held held) && is_empty components) at d.sort d.source)))
 pers_name site e value index = value Reference >>= (λ t. fail site (begin_of e) BadRef)
 
 abbrev pub argument : Site → Need → PlainExpr → (Wanted → Checked TypedExpr) → Checked TypedHeld → Checked TypedArg

@@ -12,7 +12,7 @@ use Rattle.data_scopes.specs.Rows.{begin_of}
 use Rattle.named_data.specs.declared.wanted.Wanted.{Wanted}
 use Rattle.named_data.specs.declared.wanted.Wanted.TheVariants.{Reference, Meeting}
 use Rattle.named_data.specs.Data
-use Rattle.named_data.specs.Data.{NamedPart, named, datum_at, part_at, whole_of, is_none}
+use Rattle.named_data.specs.Data.{NamedPart, named, datum_at, part_at, whole_of, is_empty}
 use Rattle.named_data.specs.declared.named.Source.{Source}
 use Rattle.named_data.specs.declared.named.Source.TheVariants as sources
 use Rattle.named_data.specs.Rules.{Site, fail, at_byte}
@@ -25,7 +25,7 @@ index_of (PlaceOf name held components) = held
 
 -- neither an index nor components
 abbrev pub is_datum : PlainPlace → Bool
-is_datum (PlaceOf name held components) = not (is_held held) && is_none components
+is_datum (PlaceOf name held components) = not (is_held held) && is_empty components
 
 -- what a place names; the whole of an array may be named where whole holds
 abbrev pub place : Site → Bool → PlainPlace → Checked NamedPart
@@ -63,7 +63,7 @@ no_meeting site e = typed site e Meeting >>= (λ t. fail site (begin_of e) SyncN
 abbrev pub pers_at : Site → ℕ → PlainPlace → Checked TypedArg
 pers_at site at (PlaceOf name held components) =
     datum_at site name >>= (λ d. index site held >>= (λ i. part_at site (whole_of d.sort) components >>= (λ c.
-    whole_pers site (not (is_held held) && is_none components) at d.sort d.source)))
+    whole_pers site (not (is_held held) && is_empty components) at d.sort d.source)))
 
 abbrev pub pers_name : Site → PlainExpr → Checked TypedArg
 pers_name site (Place at p) = pers_at site at p

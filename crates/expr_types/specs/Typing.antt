@@ -23,7 +23,7 @@ use Rattle.named_data.specs.declared.wanted.Wanted.TheVariants.{Any, Is, Same, M
 use Rattle.named_data.specs.Rules.{Site, fail, at_byte}
 use Rattle.named_data.specs.Wants.{fits, clash, untyped, inside, hands_on, needed_components, needed_sort, of_component, first_operand, suits, comes_to}
 use Rattle.rapid_model.specs.Sorts.{has_values}
-use Rattle.named_data.specs.Data.{NamedPart, given, place_value, value_from, is_none}
+use Rattle.named_data.specs.Data.{NamedPart, given, place_value, value_from, is_empty}
 use Rattle.expr_types.specs.Arguments.{is_held}
 use Rattle.expr_types.specs.Calls.{Called, Signature, Taking, taking, function_at, count_rules, call_rules, needed, plain_option, valued_option, after}
 
@@ -69,7 +69,7 @@ count (MoreExprs e es) = suc (count es)
 -- brackets have a type, and as many values as it has components
 abbrev pub aggregate : Site → Wanted → ℕ → PlainExprs → TypedExprs → Checked TypedExpr
 aggregate site want at es ts =
-    must (not (is_none (needed_components want))) (at_byte site at (untyped want)) >>= (λ _.
+    must (not (is_empty (needed_components want))) (at_byte site at (untyped want)) >>= (λ _.
     must (count es == length (needed_components want)) (at_byte site at DimRange) >>= (λ _.
     Ok (Plain.Aggregate at (needed_sort want) ts)))
 

@@ -88,7 +88,7 @@ fn components_in(want: Wanted) -> usize
 
 /// Whether brackets have a type.
 fn is_record(want: Wanted) -> bool
-    ensures { result ≡ not (Data.is_none (Wants.needed_components want)) }
+    ensures { result ≡ not (Data.is_empty (Wants.needed_components want)) }
 {
     !needed_sorts(want).is_empty()
 }

@@ -135,9 +135,10 @@ pub record NamedPart : Type 0 where
   pub part : PartName
   pub sort : Sort
 
-abbrev pub is_none : {A : Type 0} → List A → Bool
-is_none [] = true
-is_none (x ∷ xs) = false
+-- there are none of them
+abbrev pub is_empty : {A : Type 0} → List A → Bool
+is_empty [] = true
+is_empty (x ∷ xs) = false
 
 -- A place: its name, its index where it is indexed, its components. An array has an index unless the whole may be named.
 abbrev pub place : Site → Bool → PlainName → Bool → Checked TypedHeld → List PlainName → Checked NamedPart

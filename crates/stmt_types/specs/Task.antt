@@ -19,6 +19,7 @@ use Rattle.data_scopes.specs.Naming.{names_of}
 use Rattle.data_scopes.specs.Scopes.{Names, list_at}
 use Rattle.named_data.specs.Rules.{Site, fail, at_byte}
 use Rattle.named_data.specs.Wants.{same_sort}
+use Rattle.named_data.specs.Data.{is_empty}
 use Rattle.decl_types.specs.Data.{Progress, beginning, data_of}
 use Rattle.body_types.specs.Bodies.{Body, Typed, outside, stmts, into}
 use Rattle.body_types.specs.Labels.{labels_in_routine}
@@ -76,10 +77,6 @@ abbrev pub is_procedure : RoutineKind → Bool
 is_procedure kinds.Proc = true
 is_procedure kinds.Func = false
 is_procedure kinds.Trap = false
-
-abbrev pub is_empty : {A : Type 0} → List A → Bool
-is_empty [] = true
-is_empty (x ∷ xs) = false
 
 -- the procedure main: it is not LOCAL and has no parameters
 abbrev pub is_main : PlainRoutine → Bool

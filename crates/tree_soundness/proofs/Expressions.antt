@@ -8,7 +8,7 @@ use Rattle.rapid_builtins.specs.Calls.{option_named}
 use Rattle.typed_trees.specs.Plain.{TypedArg, TypedArgs, TypedExpr, TypedExprs, TypedHeld, TypedSteps}
 use Rattle.named_data.specs.declared.wanted.Wanted.{Wanted}
 use Rattle.named_data.specs.declared.wanted.Wanted.TheVariants.{Brackets, Is, Same, ReferenceTo}
-use Rattle.named_data.specs.Data.{NamedPart, is_none, value_from, whole_of}
+use Rattle.named_data.specs.Data.{NamedPart, is_empty, value_from, whole_of}
 use Rattle.named_data.specs.Rules.{Site}
 use Rattle.named_data.specs.Wants.{comes_to, first_operand, inside, needed_components, needed_sort}
 use Rattle.expr_types.specs.Arguments.{is_held}
@@ -33,7 +33,7 @@ brackets_of (Brackets sort) = refl
 brackets_of (ReferenceTo sort) = refl
 brackets_of _ = refl
 
-some_components : (cs : List Component) → is_none cs ≡ false → 1 ≤ length cs
+some_components : (cs : List Component) → is_empty cs ≡ false → 1 ≤ length cs
 some_components [] e = absurd cc
 some_components (c ∷ cs) e = omega arith
 

@@ -7,7 +7,7 @@ use Rattle.rapid_model.specs.declared.sort.Sort.TheVariants as sorts
 use Rattle.named_data.specs.declared.wanted.Wanted.{Wanted}
 use Rattle.named_data.specs.declared.wanted.Wanted.TheVariants.{Any, Brackets, Is, Same, Fits, Nothing, Reference, ReferenceTo, Meeting}
 use Rattle.named_data.specs.Wants.{comes_to, fits, hands_on, inside, needed_components, needed_sort, suits}
-use Rattle.named_data.specs.Data.{is_none}
+use Rattle.named_data.specs.Data.{is_empty}
 use Rattle.cell_assembly.proofs.SoundInfo.{same_sort_is}
 use Rattle.task_typing.specs.Operations.{Operates}
 
@@ -38,7 +38,7 @@ wanted_inside (ReferenceTo wanted) sort h = tt
 wanted_inside Meeting sort h = tt
 
 -- brackets are of the type that is wanted
-pub wanted_brackets : (want : Wanted) → is_none (needed_components want) ≡ false → IsWanted want (needed_sort want)
+pub wanted_brackets : (want : Wanted) → is_empty (needed_components want) ≡ false → IsWanted want (needed_sort want)
 wanted_brackets (Is wanted) e = refl
 wanted_brackets (Same wanted) e = absurd cc
 wanted_brackets (Fits operator) e = absurd cc

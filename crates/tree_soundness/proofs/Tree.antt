@@ -24,10 +24,11 @@ use Rattle.data_scopes.specs.Numbers.{tables_of}
 use Rattle.data_scopes.specs.Rows.{no_rows}
 use Rattle.data_scopes.specs.Meetings.{meetings_before}
 use Rattle.data_scopes.specs.Scopes.{Names, Rows, Tables, list_at, meaning}
+use Rattle.named_data.specs.Data.{is_empty}
 use Rattle.decl_types.specs.Data.{Inner, Progress, beginning}
 use Rattle.body_types.specs.Bodies as bodies
 use Rattle.body_types.specs.Bodies.{Body, into, outside}
-use Rattle.stmt_types.specs.Task.{body_of, is_empty, is_main, is_procedure, routines_of, task_of, typed_params}
+use Rattle.stmt_types.specs.Task.{body_of, is_main, is_procedure, routines_of, task_of, typed_params}
 use Rattle.stmt_types.proofs.Sound.{task_sound}
 use Rattle.typing_rules.specs.Statements.{AreStmts as AreTypedStmts}
 use Rattle.typing_rules.specs.Tasks.{IsHandler as IsTypedHandler, IsRoutine as IsTypedRoutine, IsTyped}

@@ -30,7 +30,7 @@ use Rattle.named_data.specs.declared.wanted.Wanted.{Wanted}
 use Rattle.named_data.specs.declared.wanted.Wanted.TheVariants.{Is, Nothing, Reference, Meeting}
 use Rattle.named_data.specs.Rules.{Site, at_byte}
 use Rattle.named_data.specs.Wants.{same_sort}
-use Rattle.named_data.specs.Data.{NamedPart, named, datum_at, part_at, whole_of, place, is_none}
+use Rattle.named_data.specs.Data.{NamedPart, named, datum_at, part_at, whole_of, place, is_empty}
 use Rattle.expr_types.specs.Arguments.{is_held, is_bare, lends, takes, is_written, is_fixed, access_in, lent, referred, reference, any_place, whole_array, one_dimension, itself, has_direction, signal_meant, signal, meeting_meant, parts_known, meeting, whole_pers, pers_name, argument}
 use Rattle.typing_rules.specs.Calls.{Values, Indexes, Stands, IsLent, IsPlaceArg, IsReference, IsWhole, IsSignal, IsMeeting, IsPersName, IsValueArg, IsItself, IsArgument}
 use Rattle.typing_rules.proofs.Steps.{in_words, neither, done, never, then, never_after, where_it_holds}
@@ -113,10 +113,10 @@ fits_part true true bare sort fails = ap (λ b. b && sort) fails
 fits_part true false bare sort fails = refl
 fits_part false unindexed bare sort fails = refl
 
-never_whole : (s : Site) (of_sort : Sort → Bool) (at : ℕ) (found : Checked NamedPart) (held : PlainHeld) (components : List PlainName) (arg : TypedArg) → (not (is_held held) && is_none components) ≡ false
-    → ((found >>= (λ p. lent s (p.array && not (is_held held) && is_none components && of_sort p.sort) at TypeClash p p.source)) ≡ Ok arg) ↔ ⊥
+never_whole : (s : Site) (of_sort : Sort → Bool) (at : ℕ) (found : Checked NamedPart) (held : PlainHeld) (components : List PlainName) (arg : TypedArg) → (not (is_held held) && is_empty components) ≡ false
+    → ((found >>= (λ p. lent s (p.array && not (is_held held) && is_empty components && of_sort p.sort) at TypeClash p p.source)) ≡ Ok arg) ↔ ⊥
 never_whole s of_sort at found held components arg fails =
-    never_after found _ arg (λ p. never_lent s _ at TypeClash p p.source arg (fits_part p.array (not (is_held held)) (is_none components) (of_sort p.sort) fails))
+    never_after found _ arg (λ p. never_lent s _ at TypeClash p p.source arg (fits_part p.array (not (is_held held)) (is_empty components) (of_sort p.sort) fails))
 
 whole_law : {value : Wanted → Checked TypedExpr} {index : Checked TypedHeld} {IsValue : Values} {IsIndexed : Indexes} (s : Site) (of_sort : Sort → Bool) (e : PlainExpr) (arg : TypedArg)
     → PartsAre e value index IsValue IsIndexed → (whole_array s of_sort e value index ≡ Ok arg) ↔ IsWhole s of_sort e IsIndexed arg

@@ -18,7 +18,7 @@ use Rattle.named_data.specs.declared.wanted.Wanted.{Wanted}
 use Rattle.named_data.specs.declared.wanted.Wanted.TheVariants.{Any, Brackets, Is, Same, Fits, Nothing, Reference, ReferenceTo, Meeting}
 use Rattle.named_data.specs.Rules.{Site, at_byte}
 use Rattle.named_data.specs.Wants.{fits, clash, untyped, inside, hands_on, needed_components, needed_sort, of_component, first_operand, suits, comes_to}
-use Rattle.named_data.specs.Data.{NamedPart, given, place_value, value_from, is_none}
+use Rattle.named_data.specs.Data.{NamedPart, given, place_value, value_from, is_empty}
 use Rattle.expr_types.specs.Arguments.{is_held}
 use Rattle.expr_types.specs.Calls.{Called, Taking, taking, function_at, count_rules, call_rules, after}
 use Rattle.expr_types.specs.Typing.{TypedRest, number_of, text_of, sort_of, count, aggregate, invoked, call, group, typed, elements, steps, index, index_in, arguments, one_argument}
@@ -51,9 +51,9 @@ group_law s want at part t law =
 
 aggregate_law : {AreParts : TypedExprs → Type 0} (s : Site) (want : Wanted) (at : ℕ) (es : PlainExprs) (parts : Checked TypedExprs) (t : TypedExpr) → ((us : TypedExprs) → (parts ≡ Ok us) ↔ AreParts us)
     → ((parts >>= (λ us. aggregate s want at es us)) ≡ Ok t)
-    ↔ ((us : TypedExprs) × AreParts us × (is_none (needed_components want) ≡ false) × (count es ≡ length (needed_components want)) × (t ≡ Plain.Aggregate at (needed_sort want) us))
+    ↔ ((us : TypedExprs) × AreParts us × (is_empty (needed_components want) ≡ false) × (count es ≡ length (needed_components want)) × (t ≡ Plain.Aggregate at (needed_sort want) us))
 aggregate_law s want at es parts t law =
-    let untold : Bool = is_none (needed_components want) in
+    let untold : Bool = is_empty (needed_components want) in
     let wanted : ℕ = length (needed_components want) in
     in_words
     (then parts _ t law (λ us.

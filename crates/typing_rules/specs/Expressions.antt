@@ -14,7 +14,7 @@ use Rattle.named_data.specs.declared.wanted.Wanted.{Wanted}
 use Rattle.named_data.specs.declared.wanted.Wanted.TheVariants.{Is, Same}
 use Rattle.named_data.specs.Rules.{Site}
 use Rattle.named_data.specs.Wants.{fits, inside, hands_on, needed_components, needed_sort, of_component, first_operand, suits, comes_to}
-use Rattle.named_data.specs.Data.{NamedPart, value_from, is_none}
+use Rattle.named_data.specs.Data.{NamedPart, value_from, is_empty}
 use Rattle.expr_types.specs.Arguments.{is_held}
 use Rattle.expr_types.specs.Calls.{Called, Taking, taking, after}
 use Rattle.expr_types.specs.Typing.{number_of, text_of, sort_of, count, invoked}
@@ -32,7 +32,7 @@ unfoldable mutual
   IsExpr s (Truth at b) want t = (fits want sorts.Bool ≡ true) × (t ≡ Plain.Known at sorts.Bool (values.Bool b))
   IsExpr s (Group at e) want t = (u : TypedExpr) × IsExpr s e (inside want) u × (hands_on want ≡ true) × (t ≡ Plain.Group at (sort_of u) u)
   IsExpr s (Aggregate at es) want t =
-      (us : TypedExprs) × AreElements s es (needed_components want) us × (is_none (needed_components want) ≡ false)
+      (us : TypedExprs) × AreElements s es (needed_components want) us × (is_empty (needed_components want) ≡ false)
       × (count es ≡ length (needed_components want)) × (t ≡ Plain.Aggregate at (needed_sort want) us)
   IsExpr s (Invoke at name args) want t =
       (called : Called) × (us : TypedArgs) × IsFunction s name called × AreArguments s args (taking called.signature) us
