@@ -1,18 +1,18 @@
 -- What the boards tell, in the words of the looks back over a history.
-use Rattle.std.proofs.Common.{◌≡◌, inl, inr, ℕ, zero, suc, ◌+◌, ◌-◌, ◌≤◌, ◌<◌, Bool, true, false, not, ◌||◌, nat_lt, List, [], ◌∷◌, length, get_or, set, map, Option, Some, refl, sym, ◌∙◌, ap, subst, arith}
+use Rattle.std.proofs.Common.{◌≡◌, inl, inr, ℕ, zero, suc, ◌+◌, ◌-◌, ◌≤◌, ◌<◌, Bool, true, false, not, ◌||◌, nat_lt, length, get_or, Option, Some, refl, sym, ◌∙◌, ap, subst, arith}
 use Rattle.std.specs.Prelude.{◌↔◌, IsTrue}
 use Rattle.std.specs.List.{list_all, range_with_len}
-use Rattle.std.specs.Option.{option_and_then, unwrap_or}
+use Rattle.std.specs.Option.{option_and_then}
 use Rattle.std.proofs.lemmas.Bool.{and_parts, cases_eq, ltb-true, lt-ltb, false≢true}
 use Rattle.std.proofs.lemmas.Option.{slice_get-get_or}
 use Rattle.rapid_model.specs.declared.path.Path.{Path}
 use Rattle.rapid_model.specs.declared.value.Value.{Value}
 use Rattle.rapid_model.specs.declared.value.Value.TheVariants as values
 use Rattle.rapid_values.specs.Values.{part_of}
-use Rattle.persist_store.specs.Stores.{PersData, IsPut, element_of as kept_element}
+use Rattle.persist_store.specs.Stores.{PersData, element_of as kept_element}
 use Rattle.sync_tasks.specs.Meetings.{MeetingsData, Meets, stand_at, arrivals, is_listed, come}
 use Rattle.cell_meaning.specs.Meetings.{meets}
-use Rattle.cell_meaning.specs.Stored.{part_put, with_part, value_at}
+use Rattle.cell_meaning.specs.Stored.{value_at}
 use Rattle.cell_meaning.proofs.Lists.{both_so}
 
 -- a test of all numbers from one on
@@ -64,21 +64,3 @@ meets_decides m task meeting tasks = (there, back)
 pub kept_value : (row : PersData) (path : Path) (value : Value) → path.index - 1 < length row.values → part_of (kept_element row path.index) path.part ≡ Some value → value_at row.values path ≡ Some value
 kept_value row path value within is =
     ap (λ (o : Option Value). option_and_then (λ v. part_of v path.part) o) (slice_get-get_or row.values (path.index - 1) (values.Bool false) within) ∙ is
-
--- the elements of each persistent
-abbrev pub elements_of : List PersData → List (List Value)
-elements_of rows = map (λ row. row.values) rows
-
-map-set : (rows : List PersData) (pers : ℕ) (row : PersData) → elements_of (set rows pers row) ≡ set (elements_of rows) pers row.values
-map-set [] pers row = refl
-map-set (r ∷ rows) zero row = refl
-map-set (r ∷ rows) (suc pers) row = ap (λ (rest : List (List Value)). r.values ∷ rest) (map-set rows pers row)
-
--- a value stored at a path is put there
-put_elements : (old new : PersData) (path : Path) (value : Value) → path.index - 1 < length old.values → IsPut old new path value → new.values ≡ with_part old.values path value
-put_elements old new path value within put =
-    let there = slice_get-get_or old.values (path.index - 1) (values.Bool false) within in
-    let made : with_part old.values path value ≡ set old.values (path.index - 1) (kept_element new path.index) =
-    ap (λ (o : Option Value). part_put old.values path value o) there
-    ∙ ap (λ (o : Option Value). set old.values (path.index - 1) (unwrap_or o (kept_element old path.index))) put.part in
-    ap (λ (row : PersData). row.values) put.others ∙ sym made
