@@ -2,18 +2,17 @@
 use Rattle.std.proofs.Common.{◌≡◌, ℕ, ◌+◌, ◌≤◌, List, [], ◌∷◌, length, map, refl, arith}
 use Rattle.std.specs.Option.{unwrap_or}
 use Rattle.rapid_model.specs.declared.function.Function.{Function}
-use Rattle.rapid_model.specs.declared.function.Function.TheVariants as functions
 use Rattle.rapid_meaning.specs.Layouts.{length_at}
 use Rattle.stack_code.specs.ExprLayouts.{args_code, builtin_code, put, signal_code}
-use Rattle.stack_code.specs.Needs.{args_need, builtin_need, expr_need, place_need, signal_need}
+use Rattle.stack_code.specs.Needs.{args_need, builtin_need, signal_need}
 use Rattle.stack_code.specs.Pieces.{push}
 use Rattle.stack_code.specs.Placed.{Own, Placed}
 use Rattle.stack_code.specs.Sizes.{args_size, builtin_size, signal_size}
 use Rattle.stack_code.specs.declared.op.Op.TheVariants as ops
-use Rattle.typed_trees.specs.Plain as trees
-use Rattle.typed_trees.specs.Plain.{TypedArg, TypedArgs, TypedExpr, TypedPlace, TypedRoutine, TypedTree, Given, Lent, OfSignal, OfMeeting, Itself, Optional, PlaceOf, NotHeld, Held, MoreArgs, NoArgs, args_of}
+use Rattle.typed_trees.specs.Plain.{TypedArg, TypedArgs, TypedRoutine, TypedTree, Given, Lent, OfSignal, OfMeeting, Itself, Optional, PlaceOf, MoreArgs, NoArgs, args_of}
 use Rattle.typed_trees.specs.Views.{view_arg}
 use Rattle.typed_trees.specs.declared.expr.Arg.{Arg}
+use Rattle.stack_code.proofs.Needs.{expr_needs, place_needs}
 use Rattle.code_expr.specs.BuiltinForms.{form_of}
 use Rattle.code_expr.specs.declared.builtin_form.BuiltinForm.{BuiltinForm}
 use Rattle.code_expr.specs.declared.builtin_form.BuiltinForm.TheVariants.{Nothing, Values, Signal, Place, Array, Other}
@@ -68,36 +67,6 @@ code_by_form tree routine own pc function (MoreArgs (Lent p) NoArgs) ps = refl
 code_by_form tree routine own pc function (MoreArgs (Lent (PlaceOf root index part sort)) (MoreArgs one NoArgs)) ps = refl
 code_by_form tree routine own pc function other ps = refl
 
--- a value and a place lie on the stack at last
-place_on_stack : (p : TypedPlace) → 1 ≤ place_need p
-place_on_stack (PlaceOf root NotHeld part sort) = omega arith
-place_on_stack (PlaceOf root (Held e) part sort) = omega arith
-
-signal_on_stack : (function : Function) → 1 ≤ signal_need function
-signal_on_stack functions.TestDI = omega arith
-signal_on_stack function = omega arith
-
-mutual
-  value_on_stack : (e : TypedExpr) → 1 ≤ expr_need e
-  value_on_stack (trees.Known at sort v) = omega arith
-  value_on_stack (trees.ErrorNumber at sort) = omega arith
-  value_on_stack (trees.SignalValue at sort signal) = omega arith
-  value_on_stack (trees.Stored at sort p) = place_on_stack p
-  value_on_stack (trees.Group at sort e) = value_on_stack e
-  value_on_stack (trees.Aggregate at sort es) = omega arith
-  value_on_stack (trees.Builtin at sort function args) = result_on_stack function args
-  value_on_stack (trees.Invoke at sort called args) = omega arith
-  value_on_stack (trees.Not at sort e) = value_on_stack e
-  value_on_stack (trees.Signed at sort minus e) = value_on_stack e
-  value_on_stack (trees.Chain at sort e steps) = omega (arith, value_on_stack e)
-
-  result_on_stack : (function : Function) (args : TypedArgs) → 1 ≤ builtin_need function args
-  result_on_stack function (MoreArgs (Given e) NoArgs) = value_on_stack e
-  result_on_stack function (MoreArgs (Given e) (MoreArgs (Given f) NoArgs)) = omega (arith, value_on_stack e)
-  result_on_stack function (MoreArgs (OfSignal signal) NoArgs) = signal_on_stack function
-  result_on_stack function (MoreArgs (Lent p) NoArgs) = place_on_stack p
-  result_on_stack function other = omega arith
-
 -- how many operands a call needs whose arguments need so many
 abbrev pub need_in : Function → BuiltinForm → ℕ → ℕ
 need_in function Values need = need
@@ -107,9 +76,9 @@ need_in function form need = 1
 
 pub need_by_form : (function : Function) (args : TypedArgs) → builtin_need function args ≡ need_in function (form_of args) (args_need args)
 need_by_form function NoArgs = refl
-need_by_form function (MoreArgs (Given e) NoArgs) = omega (arith, value_on_stack e)
-need_by_form function (MoreArgs (Given e) (MoreArgs (Given f) NoArgs)) = omega (arith, value_on_stack f)
+need_by_form function (MoreArgs (Given e) NoArgs) = omega (arith, expr_needs e)
+need_by_form function (MoreArgs (Given e) (MoreArgs (Given f) NoArgs)) = omega (arith, expr_needs f)
 need_by_form function (MoreArgs (OfSignal signal) NoArgs) = refl
-need_by_form function (MoreArgs (Lent p) NoArgs) = omega (arith, place_on_stack p)
+need_by_form function (MoreArgs (Lent p) NoArgs) = omega (arith, place_needs p)
 need_by_form function (MoreArgs (Lent (PlaceOf root index part sort)) (MoreArgs one NoArgs)) = refl
 need_by_form function other = refl

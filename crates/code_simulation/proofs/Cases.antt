@@ -20,6 +20,7 @@ use Rattle.stack_code.specs.Raising.{raised}
 use Rattle.stack_code.specs.Sizes.{cases_size, expr_size, stmt_size, stmts_size, values_size}
 use Rattle.stack_code.specs.StmtLayouts.{cases_code, else_code, own_of, stmts_code, values_code}
 use Rattle.stack_code.specs.declared.op.Op.TheVariants as ops
+use Rattle.stack_code.proofs.Needs.{expr_needs}
 use Rattle.code_simulation.specs.Calls.{CasesCalls, ExprsCalls}
 use Rattle.code_simulation.proofs.Alone.{applied_alone}
 use Rattle.code_simulation.proofs.Arms.{arm_list}
@@ -33,7 +34,7 @@ use Rattle.code_simulation.proofs.Ops.{OpAt}
 use Rattle.code_simulation.proofs.Past.{past_expr}
 use Rattle.code_simulation.proofs.PastStmts.{past_cases, past_stmts, past_values}
 use Rattle.code_simulation.proofs.Recovery.{failed_sim}
-use Rattle.code_simulation.proofs.Rooms.{expr_needs, first_room, second_room}
+use Rattle.code_simulation.proofs.Rooms.{first_room, second_room}
 use Rattle.code_simulation.proofs.Same.{sim_same}
 use Rattle.code_simulation.proofs.Sim.{Sim, Target, sim_after, sim_assoc, sim_from, sim_gives, sim_misfit, sim_raises, sim_then}
 use Rattle.code_simulation.proofs.Spots.{Holds, Spot, failing, sim_op, standing}

@@ -20,6 +20,7 @@ use Rattle.stack_code.specs.Raising.{with_result}
 use Rattle.stack_code.specs.Sizes.{args_size, builtin_size, expr_size, exprs_size, part_size, place_size, sign_size, signal_size, steps_size}
 use Rattle.stack_code.specs.declared.op.Op.TheVariants as ops
 use Rattle.stack_code.specs.declared.unary_op.UnaryOp.TheVariants as unary
+use Rattle.stack_code.proofs.Needs.{place_needs, expr_needs}
 use Rattle.code_simulation.specs.Calls.{ArgsCalls, ExprCalls, ExprsCalls, PlaceCalls, StepsCalls, args_count}
 use Rattle.code_simulation.proofs.Bodies.{value_of}
 use Rattle.code_simulation.proofs.Calling.{call_at}
@@ -30,7 +31,7 @@ use Rattle.code_simulation.proofs.Ops.{ends_at}
 use Rattle.code_simulation.proofs.Packs.{pack_sim}
 use Rattle.code_simulation.proofs.Past.{past_args, past_expr, past_exprs, past_place}
 use Rattle.code_simulation.proofs.PlaceOps.{index_sim, load_sim, part_sim, root_sim}
-use Rattle.code_simulation.proofs.Rooms.{above, above_left, decided_room, expr_needs, left_room, operand_room, place_needs, right_room, skipped_room}
+use Rattle.code_simulation.proofs.Rooms.{above, above_left, decided_room, left_room, operand_room, right_room, skipped_room}
 use Rattle.code_simulation.proofs.Sim.{Sim, after_after, sim_assoc, sim_gives, sim_misfit, sim_then, sim_to}
 use Rattle.code_simulation.proofs.Spots.{Holds, Pushes, Spot, failing, pushes_to, standing}
 use Rattle.code_simulation.proofs.ValueOps.{and_sim, binary_sim, errno_sim, here_sim, of_array_sim, of_place_sim, of_signal_sim, of_value_sim, of_values_sim, opposite_sim, or_sim, push_sim, sign_sim, signal_value_sim}

@@ -17,6 +17,7 @@ use Rattle.stack_code.specs.Sizes.{expr_size, pieces_size}
 use Rattle.stack_code.specs.StmtLayouts.{label_at, pieces_code}
 use Rattle.stack_code.specs.declared.op.Op.TheVariants as ops
 use Rattle.rapid_meaning.specs.Doings.{Doing}
+use Rattle.stack_code.proofs.Needs.{expr_needs}
 use Rattle.code_simulation.proofs.BehindLook.{BehindLook, spot_at}
 use Rattle.code_simulation.proofs.Bodies.{Body, begins, leaving, resumed}
 use Rattle.code_simulation.proofs.Claims.{Claims, Stands, StmtAt}
@@ -24,7 +25,7 @@ use Rattle.code_simulation.proofs.CodeOf.{IsCodeOf}
 use Rattle.code_simulation.proofs.Expressions.{expr_sim}
 use Rattle.code_simulation.proofs.Past.{past_expr}
 use Rattle.code_simulation.proofs.Recovery.{header_sim}
-use Rattle.code_simulation.proofs.Rooms.{expr_needs, first_room}
+use Rattle.code_simulation.proofs.Rooms.{first_room}
 use Rattle.code_simulation.proofs.Sim.{Sim, Target, sim_ends, sim_from, sim_gives, sim_misfit, sim_raises}
 use Rattle.code_simulation.proofs.Spots.{Spot, sim_op, standing}
 

@@ -24,6 +24,7 @@ use Rattle.stack_code.specs.Placed.{Placed}
 use Rattle.stack_code.specs.Sizes.{args_size, expr_size, pieces_size, place_size}
 use Rattle.stack_code.specs.StmtLayouts.{pieces_code}
 use Rattle.stack_code.specs.declared.op.Op.TheVariants as ops
+use Rattle.stack_code.proofs.Needs.{expr_needs}
 use Rattle.code_simulation.proofs.Alone.{load_alone, store_alone}
 use Rattle.code_simulation.proofs.Arguments.{procedure_sim}
 use Rattle.code_simulation.proofs.BehindLook.{BehindLook, normal_sim, spot_at}
@@ -34,7 +35,7 @@ use Rattle.code_simulation.proofs.Expressions.{expr_sim, place_sim}
 use Rattle.code_simulation.proofs.Ops.{OpAt}
 use Rattle.code_simulation.proofs.Past.{past_expr, past_place}
 use Rattle.code_simulation.proofs.Recovery.{header_sim}
-use Rattle.code_simulation.proofs.Rooms.{expr_needs, first_room, second_room}
+use Rattle.code_simulation.proofs.Rooms.{first_room, second_room}
 use Rattle.code_simulation.proofs.Same.{NoPart, same, sim_same}
 use Rattle.code_simulation.proofs.Sim.{Sim, Target, sim_assoc, sim_misfit, sim_raises, sim_then}
 use Rattle.code_simulation.proofs.Spots.{Spot, failing, sim_op, standing}

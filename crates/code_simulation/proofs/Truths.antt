@@ -13,13 +13,13 @@ use Rattle.stack_code.specs.Needs.{expr_need}
 use Rattle.stack_code.specs.Placed.{Placed}
 use Rattle.stack_code.specs.Sizes.{expr_size}
 use Rattle.stack_code.specs.declared.op.Op.TheVariants as ops
+use Rattle.stack_code.proofs.Needs.{expr_needs}
 use Rattle.code_simulation.specs.Calls.{ExprCalls}
 use Rattle.code_simulation.proofs.Claims.{Claims}
 use Rattle.code_simulation.proofs.CodeOf.{IsCodeOf}
 use Rattle.code_simulation.proofs.Expressions.{expr_sim}
 use Rattle.code_simulation.proofs.Ops.{OpAt}
 use Rattle.code_simulation.proofs.Past.{past_expr}
-use Rattle.code_simulation.proofs.Rooms.{expr_needs}
 use Rattle.code_simulation.proofs.Sim.{Sim, sim_gives, sim_misfit, sim_then}
 use Rattle.code_simulation.proofs.Spots.{Holds, Spot, failing, sim_op, standing}
 

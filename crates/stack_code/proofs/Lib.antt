@@ -1,4 +1,5 @@
 pub mod CodeAsked
+pub mod Needs
 mod Examples
 mod Alike
 mod Listings
