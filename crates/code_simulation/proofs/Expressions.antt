@@ -12,6 +12,7 @@ use Rattle.rapid_meaning.specs.Doings as doings
 use Rattle.rapid_meaning.specs.Doings.{Doing, Gives, Raises, ◌>>=◌, after, or_misfit}
 use Rattle.rapid_meaning.specs.Expressions.{along, arguments, builtin, expr, exprs, lent_length, place, returned}
 use Rattle.rapid_meaning.specs.Flows.{Flow, Returns}
+use Rattle.rapid_meaning.proofs.Follows.{after_after}
 use Rattle.stack_code.specs.Confs.{Conf}
 use Rattle.stack_code.specs.ExprLayouts.{args_code, builtin_code, expr_code, exprs_code, index_op, part_code, place_code, put, sign_code, steps_code}
 use Rattle.stack_code.specs.Needs.{args_need, builtin_need, expr_need, exprs_need, place_need, steps_need}
@@ -32,7 +33,7 @@ use Rattle.code_simulation.proofs.Packs.{pack_sim}
 use Rattle.code_simulation.proofs.Past.{past_args, past_expr, past_exprs, past_place}
 use Rattle.code_simulation.proofs.PlaceOps.{index_sim, load_sim, part_sim, root_sim}
 use Rattle.code_simulation.proofs.Rooms.{above, above_left, decided_room, left_room, operand_room, right_room, skipped_room}
-use Rattle.code_simulation.proofs.Sim.{Sim, after_after, sim_assoc, sim_gives, sim_misfit, sim_then, sim_to}
+use Rattle.code_simulation.proofs.Sim.{Sim, sim_assoc, sim_gives, sim_misfit, sim_then, sim_to}
 use Rattle.code_simulation.proofs.Spots.{Holds, Pushes, Spot, failing, pushes_to, standing}
 use Rattle.code_simulation.proofs.ValueOps.{and_sim, binary_sim, errno_sim, here_sim, of_array_sim, of_place_sim, of_signal_sim, of_value_sim, of_values_sim, opposite_sim, or_sim, push_sim, sign_sim, signal_value_sim}
 

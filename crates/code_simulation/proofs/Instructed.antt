@@ -21,6 +21,7 @@ use Rattle.rapid_meaning.specs.Interrupts.{asks_of_number, number_at}
 use Rattle.rapid_meaning.specs.Places.{store}
 use Rattle.rapid_meaning.specs.Values.{text_in}
 use Rattle.rapid_meaning.specs.Zones.{asks_of_zone, define, define_home}
+use Rattle.rapid_meaning.proofs.Follows.{after_after}
 use Rattle.stack_code.specs.Needs.{pieces_need}
 use Rattle.stack_code.specs.Pieces.{Does, OfExpr, instruction_pieces, place_and_number, said, tail_kind}
 use Rattle.stack_code.specs.Placed.{Placed}
@@ -38,7 +39,7 @@ use Rattle.code_simulation.proofs.InstructionSteps.{of_text, read_then}
 use Rattle.code_simulation.proofs.Instructions.{Goes, add_goes, alone_goes, clear_goes, count_goes, move_goes, number_goes, order_goes, reset_goes, say_bool_goes, say_goes, say_num_goes, set_goes, set_to_goes, shape_goes, supervise_goes, test_goes, time_goes, until_goes, wait_for_goes, watch_goes, zone_goes}
 use Rattle.code_simulation.proofs.InstructionsAlone.{define_alone, home_alone, number_alone, tells_alone, zone_alone}
 use Rattle.code_simulation.proofs.Same.{no_part_then}
-use Rattle.code_simulation.proofs.Sim.{after_after, sim_from, sim_gives, sim_misfit, sim_to}
+use Rattle.code_simulation.proofs.Sim.{sim_from, sim_gives, sim_misfit, sim_to}
 use Rattle.code_simulation.proofs.Spots.{Spot, here, standing}
 use Rattle.code_simulation.proofs.Syncs.{sync_goes}
 

@@ -16,6 +16,7 @@ use Rattle.rapid_meaning.specs.Instructions.{ready}
 use Rattle.rapid_meaning.specs.Interrupts.{number_at}
 use Rattle.rapid_meaning.specs.Places.{load}
 use Rattle.rapid_meaning.specs.Values.{mark_in, num_in, shape_in, target_in, text_in, truth_in}
+use Rattle.rapid_meaning.proofs.Follows.{after_after}
 use Rattle.stack_code.specs.Confs.{Conf}
 use Rattle.stack_code.specs.ExprLayouts.{expr_code, place_code}
 use Rattle.stack_code.specs.Needs.{expr_need, place_need}
@@ -31,7 +32,7 @@ use Rattle.code_simulation.proofs.CodeOf.{IsCodeOf}
 use Rattle.code_simulation.proofs.Expressions.{expr_sim, place_sim}
 use Rattle.code_simulation.proofs.Ops.{OpAt}
 use Rattle.code_simulation.proofs.Same.{NoPart, sim_same}
-use Rattle.code_simulation.proofs.Sim.{Sim, after_after, sim_assoc, sim_gives, sim_misfit, sim_raises, sim_then, sim_to}
+use Rattle.code_simulation.proofs.Sim.{Sim, sim_assoc, sim_gives, sim_misfit, sim_raises, sim_then, sim_to}
 use Rattle.code_simulation.proofs.Spots.{Holds, Spot, failing, here, sim_op, standing}
 
 -- done at a place; or, as a wait that is not ready, by the Hold and the Rise that lead back to the statement's Look

@@ -1,5 +1,5 @@
 -- Operations on places: roots, indexes and parts, and what a place holds.
-use Rattle.std.proofs.Common.{◌≡◌, refl, ap, ℕ, ◌+◌, ◌≤◌, List, ◌∷◌, length, Option, None, Some, slice_get, arith}
+use Rattle.std.proofs.Common.{◌≡◌, ap, ℕ, ◌+◌, ◌≤◌, List, ◌∷◌, length, Option, None, Some, slice_get, arith}
 use Rattle.std.specs.Option.{option_map, unwrap_or}
 use Rattle.rapid_model.specs.declared.part_name.PartName.{PartName}
 use Rattle.rapid_model.specs.declared.part_name.PartName.TheVariants as parts
@@ -12,8 +12,9 @@ use Rattle.typed_trees.specs.declared.expr.TreeRoot.{TreeRoot}
 use Rattle.typed_trees.specs.declared.expr.TreeRoot.TheVariants as roots
 use Rattle.rapid_meaning.specs.Doings.{Gives, or_misfit}
 use Rattle.rapid_meaning.specs.Layouts.{length_at, local_start}
-use Rattle.rapid_meaning.specs.Places.{at_root, indexed, kept_place, load, own_place, part_at, part_within, read_value, rooted}
+use Rattle.rapid_meaning.specs.Places.{at_root, indexed, kept_place, load, own_place, part_at, read_value, rooted}
 use Rattle.rapid_meaning.specs.Values.{value_in}
+use Rattle.rapid_meaning.proofs.Wholes.{whole_within}
 use Rattle.stack_code.specs.ExprLayouts.{index_op, part_code, root_op}
 use Rattle.stack_code.specs.Placed.{Placed}
 use Rattle.stack_code.specs.Sizes.{part_size}
@@ -54,10 +55,6 @@ pub index_sim : (s : Spot) (pc : ℕ) (stack : List Datum) (root : TreeRoot) (p 
 index_sim s pc stack root p v there room = index_of s pc stack (length_at s.tree s.routine root) p v there room
 
 -- parts
-
-whole_within : (part : PartName) → part_within part parts.Whole ≡ Some part
-whole_within parts.Whole = refl
-whole_within part = refl
 
 pub whole_at : (p : Lvalue) → part_at parts.Whole p ≡ Gives p
 whole_at p = ap (λ (x : Option PartName). or_misfit (option_map (λ (inner : PartName). record p { part = inner }) x)) (whole_within p.part)

@@ -14,6 +14,7 @@ use Rattle.rapid_meaning.specs.Doings.{Doing, Gives, Raises, Asks, Ends, Misfit,
 use Rattle.rapid_meaning.specs.Flows.{Flow, Part}
 use Rattle.rapid_meaning.specs.Runs.{deep}
 use Rattle.rapid_meaning.proofs.Composing.{performed_after}
+use Rattle.rapid_meaning.proofs.Follows.{after_after}
 use Rattle.stack_code.specs.CodeData.{CodeData}
 use Rattle.stack_code.specs.CodeRuns.{exec, goes, no_part}
 use Rattle.stack_code.specs.Confs.{Conf}
@@ -218,18 +219,6 @@ sim_to {t = t} {run = run} {s = s} {next = next} {failed = failed} e sim = subst
 pub sim_from : {A : Type 0} {t : Target} {run : Run} {s x : Doing Conf} {m : Doing A} {next : A → Doing Conf} {failed : ℕ → Doing Conf} → s ≡ x → Sim t run x m next failed → Sim t run s m next failed
 sim_from {t = t} {run = run} {m = m} {next = next} {failed = failed} e sim = subst (λ (y : Doing Conf). Sim t run y m next failed) (sym e) sim
 
-pub after_after : {A B C : Type 0} (m : Doing A) (f : A → Doing B) (r : ℕ → Doing B) (g : B → Doing C) (h : ℕ → Doing C)
-    → after (after m f r) g h ≡ after m (λ v. after (f v) g h) (λ n. after (r n) g h)
-unfolding after
-after_after (Gives v) f r g h = refl
-after_after (Raises n) f r g h = refl
-after_after (Asks request k) f r g h = λ i. Asks request (λ a. after_after (k a) f r g h i)
-after_after (Ends fate) f r g h = refl
-after_after Misfit f r g h = refl
-after_after (Reads k) f r g h = λ i. Reads (λ d. after_after (k d) f r g h i)
-after_after (Writes d m) f r g h = λ i. Writes d (after_after m f r g h i)
-after_after (Does p k q) f r g h = λ i. Does p (λ flow. after_after (k flow) f r g h i) (λ n. after_after (q n) f r g h i)
-
 -- a doing whose errors are another's, and so are those of what follows it: as one, with the same errors
 pub sim_assoc : {A B C : Type 0} {t : Target} {run : Run} {s : Doing Conf} (m : Doing A) (f : A → Doing B) (g : B → Doing C) (r : ℕ → Doing C) {next : C → Doing Conf} {failed : ℕ → Doing Conf}
     → Sim t run s (after m (λ v. after (f v) g r) r) next failed → Sim t run s (after (after m f Raises) g r) next failed
@@ -238,7 +227,7 @@ sim_assoc m f g r sim = sim_to (after_after m f Raises g r) sim
 
 -- a step
 
-within : (b : Bool) (o : Outcome ⊤) → IsTrue b → (if b then o else Misfits) ≡ o
+pub within : (b : Bool) (o : Outcome ⊤) → IsTrue b → (if b then o else Misfits) ≡ o
 within true o room = refl
 within false o room = cc
 

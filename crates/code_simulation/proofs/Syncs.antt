@@ -22,7 +22,7 @@ use Rattle.typed_trees.specs.declared.datum.Root.TheVariants as data_roots
 use Rattle.typed_trees.specs.declared.expr.TreeRoot.{TreeRoot}
 use Rattle.typed_trees.specs.declared.expr.TreeRoot.TheVariants as roots
 use Rattle.rapid_model.specs.Fits.{fits_request}
-use Rattle.rapid_meaning.specs.Answering.{Outcome, Misfits, Run, performed}
+use Rattle.rapid_meaning.specs.Answering.{Run, performed}
 use Rattle.rapid_meaning.specs.Data.{Data, datum_at}
 use Rattle.rapid_meaning.specs.Doings.{Doing, Gives, Raises, Asks, Ends, Misfit, Reads, Writes, Does as DoesPart, ◌>>=◌, after, or_misfit}
 use Rattle.rapid_meaning.specs.Expressions.{lent_length, place}
@@ -30,6 +30,7 @@ use Rattle.rapid_meaning.specs.Layouts.{length_at, local_start, slot_start}
 use Rattle.rapid_meaning.specs.Meetings.{arrive, task_or_fault, task_set, tasks_in, with_task, with_tasks}
 use Rattle.rapid_meaning.specs.Places.{at_element, at_root, element_of, element_root, kept_place, load, load_from, own_place, part_at, part_in, read_value, rooted, there_in, when_read}
 use Rattle.rapid_meaning.specs.Values.{text_in, value_in, whole}
+use Rattle.rapid_meaning.proofs.Follows.{after_after}
 use Rattle.stack_code.specs.CodeRuns.{exec}
 use Rattle.stack_code.specs.Confs.{Conf, conf}
 use Rattle.stack_code.specs.ExprLayouts.{index_op, place_code, put, root_op}
@@ -49,7 +50,7 @@ use Rattle.code_simulation.proofs.InstructionsAlone.{arrived_alone}
 use Rattle.code_simulation.proofs.Ops.{OpAt}
 use Rattle.code_simulation.proofs.Past.{past_place}
 use Rattle.code_simulation.proofs.PlaceOps.{whole_at}
-use Rattle.code_simulation.proofs.Sim.{Comes, Sim, Target, after_after, comes_when, followed, goes_on, sim_ends, sim_misfit, sim_raises}
+use Rattle.code_simulation.proofs.Sim.{Comes, Sim, Target, comes_when, followed, goes_on, sim_ends, sim_misfit, sim_raises, within}
 use Rattle.code_simulation.proofs.Spots.{Holds, Spot, failing, here, sim_op, standing}
 
 -- with these data
@@ -91,10 +92,6 @@ source_root s d (roots.Ref row) x k next at = source_reads d at
 source_root s d (roots.Pers row) x k next at = at
 
 -- an operation, with these data
-
-within : (b : Bool) (o : Outcome ⊤) → IsTrue b → (if b then o else Misfits) ≡ o
-within true o room = refl
-within false o room = cc
 
 at_step : {A : Type 0} {t : Target} {run : Run} (d : Data) {c : Conf} {m : Doing A} {next : A → Doing Conf} {failed : ℕ → Doing Conf}
     → IsTrue (nat_le (length c.stack) t.code.deepest) → SimAt t run d (step t.code c) m next failed → SimAt t run d (Gives c) m next failed

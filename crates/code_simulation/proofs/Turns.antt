@@ -11,6 +11,7 @@ use Rattle.rapid_meaning.specs.Flows.{Flow, Normal, Turn}
 use Rattle.rapid_meaning.specs.Layouts.{local_start}
 use Rattle.rapid_meaning.specs.Loops.{counted, counts_on, has_passed, turn_due}
 use Rattle.rapid_meaning.specs.Statements.{turn, turned}
+use Rattle.rapid_meaning.proofs.Follows.{after_after}
 use Rattle.stack_code.specs.CodeData.{CodeData}
 use Rattle.stack_code.specs.Confs.{Conf}
 use Rattle.stack_code.specs.ExprLayouts.{put}
@@ -34,7 +35,7 @@ use Rattle.code_simulation.proofs.Ops.{OpAt}
 use Rattle.code_simulation.proofs.PastStmts.{past_pieces, past_stmts}
 use Rattle.code_simulation.proofs.Rooms.{second_room}
 use Rattle.code_simulation.proofs.Same.{sim_calm}
-use Rattle.code_simulation.proofs.Sim.{Sim, Target, after_after, sim_from, sim_gives, sim_to}
+use Rattle.code_simulation.proofs.Sim.{Sim, Target, sim_from, sim_gives, sim_to}
 use Rattle.code_simulation.proofs.Spots.{here, sim_op}
 
 -- the code behind the bounds: the Turn, its Look, the list, and the Step

@@ -7,6 +7,8 @@ pub mod Begins
 pub mod Fuel
 pub mod Growth
 pub mod Composing
+pub mod Follows
+pub mod Wholes
 pub mod ConstantsAgree
 mod ConstantArrays
 pub mod Setpoints

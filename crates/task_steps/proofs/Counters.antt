@@ -11,10 +11,12 @@ use Rattle.typed_trees.specs.declared.datum.Datum.TheVariants as datums
 use Rattle.typed_trees.specs.declared.datum.Lvalue.{Lvalue}
 use Rattle.typed_trees.specs.declared.datum.Root.TheVariants as roots
 use Rattle.rapid_meaning.specs.Data.{Data, datum_at, put_at}
-use Rattle.rapid_meaning.specs.Doings.{Doing, Gives, Raises, Asks, Ends, Misfit, Reads, Writes, Does, ◌>>=◌, ◌>>◌, after, or_misfit}
+use Rattle.rapid_meaning.specs.Doings.{Doing, Gives, Raises, Misfit, ◌>>=◌, ◌>>◌, after, or_misfit}
 use Rattle.rapid_meaning.specs.Loops.{has_passed}
 use Rattle.rapid_meaning.specs.Places.{own_place, part_in, put_in, read_value, write_value, writes_at}
 use Rattle.rapid_meaning.specs.Values.{num_in, value_in}
+use Rattle.rapid_meaning.proofs.Follows.{after_after}
+use Rattle.rapid_meaning.proofs.Wholes.{whole_in}
 use Rattle.stack_code.specs.CodeData.{CodeData}
 use Rattle.stack_code.specs.Confs.{Conf}
 use Rattle.stack_code.specs.Steps.{Here, act, counter_at, jumps, past_turn, set_counter_at, stepped, to_next}
@@ -24,30 +26,10 @@ use Rattle.task_steps.specs.Alike.{Alike}
 use Rattle.task_steps.proofs.Along.{alike_is, alike_then}
 use Rattle.task_steps.proofs.Readings.{own_missing, own_there, reads_now, writes_now}
 
--- what follows what follows
-pub after_after : {A B C : Type 0} (m : Doing A) (f : A → Doing B) (r : ℕ → Doing B) (g : B → Doing C) (h : ℕ → Doing C)
-    → after (after m f r) g h ≡ after m (λ v. after (f v) g h) (λ n. after (r n) g h)
-unfolding after
-after_after (Gives v) f r g h = refl
-after_after (Raises n) f r g h = refl
-after_after (Asks request k) f r g h = λ i. Asks request (λ a. after_after (k a) f r g h i)
-after_after (Ends fate) f r g h = refl
-after_after Misfit f r g h = refl
-after_after (Reads k) f r g h = λ i. Reads (λ d. after_after (k d) f r g h i)
-after_after (Writes d m) f r g h = λ i. Writes d (after_after m f r g h i)
-after_after (Does p k q) f r g h = λ i. Does p (λ flow. after_after (k flow) f r g h i) (λ n. after_after (q n) f r g h i)
-
 -- what it gives follows
 pub after_gives : {A B : Type 0} (v : A) (f : A → Doing B) → (Gives v >>= f) ≡ f v
 unfolding after
 after_gives v f = refl
-
--- all of a datum
-whole_of : (x : Datum) → part_in parts.Whole x ≡ Some x
-whole_of (datums.Plain v) = refl
-whole_of (datums.Mark n) = refl
-whole_of (datums.Shape s) = refl
-whole_of (datums.Place p) = refl
 
 -- the num that a datum is
 pub held_num : (x : Datum) (v : Value) (o : Option ℤ) → as_value x ≡ Some v → num_in v ≡ or_misfit o → (value_in x >>= num_in) ≡ or_misfit o
@@ -95,7 +77,7 @@ pub counter_there : (code : CodeData) (d : Data) (k at : ℕ) (x : Datum) (o : O
 counter_there code d k at x o next some there is =
     alike_then code _ _ _ d d d (counter_reads code d k at (Some x) next some there)
     (alike_is code _ _ d
-    (ap (λ (y : Option Datum). or_misfit y >>= value_in >>= num_in >>= next) (whole_of x)
+    (ap (λ (y : Option Datum). or_misfit y >>= value_in >>= num_in >>= next) (whole_in x)
     ∙ ap (λ (m : Doing ℤ). m >>= next) (ap (λ (m : Doing Value). m >>= num_in) (after_gives x value_in) ∙ is)))
 
 -- a counter that was read

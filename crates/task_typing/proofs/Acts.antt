@@ -43,6 +43,7 @@ use Rattle.joint_clip.specs.Shapes.{made_shape}
 use Rattle.joint_clip.specs.declared.shape_fault.ShapeFault.{ShapeFault}
 use Rattle.rapid_meaning.specs.Zones.{fault_of, arm_axes, asks_of_zone, define, define_home, defined, home_high, home_low, on_axes, position_or_fault, shape_at, shaped, supervise, when_numbered, when_zoned}
 use Rattle.rapid_model.specs.Truths.{same_truth}
+use Rattle.rapid_meaning.proofs.Wholes.{whole_within}
 use Rattle.task_typing.specs.Asked.{CanWatch}
 use Rattle.task_typing.specs.Expressions.{IsArray, IsExpr, IsPersName}
 use Rattle.task_typing.specs.Kinds.{kinds_of}
@@ -53,7 +54,6 @@ use Rattle.task_typing.proofs.Data.{shape_form}
 use Rattle.task_typing.proofs.Expressions.{HasSort, expr_safe, signal_safe, text_safe}
 use Rattle.task_typing.proofs.Forms.{num_form, speed_form, target_form, tasks_form}
 use Rattle.task_typing.proofs.Loads.{load_safe, mark_safe, read_safe, store_safe, truth_safe}
-use Rattle.task_typing.proofs.Parts.{within_whole}
 use Rattle.task_typing.proofs.Places.{Inside, IsRooted, IsThere, at_element_safe, num_safe, root_len, rooted_safe, scene}
 use Rattle.task_typing.proofs.Safe.{Answered, Anything, Safe, safe_any, safe_asks, safe_done, safe_fault, safe_gives, safe_or, safe_raises, safe_reads, safe_then}
 use Rattle.task_typing.proofs.Scene.{Scene}
@@ -204,7 +204,7 @@ array_place i (PlaceOf root NotHeld parts.Whole own) sort are = (
   safe_then (scene i) (λ q. IsRooted (scene i) q sort (Some are.1)) (λ q. IsRooted (scene i) q sort (Some are.1)) (rooted i.c.tree i.routine root) (part_at parts.Whole)
       (rooted_safe i root sort (Some are.1) are.2)
       (λ q is. safe_or (scene i) (λ r. IsRooted (scene i) r sort (Some are.1)) (option_map (λ x. record q { part = x }) (part_within q.part parts.Whole)) q
-      (ap (option_map (λ x. record q { part = x })) (within_whole q.part)) is),
+      (ap (option_map (λ x. record q { part = x })) (whole_within q.part)) is),
 )
 array_place i (PlaceOf root NotHeld part own) sort are = absurd are
 array_place i (PlaceOf root (Held e) part own) sort are = absurd are

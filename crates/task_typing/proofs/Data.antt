@@ -16,6 +16,7 @@ use Rattle.typed_trees.specs.declared.datum.Datum.TheVariants as datums
 use Rattle.typed_trees.specs.declared.datum.Root.TheVariants as roots
 use Rattle.rapid_meaning.specs.Data.{Data, Frame, datum_at, frame_at, put_at, put_in_frame, with_datum, with_frame}
 use Rattle.rapid_meaning.specs.Places.{part_in, put_in}
+use Rattle.rapid_meaning.proofs.Wholes.{whole_in}
 use Rattle.task_typing.specs.Kinds.{Cell, Holds, slot_cells}
 use Rattle.task_typing.specs.States.{AreFrames, IsRootOf, IsState}
 use Rattle.task_typing.specs.WellTyped.{is_datum_of, is_marked}
@@ -89,12 +90,6 @@ shape_form (datums.Place place) is = absurd cc
 -- a datum of a type
 abbrev HasDatum : Option Datum → Sort → Type 0
 HasDatum o sort = (x : Datum) × (o ≡ Some x) × IsTrue (is_datum_of sort x)
-
-whole_in : (x : Datum) → part_in parts.Whole x ≡ Some x
-whole_in (datums.Plain v) = refl
-whole_in (datums.Mark n) = refl
-whole_in (datums.Shape s) = refl
-whole_in (datums.Place q) = refl
 
 valued_in : (whole : Sort) (part : PartName) (sort : Sort) (x : Datum) → IsTrue (has_values whole) → IsTrue (is_datum_of whole x) → part_sort whole part ≡ Some sort → HasDatum (part_in part x) sort
 valued_in whole part sort x holds is e =

@@ -3,6 +3,7 @@ use Rattle.std.proofs.Common.{◌≡◌, refl, sym, ap, ◌∙◌, subst, ℕ, z
 use Rattle.std.specs.Option.{option_map}
 use Rattle.std.proofs.lemmas.Bool.{ltb-true, lt-ltb, le-ltb, leb-true, eq-eqb, and_parts}
 use Rattle.std.proofs.lemmas.List.{length-set, length-take, length-drop}
+use Rattle.std.proofs.lemmas.Option.{same_Some}
 use Rattle.rapid_num.specs.declared.joints.Joints.{Joints}
 use Rattle.rapid_model.specs.Paths.{has_sort, part_sort, num_where}
 use Rattle.rapid_model.specs.declared.part_name.PartName.{PartName}
@@ -14,6 +15,7 @@ use Rattle.rapid_model.specs.declared.value.Value.TheVariants as values
 use Rattle.rapid_values.specs.Values.{num_at, part_of, put_part, with_axes, with_num}
 use Rattle.rapid_values.proofs.Lists.{num_written}
 use Rattle.rapid_meaning.specs.Places.{part_within}
+use Rattle.rapid_meaning.proofs.Wholes.{whole_within}
 use Rattle.task_typing.proofs.Forms.{num_form, rob_form, ext_form, target_form, speed_nums, text_form, tasks_form}
 
 -- where a part is there, it is a num
@@ -46,18 +48,11 @@ text_whole : (part : PartName) (sort : Sort) → part_sort sorts.Text part ≡ S
 text_whole parts.Whole sort e = (refl, cc)
 text_whole part sort e = absurd cc
 
-pub within_whole : (outer : PartName) → part_within outer parts.Whole ≡ Some outer
-within_whole parts.Whole = refl
-within_whole outer = refl
-
 -- a part that is a num or a text, of which only the whole is a part
 last_part : (whole mid sort : Sort) (outer part : PartName) → (part ≡ parts.Whole) × (sort ≡ mid) → part_sort whole outer ≡ Some mid
     → (p : PartName) × (part_within outer part ≡ Some p) × (part_sort whole p ≡ Some sort)
 last_part whole mid sort outer part is e =
-    (outer, subst (λ (x : PartName). part_within outer x ≡ Some outer) (sym is.0) (within_whole outer), subst (λ (x : Sort). part_sort whole outer ≡ Some x) (sym is.1) e)
-
-some_same : {A : Type 0} (x y : A) → Some x ≡ Some y → x ≡ y
-some_same x y e = cc
+    (outer, subst (λ (x : PartName). part_within outer x ≡ Some outer) (sym is.0) (whole_within outer), subst (λ (x : Sort). part_sort whole outer ≡ Some x) (sym is.1) e)
 
 -- a num in a type, by its number
 num_in_part : (whole mid sort : Sort) (outer part : PartName) (b : Bool) → part_sort whole outer ≡ num_where b → part_sort whole outer ≡ Some mid → part_sort mid part ≡ Some sort
@@ -70,15 +65,15 @@ num_in_part whole mid sort outer part b same h i =
 -- a part of a part
 pub inner_part : (whole mid sort : Sort) (outer part : PartName) → part_sort whole outer ≡ Some mid → part_sort mid part ≡ Some sort
     → (p : PartName) × (part_within outer part ≡ Some p) × (part_sort whole p ≡ Some sort)
-inner_part whole mid sort parts.Whole part h i = (part, refl, subst (λ (x : Sort). part_sort x part ≡ Some sort) (sym (some_same whole mid h)) i)
-inner_part sorts.JointTarget mid sort parts.Robax part h i = robax_part part sort (subst (λ (x : Sort). part_sort x part ≡ Some sort) (sym (some_same sorts.RobJoint mid h)) i)
-inner_part sorts.JointTarget mid sort parts.Extax part h i = extax_part part sort (subst (λ (x : Sort). part_sort x part ≡ Some sort) (sym (some_same sorts.ExtJoint mid h)) i)
+inner_part whole mid sort parts.Whole part h i = (part, refl, subst (λ (x : Sort). part_sort x part ≡ Some sort) (sym (same_Some whole mid h)) i)
+inner_part sorts.JointTarget mid sort parts.Robax part h i = robax_part part sort (subst (λ (x : Sort). part_sort x part ≡ Some sort) (sym (same_Some sorts.RobJoint mid h)) i)
+inner_part sorts.JointTarget mid sort parts.Extax part h i = extax_part part sort (subst (λ (x : Sort). part_sort x part ≡ Some sort) (sym (same_Some sorts.ExtJoint mid h)) i)
 inner_part sorts.JointTarget mid sort (parts.Axis n) part h i = num_in_part sorts.JointTarget mid sort (parts.Axis n) part (nat_lt n 12) refl h i
 inner_part sorts.RobJoint mid sort (parts.Axis n) part h i = num_in_part sorts.RobJoint mid sort (parts.Axis n) part (nat_lt n 6) refl h i
 inner_part sorts.ExtJoint mid sort (parts.Axis n) part h i = num_in_part sorts.ExtJoint mid sort (parts.Axis n) part (nat_le 6 n && nat_lt n 12) refl h i
 inner_part sorts.SpeedData mid sort (parts.SpeedPart n) part h i = num_in_part sorts.SpeedData mid sort (parts.SpeedPart n) part (nat_lt n 4) refl h i
 inner_part sorts.Tasks mid sort parts.Taskname part h i =
-    let text : sorts.Text ≡ mid = some_same sorts.Text mid h in
+    let text : sorts.Text ≡ mid = same_Some sorts.Text mid h in
     let last : (part ≡ parts.Whole) × (sort ≡ sorts.Text) = text_whole part sort (subst (λ (x : Sort). part_sort x part ≡ Some sort) (sym text) i) in
     last_part sorts.Tasks mid sort parts.Taskname part (last.0, last.1 ∙ text) h
 inner_part whole mid sort outer part h i = absurd cc
@@ -120,17 +115,17 @@ speed_is l four = eq-eqb (length l) 4 four
 
 -- the part of a value is of the part's type
 target_part : (j : Joints) (part : PartName) (sort : Sort) → length j.axis ≡ 12 → part_sort sorts.JointTarget part ≡ Some sort → Found (part_of (values.Target j) part) sort
-target_part j parts.Whole sort many e = (values.Target j, refl, subst (λ (x : Sort). IsTrue (has_sort x (values.Target j))) (some_same sorts.JointTarget sort e) (target_is j.axis many))
+target_part j parts.Whole sort many e = (values.Target j, refl, subst (λ (x : Sort). IsTrue (has_sort x (values.Target j))) (same_Some sorts.JointTarget sort e) (target_is j.axis many))
 target_part j parts.Robax sort many e = (
   values.Rob (take 6 j.axis),
   refl,
-  subst (λ (x : Sort). IsTrue (has_sort x (values.Rob (take 6 j.axis)))) (some_same sorts.RobJoint sort e)
+  subst (λ (x : Sort). IsTrue (has_sort x (values.Rob (take 6 j.axis)))) (same_Some sorts.RobJoint sort e)
       (rob_is (take 6 j.axis) (omega (arith, length-take 6 j.axis, many))),
 )
 target_part j parts.Extax sort many e = (
   values.Ext (drop 6 j.axis),
   refl,
-  subst (λ (x : Sort). IsTrue (has_sort x (values.Ext (drop 6 j.axis)))) (some_same sorts.ExtJoint sort e)
+  subst (λ (x : Sort). IsTrue (has_sort x (values.Ext (drop 6 j.axis)))) (same_Some sorts.ExtJoint sort e)
       (ext_is (drop 6 j.axis) (omega (arith, length-drop 6 j.axis, many))),
 )
 target_part j (parts.Axis n) sort many e =
@@ -139,19 +134,19 @@ target_part j (parts.Axis n) sort many e =
 target_part j part sort many e = absurd cc
 
 rob_part : (l : List ℤ) (part : PartName) (sort : Sort) → length l ≡ 6 → part_sort sorts.RobJoint part ≡ Some sort → Found (part_of (values.Rob l) part) sort
-rob_part l parts.Whole sort six e = (values.Rob l, refl, subst (λ (x : Sort). IsTrue (has_sort x (values.Rob l))) (some_same sorts.RobJoint sort e) (rob_is l six))
+rob_part l parts.Whole sort six e = (values.Rob l, refl, subst (λ (x : Sort). IsTrue (has_sort x (values.Rob l))) (same_Some sorts.RobJoint sort e) (rob_is l six))
 rob_part l (parts.Axis n) sort six e =
     let there : (nat_lt n 6 ≡ true) × (sort ≡ sorts.Num) = num_there (nat_lt n 6) sort e in
     found_num l n sort (omega (arith, ltb-true n 6 there.0, six)) there.1
 rob_part l part sort six e = absurd cc
 
 ext_part : (l : List ℤ) (part : PartName) (sort : Sort) → length l ≡ 6 → part_sort sorts.ExtJoint part ≡ Some sort → Found (part_of (values.Ext l) part) sort
-ext_part l parts.Whole sort six e = (values.Ext l, refl, subst (λ (x : Sort). IsTrue (has_sort x (values.Ext l))) (some_same sorts.ExtJoint sort e) (ext_is l six))
+ext_part l parts.Whole sort six e = (values.Ext l, refl, subst (λ (x : Sort). IsTrue (has_sort x (values.Ext l))) (same_Some sorts.ExtJoint sort e) (ext_is l six))
 ext_part l (parts.Axis n) sort six e = found_ext_num l n sort six e
 ext_part l part sort six e = absurd cc
 
 speed_part : (l : List ℤ) (part : PartName) (sort : Sort) → length l ≡ 4 → part_sort sorts.SpeedData part ≡ Some sort → Found (part_of (values.Speed l) part) sort
-speed_part l parts.Whole sort four e = (values.Speed l, refl, subst (λ (x : Sort). IsTrue (has_sort x (values.Speed l))) (some_same sorts.SpeedData sort e) (speed_is l four))
+speed_part l parts.Whole sort four e = (values.Speed l, refl, subst (λ (x : Sort). IsTrue (has_sort x (values.Speed l))) (same_Some sorts.SpeedData sort e) (speed_is l four))
 speed_part l (parts.SpeedPart n) sort four e =
     let there : (nat_lt n 4 ≡ true) × (sort ≡ sorts.Num) = num_there (nat_lt n 4) sort e in
     found_num l n sort (omega (arith, ltb-true n 4 there.0, four)) there.1
@@ -161,14 +156,14 @@ moved : (v u : Value) (part : PartName) (sort : Sort) → v ≡ u → Found (par
 moved v u part sort e f = subst (λ (x : Value). Found (part_of x part) sort) (sym e) f
 
 pub value_part : (whole sort : Sort) (part : PartName) (v : Value) → IsTrue (has_sort whole v) → part_sort whole part ≡ Some sort → Found (part_of v part) sort
-value_part whole sort parts.Whole v h e = (v, refl, subst (λ (x : Sort). IsTrue (has_sort x v)) (some_same whole sort e) h)
+value_part whole sort parts.Whole v h e = (v, refl, subst (λ (x : Sort). IsTrue (has_sort x v)) (same_Some whole sort e) h)
 value_part sorts.JointTarget sort part v h e = let f : (j : Joints) × (v ≡ values.Target j) × (length j.axis ≡ 12) = target_form v h in moved v (values.Target f.0) part sort f.1 (target_part f.0 part sort f.2 e)
 value_part sorts.RobJoint sort part v h e = let f : (l : List ℤ) × (v ≡ values.Rob l) × (length l ≡ 6) = rob_form v h in moved v (values.Rob f.0) part sort f.1 (rob_part f.0 part sort f.2 e)
 value_part sorts.ExtJoint sort part v h e = let f : (l : List ℤ) × (v ≡ values.Ext l) × (length l ≡ 6) = ext_form v h in moved v (values.Ext f.0) part sort f.1 (ext_part f.0 part sort f.2 e)
 value_part sorts.SpeedData sort part v h e = let f : (l : List ℤ) × (v ≡ values.Speed l) × (length l ≡ 4) = speed_nums v h in moved v (values.Speed f.0) part sort f.1 (speed_part f.0 part sort f.2 e)
 value_part sorts.Tasks sort parts.Taskname v h e =
     let f : (t : List ℕ) × (v ≡ values.Text t) = tasks_form v h in
-    moved v (values.Text f.0) parts.Taskname sort f.1 (values.Text f.0, refl, subst (λ (x : Sort). IsTrue (has_sort x (values.Text f.0))) (some_same sorts.Text sort e) refl)
+    moved v (values.Text f.0) parts.Taskname sort f.1 (values.Text f.0, refl, subst (λ (x : Sort). IsTrue (has_sort x (values.Text f.0))) (same_Some sorts.Text sort e) refl)
 value_part whole sort part v h e = absurd cc
 
 -- a num put in
@@ -192,15 +187,15 @@ counted o m n e w = subst (λ (x : ℕ). Written o x) e w
 
 target_put : (j : Joints) (part : PartName) (sort : Sort) (new : Value) → length j.axis ≡ 12 → part_sort sorts.JointTarget part ≡ Some sort → IsTrue (has_sort sort new)
     → Found (put_part (values.Target j) part new) sorts.JointTarget
-target_put j parts.Whole sort new many e h = (new, refl, subst (λ (x : Sort). IsTrue (has_sort x new)) (sym (some_same sorts.JointTarget sort e)) h)
+target_put j parts.Whole sort new many e h = (new, refl, subst (λ (x : Sort). IsTrue (has_sort x new)) (sym (same_Some sorts.JointTarget sort e)) h)
 target_put j parts.Robax sort new many e h =
-    let f : (l : List ℤ) × (new ≡ values.Rob l) × (length l ≡ 6) = rob_form new (subst (λ (x : Sort). IsTrue (has_sort x new)) (sym (some_same sorts.RobJoint sort e)) h) in (
+    let f : (l : List ℤ) × (new ≡ values.Rob l) × (length l ≡ 6) = rob_form new (subst (λ (x : Sort). IsTrue (has_sort x new)) (sym (same_Some sorts.RobJoint sort e)) h) in (
       with_axes (f.0 ++ drop 6 j.axis),
       ap (λ (x : Value). put_part (values.Target j) parts.Robax x) f.1,
       target_is (f.0 ++ drop 6 j.axis) (omega (arith, length-append f.0 (drop 6 j.axis), length-drop 6 j.axis, many, f.2)),
     )
 target_put j parts.Extax sort new many e h =
-    let f : (l : List ℤ) × (new ≡ values.Ext l) × (length l ≡ 6) = ext_form new (subst (λ (x : Sort). IsTrue (has_sort x new)) (sym (some_same sorts.ExtJoint sort e)) h) in (
+    let f : (l : List ℤ) × (new ≡ values.Ext l) × (length l ≡ 6) = ext_form new (subst (λ (x : Sort). IsTrue (has_sort x new)) (sym (same_Some sorts.ExtJoint sort e)) h) in (
       with_axes (take 6 j.axis ++ f.0),
       ap (λ (x : Value). put_part (values.Target j) parts.Extax x) f.1,
       target_is (take 6 j.axis ++ f.0) (omega (arith, length-append (take 6 j.axis) f.0, length-take 6 j.axis, many, f.2)),
@@ -213,7 +208,7 @@ target_put j part sort new many e h = absurd cc
 
 rob_put : (l : List ℤ) (part : PartName) (sort : Sort) (new : Value) → length l ≡ 6 → part_sort sorts.RobJoint part ≡ Some sort → IsTrue (has_sort sort new)
     → Found (put_part (values.Rob l) part new) sorts.RobJoint
-rob_put l parts.Whole sort new six e h = (new, refl, subst (λ (x : Sort). IsTrue (has_sort x new)) (sym (some_same sorts.RobJoint sort e)) h)
+rob_put l parts.Whole sort new six e h = (new, refl, subst (λ (x : Sort). IsTrue (has_sort x new)) (sym (same_Some sorts.RobJoint sort e)) h)
 rob_put l (parts.Axis n) sort new six e h =
     let there : (nat_lt n 6 ≡ true) × (sort ≡ sorts.Num) = num_there (nat_lt n 6) sort e in
     made (with_num l n new) values.Rob 6 sorts.RobJoint rob_is
@@ -222,7 +217,7 @@ rob_put l part sort new six e h = absurd cc
 
 ext_put : (l : List ℤ) (part : PartName) (sort : Sort) (new : Value) → length l ≡ 6 → part_sort sorts.ExtJoint part ≡ Some sort → IsTrue (has_sort sort new)
     → Found (put_part (values.Ext l) part new) sorts.ExtJoint
-ext_put l parts.Whole sort new six e h = (new, refl, subst (λ (x : Sort). IsTrue (has_sort x new)) (sym (some_same sorts.ExtJoint sort e)) h)
+ext_put l parts.Whole sort new six e h = (new, refl, subst (λ (x : Sort). IsTrue (has_sort x new)) (sym (same_Some sorts.ExtJoint sort e)) h)
 ext_put l (parts.Axis n) sort new six e h =
     let there : ((nat_le 6 n && nat_lt n 12) ≡ true) × (sort ≡ sorts.Num) = num_there (nat_le 6 n && nat_lt n 12) sort e in
     let low : 6 ≤ n = leb-true 6 n (and_parts (nat_le 6 n) (nat_lt n 12) there.0).0 in
@@ -233,7 +228,7 @@ ext_put l part sort new six e h = absurd cc
 
 speed_put : (l : List ℤ) (part : PartName) (sort : Sort) (new : Value) → length l ≡ 4 → part_sort sorts.SpeedData part ≡ Some sort → IsTrue (has_sort sort new)
     → Found (put_part (values.Speed l) part new) sorts.SpeedData
-speed_put l parts.Whole sort new four e h = (new, refl, subst (λ (x : Sort). IsTrue (has_sort x new)) (sym (some_same sorts.SpeedData sort e)) h)
+speed_put l parts.Whole sort new four e h = (new, refl, subst (λ (x : Sort). IsTrue (has_sort x new)) (sym (same_Some sorts.SpeedData sort e)) h)
 speed_put l (parts.SpeedPart n) sort new four e h =
     let there : (nat_lt n 4 ≡ true) × (sort ≡ sorts.Num) = num_there (nat_lt n 4) sort e in
     made (with_num l n new) values.Speed 4 sorts.SpeedData speed_is
@@ -246,13 +241,13 @@ put_moved v u new part whole e f = subst (λ (x : Value). Found (put_part x part
 -- a value with a part put in stays of its type
 pub value_put : (whole sort : Sort) (part : PartName) (v new : Value) → IsTrue (has_sort whole v) → part_sort whole part ≡ Some sort → IsTrue (has_sort sort new)
     → Found (put_part v part new) whole
-value_put whole sort parts.Whole v new h e i = (new, refl, subst (λ (x : Sort). IsTrue (has_sort x new)) (sym (some_same whole sort e)) i)
+value_put whole sort parts.Whole v new h e i = (new, refl, subst (λ (x : Sort). IsTrue (has_sort x new)) (sym (same_Some whole sort e)) i)
 value_put sorts.JointTarget sort part v new h e i = let f : (j : Joints) × (v ≡ values.Target j) × (length j.axis ≡ 12) = target_form v h in put_moved v (values.Target f.0) new part sorts.JointTarget f.1 (target_put f.0 part sort new f.2 e i)
 value_put sorts.RobJoint sort part v new h e i = let f : (l : List ℤ) × (v ≡ values.Rob l) × (length l ≡ 6) = rob_form v h in put_moved v (values.Rob f.0) new part sorts.RobJoint f.1 (rob_put f.0 part sort new f.2 e i)
 value_put sorts.ExtJoint sort part v new h e i = let f : (l : List ℤ) × (v ≡ values.Ext l) × (length l ≡ 6) = ext_form v h in put_moved v (values.Ext f.0) new part sorts.ExtJoint f.1 (ext_put f.0 part sort new f.2 e i)
 value_put sorts.SpeedData sort part v new h e i = let f : (l : List ℤ) × (v ≡ values.Speed l) × (length l ≡ 4) = speed_nums v h in put_moved v (values.Speed f.0) new part sorts.SpeedData f.1 (speed_put f.0 part sort new f.2 e i)
 value_put sorts.Tasks sort parts.Taskname v new h e i =
     let f : (t : List ℕ) × (v ≡ values.Text t) = tasks_form v h in
-    let g : (t : List ℕ) × (new ≡ values.Text t) = text_form new (subst (λ (x : Sort). IsTrue (has_sort x new)) (sym (some_same sorts.Text sort e)) i) in
+    let g : (t : List ℕ) × (new ≡ values.Text t) = text_form new (subst (λ (x : Sort). IsTrue (has_sort x new)) (sym (same_Some sorts.Text sort e)) i) in
     put_moved v (values.Text f.0) new parts.Taskname sorts.Tasks f.1 (values.Text g.0, ap (λ (x : Value). put_part (values.Text f.0) parts.Taskname x) g.1, refl)
 value_put whole sort part v new h e i = absurd cc

@@ -3,7 +3,7 @@ use Rattle.std.proofs.Common.{◌≡◌, ℕ, ◌+◌, ◌-◌, ◌<◌, Bool, t
 use Rattle.std.specs.Option.{option_and_then, option_map}
 use Rattle.std.proofs.Math.Logic.{⊎_elim}
 use Rattle.std.proofs.lemmas.Bool.{lt-ltb}
-use Rattle.std.proofs.lemmas.Option.{slice_get_within}
+use Rattle.std.proofs.lemmas.Option.{slice_get_within, same_Some}
 use Rattle.raw_trees.specs.Plain.{PlainModule}
 use Rattle.raw_trees.specs.declared.raw_routine.Mode.{Mode}
 use Rattle.raw_trees.specs.declared.raw_routine.RoutineKind.{RoutineKind}
@@ -37,7 +37,7 @@ use Rattle.task_typing.specs.Expressions.{IsRoot}
 use Rattle.task_typing.specs.Kinds.{Counts, Kind, Owns, Refers, kind_by, kind_of as kind_in, kinds_of}
 use Rattle.task_typing.specs.Setting.{Setting}
 use Rattle.tree_soundness.proofs.RowKinds.{local_kind, loop_kind, param_kind, reference_kind, value_kind}
-use Rattle.tree_soundness.proofs.Lists.{origin, partner, some_same}
+use Rattle.tree_soundness.proofs.Lists.{origin, partner}
 use Rattle.tree_soundness.proofs.Named.{IsCallable, Suits}
 use Rattle.tree_soundness.proofs.Places.{Holds}
 use Rattle.tree_soundness.proofs.Routines.{ParamAlike, RoutineAlike, needs_alike}
@@ -129,7 +129,7 @@ module _ (modules : List PlainModule) (signals : List SignalRow) (c : Setting) (
     value_at : (place : ℕ) (row : DatumRow) (p : TypedParam) → place_row a.row place ≡ Some row → slice_get t.params place ≡ Some p → kind_in p ≡ Owns p.sort None → IsAt (roots.Local place) row.sort row.array
     value_at place row p e is kind =
         let o = origin ParamAlike a.row.params t.params place p a.alike.params is in
-        let same : value_row o.x ≡ row = some_same (value_row o.x) row (sym (place_first a.row place o.x o.is) ∙ e) in
+        let same : value_row o.x ≡ row = same_Some (value_row o.x) row (sym (place_first a.row place o.x o.is) ∙ e) in
         let sort : p.sort ≡ row.sort = o.such.1 ∙ ap (λ x. x.sort) same in (
           None,
           (Owns p.sort None, ap (λ (ks : List Kind). slice_get ks place) a.kinds_are ∙ param_kind t place p is ∙ ap Some kind, (sort, refl)),
@@ -140,7 +140,7 @@ module _ (modules : List PlainModule) (signals : List SignalRow) (c : Setting) (
     datum_at place k row l e behind is =
         let o = origin LocalAlike a.row.locals t.locals k l a.alike.locals is in
         let long = each_length ParamAlike a.row.params t.params a.alike.params in
-        let same : o.x ≡ row = some_same o.x row (sym (place_behind a.row k place (omega (arith, behind, long)) ∙ o.is) ∙ e) in (
+        let same : o.x ≡ row = same_Some o.x row (sym (place_behind a.row k place (omega (arith, behind, long)) ∙ o.is) ∙ e) in (
           l.len,
           (Owns l.sort l.len, ap (λ (ks : List Kind). slice_get ks place) a.kinds_are ∙ local_kind t k place l behind is, (o.such.0 ∙ ap (λ x. x.sort) same, refl)),
           o.such.1 ∙ ap (λ x. x.array) same,
@@ -149,7 +149,7 @@ module _ (modules : List PlainModule) (signals : List SignalRow) (c : Setting) (
     reference_at : (place : ℕ) (row : ParamRow) (p : TypedParam) → slice_get a.row.params place ≡ Some row → slice_get t.params place ≡ Some p → kind_in p ≡ Refers p.sort → IsAt (roots.Ref place) row.sort false
     reference_at place row p e is kind =
         let o = origin ParamAlike a.row.params t.params place p a.alike.params is in
-        let same : o.x ≡ row = some_same o.x row (sym o.is ∙ e) in
+        let same : o.x ≡ row = same_Some o.x row (sym o.is ∙ e) in
         let sort : p.sort ≡ row.sort = o.such.1 ∙ ap (λ x. x.sort) same in
         (None, (ap (λ (ks : List Kind). slice_get ks place) a.kinds_are ∙ param_kind t place p is ∙ ap Some kind ∙ ap (λ (x : Sort). Some (Refers x)) sort, refl), refl)
 
@@ -247,7 +247,7 @@ module _ (modules : List PlainModule) (signals : List SignalRow) (c : Setting) (
       record {
         routine = p.y;
         there = p.is;
-        same_kind = p.such.kind ∙ some_same row.kind kind e;
+        same_kind = p.such.kind ∙ same_Some row.kind kind e;
         result = p.such.result ∙ sym (ap (option_and_then (λ x. x.result)) is);
         params = needs_alike row.params p.y.params p.such.params ∙ ap (map calls.need_of) (sym (ap params_in is));
       }

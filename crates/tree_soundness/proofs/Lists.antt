@@ -9,9 +9,6 @@ use Rattle.name_laws.specs.Declared.{AreEach}
 use Rattle.name_laws.proofs.Items.{IsFront}
 use Rattle.task_typing.proofs.Rows.{at_left}
 
-pub some_same : {A : Type 0} (x y : A) → Some x ≡ Some y → x ≡ y
-some_same x y e = cc
-
 pub each_more : {A B : Type 0} (R : A → B → Type 0) (xs : List A) (ys : List B) (x : A) (y : B) → AreEach R xs ys → R x y → AreEach R (xs ++ x ∷ []) (ys ++ y ∷ [])
 each_more R [] [] x y h r = (r, tt)
 each_more R [] (z ∷ ys) x y h r = absurd h

@@ -1,6 +1,7 @@
 -- Places and what names stand for, by the rows of the tree.
 use Rattle.std.proofs.Common.{◌≡◌, ℕ, ◌<◌, Bool, true, false, not, ◌||◌, List, [], ◌∷◌, Option, Some, None, is_some, refl, sym, subst, if◌then◌else◌, IsTrue}
 use Rattle.std.specs.Str.{str_eq_ignore_ascii_case}
+use Rattle.std.proofs.lemmas.Option.{same_Some}
 use Rattle.raw_trees.specs.Plain.{PlainName}
 use Rattle.rapid_model.specs.Paths.{has_sort, num_where, part_sort}
 use Rattle.rapid_model.specs.Sorts.{has_values}
@@ -24,7 +25,6 @@ use Rattle.task_typing.specs.Expressions.{IsArray, IsExpr, IsPlace, IsRoot}
 use Rattle.task_typing.specs.Kinds.{Kind}
 use Rattle.task_typing.specs.Setting.{Setting}
 use Rattle.task_typing.proofs.Parts.{value_part}
-use Rattle.tree_soundness.proofs.Lists.{some_same}
 
 -- each component is a part of the whole, and has its type
 abbrev AreParts : Sort → List Component → Type 0
@@ -41,25 +41,25 @@ own_parts _ = tt
 
 -- a num has no components
 num_parts : (whole sort : Sort) (there : Bool) → num_where there ≡ Some sort → AreParts whole (components sort)
-num_parts whole sort true e = subst (λ (x : Sort). AreParts whole (components x)) (some_same sorts.Num sort e) tt
+num_parts whole sort true e = subst (λ (x : Sort). AreParts whole (components x)) (same_Some sorts.Num sort e) tt
 num_parts whole sort false e = absurd cc
 
 parts_of_part : (whole : Sort) (part : PartName) (sort : Sort) → part_sort whole part ≡ Some sort → AreParts whole (components sort)
-parts_of_part whole parts.Whole sort e = subst (λ (x : Sort). AreParts whole (components x)) (some_same whole sort e) (own_parts whole)
+parts_of_part whole parts.Whole sort e = subst (λ (x : Sort). AreParts whole (components x)) (same_Some whole sort e) (own_parts whole)
 parts_of_part sorts.JointTarget parts.Robax sort e =
-    subst (λ (x : Sort). AreParts sorts.JointTarget (components x)) (some_same sorts.RobJoint sort e) (refl, (refl, (refl, (refl, (refl, (refl, tt))))))
+    subst (λ (x : Sort). AreParts sorts.JointTarget (components x)) (same_Some sorts.RobJoint sort e) (refl, (refl, (refl, (refl, (refl, (refl, tt))))))
 parts_of_part sorts.JointTarget parts.Extax sort e =
-    subst (λ (x : Sort). AreParts sorts.JointTarget (components x)) (some_same sorts.ExtJoint sort e) (refl, (refl, (refl, (refl, (refl, (refl, tt))))))
+    subst (λ (x : Sort). AreParts sorts.JointTarget (components x)) (same_Some sorts.ExtJoint sort e) (refl, (refl, (refl, (refl, (refl, (refl, tt))))))
 parts_of_part sorts.JointTarget (parts.Axis n) sort e = num_parts sorts.JointTarget sort _ e
 parts_of_part sorts.RobJoint (parts.Axis n) sort e = num_parts sorts.RobJoint sort _ e
 parts_of_part sorts.ExtJoint (parts.Axis n) sort e = num_parts sorts.ExtJoint sort _ e
 parts_of_part sorts.SpeedData (parts.SpeedPart n) sort e = num_parts sorts.SpeedData sort _ e
-parts_of_part sorts.Tasks parts.Taskname sort e = subst (λ (x : Sort). AreParts sorts.Tasks (components x)) (some_same sorts.Text sort e) tt
+parts_of_part sorts.Tasks parts.Taskname sort e = subst (λ (x : Sort). AreParts sorts.Tasks (components x)) (same_Some sorts.Text sort e) tt
 parts_of_part _ _ sort e = absurd cc
 
 chosen : (whole : Sort) (c d : Component) (is_it : Bool) (others : Option Component) → (if is_it then Some d else others) ≡ Some c → part_sort whole d.part ≡ Some d.sort
     → (others ≡ Some c → part_sort whole c.part ≡ Some c.sort) → part_sort whole c.part ≡ Some c.sort
-chosen whole c d true others e here rest = subst (λ (x : Component). part_sort whole x.part ≡ Some x.sort) (some_same d c e) here
+chosen whole c d true others e here rest = subst (λ (x : Component). part_sort whole x.part ≡ Some x.sort) (same_Some d c e) here
 chosen whole c d false others e here rest = rest e
 
 component_typed : (whole : Sort) (name : List ℕ) (cs : List Component) (c : Component) → component_of name cs ≡ Some c → AreParts whole cs → part_sort whole c.part ≡ Some c.sort
@@ -116,7 +116,7 @@ module _ (c : Setting) (kinds : List Kind) where
   num_whole part e = by_name part.name e
     where
       by_name : (name : PartName) → part_sort sorts.Num name ≡ Some part.sort → part.sort ≡ sorts.Num
-      by_name parts.Whole e = sym (some_same sorts.Num part.sort e)
+      by_name parts.Whole e = sym (same_Some sorts.Num part.sort e)
       by_name _ e = absurd cc
 
   num_part : (sort : Sort) (part : Part) → sort ≡ sorts.Num → part_sort sort part.name ≡ Some part.sort → part.sort ≡ sorts.Num
