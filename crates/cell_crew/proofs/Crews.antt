@@ -12,7 +12,6 @@ use Rattle.rapid_model.specs.declared.request.Request.{Request}
 use Rattle.cell_meaning.specs.Asking.{Asking}
 use Rattle.cell_meaning.specs.Turns.{TakesTurn}
 use Rattle.cell_meaning.proofs.MoreEvents.{part_of-other}
-use Rattle.cell_crew.specs.Crew.{Stand}
 use Rattle.cell_crew.specs.UnderWay.{UnderWay, AreUnderWay}
 
 -- an element after a write is the one written, or it was there
@@ -70,9 +69,6 @@ module _ {M : Type 0} (stands_for : M → List Answer → Type 0) (due : M → O
         let here : task < length machines = slice_get_within machines task m at in
         subst (λ (es : List Event). UnderWay stands_for due m es) (sym (turn_others asks cell actor task before after turn (λ same. omega (arith, here, none, same)))) (ways.each task m at);
   }
-
-  pub stand : (machines : List M) (history : List Event) → AreUnderWay stands_for due machines history → Stand stands_for machines history
-  stand machines history ways = record { each = λ task m at. (ways.each task m at).stands }
 
 module _ {M P : Type 0} (program : M → P) (is_fresh : M → Type 0) (stands_for : M → List Answer → Type 0) (due : M → Option Request) where
   -- the machines before this place have asked their first request, and those from it on nothing

@@ -28,9 +28,6 @@ pub record Left {X Y : Type 0} (a b : Y → X) (i j n : ℕ) (code : ℕ → Y �
   pub grown : j + k ≡ i + n
   pub laid : (ps : Y) → b (left j ps) ≡ a (code i ps)
 
-pub all_left : {X Y : Type 0} (a : Y → X) (i n : ℕ) (code : ℕ → Y → Y) → Left a a i i n code n code
-all_left a i n code = record { grown = refl; laid = λ ps. refl }
-
 -- the first of what is left is put there
 pub left_step : {X Y : Type 0} {a b d : Y → X} {i j k n m h : ℕ} {code one before : ℕ → Y → Y} (rest : ℕ) (left : ℕ → Y → Y) → Left a b i j n code h before → Follows b d j k m one → h ≡ m + rest →
     ((ps : Y) → before j ps ≡ one j (left (j + m) ps)) → Left a d i k n code rest left

@@ -1,21 +1,18 @@
 -- The steps of instructions: an operand is evaluated and read, a place and its number, and the last operation.
 use Rattle.std.proofs.Common.{◌≡◌, refl, sym, subst, ℕ, ◌+◌, ◌≤◌, Bool, true, ℤ, List, [], ◌∷◌, length, if◌then◌else◌}
 use Rattle.rapid_num.specs.declared.joints.Joints.{Joints}
-use Rattle.rapid_num.specs.declared.shape.Shape.{Shape}
 use Rattle.rapid_model.specs.declared.value.Value.{Value}
 use Rattle.rapid_model.specs.declared.value.Value.TheVariants as values
-use Rattle.std.specs.Prelude.{Option}
 use Rattle.typed_trees.specs.Plain.{TypedExpr, TypedPlace}
 use Rattle.typed_trees.specs.declared.datum.Datum.{Datum}
 use Rattle.typed_trees.specs.declared.datum.Datum.TheVariants.{Plain, Mark, Place}
-use Rattle.typed_trees.specs.declared.datum.Datum.TheVariants as datums
 use Rattle.typed_trees.specs.declared.datum.Lvalue.{Lvalue}
 use Rattle.rapid_meaning.specs.Doings.{Doing, Raises, Act, ◌>>=◌, ◌>>◌, after}
 use Rattle.rapid_meaning.specs.Expressions.{expr, place}
 use Rattle.rapid_meaning.specs.Instructions.{ready}
 use Rattle.rapid_meaning.specs.Interrupts.{number_at}
 use Rattle.rapid_meaning.specs.Places.{load}
-use Rattle.rapid_meaning.specs.Values.{mark_in, num_in, shape_in, target_in, text_in, truth_in}
+use Rattle.rapid_meaning.specs.Values.{mark_in, num_in, target_in, text_in, truth_in}
 use Rattle.rapid_meaning.proofs.Follows.{after_after}
 use Rattle.stack_code.specs.Confs.{Conf}
 use Rattle.stack_code.specs.ExprLayouts.{expr_code, place_code}
@@ -94,12 +91,6 @@ pub of_mark : {B : Type 0} (s : Spot) (x : Datum → Doing Conf) (k : ℕ → Do
 unfolding after
 of_mark s x k more (Mark n) = more n
 of_mark s x k more d = sim_misfit
-
-pub of_shape : {B : Type 0} (s : Spot) (x : Datum → Doing Conf) (k : Option Shape → Doing B) {next : B → Doing Conf} → ((h : Option Shape) → Sim s.target s.run (x (datums.Shape h)) (k h) next (failing s)) → (d : Datum)
-    → Sim s.target s.run (x d) (shape_in d >>= k) next (failing s)
-unfolding after
-of_shape s x k more (datums.Shape h) = more h
-of_shape s x k more d = sim_misfit
 
 -- what a place holds, and then
 pub load_then : {A B : Type 0} (s : Spot) (pc : ℕ) (stack : List Datum) (q : Lvalue) (read : Datum → Doing A) (k : A → Doing B) {next : B → Doing Conf} → OpAt s pc ops.Load → length (Place q ∷ stack) ≤ s.target.code.deepest

@@ -15,12 +15,6 @@ pub take-element : {A : Type 0} (xs : List A) (k : ℕ) (x : A) → k < length x
 take-element xs k x lt is =
     ap (λ (i : ℕ). take i xs) (add-one k) ∙ take-suc xs k x lt ∙ ap (λ y. take k xs ++ y ∷ []) (sym is)
 
--- within a list, whatever would stand for what is not there
-pub get_or-there : {A : Type 0} (xs : List A) (k : ℕ) (d e : A) → k < length xs → get_or xs k d ≡ get_or xs k e
-get_or-there [] k d e lt = absurd (omega arith)
-get_or-there (x ∷ xs) zero d e lt = refl
-get_or-there (x ∷ xs) (suc k) d e lt = get_or-there xs k d e (omega arith)
-
 -- nothing is behind the last element
 pub drop-past : {A : Type 0} (xs : List A) (k : ℕ) → length xs ≤ k → drop k xs ≡ []
 drop-past [] zero past = refl

@@ -60,19 +60,6 @@ length-reads file [] (m ∷ trees) same = absurd (omega arith)
 length-reads file (t ∷ texts) [] same = absurd (omega arith)
 length-reads file (t ∷ texts) (m ∷ trees) same = ap (λ (n : ℕ). suc n) (length-reads (file + 1) texts trees (omega arith))
 
--- from a module on
-pub drop-read : (file : ℕ) (texts : List (Vec ℕ Global)) (trees : List RawModule) (k : ℕ) (text : Vec ℕ Global) (tree : RawModule) → k < length texts → k < length trees → text ≡ get_or texts k text
-    → tree ≡ get_or trees k tree → drop k (reads_of file texts trees) ≡ read (file + k) text tree ∷ drop (suc k) (reads_of file texts trees)
-drop-read file [] trees k text tree lt fits is same = absurd (omega arith)
-drop-read file (t ∷ texts) [] k text tree lt fits is same = absurd (omega arith)
-drop-read file (t ∷ texts) (m ∷ trees) zero text tree lt fits is same =
-    let here : file ≡ file + 0 = omega arith in
-    ap (λ (v : Vec ℕ Global). read file v m ∷ reads_of (file + 1) texts trees) (sym is) ∙ ap (λ (x : RawModule). read file text x ∷ reads_of (file + 1) texts trees) (sym same)
-    ∙ ap (λ (n : ℕ). read n text tree ∷ reads_of (file + 1) texts trees) here
-drop-read file (t ∷ texts) (m ∷ trees) (suc k) text tree lt fits is same =
-    drop-read (file + 1) texts trees k text tree (omega arith) (omega arith) is same
-    ∙ ap (λ (n : ℕ). read n text tree ∷ drop (suc k) (reads_of (file + 1) texts trees)) (next_file file k)
-
 -- the text of a module, and the number of its file
 
 pub text_at : (file : ℕ) (texts : List (Vec ℕ Global)) (trees : List RawModule) (k : ℕ) (text : Vec ℕ Global) → length texts ≡ length trees → k < length texts → text ≡ get_or texts k text

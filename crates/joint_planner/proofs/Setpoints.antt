@@ -41,14 +41,6 @@ drop-step_of (suc axes) [] (q ∷ qs) n j = refl
 drop-step_of (suc axes) (p ∷ ps) [] n j = refl
 drop-step_of (suc axes) (p ∷ ps) (q ∷ qs) n j = drop-step_of axes ps qs n j
 
-pub length-step_of : (axes : ℕ) (ps qs : List ℤ) (n j : ℕ) → length (step_of axes ps qs n j) ≡ length ps
-unfolding step_of
-length-step_of zero ps qs n j = refl
-length-step_of (suc axes) [] [] n j = refl
-length-step_of (suc axes) [] (q ∷ qs) n j = refl
-length-step_of (suc axes) (p ∷ ps) [] n j = refl
-length-step_of (suc axes) (p ∷ ps) (q ∷ qs) n j = ap suc (length-step_of axes ps qs n j)
-
 whole_way : (p q : ℤ) (n : ℕ) → 1 ≤ n → p +ℤ rounded_ratio ((q -ℤ p) *ℤ pos n) n ≡ q
 whole_way p q n some = rw (rounded_ratio-whole (q -ℤ p) n some) (omega (arith, ints))
 

@@ -2,7 +2,7 @@
 use Rattle.std.proofs.Common.{◌≡◌, ap, ℕ, zero, suc, nat_le, [], length, IsTrue}
 use Rattle.rapid_meaning.specs.Answering.{performed}
 use Rattle.rapid_meaning.specs.Data.{Data}
-use Rattle.rapid_meaning.specs.Doings.{Doing, Gives, Raises, Misfit}
+use Rattle.rapid_meaning.specs.Doings.{Doing, Gives, Misfit}
 use Rattle.stack_code.specs.CodeData.{CodeData}
 use Rattle.stack_code.specs.CodeRuns.{fitting_by, no_part}
 use Rattle.stack_code.specs.Confs.{Conf}
@@ -36,13 +36,5 @@ unfolding Comes performed
 leads_misfit code zero d lead = lead
 leads_misfit code (suc k) d lead = lead
 
-pub leads_raises : (code : CodeData) (k n : ℕ) (d : Data) → Leads code k (Raises n) d → ⊥
-unfolding Comes performed
-leads_raises code zero n d lead = lead
-leads_raises code (suc k) n d lead = lead
-
 pub runs_misfit : (code : CodeData) (d : Data) → Runs code Misfit d → ⊥
 runs_misfit code d run = leads_misfit code run.0 d run.1
-
-pub runs_raises : (code : CodeData) (n : ℕ) (d : Data) → Runs code (Raises n) d → ⊥
-runs_raises code n d run = leads_raises code run.0 n d run.1

@@ -8,7 +8,7 @@ use Rattle.rapid_model.specs.declared.request.Request.{Request}
 use Rattle.rapid_model.specs.declared.request.Request.TheVariants.{End}
 use Rattle.rapid_meaning.specs.Answering.{Outcome, Asking, Misfits, Unfit, joined, performed}
 use Rattle.rapid_meaning.specs.Data.{Data}
-use Rattle.rapid_meaning.specs.Doings.{Doing, Gives, Asks, Ends, Reads, Writes}
+use Rattle.rapid_meaning.specs.Doings.{Doing, Gives, Asks, Ends}
 use Rattle.stack_code.specs.CodeData.{CodeData}
 use Rattle.stack_code.specs.CodeRuns.{code_after, exec, fitting_by, goes, no_part}
 use Rattle.stack_code.specs.Confs.{Conf}
@@ -37,14 +37,6 @@ steps code c d answers here room = (
       let moved : here.0 + 1 + more ≡ here.0 + suc more = omega arith in
       ap (λ (k : ℕ). code_after code k (answers ++ left)) moved ∙ (here.1 (suc more) left ∙ step_done code more c d left room),
 )
-
-pub reads : (code : CodeData) (f : Data → Doing Conf) (d : Data) (answers : List Answer) → Reached code (Reads f) d answers → Reached code (f d) d answers
-unfolding performed
-reads code f d answers here = (here.0, λ more left. here.1 more left)
-
-pub writes : (code : CodeData) (e : Data) (m : Doing Conf) (d : Data) (answers : List Answer) → Reached code (Writes e m) d answers → Reached code m e answers
-unfolding performed
-writes code e m d answers here = (here.0, λ more left. here.1 more left)
 
 -- an answer that fits what is asked
 answer_taken : (code : CodeData) (more : ℕ) (r : Request) (f : Answer → Doing Conf) (d : Data) (a : Answer) (left : List Answer) → IsTrue (fits_request (fitting_by code d.trapped) r a)
@@ -82,7 +74,3 @@ ends_by code fate d answers here = (here.0, λ more. stands_at code (Ends fate) 
 pub asks_it : (code : CodeData) (r : Request) (f : Answer → Doing Conf) (d : Data) (answers : List Answer) → Reached code (Asks r f) d answers
     → (k : ℕ) × (code_after code k answers ≡ Asking r d)
 asks_it code r f d answers here = let it = asks_by code r f d answers here in (it.0 + 0, it.1 0)
-
-pub ends_it : (code : CodeData) (fate : Fate) (d : Data) (answers : List Answer) → Reached code (Ends fate) d answers
-    → (k : ℕ) × (code_after code k answers ≡ Asking (End fate) d)
-ends_it code fate d answers here = let it = ends_by code fate d answers here in (it.0 + 0, it.1 0)

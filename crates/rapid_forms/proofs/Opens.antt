@@ -3,7 +3,7 @@ use Rattle.std.proofs.Common.{◌≡◌, ℕ, suc, true, inl, inr, List, [], ◌
 use Rattle.rapid_lexer.specs.Tokens.{Lexeme}
 use Rattle.rapid_forms.specs.declared.sign.Sign.{Sign}
 use Rattle.rapid_forms.specs.Signs.{has, sign_of}
-use Rattle.rapid_forms.specs.Forms.{Form, one, seq, either, optional, many, made}
+use Rattle.rapid_forms.specs.Forms.{Form, one, seq, either, optional, made}
 use Rattle.rapid_forms.proofs.Sets.{covered, has_cases, has_covered}
 
 -- F n is the form within n levels
@@ -49,10 +49,6 @@ either_opens {fa = fa} {fb = fb} o o' = record {
 pub optional_opens : {A : Type 0} {first : List Sign} {F : ℕ → Form A} → Opens first F → Opens first (λ n. optional (F n))
 unfolding optional
 optional_opens o = record { opens = λ t h. let (m, b) = o.opens t h in (m, inr b) }
-
-pub many_opens : {A : Type 0} {first : List Sign} {F : ℕ → Form A} → Opens first F → Opens first (λ n. many (F n))
-unfolding many
-many_opens o = record { opens = λ t h. let (m, b) = o.opens t h in (m, ([], [], t ∷ [], refl, refl, inr b)) }
 
 pub made_opens : {A B : Type 0} {first : List Sign} {F : ℕ → Form A} (f : ℕ → A → B) → Opens first F → Opens first (λ n. made f (F n))
 unfolding made

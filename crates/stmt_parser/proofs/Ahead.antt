@@ -9,7 +9,7 @@ use Rattle.rapid_forms.specs.declared.sign.Sign.TheVariants as signs
 use Rattle.rapid_forms.specs.Forms.{Form, seq, either, optional, many, made, WholeEach}
 use Rattle.rapid_forms.proofs.Laws.{LL, one_ll, seq_ll, either_ll, optional_ll, many_ll, made_ll, nothing_ll, larger_ll, begun_one, begun_more, begun_many}
 use Rattle.rapid_forms.proofs.Up.{Up, up_refl, seq_up, either_up, optional_up, many_up, made_up, nothing_up}
-use Rattle.rapid_forms.proofs.Opens.{Opens, fewer_opens, one_opens, seq_opens, either_opens, optional_opens, made_opens, deeper_opens}
+use Rattle.rapid_forms.proofs.Opens.{Opens, fewer_opens, one_opens, seq_opens, either_opens, made_opens, deeper_opens}
 use Rattle.rapid_forms.proofs.Same.{Same, same_refl, same_sym, same_trans, seq_same, either_same, made_same, either_swapped, either_bracketed, crossed, same_ll, left, right, shared, both_shared, made_made, made_itself, made_behind, fronted}
 use Rattle.expr_parser.specs.Grammar.{Inside, inside, mark, name, parts_of, place, expr_of, place_tree, behind, none_or, first_and_more}
 use Rattle.expr_parser.specs.Reads.{expr_signs, arg_signs}
@@ -398,7 +398,3 @@ stmt_opens =
 pub stmts_opens : Opens stmt_signs stmts
 unfolding stmts stmt list
 stmts_opens = deeper_opens stmts (made_opens _ (seq_opens _ stmt_opens))
-
-pub list_opens : Opens stmt_signs list
-unfolding list list_of
-list_opens = made_opens _ (optional_opens stmts_opens)

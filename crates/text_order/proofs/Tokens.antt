@@ -6,10 +6,6 @@ use Rattle.raw_trees.specs.Plain.{PlainStmt}
 use Rattle.text_order.specs.Stated.{byte_of, IsBelow, AreAscending}
 use Rattle.text_order.proofs.Stands.{Stand}
 
-below_all : (n m : ℕ) (ns : List ℕ) → n < m → IsBelow m ns → IsBelow n ns
-below_all n m [] less below = tt
-below_all n m (k ∷ ns) less below = (omega (arith, less, below.0), below_all n m ns less below.1)
-
 -- tokens from a place on stand there or behind it
 from_on : (at : ℕ) (bytes : List ℕ) (ts : List Lexeme) (there : ℕ) (left : List ℕ) (n : ℕ) → n < at → Passes at bytes ts there left → IsBelow n (map (λ (t : Lexeme). t.at) ts)
 from_on at bytes [] there left n less passes = tt
