@@ -1,6 +1,7 @@
 -- The tasks of an accepted cell ask what they may, and something until their End.
-use Rattle.std.proofs.Common.{◌≡◌, refl, sym, ap, subst, ℕ, ◌<◌, true, false, List, length, map, is_some, Some, slice_get}
-use Rattle.std.specs.Prelude.{IsTrue, ⊤}
+use Rattle.std.proofs.Common.{◌≡◌, refl, sym, subst, ℕ, ◌<◌, true, false, List, length, map, is_some, Some, slice_get}
+use Rattle.std.specs.Prelude.{IsTrue}
+use Rattle.std.proofs.lemmas.Bool.{and_from}
 use Rattle.rapid_model.specs.Own.{part_of, answers_of, has_ended}
 use Rattle.rapid_model.specs.Requests.{suits_actor}
 use Rattle.rapid_model.specs.ScriptData.{ScriptData}
@@ -14,16 +15,15 @@ use Rattle.cell_meaning.specs.Asking.{with_inputs}
 use Rattle.cell_meaning.specs.Histories.{IsLegal}
 use Rattle.cell_meaning.specs.MayAsk.{is_served, may_ask}
 use Rattle.cell_meaning.specs.Premises.{AsksOne, TasksAskWell}
-use Rattle.cell_meaning.proofs.Lists.{both_so}
-use Rattle.rapid_meaning.specs.Answering.{Outcome, Asking}
+use Rattle.rapid_meaning.specs.Answering.{Asking}
 use Rattle.rapid_meaning.specs.Asking.{tree_asks}
 use Rattle.rapid_meaning.specs.Data.{Data}
-use Rattle.rapid_meaning.specs.Runs.{asks, asked_after, next_of, state_after}
+use Rattle.rapid_meaning.specs.Runs.{asks, asked_after, state_after}
 use Rattle.rapid_meaning.proofs.Asking as one_request
 use Rattle.task_typing.specs.Asked.{IsAsked}
 use Rattle.task_typing.specs.OwnEvents.{AreOwn, own_events}
 use Rattle.task_typing.specs.Setting.{Setting}
-use Rattle.task_typing.proofs.Own.{are_own, may_be_asked}
+use Rattle.task_typing.proofs.Own.{are_own, may_be_asked, is_asking}
 use Rattle.task_typing.proofs.Until.{asks_on}
 use Rattle.task_typing.proofs.Whole.{asked}
 use Rattle.tree_soundness.specs.Accepted.{IsAccepted}
@@ -33,15 +33,6 @@ use Rattle.accepted_runs.proofs.Trees.{tree_there}
 
 pub asks_one : (trees : List TypedTree) → AsksOne (tree_asks trees)
 asks_one trees = record { one = λ actor answers r r' p q. one_request.one trees actor answers r r' p q }
-
--- what is due stands with some data
-asking_with : (o : Outcome ⊤) (request : Request) → next_of o ≡ asks request → (d : Data) × (o ≡ Asking request d)
-asking_with (Asking r d) request e = let same : r ≡ request = cc in (d, ap (λ (x : Request). Asking x d) same)
-asking_with o request e = absurd cc
-
-pub stands_asking : (tree : TypedTree) (answers : List Answer) (request : Request) → asked_after tree answers ≡ asks request → (d : Data) × (state_after tree answers ≡ Asking request d)
-unfolding asked_after
-stands_asking tree answers request e = asking_with (state_after tree answers) request e
 
 -- the cell serves what a well typed task asks
 served : (c : Setting) (d : Data) (request : Request) → IsAsked c d request → is_served request ≡ true
@@ -55,10 +46,10 @@ may_next script made task tree mine request accepted there own due =
     let h = accepted_right script made task tree accepted there in
     let answers : List Answer = map (λ (e : Event). e.answer) mine in
     let c : Setting = record { signals = length made.cell.signals; arm = is_some h.row.arm; tree = tree } in
-    let now : (d : Data) × (state_after tree answers ≡ Asking request d) = stands_asking tree answers request due in
+    let now : (d : Data) × (state_after tree answers ≡ Asking request d) = is_asking tree answers request due in
     let may : IsAsked c now.0 request = asked (length made.cell.signals) (is_some h.row.arm) made.cell task tree answers request now.0 h.typed h.numbered now.1 in
     let suits : IsTrue (suits_actor made.cell task (own_events task tree answers) request) = may_be_asked made.cell task h.row tree answers request h.there h.typed h.numbered due in
-    both_so (is_served request) (suits_actor made.cell task mine request) (served c now.0 request may)
+    and_from (is_served request) (suits_actor made.cell task mine request) (served c now.0 request may)
     (subst (λ (events : List Event). IsTrue (suits_actor made.cell task events request)) (sym (are_own task tree mine own)) suits)
 
 may : (script : ScriptData) (made : MadeCell) (history : List Event) (task : ℕ) (request : Request) → IsAccepted script made → task < length made.cell.tasks

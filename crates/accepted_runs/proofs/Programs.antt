@@ -11,7 +11,7 @@ use Rattle.rapid_meaning.specs.Answering.{Asking}
 use Rattle.rapid_meaning.specs.Asking.{tree_asks}
 use Rattle.rapid_meaning.specs.Data.{Data}
 use Rattle.rapid_meaning.specs.Runs.{FitsSteps, asks, asked_after, state_after}
-use Rattle.task_typing.proofs.Own.{asks_it}
+use Rattle.task_typing.proofs.Own.{asks_it, is_asking}
 use Rattle.task_typing.proofs.Until.{fits_steps}
 use Rattle.stack_code.specs.CodeData.{CodeData}
 use Rattle.stack_code.specs.CodeRuns.{code_after}
@@ -24,7 +24,6 @@ use Rattle.cell_crew.specs.Crew.{RunPrograms, RunsProgram}
 use Rattle.tree_soundness.specs.Accepted.{IsAccepted}
 use Rattle.tree_soundness.proofs.Accepted.{accepted_right}
 use Rattle.accepted_code.proofs.Checking.{checked_is}
-use Rattle.accepted_runs.proofs.Asking.{stands_asking}
 use Rattle.accepted_runs.proofs.Parts.{asks_by, due_by, fit_part, own_part}
 
 -- code asks what its tree asks
@@ -32,7 +31,7 @@ use Rattle.accepted_runs.proofs.Parts.{asks_by, due_by, fit_part, own_part}
 code_asks : (tree : TypedTree) (code : CodeData) (answers : List Answer) (request : Request) → AsksAs tree code → FitsSteps tree answers → asked_after tree answers ≡ asks request
     → CodeAsks code answers request
 code_asks tree code answers request same fits due =
-    let now : (d : Data) × (state_after tree answers ≡ Asking request d) = stands_asking tree answers request due in
+    let now : (d : Data) × (state_after tree answers ≡ Asking request d) = is_asking tree answers request due in
     let by : (k : ℕ) × ((more : ℕ) → code_after code (k + more) answers ≡ state_after tree answers) = same.stands answers fits in
     record { standing = now.0; by = record { operations = by.0; asked = λ more. by.1 more ∙ now.1 } }
 

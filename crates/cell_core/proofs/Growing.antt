@@ -144,7 +144,7 @@ count_within cell history served request same few left = by (is_counted request)
     by false h = omega (arith, few)
 
 -- each event is counted, or ended its task, or is an input
-none_told : (told : Option Fate) → is_some told ≡ false → told ≡ None
+pub none_told : (told : Option Fate) → is_some told ≡ false → told ≡ None
 none_told None h = refl
 none_told (Some fate) h = cc
 

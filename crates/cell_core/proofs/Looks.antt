@@ -1,5 +1,5 @@
 -- What the boards tell of one more task, what a request leaves of them, and what an event made of them is.
-use Rattle.std.proofs.Common.{◌≡◌, ℕ, suc, ◌+◌, ◌<◌, ◌≤◌, Bool, true, false, List, [], ◌∷◌, ◌++◌, length, refl, sym, ap, subst, arith, length-set}
+use Rattle.std.proofs.Common.{◌≡◌, ℕ, suc, ◌+◌, ◌<◌, ◌≤◌, Bool, List, [], ◌∷◌, ◌++◌, length, refl, sym, ap, subst, arith, length-set}
 use Rattle.std.specs.Prelude.{IsTrue, ◌&&◌, ◌||◌, not, is_some}
 use Rattle.std.specs.List.{All}
 use Rattle.rapid_model.specs.CellData.{CellData}
@@ -41,11 +41,6 @@ stand_more n boards = ap (λ (k : ℕ). all_stand k boards) (next n)
 
 pub fates_more : (spent : Bool) (n : ℕ) (actors : List Actor) → fates_of spent (n + 1) actors ≡ fates_of spent n actors ++ standing spent (actor_at actors n).end ∷ []
 fates_more spent n actors = ap (λ (k : ℕ). fates_of spent k actors) (next n)
-
-pub same_tests : (x y : Bool) → (x ≡ true → y ≡ true) → (y ≡ true → x ≡ true) → x ≡ y
-same_tests true y there back = sym (there refl)
-same_tests false true there back = back refl
-same_tests false false there back = refl
 
 -- no request makes a queue longer
 le_self : (n : ℕ) → n ≤ n

@@ -3,6 +3,7 @@ use Rattle.std.proofs.Common.{◌≡◌, ℕ, zero, suc, ◌-◌, ◌<◌, false
 use Rattle.std.specs.Prelude.{IsTrue}
 use Rattle.std.specs.Option.{unwrap_or}
 use Rattle.std.proofs.lemmas.Option.{slice_get-get_or}
+use Rattle.std.proofs.lemmas.Bool.{and_from}
 use Rattle.rapid_model.specs.Paths.{fits_part, has_element, part_sort}
 use Rattle.rapid_model.specs.declared.path.Path.{Path}
 use Rattle.rapid_model.specs.declared.pers_cell.PersCell.{PersCell}
@@ -14,7 +15,6 @@ use Rattle.persist_store.specs.Stores.{PersData, IsPut, IsStored, element_of, ro
 use Rattle.persist_store.proofs.Elements.{within_width}
 use Rattle.cell_meaning.specs.Stored.{part_put, with_part, value_at}
 use Rattle.cell_meaning.proofs.BoardsTell.{kept_value}
-use Rattle.cell_meaning.proofs.Lists.{both_so}
 use Rattle.cell_meaning.proofs.PartChanges.{elements_by_part}
 use Rattle.cell_core.specs.Boards.{elements_at, put_in}
 use Rattle.cell_core.specs.Changes.{stays_same}
@@ -62,4 +62,4 @@ part_stays rows pers path old new has fits at =
     let cell_row : PersCell = record { name = []; owner = None; sort = row.sort; len = row.len; first = [] } in
     let here : value_at row.values path ≡ Some old = ap (λ (vs : List Value). value_at vs path) (sym (elements_row rows pers)) ∙ at in
     sym (elements_by_part cell_row row.values path old new has.kept
-    (both_so (has_element row.len path.index) (is_some (part_sort row.sort path.part)) has.element has.part) fits here)
+    (and_from (has_element row.len path.index) (is_some (part_sort row.sort path.part)) has.element has.part) fits here)

@@ -11,6 +11,7 @@ use Rattle.rapid_model.specs.declared.event.Event.{Event}
 use Rattle.rapid_model.specs.declared.fate.Fate.{Fate}
 use Rattle.rapid_model.specs.declared.request.Request.{Request}
 use Rattle.cell_meaning.proofs.MoreEvents.{end_of-more}
+use Rattle.cell_core.proofs.Growing.{none_told}
 use Rattle.cell_crew.specs.Crew.{answers_before_end}
 use Rattle.cell_crew.specs.UnderWay.{UnderWay}
 
@@ -61,10 +62,6 @@ ended_more mine e p = ap (λ (o : Option Fate). is_some o) (end_of-more mine e) 
     by None b q = refl
     by (Some x) b q = cc
 
-pub told_none : (told : Option Fate) → is_some told ≡ false → told ≡ None
-told_none None p = refl
-told_none (Some fate) p = cc
-
 told_some : (answers : List Answer) (answer : Answer) (told : Option Fate) → is_some told ≡ true → answers ++ and_answer answer [] told ≡ answers
 told_some answers answer None p = cc
 told_some answers answer (Some fate) p = append-nil answers
@@ -81,7 +78,7 @@ module _ {M : Type 0} (stands_for : M → List Answer → Type 0) (due : M → O
   pub way_on : (m later : M) (mine : List Event) (e : Event) → is_some (fate_told e.request) ≡ false → UnderWay stands_for due m mine → IsSome (due later)
       → ((before : List Answer) → stands_for m before → stands_for later (before ++ e.answer ∷ [])) → UnderWay stands_for due later (mine ++ e ∷ [])
   way_on m later mine e no_end way asks on = record {
-    stands = subst (λ (xs : List Answer). stands_for later xs) (sym (before_end_more mine e ∙ ap (λ (told : Option Fate). answers_before_end mine ++ and_answer e.answer [] told) (told_none (fate_told e.request) no_end)))
+    stands = subst (λ (xs : List Answer). stands_for later xs) (sym (before_end_more mine e ∙ ap (λ (told : Option Fate). answers_before_end mine ++ and_answer e.answer [] told) (none_told (fate_told e.request) no_end)))
         (on (answers_before_end mine) way.stands);
     goes_on = λ going_on. asks;
   }

@@ -12,10 +12,10 @@ use Rattle.cell_meaning.specs.Asking.{Asking, with_inputs}
 use Rattle.cell_meaning.specs.Histories.{IsLegal}
 use Rattle.cell_meaning.specs.Inputs.{inputs_done}
 use Rattle.cell_meaning.specs.Turns.{TakesTurn, TakeTurns, IsRound, AfterRounds}
+use Rattle.cell_meaning.proofs.ByTurns.{legal_none}
 use Rattle.cell_crew.specs.Crew.{RunsProgram, RunPrograms}
 use Rattle.cell_crew.specs.UnderWay.{UnderWay, AreUnderWay}
 use Rattle.cell_crew.proofs.Crews.{map_set, map_at, turn_others, under_way_turn, under_way_other}
-use Rattle.cell_crew.proofs.Served.{legal_none}
 
 no_turns : (asks : Asking) (cell : CellData) (history : List Event) → TakeTurns asks cell 0 0 history history
 unfolding TakeTurns

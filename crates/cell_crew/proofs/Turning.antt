@@ -13,10 +13,11 @@ use Rattle.cell_meaning.specs.Counted.{can_be_served}
 use Rattle.cell_meaning.specs.Histories.{Follows, IsLegal}
 use Rattle.cell_meaning.specs.Turns.{TakesTurn}
 use Rattle.cell_meaning.proofs.MoreEvents.{part_of-own}
+use Rattle.cell_core.proofs.Growing.{none_told}
 use Rattle.cell_crew.specs.Crew.{RunsProgram}
 use Rattle.cell_crew.specs.UnderWay.{UnderWay}
 use Rattle.cell_crew.specs.Turned.{event_of, CannotFollow, CameOf}
-use Rattle.cell_crew.proofs.Amid.{answers_in, answers_in-more, ended_more, told_none, stood, way_ended, way_on}
+use Rattle.cell_crew.proofs.Amid.{answers_in, answers_in-more, ended_more, stood, way_ended, way_on}
 
 pub own_more : (task : ℕ) (history after : List Event) (request : Request) (answer : Answer) → after ≡ history ++ event_of task request answer ∷ []
     → part_of task after ≡ part_of task history ++ event_of task request answer ∷ []
@@ -88,7 +89,7 @@ module _ {M P : Type 0} (program : M → P) (fits : P → List Answer → Type 0
   pub goes_on_it : (asks : Asking) (cell : CellData) (task : ℕ) (m : M) (history after : List Event) (request : Request) (answer : Answer) → AtTurn asks cell task m history request
       → after ≡ history ++ event_of task request answer ∷ [] → has_ended (part_of task after) ≡ false → IsSomeAnd (due m) (λ r. fate_told r ≡ None)
   goes_on_it asks cell task m history after request answer at is going =
-      subst (λ (o : Option Request). IsSomeAnd o (λ r. fate_told r ≡ None)) (sym at.is_due) (told_none (fate_told request) (sym (ends_it asks cell task m history after request answer at is) ∙ going))
+      subst (λ (o : Option Request). IsSomeAnd o (λ r. fate_told r ≡ None)) (sym at.is_due) (none_told (fate_told request) (sym (ends_it asks cell task m history after request answer at is) ∙ going))
 
   -- where it has, its machine is under way as it is
   pub way_ends : (asks : Asking) (cell : CellData) (task : ℕ) (m : M) (history after : List Event) (request : Request) (answer : Answer) → AtTurn asks cell task m history request

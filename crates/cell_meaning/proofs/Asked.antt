@@ -1,7 +1,7 @@
 -- What is known of an actor that may ask something, and of its request.
 use Rattle.std.proofs.Common.{◌≡◌, ◌⊎◌, inl, inr, ℕ, ◌<◌, Bool, true, false, List, length, Option, Some, None, refl, ap, arith}
 use Rattle.std.specs.Prelude.{IsTrue, not, ◌&&◌, ◌==◌, nat_lt, slice_get}
-use Rattle.std.proofs.lemmas.Bool.{and_parts, eqb-true, ltb-true, false≢true}
+use Rattle.std.proofs.lemmas.Bool.{and_parts, eqb-true, ltb-true, false≢true, not-true}
 use Rattle.std.proofs.lemmas.Option.{slice_get_within}
 use Rattle.rapid_model.specs.CellData.{CellData}
 use Rattle.rapid_model.specs.Own.{has_ended, is_held, is_rise}
@@ -31,10 +31,6 @@ abbrev pub suits_by : CellData → ℕ → List Event → Request → Option Tas
 suits_by cell actor mine request (Some row) = not (has_ended mine) && goes_with (is_held mine) (is_rise request) && suits_task cell row mine request
 suits_by cell actor mine request None = actor == length cell.tasks && suits_inputs cell mine request
 
-not_true : (b : Bool) → not b ≡ true → b ≡ false
-not_true false h = refl
-not_true true h = absurd (false≢true h)
-
 next_input : (cell : CellData) (actor : ℕ) (mine : List Event) (request : Request) → actor ≡ length cell.tasks → suits_inputs cell mine request ≡ true → ScriptMay cell actor mine request
 next_input cell actor mine (requests.Input index) script suits =
     let w = and_parts (index == length mine) (nat_lt index (length cell.inputs)) suits in
@@ -51,7 +47,7 @@ who cell actor mine request (Some row) at suits =
       row = row;
       at = at;
       within = slice_get_within cell.tasks actor row at;
-      alive = not_true (has_ended mine) v.0;
+      alive = not-true (has_ended mine) v.0;
       goes = v.1;
       suits = w.1;
     })

@@ -3,7 +3,7 @@ use Rattle.std.proofs.Common.{◌≡◌, inl, inr, ℕ, zero, suc, ◌+◌, ◌-
 use Rattle.std.specs.Prelude.{◌↔◌, IsTrue}
 use Rattle.std.specs.List.{list_all, range_with_len}
 use Rattle.std.specs.Option.{option_and_then}
-use Rattle.std.proofs.lemmas.Bool.{and_parts, cases_eq, ltb-true, lt-ltb, false≢true}
+use Rattle.std.proofs.lemmas.Bool.{and_parts, cases_eq, ltb-true, lt-ltb, false≢true, and_from}
 use Rattle.std.proofs.lemmas.Option.{slice_get-get_or}
 use Rattle.rapid_model.specs.declared.path.Path.{Path}
 use Rattle.rapid_model.specs.declared.value.Value.{Value}
@@ -13,7 +13,6 @@ use Rattle.persist_store.specs.Stores.{PersData, element_of as kept_element}
 use Rattle.sync_tasks.specs.Meetings.{MeetingsData, Meets, stand_at, arrivals, is_listed, come}
 use Rattle.cell_meaning.specs.Meetings.{meets}
 use Rattle.cell_meaning.specs.Stored.{value_at}
-use Rattle.cell_meaning.proofs.Lists.{both_so}
 
 -- a test of all numbers from one on
 each_number : (p : ℕ → Bool) (from count : ℕ) → list_all p (range_with_len from count) ≡ true → (k : ℕ) → from ≤ k → k < from + count → p k ≡ true
@@ -28,7 +27,7 @@ each_number p from (suc count) all k low high =
 all_numbers : (p : ℕ → Bool) (from count : ℕ) → ((k : ℕ) → from ≤ k → k < from + count → p k ≡ true) → list_all p (range_with_len from count) ≡ true
 all_numbers p from zero each = refl
 all_numbers p from (suc count) each =
-    both_so (p from) (list_all p (range_with_len (from + 1) count)) (each from (omega arith) (omega arith))
+    and_from (p from) (list_all p (range_with_len (from + 1) count)) (each from (omega arith) (omega arith))
     (all_numbers p (from + 1) count (λ k low high. each k (omega arith) (omega arith)))
 
 -- an arrival meets the others just where the board says so

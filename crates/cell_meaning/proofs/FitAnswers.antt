@@ -3,7 +3,7 @@ use Rattle.std.proofs.Common.{◌≡◌, ◌⊎◌, inl, inr, ℕ, ◌-◌, ◌�
 use Rattle.std.specs.Prelude.{◌&&◌, IsTrue, Result, Ok, Err, count_by, slice_get, if◌then◌else◌}
 use Rattle.std.specs.List.{list_all}
 use Rattle.std.specs.Option.{option_map}
-use Rattle.std.proofs.lemmas.Bool.{and_parts, eq-eqb, le-leb, false≢true}
+use Rattle.std.proofs.lemmas.Bool.{and_parts, eq-eqb, le-leb, false≢true, and_from}
 use Rattle.rapid_num.specs.declared.joints.Joints.{Joints}
 use Rattle.rapid_num.specs.Reach.{is_position}
 use Rattle.rapid_model.specs.CellData.{CellData, IsCell}
@@ -40,7 +40,6 @@ use Rattle.cell_meaning.specs.Zones.{zones_after}
 use Rattle.cell_meaning.proofs.Asked.{TaskMay, ScriptMay, who_may, asked_served}
 use Rattle.cell_meaning.proofs.InterruptsKept.{first_is_due, free_number, tasks_kept}
 use Rattle.cell_meaning.proofs.TaskKept.{KeptTask, one_if, has_place}
-use Rattle.cell_meaning.proofs.Lists.{both_so}
 use Rattle.cell_meaning.proofs.Positions.{arm_well}
 use Rattle.cell_meaning.proofs.ValuesKept.{test_of, value_there, values_kept}
 use Rattle.cell_meaning.proofs.ZonesKept.{free_zone, zones_kept}
@@ -60,7 +59,7 @@ first_fits mine t number trap is kept =
     let begun = kept.begun in
     let even : count_by (λ e. is_trap e.answer) mine ≡ count_by (λ e. is_leave e.request) mine = omega (arith, begun, none_under_way) in
     let free : not (is_trapped mine) ≡ true = ap (λ (b : Bool). not (not b)) (eq-eqb (count_by (λ e. is_trap e.answer) mine) (count_by (λ e. is_leave e.request) mine) even) in
-    both_so (has_connected mine trap) (not (is_trapped mine)) (named (connected_at t.numbers number) refl connected first.its) free
+    and_from (has_connected mine trap) (not (is_trapped mine)) (named (connected_at t.numbers number) refl connected first.its) free
   where
     named : (place : Option Connected) → connected_at t.numbers number ≡ place → is_some place ≡ true → trap ≡ trap_of (connected_at t.numbers number) → has_connected mine trap ≡ true
     named None at h its = absurd (false≢true h)
@@ -72,7 +71,7 @@ look_fits cell mine t seen dues.Flood is kept = refl
 look_fits cell mine t seen (dues.Trap number trap) is kept = first_fits mine t number trap is kept
 
 within_so : (low high n : ℕ) → low ≤ n → n ≤ high → is_within low high n ≡ true
-within_so low high n from to = both_so (nat_le low n) (nat_le n high) (le-leb low n from) (le-leb n high to)
+within_so low high n from to = and_from (nat_le low n) (nat_le n high) (le-leb low n from) (le-leb n high to)
 
 number_fits : (cell : CellData) (mine : List Event) (t : TaskData) (old trap : ℕ) (result : Result ℕ ConnectFault) → connect_answer t old ≡ result → length t.numbers ≡ 64
     → Fits cell mine (requests.Connect old trap) (number_of result)

@@ -1,7 +1,5 @@
 -- Lists that grow, and lists that are written.
-use Rattle.std.proofs.Common.{◌≡◌, ℕ, zero, suc, Bool, true, false, List, [], ◌∷◌, ◌++◌, get_or, set, refl, ap, sym, ◌∙◌, subst, append_assoc}
-use Rattle.std.specs.Prelude.{◌&&◌}
-use Rattle.std.proofs.lemmas.Bool.{false≢true}
+use Rattle.std.proofs.Common.{◌≡◌, ℕ, zero, suc, List, [], ◌∷◌, ◌++◌, get_or, set, refl, ap, sym, ◌∙◌, subst, append_assoc}
 use Rattle.std.proofs.lemmas.List.{append-nil}
 
 -- what holds of no elements, and of one more wherever it held before, holds of the whole list
@@ -19,7 +17,3 @@ written_keeps P (x ∷ xs) zero zero a d old new = new refl
 written_keeps P (x ∷ xs) zero (suc j) a d old new = old
 written_keeps P (x ∷ xs) (suc i) zero a d old new = old
 written_keeps P (x ∷ xs) (suc i) (suc j) a d old new = written_keeps P xs i j a d old (λ e. new (ap suc e))
-
-pub both_so : (a b : Bool) → a ≡ true → b ≡ true → (a && b) ≡ true
-both_so true b h k = k
-both_so false b h k = absurd (false≢true h)

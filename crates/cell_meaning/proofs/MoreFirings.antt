@@ -1,8 +1,8 @@
 -- What firings and looks leave of the interrupts.
 use Rattle.std.proofs.Common.{◌≡◌, ℕ, zero, suc, ◌+◌, ◌≤◌, Bool, true, false, not, cond, ◌||◌, nat_lt, List, [], ◌∷◌, ◌++◌, length, map, take, Option, None, Some, refl, ◌∙◌, ap, arith}
-use Rattle.std.specs.Prelude.{◌&&◌, if◌then◌else◌}
+use Rattle.std.specs.Prelude.{if◌then◌else◌}
 use Rattle.std.specs.List.{All, filter, range_with_len}
-use Rattle.std.proofs.lemmas.Bool.{ltb-true, true≢false}
+use Rattle.std.proofs.lemmas.Bool.{ltb-true, true≢false, and_right}
 use Rattle.std.proofs.lemmas.List.{append-nil, take_all}
 use Rattle.rapid_model.specs.declared.request.Request.TheVariants as requests
 use Rattle.trap_dispatch.specs.declared.connected.Connected.{Connected}
@@ -19,13 +19,9 @@ on_none : (order : Option Order) → is_on [] order ≡ false
 on_none None = refl
 on_none (Some order) = refl
 
-and_false : (a b : Bool) → b ≡ false → (a && b) ≡ false
-and_false true b h = h
-and_false false b h = refl
-
 fires_none : (place : Option Connected) → fires [] place ≡ false
 fires_none None = refl
-fires_none (Some c) = and_false (not c.asleep) (is_on [] c.order) (on_none c.order)
+fires_none (Some c) = and_right (not c.asleep) (is_on [] c.order) (on_none c.order)
 
 none_fired : (numbers : List (Option Connected)) (range : List ℕ) → filter (λ number. fires [] (connected_at numbers number)) range ≡ []
 none_fired numbers [] = refl

@@ -59,7 +59,7 @@ put_back (values.Text text) parts.Taskname old is =
     ap (λ (o : Value). put_part (values.Text text) parts.Taskname o) same_part
 put_back _ _ old is = cc
 
-same_tests : (x y : Bool) → (x ≡ true → y ≡ true) → (y ≡ true → x ≡ true) → x ≡ y
+pub same_tests : (x y : Bool) → (x ≡ true → y ≡ true) → (y ≡ true → x ≡ true) → x ≡ y
 same_tests true y there back = sym (there refl)
 same_tests false true there back = back refl
 same_tests false false there back = refl

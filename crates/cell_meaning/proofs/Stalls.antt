@@ -1,7 +1,7 @@
 -- A cell is stalled exactly where its history is whole, a task has not ended, and steps are left.
 use Rattle.std.proofs.Common.{◌≡◌, ◌⊎◌, inl, inr, ℕ, zero, suc, ◌<◌, Bool, true, false, not, List, length, Option, None, Some, refl, sym, ◌∙◌, ap, subst, arith}
 use Rattle.std.specs.Prelude.{◌&&◌, ◌||◌, ◌==◌, IsTrue, nat_lt, slice_get}
-use Rattle.std.proofs.lemmas.Bool.{and_parts, cases_eq, false≢true, true≢false}
+use Rattle.std.proofs.lemmas.Bool.{and_parts, cases_eq, false≢true, true≢false, not-true}
 use Rattle.std.proofs.lemmas.List.{length-map}
 use Rattle.std.proofs.lemmas.Option.{slice_get_within}
 use Rattle.rapid_model.specs.CellData.{CellData}
@@ -24,10 +24,6 @@ use Rattle.cell_meaning.specs.Stalled.{is_stuck, all_rest, is_stalled}
 use Rattle.cell_meaning.proofs.Asked.{TaskMay, ScriptMay, who_may}
 use Rattle.cell_meaning.proofs.Ending.{none_follows, whole_over}
 
-not_so : (b : Bool) → not b ≡ true → b ≡ false
-not_so false h = refl
-not_so true h = absurd (false≢true h)
-
 -- what a stalled cell comes to
 record Stall (cell : CellData) (history : List Event) : Type 0 where
   steps_left : is_spent cell history ≡ false
@@ -43,10 +39,10 @@ stall cell history is =
     let v = and_parts (not (is_spent cell history) && not ended) rest w.0 in
     let u = and_parts (not (is_spent cell history)) (not ended) v.0 in
     record {
-      steps_left = not_so (is_spent cell history) u.0;
-      one_going = not_so ended u.1;
+      steps_left = not-true (is_spent cell history) u.0;
+      one_going = not-true ended u.1;
       rests = v.1;
-      closed = not_so (is_open cell history (inputs_done cell history)) w.1;
+      closed = not-true (is_open cell history (inputs_done cell history)) w.1;
     }
 
 rest_at : (cell : CellData) (history : List Event) (tasks task : ℕ) → task < tasks → all_rest cell tasks history ≡ true → (has_ended (part_of task history) || is_stuck cell history task) ≡ true
@@ -80,7 +76,7 @@ stuck_asks : (cell : CellData) (history : List Event) (task : ℕ) (request : Re
 stuck_asks cell history task request stalled may =
     let stuck = second_so (has_ended (part_of task history)) (is_stuck cell history task) (rest_at cell history (length cell.tasks) task may.within (stall cell history stalled).rests) may.alive in
     let w = and_parts (is_held (part_of task history)) (not (can_rise cell history task)) stuck in
-    record { rise = held_rises (is_held (part_of task history)) request w.0 may.goes; never = not_so (can_rise cell history task) w.1 }
+    record { rise = held_rises (is_held (part_of task history)) request w.0 may.goes; never = not-true (can_rise cell history task) w.1 }
 
 pub stalled_waits : (asks : Asking) (cell : CellData) (history : List Event) (task : ℕ) (request : Request) → task < length cell.tasks → AsksWhatItMay asks cell → IsLegal asks cell history
     → IsTrue (is_stalled cell history) → asks task (answers_of task history) request → (request ≡ requests.Rise) × (is_enabled cell history task request ≡ false)

@@ -3,7 +3,7 @@ use Rattle.std.proofs.Common.{◌≡◌, ◌<◌, ◌⊎◌, inl, inr, ℕ, zero
 use Rattle.std.specs.Prelude.{◌&&◌, ◌==◌, IsTrue, IsSomeAnd, nat_lt, slice_get}
 use Rattle.std.specs.List.{list_all}
 use Rattle.std.specs.Option.{option_and_then, unwrap_or}
-use Rattle.std.proofs.lemmas.Bool.{and_parts, eqb-true, false≢true}
+use Rattle.std.proofs.lemmas.Bool.{and_parts, eqb-true, false≢true, and_from}
 use Rattle.std.proofs.lemmas.Option.{slice_get-get_or}
 use Rattle.rapid_model.specs.CellData.{CellData, IsCell, is_pers_cell}
 use Rattle.rapid_model.specs.Lengths.{is_full}
@@ -32,7 +32,7 @@ use Rattle.persist_store.proofs.PartsFit.{fits_some, put_fits, part_there}
 use Rattle.cell_meaning.specs.Premises.{AllAnswered, StartsFull}
 use Rattle.cell_meaning.specs.Stored.{element_of, part_put, with_part, put_at, persistents_with, persistents_after, persistent_after, value_at}
 use Rattle.cell_meaning.proofs.Asked.{TaskMay, ScriptMay, who_may}
-use Rattle.cell_meaning.proofs.Lists.{both_so, from_front, written_keeps}
+use Rattle.cell_meaning.proofs.Lists.{from_front, written_keeps}
 use Rattle.cell_meaning.proofs.MoreEvents.{persistents_after-more}
 
 -- a persistent of this row with these elements
@@ -48,7 +48,7 @@ both_all sort [] h k = refl
 both_all sort (v ∷ vs) h k =
     let a = and_parts (is_value_of sort v) (list_all (is_value_of sort) vs) h in
     let b = and_parts (is_full v) (list_all is_full vs) k in
-    both_so (has_sort sort v) (list_all (has_sort sort) vs) (both_so (is_value_of sort v) (is_full v) a.0 b.0) (both_all sort vs a.1 b.1)
+    and_from (has_sort sort v) (list_all (has_sort sort) vs) (and_from (is_value_of sort v) (is_full v) a.0 b.0) (both_all sort vs a.1 b.1)
 
 row_kept : (tasks : ℕ) (row : PersCell) → is_pers_cell tasks row ≡ true → list_all is_full row.first ≡ true → IsKept (first_row row)
 row_kept tasks row is full =

@@ -3,7 +3,7 @@ use Rattle.std.proofs.Common.{◌≡◌, ℕ, Bool, true, false, not, ◌&&◌, 
 use Rattle.std.specs.List.{position, position_or_len}
 use Rattle.std.specs.Char.{to_ascii_lowercase}
 use Rattle.std.specs.Str.{str_eq_ignore_ascii_case}
-use Rattle.std.proofs.lemmas.Bool.{and_parts}
+use Rattle.std.proofs.lemmas.Bool.{and_parts, not-true}
 use Rattle.std.proofs.lemmas.Bool.Decides.{same_from_decides}
 use Rattle.std.proofs.lemmas.List.{length-map}
 use Rattle.std.proofs.lemmas.Slice.Eq.{bytes_eq-Decides}
@@ -24,10 +24,6 @@ IsName name = is_name name ≡ true
 abbrev pub IsNew : List (List ℕ) → List ℕ → Type 0
 IsNew others name = is_among name others ≡ false
 
-not_true : (b : Bool) → not b ≡ true → b ≡ false
-not_true true e = absurd cc
-not_true false e = refl
-
 pub name_keeps : (key : List ℕ) (d : Data) → Keeps IsName (name_at key d)
 name_keeps key d =
     Keeps-any IsName (text_at key d) (λ text. must (is_name text && not (is_reserved text)) (at_key key Name) >> Ok text) (λ text.
@@ -38,13 +34,13 @@ signal_name_keeps key others d =
     let Q : List ℕ → Type 0 = λ name. IsName name × IsNew others name in
     Keeps-then IsName Q (name_at key d) (λ name. must (not (is_predefined name)) (at_key key Name) >> (must (not (is_among name others)) (at_key key Twice) >> Ok name)) (name_keeps key d) (λ name form.
     Keeps-must Q (not (is_predefined name)) (at_key key Name) (must (not (is_among name others)) (at_key key Twice) >> Ok name) (λ _.
-    Keeps-must Q (not (is_among name others)) (at_key key Twice) (Ok name) (λ e. (form, not_true (is_among name others) e))))
+    Keeps-must Q (not (is_among name others)) (at_key key Twice) (Ok name) (λ e. (form, not-true (is_among name others) e))))
 
 pub task_name_keeps : (key : List ℕ) (others : List (List ℕ)) (d : Data) → Keeps (λ name. IsName name × IsNew others name) (task_name_at key others d)
 task_name_keeps key others d =
     let Q : List ℕ → Type 0 = λ name. IsName name × IsNew others name in
     Keeps-then IsName Q (name_at key d) (λ name. must (not (is_among name others)) (at_key key Twice) >> Ok name) (name_keeps key d) (λ name form.
-    Keeps-must Q (not (is_among name others)) (at_key key Twice) (Ok name) (λ e. (form, not_true (is_among name others) e)))
+    Keeps-must Q (not (is_among name others)) (at_key key Twice) (Ok name) (λ e. (form, not-true (is_among name others) e)))
 
 found_below : {A : Type 0} (test : A → Bool) (xs : List A) (n : ℕ) → position test xs ≡ Some n → nat_lt n (length xs) ≡ true
 found_below test xs n e = by_test (position_or_len test xs) (nat_lt (position_or_len test xs) (length xs)) refl e
@@ -92,4 +88,4 @@ differ_more [] last all new = refl
 differ_more (n ∷ names) last all new =
     let parts = and_parts (not (is_among n names)) (differ names) all in
     let news = not_or (str_eq_ignore_ascii_case last n) (is_among last names) new in
-    and_not (is_among n (names ++ (last ∷ []))) (differ (names ++ (last ∷ []))) (among_more n names last (not_true (is_among n names) parts.0) (same_names n last ∙ news.0)) (differ_more names last parts.1 news.1)
+    and_not (is_among n (names ++ (last ∷ []))) (differ (names ++ (last ∷ []))) (among_more n names last (not-true (is_among n names) parts.0) (same_names n last ∙ news.0)) (differ_more names last parts.1 news.1)

@@ -1,7 +1,7 @@
 -- The call of a routine, whose arguments are the topmost operands.
-use Rattle.std.proofs.Common.{◌≡◌, refl, sym, ap, ◌∙◌, ℕ, ◌+◌, ◌-◌, ◌≤◌, ◌<◌, ◌&&◌, ◌⊎◌, inl, inr, nat_le, nat_lt, Bool, true, false, List, [], ◌∷◌, length, take, drop, reverse, Option, None, Some, slice_get, if◌then◌else◌, arith}
+use Rattle.std.proofs.Common.{◌≡◌, refl, sym, ap, ◌∙◌, ℕ, ◌+◌, ◌-◌, ◌≤◌, ◌<◌, ◌⊎◌, inl, inr, nat_le, nat_lt, Bool, true, false, List, [], ◌∷◌, length, take, drop, reverse, Option, None, Some, slice_get, if◌then◌else◌, arith}
 use Rattle.std.proofs.Math.Nat.{min-eq_left, min-eq_right}
-use Rattle.std.proofs.lemmas.Bool.{cases_lt, lt-leb}
+use Rattle.std.proofs.lemmas.Bool.{cases_lt, lt-leb, and_right}
 use Rattle.std.proofs.lemmas.List.{length-append}
 use Rattle.rapid_model.specs.declared.fate.Fault.TheVariants.{DepthLimit}
 use Rattle.rapid_model.specs.declared.value.Value.{Value}
@@ -33,12 +33,8 @@ use Rattle.code_simulation.proofs.Spots.{Spot, failing, here, sim_op, standing}
 outside : (values frames : ℕ) → 20_000 < values → nat_le (frames + values) 20_000 ≡ false
 outside values frames many = lt-leb (frames + values) 20_000 (omega arith)
 
-and_false : (b c : Bool) → c ≡ false → (b && c) ≡ false
-and_false true c e = e
-and_false false c e = refl
-
 pub no_room : (frames : List Frame) (frame : Frame) → 20_000 < length frame.values → has_room frames frame ≡ false
-no_room frames frame many = and_false (nat_lt (length frames) 32) (nat_le (values_in frames + length frame.values) 20_000) (outside (length frame.values) (values_in frames) many)
+no_room frames frame many = and_right (nat_lt (length frames) 32) (nat_le (values_in frames + length frame.values) 20_000) (outside (length frame.values) (values_in frames) many)
 
 pub refused : (b : Bool) (m : Act) → b ≡ false → (if b then m else fault DepthLimit) ≡ fault DepthLimit
 refused true m e = cc

@@ -207,7 +207,7 @@ asking_of : (o : Outcome ⊤) (request : Request) → next_of o ≡ asks request
 asking_of (Asking r d) request e = let same : r ≡ request = cc in (d, ap (λ (x : Request). Asking x d) same)
 asking_of o request e = absurd cc
 
-is_asking : (tree : TypedTree) (answers : List Answer) (request : Request) → asked_after tree answers ≡ asks request → (d : Data) × (state_after tree answers ≡ Asking request d)
+pub is_asking : (tree : TypedTree) (answers : List Answer) (request : Request) → asked_after tree answers ≡ asks request → (d : Data) × (state_after tree answers ≡ Asking request d)
 unfolding asked_after
 is_asking tree answers request e = asking_of (state_after tree answers) request e
 

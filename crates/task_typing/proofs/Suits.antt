@@ -1,7 +1,7 @@
 -- What a well typed task asks suits it.
 use Rattle.std.proofs.Common.{◌≡◌, refl, sym, ap, ◌∙◌, subst, ℕ, ◌<◌, ◌^◌, Bool, true, false, ◌&&◌, nat_lt, List, length, Option, Some, None, is_some, slice_get, IsTrue, arith}
 use Rattle.std.proofs.lemmas.List.{length-map}
-use Rattle.std.proofs.lemmas.Bool.{lt-ltb}
+use Rattle.std.proofs.lemmas.Bool.{lt-ltb, and_from}
 use Rattle.std.proofs.lemmas.Option.{slice_get_within}
 use Rattle.rapid_num.specs.Reach.{is_position}
 use Rattle.rapid_model.specs.CellData.{CellData}
@@ -27,9 +27,6 @@ use Rattle.task_typing.specs.States.{IsPers}
 
 of_cell : (cell : CellData) (pers : ℕ) (test : PersCell → Bool) (row : PersCell) → slice_get cell.pers pers ≡ Some row → test row ≡ true → of_pers cell pers test ≡ true
 of_cell cell pers test row e h = rw e h
-
-both : (a b : Bool) → a ≡ true → b ≡ true → (a && b) ≡ true
-both a b e f = ap (λ (x : Bool). x && b) e ∙ f
 
 -- a test of a row of the tree is one of the cell's persistent
 of_row : (cell : CellData) (number : ℕ) (tree : TypedTree) (pers : ℕ) (p : TypedPers) (test : Sort → Option ℕ → Bool) → Numbered cell number tree → IsPers tree pers p → test p.sort p.len ≡ true
@@ -57,19 +54,19 @@ pub suits : (cell : CellData) (number : ℕ) (row : TaskRow) (mine : List Event)
     → Numbered cell number c.tree → is_trapped mine ≡ d.trapped → IsAsked c d request → IsTrue (suits_task cell row mine request)
 suits cell number row mine c d (requests.ReadP pers path) signals arm numbered trapped asked =
     of_row cell number c.tree pers asked.0 (λ sort len. has_element len path.index && is_some (part_sort sort path.part)) numbered asked.1
-    (both (has_element asked.0.len path.index) (is_some (part_sort asked.0.sort path.part)) asked.2 asked.3)
+    (and_from (has_element asked.0.len path.index) (is_some (part_sort asked.0.sort path.part)) asked.2 asked.3)
 suits cell number row mine c d (requests.WriteP pers path value) signals arm numbered trapped asked =
     of_row cell number c.tree pers asked.0 (λ sort len. (has_element len path.index && is_some (part_sort sort path.part)) && fits_part sort path.part value) numbered asked.1
-    (both (has_element asked.0.len path.index && is_some (part_sort asked.0.sort path.part)) (fits_part asked.0.sort path.part value)
-    (both (has_element asked.0.len path.index) (is_some (part_sort asked.0.sort path.part)) asked.2 (fits_some asked.0.sort path.part value asked.3)) asked.3)
+    (and_from (has_element asked.0.len path.index && is_some (part_sort asked.0.sort path.part)) (fits_part asked.0.sort path.part value)
+    (and_from (has_element asked.0.len path.index) (is_some (part_sort asked.0.sort path.part)) asked.2 (fits_some asked.0.sort path.part value asked.3)) asked.3)
 suits cell number row mine c d (requests.TestSet pers path) signals arm numbered trapped asked =
     of_row cell number c.tree pers asked.0 (λ sort len. (has_element len path.index && is_some (part_sort sort path.part)) && is_bool (part_sort sort path.part)) numbered asked.1
-    (both (has_element asked.0.len path.index && is_some (part_sort asked.0.sort path.part)) (is_bool (part_sort asked.0.sort path.part))
-    (both (has_element asked.0.len path.index) (is_some (part_sort asked.0.sort path.part)) asked.2 (ap is_some asked.3)) (ap is_bool asked.3))
+    (and_from (has_element asked.0.len path.index && is_some (part_sort asked.0.sort path.part)) (is_bool (part_sort asked.0.sort path.part))
+    (and_from (has_element asked.0.len path.index) (is_some (part_sort asked.0.sort path.part)) asked.2 (ap is_some asked.3)) (ap is_bool asked.3))
 suits cell number row mine c d (requests.ReadS signal) signals arm numbered trapped asked = lt-ltb signal (length cell.signals) (omega (arith, asked, signals))
 suits cell number row mine c d (requests.WriteS signal value) signals arm numbered trapped asked = lt-ltb signal (length cell.signals) (omega (arith, asked, signals))
 suits cell number row mine c d requests.Position signals arm numbered trapped asked = sym arm ∙ asked
-suits cell number row mine c d (requests.Setpoint to) signals arm numbered trapped asked = both (is_some row.arm) (is_position to) (sym arm ∙ asked.0) asked.1
+suits cell number row mine c d (requests.Setpoint to) signals arm numbered trapped asked = and_from (is_some row.arm) (is_position to) (sym arm ∙ asked.0) asked.1
 suits cell number row mine c d (requests.Order n on single) signals arm numbered trapped asked = watches cell number c on signals numbered asked
 suits cell number row mine c d requests.Leave signals arm numbered trapped asked = trapped ∙ asked
 suits cell number row mine c d (requests.ZoneSet old temporary shape) signals arm numbered trapped asked = sym arm ∙ asked
@@ -79,7 +76,7 @@ suits cell number row mine c d (requests.ZoneOff zone) signals arm numbered trap
 suits cell number row mine c d (requests.ZoneFree zone) signals arm numbered trapped asked = sym arm ∙ asked
 suits cell number row mine c d (requests.Arrive meeting tasks) signals arm numbered trapped asked =
     let as_many : length c.tree.tasks ≡ length cell.tasks = ap length numbered.tasks ∙ length-map cell.tasks (λ (r : TaskRow). r.name) in
-    both (nat_lt meeting (length cell.meetings)) (nat_lt tasks (2 ^ length cell.tasks)) (lt-ltb meeting (length cell.meetings) (numbered.meetings asked.0 meeting asked.1))
+    and_from (nat_lt meeting (length cell.meetings)) (nat_lt tasks (2 ^ length cell.tasks)) (lt-ltb meeting (length cell.meetings) (numbered.meetings asked.0 meeting asked.1))
     (lt-ltb tasks (2 ^ length cell.tasks) (subst (λ (n : ℕ). tasks < 2 ^ n) as_many asked.2))
 suits cell number row mine c d (requests.Input index) signals arm numbered trapped asked = absurd asked
 suits cell number row mine c d (requests.End fate) signals arm numbered trapped asked = asked

@@ -2,7 +2,7 @@ use Rattle.std.proofs.Common.{Bool, ◌∙◌, ap}
 use Rattle.std.specs.Prelude.{if◌then◌else◌}
 use Rattle.rapid_model.specs.declared.answer.Answer.TheVariants as answers
 use Rattle.cell_meaning.proofs.BoardsTell.{meets_decides}
-use Rattle.cell_core.proofs.Looks.{same_tests}
+use Rattle.cell_meaning.proofs.PartChanges.{same_tests}
 use Rattle.cell_core.proofs.meetings.arrive.Goals as goal
 
 pub returns-clause-answer : goal.returns-clause-answer
