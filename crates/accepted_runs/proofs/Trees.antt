@@ -6,13 +6,13 @@ use Rattle.rapid_model.specs.declared.script_task.ScriptTask.{ScriptTask}
 use Rattle.rapid_model.specs.declared.task_row.TaskRow.{TaskRow}
 use Rattle.raw_trees.specs.Plain.{PlainModule}
 use Rattle.typed_trees.specs.Plain.{TypedTree}
+use Rattle.name_laws.proofs.Means.{partner}
 use Rattle.cell_assembly.specs.Cells.{MeetingTables, trees_meetings}
 use Rattle.cell_assembly.specs.Made.{MadeCell, numbered, with_numbers}
 use Rattle.tree_soundness.specs.Accepted.{AreChecked, IsAccepted}
 use Rattle.tree_soundness.proofs.CellMeetings.{MeetingsOf, meetings_numbered}
 use Rattle.tree_soundness.proofs.CellPers.{TreeOf}
 use Rattle.tree_soundness.proofs.Cells.{IsMade, is_made, tasks_are}
-use Rattle.tree_soundness.proofs.Lists.{partner}
 
 -- an element that is there
 abbrev pub Element : {A : Type 0} → List A → ℕ → Type 0

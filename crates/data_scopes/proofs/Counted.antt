@@ -9,7 +9,7 @@ get_before [] x k within = absurd (omega arith)
 get_before (y ∷ ys) x zero within = refl
 get_before (y ∷ ys) x (suc k) within = get_before ys x k (omega arith)
 
-get_last : {A : Type 0} (xs : List A) (x : A) → slice_get (xs ++ x ∷ []) (length xs) ≡ Some x
+pub get_last : {A : Type 0} (xs : List A) (x : A) → slice_get (xs ++ x ∷ []) (length xs) ≡ Some x
 get_last [] x = refl
 get_last (y ∷ ys) x = get_last ys x
 

@@ -14,7 +14,7 @@ use Rattle.rule_checks.specs.Checks.{◌>>=◌, must}
 use Rattle.rule_checks.specs.TypeChecks.{Checked, at_spot}
 use Rattle.data_scopes.specs.Declarations.{spot_of, sort_at, datum_sort, datum_rules, item_rules, items_rules, module_rules, modules_rules}
 use Rattle.data_scopes.specs.Numbers.{no_counts, tables_of, is_const, is_pers, is_scalar_const, scalar_consts, after_datum, after_routine, after_item, after_items}
-use Rattle.data_scopes.specs.Rows.{datum_row, since_of, value_at, scalar_rows, result_row, param_rows, local_rows, routine_row, with_routine, item_rows, items_rows, modules_rows, no_rows}
+use Rattle.data_scopes.specs.Rows.{datum_row, since_of, value_at, scalar_rows, result_row, param_rows, local_rows, routine_row, with_routine, item_rows, items_rows, modules_rows, no_rows, rows_by}
 use Rattle.rapid_model.specs.declared.signal_row.SignalRow.{SignalRow}
 use Rattle.data_scopes.specs.declared.meant.Meant.{Meant}
 use Rattle.rule_checks.specs.declared.spot.Spot.{Spot}
@@ -35,12 +35,6 @@ pub record AreRowed (c : Counts) (rows : Rows) : Type 0 where
   pub slots : c.slots ≡ length rows.slots
   pub pers : c.pers ≡ length rows.pers
   pub routines : c.routines ≡ length rows.routines
-
-abbrev rows_by : Rows → Bool → Bool → DatumRow → Rows
-rows_by rows scalar pers row =
-    if scalar then record { consts = rows.consts ++ row ∷ []; slots = rows.slots; pers = rows.pers; routines = rows.routines }
-    else if pers then record { consts = rows.consts; slots = rows.slots; pers = rows.pers ++ row ∷ []; routines = rows.routines }
-    else record { consts = rows.consts; slots = rows.slots ++ row ∷ []; pers = rows.pers; routines = rows.routines }
 
 rowed_by : (c : Counts) (rows : Rows) (scalar pers : Bool) (row : DatumRow) → AreRowed c rows → AreRowed (after_by c scalar pers) (rows_by rows scalar pers row)
 rowed_by c rows true pers row h = record {

@@ -42,12 +42,15 @@ datum_row tables number routine d =
 abbrev pub no_rows : Rows
 no_rows = record { consts = []; slots = []; pers = []; routines = [] }
 
--- behind these rows that of a CONST that is no array, of a PERS, or of another datum
-abbrev pub with_datum : Rows → PlainDatum → DatumRow → Rows
-with_datum rows d row =
-    if is_scalar_const d then record { consts = rows.consts ++ row ∷ []; slots = rows.slots; pers = rows.pers; routines = rows.routines }
-    else if is_pers d.kind then record { consts = rows.consts; slots = rows.slots; pers = rows.pers ++ row ∷ []; routines = rows.routines }
+-- behind these rows one of a CONST that is no array, of a PERS, or of another datum
+abbrev pub rows_by : Rows → Bool → Bool → DatumRow → Rows
+rows_by rows scalar pers row =
+    if scalar then record { consts = rows.consts ++ row ∷ []; slots = rows.slots; pers = rows.pers; routines = rows.routines }
+    else if pers then record { consts = rows.consts; slots = rows.slots; pers = rows.pers ++ row ∷ []; routines = rows.routines }
     else record { consts = rows.consts; slots = rows.slots ++ row ∷ []; pers = rows.pers; routines = rows.routines }
+
+abbrev pub with_datum : Rows → PlainDatum → DatumRow → Rows
+with_datum rows d row = rows_by rows (is_scalar_const d) (is_pers d.kind) row
 
 abbrev pub param_row : Tables → ℕ → ℕ → PlainParam → Checked ParamRow
 param_row tables number routine p =

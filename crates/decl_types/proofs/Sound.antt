@@ -143,7 +143,7 @@ sort_valued (row ∷ rows) zero each = (and_parts (has_valued_sort row) (list_al
 sort_valued (row ∷ rows) (suc k) each = sort_valued rows k (and_parts (has_valued_sort row) (list_all has_valued_sort rows) each).1
 
 -- a value that is kept leaves the rows as they are
-kept_rows : (names : Names) (constant : ℕ) (vs : Option (List Value)) → (keeping names constant vs).rows ≡ names.rows
+pub kept_rows : (names : Names) (constant : ℕ) (vs : Option (List Value)) → (keeping names constant vs).rows ≡ names.rows
 kept_rows names constant None = refl
 kept_rows names constant (Some []) = refl
 kept_rows names constant (Some (v ∷ vs)) = refl

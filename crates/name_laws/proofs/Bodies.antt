@@ -7,10 +7,11 @@ use Rattle.data_scopes.specs.Called.{params_of, result_of}
 use Rattle.data_scopes.specs.Loops.{loops_in, loops_in_else, loops_in_routine}
 use Rattle.data_scopes.specs.Numbers.{Tally, is_pers, is_scalar_const, after_item}
 use Rattle.data_scopes.specs.Scopes.{Names, list_at}
+use Rattle.data_scopes.proofs.Counted.{get_last}
 use Rattle.body_types.specs.Bodies.{outside, stmts, into}
 use Rattle.stmt_types.specs.Task.{handler_of, body_of, typed_params, typed_routine, item_bodies, items_bodies, bodies}
 use Rattle.name_laws.proofs.Counters.{stmts_next, handler_next, routine_next}
-use Rattle.name_laws.proofs.Items.{Fact, IsWalk, IsFront, front_more, get_last}
+use Rattle.name_laws.proofs.Items.{Fact, IsWalk, IsFront, front_more}
 use Rattle.name_laws.proofs.Seen.{no_routine}
 
 module _ (names : Names) (locals : List (List TypedLocal)) where

@@ -7,13 +7,14 @@ use Rattle.data_scopes.specs.declared.data_row.DatumRow.{DatumRow}
 use Rattle.data_scopes.specs.declared.data_row.Since.{Since}
 use Rattle.data_scopes.specs.Declarations.{spot_of, sort_at}
 use Rattle.data_scopes.specs.Numbers.{Tally, is_const, is_pers, is_scalar_const, scalar_consts, after_item}
-use Rattle.data_scopes.specs.Rows.{datum_row, item_rows, items_rows, local_rows, modules_rows, param_rows, result_row, routine_row, scalar_rows, since_of, value_at}
+use Rattle.data_scopes.specs.Rows.{datum_row, item_rows, items_rows, local_rows, modules_rows, param_rows, result_row, routine_row, scalar_rows, since_of, value_at, rows_by}
 use Rattle.data_scopes.specs.Scopes.{Tables, RoutineRow, Rows}
 use Rattle.data_scopes.proofs.Within.{after_by}
+use Rattle.data_scopes.proofs.Counted.{get_last}
 use Rattle.name_laws.specs.Constants.{IsConstRow}
 use Rattle.name_laws.specs.Declared.{AreEach, IsType}
-use Rattle.name_laws.proofs.Declarations.{rows_by, stays, type_found}
-use Rattle.name_laws.proofs.Items.{Fact, IsFront, IsWalk, front_more, get_last}
+use Rattle.name_laws.proofs.Declarations.{type_found}
+use Rattle.name_laws.proofs.Items.{Fact, IsFront, IsWalk, front_more, stays, front_append}
 
 -- how many CONSTs that are no arrays stand before a place
 abbrev pub consts_before : ℕ → List PlainDatum → ℕ
@@ -170,19 +171,14 @@ module _ (tables : Tables) where
   Stepped number c item rows got = AreCounted (after_item c item) got × Grow rows got × RowIn got number c item
 
   datum_stepped : (number : ℕ) (c : Tally) (d : PlainDatum) (rows : Rows) (row : DatumRow) (scalar pers : Bool) → is_scalar_const d ≡ scalar → AreCounted c rows → IsFull tables number None d row
-      → AreCounted (after_by c scalar pers) (rows_by tables rows scalar pers row) × Grow rows (rows_by tables rows scalar pers row) × DatumIn (rows_by tables rows scalar pers row) number c d scalar
+      → AreCounted (after_by c scalar pers) (rows_by rows scalar pers row) × Grow rows (rows_by rows scalar pers row) × DatumIn (rows_by rows scalar pers row) number c d scalar
   datum_stepped number c d rows row true pers is h typed = (
     record { consts = omega (arith, h.consts, length-append rows.consts (row ∷ [])); routines = h.routines },
     front_more rows.consts row,
     record { row = row; is = ap (slice_get (rows.consts ++ row ∷ [])) h.consts ∙ get_last rows.consts row; is_row = const_row number None d row is typed },
   )
-  datum_stepped number c d rows row false true is h typed = (record { consts = h.consts; routines = h.routines }, stays tables rows.consts, tt)
-  datum_stepped number c d rows row false false is h typed = (record { consts = h.consts; routines = h.routines }, stays tables rows.consts, tt)
-
-  fronts : {A : Type 0} (xs ys : List A) → IsFront xs (xs ++ ys)
-  fronts [] ys k x is = absurd (cc is)
-  fronts (z ∷ xs) ys zero x is = is
-  fronts (z ∷ xs) ys (suc k) x is = fronts xs ys k x is
+  datum_stepped number c d rows row false true is h typed = (record { consts = h.consts; routines = h.routines }, stays rows.consts, tt)
+  datum_stepped number c d rows row false false is h typed = (record { consts = h.consts; routines = h.routines }, stays rows.consts, tt)
 
   behind_front : {A : Type 0} (xs ys : List A) (n k : ℕ) → n ≡ length xs → slice_get (xs ++ ys) (n + k) ≡ slice_get ys k
   behind_front [] ys n k is = let e : n + k ≡ k = omega (arith, is) in ap (slice_get ys) e
@@ -202,7 +198,7 @@ module _ (tables : Tables) where
           consts = omega (arith, h.consts, length-append rows.consts (scalar_rows row.locals), as_many_consts number c.routines r.locals row.locals each);
           routines = omega (arith, h.routines, length-append rows.routines (row ∷ []));
         },
-        fronts rows.consts (scalar_rows row.locals),
+        front_append rows.consts (scalar_rows row.locals),
         λ place d there scalar.
             let at = const_at number c.routines r.locals row.locals each place d there scalar in
             record { row = at.row; is = behind_front rows.consts (scalar_rows row.locals) c.consts (consts_before place r.locals) h.consts ∙ at.is; is_row = at.is_row },
@@ -214,7 +210,7 @@ module _ (tables : Tables) where
     more_items = λ number item items s. refl;
     no_modules = λ number s. refl;
     more_modules = λ number m ms s. refl;
-    same = λ s. stays tables s.consts;
+    same = λ s. stays s.consts;
     then = λ s t u g h. λ k x is. h k x (g k x is);
     later = row_later;
     one = item_stepped;

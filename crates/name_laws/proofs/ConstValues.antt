@@ -15,6 +15,7 @@ use Rattle.data_scopes.specs.Numbers.{Tally, is_const, is_pers, is_scalar_const,
 use Rattle.data_scopes.specs.Rows.{begin_of}
 use Rattle.data_scopes.specs.Scopes.{Names, Rows}
 use Rattle.data_scopes.proofs.Within.{after_by}
+use Rattle.data_scopes.proofs.Keeping.{set_same}
 use Rattle.named_data.specs.Rules.{Site, at_byte}
 use Rattle.named_data.specs.declared.wanted.Wanted.TheVariants.{Is, Nothing}
 use Rattle.expr_types.specs.Typing.{typed}
@@ -24,12 +25,6 @@ use Rattle.name_laws.specs.Constants.{HasItsValue}
 use Rattle.name_laws.proofs.ConstRows.{consts_before}
 use Rattle.name_laws.proofs.Data.{datum_by, local_by}
 use Rattle.name_laws.proofs.Items.{Fact, IsWalk}
-
--- a list with another element at a place
-put_here : {A : Type 0} (xs : List A) (k : ℕ) (y : A) → k < length xs → slice_get (set xs k y) k ≡ Some y
-put_here [] k y within = absurd (omega (arith, within))
-put_here (x ∷ xs) zero y within = refl
-put_here (x ∷ xs) (suc k) y within = put_here xs k y (omega (arith, within))
 
 put_elsewhere : {A : Type 0} (xs : List A) (k : ℕ) (y : A) (j : ℕ) → (j ≡ k → ⊥) → slice_get (set xs k y) j ≡ slice_get xs j
 put_elsewhere [] k y j other = refl
@@ -153,7 +148,7 @@ module _ (rows : Rows) where
           known = known;
           value = v;
           comes_to = is ∙ ap Ok one;
-          has_value = put_here names.kept k (Some v) (omega (arith, within, length-set names.kept k (Some v)));
+          has_value = set_same names.kept k (Some v) (omega (arith, within, length-set names.kept k (Some v)));
           same = refl;
           below = λ j less. sym (put_elsewhere names.kept k (Some v) j (λ e. omega (arith, e, less)));
           above = knows.above;

@@ -12,11 +12,13 @@ use Rattle.data_scopes.specs.Called.{local_of}
 use Rattle.data_scopes.specs.Numbers.{Tally, is_pers, is_scalar_const, after_item}
 use Rattle.data_scopes.specs.Scopes.{Names, Rows}
 use Rattle.data_scopes.proofs.Within.{after_by}
+use Rattle.data_scopes.proofs.Counted.{get_last}
 use Rattle.decl_types.specs.Values.{Initial, initial, init_rule, len_of, length_at, values_at, site_of}
 use Rattle.decl_types.specs.Data.{Progress, Inner, sort_in, keeping, with_const, with_slot, with_pers, inner_row, of_modules, datum_const, datum_pers, datum_slot, local, locals, entered, left, routine, item, items, data_of}
 use Rattle.decl_types.specs.Parts.{slot_row, pers_row}
+use Rattle.decl_types.proofs.Sound.{kept_rows}
 use Rattle.name_laws.proofs.Meetings.{AreAlike, alike_more}
-use Rattle.name_laws.proofs.Items.{Fact, IsWalk, IsFront, front_more, get_last}
+use Rattle.name_laws.proofs.Items.{Fact, IsWalk, IsFront, front_more, stays}
 
 -- an array has a length, and nothing else has one
 module _ (names : Names) (number : ℕ) (around : Option ℕ) (known : Elements) where
@@ -32,12 +34,6 @@ module _ (names : Names) (number : ℕ) (around : Option ℕ) (known : Elements)
       behind P i (len_of names number around known d.len) _ rest (λ len found more.
       behind P i (values_at names number around known sort len d.first) _ more (λ vs were done.
       ap (λ x. is_some x.len) (sym (ok_same _ i done)) ∙ len_some d.len len found)))
-
--- a kept value changes no row
-keeping_rows : (names : Names) (constant : ℕ) (values : Option (List Value)) → (keeping names constant values).rows ≡ names.rows
-keeping_rows names constant None = refl
-keeping_rows names constant (Some []) = refl
-keeping_rows names constant (Some (v ∷ vs)) = refl
 
 module _ (rows : Rows) where
   -- of a datum of a routine, at this place behind its parameters
@@ -77,7 +73,7 @@ module _ (rows : Rows) where
       }
 
   local_added : (n : Inner) (d : PlainDatum) (sort : Sort) (i : Initial) (scalar : Bool) (elements : Option (List Value)) → WithLocal n (inner_row d sort i) (local_by n d sort i scalar elements)
-  local_added n d sort i true elements = record { behind = refl; longer = length-append n.known (None ∷ []); same = keeping_rows n.names n.consts i.values }
+  local_added n d sort i true elements = record { behind = refl; longer = length-append n.known (None ∷ []); same = kept_rows n.names n.consts i.values }
   local_added n d sort i false elements = record { behind = refl; longer = length-append n.known (elements ∷ []); same = refl }
 
   locals_done : (number around place : ℕ) (slots : List (Option (List Value))) (ds : List PlainDatum) (n m : Inner) → n.names.rows ≡ rows → length n.known ≡ place → locals number around slots ds n ≡ Ok m → LocalsDone around place ds n m
@@ -151,9 +147,6 @@ module _ (rows : Rows) where
   row_later p q number c (Datum local task d at) g h = datum_later p q number c (local || task) d (is_scalar_const d) (is_pers d.kind) g h
   row_later p q number c (Routine r) g h = record { ts = h.ts; is = g.locals c.routines h.ts h.is; each = h.each }
 
-  stays : {A : Type 0} (xs : List A) → IsFront xs xs
-  stays xs k x is = is
-
   abbrev Done : Tally → (Progress → Type 0) → Progress → Progress → Type 0
   Done c In p q = AreCounted c q × Grow p q × In q
 
@@ -169,7 +162,7 @@ module _ (rows : Rows) where
       let Is : Progress → Type 0 = Done (after_by c true pers) (λ q. DatumIn q number c own d true pers) p in
       behind (Is q) q (initial p.names number None (of_modules p) (sort_in (slice_get p.names.rows.consts p.consts)) d) _ e (λ i is done.
       subst Is (ok_same (with_const p i) q done) (
-        record { slots = h.slots; pers = h.pers; routines = h.routines; same = keeping_rows p.names p.consts i.values ∙ h.same; alike = h.alike },
+        record { slots = h.slots; pers = h.pers; routines = h.routines; same = kept_rows p.names p.consts i.values ∙ h.same; alike = h.alike },
         record { slots = stays p.slots; pers = stays p.pers; locals = stays p.locals },
         tt,
       ))

@@ -1,5 +1,5 @@
 -- The rows of declarations among a task's names.
-use Rattle.std.proofs.Common.{◌≡◌, ℕ, Bool, true, false, List, [], ◌∷◌, ◌++◌, length, Option, Some, None, Ok, slice_get, refl, sym, ap, subst, ◌∙◌, if◌then◌else◌, length-append, append_assoc, arith}
+use Rattle.std.proofs.Common.{◌≡◌, ℕ, Bool, true, false, List, [], ◌∷◌, ◌++◌, length, Option, Some, None, Ok, slice_get, refl, sym, ap, subst, ◌∙◌, length-append, append_assoc, arith}
 use Rattle.std.proofs.lemmas.List.{append-nil}
 use Rattle.raw_trees.specs.Plain.{PlainDatum, PlainParam, PlainRoutine, PlainItem, PlainName, Datum, Routine}
 use Rattle.rapid_model.specs.declared.sort.Sort.{Sort}
@@ -12,11 +12,12 @@ use Rattle.data_scopes.specs.declared.data_row.DatumRow.{DatumRow}
 use Rattle.data_scopes.specs.declared.data_row.ParamRow.{ParamRow}
 use Rattle.data_scopes.specs.Declarations.{spot_of, sort_at, type_of}
 use Rattle.data_scopes.specs.Numbers.{Tally, is_pers, is_scalar_const, after_item}
-use Rattle.data_scopes.specs.Rows.{datum_row, param_row, param_rows, local_rows, result_row, routine_row, item_rows, items_rows, modules_rows}
+use Rattle.data_scopes.specs.Rows.{datum_row, param_row, param_rows, local_rows, result_row, routine_row, item_rows, items_rows, modules_rows, rows_by}
 use Rattle.data_scopes.specs.Scopes.{Tables, RoutineRow, Rows, meaning}
 use Rattle.data_scopes.proofs.Within.{after_by}
+use Rattle.data_scopes.proofs.Counted.{get_last}
 use Rattle.name_laws.specs.Declared.{IsType, IsResultType, AreEach}
-use Rattle.name_laws.proofs.Items.{Fact, IsWalk, IsFront, front_more, get_last}
+use Rattle.name_laws.proofs.Items.{Fact, IsWalk, IsFront, front_more, stays}
 
 -- what is there
 found_some : {A : Type 0} (o : Option A) (b : TypeBreak) (x : A) → found_or o b ≡ Ok x → o ≡ Some x
@@ -129,15 +130,6 @@ module _ (tables : Tables) where
   row_later : (rows more : Rows) (number : ℕ) (c : Tally) (item : PlainItem) → Grow rows more → RowIn rows number c item → RowIn more number c item
   row_later rows more number c (Datum local task d at) g h = datum_later rows more number c d (is_scalar_const d) (is_pers d.kind) g h
   row_later rows more number c (Routine r) g (row, is, typed) = (row, g.routines c.routines row is, typed)
-
-  abbrev pub rows_by : Rows → Bool → Bool → DatumRow → Rows
-  rows_by rows scalar pers row =
-      if scalar then record { consts = rows.consts ++ row ∷ []; slots = rows.slots; pers = rows.pers; routines = rows.routines }
-      else if pers then record { consts = rows.consts; slots = rows.slots; pers = rows.pers ++ row ∷ []; routines = rows.routines }
-      else record { consts = rows.consts; slots = rows.slots ++ row ∷ []; pers = rows.pers; routines = rows.routines }
-
-  pub stays : {A : Type 0} (xs : List A) → IsFront xs xs
-  stays xs k x is = is
 
   datum_stepped : (number : ℕ) (c : Tally) (d : PlainDatum) (rows : Rows) (row : DatumRow) (scalar pers : Bool) → AreCounted c rows → IsDatumRow number None d row →
       AreCounted (after_by c scalar pers) (rows_by rows scalar pers row) × Grow rows (rows_by rows scalar pers row) × DatumIn (rows_by rows scalar pers row) number c d scalar pers

@@ -1,5 +1,5 @@
 -- What is true of each item of modules where it stands: by the number of its module, and by how many of each kind stand before.
-use Rattle.std.proofs.Common.{◌≡◌, ℕ, zero, suc, ◌+◌, List, [], ◌∷◌, ◌++◌, length, Some, Ok, slice_get, refl, sym, ap, subst, ◌∙◌, arith}
+use Rattle.std.proofs.Common.{◌≡◌, ℕ, zero, suc, ◌+◌, List, [], ◌∷◌, ◌++◌, Some, Ok, slice_get, sym, ap, subst, ◌∙◌, arith}
 use Rattle.raw_trees.specs.Plain.{PlainItem, PlainModule}
 use Rattle.rule_checks.specs.Checks.{◌>>=◌}
 use Rattle.rule_checks.specs.TypeChecks.{Checked}
@@ -123,11 +123,15 @@ module _ (S : Type 0) (step : ℕ → PlainItem → S → Checked S) (fold : ℕ
 abbrev pub IsFront : {A : Type 0} → List A → List A → Type 0
 IsFront {A = A} xs ys = (k : ℕ) (x : A) → slice_get xs k ≡ Some x → slice_get ys k ≡ Some x
 
+pub stays : {A : Type 0} (xs : List A) → IsFront xs xs
+stays xs k x is = is
+
+pub front_append : {A : Type 0} (xs ys : List A) → IsFront xs (xs ++ ys)
+front_append [] ys k x is = absurd (cc is)
+front_append (z ∷ xs) ys zero x is = is
+front_append (z ∷ xs) ys (suc k) x is = front_append xs ys k x is
+
 pub front_more : {A : Type 0} (xs : List A) (y : A) → IsFront xs (xs ++ y ∷ [])
 front_more [] y k x is = absurd (cc)
 front_more (z ∷ zs) y zero x is = is
 front_more (z ∷ zs) y (suc k) x is = front_more zs y k x is
-
-pub get_last : {A : Type 0} (xs : List A) (x : A) → slice_get (xs ++ x ∷ []) (length xs) ≡ Some x
-get_last [] x = refl
-get_last (y ∷ ys) x = get_last ys x

@@ -10,12 +10,12 @@ use Rattle.typed_trees.specs.Plain.{TypedPers, TypedTree}
 use Rattle.rule_checks.specs.Checks.{must}
 use Rattle.rule_checks.proofs.Steps.{behind, ok_same}
 use Rattle.data_scopes.proofs.Keeping.{set_same}
+use Rattle.data_scopes.proofs.Counted.{get_last}
 use Rattle.named_data.specs.Wants.{same_sort}
 use Rattle.cell_assembly.specs.Cells.{Making, Numbered, PersInfo, PersTables, added, all_pers, at_value, element, fits_index, global_number, global_pers, has_sort, is_told, join, joined, new_pers, one_pers, same_len, tell, tell_all, tell_global, tell_to, trees_pers, with_declared, with_list, with_told}
 use Rattle.cell_assembly.proofs.SoundInfo.{same_len_is, same_sort_is}
 use Rattle.name_laws.specs.Declared.{AreEach}
-use Rattle.name_laws.proofs.Items.{get_last}
-use Rattle.tree_soundness.proofs.Lists.{front_append}
+use Rattle.name_laws.proofs.Items.{front_append}
 
 -- a persistent keeps its type and its length
 pub record IsKept (qs : List PersInfo) (k : ℕ) (p : PersInfo) : Type 0 where

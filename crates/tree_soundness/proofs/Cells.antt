@@ -13,12 +13,12 @@ use Rattle.cell_assembly.specs.Cells.{MeetingTables, PersInfo, cell_tables, tabl
 use Rattle.cell_assembly.specs.Made.{MadeCell, cell_of, make_cell, numbered, pers_cell, with_numbers}
 use Rattle.name_laws.specs.Declared.{AreEach}
 use Rattle.name_laws.proofs.Tree.{each_length}
+use Rattle.name_laws.proofs.Means.{partner}
 use Rattle.task_typing.specs.Numbered.{IsOne, Numbered}
 use Rattle.task_typing.specs.WellTyped.{WellTyped}
 use Rattle.task_typing.proofs.Rows.{all_at}
 use Rattle.tree_soundness.proofs.CellMeetings.{MeetingsOf, meetings_numbered}
 use Rattle.tree_soundness.proofs.CellPers.{IsOf, TreeOf, pers_numbered}
-use Rattle.tree_soundness.proofs.Lists.{partner}
 use Rattle.tree_soundness.proofs.SameRows.{stays}
 
 -- a tree that has its numbers

@@ -33,11 +33,12 @@ use Rattle.typing_rules.specs.Names.{IsConstant, IsKnown, IsMeant, IsParameter, 
 use Rattle.name_laws.specs.Declared.{AreEach}
 use Rattle.name_laws.specs.Meant.{HasItsRow, Inside}
 use Rattle.name_laws.proofs.Tree.{each_length}
+use Rattle.name_laws.proofs.Means.{partner}
 use Rattle.task_typing.specs.Expressions.{IsRoot}
 use Rattle.task_typing.specs.Kinds.{Counts, Kind, Owns, Refers, kind_by, kind_of as kind_in, kinds_of}
 use Rattle.task_typing.specs.Setting.{Setting}
 use Rattle.tree_soundness.proofs.RowKinds.{local_kind, loop_kind, param_kind, reference_kind, value_kind}
-use Rattle.tree_soundness.proofs.Lists.{origin, partner}
+use Rattle.tree_soundness.proofs.Lists.{origin}
 use Rattle.tree_soundness.proofs.Named.{IsCallable, Suits}
 use Rattle.tree_soundness.proofs.Places.{Holds}
 use Rattle.tree_soundness.proofs.Routines.{ParamAlike, RoutineAlike, needs_alike}

@@ -11,15 +11,17 @@ use Rattle.data_scopes.specs.declared.data_row.ParamRow.{ParamRow}
 use Rattle.data_scopes.specs.Called.{params_in}
 use Rattle.data_scopes.specs.Numbers.{is_pers, is_scalar_const}
 use Rattle.data_scopes.specs.Scopes.{Names, RoutineRow, Rows, Tables}
+use Rattle.data_scopes.specs.Rows.{rows_by}
 use Rattle.expr_types.specs.Calls as calls
 use Rattle.data_scopes.proofs.ListAt.{list_at-there}
 use Rattle.stmt_types.specs.Task.{is_main, main_among, routines_in, routines_of, typed_params}
 use Rattle.typing_rules.specs.DeclaredNames.{AreItemRows, AreModuleRows, IsRoutineRow}
 use Rattle.typing_rules.specs.Tasks.{AreItemRoutines, AreRoutines, IsRoutine}
 use Rattle.name_laws.specs.Declared.{AreEach}
+use Rattle.name_laws.proofs.Means.{partner}
 use Rattle.task_typing.specs.Kinds.{need_of}
-use Rattle.tree_soundness.proofs.Lists.{AreFrom, Behind, each_of, from_at, from_length, none_behind, one_behind, partner, then_behind}
-use Rattle.tree_soundness.proofs.Rows.{LocalAlike, LocalsAlike, params_long, rows_by}
+use Rattle.tree_soundness.proofs.Lists.{AreFrom, Behind, each_of, from_at, from_length, none_behind, one_behind, then_behind}
+use Rattle.tree_soundness.proofs.Rows.{LocalAlike, LocalsAlike, params_long}
 
 abbrev pub ParamAlike : ParamRow → TypedParam → Type 0
 ParamAlike row param = (param.mode ≡ row.mode) × (param.sort ≡ row.sort)

@@ -12,18 +12,19 @@ use Rattle.data_scopes.specs.declared.data_row.DatumRow.{DatumRow}
 use Rattle.data_scopes.specs.declared.data_row.ParamRow.{ParamRow}
 use Rattle.data_scopes.specs.Called.{local_of, place_row, value_row}
 use Rattle.data_scopes.specs.Numbers.{is_const, is_pers, is_scalar_const}
-use Rattle.data_scopes.specs.Rows.{scalar_rows, since_of, with_routine}
+use Rattle.data_scopes.specs.Rows.{scalar_rows, since_of, with_routine, rows_by}
 use Rattle.data_scopes.specs.Scopes.{Names, RoutineRow, Rows, Tables}
+use Rattle.data_scopes.proofs.Counted.{get_last}
 use Rattle.decl_types.specs.Data.{Inner, Progress, entered, inner_row, keeping, known_elements, left, of_modules, sort_in, with_const, with_local, with_pers, with_slot}
 use Rattle.decl_types.specs.Parts.{with_inner_const, with_inner_row}
 use Rattle.decl_types.specs.Values.{Initial}
 use Rattle.typing_rules.specs.Data.{AreItemsData, AreLocalsData, AreModulesData, ByKind, IsInitial, IsItemData, IsLen}
 use Rattle.typing_rules.specs.DeclaredNames.{AreItemRows, AreLocalRows, AreModuleRows, AreParamRows, IsItemRow, IsRoutineRow}
 use Rattle.name_laws.specs.Declared.{AreEach}
-use Rattle.name_laws.proofs.Items.{IsFront, front_more, get_last}
+use Rattle.name_laws.proofs.Items.{IsFront, front_more, stays, front_append}
 use Rattle.name_laws.proofs.Tree.{each_length}
 use Rattle.task_typing.proofs.Rows.{at_right}
-use Rattle.tree_soundness.proofs.Lists.{between, each_more, front_append}
+use Rattle.tree_soundness.proofs.Lists.{between, each_more}
 use Rattle.tree_soundness.proofs.Scalars.{is_scalar, one_if, row_scalar, scalar_there, scalars_more}
 
 abbrev pub SlotAlike : DatumRow → TypedSlot → Type 0
@@ -57,9 +58,6 @@ pub record Grows (rows more : Rows) : Type 0 where
   pub pers : IsFront rows.pers more.pers
   pub routines : IsFront rows.routines more.routines
 
-stays : {A : Type 0} (xs : List A) → IsFront xs xs
-stays xs k x is = is
-
 same_grow : (rows : Rows) → Grows rows rows
 same_grow rows = record { consts = stays rows.consts; slots = stays rows.slots; pers = stays rows.pers; routines = stays rows.routines }
 
@@ -70,12 +68,6 @@ then_grow a b c g h = record {
   pers = λ k x is. h.pers k x (g.pers k x is);
   routines = λ k x is. h.routines k x (g.routines k x is);
 }
-
-abbrev pub rows_by : Rows → Bool → Bool → DatumRow → Rows
-rows_by rows scalar pers row =
-    if scalar then record { consts = rows.consts ++ row ∷ []; slots = rows.slots; pers = rows.pers; routines = rows.routines }
-    else if pers then record { consts = rows.consts; slots = rows.slots; pers = rows.pers ++ row ∷ []; routines = rows.routines }
-    else record { consts = rows.consts; slots = rows.slots ++ row ∷ []; pers = rows.pers; routines = rows.routines }
 
 datum_grows : (rows : Rows) (scalar pers : Bool) (row : DatumRow) → Grows rows (rows_by rows scalar pers row)
 datum_grows rows true pers row = record { consts = front_more rows.consts row; slots = stays rows.slots; pers = stays rows.pers; routines = stays rows.routines }
