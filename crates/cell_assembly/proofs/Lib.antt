@@ -2,7 +2,6 @@ pub mod CellLimits
 pub mod Kept
 pub mod Holds
 pub mod Joined
-pub mod Keys
 pub mod NameTables
 pub mod SoundInfo
 pub mod SoundTables

@@ -1,5 +1,5 @@
 -- Turns after turns, and rounds after rounds.
-use Rattle.std.proofs.Common.{◌≡◌, ℕ, zero, suc, ◌+◌, ◌≤◌, List, [], ◌∷◌, length, map, Option, Some, refl, ap, sym, ◌∙◌, subst, inl, inr, arith, length-append}
+use Rattle.std.proofs.Common.{◌≡◌, ℕ, zero, suc, ◌+◌, ◌≤◌, List, [], length, map, Option, Some, refl, ap, sym, ◌∙◌, subst, arith}
 use Rattle.std.proofs.lemmas.Bool.{ltb-false}
 use Rattle.std.proofs.lemmas.List.{length-map}
 use Rattle.std.specs.Prelude.{slice_get, slice_set, nat_lt, false}
@@ -12,7 +12,7 @@ use Rattle.cell_meaning.specs.Asking.{Asking, with_inputs}
 use Rattle.cell_meaning.specs.Histories.{IsLegal}
 use Rattle.cell_meaning.specs.Inputs.{inputs_done}
 use Rattle.cell_meaning.specs.Turns.{TakesTurn, TakeTurns, IsRound, AfterRounds}
-use Rattle.cell_meaning.proofs.ByTurns.{legal_none}
+use Rattle.cell_meaning.proofs.ByTurns.{legal_none, turn_same, turn_grows, turns_grow, turns_same}
 use Rattle.cell_crew.specs.Crew.{RunsProgram, RunPrograms}
 use Rattle.cell_crew.specs.UnderWay.{UnderWay, AreUnderWay}
 use Rattle.cell_crew.proofs.Crews.{map_set, map_at, turn_others, under_way_turn, under_way_other}
@@ -39,30 +39,6 @@ turns_more asks cell k before between after turns turn =
     let next : suc k ≡ k + 1 = omega arith in
     subst (λ (n : ℕ). TakeTurns asks cell 0 n before after) next
     (more_from asks cell 0 k before between after turns (subst (λ (j : ℕ). TakesTurn asks cell j between after) (sym here) turn))
-
--- a turn adds an event or changes nothing
-turn_same : (asks : Asking) (cell : CellData) (actor : ℕ) (before after : List Event) → TakesTurn asks cell actor before after → length after ≤ length before → after ≡ before
-turn_same asks cell actor before after (inl s) short =
-    let grown : length after ≡ length before + 1 = ap length s.added ∙ length-append before (s.event ∷ []) in absurd (omega (arith, grown))
-turn_same asks cell actor before after (inr r) short = r.same
-
-turn_grows : (asks : Asking) (cell : CellData) (actor : ℕ) (before after : List Event) → TakesTurn asks cell actor before after → length before ≤ length after
-turn_grows asks cell actor before after (inl s) = let grown : length after ≡ length before + 1 = ap length s.added ∙ length-append before (s.event ∷ []) in omega (arith, grown)
-turn_grows asks cell actor before after (inr r) = let kept : length after ≡ length before = ap length r.same in omega (arith, kept)
-
-turns_grow : (asks : Asking) (cell : CellData) (actor left : ℕ) (before after : List Event) → TakeTurns asks cell actor left before after → length before ≤ length after
-unfolding TakeTurns
-turns_grow asks cell actor zero before after same = let kept : length after ≡ length before = ap length same in omega (arith, kept)
-turns_grow asks cell actor (suc left) before after t =
-    omega (arith, turn_grows asks cell actor before t.0 t.1, turns_grow asks cell (actor + 1) left t.0 after t.2)
-
-turns_same : (asks : Asking) (cell : CellData) (actor left : ℕ) (before after : List Event) → TakeTurns asks cell actor left before after → length after ≤ length before → after ≡ before
-unfolding TakeTurns
-turns_same asks cell actor zero before after same short = same
-turns_same asks cell actor (suc left) before after t short =
-    let later : length t.0 ≤ length after = turns_grow asks cell (actor + 1) left t.0 after t.2 in
-    let first : length before ≤ length t.0 = turn_grows asks cell actor before t.0 t.1 in
-    turns_same asks cell (actor + 1) left t.0 after t.2 (omega arith) ∙ turn_same asks cell actor before t.0 t.1 (omega arith)
 
 -- a round that leaves the history no longer than it was leaves it as it was
 round_same : (asks : Asking) (cell : CellData) (before between after : List Event) → TakeTurns asks cell 0 (length cell.tasks) before between → TakesTurn asks cell (length cell.tasks) between after

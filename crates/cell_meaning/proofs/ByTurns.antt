@@ -75,11 +75,11 @@ pub by_turns_legal : (asks : Asking) (cell : CellData) (history : List Event) �
 by_turns_legal asks cell history limits full may run = legal_rounds asks cell run.rounds history (record { limits = limits; full = full; may = may }) run.made
 
 -- a turn makes no history shorter
-turn_grows : (asks : Asking) (cell : CellData) (actor : ℕ) (before after : List Event) → TakesTurn asks cell actor before after → length before ≤ length after
+pub turn_grows : (asks : Asking) (cell : CellData) (actor : ℕ) (before after : List Event) → TakesTurn asks cell actor before after → length before ≤ length after
 turn_grows asks cell actor before after (inl s) = subst (λ (h : List Event). length before ≤ length h) (sym s.added) (omega (arith, length-append before (s.event ∷ [])))
 turn_grows asks cell actor before after (inr r) = subst (λ (h : List Event). length before ≤ length h) (sym r.same) (omega arith)
 
-turns_grow : (asks : Asking) (cell : CellData) (actor left : ℕ) (before after : List Event) → TakeTurns asks cell actor left before after → length before ≤ length after
+pub turns_grow : (asks : Asking) (cell : CellData) (actor left : ℕ) (before after : List Event) → TakeTurns asks cell actor left before after → length before ≤ length after
 unfolding TakeTurns
 turns_grow asks cell actor zero before after same = let e : length after ≡ length before = ap length same in omega (arith, e)
 turns_grow asks cell actor (suc left) before after t =
@@ -109,13 +109,13 @@ turns_rest asks cell actor (suc left) before after t short e low high follows =
     (λ lt f. turns_rest asks cell (actor + 1) left t.0 after t.2 (omega arith) e (omega arith) (omega arith) f)
 
 -- turns that leave the history as long as it was leave it as it was
-turn_same : (asks : Asking) (cell : CellData) (actor : ℕ) (before after : List Event) → TakesTurn asks cell actor before after → length after ≤ length before → after ≡ before
+pub turn_same : (asks : Asking) (cell : CellData) (actor : ℕ) (before after : List Event) → TakesTurn asks cell actor before after → length after ≤ length before → after ≡ before
 turn_same asks cell actor before after (inl s) short =
     let grown : length after ≡ length before + 1 = ap length s.added ∙ length-append before (s.event ∷ []) in
     absurd (omega (arith, grown))
 turn_same asks cell actor before after (inr r) short = r.same
 
-turns_same : (asks : Asking) (cell : CellData) (actor left : ℕ) (before after : List Event) → TakeTurns asks cell actor left before after → length after ≤ length before → after ≡ before
+pub turns_same : (asks : Asking) (cell : CellData) (actor left : ℕ) (before after : List Event) → TakeTurns asks cell actor left before after → length after ≤ length before → after ≡ before
 unfolding TakeTurns
 turns_same asks cell actor zero before after same short = same
 turns_same asks cell actor (suc left) before after t short =

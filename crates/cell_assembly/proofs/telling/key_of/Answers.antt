@@ -1,7 +1,7 @@
 use Rattle.std.proofs.Common.{◌∙◌, ap}
 use Rattle.std.specs.List.{list_all}
 use Rattle.rapid_num.specs.Characters.{is_printable}
-use Rattle.cell_assembly.proofs.Keys.{printable_decimal}
+use Rattle.rapid_num.proofs.PrintableDigits.{printable_decimal}
 use Rattle.cell_assembly.proofs.telling.key_of.Goals as goal
 
 pub show-requires-2-clause-printable : goal.show-requires-2-clause-printable

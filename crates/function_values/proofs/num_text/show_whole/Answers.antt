@@ -3,7 +3,7 @@ use Rattle.std.proofs.lemmas.Fmt.{length-decimal-le}
 use Rattle.std.proofs.lemmas.List.{length-append}
 use Rattle.std.specs.List.{list_all}
 use Rattle.rapid_num.specs.Characters.{is_printable}
-use Rattle.function_values.proofs.Digits.{printable_decimal}
+use Rattle.rapid_num.proofs.PrintableDigits.{printable_decimal}
 use Rattle.function_values.proofs.num_text.show_whole.Goals as goal
 
 pub show-requires-clause-printable : goal.show-requires-clause-printable
