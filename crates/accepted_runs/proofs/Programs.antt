@@ -1,10 +1,11 @@
 -- The tasks of an accepted cell run the compiled code of their trees.
-use Rattle.std.proofs.Common.{◌≡◌, refl, ◌∙◌, subst, ℕ, zero, suc, ◌+◌, ◌<◌, List, [], ◌∷◌, length, map, is_some, Some, slice_get}
+use Rattle.std.proofs.Common.{◌≡◌, ◌∙◌, subst, ℕ, ◌+◌, ◌<◌, List, length, map, is_some, Some, slice_get}
 use Rattle.std.proofs.lemmas.Option.{slice_get_within}
 use Rattle.rapid_model.specs.Own.{part_of, answers_of}
 use Rattle.rapid_model.specs.ScriptData.{ScriptData}
 use Rattle.rapid_model.specs.declared.answer.Answer.{Answer}
 use Rattle.rapid_model.specs.declared.request.Request.{Request}
+use Rattle.rapid_model.proofs.Lists.{made_there}
 use Rattle.typed_trees.specs.Plain.{TypedTree}
 use Rattle.cell_assembly.specs.Made.{MadeCell}
 use Rattle.rapid_meaning.specs.Answering.{Asking}
@@ -59,14 +60,9 @@ run_code script made task tree accepted there =
           );
     }
 
-mapped_at : {A B : Type 0} (f : A → B) (xs : List A) (k : ℕ) (y : B) → slice_get (map f xs) k ≡ Some y → (x : A) × (slice_get xs k ≡ Some x) × (f x ≡ y)
-mapped_at f [] k y is = absurd cc
-mapped_at f (x ∷ xs) zero y is = (x, refl, cc)
-mapped_at f (x ∷ xs) (suc k) y is = mapped_at f xs k y is
-
 pub run_programs : (script : ScriptData) (made : MadeCell) → IsAccepted script made → RunPrograms CodeFits CodeAsks (tree_asks made.trees) made.cell (map compiled made.trees)
 run_programs script made accepted = record {
   each = λ task program is.
-      let of = mapped_at compiled made.trees task program is in
+      let of = made_there compiled made.trees task program is in
       subst (λ (code : CodeData). RunsProgram CodeFits CodeAsks (tree_asks made.trees) made.cell task code) of.2 (run_code script made task of.0 accepted of.1);
 }

@@ -36,7 +36,8 @@ use Rattle.cell_meaning.specs.Stored.{signals_with, persistents_with, with_part}
 use Rattle.cell_meaning.specs.Zones.{zones_with}
 use Rattle.cell_meaning.proofs.Asked.{TaskMay, ScriptMay, who_may}
 use Rattle.rapid_model.proofs.Cuts.{cut_more}
-use Rattle.cell_meaning.proofs.MoreEvents.{part_of-own, part_of-other, end_of-more, is_held-more, arm_after-own, arm_after-other, count_more, counted-more, setpoints_given-own, setpoints_given-other, seen_after-own, seen_after-other, signals_after-more, persistents_after-more, stands_after-more, zones_after-more, interrupts_after-more, changes_by_others-more}
+use Rattle.rapid_model.proofs.OwnEvents.{is_held-more}
+use Rattle.cell_meaning.proofs.MoreEvents.{part_of-own, part_of-other, end_of-more, arm_after-own, arm_after-other, count_more, counted-more, setpoints_given-own, setpoints_given-other, seen_after-own, seen_after-other, signals_after-more, persistents_after-more, stands_after-more, zones_after-more, interrupts_after-more, changes_by_others-more}
 use Rattle.cell_core.specs.Actors.{one_if, actor_with, actor_at, before}
 use Rattle.cell_core.specs.Boards.{BoardData, elements_of, put_in, store_with, change_on, boards_with}
 use Rattle.cell_core.specs.Changes.{watched_of, is_some_change}

@@ -5,12 +5,13 @@ use Rattle.std.proofs.lemmas.Bool.{ltb-true}
 use Rattle.std.proofs.lemmas.Int.{ints}
 use Rattle.rapid_num.specs.declared.shape.Bound.{Bound}
 use Rattle.rapid_num.specs.declared.shape.Shape.{Shape}
-use Rattle.joint_clip.specs.Touches.{Names, IsWithin, LiesInside, point_at}
+use Rattle.joint_clip.specs.Touches.{IsWithin, LiesInside, point_at}
 use Rattle.rapid_model.specs.CellData.{CellData}
 use Rattle.rapid_model.specs.declared.answer.Answer.TheVariants as answers
 use Rattle.rapid_model.specs.declared.request.Request.TheVariants as requests
 use Rattle.rapid_model.specs.declared.zone_name.ZoneName.{ZoneName}
 use Rattle.rapid_model.specs.declared.zone_name.ZoneName.TheVariants.{Own, Cell}
+use Rattle.joint_clip.proofs.Axes.{none_named}
 use Rattle.world_zones.specs.Touched.{comes_before, IsTouched}
 use Rattle.world_zones.specs.Zones.{no_zones, own_shape, zone_at}
 use Rattle.cell_meaning.specs.Answers.{IsAnswer}
@@ -23,11 +24,6 @@ near_one = record { inside = true; bounds = Some (record { low = pos 500; high =
 
 abbrev zoned : CellData
 zoned = record cell { zones = record { name = codes "z1"; task = 0; shape = near_one; signal = 1; value = true } ∷ [] }
-
-none_named : (n axis : ℕ) (b : Bound) → Names (replicate n None) axis b → ⊥
-none_named zero axis b named = cc
-none_named (suc n) zero b named = cc
-none_named (suc n) (suc axis) b named = none_named n axis b named
 
 -- the end of the way from 0 to 1 degree lies in the zone
 end_inside : LiesInside near_one.bounds (point_at (joints_at (pos 0)) (joints_at (pos 1000)) 1 1) 1

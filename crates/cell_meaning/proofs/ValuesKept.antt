@@ -3,7 +3,7 @@ use Rattle.std.proofs.Common.{◌≡◌, ◌<◌, ◌⊎◌, inl, inr, ℕ, zero
 use Rattle.std.specs.Prelude.{◌&&◌, ◌==◌, IsTrue, IsSomeAnd, nat_lt, slice_get}
 use Rattle.std.specs.List.{list_all}
 use Rattle.std.specs.Option.{option_and_then, unwrap_or}
-use Rattle.std.proofs.lemmas.Bool.{and_parts, eqb-true, false≢true, and_from}
+use Rattle.std.proofs.lemmas.Bool.{and_parts, eqb-true, false≢true}
 use Rattle.std.proofs.lemmas.Option.{slice_get-get_or}
 use Rattle.rapid_model.specs.CellData.{CellData, IsCell, is_pers_cell}
 use Rattle.rapid_model.specs.Lengths.{is_full}
@@ -25,6 +25,7 @@ use Rattle.rapid_model.specs.declared.sort.Sort.TheVariants as sorts
 use Rattle.rapid_model.specs.declared.task_row.TaskRow.{TaskRow}
 use Rattle.rapid_model.specs.declared.value.Value.{Value}
 use Rattle.rapid_model.specs.declared.value.Value.TheVariants as values
+use Rattle.rapid_model.proofs.FullValues.{all_have_sort}
 use Rattle.rapid_values.specs.Values.{part_of as value_part, put_part}
 use Rattle.persist_store.specs.Stores.{PersData, IsKept, element_of as kept_element, first_row}
 use Rattle.persist_store.proofs.Elements.{kept_put, within_width, holds_at}
@@ -42,19 +43,11 @@ row_with row elements = record { sort = row.sort; len = row.len; values = elemen
 abbrev AllKept : CellData → List (List Value) → Type 0
 AllKept cell rows = (pers : ℕ) (row : PersCell) → slice_get cell.pers pers ≡ Some row → IsKept (row_with row (get_or rows pers []))
 
--- the first values are kept
-both_all : (sort : Sort) (vs : List Value) → list_all (is_value_of sort) vs ≡ true → list_all is_full vs ≡ true → list_all (has_sort sort) vs ≡ true
-both_all sort [] h k = refl
-both_all sort (v ∷ vs) h k =
-    let a = and_parts (is_value_of sort v) (list_all (is_value_of sort) vs) h in
-    let b = and_parts (is_full v) (list_all is_full vs) k in
-    and_from (has_sort sort v) (list_all (has_sort sort) vs) (and_from (is_value_of sort v) (is_full v) a.0 b.0) (both_all sort vs a.1 b.1)
-
 row_kept : (tasks : ℕ) (row : PersCell) → is_pers_cell tasks row ≡ true → list_all is_full row.first ≡ true → IsKept (first_row row)
 row_kept tasks row is full =
     let w = and_parts (holds_where_there (λ task. nat_lt task tasks) row.owner && holds_where_there (is_within 1 1_000) row.len && length row.first == width row.len) (list_all (is_value_of row.sort) row.first) is in
     let v = and_parts (holds_where_there (λ task. nat_lt task tasks) row.owner && holds_where_there (is_within 1 1_000) row.len) (length row.first == width row.len) w.0 in
-    record { count = eqb-true (length row.first) (width row.len) v.1; sorts = both_all row.sort row.first w.1 full }
+    record { count = eqb-true (length row.first) (width row.len) v.1; sorts = all_have_sort row.sort row.first w.1 full }
 
 rows_kept : (tasks : ℕ) (rows : List PersCell) → list_all (is_pers_cell tasks) rows ≡ true → list_all (λ row. list_all is_full row.first) rows ≡ true
     → (pers : ℕ) (row : PersCell) → slice_get rows pers ≡ Some row → IsKept (row_with row (get_or (map (λ (r : PersCell). r.first) rows) pers []))

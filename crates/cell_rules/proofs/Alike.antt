@@ -5,12 +5,13 @@ use Rattle.std.proofs.lemmas.Bool.{cases_order}
 use Rattle.std.proofs.lemmas.Option.{slice_get_within}
 use Rattle.rapid_model.specs.declared.pers_value.PersValue.{PersValue}
 use Rattle.rapid_model.specs.Names.{IsOneName}
+use Rattle.rapid_model.proofs.Lists.{there_is}
 use Rattle.typed_trees.specs.Plain.{TypedPers}
 use Rattle.cell_rules.specs.Declared.{Declared, AreOne, AreAlike, AreAlikeBefore}
 use Rattle.cell_rules.specs.First.{IsIndexOf}
 use Rattle.cell_rules.specs.Given.{IsFor, Finds, Suits, IsInside}
 use Rattle.cell_rules.specs.Numbering.{AreNumbered, HasNumber}
-use Rattle.cell_rules.proofs.Lists.{there_is, same_there}
+use Rattle.cell_rules.proofs.Lists.{same_there}
 
 pub one_symmetric : (d e : Declared) → AreOne d e → AreOne e d
 one_symmetric d e one = record { global = one.other_global; other_global = one.global; named = sym one.named }

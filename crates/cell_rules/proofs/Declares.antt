@@ -9,6 +9,7 @@ use Rattle.rapid_model.specs.declared.pers_value.PersValue.{PersValue}
 use Rattle.rapid_model.specs.declared.sort.Sort.{Sort}
 use Rattle.rapid_model.specs.declared.sort.Sort.TheVariants as sorts
 use Rattle.rapid_model.specs.declared.value.Value.{Value}
+use Rattle.rapid_model.proofs.Lists.{there_is}
 use Rattle.typed_trees.specs.Plain.{TypedPers}
 use Rattle.named_data.specs.Wants.{same_sort}
 use Rattle.cell_assembly.specs.Cells.{PersInfo, Numbered, same_len, is_global, global_number, new_pers, with_declared, added, joined, join, global_pers, one_pers, Clash}
@@ -19,7 +20,7 @@ use Rattle.cell_rules.specs.Numbering.{AreNumbered, HasNumber}
 use Rattle.cell_rules.specs.Refused.{IsClash, IsRefusal}
 use Rattle.cell_rules.proofs.Alike.{one_symmetric, one_transitive}
 use Rattle.cell_rules.proofs.Infos.{AreDeclared, AreInfos, IsInfo, info_global, info_one}
-use Rattle.cell_rules.proofs.Lists.{there_is, same_there, in_front, at_end, front_there, earlier_or_last, one_longer, put_there, position_there, position_nowhere}
+use Rattle.cell_rules.proofs.Lists.{same_there, in_front, at_end, front_there, earlier_or_last, one_longer, put_there, position_there, position_nowhere}
 use Rattle.cell_rules.proofs.Numbers.{new_numbered, joined_numbered, first_stays, first_new, earlier_number}
 use Rattle.cell_rules.proofs.Outcomes.{Outcome, chosen}
 

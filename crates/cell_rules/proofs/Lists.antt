@@ -6,12 +6,6 @@ use Rattle.std.proofs.lemmas.List.Quantifiers.{position-Some}
 use Rattle.std.proofs.lemmas.List.Sums.{fails_before_first}
 use Rattle.std.proofs.lemmas.Option.{get_or_from_slice_get, slice_get-get_or, slice_get_within}
 
--- there is something inside
-pub there_is : {A : Type 0} (xs : List A) (i : ℕ) → i < length xs → (x : A) × (slice_get xs i ≡ Some x)
-there_is [] i in_list = absurd (omega (arith, in_list))
-there_is (x ∷ xs) zero in_list = (x, refl)
-there_is (x ∷ xs) (suc i) in_list = there_is xs i (omega (arith, in_list))
-
 pub same_there : {A : Type 0} (o : Option A) (x y : A) → o ≡ Some x → o ≡ Some y → x ≡ y
 same_there o x y is other = cc
 

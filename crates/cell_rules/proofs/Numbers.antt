@@ -2,8 +2,9 @@
 use Rattle.std.proofs.Common.{◌≡◌, ◌⊎◌, ◌↔◌, inl, inr, ℕ, zero, suc, ◌+◌, ◌<◌, List, [], ◌∷◌, ◌++◌, length, Some, slice_get, refl, ap, sym, subst, ◌∙◌, arith}
 use Rattle.std.proofs.lemmas.Bool.{cases_lt, cases_order}
 use Rattle.std.proofs.lemmas.Option.{slice_get_within, slice_get_past}
+use Rattle.rapid_model.proofs.Lists.{there_is}
 use Rattle.cell_rules.specs.Numbering.{AreNumbered, HasNumber, IsFirst}
-use Rattle.cell_rules.proofs.Lists.{there_is, same_there, same_list, in_front, at_end, earlier_or_last, one_longer}
+use Rattle.cell_rules.proofs.Lists.{same_there, same_list, in_front, at_end, earlier_or_last, one_longer}
 
 module _ {A : Type 0} (AreOne : A → A → Type 0) where
   -- where two numberings agree so far, the next number of one is no smaller

@@ -5,13 +5,14 @@ use Rattle.std.proofs.lemmas.Option.{slice_get_past}
 use Rattle.rapid_model.specs.CellData.{CellData}
 use Rattle.rapid_model.specs.ScriptData.{ScriptData}
 use Rattle.rapid_model.specs.Names.{IsOneName}
+use Rattle.rapid_model.proofs.Lists.{there_is}
 use Rattle.typed_trees.specs.Plain.{TypedTree}
 use Rattle.cell_assembly.specs.Made.{MadeCell}
 use Rattle.cell_rules.specs.Cell.{IsCellOf, IsNumberedTree, pers_numbers, meeting_numbers}
 use Rattle.cell_rules.specs.Declared.{AreOne, AreAlikeBefore, declared_by, meetings_of}
 use Rattle.cell_rules.specs.First.{IsPersistent}
 use Rattle.cell_rules.specs.Numbering.{AreNumbered, HasNumber, IsFirst}
-use Rattle.cell_rules.proofs.Lists.{there_is, same_list}
+use Rattle.cell_rules.proofs.Lists.{same_list}
 use Rattle.cell_rules.proofs.Numbers.{same_numbers, same_count, same_first}
 use Rattle.cell_rules.proofs.Rows.{same_persistent}
 

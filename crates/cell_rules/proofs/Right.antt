@@ -1,11 +1,12 @@
 -- A script and trees make a cell exactly where it is theirs, and are refused exactly where a rule is broken.
-use Rattle.std.proofs.Common.{◌≡◌, ◌↔◌, ℕ, zero, suc, true, List, [], ◌∷◌, length, map, Some, None, slice_get, Ok, Err, refl, ap, sym, subst, ◌∙◌}
+use Rattle.std.proofs.Common.{◌≡◌, ◌↔◌, true, List, [], length, map, Some, None, slice_get, Ok, Err, refl, ap, sym, subst, ◌∙◌}
 use Rattle.std.specs.List.{concat, list_all}
 use Rattle.std.proofs.lemmas.List.{length-map, length-replicate}
 use Rattle.rapid_model.specs.CellData.{CellData}
 use Rattle.rapid_model.specs.ScriptData.{ScriptData, is_pers_value}
 use Rattle.rapid_model.specs.Sorts.{width}
 use Rattle.rapid_model.specs.Names.{IsOneName}
+use Rattle.rapid_model.proofs.Lists.{made_there}
 use Rattle.typed_trees.specs.Plain.{TypedTree}
 use Rattle.typed_trees.specs.Sound.{has_sound_pers}
 use Rattle.cell_assembly.specs.Cells.{CellBreak, Making, CellTables, PersInfo, PersTables, cell_tables, tables, tell_all, trees_meetings, trees_pers}
@@ -28,12 +29,6 @@ use Rattle.cell_rules.proofs.Values.{persistent_right, sound_there}
 
 no_infos : AreInfos [] [] []
 no_infos = record { numbered = none_numbered AreOne; infos = λ k p at. absurd (cc at); untold = λ k p at. absurd (cc at) }
-
--- where something stands in a list that a function made
-made_there : {A B : Type 0} (f : A → B) (xs : List A) (k : ℕ) (y : B) → slice_get (map f xs) k ≡ Some y → (x : A) × (slice_get xs k ≡ Some x) × (f x ≡ y)
-made_there f [] k y at = absurd (cc at)
-made_there f (x ∷ xs) zero y at = (x, refl, cc at)
-made_there f (x ∷ xs) (suc k) y at = made_there f xs k y at
 
 module _ (script : ScriptData) (trees : List TypedTree) (indexed : list_all is_pers_value script.pers ≡ true) (sound : list_all has_sound_pers trees ≡ true) where
   -- tables of the cell

@@ -7,13 +7,14 @@ use Rattle.rapid_model.specs.declared.pers_cell.PersCell.{PersCell}
 use Rattle.rapid_model.specs.declared.pers_value.PersValue.{PersValue}
 use Rattle.rapid_model.specs.declared.sort.Sort.{Sort}
 use Rattle.rapid_model.specs.declared.value.Value.{Value}
+use Rattle.rapid_model.proofs.Lists.{there_is}
 use Rattle.rapid_values.specs.Values.{start_value}
 use Rattle.cell_rules.specs.Declared.{Declared, AreOne, AreAlikeBefore}
 use Rattle.cell_rules.specs.First.{owner_of, IsDeclared, IsUndeclared, IsTold, IsFirstValue, Told, Given, Started, IsPersistent}
 use Rattle.cell_rules.specs.Given.{AreForOne, IsFor, IsRight}
 use Rattle.cell_rules.specs.Numbering.{AreNumbered, HasNumber}
 use Rattle.cell_rules.proofs.Alike.{alike_there, for_both, one_named, same_index}
-use Rattle.cell_rules.proofs.Lists.{there_is, same_there, same_list}
+use Rattle.cell_rules.proofs.Lists.{same_there, same_list}
 use Rattle.cell_rules.proofs.Numbers.{same_first}
 
 module _ (ds : List Declared) (ks : List ℕ) (count : ℕ) (numbered : AreNumbered AreOne ds ks count) (alike : AreAlikeBefore (length ds) ds) (given : List PersValue) (right : (number : ℕ) (value : PersValue) → slice_get given number ≡ Some value → IsRight ds given number value) where

@@ -15,6 +15,7 @@ use Rattle.rapid_model.specs.declared.sort.Sort.{Sort}
 use Rattle.rapid_model.specs.declared.sort.Sort.TheVariants as sorts
 use Rattle.rapid_model.specs.declared.value.Value.{Value}
 use Rattle.rapid_model.specs.declared.value.Value.TheVariants as values
+use Rattle.rapid_model.proofs.Lists.{there_is}
 use Rattle.cell_assembly.specs.Cells.{PersInfo, has_sort, fits_index, element, is_told, with_told, at_value, key_of, is_global, global_number, tell_to, tell_global, tell, tell_all}
 use Rattle.cell_rules.specs.Declared.{Declared, AreOne, AreAlikeBefore}
 use Rattle.cell_rules.specs.First.{IsIndexOf, IsTold, IsUntold}
@@ -23,7 +24,7 @@ use Rattle.cell_rules.specs.Numbering.{AreNumbered}
 use Rattle.cell_rules.specs.Refused.{IsBroken, IsRefusal}
 use Rattle.cell_rules.proofs.Alike.{for_both, found_alike, one_named, one_number, same_index, suits_alike}
 use Rattle.cell_rules.proofs.Infos.{IsInfo, info_global, info_one}
-use Rattle.cell_rules.proofs.Lists.{there_is, same_there, in_front, at_end, front_there, earlier_or_last, one_longer, put_there, position_there, position_nowhere}
+use Rattle.cell_rules.proofs.Lists.{same_there, in_front, at_end, front_there, earlier_or_last, one_longer, put_there, position_there, position_nowhere}
 use Rattle.cell_rules.proofs.Outcomes.{Outcome, followed, ruled}
 
 -- the type of a value

@@ -7,6 +7,7 @@ use Rattle.std.proofs.lemmas.List.{append_assoc, append-nil}
 use Rattle.std.proofs.lemmas.Option.{slice_get_within}
 use Rattle.rapid_model.specs.declared.pers_value.PersValue.{PersValue}
 use Rattle.rapid_model.specs.Names.{IsOneName}
+use Rattle.rapid_model.proofs.Lists.{there_is}
 use Rattle.typed_trees.specs.Plain.{TypedPers, TypedTree}
 use Rattle.cell_assembly.specs.Cells.{Making, Numbered, PersTables, Meetings, MeetingTables, one_pers, all_pers, with_list, trees_pers, meeting_number, met, meet_all, meetings_with, trees_meetings}
 use Rattle.cell_assembly.specs.Made.{numbered, with_numbers}
@@ -16,7 +17,7 @@ use Rattle.cell_rules.specs.Numbering.{AreNumbered, HasNumber, IsFirst}
 use Rattle.cell_rules.specs.Refused.{IsRefusal}
 use Rattle.cell_rules.proofs.Declares.{one_right}
 use Rattle.cell_rules.proofs.Infos.{AreInfos, named_alike, one_name}
-use Rattle.cell_rules.proofs.Lists.{there_is, same_there, earlier_or_last, one_longer, position_there, position_nowhere}
+use Rattle.cell_rules.proofs.Lists.{same_there, earlier_or_last, one_longer, position_there, position_nowhere}
 use Rattle.cell_rules.proofs.Numbers.{none_numbered, new_numbered, joined_numbered, first_stays, first_new}
 use Rattle.cell_rules.proofs.Outcomes.{Outcome, followed}
 

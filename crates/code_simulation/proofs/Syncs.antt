@@ -1,5 +1,5 @@
 -- A meeting of the tasks that a list names: the list is read element by element, while no data change.
-use Rattle.std.proofs.Common.{◌≡◌, refl, sym, ap, ◌∙◌, subst, ℕ, zero, suc, ◌+◌, ◌*◌, ◌/◌, ◌≤◌, ◌<◌, ◌^◌, nat_le, nat_lt, Bool, true, false, List, [], ◌∷◌, length, Option, None, Some, position, bytes_eq, slice_get, if◌then◌else◌, IsTrue, arith}
+use Rattle.std.proofs.Common.{◌≡◌, refl, sym, ap, ◌∙◌, subst, ℕ, zero, suc, ◌+◌, ◌≤◌, ◌<◌, ◌^◌, nat_le, nat_lt, Bool, true, false, List, [], ◌∷◌, length, Option, None, Some, position, bytes_eq, slice_get, if◌then◌else◌, IsTrue, arith}
 use Rattle.std.specs.Option.{option_and_then, option_map, unwrap_or}
 use Rattle.std.specs.Prelude.{⊤}
 use Rattle.std.proofs.lemmas.Bool.{le-leb, lt-ltb, ltb-true}
@@ -12,7 +12,7 @@ use Rattle.rapid_model.specs.declared.request.Request.{Request}
 use Rattle.rapid_model.specs.declared.sort.Sort.{Sort}
 use Rattle.rapid_model.specs.declared.value.Value.{Value}
 use Rattle.rapid_model.specs.declared.value.Value.TheVariants as values
-use Rattle.rapid_operators.proofs.Elements.{counted_element}
+use Rattle.rapid_operators.proofs.Elements.{counted_element, thousandths}
 use Rattle.typed_trees.specs.Plain.{NotHeld, PlaceOf}
 use Rattle.typed_trees.specs.declared.datum.Datum.{Datum}
 use Rattle.typed_trees.specs.declared.datum.Datum.TheVariants.{Plain, Place}
@@ -202,10 +202,6 @@ code_root s d pc stack (roots.Ref row) p m next there room e at =
 code_root s d pc stack (roots.Pers row) p m next there room e at = persistent s d pc stack (slice_get s.tree.pers_of row) p m next there room e at
 
 -- an element of the list
-
--- so many thousandths, as so many
-thousandths : (n : ℕ) → (n * 1_000) / 1_000 ≡ n
-thousandths n = omega arith
 
 -- as the test of a set says it
 in_set : (set : ℕ) → set < 2 ^ 16 → nat_lt set (2 ^ 16) ≡ true

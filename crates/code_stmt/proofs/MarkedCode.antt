@@ -11,6 +11,7 @@ use Rattle.stack_code.specs.declared.marks.Marks.{Marks}
 use Rattle.stack_code.specs.declared.op.Op.{Op}
 use Rattle.stack_code.specs.declared.owner.Owner.{Owner}
 use Rattle.typed_trees.specs.Plain.{TypedRoutine, TypedTree}
+use Rattle.stack_code.proofs.Branches.{either}
 use Rattle.code_expr.specs.Adds.{end_of}
 use Rattle.code_expr.specs.Follows.{Code, Follows}
 use Rattle.code_expr.proofs.Follow.{follows_as}
@@ -18,7 +19,7 @@ use Rattle.code_stmt.specs.Lays.{Lays, ops_of}
 use Rattle.code_stmt.specs.Marked.{Marked, Stand, front_of, last_of, with_marked}
 use Rattle.code_stmt.specs.Runs.{with_row, with_rows}
 use Rattle.code_stmt.specs.declared.written.Written.{Written}
-use Rattle.code_stmt.proofs.OwnerRows.{Ended, all_rows, behind, either, ended, none, rows_append, rows_behind}
+use Rattle.code_stmt.proofs.OwnerRows.{Ended, all_rows, behind, ended, none, rows_append, rows_behind}
 
 -- what follows from three facts that hold where there is no error
 pub on_ok_three : {T E P Q R S : Type 0} (r : Result T E) → (P → Q → R → S) → OnOk r P → OnOk r Q → OnOk r R → OnOk r S

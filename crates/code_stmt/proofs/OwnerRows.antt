@@ -1,11 +1,12 @@
 -- Rows of owners that grow by runs of operations, and by one operation after the other.
-use Rattle.std.proofs.Common.{◌≡◌, ℕ, zero, suc, ◌+◌, ◌-◌, ◌==◌, Bool, true, false, List, [], ◌∷◌, ◌++◌, length, get_or, set, refl, sym, ap, ◌∙◌, arith, if◌then◌else◌}
+use Rattle.std.proofs.Common.{◌≡◌, ℕ, zero, suc, ◌+◌, ◌-◌, ◌==◌, true, false, List, [], ◌∷◌, ◌++◌, length, get_or, set, refl, sym, ap, ◌∙◌, arith, if◌then◌else◌}
 use Rattle.std.proofs.lemmas.Bool.{eq-eqb, ne_eqb}
 use Rattle.std.proofs.lemmas.List.{append_assoc, get_or_at, length_push, set_at}
 use Rattle.stack_code.specs.Compiled.{owner_row, owner_rows, rows_from, same_own}
 use Rattle.stack_code.specs.Placed.{Own, Placed, own_of}
 use Rattle.stack_code.specs.declared.op.Op.{Op}
 use Rattle.stack_code.specs.declared.owner.Owner.{Owner}
+use Rattle.stack_code.proofs.Branches.{either}
 use Rattle.code_expr.specs.Adds.{owned}
 use Rattle.code_stmt.specs.Runs.{with_row, with_rows, with_run}
 
@@ -14,11 +15,6 @@ same_eqb n = eq-eqb n n refl
 
 own_same : (own : Own) → same_own own own ≡ true
 own_same own = rw (same_eqb own.retry, same_eqb own.next, same_eqb own.at.«module», same_eqb own.at.byte)
-
--- of either branch, where it is taken
-pub either : {A : Type 0} (P : A → Type 0) (x y : A) (b : Bool) → (b ≡ true → P x) → (b ≡ false → P y) → P (if b then x else y)
-either P x y true on off = on refl
-either P x y false on off = off refl
 
 -- a row that is this owner's grows
 grows : (row : Owner) (first past : ℕ) (own : Own) → same_own own (own_of row) ≡ true → with_row (row ∷ []) first past own ≡ owner_row row.first past (own_of row) ∷ []

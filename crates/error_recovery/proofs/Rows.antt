@@ -1,5 +1,5 @@
 -- Rows of owners, as they are made of laid out operations.
-use Rattle.std.proofs.Common.{arith, ◌≡◌, refl, sym, subst, ◌∙◌, ap, eqb-true, ℕ, zero, suc, ◌+◌, ◌<◌, ◌==◌, ◌&&◌, length, Bool, true, false, List, [], ◌∷◌, map, Option, None, Some, slice_get, if◌then◌else◌}
+use Rattle.std.proofs.Common.{arith, ◌≡◌, refl, sym, subst, ◌∙◌, ap, eqb-true, ℕ, zero, suc, ◌+◌, ◌<◌, ◌==◌, ◌&&◌, length, true, List, [], ◌∷◌, map, Option, None, Some, slice_get}
 use Rattle.std.proofs.lemmas.Bool.{and_parts}
 use Rattle.std.proofs.lemmas.Option.{slice_get-map}
 use Rattle.std.specs.Option.{option_map, option_and_then}
@@ -7,6 +7,7 @@ use Rattle.stack_code.specs.Compiled.{owner_row, owner_rows, rows_from, same_own
 use Rattle.stack_code.specs.Placed.{Own, Placed, beside, own_of, owner_at}
 use Rattle.stack_code.specs.declared.op.Op.{Op}
 use Rattle.stack_code.specs.declared.owner.Owner.{Owner}
+use Rattle.stack_code.proofs.Branches.{either}
 use Rattle.error_recovery.specs.Owners.{Tiles}
 use Rattle.error_recovery.proofs.Tiling.{chosen, passed}
 
@@ -26,11 +27,6 @@ same_is a b same =
 
     built : (r s n m p q x y : ℕ) → r ≡ s → n ≡ m → p ≡ q → x ≡ y → own r n p x ≡ own s m q y
     built r s n m p q x y e f g h = ap (λ k. own k n p x) e ∙ (ap (λ k. own s k p x) f ∙ (ap (λ k. own s m k x) g ∙ ap (λ k. own s m q k) h))
-
--- of either branch, where it is taken
-either : {A : Type 0} (P : A → Type 0) (x y : A) (b : Bool) → (b ≡ true → P x) → (b ≡ false → P y) → P (if b then x else y)
-either P x y true on off = on refl
-either P x y false on off = off refl
 
 -- the rows tile as many operations as there are
 rows_tile : (first past : ℕ) (own : Own) (ps : List Placed) → first < past → Tiles first (past + length ps) (rows_from first past own ps)

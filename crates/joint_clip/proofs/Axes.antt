@@ -1,5 +1,5 @@
 -- One axis more, in a loop over the axes.
-use Rattle.std.proofs.Common.{◌≡◌, ◌<◌, ◌≤◌, ◌+◌, ℕ, List, length, Option, Some, None, subst, ap, ◌∙◌, arith, ℤ, pos}
+use Rattle.std.proofs.Common.{◌≡◌, ◌<◌, ◌≤◌, ◌+◌, ℕ, zero, suc, List, length, replicate, Option, Some, None, subst, ap, ◌∙◌, arith, ℤ, pos}
 use Rattle.std.specs.Prelude.{slice_get}
 use Rattle.std.specs.List.{slice_index_or}
 use Rattle.std.proofs.lemmas.Option.{slice_get_within, slice_get-get_or}
@@ -83,3 +83,9 @@ nothing_left axes bounds p q none =
 -- what was read of a list is there
 pub element_at : (bounds : List (Option Bound)) (axis : ℕ) (other here : Option Bound) → axis < length bounds → slice_index_or bounds axis other ≡ here → slice_get bounds axis ≡ Some here
 element_at bounds axis other here inside read = slice_get-get_or bounds axis other inside ∙ ap Some read
+
+-- no axis is named where none has bounds
+pub none_named : (n axis : ℕ) (b : Bound) → Names (replicate n None) axis b → ⊥
+none_named zero axis b named = cc
+none_named (suc n) zero b named = cc
+none_named (suc n) (suc axis) b named = none_named n axis b named

@@ -9,6 +9,7 @@ use Rattle.rapid_num.specs.declared.shape.Shape.{Shape}
 use Rattle.joint_clip.specs.declared.shape_fault.ShapeFault.TheVariants as faults
 use Rattle.joint_clip.specs.Shapes.{made_shape}
 use Rattle.joint_clip.specs.Touches.{Names, IsWithin, LiesInside, LiesOutside, IsBeyond, Touches, way_at}
+use Rattle.joint_clip.proofs.Axes.{none_named}
 
 -- bounds of axis 1 alone, of axes 1 and 2, and of axes 1 and 7
 abbrev on_one : ℤ → Joints
@@ -62,11 +63,6 @@ seventh_axis = refl
 -- an arm at these angles on axes 1 and 2
 abbrev arm_at : ℤ → ℤ → Joints
 arm_at a b = record { axis = a ∷ b ∷ replicate 10 (pos 0) }
-
-none_named : (n axis : ℕ) (b : Bound) → Names (replicate n None) axis b → ⊥
-none_named zero axis b named = cc
-none_named (suc n) zero b named = cc
-none_named (suc n) (suc axis) b named = none_named n axis b named
 
 same_some : (a b : Bound) → Some (Some a) ≡ Some (Some b) → a ≡ b
 same_some a b same = cc

@@ -13,7 +13,7 @@ use Rattle.rapid_forms.proofs.Cuts.{Even, Shorter, Longer, cuts, behind, no_midd
 use Rattle.rapid_forms.proofs.Sets.{apart, has_apart}
 use Rattle.rapid_forms.proofs.Up.{Up, seq_up, many_up}
 use Rattle.rapid_forms.proofs.Opens.{Opens, seq_opens}
-use Rattle.rapid_forms.proofs.Same.{Same, either_swapped}
+use Rattle.rapid_forms.proofs.Same.{Same, either_swapped, place_front}
 
 -- the next token, if there is one, does not go on with the front
 abbrev pub Ends : {A : Type 0} → Form A → List Lexeme → List Lexeme → Type 0
@@ -359,16 +359,11 @@ made_right F f n ts same (Err (Deep rest)) h = record {
   deeper = h.deeper;
 }
 
--- the place of a form that takes a token
-placed : {A : Type 0} {first more : List Sign} {f : Form A} → LL false first more f → (x : A) (ts front rest : List Lexeme) → ts ≡ front ++ rest → f.Whole x front → place ts ≡ place front
-placed l x ts [] rest e w = let no = l.empty x w in cc
-placed l x ts (c ∷ front) rest e w = rw e
-
 -- premise: the form takes a token, whose place is that of all the tokens
 pub made_reads : {A B : Type 0} {first more : List Sign} {F : ℕ → Form A} {n : ℕ} {a : Reader A} (f : ℕ → A → B) → Reads F n a → ((m : ℕ) → LL false first more (F m)) → Reads (λ m. made f (F m)) n (made_read f a)
 unfolding made_read
 made_reads {F = F} {n = n} {a = a} f ra lf = record {
-  right = λ ts. made_right F f n ts (λ x front rest split w. ap (λ at. f at x) (placed (lf n) x ts front rest split w)) (a ts) (ra.right ts);
+  right = λ ts. made_right F f n ts (λ x front rest split w. ap (λ at. f at x) (place_front (lf n) x ts front rest split w)) (a ts) (ra.right ts);
 }
 
 -- premise: the place counts for nothing

@@ -211,7 +211,7 @@ both_shared {A} {B} {E = E} f g a b c d =
     front h e = same_sym (same_trans (made_same _ (bracketed a b e)) (made_made _ _ _))
 
 -- a whole one that takes a token stands at the same place as what it is the front of
-place_front : {A : Type 0} {first more : List Sign} {a : Form A} → LL false first more a → (x : A) (ts u v : List Lexeme)
+pub place_front : {A : Type 0} {first more : List Sign} {a : Form A} → LL false first more a → (x : A) (ts u v : List Lexeme)
     → ts ≡ u ++ v → a.Whole x u → place ts ≡ place u
 place_front l x ts [] v p w = let h = l.empty x w in cc
 place_front l x ts (t ∷ u) v p w = ap place p

@@ -13,7 +13,7 @@ plus-plus : (m n : ℕ) (o : Option ℕ) → plus m (plus n o) ≡ plus (m + n) 
 plus-plus m n None = refl
 plus-plus m n (Some k) = ap (λ (x : ℕ). Some x) (let e : m + (n + k) ≡ m + n + k = omega arith in e)
 
-characters_at : (left : ℕ) (bytes : List ℕ) → character_len bytes ≡ 0 → characters_len left bytes ≡ Some 0
+pub characters_at : (left : ℕ) (bytes : List ℕ) → character_len bytes ≡ 0 → characters_len left bytes ≡ Some 0
 unfolding characters_len
 characters_at zero bytes e = rw e refl
 characters_at (suc n) bytes e = rw e refl

@@ -8,6 +8,7 @@ use Rattle.rapid_num.specs.Characters.{is_printable}
 use Rattle.rapid_lexer.specs.Strings.{is_code, is_character, AreCharacters}
 use Rattle.rapid_lexer.specs.Reading.{doubled_len, escape_len, character_len, characters_len}
 use Rattle.rapid_lexer.proofs.Characters.{plain_parts, code_parts, plain_character}
+use Rattle.rapid_lexer.proofs.CharacterLoop.{characters_at}
 
 -- ---- one character
 
@@ -197,13 +198,8 @@ characters_step left c rest e =
     let n = character_front c rest e in
     rw (n, ne_eqb (length c) 0 (character_some c e), drop_at c rest (length c) refl) refl
 
-characters_stop : (left : ℕ) (rest : List ℕ) → character_len rest ≡ 0 → characters_len left rest ≡ Some 0
-unfolding characters_len
-characters_stop zero rest e = rw e refl
-characters_stop (suc left) rest e = rw e refl
-
 pub walk_of : (left : ℕ) (cs : List (List ℕ)) (rest : List ℕ) → AreCharacters cs → character_len rest ≡ 0 → length cs ≤ left → characters_len left (concat cs ++ rest) ≡ Some (length (concat cs))
-walk_of left [] rest are e le = characters_stop left rest e
+walk_of left [] rest are e le = characters_at left rest e
 walk_of zero (c ∷ cs) rest are e le = absurd (omega arith)
 walk_of (suc left) (c ∷ cs) rest are e le =
     ap (characters_len (suc left)) (append_assoc c (concat cs) rest) ∙ characters_step left c (concat cs ++ rest) are.0

@@ -1,7 +1,7 @@
 -- A decimal literal, cut at its exponent letter.
-use Rattle.std.proofs.Common.{◌≡◌, ℕ, ◌+◌, ◌-◌, ◌<◌, ◌≤◌, Bool, true, false, cond, ◌||◌, List, [], ◌∷◌, length, take, drop, refl, sym, ap, ◌∙◌, arith, Some, None, ℤ, pos, ◌+ℤ◌, ◌-ℤ◌, length-drop}
+use Rattle.std.proofs.Common.{◌≡◌, ℕ, ◌+◌, ◌-◌, ◌<◌, ◌≤◌, Bool, true, false, cond, ◌||◌, List, [], ◌∷◌, length, take, drop, refl, sym, ap, ◌∙◌, arith, Some, None, ℤ, pos, ◌+ℤ◌, ◌-ℤ◌}
 use Rattle.std.proofs.lemmas.List.Sums.{prefix_len-le-length}
-use Rattle.std.proofs.lemmas.List.{take_all}
+use Rattle.std.proofs.lemmas.List.{take_all, take_rest}
 use Rattle.std.proofs.lemmas.Bool.Decides.{nat_tests}
 use Rattle.std.specs.List.{list_any, before_first, after_first, position_or_len, position}
 use Rattle.std.specs.Option.{option_map, option_and_then}
@@ -45,9 +45,6 @@ one_exponent (Some m) f e = refl
 decimal_by : List ℕ → Option ℤ → Option ℕ
 decimal_by front exponent = option_and_then (λ m. option_map (λ e. scaled m.0 ((e -ℤ pos m.1) +ℤ pos 3)) exponent) (mantissa_of front)
 
-rest_of : (xs : List ℕ) (i : ℕ) → take (length xs - i) (drop i xs) ≡ drop i xs
-rest_of xs i = take_all (length xs - i) (drop i xs) (omega (arith, length-drop i xs))
-
 pub decimal_with : (text : List ℕ) (i : ℕ) (e : ℤ) → Some i ≡ position is_exponent_letter text → Some e ≡ exponent_of (take (length text - (i + 1)) (drop (i + 1) text)) → decimal_thousandths text ≡ scaled_mantissa (take i text) e
 unfolding decimal_by
 decimal_with text i e at some =
@@ -55,7 +52,7 @@ decimal_with text i e at some =
     let any = any_at is_exponent_letter text i at in
     ap (λ b. decimal_by (before_first is_exponent_letter text) (cond b (exponent_of (after_first is_exponent_letter text)) (Some (pos 0)))) any
     ∙ ap (λ n. decimal_by (take n text) (exponent_of (drop (n + 1) text))) place
-    ∙ ap (decimal_by (take i text)) (ap exponent_of (sym (rest_of text (i + 1))) ∙ sym some)
+    ∙ ap (decimal_by (take i text)) (ap exponent_of (sym (take_rest text (i + 1))) ∙ sym some)
     ∙ one_exponent (mantissa_of (take i text)) (λ m e. scaled m.0 ((e -ℤ pos m.1) +ℤ pos 3)) e
 
 pub decimal_amiss : (text : List ℕ) (i : ℕ) → Some i ≡ position is_exponent_letter text → ◌≡◌ {A = Option ℤ} None (exponent_of (take (length text - (i + 1)) (drop (i + 1) text))) → decimal_thousandths text ≡ None
@@ -65,7 +62,7 @@ decimal_amiss text i at none =
     let any = any_at is_exponent_letter text i at in
     ap (λ b. decimal_by (before_first is_exponent_letter text) (cond b (exponent_of (after_first is_exponent_letter text)) (Some (pos 0)))) any
     ∙ ap (λ n. decimal_by (take n text) (exponent_of (drop (n + 1) text))) place
-    ∙ ap (decimal_by (take i text)) (ap exponent_of (sym (rest_of text (i + 1))) ∙ sym none)
+    ∙ ap (decimal_by (take i text)) (ap exponent_of (sym (take_rest text (i + 1))) ∙ sym none)
     ∙ no_exponent (mantissa_of (take i text)) (λ m e. scaled m.0 ((e -ℤ pos m.1) +ℤ pos 3))
 
 pub decimal_without : (text : List ℕ) → ◌≡◌ {A = Option ℕ} None (position is_exponent_letter text) → decimal_thousandths text ≡ scaled_mantissa text (pos 0)

@@ -19,7 +19,7 @@ element_within len (pos n) k e = by (n % 1_000 == 0) (nat_le 1 (n / 1_000)) refl
 no_rest : (n : ℕ) → (n * 1_000) % 1_000 ≡ 0
 no_rest n = omega arith
 
-thousandths : (n : ℕ) → (n * 1_000) / 1_000 ≡ n
+pub thousandths : (n : ℕ) → (n * 1_000) / 1_000 ≡ n
 thousandths n = omega arith
 
 -- a whole number names the element of that number

@@ -7,7 +7,7 @@ use Rattle.std.proofs.lemmas.Bool.{and_parts, eq-eqb, eqb-true, ne_eqb, not-true
 use Rattle.std.proofs.lemmas.List.Folds.{list_any-append}
 use Rattle.std.proofs.lemmas.List.Sums.{sum_by_push}
 use Rattle.rapid_model.specs.Fits.{Fitting, fits_request}
-use Rattle.rapid_model.specs.Own.{connects_with, end_of, fate_told, has_connected, has_ended, is_held, is_hold, is_leave, is_trap, is_trapped}
+use Rattle.rapid_model.specs.Own.{connects_with, end_of, fate_told, has_connected, has_ended, is_leave, is_trap, is_trapped}
 use Rattle.rapid_model.specs.declared.answer.Answer.{Answer}
 use Rattle.rapid_model.specs.declared.answer.Answer.TheVariants as answers
 use Rattle.rapid_model.specs.declared.event.Event.{Event}
@@ -20,11 +20,6 @@ use Rattle.rapid_meaning.specs.Data.{Data}
 use Rattle.task_typing.specs.Asked.{IsAsked}
 use Rattle.task_typing.specs.Setting.{Setting}
 use Rattle.task_typing.proofs.Told.{trapped_after}
-
-pub held_last : (mine : List Event) (e : Event) → is_held (mine ++ e ∷ []) ≡ is_hold e.request
-held_last [] e = refl
-held_last (x ∷ []) e = refl
-held_last (x ∷ y ∷ more) e = held_last (y ∷ more) e
 
 ended_or : (told : Option Fate) (first last : Option Fate) → (is_some first ≡ false → is_some last ≡ false) → is_some (option_or told first) ≡ false → is_some (option_or told last) ≡ false
 ended_or None first last more e = more e

@@ -11,6 +11,7 @@ use Rattle.rapid_model.specs.declared.event.Event.{Event}
 use Rattle.rapid_model.specs.declared.fate.Fate.{Fate}
 use Rattle.rapid_model.specs.declared.request.Request.{Request}
 use Rattle.rapid_model.specs.declared.task_row.TaskRow.{TaskRow}
+use Rattle.rapid_model.proofs.OwnEvents.{is_held-more}
 use Rattle.typed_trees.specs.Plain.{TypedTree}
 use Rattle.rapid_meaning.specs.Answering.{Outcome, Gave, Raised, Asking, Ended, Misfits, Unfit, NoFuel, fitting_of}
 use Rattle.rapid_meaning.specs.Data.{Data}
@@ -23,7 +24,7 @@ use Rattle.task_typing.specs.Numbered.{Numbered}
 use Rattle.task_typing.specs.OwnEvents.{AreOwn, event_of, events_behind, own_events}
 use Rattle.task_typing.specs.Setting.{Setting}
 use Rattle.task_typing.specs.WellTyped.{WellTyped}
-use Rattle.task_typing.proofs.Events.{AreTraps, IsBalanced, balanced_last, going_last, held_last, in_order, told_trapped, traps_last}
+use Rattle.task_typing.proofs.Events.{AreTraps, IsBalanced, balanced_last, going_last, in_order, told_trapped, traps_last}
 use Rattle.task_typing.proofs.Meets.{Due}
 use Rattle.task_typing.proofs.Scene.{rules_of}
 use Rattle.task_typing.proofs.Steps.{Behind, Follows, Stands}
@@ -150,7 +151,7 @@ told_next t before a mine tells fits untold next =
       request = next.request;
       standing = next.standing;
       asking = next.is;
-      held = held_last mine e ∙ sym next.due.rises;
+      held = is_held-more mine e ∙ sym next.due.rises;
       balanced = subst (λ (b : Bool). IsBalanced (mine ++ e ∷ []) b) next.due.same (balanced_last mine e d.trapped (in_order (setting_of t) d tells.request a may fits) tells.balanced);
       going = going_last mine e untold tells.going;
       traps = traps_last (setting_of t) d mine e may tells.traps;

@@ -11,6 +11,7 @@ use Rattle.rapid_model.specs.Sorts.{has_values}
 use Rattle.rapid_model.specs.declared.request.Request.{Request}
 use Rattle.rapid_model.specs.declared.request.Request.TheVariants.{End}
 use Rattle.rapid_model.specs.declared.sort.Sort.{Sort}
+use Rattle.rapid_model.proofs.Lists.{there_is}
 use Rattle.typed_trees.specs.Plain.{TypedParam, TypedPers, TypedTree}
 use Rattle.rapid_meaning.specs.Answering.{Outcome, Gave, Raised, Asking, Ended, Misfits, Unfit, NoFuel, fitting_of, performed, sort_of_pers}
 use Rattle.rapid_meaning.specs.Data.{Data}
@@ -33,11 +34,6 @@ use Rattle.task_typing.proofs.Runs.{Comes, Keeps, deep_comes, performed_comes}
 use Rattle.task_typing.proofs.Scene.{Facts, IsDue, rules_of}
 use Rattle.task_typing.proofs.Steps.{Follows, Stands, deep_follows, deep_stands, performed_follows, performed_stands}
 use Rattle.task_typing.proofs.Told.{calm, calm_itself}
-
-there_is : {A : Type 0} (xs : List A) (k : ℕ) → k < length xs → (x : A) × (slice_get xs k ≡ Some x)
-there_is [] k few = absurd (omega (arith, few))
-there_is (x ∷ xs) zero few = (x, refl)
-there_is (x ∷ xs) (suc k) few = there_is xs k (omega (arith, few))
 
 -- all rows with a number have one type
 abbrev OneSort : List ℕ → List TypedPers → ℕ → Sort → Type 0

@@ -7,6 +7,7 @@ use Rattle.rapid_model.specs.CellData.{CellData}
 use Rattle.rapid_model.specs.ScriptData.{ScriptData, row_of}
 use Rattle.rapid_model.specs.declared.script_task.ScriptTask.{ScriptTask}
 use Rattle.rapid_model.specs.declared.task_row.TaskRow.{TaskRow}
+use Rattle.rapid_model.proofs.Lists.{there_is}
 use Rattle.typed_trees.specs.Plain.{TypedPers, TypedTree}
 use Rattle.rule_checks.proofs.Steps.{behind, ok_same}
 use Rattle.cell_assembly.specs.Cells.{MeetingTables, PersInfo, cell_tables, tables, tell_all, trees_meetings, trees_pers}
@@ -62,11 +63,6 @@ is_made script trees made e =
       each = pers_numbered trees t script.pers ps walked told;
       is = sym made_is ∙ ap (λ x. record { cell = cell_of script x; trees = numbered trees x.pers_of x.meeting_of }) (sym same);
     })))
-
-there_is : {A : Type 0} (xs : List A) (k : ℕ) → k < length xs → (x : A) × (slice_get xs k ≡ Some x)
-there_is [] k within = absurd (omega arith)
-there_is (x ∷ xs) zero within = (x, refl)
-there_is (x ∷ xs) (suc k) within = there_is xs k (omega arith)
 
 names_same : (tasks : List ScriptTask) → map (λ (row : TaskRow). row.name) (map row_of tasks) ≡ map (λ (task : ScriptTask). task.name) tasks
 names_same [] = refl

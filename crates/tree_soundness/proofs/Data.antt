@@ -13,6 +13,7 @@ use Rattle.rapid_model.specs.declared.signal_row.SignalRow.{SignalRow}
 use Rattle.rapid_model.specs.declared.sort.Sort.{Sort}
 use Rattle.rapid_model.specs.declared.sort.Sort.TheVariants as sorts
 use Rattle.rapid_model.specs.declared.value.Value.{Value}
+use Rattle.rapid_model.proofs.FullValues.{all_have_sort}
 use Rattle.typed_trees.specs.Plain.{TypedExprs, TypedLocal, TypedSlot}
 use Rattle.typed_trees.specs.declared.datum.Datum.TheVariants as datums
 use Rattle.constant_meaning.specs.Constants.{Elements, Outcomes}
@@ -49,14 +50,6 @@ all_plain sort [] h = All-nil (λ x. IsTrue (is_datum_of sort x))
 all_plain sort (v ∷ vs) h =
     let parts = and_parts (has_sort sort v) (list_all (has_sort sort) vs) h in
     All-cons (λ x. IsTrue (is_datum_of sort x)) (datums.Plain v) (map datums.Plain vs) parts.0 (all_plain sort vs parts.1)
-
--- values that are of a type and full
-both_all : (sort : Sort) (vs : List Value) → list_all (is_value_of sort) vs ≡ true → list_all is_full vs ≡ true → list_all (has_sort sort) vs ≡ true
-both_all sort [] h k = refl
-both_all sort (v ∷ vs) h k =
-    let a = and_parts (is_value_of sort v) (list_all (is_value_of sort) vs) h in
-    let b = and_parts (is_full v) (list_all is_full vs) k in
-    and_from (has_sort sort v) (list_all (has_sort sort) vs) (and_from (is_value_of sort v) (is_full v) a.0 b.0) (both_all sort vs a.1 b.1)
 
 full_all : (sort : Sort) (vs : List Value) → list_all (has_sort sort) vs ≡ true → list_all is_full vs ≡ true
 full_all sort [] h = refl
@@ -102,7 +95,7 @@ module _ (c : Setting) (kinds : List Kind) (s : Site) (here : Suits c kinds s) (
   array_right : (sort : Sort) (len : ℕ) (e : PlainExpr) (vs : List Value) → AreArrayValues s known sort len e vs → AreRight sort (Some len) vs
   array_right sort len e vs (ts, brackets, constant, values, fits, long) =
       let full : list_all is_full vs ≡ true = subst (λ (o : Outcomes). outcomes_full o ≡ true) values (values_full c kinds known slots locals ts (brackets_some sort e ts brackets)) in
-      record { long = long; typed = both_all sort vs fits full }
+      record { long = long; typed = all_have_sort sort vs fits full }
 
   values_right : (sort : Sort) (len : Option ℕ) (e : PlainExpr) (vs : List Value) → AreInitialValues s known sort len e vs → AreRight sort len vs
   values_right sort None e vs h = single_right sort e vs h.1

@@ -1,7 +1,7 @@
 use Rattle.std.proofs.Common.{ℕ, ◌≡◌, ◌≢◌, ◌<◌, ◌≤◌, ◌+◌, ◌-◌, List, [], ◌∷◌, ◌++◌, take, drop, length, arith, sym, ap, ◌∙◌, subst, length-drop, append-nil}
 use Rattle.std.specs.Prelude.{Option}
 use Rattle.std.proofs.Math.Seq.{take-add}
-use Rattle.std.proofs.lemmas.List.{take-append-drop, take_all}
+use Rattle.std.proofs.lemmas.List.{take-append-drop, take_all, take_rest}
 use Rattle.std.proofs.lemmas.Result.{err_from_is_err_and}
 use Rattle.outside.specs.declared.call.Call.{Call}
 use Rattle.outside.proofs.Counting.{Rose-since}
@@ -15,16 +15,13 @@ use Rattle.controller.proofs.print.write_all.Goals as goal
 rest_some : (xs : List ℕ) (i : ℕ) → i < length xs → drop i xs ≢ []
 rest_some xs i lt e = absurd (omega (arith, ap length e, length-drop i xs))
 
-rest_is : (xs : List ℕ) (i : ℕ) → take (length xs - i) (drop i xs) ≡ drop i xs
-rest_is xs i = take_all (length xs - i) (drop i xs) (omega (arith, length-drop i xs))
-
 length-rest : (xs : List ℕ) (i : ℕ) → length (take (length xs - i) (drop i xs)) ≡ length xs - i
-length-rest xs i = ap length (rest_is xs i) ∙ length-drop i xs
+length-rest xs i = ap length (take_rest xs i) ∙ length-drop i xs
 
 -- one more part of the piece
 one_more : (xs : List ℕ) (i n : ℕ) (a b c : Option (List ℕ)) → Gained (take i xs) a b → Gained (take n (take (length xs - i) (drop i xs))) b c → Gained (take (i + n) xs) a c
 one_more xs i n a b c f s =
-    rw (take-add i n xs) (gained_more (take i xs) (take n (drop i xs)) a b c f (subst (λ (ys : List ℕ). Gained (take n ys) b c) (rest_is xs i) s))
+    rw (take-add i n xs) (gained_more (take i xs) (take n (drop i xs)) a b c f (subst (λ (ys : List ℕ). Gained (take n ys) b c) (take_rest xs i) s))
 
 -- all of the piece
 all_of : (xs : List ℕ) (i : ℕ) (a b : Option (List ℕ)) → length xs ≤ i → Gained (take i xs) a b → Gained (xs ++ []) a b
