@@ -46,7 +46,7 @@ use Rattle.cell_meaning.proofs.InterruptsKept.{tasks_kept}
 use Rattle.cell_meaning.proofs.Lists.{from_front, written_keeps}
 use Rattle.cell_meaning.proofs.MoreChanges.{length-signals_after}
 use Rattle.cell_meaning.proofs.MoreEvents.{stands_after-more, zones_after-more}
-use Rattle.cell_meaning.proofs.ValuesKept.{values_kept}
+use Rattle.cell_meaning.proofs.ValuesKept.{values_kept, test_of}
 use Rattle.cell_core.specs.Boards.{BoardData}
 use Rattle.cell_core.specs.Keeping.{Keeps}
 use Rattle.cell_core.specs.Ready.{HasPart, CanAnswer, CanCount, CanPass}
@@ -118,11 +118,7 @@ stands_count cell history =
     (λ before after e is count. subst (λ (n : ℕ). StandsCount cell (stands_after cell (before ++ e ∷ [])) n) (sym (length-append before (e ∷ [])))
     (subst (λ (m : MeetingsData). StandsCount cell m (length before + 1)) (sym (stands_after-more cell before e)) (count_with cell (stands_after cell before) e.actor e.request e.answer (length before) count)))
 
--- the persistent of a number, and what a test says of it
-abbrev of_row : (PersCell → Bool) → Option PersCell → Bool
-of_row test None = false
-of_row test (Some row) = test row
-
+-- the persistent of a number, of which a test holds
 pub record Found (cell : CellData) (pers : ℕ) (test : PersCell → Bool) : Type 0 where
   pub row : PersCell
   pub at : slice_get cell.pers pers ≡ Some row
@@ -131,7 +127,7 @@ pub record Found (cell : CellData) (pers : ℕ) (test : PersCell → Bool) : Typ
 pub found : (cell : CellData) (pers : ℕ) (test : PersCell → Bool) → of_pers cell pers test ≡ true → Found cell pers test
 found cell pers test is = by (slice_get cell.pers pers) refl is
   where
-    by : (there : Option PersCell) → slice_get cell.pers pers ≡ there → of_row test there ≡ true → Found cell pers test
+    by : (there : Option PersCell) → slice_get cell.pers pers ≡ there → test_of test there ≡ true → Found cell pers test
     by None at h = absurd (false≢true h)
     by (Some row) at h = record { row = row; at = at; so = h }
 

@@ -1,13 +1,12 @@
 -- What the code of an expression and that of a routine do.
-use Rattle.std.specs.Prelude.{ℕ, ◌+◌, ◌≤◌, List, ◌∷◌, Option, None}
-use Rattle.rapid_model.specs.declared.value.Value.{Value}
+use Rattle.std.specs.Prelude.{ℕ, ◌+◌, ◌≤◌, List, ◌∷◌}
 use Rattle.typed_trees.specs.Plain.{TypedExpr, TypedRoutine, TypedTree}
 use Rattle.typed_trees.specs.declared.datum.Datum.{Datum}
 use Rattle.typed_trees.specs.declared.datum.Datum.TheVariants.{Plain}
 use Rattle.rapid_meaning.specs.Answering.{fitting_of, performed}
 use Rattle.rapid_meaning.specs.Doings.{Gives}
 use Rattle.rapid_meaning.specs.Expressions.{expr}
-use Rattle.rapid_meaning.specs.Flows.{Flow, Returns, Call}
+use Rattle.rapid_meaning.specs.Flows.{Call, value_of}
 use Rattle.rapid_meaning.specs.Runs.{deep}
 use Rattle.stack_code.specs.CodeData.{CodeData}
 use Rattle.stack_code.specs.Confs.{Running, Saved, conf}
@@ -33,11 +32,6 @@ abbrev pub ExprDoes : TypedTree → CodeData → TypedRoutine → Own → ℕ �
 ExprDoes tree code routine own pc e stack frame saved depth =
     DoesAs code (Gives (conf pc stack frame saved)) (performed (fitting_of tree) (deep tree depth) (expr tree routine e))
     (λ v. Gives (conf (pc + expr_size e) (Plain v ∷ stack) frame saved)) (raised code own frame saved)
-
--- the value with which a routine ends, if it has one
-abbrev pub value_of : Flow → Option Value
-value_of (Returns v) = v
-value_of flow = None
 
 -- a routine that is entered does as its call; what was saved is gone back to with its value, or with its error
 abbrev pub CallDoes : TypedTree → CodeData → ℕ → List Datum → List Saved → ℕ → Type 0

@@ -1,6 +1,5 @@
 -- A routine under way: where its statements lead, and where its errors go.
 use Rattle.std.proofs.Common.{ℕ, List, [], Option, None, Some}
-use Rattle.rapid_model.specs.declared.value.Value.{Value}
 use Rattle.typed_trees.specs.Plain.{TypedTree}
 use Rattle.rapid_meaning.specs.Answering.{Run}
 use Rattle.rapid_meaning.specs.Doings.{Doing, Gives, Misfit}
@@ -26,11 +25,6 @@ spot_of t tree run b own = record { target = t; run = run; tree = tree; routine 
 -- at a place, without operands
 abbrev pub begins : Body → ℕ → Doing Conf
 begins b pc = Gives (conf pc [] b.frame b.saved)
-
--- the value with which a routine ends, if it has one
-abbrev pub value_of : Flow → Option Value
-value_of (Returns v) = v
-value_of flow = None
 
 -- from an ERROR part to a place of the statement that failed
 abbrev pub resumed : (Own → ℕ) → Body → Option Failed → Doing Conf

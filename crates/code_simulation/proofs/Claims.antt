@@ -5,7 +5,7 @@ use Rattle.typed_trees.specs.Plain as trees
 use Rattle.typed_trees.specs.Plain.{TypedArms, TypedCases, TypedElse, TypedExpr, TypedRoutine, TypedStmt, TypedStmts, TypedTree, NoStmts, MoreStmts, NoArms, MoreArms, NoCases, MoreCases, NoElse, Else}
 use Rattle.typed_trees.specs.declared.datum.Datum.{Datum}
 use Rattle.rapid_meaning.specs.Answering.{Run}
-use Rattle.rapid_meaning.specs.Flows.{Errors, Unguarded, Guarded, InPart, Attempt, Turn, Rest, Call}
+use Rattle.rapid_meaning.specs.Flows.{Errors, Unguarded, Guarded, InPart, Attempt, Turn, Rest, Call, value_of}
 use Rattle.stack_code.specs.Compiled.{part_code}
 use Rattle.stack_code.specs.Confs.{Saved}
 use Rattle.stack_code.specs.Entering.{enter}
@@ -15,7 +15,7 @@ use Rattle.stack_code.specs.Raising.{back_to, handler_of, raised_to}
 use Rattle.stack_code.specs.Sizes.{arms_size, bounds_size, cases_size, expr_size, stmt_size, stmts_size, values_size}
 use Rattle.stack_code.specs.StmtLayouts.{label_at, own_of, stmt_code, stmts_code}
 use Rattle.code_simulation.specs.Calls.{IsProcedure, StmtCalls, StmtsCalls, Takes}
-use Rattle.code_simulation.proofs.Bodies.{Body, begins, lands, leaving, value_of}
+use Rattle.code_simulation.proofs.Bodies.{Body, begins, lands, leaving}
 use Rattle.code_simulation.proofs.Sim.{SimPart, Target}
 
 -- each label of a form, whose code begins at this place, has its own place among the places of the labels

@@ -11,7 +11,7 @@ use Rattle.typed_trees.specs.declared.datum.Datum.TheVariants.{Plain, Place}
 use Rattle.rapid_meaning.specs.Doings as doings
 use Rattle.rapid_meaning.specs.Doings.{Doing, Gives, Raises, ◌>>=◌, after, or_misfit}
 use Rattle.rapid_meaning.specs.Expressions.{along, arguments, builtin, expr, exprs, lent_length, place, returned}
-use Rattle.rapid_meaning.specs.Flows.{Flow, Returns}
+use Rattle.rapid_meaning.specs.Flows.{Flow, Returns, value_of}
 use Rattle.rapid_meaning.proofs.Follows.{after_after}
 use Rattle.stack_code.specs.Confs.{Conf}
 use Rattle.stack_code.specs.ExprLayouts.{args_code, builtin_code, expr_code, exprs_code, index_op, part_code, place_code, put, sign_code, steps_code}
@@ -23,7 +23,6 @@ use Rattle.stack_code.specs.declared.op.Op.TheVariants as ops
 use Rattle.stack_code.specs.declared.unary_op.UnaryOp.TheVariants as unary
 use Rattle.stack_code.proofs.Needs.{place_needs, expr_needs}
 use Rattle.code_simulation.specs.Calls.{ArgsCalls, ExprCalls, ExprsCalls, PlaceCalls, StepsCalls, args_count}
-use Rattle.code_simulation.proofs.Bodies.{value_of}
 use Rattle.code_simulation.proofs.Calling.{call_at}
 use Rattle.code_simulation.proofs.Claims.{Claims}
 use Rattle.code_simulation.proofs.CodeOf.{IsCodeOf}

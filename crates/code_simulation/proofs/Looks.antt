@@ -11,7 +11,7 @@ use Rattle.typed_trees.specs.Plain.{TypedRoutine, TypedTree}
 use Rattle.rapid_meaning.specs.Answering.{Run, fitting_of, is_trap_row}
 use Rattle.rapid_meaning.specs.Data.{At, with_seen}
 use Rattle.rapid_meaning.specs.Doings.{Doing, Asks, Raises, change, goes_to, tells, when_ok, ◌>>◌}
-use Rattle.rapid_meaning.specs.Flows.{Flow, Part}
+use Rattle.rapid_meaning.specs.Flows.{Flow, Part, value_of}
 use Rattle.rapid_meaning.specs.Looks as source
 use Rattle.rapid_meaning.specs.Looks.{left, look, place_of}
 use Rattle.stack_code.specs.Confs.{Conf, Trapped}
@@ -22,7 +22,7 @@ use Rattle.stack_code.specs.Steps as code_steps
 use Rattle.stack_code.specs.StmtLayouts.{at_byte}
 use Rattle.stack_code.specs.declared.op.Op.TheVariants as ops
 use Rattle.code_simulation.specs.Calls.{Takes}
-use Rattle.code_simulation.proofs.Bodies.{Body, begins, spot_of, value_of}
+use Rattle.code_simulation.proofs.Bodies.{Body, begins, spot_of}
 use Rattle.code_simulation.proofs.Claims.{Claims}
 use Rattle.code_simulation.proofs.CodeOf.{IsCodeOf}
 use Rattle.code_simulation.proofs.Same.{IsCalm, sim_calm}

@@ -16,7 +16,7 @@ use Rattle.rapid_meaning.specs.Answering.{Run}
 use Rattle.rapid_meaning.specs.Calls.{body, called, errors_of, result, within}
 use Rattle.rapid_meaning.specs.Data.{Frame}
 use Rattle.rapid_meaning.specs.Doings.{Doing, Gives, Raises, Reads, Writes, ◌>>◌, ◌>>=◌, after, done, fault, or_misfit}
-use Rattle.rapid_meaning.specs.Flows.{Flow, Normal, Jumps, Returns, Retries, Skips}
+use Rattle.rapid_meaning.specs.Flows.{Flow, Normal, Jumps, Returns, Retries, Skips, value_of}
 use Rattle.rapid_meaning.specs.Frames.{enters, first_values, frame_of, has_room, leaves}
 use Rattle.stack_code.specs.CodeData.{CodeData}
 use Rattle.stack_code.specs.Compiled.{counted, end_op, own_end, part_code, part_need, part_start, routine_labels, routine_row}
@@ -30,7 +30,7 @@ use Rattle.stack_code.specs.declared.routine_row.RoutineRow.{RoutineRow}
 use Rattle.stack_code.specs.declared.op.Op.TheVariants as ops
 use Rattle.code_simulation.specs.Calls.{StmtsCalls, Takes}
 use Rattle.code_simulation.specs.Orderly.{PartCalls}
-use Rattle.code_simulation.proofs.Bodies.{Body, lands, leaving, value_of}
+use Rattle.code_simulation.proofs.Bodies.{Body, lands, leaving}
 use Rattle.code_simulation.proofs.Calling.{no_room, refused}
 use Rattle.code_simulation.proofs.Claims.{Claims, ListAt, Stands}
 use Rattle.code_simulation.proofs.CodeOf.{Found, IsCodeOf}

@@ -10,7 +10,7 @@ use Rattle.typed_trees.specs.Plain.{TypedTree}
 use Rattle.rapid_meaning.specs.Answering.{Outcome, Gave, Raised, Asking, Ended, Misfits, Unfit, NoFuel, Run, joined, performed, told}
 use Rattle.rapid_meaning.specs.Data.{Data}
 use Rattle.rapid_meaning.specs.Doings.{Misfit}
-use Rattle.rapid_meaning.specs.Flows.{Flow, Call}
+use Rattle.rapid_meaning.specs.Flows.{Flow, Call, value_of}
 use Rattle.rapid_meaning.specs.Frames as meanings
 use Rattle.rapid_meaning.specs.Runs.{FitsSteps, asked_after, deep, next_of, state_after, task}
 use Rattle.task_typing.specs.Goes.{Goes}
@@ -24,7 +24,6 @@ use Rattle.stack_code.specs.Entering.{enter, initial, started}
 use Rattle.stack_code.specs.Raising.{back_to, raised_to}
 use Rattle.code_simulation.specs.Orderly.{IsOrderly, NumbersLabels}
 use Rattle.code_simulation.specs.Standing.{Fine, Simulates, StandsBy}
-use Rattle.code_simulation.proofs.Bodies.{value_of}
 use Rattle.code_simulation.proofs.Claims.{Claims}
 use Rattle.code_simulation.proofs.CodeOf.{IsCodeOf}
 use Rattle.code_simulation.proofs.Compiles.{compiled_is, target_of}

@@ -180,7 +180,7 @@ in_order labels fs apart place n at = there (slice_get labels place) refl (sym (
         one_place (map (λ (x : PlainName). x.at) labels) n place l.at apart also here
 
 -- the label that a statement is
-abbrev first_label : PlainStmt → List PlainName
+abbrev pub first_label : PlainStmt → List PlainName
 first_label (Label at name) = name ∷ []
 first_label _ = []
 

@@ -1,5 +1,5 @@
 -- How a list of statements ends, and the parts of a program.
-use Rattle.std.specs.Prelude.{ℕ, List, Option}
+use Rattle.std.specs.Prelude.{ℕ, List, Option, None}
 use Rattle.rapid_model.specs.declared.value.Value.{Value}
 use Rattle.typed_trees.specs.Plain.{TypedRoutine, TypedStmt, TypedStmts}
 use Rattle.typed_trees.specs.declared.datum.Datum.{Datum}
@@ -12,6 +12,11 @@ pub data Flow : Type 0 where
   Returns : Option Value → Flow
   Retries : Flow
   Skips : Flow
+
+-- the value with which a routine ends, if it has one
+abbrev pub value_of : Flow → Option Value
+value_of (Returns v) = v
+value_of flow = None
 
 -- where an error of a statement goes: to its caller, as its routine has no ERROR part; to this ERROR part; or, from within an
 -- ERROR part that was entered with this number, to the caller

@@ -7,23 +7,19 @@ use Rattle.module_parser.specs.Modules.{SpellsWithin}
 use Rattle.body_types.specs.Labels.{labels_of, labels_in, labels_in_arms, labels_in_cases, labels_in_else, labels_in_routine}
 use Rattle.name_laws.specs.Declared.{StandsIn}
 use Rattle.name_laws.specs.Jumps.{AreApart, IsApart, LabelsApart}
+use Rattle.name_laws.proofs.Jumps.{first_label}
 use Rattle.text_order.specs.Stated.{AreAscending, IsBelow, byte_of, stated, stated_in, stated_in_arms, stated_in_cases, stated_in_else, stated_in_item, stated_in_module, stated_in_routine}
 use Rattle.text_order.specs.Texts.{AreSpelled}
 use Rattle.text_order.proofs.Modules.{module_stands}
 use Rattle.text_order.proofs.Stands.{IsNamedHere, Stand, later}
 use Rattle.text_order.proofs.Tokens.{stand_ascend, tokens_ascend}
 
--- the name of a label
-abbrev label_in : PlainStmt → List PlainName
-label_in (Label at name) = name ∷ []
-label_in _ = []
-
 -- labels of statements that stand in several lists
-joined : (ss rs : List PlainStmt) (xs ys : List PlainName) → xs ≡ flat_map label_in ss → ys ≡ flat_map label_in rs → xs ++ ys ≡ flat_map label_in (ss ++ rs)
-joined ss rs xs ys e f = ap (λ zs. zs ++ ys) e ∙ ap (λ zs. flat_map label_in ss ++ zs) f ∙ sym (flat_map-append label_in ss rs)
+joined : (ss rs : List PlainStmt) (xs ys : List PlainName) → xs ≡ flat_map first_label ss → ys ≡ flat_map first_label rs → xs ++ ys ≡ flat_map first_label (ss ++ rs)
+joined ss rs xs ys e f = ap (λ zs. zs ++ ys) e ∙ ap (λ zs. flat_map first_label ss ++ zs) f ∙ sym (flat_map-append first_label ss rs)
 
 mutual
-  labels_same : (s : PlainStmt) → labels_of s ≡ flat_map label_in (stated s)
+  labels_same : (s : PlainStmt) → labels_of s ≡ flat_map first_label (stated s)
   labels_same (Label at name) = refl
   labels_same (If at arms other) = joined (stated_in_arms arms) (stated_in_else other) (labels_in_arms arms) (labels_in_else other) (arms_same arms) (else_same other)
   labels_same (IfOne at test simple) = labels_same simple
@@ -32,23 +28,23 @@ mutual
   labels_same (Test at value cases other) = joined (stated_in_cases cases) (stated_in_else other) (labels_in_cases cases) (labels_in_else other) (cases_same cases) (else_same other)
   labels_same _ = refl
 
-  list_same : (list : PlainStmts) → labels_in list ≡ flat_map label_in (stated_in list)
+  list_same : (list : PlainStmts) → labels_in list ≡ flat_map first_label (stated_in list)
   list_same NoStmts = refl
   list_same (MoreStmts s list) = joined (stated s) (stated_in list) (labels_of s) (labels_in list) (labels_same s) (list_same list)
 
-  arms_same : (arms : PlainArms) → labels_in_arms arms ≡ flat_map label_in (stated_in_arms arms)
+  arms_same : (arms : PlainArms) → labels_in_arms arms ≡ flat_map first_label (stated_in_arms arms)
   arms_same NoArms = refl
   arms_same (MoreArms test list arms) = joined (stated_in list) (stated_in_arms arms) (labels_in list) (labels_in_arms arms) (list_same list) (arms_same arms)
 
-  cases_same : (cases : PlainCases) → labels_in_cases cases ≡ flat_map label_in (stated_in_cases cases)
+  cases_same : (cases : PlainCases) → labels_in_cases cases ≡ flat_map first_label (stated_in_cases cases)
   cases_same NoCases = refl
   cases_same (MoreCases values list cases) = joined (stated_in list) (stated_in_cases cases) (labels_in list) (labels_in_cases cases) (list_same list) (cases_same cases)
 
-  else_same : (other : PlainElse) → labels_in_else other ≡ flat_map label_in (stated_in_else other)
+  else_same : (other : PlainElse) → labels_in_else other ≡ flat_map first_label (stated_in_else other)
   else_same NoElse = refl
   else_same (Else list) = list_same list
 
-routine_same : (r : PlainRoutine) → labels_in_routine r ≡ flat_map label_in (stated_in_routine r)
+routine_same : (r : PlainRoutine) → labels_in_routine r ≡ flat_map first_label (stated_in_routine r)
 routine_same r =
     joined (stated_in (stmts_of r.list)) (stated_in_else (else_of r.handler)) (labels_in (stmts_of r.list)) (labels_in_else (else_of r.handler)) (list_same (stmts_of r.list)) (else_same (else_of r.handler))
 
@@ -83,16 +79,16 @@ stand_named (s ∷ ss) (t ∷ ts) (inl here) = (here.0.named, stand_named ss ts 
 stand_named (s ∷ ss) (t ∷ ts) (inr more) = stand_named (s ∷ ss) ts more
 
 -- a byte before statements is none of their labels'
-apart_from : (n : ℕ) (ss : List PlainStmt) → AreNamed ss → IsBelow n (map byte_of ss) → IsApart n (map (λ (l : PlainName). l.at) (flat_map label_in ss))
+apart_from : (n : ℕ) (ss : List PlainStmt) → AreNamed ss → IsBelow n (map byte_of ss) → IsApart n (map (λ (l : PlainName). l.at) (flat_map first_label ss))
 unfolding AreNamed
 apart_from n [] named below = tt
 apart_from n (Label at name ∷ ss) named below = (λ e. omega (arith, e, named.0, below.0), apart_from n ss named.1 below.1)
 apart_from n (_ ∷ ss) named below = apart_from n ss named.1 below.1
 
-labels_apart : (ss : List PlainStmt) → AreNamed ss → AreAscending (map byte_of ss) → AreApart (map (λ (l : PlainName). l.at) (flat_map label_in ss))
+labels_apart : (ss : List PlainStmt) → AreNamed ss → AreAscending (map byte_of ss) → AreApart (map (λ (l : PlainName). l.at) (flat_map first_label ss))
 unfolding AreNamed
 labels_apart [] named ascend = tt
-labels_apart (Label at name ∷ ss) named ascend = (subst (λ n. IsApart n (map (λ (l : PlainName). l.at) (flat_map label_in ss))) (sym named.0) (apart_from at ss named.1 ascend.0), labels_apart ss named.1 ascend.1)
+labels_apart (Label at name ∷ ss) named ascend = (subst (λ n. IsApart n (map (λ (l : PlainName). l.at) (flat_map first_label ss))) (sym named.0) (apart_from at ss named.1 ascend.0), labels_apart ss named.1 ascend.1)
 labels_apart (_ ∷ ss) named ascend = labels_apart ss named.1 ascend.1
 
 -- the statements of a text's module stand in order
