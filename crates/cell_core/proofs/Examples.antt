@@ -14,7 +14,7 @@ use Rattle.rapid_model.specs.declared.zone_name.ZoneName.TheVariants as zones
 use Rattle.cell_meaning.proofs.ExampleCell.{joints_at, cell, event, second, cleared, written, went}
 use Rattle.cell_core.specs.Boards.{BoardData, boards_of, boards_with, change_on}
 use Rattle.cell_core.specs.Reading.{can_go_on, is_passed, standing, fates_of}
-use Rattle.cell_core.specs.Telling.{told}
+use Rattle.cell_core.specs.Answering.{answer_on}
 use Rattle.cell_core.specs.declared.change.Change.{Change}
 use Rattle.cell_core.specs.declared.change.Change.TheVariants as changes
 
@@ -27,27 +27,27 @@ abbrev change : List Event → Event → Change
 change events e = change_on cell (after events) e.actor e.request e.answer
 
 -- at first no arm has moved, no value is new, and no trap is due
-first_look : told (after []) 0 requests.Look ≡ answers.Go 0
+first_look : answer_on (after []) 0 requests.Look ≡ answers.Go 0
 first_look = refl
 
-first_position : told (after []) 0 requests.Position ≡ answers.At (joints_at (pos 0))
+first_position : answer_on (after []) 0 requests.Position ≡ answers.At (joints_at (pos 0))
 first_position = refl
 
 -- a setpoint that was given takes its own task's arm there; one that a zone stopped takes none
-arm_moves : told (after (went ∷ [])) 0 requests.Position ≡ answers.At (joints_at (pos 1000))
+arm_moves : answer_on (after (went ∷ [])) 0 requests.Position ≡ answers.At (joints_at (pos 1000))
 arm_moves = refl
 
-other_arm_stays : told (after (went ∷ [])) 1 requests.Position ≡ answers.At (joints_at (pos 0))
+other_arm_stays : answer_on (after (went ∷ [])) 1 requests.Position ≡ answers.At (joints_at (pos 0))
 other_arm_stays = refl
 
-stopped_stays : told (after (event 0 (requests.Setpoint (joints_at (pos 1000))) (answers.Stopped (zones.Cell 0)) ∷ [])) 0 requests.Position ≡ answers.At (joints_at (pos 0))
+stopped_stays : answer_on (after (event 0 (requests.Setpoint (joints_at (pos 1000))) (answers.Stopped (zones.Cell 0)) ∷ [])) 0 requests.Position ≡ answers.At (joints_at (pos 0))
 stopped_stays = refl
 
 -- what was written is read, by any task
-output_cleared : told (after (cleared ∷ [])) 0 (requests.ReadS 1) ≡ answers.Bit false
+output_cleared : answer_on (after (cleared ∷ [])) 0 (requests.ReadS 1) ≡ answers.Bit false
 output_cleared = refl
 
-element_written : told (after (written ∷ [])) 0 (requests.ReadP 0 second) ≡ answers.Val (values.Num (pos 3000))
+element_written : answer_on (after (written ∷ [])) 0 (requests.ReadP 0 second) ≡ answers.Val (values.Num (pos 3000))
 element_written = refl
 
 -- another value is a change; the same value, or a setpoint, is none
@@ -67,23 +67,23 @@ setpoint_changes_nothing : change [] went ≡ changes.Nothing
 setpoint_changes_nothing = refl
 
 -- a task sees the changes of others, and not its own
-others_seen : told (after (cleared ∷ cleared ∷ written ∷ [])) 0 requests.Look ≡ answers.Go 2
+others_seen : answer_on (after (cleared ∷ cleared ∷ written ∷ [])) 0 requests.Look ≡ answers.Go 2
 others_seen = refl
 
-own_not_seen : told (after (cleared ∷ written ∷ [])) 1 requests.Look ≡ answers.Go 0
+own_not_seen : answer_on (after (cleared ∷ written ∷ [])) 1 requests.Look ≡ answers.Go 0
 own_not_seen = refl
 
 -- the first task at a meeting of both waits, and its arrival counts once; the second meets it
 abbrev arrived : Event
 arrived = event 0 (requests.Arrive 0 3) answers.Apart
 
-first_waits : told (after []) 0 (requests.Arrive 0 3) ≡ answers.Apart
+first_waits : answer_on (after []) 0 (requests.Arrive 0 3) ≡ answers.Apart
 first_waits = refl
 
-waits_still : told (after (arrived ∷ [])) 0 (requests.Arrive 0 3) ≡ answers.Apart
+waits_still : answer_on (after (arrived ∷ [])) 0 (requests.Arrive 0 3) ≡ answers.Apart
 waits_still = refl
 
-second_meets : told (after (arrived ∷ [])) 1 (requests.Arrive 0 3) ≡ answers.Met
+second_meets : answer_on (after (arrived ∷ [])) 1 (requests.Arrive 0 3) ≡ answers.Met
 second_meets = refl
 
 arrival_changes : change [] arrived ≡ changes.Arrival
@@ -96,13 +96,13 @@ counts_once = refl
 abbrev watches : List Event
 watches = event 0 (requests.Connect 0 7) (answers.Number 1) ∷ event 0 (requests.Order 1 (watched.Signal 1 false) true) answers.Ok ∷ []
 
-trap_is_due : told (after (watches ++ cleared ∷ [])) 0 requests.Look ≡ answers.Trap 1 7
+trap_is_due : answer_on (after (watches ++ cleared ∷ [])) 0 requests.Look ≡ answers.Trap 1 7
 trap_is_due = refl
 
-not_of_b : told (after (watches ++ cleared ∷ [])) 1 requests.Look ≡ answers.Go 0
+not_of_b : answer_on (after (watches ++ cleared ∷ [])) 1 requests.Look ≡ answers.Go 0
 not_of_b = refl
 
-equal_write : told (after (watches ++ event 1 (requests.WriteS 1 true) answers.Ok ∷ [])) 0 requests.Look ≡ answers.Go 0
+equal_write : answer_on (after (watches ++ event 1 (requests.WriteS 1 true) answers.Ok ∷ [])) 0 requests.Look ≡ answers.Go 0
 equal_write = refl
 
 -- a held task goes on after a change by another that it had not seen, or with a trap that is due
@@ -140,7 +140,7 @@ one_counted = refl
 passes : is_passed (after (cleared ∷ went ∷ [])) gated ≡ true
 passes = refl
 
--- a task that told its fate stands so; another is cut where the steps are spent, and else held
+-- a task that answer_on its fate stands so; another is cut where the steps are spent, and else held
 told_stands : standing true (Some fates.Done) ≡ fates.Done
 told_stands = refl
 

@@ -24,7 +24,7 @@ use Rattle.cell_core.specs.Keeping.{Keeps}
 use Rattle.cell_core.specs.Reading.{all_told, all_stand, can_go_on, fates_of, standing}
 use Rattle.cell_core.specs.Ready.{CanCount}
 use Rattle.cell_core.specs.Soundness.{IsServed}
-use Rattle.cell_core.specs.Telling.{IsTold}
+use Rattle.cell_core.specs.Answering.{IsAnswerOn}
 use Rattle.cell_core.specs.declared.actor.Actor.{Actor}
 use Rattle.cell_core.proofs.Answering.{answer_is}
 use Rattle.cell_core.proofs.Ready.{all_answered, actor_there, filter_short}
@@ -83,7 +83,7 @@ count_kept cell boards actor request answer can = record {
 -- a request and the answer that the boards gave it are an event that was served
 pub served_event : (cell : CellData) (history : List Event) (boards : BoardData) (steps : ℕ) (e : Event) → Keeps cell history boards steps
     → IsTrue (may_ask cell e.actor (part_of e.actor history) e.request) → IsTrue (can_be_served cell history e.request) → IsTrue (is_enabled cell history e.actor e.request)
-    → IsTold boards e.actor e.request e.answer → IsServed cell history e
+    → IsAnswerOn boards e.actor e.request e.answer → IsServed cell history e
 served_event cell history boards steps e keeps may served enabled told =
     let is = answer_is cell history boards steps e.actor e.request e.answer keeps (actor_there cell e.actor (part_of e.actor history) e.request may) told in
     record {

@@ -22,7 +22,7 @@ use Rattle.cell_core.specs.Boards.{BoardData}
 use Rattle.cell_core.specs.Keeping.{Keeps}
 use Rattle.cell_core.specs.Reading.{all_told, can_go_on, all_stand, is_passed, standing, fates_of}
 use Rattle.cell_core.specs.Ready.{CanPass}
-use Rattle.cell_core.specs.Telling.{made_by_others}
+use Rattle.cell_core.specs.Answering.{made_by_others}
 use Rattle.cell_core.proofs.Answering.{others_made}
 
 pub ended_is : (cell : CellData) (history : List Event) (boards : BoardData) (steps number : ℕ) → Keeps cell history boards steps → number ≤ length cell.tasks

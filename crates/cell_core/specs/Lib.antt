@@ -2,7 +2,7 @@ pub mod CoreData
 pub mod Actors
 pub mod Changes
 pub mod Boards
-pub mod Telling
+pub mod Answering
 pub mod Ready
 pub mod Reading
 pub mod Soundness

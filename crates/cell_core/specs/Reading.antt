@@ -9,7 +9,7 @@ use Rattle.trap_dispatch.specs.Tasks.{is_due, look_answer}
 use Rattle.trap_dispatch.specs.Traps.{task_at}
 use Rattle.cell_core.specs.Actors.{actor_at}
 use Rattle.cell_core.specs.Boards.{BoardData}
-use Rattle.cell_core.specs.Telling.{made_by_others}
+use Rattle.cell_core.specs.Answering.{made_by_others}
 use Rattle.cell_core.specs.declared.actor.Actor.{Actor}
 
 -- each of so many tasks, from 0, has told its fate

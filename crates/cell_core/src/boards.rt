@@ -7,7 +7,7 @@ ghost use Rattle.cell_core.specs.Actors.{actor_at};
 ghost use Rattle.cell_core.specs.Boards.{boards_of, boards_with, elements_at, tallied};
 ghost use Rattle.cell_core.specs.Reading.{all_stand, all_told, can_go_on, is_passed};
 ghost use Rattle.cell_core.specs.Ready.{CanAnswer, CanCount, CanPass, HasPart};
-ghost use Rattle.cell_core.specs.Telling.{Answers, IsTold, made_by_others};
+ghost use Rattle.cell_core.specs.Answering.{Answers, IsAnswerOn, made_by_others};
 
 use crate::actor::{Actor, one_more};
 use crate::change::Change;
@@ -76,7 +76,7 @@ impl Boards {
     pub(crate) fn take(&mut self, cell: &Cell, actor: u32, request: &Request) -> Answer
         requires ready { CanAnswer cell.now self.old actor request.now }
         requires few { CanCount self.old actor }
-        ensures answer { IsTold self.old actor request.now result }
+        ensures answer { IsAnswerOn self.old actor request.now result }
         ensures boards { self.new ≡ boards_with cell.now self.old (record { actor = actor; request = request.now; answer = result }) }
     {
         let Outcome { answer, change } = self.answer(cell, actor, request);

@@ -2,7 +2,7 @@
 
 ghost use Rattle.std.specs.Prelude.{◌≡◌, ◌<◌, All, length};
 ghost use Rattle.cell_meaning.specs.Answers.{position_of};
-ghost use Rattle.cell_core.specs.Telling.{IsMoveTold};
+ghost use Rattle.cell_core.specs.Answering.{IsMoveAnswerOn};
 
 use rapid_model::Answer;
 use rapid_num::Joints;
@@ -30,7 +30,7 @@ pub(crate) fn go(
 ) -> Answer
     requires arm { actor < length zones.now.arms }
     requires signals { All (λ zone. zone.signal < length signals.now) zones.now.cell }
-    ensures { IsMoveTold zones.now signals.now actor to.now arm.now result }
+    ensures { IsMoveAnswerOn zones.now signals.now actor to.now arm.now result }
 {
     let Some(from) = arm else {
         return Answer::Ok;

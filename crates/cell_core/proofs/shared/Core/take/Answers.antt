@@ -7,7 +7,7 @@ use Rattle.rapid_model.specs.declared.request.Request.{Request}
 use Rattle.cell_core.specs.Boards.{boards_with}
 use Rattle.cell_core.specs.Ready.{CanAnswer}
 use Rattle.cell_core.specs.Soundness.{IsServed}
-use Rattle.cell_core.specs.Telling.{IsTold}
+use Rattle.cell_core.specs.Answering.{IsAnswerOn}
 use Rattle.cell_core.proofs.Growing.{Keeps-more, room_for_event}
 use Rattle.cell_core.proofs.Looks.{served_event}
 use Rattle.cell_core.proofs.Ready.{actor_there, can_count, ready}
@@ -67,7 +67,7 @@ served c =
     let may = rw (← c.self.view_is) at c.requires.asked in
     let left = rw (← c.self.view_is) at c.requires.served in
     let enabled = rw (← c.self.view_is) at c.requires.enabled in
-    let told = subst (λ (r : Request). IsTold core.boards c.args.actor r c.take-answer.result) (asked c) c.take-answer.ensures.answer in
+    let told = subst (λ (r : Request). IsAnswerOn core.boards c.args.actor r c.take-answer.result) (asked c) c.take-answer.ensures.answer in
     served_event core.cell core.events.items core.boards core.steps (event c) c.self.invariant.0 may left enabled told
 
 pub invariant_of-self : goal.invariant_of-self
