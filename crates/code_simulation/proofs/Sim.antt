@@ -7,7 +7,7 @@ use Rattle.rapid_model.specs.declared.fate.Fate.{Fate}
 use Rattle.rapid_model.specs.declared.request.Request.{Request}
 use Rattle.rapid_model.specs.declared.request.Request.TheVariants.{End}
 use Rattle.typed_trees.specs.Plain.{TypedTree}
-use Rattle.rapid_meaning.specs.Answering.{Outcome, Gave, Raised, Asking, Ended, Misfits, Unfit, NoFuel, Run, joined, told, fitting_of, performed}
+use Rattle.rapid_meaning.specs.Answering.{Outcome, Gave, Raised, Asking, Ended, Misfits, Unfit, NoFuel, Run, joined, ending, fitting_of, performed}
 use Rattle.rapid_meaning.specs.Calls.{part}
 use Rattle.rapid_meaning.specs.Data.{Data}
 use Rattle.rapid_meaning.specs.Doings.{Doing, Gives, Raises, Asks, Ends, Misfit, Reads, Writes, Does, after}
@@ -143,18 +143,18 @@ joined_when : {A B : Type 0} (b : Bool) (o : Outcome A) (f : A → Data → List
 joined_when true o f h = refl
 joined_when false o f h = refl
 
-pub told_joined : {A B : Type 0} (by : Bool → Fitting) (fate : Fate) (d : Data) (left : List Answer) (f : A → Data → List Answer → Outcome B) (h : ℕ → Data → List Answer → Outcome B)
-    → joined (told {A = A} by fate d left) f h ≡ told {A = B} by fate d left
-told_joined by fate d [] f h = refl
-told_joined {A} {B} by fate d (a ∷ left) f h = joined_when {A = A} {B = B} (fits_request (by d.trapped) (End fate) a) (Ended d) f h
+pub ending_joined : {A B : Type 0} (by : Bool → Fitting) (fate : Fate) (d : Data) (left : List Answer) (f : A → Data → List Answer → Outcome B) (h : ℕ → Data → List Answer → Outcome B)
+    → joined (ending {A = A} by fate d left) f h ≡ ending {A = B} by fate d left
+ending_joined by fate d [] f h = refl
+ending_joined {A} {B} by fate d (a ∷ left) f h = joined_when {A = A} {B = B} (fits_request (by d.trapped) (End fate) a) (Ended d) f h
 
 pub sim_ends : {A : Type 0} {t : Target} {run : Run} (fate : Fate) {next : A → Doing Conf} {failed : ℕ → Doing Conf} → Sim t run (Ends fate) (Ends fate) next failed
 unfolding performed
 sim_ends {A = A} {t = t} fate {next = next} {failed = failed} = record {
   by = λ d left k fine. (
     zero,
-    told_joined {A = Conf} {B = ⊤} t.by fate d left (λ c e rest. exec t.by t.code zero c e rest) (λ n e rest. Misfits)
-        ∙ sym (told_joined {A = A} {B = ⊤} t.by fate d left (λ v e rest. goes_on t k (next v) e rest) (λ n e rest. goes_on t k (failed n) e rest)),
+    ending_joined {A = Conf} {B = ⊤} t.by fate d left (λ c e rest. exec t.by t.code zero c e rest) (λ n e rest. Misfits)
+        ∙ sym (ending_joined {A = A} {B = ⊤} t.by fate d left (λ v e rest. goes_on t k (next v) e rest) (λ n e rest. goes_on t k (failed n) e rest)),
   );
 }
 

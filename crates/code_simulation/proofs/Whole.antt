@@ -7,7 +7,7 @@ use Rattle.rapid_model.specs.declared.answer.Answer.{Answer}
 use Rattle.rapid_model.specs.declared.fate.Fate.TheVariants as fates
 use Rattle.rapid_model.specs.declared.fate.Fault.TheVariants.{Unhandled}
 use Rattle.typed_trees.specs.Plain.{TypedTree}
-use Rattle.rapid_meaning.specs.Answering.{Outcome, Gave, Raised, Asking, Ended, Misfits, Unfit, NoFuel, Run, joined, performed, told}
+use Rattle.rapid_meaning.specs.Answering.{Outcome, Gave, Raised, Asking, Ended, Misfits, Unfit, NoFuel, Run, joined, performed, ending}
 use Rattle.rapid_meaning.specs.Data.{Data}
 use Rattle.rapid_meaning.specs.Doings.{Misfit}
 use Rattle.rapid_meaning.specs.Flows.{Flow, Call, value_of}
@@ -31,7 +31,7 @@ use Rattle.code_simulation.proofs.Lists.{rest_sim}
 use Rattle.code_simulation.proofs.Procedures.{procedure_called}
 use Rattle.code_simulation.proofs.Operations.{goes_more}
 use Rattle.code_simulation.proofs.Routines.{called_sim}
-use Rattle.code_simulation.proofs.Sim.{Sim, Target, followed, goes_on, part_deep, part_zero, sim_does, sim_ends, told_joined}
+use Rattle.code_simulation.proofs.Sim.{Sim, Target, followed, goes_on, part_deep, part_zero, sim_does, sim_ends, ending_joined}
 use Rattle.code_simulation.proofs.Statements.{stmt_sim}
 use Rattle.code_simulation.proofs.Turns.{turn_sim}
 use Rattle.code_simulation.proofs.WellTyped.{orderly}
@@ -65,10 +65,10 @@ task_sim tree t run code claims =
 
 -- so that nothing follows it
 ends_followed : (t : Target) (k : ℕ) (o : Outcome Flow)
-    → followed {A = ⊤} t k (λ _. Misfit) (λ n. Misfit) (joined o (λ flow e rest. told t.by fates.Done e rest) (λ n e rest. told t.by (fates.Fault (Unhandled n)) e rest))
-    ≡ joined o (λ flow e rest. told t.by fates.Done e rest) (λ n e rest. told t.by (fates.Fault (Unhandled n)) e rest)
-ends_followed t k (Gave flow d left) = told_joined t.by fates.Done d left (λ v e rest. goes_on t k Misfit e rest) (λ n e rest. goes_on t k Misfit e rest)
-ends_followed t k (Raised n d left) = told_joined t.by (fates.Fault (Unhandled n)) d left (λ v e rest. goes_on t k Misfit e rest) (λ m e rest. goes_on t k Misfit e rest)
+    → followed {A = ⊤} t k (λ _. Misfit) (λ n. Misfit) (joined o (λ flow e rest. ending t.by fates.Done e rest) (λ n e rest. ending t.by (fates.Fault (Unhandled n)) e rest))
+    ≡ joined o (λ flow e rest. ending t.by fates.Done e rest) (λ n e rest. ending t.by (fates.Fault (Unhandled n)) e rest)
+ends_followed t k (Gave flow d left) = ending_joined t.by fates.Done d left (λ v e rest. goes_on t k Misfit e rest) (λ n e rest. goes_on t k Misfit e rest)
+ends_followed t k (Raised n d left) = ending_joined t.by (fates.Fault (Unhandled n)) d left (λ v e rest. goes_on t k Misfit e rest) (λ m e rest. goes_on t k Misfit e rest)
 ends_followed t k (Asking request d) = refl
 ends_followed t k (Ended d) = refl
 ends_followed t k Misfits = refl

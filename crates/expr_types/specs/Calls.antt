@@ -176,7 +176,7 @@ abbrev pub after : Taking → PlainArg → Taking
 after t (Needed e) = record { needs = drop 1 t.needs; options = t.options; choice = t.choice; before = t.before }
 after t (Optional name held at) = with_option t (option_named name.text t.options)
 
--- WZLimSup: the type of the zone's variable is told by the first of the options Temp and Stat
+-- WZLimSup: the zone's variable has the type that the first of the options Temp and Stat says
 abbrev pub zone_need : PlainArgs → Need
 zone_need NoArgs = needs.WorldZone
 zone_need (MoreArgs (Needed e) more) = zone_need more
@@ -192,19 +192,20 @@ zone_named name =
     else if str_eq_ignore_ascii_case (codes "Stat") name then Some (needs.Var sorts.WzStationary)
     else None
 
-abbrev pub zone_told : PlainArg → Option Need
-zone_told (Needed e) = None
-zone_told (Optional name held at) = zone_named name.text
+abbrev pub zone_need_of : PlainArg → Option Need
+zone_need_of (Needed e) = None
+zone_need_of (Optional name held at) = zone_named name.text
 
--- the need of a world zone's variable is this one
-abbrev pub told : Need → Need → Need
-told world needs.WorldZone = world
-told world need = need
+-- a need, where that of a world zone's variable is this one
+abbrev pub with_zone : Need → Need → Need
+with_zone zone needs.WorldZone = zone
+with_zone zone need = need
 
-abbrev pub told_by : PlainArgs → Need → Need
-told_by args needs.WorldZone = zone_need args
-told_by args need = need
+-- a need in a call with these arguments
+abbrev pub need_in : PlainArgs → Need → Need
+need_in args needs.WorldZone = zone_need args
+need_in args need = need
 
 -- a predefined instruction, called with these arguments
 abbrev pub instruction_signature : Instruction → PlainArgs → Signature
-instruction_signature i args = record { needs = map (told_by args) (instruction_needs i); options = options i; choice = choice i; arm = needs_arm i }
+instruction_signature i args = record { needs = map (need_in args) (instruction_needs i); options = options i; choice = choice i; arm = needs_arm i }

@@ -15,11 +15,11 @@ use Rattle.expr_types.specs.declared.signature.Signature.{Signature}
 use Rattle.expr_types.specs.declared.taking.Taking.{Taking}
 use Rattle.expr_types.specs.declared.typed_chain.TypedChain.{TypedChain}
 use Rattle.expr_types.specs.Calls
-use Rattle.expr_types.specs.Calls.{need_of, told}
+use Rattle.expr_types.specs.Calls.{need_of, with_zone}
 use Rattle.expr_types.specs.Typing
 
 abbrev pub view_needs : Needs → List Need
-view_needs (Predefined needs zone) = map (told zone) needs.now
+view_needs (Predefined needs zone) = map (with_zone zone) needs.now
 view_needs (Params params) = map need_of params.now
 
 abbrev pub view_signature : Signature → Calls.Signature

@@ -22,7 +22,7 @@ impl<'a> Needs<'a> {
         ensures { result ≡ Calls.first_need (view_needs self.entry) }
     {
         match self {
-            Needs::Predefined { needs, zone } => first_told(needs, zone),
+            Needs::Predefined { needs, zone } => first_predefined(needs, zone),
             Needs::Params(params) => first_param(params),
         }
     }
@@ -62,11 +62,11 @@ fn behind_first<T>(rows: &[T]) -> &[T]
 }
 
 /// The first need of a predefined function or instruction.
-fn first_told(needs: &[Need], zone: Need) -> Option<Need>
+fn first_predefined(needs: &[Need], zone: Need) -> Option<Need>
     ensures { result ≡ Calls.first_need (view_needs (Needs.Predefined needs.entry zone)) }
 {
     match needs.first() {
-        Some(need) => Some(told(zone, *need)),
+        Some(need) => Some(with_zone(zone, *need)),
         None => None,
     }
 }
@@ -82,8 +82,8 @@ fn first_param(params: &[ParamRow]) -> Option<Need>
 }
 
 /// The need, that of a world zone's variable being this one.
-fn told(zone: Need, need: Need) -> Need
-    ensures { result ≡ Calls.told zone need }
+fn with_zone(zone: Need, need: Need) -> Need
+    ensures { result ≡ Calls.with_zone zone need }
 {
     match need {
         Need::WorldZone => zone,

@@ -14,7 +14,7 @@ pub(crate) fn zone_need(args: &[RawArg<'_>]) -> Need
     ensures { result ≡ Calls.zone_need (args_of (map view_raw_arg args.now)) }
 {
     for arg in args {
-        if let Some(need) = zone_told(arg) {
+        if let Some(need) = zone_need_of(arg) {
             return need;
         }
     }
@@ -22,8 +22,8 @@ pub(crate) fn zone_need(args: &[RawArg<'_>]) -> Need
 }
 
 /// What the variable has to be by an option.
-fn zone_told(arg: &RawArg<'_>) -> Option<Need>
-    ensures { result ≡ Calls.zone_told (view_raw_arg arg.now) }
+fn zone_need_of(arg: &RawArg<'_>) -> Option<Need>
+    ensures { result ≡ Calls.zone_need_of (view_raw_arg arg.now) }
 {
     match arg {
         RawArg::Option { name, .. } => zone_named(name.text),

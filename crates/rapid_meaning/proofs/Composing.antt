@@ -4,7 +4,7 @@ use Rattle.rapid_model.specs.Fits.{Fitting, fits_request}
 use Rattle.rapid_model.specs.declared.answer.Answer.{Answer}
 use Rattle.rapid_model.specs.declared.fate.Fate.{Fate}
 use Rattle.rapid_model.specs.declared.request.Request.TheVariants.{End}
-use Rattle.rapid_meaning.specs.Answering.{Outcome, Gave, Raised, Asking, Ended, Misfits, Unfit, NoFuel, Run, joined, told, performed}
+use Rattle.rapid_meaning.specs.Answering.{Outcome, Gave, Raised, Asking, Ended, Misfits, Unfit, NoFuel, Run, joined, ending, performed}
 use Rattle.rapid_meaning.specs.Data.{Data}
 use Rattle.rapid_meaning.specs.Doings.{Doing, Gives, Raises, Asks, Ends, Misfit, Reads, Writes, Does, after}
 
@@ -25,10 +25,10 @@ when_joined : {A B : Type 0} (b : Bool) (o : Outcome B) (p : Outcome A) (f : A �
 when_joined true o p f h e = e
 when_joined false o p f h e = refl
 
-told_joined : {A B : Type 0} (by : Bool → Fitting) (fate : Fate) (d : Data) (left : List Answer) (f : A → Data → List Answer → Outcome B) (h : ℕ → Data → List Answer → Outcome B)
-    → told {A = B} by fate d left ≡ joined (told {A = A} by fate d left) f h
-told_joined by fate d [] f h = refl
-told_joined {A} {B} by fate d (a ∷ left) f h = when_joined {A = A} {B = B} (fits_request (by d.trapped) (End fate) a) (Ended d) (Ended d) f h refl
+ending_joined : {A B : Type 0} (by : Bool → Fitting) (fate : Fate) (d : Data) (left : List Answer) (f : A → Data → List Answer → Outcome B) (h : ℕ → Data → List Answer → Outcome B)
+    → ending {A = B} by fate d left ≡ joined (ending {A = A} by fate d left) f h
+ending_joined by fate d [] f h = refl
+ending_joined {A} {B} by fate d (a ∷ left) f h = when_joined {A = A} {B = B} (fits_request (by d.trapped) (End fate) a) (Ended d) (Ended d) f h refl
 
 pub performed_after : {A B : Type 0} (by : Bool → Fitting) (run : Run) (m : Doing A) (next : A → Doing B) (failed : ℕ → Doing B) (d : Data) (left : List Answer)
     → performed by run (after m next failed) d left
@@ -40,7 +40,7 @@ performed_after by run (Asks request k) next failed d [] = refl
 performed_after by run (Asks request k) next failed d (a ∷ left) =
     when_joined (fits_request (by d.trapped) request a) (performed by run (after (k a) next failed) d left) (performed by run (k a) d left)
     (λ v e rest. performed by run (next v) e rest) (λ n e rest. performed by run (failed n) e rest) (performed_after by run (k a) next failed d left)
-performed_after by run (Ends fate) next failed d left = told_joined by fate d left (λ v e rest. performed by run (next v) e rest) (λ n e rest. performed by run (failed n) e rest)
+performed_after by run (Ends fate) next failed d left = ending_joined by fate d left (λ v e rest. performed by run (next v) e rest) (λ n e rest. performed by run (failed n) e rest)
 performed_after by run Misfit next failed d left = refl
 performed_after by run (Reads k) next failed d left = performed_after by run (k d) next failed d left
 performed_after by run (Writes e m) next failed d left = performed_after by run m next failed e left

@@ -6,7 +6,7 @@ use Rattle.rapid_model.specs.declared.answer.Answer.{Answer}
 use Rattle.rapid_model.specs.declared.fate.Fate.{Fate}
 use Rattle.rapid_model.specs.declared.request.Request.TheVariants.{End}
 use Rattle.typed_trees.specs.Plain.{TypedTree}
-use Rattle.rapid_meaning.specs.Answering.{Outcome, Gave, Raised, Asking, Ended, Misfits, Unfit, NoFuel, Run, joined, told, fitting_of, performed}
+use Rattle.rapid_meaning.specs.Answering.{Outcome, Gave, Raised, Asking, Ended, Misfits, Unfit, NoFuel, Run, joined, ending, fitting_of, performed}
 use Rattle.rapid_meaning.specs.Calls.{part}
 use Rattle.rapid_meaning.specs.Data.{Data}
 use Rattle.rapid_meaning.specs.Doings.{Doing, Gives, Raises, Asks, Ends, Misfit, Reads, Writes, Does}
@@ -40,9 +40,9 @@ below_when : {A : Type 0} (n : ℕ) (b : Bool) (o : Outcome A) → Below n o →
 below_when n true o h = h
 below_when n false o h = tt
 
-below_told : (A : Type 0) (by : Bool → Fitting) (n : ℕ) (fate : Fate) (d : Data) (left : List Answer) → Below n (told {A = A} by fate d left)
-below_told A by n fate d [] = tt
-below_told A by n fate d (a ∷ left) = below_when {A = A} n (fits_request (by d.trapped) (End fate) a) (Ended d) tt
+below_ending : (A : Type 0) (by : Bool → Fitting) (n : ℕ) (fate : Fate) (d : Data) (left : List Answer) → Below n (ending {A = A} by fate d left)
+below_ending A by n fate d [] = tt
+below_ending A by n fate d (a ∷ left) = below_when {A = A} n (fits_request (by d.trapped) (End fate) a) (Ended d) tt
 
 below_performed : {A : Type 0} (by : Bool → Fitting) (run : Run) (n : ℕ) → BelowRun n run → (m : Doing A) (d : Data) (left : List Answer) → length left < n
     → Below n (performed by run m d left)
@@ -52,7 +52,7 @@ below_performed by run n good (Raises e) d left few = few
 below_performed by run n good (Asks request k) d [] few = tt
 below_performed by run n good (Asks request k) d (a ∷ left) few =
     below_when n (fits_request (by d.trapped) request a) (performed by run (k a) d left) (below_performed by run n good (k a) d left (omega (arith, few)))
-below_performed {A} by run n good (Ends fate) d left few = below_told A by n fate d left
+below_performed {A} by run n good (Ends fate) d left few = below_ending A by n fate d left
 below_performed by run n good Misfit d left few = tt
 below_performed by run n good (Reads k) d left few = below_performed by run n good (k d) d left few
 below_performed by run n good (Writes e m) d left few = below_performed by run n good m e left few
@@ -79,7 +79,7 @@ below_begun by run n good (Asks request k) d [] begins few = tt
 below_begun by run n good (Asks request k) d (a ∷ left) begins few =
     below_when (suc n) (fits_request (by d.trapped) request a) (performed by run (k a) d left)
     (below_more n (performed by run (k a) d left) (below_performed by run n good (k a) d left (omega (arith, few))))
-below_begun {A} by run n good (Ends fate) d left begins few = below_told A by (suc n) fate d left
+below_begun {A} by run n good (Ends fate) d left begins few = below_ending A by (suc n) fate d left
 below_begun by run n good Misfit d left begins few = tt
 below_begun by run n good (Reads k) d left begins few = below_begun by run n good (k d) d left (begins d) few
 below_begun by run n good (Writes e m) d left begins few = below_begun by run n good m e left begins few
@@ -146,7 +146,7 @@ agrees_performed by run more good (Raises e) d left = refl
 agrees_performed by run more good (Asks request k) d [] = refl
 agrees_performed by run more good (Asks request k) d (a ∷ left) =
     agrees_when (fits_request (by d.trapped) request a) (performed by run (k a) d left) (performed by more (k a) d left) (agrees_performed by run more good (k a) d left)
-agrees_performed by run more good (Ends fate) d left = agrees_self (told by fate d left)
+agrees_performed by run more good (Ends fate) d left = agrees_self (ending by fate d left)
 agrees_performed by run more good Misfit d left = refl
 agrees_performed by run more good (Reads k) d left = agrees_performed by run more good (k d) d left
 agrees_performed by run more good (Writes e m) d left = agrees_performed by run more good m e left

@@ -7,7 +7,7 @@ use Rattle.rapid_model.specs.declared.fate.Fate.{Fate}
 use Rattle.rapid_model.specs.declared.request.Request.{Request}
 use Rattle.rapid_model.specs.declared.request.Request.TheVariants.{End}
 use Rattle.typed_trees.specs.Plain.{TypedTree}
-use Rattle.rapid_meaning.specs.Answering.{Outcome, Gave, Raised, Asking, Ended, Misfits, Unfit, NoFuel, Run, joined, told, fitting_of, performed}
+use Rattle.rapid_meaning.specs.Answering.{Outcome, Gave, Raised, Asking, Ended, Misfits, Unfit, NoFuel, Run, joined, ending, fitting_of, performed}
 use Rattle.rapid_meaning.specs.Calls.{part}
 use Rattle.rapid_meaning.specs.Data.{Data}
 use Rattle.rapid_meaning.specs.Doings.{Doing, Gives, Raises, Asks, Ends, Misfit, Reads, Writes, Does}
@@ -91,10 +91,10 @@ grows_when : {A : Type 0} (by : Bool → Fitting) (a : Answer) (fits : Bool) (o 
 grows_when by a true o p grown = grown
 grows_when by a false o p grown = refl
 
-grows_told : (A : Type 0) (by : Bool → Fitting) (a : Answer) (fate : Fate) (d : Data) (left : List Answer)
-    → Grows by a (told {A = A} by fate d left) (told {A = A} by fate d (left ++ a ∷ []))
-grows_told A by a fate d [] = asked_when {A = A} (fits_request (by d.trapped) (End fate) a) (Ended d) tt
-grows_told A by a fate d (b ∷ left) = grows_when {A = A} by a (fits_request (by d.trapped) (End fate) b) (Ended d) (Ended d) refl
+grows_ending : (A : Type 0) (by : Bool → Fitting) (a : Answer) (fate : Fate) (d : Data) (left : List Answer)
+    → Grows by a (ending {A = A} by fate d left) (ending {A = A} by fate d (left ++ a ∷ []))
+grows_ending A by a fate d [] = asked_when {A = A} (fits_request (by d.trapped) (End fate) a) (Ended d) tt
+grows_ending A by a fate d (b ∷ left) = grows_when {A = A} by a (fits_request (by d.trapped) (End fate) b) (Ended d) (Ended d) refl
 
 abbrev GrowRuns : (Bool → Fitting) → Answer → Run → Run → Type 0
 GrowRuns by a run more = (p : Part) (d : Data) (left : List Answer) → Grows by a (run p d left) (more p d (left ++ a ∷ []))
@@ -108,7 +108,7 @@ grows_performed by a run more good went (Asks request k) d [] =
     asked_when (fits_request (by d.trapped) request a) (performed by more (k a) d []) (went_performed by more went (k a) d)
 grows_performed by a run more good went (Asks request k) d (b ∷ left) =
     grows_when by a (fits_request (by d.trapped) request b) (performed by run (k b) d left) (performed by more (k b) d (left ++ a ∷ [])) (grows_performed by a run more good went (k b) d left)
-grows_performed {A} by a run more good went (Ends fate) d left = grows_told A by a fate d left
+grows_performed {A} by a run more good went (Ends fate) d left = grows_ending A by a fate d left
 grows_performed by a run more good went Misfit d left = refl
 grows_performed by a run more good went (Reads k) d left = grows_performed by a run more good went (k d) d left
 grows_performed by a run more good went (Writes e m) d left = grows_performed by a run more good went m e left

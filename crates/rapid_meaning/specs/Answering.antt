@@ -14,8 +14,8 @@ use Rattle.rapid_meaning.specs.Doings.{Doing, Gives, Raises, Asks, Ends, Misfit,
 use Rattle.rapid_meaning.specs.Flows.{Flow, Part}
 
 -- Gave and Raised: it is done, with these data, and these answers are left. Asking: a request is due, and no answer is left
--- for it. Ended: the task has ended, and told so. Misfits: as Misfit. Unfit: an answer does not fit its request. NoFuel: there
--- were more parts one in another than asked for.
+-- for it. Ended: the task has ended, and its End was answered. Misfits: as Misfit. Unfit: an answer does not fit its request.
+-- NoFuel: there were more parts one in another than asked for.
 pub data Outcome (A : Type 0) : Type 0 where
   Gave : A → Data → List Answer → Outcome A
   Raised : ℕ → Data → List Answer → Outcome A
@@ -60,10 +60,10 @@ fitting_of tree trapped = record {
   trapped = trapped;
 }
 
--- a task that has this fate tells it, and has ended with the answer
-abbrev pub told : {A : Type 0} → (Bool → Fitting) → Fate → Data → List Answer → Outcome A
-told by fate d [] = Asking (End fate) d
-told by fate d (a ∷ left) = if fits_request (by d.trapped) (End fate) a then Ended d else Unfit
+-- a task that ends with this fate asks End, and has ended with the answer
+abbrev pub ending : {A : Type 0} → (Bool → Fitting) → Fate → Data → List Answer → Outcome A
+ending by fate d [] = Asking (End fate) d
+ending by fate d (a ∷ left) = if fits_request (by d.trapped) (End fate) a then Ended d else Unfit
 
 -- a doing, from these data on, with these answers to come
 unfoldable pub performed : {A : Type 0} → (Bool → Fitting) → Run → Doing A → Data → List Answer → Outcome A
@@ -72,7 +72,7 @@ performed by run (Raises n) d left = Raised n d left
 performed by run (Asks request answered) d [] = Asking request d
 performed by run (Asks request answered) d (a ∷ left) =
     if fits_request (by d.trapped) request a then performed by run (answered a) d left else Unfit
-performed by run (Ends fate) d left = told by fate d left
+performed by run (Ends fate) d left = ending by fate d left
 performed by run Misfit d left = Misfits
 performed by run (Reads with_data) d left = performed by run (with_data d) d left
 performed by run (Writes e more) d left = performed by run more e left

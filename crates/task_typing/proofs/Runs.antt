@@ -5,7 +5,7 @@ use Rattle.rapid_model.specs.Fits.{Fitting, fits_request}
 use Rattle.rapid_model.specs.declared.answer.Answer.{Answer}
 use Rattle.rapid_model.specs.declared.fate.Fate.{Fate}
 use Rattle.rapid_model.specs.declared.request.Request.TheVariants.{End}
-use Rattle.rapid_meaning.specs.Answering.{Outcome, Gave, Raised, Asking, Ended, Misfits, Unfit, NoFuel, Run, joined, told, fitting_of, performed}
+use Rattle.rapid_meaning.specs.Answering.{Outcome, Gave, Raised, Asking, Ended, Misfits, Unfit, NoFuel, Run, joined, ending, fitting_of, performed}
 use Rattle.rapid_meaning.specs.Calls.{part}
 use Rattle.rapid_meaning.specs.Data.{Data}
 use Rattle.rapid_meaning.specs.Doings.{Doing, Gives, Raises, Asks, Ends, Misfit, Reads, Writes, Does}
@@ -44,10 +44,10 @@ comes_when : {A : Type 0} (rules : Rules) (P : A → Data → Type 0) (E : ℕ �
 comes_when rules P E true o c = c refl
 comes_when rules P E false o c = tt
 
-comes_told : {A : Type 0} (rules : Rules) (P : A → Data → Type 0) (E : ℕ → Data → Type 0) (by : Bool → Fitting) (fate : Fate) (d : Data) (left : List Answer)
-    → rules.Asked d (End fate) → Comes rules P E (told by fate d left)
-comes_told rules P E by fate d [] asked = asked
-comes_told {A} rules P E by fate d (a ∷ left) asked = comes_when {A = A} rules P E (fits_request (by d.trapped) (End fate) a) (Ended d) (λ fits. (fate, asked))
+comes_ending : {A : Type 0} (rules : Rules) (P : A → Data → Type 0) (E : ℕ → Data → Type 0) (by : Bool → Fitting) (fate : Fate) (d : Data) (left : List Answer)
+    → rules.Asked d (End fate) → Comes rules P E (ending by fate d left)
+comes_ending rules P E by fate d [] asked = asked
+comes_ending {A} rules P E by fate d (a ∷ left) asked = comes_when {A = A} rules P E (fits_request (by d.trapped) (End fate) a) (Ended d) (λ fits. (fate, asked))
 
 pub performed_comes : {A : Type 0} (rules : Rules) (run : Run) → RunComes rules run → (P : A → Data → Type 0) (E : ℕ → Data → Type 0)
     (m : Doing A) (t : Told) (d : Data) (left : List Answer) → Meets rules P E m t d → Comes rules P E (performed (fitting_of rules.tree) run m d left)
@@ -58,7 +58,7 @@ performed_comes rules run good P E (Asks request k) t d [] m = m.0.asked
 performed_comes rules run good P E (Asks request k) t d (a ∷ left) m =
     comes_when rules P E (fits_request (fitting_of rules.tree d.trapped) request a) (performed (fitting_of rules.tree) run (k a) d left)
     (λ fits. performed_comes rules run good P E (k a) (told_after t request a) d left (m.2 a fits))
-performed_comes rules run good P E (Ends fate) t d left m = comes_told rules P E (fitting_of rules.tree) fate d left m.asked
+performed_comes rules run good P E (Ends fate) t d left m = comes_ending rules P E (fitting_of rules.tree) fate d left m.asked
 performed_comes rules run good P E Misfit t d left m = m
 performed_comes rules run good P E (Reads k) t d left m = performed_comes rules run good P E (k d) t d left m
 performed_comes rules run good P E (Writes e more) t d left m = performed_comes rules run good P E more t e left m

@@ -7,7 +7,7 @@ use Rattle.rapid_model.specs.declared.answer.Answer.{Answer}
 use Rattle.rapid_model.specs.declared.fate.Fate.{Fate}
 use Rattle.rapid_model.specs.declared.request.Request.{Request}
 use Rattle.rapid_model.specs.declared.request.Request.TheVariants.{End}
-use Rattle.rapid_meaning.specs.Answering.{Outcome, Gave, Raised, Asking, Ended, Misfits, Unfit, NoFuel, Run, joined, told, fitting_of, performed}
+use Rattle.rapid_meaning.specs.Answering.{Outcome, Gave, Raised, Asking, Ended, Misfits, Unfit, NoFuel, Run, joined, ending, fitting_of, performed}
 use Rattle.rapid_meaning.specs.Calls.{part}
 use Rattle.rapid_meaning.specs.Data.{Data}
 use Rattle.rapid_meaning.specs.Doings.{Doing, Gives, Raises, Asks, Ends, Misfit, Reads, Writes, Does}
@@ -110,10 +110,10 @@ follows_when : {A : Type 0} (rules : Rules) (P : A → Data → Type 0) (E : ℕ
 follows_when rules P E a true o p s = s refl
 follows_when rules P E a false o p s = tt
 
-follows_told : {A : Type 0} (rules : Rules) (P : A → Data → Type 0) (E : ℕ → Data → Type 0) (a : Answer) (fate : Fate) (d : Data) (left : List Answer)
-    → Follows rules P E a (told {A = A} (fitting_of rules.tree) fate d left) (told {A = A} (fitting_of rules.tree) fate d (left ++ a ∷ []))
-follows_told {A} rules P E a fate d [] = λ fits. sym (when_fits {A = A} (fits_request (fitting_of rules.tree d.trapped) (End fate) a) (Ended d) fits)
-follows_told {A} rules P E a fate d (b ∷ left) = follows_when {A = A} rules P E a (fits_request (fitting_of rules.tree d.trapped) (End fate) b) (Ended d) (Ended d) (λ _. tt)
+follows_ending : {A : Type 0} (rules : Rules) (P : A → Data → Type 0) (E : ℕ → Data → Type 0) (a : Answer) (fate : Fate) (d : Data) (left : List Answer)
+    → Follows rules P E a (ending {A = A} (fitting_of rules.tree) fate d left) (ending {A = A} (fitting_of rules.tree) fate d (left ++ a ∷ []))
+follows_ending {A} rules P E a fate d [] = λ fits. sym (when_fits {A = A} (fits_request (fitting_of rules.tree d.trapped) (End fate) a) (Ended d) fits)
+follows_ending {A} rules P E a fate d (b ∷ left) = follows_when {A = A} rules P E a (fits_request (fitting_of rules.tree d.trapped) (End fate) b) (Ended d) (Ended d) (λ _. tt)
 
 -- what the events tell does not depend on what they told of a Hold
 told_same : (t : Told) (d : Data) (request : Request) (a : Answer) → t.trapped ≡ d.trapped → told_after t request a ≡ told_after (calm d) request a
@@ -138,7 +138,7 @@ performed_follows rules a run more good stands P E (Asks request k) t d [] m = �
 performed_follows rules a run more good stands P E (Asks request k) t d (b ∷ left) m =
     follows_when rules P E a (fits_request (fitting_of rules.tree d.trapped) request b) (performed (fitting_of rules.tree) run (k b) d left) (performed (fitting_of rules.tree) more (k b) d (left ++ a ∷ []))
     (λ fits. performed_follows rules a run more good stands P E (k b) (told_after t request b) d left (m.2 b fits))
-performed_follows rules a run more good stands P E (Ends fate) t d left m = follows_told rules P E a fate d left
+performed_follows rules a run more good stands P E (Ends fate) t d left m = follows_ending rules P E a fate d left
 performed_follows rules a run more good stands P E Misfit t d left m = tt
 performed_follows rules a run more good stands P E (Reads k) t d left m = performed_follows rules a run more good stands P E (k d) t d left m
 performed_follows rules a run more good stands P E (Writes e next) t d left m = performed_follows rules a run more good stands P E next t e left m

@@ -14,7 +14,7 @@ use Rattle.rapid_builtins.specs.declared.option_choice.Choice.TheVariants as cho
 use Rattle.typed_trees.specs.Plain as trees
 use Rattle.typed_trees.specs.Plain.{TypedArg, TypedArgs, TypedArgument}
 use Rattle.named_data.specs.Rules.{Site}
-use Rattle.expr_types.specs.Calls.{Signature, Taking, after, all_in, are_chosen, instruction_signature, is_excluded, needed_in, taking, told_by, with_option, zone_need}
+use Rattle.expr_types.specs.Calls.{Signature, Taking, after, all_in, are_chosen, instruction_signature, is_excluded, needed_in, taking, need_in, with_option, zone_need}
 use Rattle.typing_rules.specs.Statements.{AreCallArguments}
 use Rattle.rapid_meaning.specs.Instructions.{needed, options}
 use Rattle.task_typing.specs.Expressions.{IsArg}
@@ -164,21 +164,21 @@ module _ (c : Setting) (kinds : List Kind) where
   zone_by x false true other h rest = zone_fixed x h
   zone_by x false false other h rest = rest h
 
-  zone_told : (args : PlainArgs) (x : TypedArg) → IsArg c kinds x (zone_need args) → IsArg c kinds x needs.WorldZone
-  zone_told NoArgs x h = h
-  zone_told (MoreArgs (Needed e) more) x h = zone_told more x h
-  zone_told (MoreArgs (Optional name held at) more) x h =
-      zone_by x (str_eq_ignore_ascii_case (codes "Temp") name.text) (str_eq_ignore_ascii_case (codes "Stat") name.text) (zone_need more) h (zone_told more x)
+  zone_right : (args : PlainArgs) (x : TypedArg) → IsArg c kinds x (zone_need args) → IsArg c kinds x needs.WorldZone
+  zone_right NoArgs x h = h
+  zone_right (MoreArgs (Needed e) more) x h = zone_right more x h
+  zone_right (MoreArgs (Optional name held at) more) x h =
+      zone_by x (str_eq_ignore_ascii_case (codes "Temp") name.text) (str_eq_ignore_ascii_case (codes "Stat") name.text) (zone_need more) h (zone_right more x)
 
-  told_right : (args : PlainArgs) (need : Need) (x : TypedArg) → IsArg c kinds x (told_by args need) → IsArg c kinds x need
-  told_right args needs.WorldZone x h = zone_told args x h
-  told_right args _ x h = h
+  need_right : (args : PlainArgs) (need : Need) (x : TypedArg) → IsArg c kinds x (need_in args need) → IsArg c kinds x need
+  need_right args needs.WorldZone x h = zone_right args x h
+  need_right args _ x h = h
 
-  all_told : (args : PlainArgs) (ns : List Need) (xs : List TypedArg) → AreNeeded c kinds xs (map (told_by args) ns) → AreNeeded c kinds xs ns
-  all_told args [] [] h = tt
-  all_told args [] (x ∷ xs) h = absurd h
-  all_told args (need ∷ ns) [] h = absurd h
-  all_told args (need ∷ ns) (x ∷ xs) h = (told_right args need x h.0, all_told args ns xs h.1)
+  all_right : (args : PlainArgs) (ns : List Need) (xs : List TypedArg) → AreNeeded c kinds xs (map (need_in args) ns) → AreNeeded c kinds xs ns
+  all_right args [] [] h = tt
+  all_right args [] (x ∷ xs) h = absurd h
+  all_right args (need ∷ ns) [] h = absurd h
+  all_right args (need ∷ ns) (x ∷ xs) h = (need_right args need x h.0, all_right args ns xs h.1)
 
   -- as many options as may stand
   chosen_right : (kind : Choice) (args : PlainArgs) (given : List TypedArg) → (IsBound kind → length given ≤ 1) → all_in args ≡ needed_in args + length given → are_chosen kind args ≡ true → AreChosen kind given
@@ -196,7 +196,7 @@ module _ (c : Setting) (kinds : List Kind) where
       let parts = sorted args (taking signature) us count (arguments_taken c kinds s suits args (taking signature) us are) in
       record {
         arm = subst (λ (b : Bool). (not (needs_arm i) || b) ≡ true) suits.arm call.armed;
-        are_needed = all_told args (instruction_needs i) (needed us) parts.needed_are;
+        are_needed = all_right args (instruction_needs i) (needed us) parts.needed_are;
         are_options = parts.options_are;
         chosen = chosen_right (choice i) args (options us) (λ bound. let most : 0 + length (options us) ≤ 1 = parts.few bound (omega arith) in omega (arith, most)) parts.counted call.chosen;
       }

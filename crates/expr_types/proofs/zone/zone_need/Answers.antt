@@ -8,13 +8,13 @@ use Rattle.expr_types.proofs.zone.zone_need.Goals as goal
 pub returns-in-Some : goal.returns-in-Some
 returns-in-Some c =
     let behind = zone_need (args_of (map view_raw_arg (drop (c.loop-arg.arg-index + 1) c.args.args.now))) in
-    ap (λ told. or_need told behind) c.in-Some.ensures
+    ap (λ first. or_need first behind) c.in-Some.ensures
     ∙ sym (zone_from c.args.args.now c.loop-arg.arg-index c.arg-item.result c.loop-arg-test.true c.arg-item.is)
     ∙ c.loop-arg.invariant
 
 pub loop-arg-preserved : goal.loop-arg-preserved
 loop-arg-preserved c =
     let behind = zone_need (args_of (map view_raw_arg (drop (c.loop-arg.arg-index + 1) c.args.args.now))) in
-    ap (λ told. or_need told behind) c.in_default.ensures
+    ap (λ first. or_need first behind) c.in_default.ensures
     ∙ sym (zone_from c.args.args.now c.loop-arg.arg-index c.arg-item.result c.loop-arg-test.true c.arg-item.is)
     ∙ c.loop-arg.invariant
