@@ -10,7 +10,7 @@ use Rattle.name_tables.specs.Names.{NameList, Finds}
 use Rattle.rapid_model.specs.Sorts.{width}
 use Rattle.rapid_model.specs.declared.pers_value.PersValue.{PersValue}
 use Rattle.rapid_model.specs.declared.script_rule.ScriptRule.TheVariants.{Kind, Range, Twice}
-use Rattle.cell_assembly.specs.Cells.{PersInfo, is_global, global_number, has_sort, fits_index, element, is_told, with_told, at_value, tell_to, tell_global}
+use Rattle.cell_assembly.specs.Cells.{PersInfo, is_global, global_number, has_sort, fits_index, element, is_given, with_given, at_value, give_to, give_global}
 use Rattle.rule_checks.proofs.Keeps.{Keeps-must}
 
 same_number : (name : List ℕ) (ps : List PersInfo) (k : ℕ) (old new : PersInfo) → slice_get ps k ≡ Some old → is_global name new ≡ is_global name old → global_number name (set ps k new) ≡ global_number name ps
@@ -25,22 +25,22 @@ number_kept name ps k old new at named owned =
     same_number name ps k old new at
     (ap (λ n. is_none new.owner && str_eq_ignore_ascii_case name n) named ∙ ap (λ o. is_none o && str_eq_ignore_ascii_case name old.name) owned)
 
-tell_to_keeps : (name : List ℕ) (ps : List PersInfo) (number : ℕ) (row : PersValue) (k : ℕ) (found : Option PersInfo) → slice_get ps k ≡ found
-    → IfOk (tell_to ps number row k found) (λ qs. global_number name qs ≡ global_number name ps)
-tell_to_keeps name ps number row k None at = tt
-tell_to_keeps name ps number row k (Some p) at =
-    let place = element row.index in
+give_to_keeps : (name : List ℕ) (ps : List PersInfo) (number : ℕ) (row : PersValue) (k : ℕ) (found : Option PersInfo) → slice_get ps k ≡ found
+    → IfOk (give_to ps number row k found) (λ qs. global_number name qs ≡ global_number name ps)
+give_to_keeps name ps number row k None at = tt
+give_to_keeps name ps number row k (Some p) at =
+    let index = element row.index in
     let Same : List PersInfo → Type 0 = λ qs. global_number name qs ≡ global_number name ps in
     Keeps-must Same (has_sort p.sort row.value && fits_index p.len row.index) (at_value number Kind) _ (λ suits.
-    Keeps-must Same (nat_le (place + 1) (width p.len)) (at_value number Range) _ (λ there.
-    Keeps-must Same (not (is_told (slice_get p.told place))) (at_value number Twice) _ (λ untold.
-    number_kept name ps k p (with_told p place row.value) at refl refl)))
+    Keeps-must Same (nat_le (index + 1) (width p.len)) (at_value number Range) _ (λ there.
+    Keeps-must Same (not (is_given (slice_get p.given index))) (at_value number Twice) _ (λ not_given.
+    number_kept name ps k p (with_given p index row.value) at refl refl)))
 
-tell_global_keeps : (name : List ℕ) (ps : List PersInfo) (number : ℕ) (row : PersValue) (k : Option ℕ) → IfOk (tell_global ps number row k) (λ qs. global_number name qs ≡ global_number name ps)
-tell_global_keeps name ps number row None = tt
-tell_global_keeps name ps number row (Some k) = tell_to_keeps name ps number row k (slice_get ps k) refl
+give_global_keeps : (name : List ℕ) (ps : List PersInfo) (number : ℕ) (row : PersValue) (k : Option ℕ) → IfOk (give_global ps number row k) (λ qs. global_number name qs ≡ global_number name ps)
+give_global_keeps name ps number row None = tt
+give_global_keeps name ps number row (Some k) = give_to_keeps name ps number row k (slice_get ps k) refl
 
 -- the script's values change no name
-pub table_told : (table : NameList ℕ) (ps qs : List PersInfo) (number : ℕ) (row : PersValue) (k : Option ℕ) → Finds table (λ name. global_number name ps) → tell_global ps number row k ≡ Ok qs → Finds table (λ name. global_number name qs)
-table_told table ps qs number row k is told name =
-    is name ∙ sym (IfOk-at_ok (λ qs. global_number name qs ≡ global_number name ps) told (tell_global_keeps name ps number row k))
+pub table_given : (table : NameList ℕ) (ps qs : List PersInfo) (number : ℕ) (row : PersValue) (k : Option ℕ) → Finds table (λ name. global_number name ps) → give_global ps number row k ≡ Ok qs → Finds table (λ name. global_number name qs)
+table_given table ps qs number row k is given name =
+    is name ∙ sym (IfOk-at_ok (λ qs. global_number name qs ≡ global_number name ps) given (give_global_keeps name ps number row k))

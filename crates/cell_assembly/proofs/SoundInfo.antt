@@ -16,7 +16,7 @@ use Rattle.rapid_model.specs.declared.value.Value.TheVariants as values
 use Rattle.named_data.specs.Wants.{same_sort}
 use Rattle.typed_trees.specs.Plain.{TypedPers}
 use Rattle.typed_trees.specs.Sound.{fits, is_sound}
-use Rattle.cell_assembly.specs.Cells.{PersInfo, new_pers, with_declared, same_len, has_sort, with_told}
+use Rattle.cell_assembly.specs.Cells.{PersInfo, new_pers, with_declared, same_len, has_sort, with_given}
 use Rattle.cell_assembly.specs.Made.{start_of, declared_values, over, pers_cell}
 
 -- a value of the type for each element
@@ -29,14 +29,14 @@ pub record IsSoundInfo (tasks : ℕ) (p : PersInfo) : Type 0 where
   pub valued : has_values p.sort ≡ true
   pub len : holds_where_there (is_within 1 1_000) p.len ≡ true
   pub declared : holds_where_there (are_right p.sort p.len) p.declared ≡ true
-  pub as_many : length p.told ≡ width p.len
-  pub told : list_all (holds_where_there (is_value_of p.sort)) p.told ≡ true
+  pub as_many : length p.given ≡ width p.len
+  pub given : list_all (holds_where_there (is_value_of p.sort)) p.given ≡ true
 
 all_alike : {X : Type 0} (p : X → Bool) (n : ℕ) (x : X) → p x ≡ true → list_all p (replicate n x) ≡ true
 all_alike p n x e = list_all-from_AllPass p (replicate n x) (All-replicate (λ y. p y ≡ true) n x e)
 
-all_but_one : {X : Type 0} (p : X → Bool) (xs : List X) (place : ℕ) (x : X) → p x ≡ true → list_all p xs ≡ true → list_all p (set xs place x) ≡ true
-all_but_one p xs place x one all = list_all-from_AllPass p (set xs place x) (All-set (λ y. p y ≡ true) xs place x one (AllPass-from_list_all p xs all))
+all_but_one : {X : Type 0} (p : X → Bool) (xs : List X) (index : ℕ) (x : X) → p x ≡ true → list_all p xs ≡ true → list_all p (set xs index x) ≡ true
+all_but_one p xs index x one all = list_all-from_AllPass p (set xs index x) (All-set (λ y. p y ≡ true) xs index x one (AllPass-from_list_all p xs all))
 
 pub new_sound : (tasks : ℕ) (owner : Option ℕ) (row : TypedPers) → holds_where_there (λ task. nat_lt task tasks) owner ≡ true → is_sound row ≡ true → IsSoundInfo tasks (new_pers owner row)
 new_sound tasks owner row is_task sound =
@@ -48,7 +48,7 @@ new_sound tasks owner row is_task sound =
       len = len;
       declared = declared;
       as_many = length-replicate (width row.len) None;
-      told = all_alike (holds_where_there (is_value_of row.sort)) (width row.len) None refl;
+      given = all_alike (holds_where_there (is_value_of row.sort)) (width row.len) None refl;
     }
 
 pub same_sort_is : (a b : Sort) → same_sort a b ≡ true → a ≡ b
@@ -94,7 +94,7 @@ declared_sound tasks p row alike sound is =
       len = is.len;
       declared = either_declared (are_right p.sort p.len) p.declared row.first is.declared right;
       as_many = is.as_many;
-      told = is.told;
+      given = is.given;
     }
 
 value_of_sort : (sort : Sort) (value : Value) → has_sort sort value ≡ true → is_value_of sort value ≡ true
@@ -104,15 +104,15 @@ value_of_sort sorts.Text (values.Text t) e = refl
 value_of_sort _ _ e = cc
 
 -- a value that the script gives
-pub told_sound : (tasks : ℕ) (p : PersInfo) (place : ℕ) (value : Value) → has_sort p.sort value ≡ true → IsSoundInfo tasks p → IsSoundInfo tasks (with_told p place value)
-told_sound tasks p place value suits is =
+pub given_sound : (tasks : ℕ) (p : PersInfo) (index : ℕ) (value : Value) → has_sort p.sort value ≡ true → IsSoundInfo tasks p → IsSoundInfo tasks (with_given p index value)
+given_sound tasks p index value suits is =
     record {
       owner = is.owner;
       valued = is.valued;
       len = is.len;
       declared = is.declared;
-      as_many = length-set p.told place (Some value) ∙ is.as_many;
-      told = all_but_one (holds_where_there (is_value_of p.sort)) p.told place (Some value) (value_of_sort p.sort value suits) is.told;
+      as_many = length-set p.given index (Some value) ∙ is.as_many;
+      given = all_but_one (holds_where_there (is_value_of p.sort)) p.given index (Some value) (value_of_sort p.sort value suits) is.given;
     }
 
 start_is_right : (sort : Sort) → has_values sort ≡ true → is_value_of sort (start_of sort) ≡ true
@@ -134,34 +134,34 @@ declared_are_right p None valued right =
     (eq-eqb _ _ (length-replicate (width p.len) (start_of p.sort)))
     (all_alike (is_value_of p.sort) (width p.len) (start_of p.sort) (start_is_right p.sort valued))
 
-pub over_as_many : (told : List (Option Value)) (vs : List Value) → length told ≡ length vs → length (over told vs) ≡ length vs
+pub over_as_many : (given : List (Option Value)) (vs : List Value) → length given ≡ length vs → length (over given vs) ≡ length vs
 over_as_many [] [] e = refl
 over_as_many [] (v ∷ vs) e = absurd (omega arith)
-over_as_many (t ∷ told) [] e = absurd (omega arith)
-over_as_many (Some t ∷ told) (v ∷ vs) e = ap suc (over_as_many told vs (omega arith))
-over_as_many (None ∷ told) (v ∷ vs) e = ap suc (over_as_many told vs (omega arith))
+over_as_many (t ∷ given) [] e = absurd (omega arith)
+over_as_many (Some t ∷ given) (v ∷ vs) e = ap suc (over_as_many given vs (omega arith))
+over_as_many (None ∷ given) (v ∷ vs) e = ap suc (over_as_many given vs (omega arith))
 
-over_right : (p : Value → Bool) (told : List (Option Value)) (vs : List Value) → list_all (holds_where_there p) told ≡ true → list_all p vs ≡ true → list_all p (over told vs) ≡ true
+over_right : (p : Value → Bool) (given : List (Option Value)) (vs : List Value) → list_all (holds_where_there p) given ≡ true → list_all p vs ≡ true → list_all p (over given vs) ≡ true
 over_right p [] vs e f = refl
-over_right p (Some t ∷ told) [] e f = refl
-over_right p (None ∷ told) [] e f = refl
-over_right p (Some t ∷ told) (v ∷ vs) e f =
-    let (here, more) = and_parts (p t) (list_all (holds_where_there p) told) e in
+over_right p (Some t ∷ given) [] e f = refl
+over_right p (None ∷ given) [] e f = refl
+over_right p (Some t ∷ given) (v ∷ vs) e f =
+    let (here, more) = and_parts (p t) (list_all (holds_where_there p) given) e in
     let (_, rest) = and_parts (p v) (list_all p vs) f in
-    and_from (p t) (list_all p (over told vs)) here (over_right p told vs more rest)
-over_right p (None ∷ told) (v ∷ vs) e f =
+    and_from (p t) (list_all p (over given vs)) here (over_right p given vs more rest)
+over_right p (None ∷ given) (v ∷ vs) e f =
     let (here, rest) = and_parts (p v) (list_all p vs) f in
-    and_from (p v) (list_all p (over told vs)) here (over_right p told vs e rest)
+    and_from (p v) (list_all p (over given vs)) here (over_right p given vs e rest)
 
 pub cell_sound : (tasks : ℕ) (p : PersInfo) → IsSoundInfo tasks p → is_pers_cell tasks (pers_cell p) ≡ true
 cell_sound tasks p is =
     let vs = declared_values p in
-    let first = over p.told vs in
+    let first = over p.given vs in
     let (many, right) = and_parts (length vs == width p.len) (list_all (is_value_of p.sort) vs) (declared_are_right p p.declared is.valued is.declared) in
-    let as_many : length p.told ≡ length vs = omega (arith, is.as_many, eqb-true (length vs) (width p.len) many) in
+    let as_many : length p.given ≡ length vs = omega (arith, is.as_many, eqb-true (length vs) (width p.len) many) in
     let owner = holds_where_there (λ task. nat_lt task tasks) p.owner in
     let len = holds_where_there (is_within 1 1_000) p.len in
     and_from (owner && len && length first == width p.len) (list_all (is_value_of p.sort) first)
     (and_from (owner && len) (length first == width p.len) (and_from owner len is.owner is.len)
-    (eq-eqb _ _ (over_as_many p.told vs as_many ∙ eqb-true (length vs) (width p.len) many)))
-    (over_right (is_value_of p.sort) p.told vs is.told right)
+    (eq-eqb _ _ (over_as_many p.given vs as_many ∙ eqb-true (length vs) (width p.len) many)))
+    (over_right (is_value_of p.sort) p.given vs is.given right)

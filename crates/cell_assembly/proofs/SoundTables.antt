@@ -17,11 +17,11 @@ use Rattle.named_data.specs.Wants.{same_sort}
 use Rattle.typed_trees.specs.Plain.{TypedPers, TypedTree}
 use Rattle.typed_trees.specs.Sound.{is_sound, has_sound_pers}
 use Rattle.rule_checks.specs.Checks.{◌>>=◌}
-use Rattle.cell_assembly.specs.Cells.{PersInfo, Numbered, PersTables, CellTables, MeetingTables, new_pers, added, joined, join, global_pers, one_pers, all_pers, with_list, trees_pers, global_number, same_len, has_sort, fits_index, element, is_told, with_declared, with_told, at_value, tell_to, tell_global, tell, tell_all, meet_all, meetings_with, trees_meetings, tables, cell_tables, Clash}
+use Rattle.cell_assembly.specs.Cells.{PersInfo, Numbered, PersTables, CellTables, MeetingTables, new_pers, added, joined, join, global_pers, one_pers, all_pers, with_list, trees_pers, global_number, same_len, has_sort, fits_index, element, is_given, with_declared, with_given, at_value, give_to, give_global, give, give_all, meet_all, meetings_with, trees_meetings, tables, cell_tables, Clash}
 use Rattle.cell_assembly.specs.Made.{pers_cell}
 use Rattle.rule_checks.proofs.Keeps.{Keeps-then, Keeps-must}
 use Rattle.cell_assembly.proofs.Holds.{either_holds}
-use Rattle.cell_assembly.proofs.SoundInfo.{IsSoundInfo, new_sound, declared_sound, told_sound, cell_sound}
+use Rattle.cell_assembly.proofs.SoundInfo.{IsSoundInfo, new_sound, declared_sound, given_sound, cell_sound}
 
 -- with so many tasks
 abbrev pub AreSound : ℕ → List PersInfo → Type 0
@@ -72,25 +72,25 @@ trees_sound tasks t task (tree ∷ trees) count lists sound all =
     (all_sound tasks (record { pers = t.pers; numbers = [] }) task tree.pers (omega arith) here all)
     (λ n is. trees_sound tasks (with_list t n) (task + 1) trees (omega arith) (omega (arith, length-append t.lists (n.numbers ∷ []))) more is)
 
-tell_to_sound : (tasks : ℕ) (ps : List PersInfo) (number : ℕ) (row : PersValue) (k : ℕ) (found : Option PersInfo) → AreSound tasks ps → slice_get ps k ≡ found → IfOk (tell_to ps number row k found) (AreSound tasks)
-tell_to_sound tasks ps number row k None all at = tt
-tell_to_sound tasks ps number row k (Some p) all at =
-    let place = element row.index in
+give_to_sound : (tasks : ℕ) (ps : List PersInfo) (number : ℕ) (row : PersValue) (k : ℕ) (found : Option PersInfo) → AreSound tasks ps → slice_get ps k ≡ found → IfOk (give_to ps number row k found) (AreSound tasks)
+give_to_sound tasks ps number row k None all at = tt
+give_to_sound tasks ps number row k (Some p) all at =
+    let index = element row.index in
     Keeps-must (AreSound tasks) (has_sort p.sort row.value && fits_index p.len row.index) (at_value number Kind) _ (λ suits.
-    Keeps-must (AreSound tasks) (nat_le (place + 1) (width p.len)) (at_value number Range) _ (λ there.
-    Keeps-must (AreSound tasks) (not (is_told (slice_get p.told place))) (at_value number Twice) _ (λ untold.
-    All-set (IsSoundInfo tasks) ps k (with_told p place row.value)
-    (told_sound tasks p place row.value (and_parts (has_sort p.sort row.value) (fits_index p.len row.index) suits).0 (one_there tasks ps k p at all)) all)))
+    Keeps-must (AreSound tasks) (nat_le (index + 1) (width p.len)) (at_value number Range) _ (λ there.
+    Keeps-must (AreSound tasks) (not (is_given (slice_get p.given index))) (at_value number Twice) _ (λ not_given.
+    All-set (IsSoundInfo tasks) ps k (with_given p index row.value)
+    (given_sound tasks p index row.value (and_parts (has_sort p.sort row.value) (fits_index p.len row.index) suits).0 (one_there tasks ps k p at all)) all)))
 
-tell_global_sound : (tasks : ℕ) (ps : List PersInfo) (number : ℕ) (row : PersValue) (k : Option ℕ) → AreSound tasks ps → IfOk (tell_global ps number row k) (AreSound tasks)
-tell_global_sound tasks ps number row None all = tt
-tell_global_sound tasks ps number row (Some k) all = tell_to_sound tasks ps number row k (slice_get ps k) all refl
+give_global_sound : (tasks : ℕ) (ps : List PersInfo) (number : ℕ) (row : PersValue) (k : Option ℕ) → AreSound tasks ps → IfOk (give_global ps number row k) (AreSound tasks)
+give_global_sound tasks ps number row None all = tt
+give_global_sound tasks ps number row (Some k) all = give_to_sound tasks ps number row k (slice_get ps k) all refl
 
-tell_all_sound : (tasks : ℕ) (ps : List PersInfo) (number : ℕ) (rows : List PersValue) → AreSound tasks ps → IfOk (tell_all ps number rows) (AreSound tasks)
-tell_all_sound tasks ps number [] all = all
-tell_all_sound tasks ps number (row ∷ rows) all =
-    Keeps-then (AreSound tasks) (AreSound tasks) (tell ps number row) (λ qs. tell_all qs (number + 1) rows) (tell_global_sound tasks ps number row (global_number row.name ps) all)
-    (λ qs is. tell_all_sound tasks qs (number + 1) rows is)
+give_all_sound : (tasks : ℕ) (ps : List PersInfo) (number : ℕ) (rows : List PersValue) → AreSound tasks ps → IfOk (give_all ps number rows) (AreSound tasks)
+give_all_sound tasks ps number [] all = all
+give_all_sound tasks ps number (row ∷ rows) all =
+    Keeps-then (AreSound tasks) (AreSound tasks) (give ps number row) (λ qs. give_all qs (number + 1) rows) (give_global_sound tasks ps number row (global_number row.name ps) all)
+    (λ qs is. give_all_sound tasks qs (number + 1) rows is)
 
 meetings_as_many : (t : MeetingTables) (trees : List TypedTree) → length (trees_meetings t trees).lists ≡ length t.lists + length trees
 meetings_as_many t [] = omega arith
@@ -112,9 +112,9 @@ are_right : (rows : List PersValue) (trees : List TypedTree) → list_all has_so
 are_right rows trees sound =
     let tasks = length trees in
     let met = trees_meetings (record { names = []; lists = [] }) trees in
-    Keeps-then (AreSoundPers tasks) (AreRight tasks) (trees_pers (record { pers = []; lists = [] }) 0 trees) (λ t. tell_all t.pers 0 rows >>= (λ ps. Ok (tables t ps met)))
+    Keeps-then (AreSoundPers tasks) (AreRight tasks) (trees_pers (record { pers = []; lists = [] }) 0 trees) (λ t. give_all t.pers 0 rows >>= (λ ps. Ok (tables t ps met)))
     (trees_sound tasks (record { pers = []; lists = [] }) 0 trees (omega arith) refl sound (All-nil (IsSoundInfo tasks)))
-    (λ t is. Keeps-then (AreSound tasks) (AreRight tasks) (tell_all t.pers 0 rows) (λ ps. Ok (tables t ps met)) (tell_all_sound tasks t.pers 0 rows is.pers)
+    (λ t is. Keeps-then (AreSound tasks) (AreRight tasks) (give_all t.pers 0 rows) (λ ps. Ok (tables t ps met)) (give_all_sound tasks t.pers 0 rows is.pers)
     (λ ps all. record { pers = cells_sound tasks ps all; pers_of = is.as_many; meeting_of = meetings_as_many (record { names = []; lists = [] }) trees ∙ omega arith }))
 
 pub tables_are_right : (tasks : ℕ) (rows : List PersValue) (trees : List TypedTree) (t : CellTables) → length trees ≡ tasks → list_all has_sound_pers trees ≡ true → cell_tables rows trees ≡ Ok t → AreRight tasks t

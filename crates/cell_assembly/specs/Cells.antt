@@ -33,7 +33,7 @@ pub record PersInfo : Type 0 where
   pub sort : Sort
   pub len : Option ℕ
   pub declared : Option (List Value)
-  pub told : List (Option Value)
+  pub given : List (Option Value)
 
 abbrev pub same_len : Option ℕ → Option ℕ → Bool
 same_len None None = true
@@ -55,7 +55,7 @@ new_pers owner row = record {
   sort = row.sort;
   len = row.len;
   declared = row.first;
-  told = replicate (width row.len) None;
+  given = replicate (width row.len) None;
 }
 
 -- the first declaration that gives values gives them
@@ -66,7 +66,7 @@ with_declared p row = record {
   sort = p.sort;
   len = p.len;
   declared = option_or p.declared row.first;
-  told = p.told;
+  given = p.given;
 }
 
 -- the persistents so far, and the numbers of those of the tree at hand
@@ -124,7 +124,7 @@ has_sort _ _ = false
 abbrev pub fits_index : Option ℕ → Option ℕ → Bool
 fits_index len index = if is_some len then is_some index else is_none index
 
--- the place among the elements, from 0, that an index from 1 names
+-- which element, from 0, an index from 1 names
 abbrev pub element : Option ℕ → ℕ
 element None = 0
 element (Some index) = index - 1
@@ -136,40 +136,40 @@ key_of number = element_of (codes "pers") number
 abbrev pub at_value : ℕ → ScriptRule → CellBreak
 at_value number rule = InScript (key_of number) rule
 
-abbrev pub is_told : Option (Option Value) → Bool
-is_told (Some (Some v)) = true
-is_told _ = false
+abbrev pub is_given : Option (Option Value) → Bool
+is_given (Some (Some v)) = true
+is_given _ = false
 
-abbrev pub with_told : PersInfo → ℕ → Value → PersInfo
-with_told p place value = record {
+abbrev pub with_given : PersInfo → ℕ → Value → PersInfo
+with_given p index value = record {
   name = p.name;
   owner = p.owner;
   sort = p.sort;
   len = p.len;
   declared = p.declared;
-  told = set p.told place (Some value);
+  given = set p.given index (Some value);
 }
 
 -- the value of this number in the script, for the persistent that it names
-abbrev pub tell_to : List PersInfo → ℕ → PersValue → ℕ → Option PersInfo → Making (List PersInfo)
-tell_to ps number row k None = Err (at_value number NoSuch)
-tell_to ps number row k (Some p) =
+abbrev pub give_to : List PersInfo → ℕ → PersValue → ℕ → Option PersInfo → Making (List PersInfo)
+give_to ps number row k None = Err (at_value number NoSuch)
+give_to ps number row k (Some p) =
     must (has_sort p.sort row.value && fits_index p.len row.index) (at_value number Kind)
     >> (must (nat_le (element row.index + 1) (width p.len)) (at_value number Range)
-    >> (must (not (is_told (slice_get p.told (element row.index)))) (at_value number Twice)
-    >> Ok (set ps k (with_told p (element row.index) row.value))))
+    >> (must (not (is_given (slice_get p.given (element row.index)))) (at_value number Twice)
+    >> Ok (set ps k (with_given p (element row.index) row.value))))
 
-abbrev pub tell_global : List PersInfo → ℕ → PersValue → Option ℕ → Making (List PersInfo)
-tell_global ps number row None = Err (at_value number NoSuch)
-tell_global ps number row (Some k) = tell_to ps number row k (slice_get ps k)
+abbrev pub give_global : List PersInfo → ℕ → PersValue → Option ℕ → Making (List PersInfo)
+give_global ps number row None = Err (at_value number NoSuch)
+give_global ps number row (Some k) = give_to ps number row k (slice_get ps k)
 
-abbrev pub tell : List PersInfo → ℕ → PersValue → Making (List PersInfo)
-tell ps number row = tell_global ps number row (global_number row.name ps)
+abbrev pub give : List PersInfo → ℕ → PersValue → Making (List PersInfo)
+give ps number row = give_global ps number row (global_number row.name ps)
 
 -- the values of the script, the first of which has this number
-abbrev pub tell_all : List PersInfo → ℕ → List PersValue → Making (List PersInfo)
-tell_all ps number [] = Ok ps
-tell_all ps number (row ∷ rows) = tell ps number row >>= (λ qs. tell_all qs (number + 1) rows)
+abbrev pub give_all : List PersInfo → ℕ → List PersValue → Making (List PersInfo)
+give_all ps number [] = Ok ps
+give_all ps number (row ∷ rows) = give ps number row >>= (λ qs. give_all qs (number + 1) rows)
 
 -- the number of the first meeting of this name
 abbrev pub meeting_number : List ℕ → List (List ℕ) → Option ℕ
@@ -215,5 +215,5 @@ tables t ps m = record { pers = ps; pers_of = t.lists; meetings = m.names; meeti
 abbrev pub cell_tables : List PersValue → List TypedTree → Making CellTables
 cell_tables rows trees =
     trees_pers (record { pers = []; lists = [] }) 0 trees >>= (λ t.
-    tell_all t.pers 0 rows >>= (λ ps.
+    give_all t.pers 0 rows >>= (λ ps.
     Ok (tables t ps (trees_meetings (record { names = []; lists = [] }) trees))))

@@ -30,12 +30,12 @@ declared_values p = or_start p.declared
 
 -- what the script gives the elements, over these values
 abbrev pub over : List (Option Value) → List Value → List Value
-over (Some told ∷ more) (v ∷ vs) = told ∷ over more vs
+over (Some given ∷ more) (v ∷ vs) = given ∷ over more vs
 over (None ∷ more) (v ∷ vs) = v ∷ over more vs
 over _ _ = []
 
 abbrev pub pers_cell : PersInfo → PersCell
-pers_cell p = record { name = p.name; owner = p.owner; sort = p.sort; len = p.len; first = over p.told (declared_values p) }
+pers_cell p = record { name = p.name; owner = p.owner; sort = p.sort; len = p.len; first = over p.given (declared_values p) }
 
 abbrev pub cell_of : ScriptData → CellTables → CellData
 cell_of script tables = record {

@@ -12,7 +12,7 @@ use Rattle.cell_assembly.specs.Cells.{CellBreak, Making, Clash, InScript}
 use Rattle.cell_assembly.specs.Made.{MadeCell}
 
 abbrev pub view_info : PersInfo → Cells.PersInfo
-view_info p = record { name = p.name; owner = p.owner; sort = p.sort; len = p.len; declared = option_map (λ v. v.items) p.declared; told = p.told.items }
+view_info p = record { name = p.name; owner = p.owner; sort = p.sort; len = p.len; declared = option_map (λ v. v.items) p.declared; given = p.given.items }
 
 abbrev pub view_tables : CellTables → Cells.CellTables
 view_tables t = record {

@@ -3,6 +3,7 @@
 
 mod cell;
 mod cell_fault;
+mod giving;
 mod make;
 mod meeting_names;
 mod meeting_tables;
@@ -18,7 +19,6 @@ mod pers_tables;
 mod persistents;
 mod rows;
 mod tables;
-mod telling;
 mod trees;
 
 pub use cell::make_cell;

@@ -4,11 +4,11 @@ ghost use Rattle.cell_assembly.specs.Cells;
 ghost use Rattle.cell_assembly.specs.Views.{Gives, view_tables};
 
 use crate::cell_fault::CellFault;
+use crate::giving::give_all;
 use crate::meeting_tables::MeetingTables;
 use crate::meetings::trees_meetings;
 use crate::pers_tables::PersTables;
 use crate::tables::CellTables;
-use crate::telling::tell_all;
 use crate::trees::trees_pers;
 use rapid_model::PersValue;
 use std::alloc::Global;
@@ -26,7 +26,7 @@ pub fn cell_tables(
         pers,
         lists: pers_of,
     } = trees_pers(alloc, trees)?;
-    let pers = tell_all(pers, values)?.into_infos();
+    let pers = give_all(pers, values)?.into_infos();
     let MeetingTables {
         names,
         lists: meeting_of,

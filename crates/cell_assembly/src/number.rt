@@ -6,11 +6,11 @@ ghost use Rattle.cell_assembly.specs.Views.{Gives};
 
 use crate::cell_fault::CellFault;
 
-/// A place as a number. A place that is none is want of memory.
-pub(crate) fn number_of(place: usize) -> Result<u32, CellFault>
-    ensures { Gives (λ number. number) result (Ok place) }
+/// An index as a number. One that is none is want of memory.
+pub(crate) fn number_of(index: usize) -> Result<u32, CellFault>
+    ensures { Gives (λ number. number) result (Ok index) }
 {
-    match u32::try_from(place) {
+    match u32::try_from(index) {
         Ok(number) => Ok(number),
         Err(_) => Err(CellFault::Memory),
     }

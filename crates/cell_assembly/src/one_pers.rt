@@ -49,14 +49,14 @@ fn copy_first(alloc: Global, first: &Option<Vec<Value>>) -> Result<Option<Vec<Va
 }
 
 /// So many elements to which the script gives nothing.
-fn nothing_told(alloc: Global, width: usize) -> Result<Vec<Option<Value>>, CellFault>
-    ensures { Gives (λ told. told.items) result (Ok (replicate width None)) }
+fn nothing_given(alloc: Global, width: usize) -> Result<Vec<Option<Value>>, CellFault>
+    ensures { Gives (λ given. given.items) result (Ok (replicate width None)) }
 {
-    let mut told = Vec::new(alloc);
+    let mut given = Vec::new(alloc);
     for _element in 0..width {
-        told.push(None)?;
+        given.push(None)?;
     }
-    Ok(told)
+    Ok(given)
 }
 
 /// The persistent of a declaration, of this task unless it is global. Its error is want of memory.
@@ -69,7 +69,7 @@ fn new_pers(alloc: Global, owner: Option<u32>, row: &PersRow) -> Result<PersInfo
         sort: row.sort,
         len: row.len,
         declared: copy_first(alloc, &row.first)?,
-        told: nothing_told(alloc, width(row.len))?,
+        given: nothing_given(alloc, width(row.len))?,
     })
 }
 
@@ -101,15 +101,15 @@ fn join(
 ) -> Result<Numbered, CellFault>
     ensures { let n = view_numbered before in Gives view_numbered result (Cells.join n task (view_pers row.now) number (slice_get n.pers number)) }
 {
-    let place = number as usize;
-    if place >= before.pers.len() {
+    let index = number as usize;
+    if index >= before.pers.len() {
         return added(before, new_pers(alloc, None, row)?);
     }
     let Numbered { pers, numbers } = before;
     let Persistents { infos, globals } = pers;
     let mut infos = infos;
     let mut numbers = numbers;
-    let info = &mut infos[place];
+    let info = &mut infos[index];
     if !is_alike(info, row) {
         return Err(CellFault::Clash {
             task,

@@ -44,22 +44,22 @@ fn declared_values(alloc: Global, info: &PersInfo) -> Result<Vec<Value>, CellFau
 }
 
 /// What the script gives an element, else this value.
-fn told_or(told: &Option<Value>, value: &Value) -> Value
-    ensures { result ≡ unwrap_or told.now value.now }
+fn given_or(given: &Option<Value>, value: &Value) -> Value
+    ensures { result ≡ unwrap_or given.now value.now }
 {
-    match told {
-        Some(told) => told.copy(),
+    match given {
+        Some(given) => given.copy(),
         None => value.copy(),
     }
 }
 
 /// What the script gives the elements, over these values.
-fn over(alloc: Global, told: &[Option<Value>], values: &[Value]) -> Result<Vec<Value>, CellFault>
-    ensures { Gives (λ first. first.items) result (Ok (Made.over told.now values.now)) }
+fn over(alloc: Global, given: &[Option<Value>], values: &[Value]) -> Result<Vec<Value>, CellFault>
+    ensures { Gives (λ first. first.items) result (Ok (Made.over given.now values.now)) }
 {
     let mut first = Vec::new(alloc);
-    for (told, value) in told.iter().zip(values) {
-        first.push(told_or(told, value))?;
+    for (given, value) in given.iter().zip(values) {
+        first.push(given_or(given, value))?;
     }
     Ok(first)
 }
@@ -69,7 +69,7 @@ fn pers_cell(alloc: Global, info: &PersInfo) -> Result<PersCell, CellFault>
     ensures { Gives (λ cell. cell) result (Ok (Made.pers_cell (view_info info.now))) }
 {
     let declared = declared_values(alloc, info)?;
-    let first = over(alloc, &info.told, &declared)?;
+    let first = over(alloc, &info.given, &declared)?;
     Ok(PersCell {
         name: info.name.copy(),
         owner: info.owner,

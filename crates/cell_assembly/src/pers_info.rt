@@ -9,5 +9,5 @@ pub struct PersInfo {
     pub sort: Sort,
     pub len: Option<u16>,
     pub declared: Option<Vec<Value>>,
-    pub told: Vec<Option<Value>>,
+    pub given: Vec<Option<Value>>,
 }

@@ -40,7 +40,7 @@ module _ (ds : List Declared) (alike : AreAlikeBefore (length ds) ds) where
   -- whichever declaration of a persistent a value finds, they are alike
   pub found_alike : (value : PersValue) (row other : TypedPers) → Finds ds value row → Finds ds value other → AreAlike row other
   found_alike value row other found also =
-      let alike_rows = alike_there found.place also.place found.d also.d found.there also.there (for_both value found.d also.d found.is_for also.is_for) in
+      let alike_rows = alike_there found.index also.index found.d also.d found.there also.there (for_both value found.d also.d found.is_for also.is_for) in
       record { sort = ap (λ (r : TypedPers). r.sort) found.is_row ∙ alike_rows.sort ∙ sym (ap (λ (r : TypedPers). r.sort) also.is_row); len = ap (λ (r : TypedPers). r.len) found.is_row ∙ alike_rows.len ∙ sym (ap (λ (r : TypedPers). r.len) also.is_row) }
 
 pub suits_alike : (value : PersValue) (row other : TypedPers) → AreAlike row other → Suits value row → Suits value other

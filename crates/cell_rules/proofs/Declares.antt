@@ -65,36 +65,36 @@ module _ (ds : List Declared) (ks : List ℕ) (ps : List PersInfo) (are : AreInf
   -- a persistent of another number than the last is as it was
   info_stays : (k m : ℕ) (p : PersInfo) → (m ≡ k → ⊥) → IsInfo ds ks k p → IsInfo (ds ++ d ∷ []) (ks ++ m ∷ []) k p
   info_stays k m p differ is =
-      let before : (place : ℕ) (e : Declared) → HasNumber (ds ++ d ∷ []) (ks ++ m ∷ []) k place e → HasNumber ds ks k place e =
-      λ place e has. elim (earlier_number AreOne ds ks (length ps) are.numbered d k m place e has) [ inl early ↦ early | inr last ↦ absurd (differ last.2) ] in
+      let before : (index : ℕ) (e : Declared) → HasNumber (ds ++ d ∷ []) (ks ++ m ∷ []) k index e → HasNumber ds ks k index e =
+      λ index e has. elim (earlier_number AreOne ds ks (length ps) are.numbered d k m index e has) [ inl early ↦ early | inr last ↦ absurd (differ last.2) ] in
       record {
         d = is.d;
         is_first = first_stays AreOne ds ks (length ps) are.numbered d k m is.d is.is_first;
         name = is.name;
         owner = is.owner;
-        sort = λ place e has. is.sort place e (before place e has);
-        len = λ place e has. is.len place e (before place e has);
+        sort = λ index e has. is.sort index e (before index e has);
+        len = λ index e has. is.len index e (before index e has);
         declared = declared_stays p.declared before is.declared;
       }
     where
-      declared_stays : (declared : Option (List Value)) → ((place : ℕ) (e : Declared) → HasNumber (ds ++ d ∷ []) (ks ++ m ∷ []) k place e → HasNumber ds ks k place e) → AreDeclared ds ks k declared
+      declared_stays : (declared : Option (List Value)) → ((index : ℕ) (e : Declared) → HasNumber (ds ++ d ∷ []) (ks ++ m ∷ []) k index e → HasNumber ds ks k index e) → AreDeclared ds ks k declared
           → AreDeclared (ds ++ d ∷ []) (ks ++ m ∷ []) k declared
-      declared_stays None before none = λ place e has. none place e (before place e has)
+      declared_stays None before none = λ index e has. none index e (before index e has)
       declared_stays (Some first) before given = record {
-        place = given.place;
+        index = given.index;
         d = given.d;
-        has_number = record { there = in_front ds (d ∷ []) given.place given.d given.has_number.there; numbered = in_front ks (m ∷ []) given.place k given.has_number.numbered };
+        has_number = record { there = in_front ds (d ∷ []) given.index given.d given.has_number.there; numbered = in_front ks (m ∷ []) given.index k given.has_number.numbered };
         gives = given.gives;
         none_before = λ other e early has. given.none_before other e early (before other e has);
       }
 
   -- what the last declaration gives, where no earlier one of its number gives anything
-  module _ (k place : ℕ) (is_last : place ≡ length ds) (has_number : HasNumber (ds ++ d ∷ []) (ks ++ k ∷ []) k place d) (none_earlier : (other : ℕ) (e : Declared) → HasNumber ds ks k other e → e.row.first ≡ None) where
+  module _ (k index : ℕ) (is_last : index ≡ length ds) (has_number : HasNumber (ds ++ d ∷ []) (ks ++ k ∷ []) k index d) (none_earlier : (other : ℕ) (e : Declared) → HasNumber ds ks k other e → e.row.first ≡ None) where
     last_gives : (first : Option (List Value)) → d.row.first ≡ first → AreDeclared (ds ++ d ∷ []) (ks ++ k ∷ []) k first
     last_gives None gives = λ other e has.
         elim (earlier_number AreOne ds ks (length ps) are.numbered d k k other e has) [ inl early ↦ none_earlier other e early | inr last ↦ ap (λ (x : Declared). x.row.first) (sym last.1) ∙ gives ]
     last_gives (Some first) gives = record {
-      place = place;
+      index = index;
       d = d;
       has_number = has_number;
       gives = gives;
@@ -109,9 +109,9 @@ module _ (ds : List Declared) (ks : List ℕ) (ps : List PersInfo) (are : AreInf
   module _ (apart : (i : ℕ) (e : Declared) → slice_get ds i ≡ Some e → AreOne e d → ⊥) (owner : Option ℕ) (is_owner : owner ≡ owner_of d) where
     new_info : IsInfo (ds ++ d ∷ []) (ks ++ length ps ∷ []) (length ps) (new_pers owner d.row)
     new_info =
-        let alone : (place : ℕ) (e : Declared) → HasNumber (ds ++ d ∷ []) (ks ++ length ps ∷ []) (length ps) place e → d ≡ e =
-        λ place e has. elim (earlier_number AreOne ds ks (length ps) are.numbered d (length ps) (length ps) place e has) [
-          | inl early ↦ absurd (omega (arith, are.numbered.below place (length ps) early.numbered))
+        let alone : (index : ℕ) (e : Declared) → HasNumber (ds ++ d ∷ []) (ks ++ length ps ∷ []) (length ps) index e → d ≡ e =
+        λ index e has. elim (earlier_number AreOne ds ks (length ps) are.numbered d (length ps) (length ps) index e has) [
+          | inl early ↦ absurd (omega (arith, are.numbered.below index (length ps) early.numbered))
           | inr last ↦ last.1
         ] in
         record {
@@ -119,8 +119,8 @@ module _ (ds : List Declared) (ks : List ℕ) (ps : List PersInfo) (are : AreInf
           is_first = first_new AreOne ds ks (length ps) are.numbered d;
           name = refl;
           owner = is_owner;
-          sort = λ place e has. ap (λ (x : Declared). x.row.sort) (alone place e has);
-          len = λ place e has. ap (λ (x : Declared). x.row.len) (alone place e has);
+          sort = λ index e has. ap (λ (x : Declared). x.row.sort) (alone index e has);
+          len = λ index e has. ap (λ (x : Declared). x.row.len) (alone index e has);
           declared = last_gives (length ps) (length ds) refl (last_has (length ps)) (λ other e has. absurd (omega (arith, are.numbered.below other (length ps) has.numbered))) d.row.first refl;
         }
 
@@ -131,9 +131,9 @@ module _ (ds : List Declared) (ks : List ℕ) (ps : List PersInfo) (are : AreInf
         | inl early ↦ info_stays k (length ps) p (λ e. omega (arith, e, slice_get_within ps k p early)) (are.infos k p early)
         | inr last ↦ subst (λ j. IsInfo (ds ++ d ∷ []) (ks ++ length ps ∷ []) j p) (sym last.0) (subst (IsInfo (ds ++ d ∷ []) (ks ++ length ps ∷ []) (length ps)) last.1 new_info)
       ];
-      untold = λ k p at. elim (earlier_or_last ps (new_pers owner d.row) k p at) [
-        | inl early ↦ are.untold k p early
-        | inr last ↦ subst (λ (q : PersInfo). q.told ≡ replicate (width q.len) None) last.1 refl
+      not_given = λ k p at. elim (earlier_or_last ps (new_pers owner d.row) k p at) [
+        | inl early ↦ are.not_given k p early
+        | inr last ↦ subst (λ (q : PersInfo). q.given ≡ replicate (width q.len) None) last.1 refl
       ];
     }
 
@@ -151,21 +151,21 @@ module _ (ds : List Declared) (ks : List ℕ) (ps : List PersInfo) (are : AreInf
             is_first = first_stays AreOne ds ks (length ps) are.numbered d k k is.d is.is_first;
             name = is.name;
             owner = is.owner;
-            sort = λ place e has. elim (earlier_number AreOne ds ks (length ps) are.numbered d k k place e has) [ inl early ↦ is.sort place e early | inr last ↦ sort ∙ ap (λ (x : Declared). x.row.sort) last.1 ];
-            len = λ place e has. elim (earlier_number AreOne ds ks (length ps) are.numbered d k k place e has) [ inl early ↦ is.len place e early | inr last ↦ len ∙ ap (λ (x : Declared). x.row.len) last.1 ];
+            sort = λ index e has. elim (earlier_number AreOne ds ks (length ps) are.numbered d k k index e has) [ inl early ↦ is.sort index e early | inr last ↦ sort ∙ ap (λ (x : Declared). x.row.sort) last.1 ];
+            len = λ index e has. elim (earlier_number AreOne ds ks (length ps) are.numbered d k k index e has) [ inl early ↦ is.len index e early | inr last ↦ len ∙ ap (λ (x : Declared). x.row.len) last.1 ];
             declared = with_last p.declared is.declared;
           }
         where
           with_last : (declared : Option (List Value)) → AreDeclared ds ks k declared → AreDeclared (ds ++ d ∷ []) (ks ++ k ∷ []) k (option_or declared d.row.first)
           with_last None none = last_gives k (length ds) refl (last_has k) none d.row.first refl
           with_last (Some first) given = record {
-            place = given.place;
+            index = given.index;
             d = given.d;
-            has_number = record { there = in_front ds (d ∷ []) given.place given.d given.has_number.there; numbered = in_front ks (k ∷ []) given.place k given.has_number.numbered };
+            has_number = record { there = in_front ds (d ∷ []) given.index given.d given.has_number.there; numbered = in_front ks (k ∷ []) given.index k given.has_number.numbered };
             gives = given.gives;
             none_before = λ other e early has. elim (earlier_number AreOne ds ks (length ps) are.numbered d k k other e has) [
               | inl front ↦ given.none_before other e early front
-              | inr last ↦ absurd (omega (arith, early, last.0, slice_get_within ds given.place given.d given.has_number.there))
+              | inr last ↦ absurd (omega (arith, early, last.0, slice_get_within ds given.index given.d given.has_number.there))
             ];
           }
 
@@ -175,14 +175,14 @@ module _ (ds : List Declared) (ks : List ℕ) (ps : List PersInfo) (are : AreInf
           let same : length ps ≡ length (set ps k (with_declared p d.row)) = sym (length-set ps k (with_declared p d.row)) in
           record {
             numbered = subst (AreNumbered AreOne (ds ++ d ∷ []) (ks ++ k ∷ [])) same
-                (joined_numbered AreOne ds ks (length ps) are.numbered d one_symmetric one_transitive first.place k (are.infos k p at).d first.has_number first_one);
+                (joined_numbered AreOne ds ks (length ps) are.numbered d one_symmetric one_transitive first.index k (are.infos k p at).d first.has_number first_one);
             infos = λ j q there. elim (put_there ps k (with_declared p d.row) j q there) [
               | inl here ↦ subst (λ i. IsInfo (ds ++ d ∷ []) (ks ++ k ∷ []) i q) (sym here.0) (subst (IsInfo (ds ++ d ∷ []) (ks ++ k ∷ []) k) here.1 joined_info)
               | inr elsewhere ↦ info_stays j k q (λ e. elsewhere.0 (sym e)) (are.infos j q elsewhere.1)
             ];
-            untold = λ j q there. elim (put_there ps k (with_declared p d.row) j q there) [
-              | inl here ↦ subst (λ (r : PersInfo). r.told ≡ replicate (width r.len) None) here.1 (are.untold k p at)
-              | inr elsewhere ↦ are.untold j q elsewhere.1
+            not_given = λ j q there. elim (put_there ps k (with_declared p d.row) j q there) [
+              | inl here ↦ subst (λ (r : PersInfo). r.given ≡ replicate (width r.len) None) here.1 (are.not_given k p at)
+              | inr elsewhere ↦ are.not_given j q elsewhere.1
             ];
           }
 
@@ -217,19 +217,19 @@ module _ (given : List PersValue) (whole ds rest : List Declared) (front : List 
   is_clash k p at own global tested =
       let is = are.infos k p at in
       let first = is.is_first in
-      let few = slice_get_within ds first.place is.d first.has_number.there in
+      let few = slice_get_within ds first.index is.d first.has_number.there in
       subst (λ w. IsClash w task row.«module» row.at) (sym is_whole)
       (record {
-        place = length ds;
+        index = length ds;
         d = of_task task row;
         there = at_end ds (of_task task row) rest;
-        before = first.place;
+        before = first.index;
         e = is.d;
         earlier = few;
-        stands = in_front ds (of_task task row ∷ rest) first.place is.d first.has_number.there;
+        stands = in_front ds (of_task task row ∷ rest) first.index is.d first.has_number.there;
         one = first_one ds (front ++ n.numbers) n.pers are (of_task task row) k p at own global;
         differ = λ alike. both_ways (same_sort p.sort row.sort && same_len p.len row.len) tested
-            (are_tested p row (is.sort first.place is.d first.has_number ∙ alike.sort) (is.len first.place is.d first.has_number ∙ alike.len));
+            (are_tested p row (is.sort first.index is.d first.has_number ∙ alike.sort) (is.len first.index is.d first.has_number ∙ alike.len));
         alike_before = alike_in_front ds (of_task task row ∷ rest) (alike_so_far ds (front ++ n.numbers) n.pers are);
         is_task = refl;
         is_module = refl;

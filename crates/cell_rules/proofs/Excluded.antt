@@ -55,21 +55,21 @@ module _ (ds : List Declared) (given : List PersValue) where
     same_rule _ other a b = absurd a
 
   -- where declarations are alike so far, none of them clashes
-  no_clash : (task «module» at place : ℕ) → AreAlikeBefore place ds → (clash : IsClash ds task «module» at) → clash.place < place → ⊥
-  no_clash task «module» at place alike clash earlier = clash.differ (alike clash.before clash.place clash.e clash.d clash.earlier earlier clash.stands clash.there clash.one)
+  no_clash : (task «module» at index : ℕ) → AreAlikeBefore index ds → (clash : IsClash ds task «module» at) → clash.index < index → ⊥
+  no_clash task «module» at index alike clash earlier = clash.differ (alike clash.before clash.index clash.e clash.d clash.earlier earlier clash.stands clash.there clash.one)
 
   same_clash : (task «module» at task' module' at' : ℕ) → IsClash ds task «module» at → IsClash ds task' module' at' → ◌≡◌ {A = CellBreak} (Clash task «module» at) (Clash task' module' at')
   same_clash task «module» at task' module' at' a b =
-      elim (cases_order a.place b.place) [
+      elim (cases_order a.index b.index) [
         | inl equal ↦
-            let same : a.d ≡ b.d = same_there (slice_get ds a.place) a.d b.d a.there (ap (slice_get ds) equal ∙ b.there) in
+            let same : a.d ≡ b.d = same_there (slice_get ds a.index) a.d b.d a.there (ap (slice_get ds) equal ∙ b.there) in
             let tasks : task ≡ task' = a.is_task ∙ ap (λ (x : Declared). x.task) same ∙ sym b.is_task in
             let modules : «module» ≡ module' = a.is_module ∙ ap (λ (x : Declared). x.row.«module») same ∙ sym b.is_module in
             let bytes : at ≡ at' = a.is_at ∙ ap (λ (x : Declared). x.row.at) same ∙ sym b.is_at in
             λ i. Clash (tasks i) (modules i) (bytes i)
         | inr differ ↦ elim differ [
-          | inl before ↦ absurd (no_clash task «module» at b.place b.alike_before a before)
-          | inr behind ↦ absurd (no_clash task' module' at' a.place a.alike_before b behind)
+          | inl before ↦ absurd (no_clash task «module» at b.index b.alike_before a before)
+          | inr behind ↦ absurd (no_clash task' module' at' a.index a.alike_before b behind)
         ]
       ]
 
@@ -91,11 +91,11 @@ module _ (ds : List Declared) (given : List PersValue) where
   -- there is one refusal
   pub same_refusal : (a b : CellBreak) → IsRefusal ds given a → IsRefusal ds given b → a ≡ b
   same_refusal (Clash task «module» at) (Clash task' module' at') is other = same_clash task «module» at task' module' at' is other
-  same_refusal (Clash task «module» at) (InScript key rule) is other = absurd (no_clash task «module» at (length ds) other.alike is (slice_get_within ds is.place is.d is.there))
-  same_refusal (InScript key rule) (Clash task «module» at) is other = absurd (no_clash task «module» at (length ds) is.alike other (slice_get_within ds other.place other.d other.there))
+  same_refusal (Clash task «module» at) (InScript key rule) is other = absurd (no_clash task «module» at (length ds) other.alike is (slice_get_within ds is.index is.d is.there))
+  same_refusal (InScript key rule) (Clash task «module» at) is other = absurd (no_clash task «module» at (length ds) is.alike other (slice_get_within ds other.index other.d other.there))
   same_refusal (InScript key rule) (InScript key' rule') is other = same_broken key key' rule rule' is other
 
   -- and none where declarations are alike and the script's values keep the rules
   pub not_refused : AreAlikeBefore (length ds) ds → ((number : ℕ) (value : PersValue) → slice_get given number ≡ Some value → IsRight ds given number value) → (broken : CellBreak) → IsRefusal ds given broken → ⊥
-  not_refused alike right (Clash task «module» at) is = no_clash task «module» at (length ds) alike is (slice_get_within ds is.place is.d is.there)
+  not_refused alike right (Clash task «module» at) is = no_clash task «module» at (length ds) alike is (slice_get_within ds is.index is.d is.there)
   not_refused alike right (InScript key rule) is = right_breaks_none alike is.number is.value rule (right is.number is.value is.there) is.breaks

@@ -31,15 +31,15 @@ pub record IsInfo (ds : List Declared) (ks : List ℕ) (k : ℕ) (p : PersInfo) 
   pub is_first : IsFirst ds ks k d
   pub name : p.name ≡ d.row.name
   pub owner : p.owner ≡ owner_of d
-  pub sort : (place : ℕ) (e : Declared) → HasNumber ds ks k place e → p.sort ≡ e.row.sort
-  pub len : (place : ℕ) (e : Declared) → HasNumber ds ks k place e → p.len ≡ e.row.len
+  pub sort : (index : ℕ) (e : Declared) → HasNumber ds ks k index e → p.sort ≡ e.row.sort
+  pub len : (index : ℕ) (e : Declared) → HasNumber ds ks k index e → p.len ≡ e.row.len
   pub declared : AreDeclared ds ks k p.declared
 
 -- so are all, and the script has said nothing of them yet
 pub record AreInfos (ds : List Declared) (ks : List ℕ) (ps : List PersInfo) : Type 0 where
   pub numbered : AreNumbered AreOne ds ks (length ps)
   pub infos : (k : ℕ) (p : PersInfo) → slice_get ps k ≡ Some p → IsInfo ds ks k p
-  pub untold : (k : ℕ) (p : PersInfo) → slice_get ps k ≡ Some p → p.told ≡ replicate (width p.len) None
+  pub not_given : (k : ℕ) (p : PersInfo) → slice_get ps k ≡ Some p → p.given ≡ replicate (width p.len) None
 
 -- a global persistent of a name
 pub global_is : (name : List ℕ) (p : PersInfo) → is_global name p ≡ true → (p.owner ≡ None) × IsOneName name p.name
@@ -64,19 +64,19 @@ global_owner d own = ap (λ o. let owner : Option ℕ = if o then Some d.task el
 
 module _ (ds : List Declared) (ks : List ℕ) (count : ℕ) (numbered : AreNumbered AreOne ds ks count) where
   -- the persistent of a global declaration is global, and of its name
-  pub info_global : (k place : ℕ) (p : PersInfo) (e : Declared) → IsInfo ds ks k p → HasNumber ds ks k place e → e.row.own ≡ false → (name : List ℕ) → IsOneName name e.row.name → is_global name p ≡ true
-  info_global k place p e is has own name named =
+  pub info_global : (k index : ℕ) (p : PersInfo) (e : Declared) → IsInfo ds ks k p → HasNumber ds ks k index e → e.row.own ≡ false → (name : List ℕ) → IsOneName name e.row.name → is_global name p ≡ true
+  info_global k index p e is has own name named =
       let first = is.is_first in
-      let d_named = one_named ds ks count numbered k first.place place is.d e first.has_number has in
-      is_global_from name p (is.owner ∙ global_owner is.d (global_too first.place is.d first.has_number)) (named ∙ sym d_named ∙ ap str_to_ascii_lowercase (sym is.name))
+      let d_named = one_named ds ks count numbered k first.index index is.d e first.has_number has in
+      is_global_from name p (is.owner ∙ global_owner is.d (global_too first.index is.d first.has_number)) (named ∙ sym d_named ∙ ap str_to_ascii_lowercase (sym is.name))
     where
       global_too : (other : ℕ) (d : Declared) → HasNumber ds ks k other d → d.row.own ≡ false
       global_too other d also =
-          elim (cases_order other place) [
+          elim (cases_order other index) [
             | inl equal ↦ ap (λ (x : Declared). x.row.own) (same_there (slice_get ds other) d e also.there (ap (slice_get ds) equal ∙ has.there)) ∙ own
             | inr differ ↦ elim differ [
-              | inl before ↦ ((numbered.one other place d e k k before also.there has.there also.numbered has.numbered).0 refl).global
-              | inr behind ↦ ((numbered.one place other e d k k behind has.there also.there has.numbered also.numbered).0 refl).other_global
+              | inl before ↦ ((numbered.one other index d e k k before also.there has.there also.numbered has.numbered).0 refl).global
+              | inr behind ↦ ((numbered.one index other e d k k behind has.there also.there has.numbered also.numbered).0 refl).other_global
             ]
           ]
 

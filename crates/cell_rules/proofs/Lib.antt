@@ -5,7 +5,7 @@ pub mod Outcomes
 pub mod Infos
 pub mod Declares
 pub mod Trees
-pub mod Tells
+pub mod Giving
 pub mod Values
 pub mod Rows
 pub mod Once

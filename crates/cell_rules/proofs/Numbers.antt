@@ -59,8 +59,8 @@ module _ {A : Type 0} (AreOne : A → A → Type 0) where
   -- there is one first declaration of a number
   pub same_first : (ds : List A) (ks : List ℕ) (k : ℕ) (d e : A) → IsFirst ds ks k d → IsFirst ds ks k e → d ≡ e
   same_first ds ks k d e is other =
-      let equal : is.place ≡ other.place = omega (arith, is.first other.place other.has_number.numbered, other.first is.place is.has_number.numbered) in
-      same_there (slice_get ds is.place) d e is.has_number.there (ap (slice_get ds) equal ∙ other.has_number.there)
+      let equal : is.index ≡ other.index = omega (arith, is.first other.index other.has_number.numbered, other.first is.index is.has_number.numbered) in
+      same_there (slice_get ds is.index) d e is.has_number.there (ap (slice_get ds) equal ∙ other.has_number.there)
 
   -- no declarations
   pub none_numbered : AreNumbered AreOne [] [] 0
@@ -126,20 +126,20 @@ module _ {A : Type 0} (AreOne : A → A → Type 0) where
       new_numbered = record { as_many = as_many_more n; one = new_one; below = new_below; each = new_each; in_order = new_in_order }
 
     -- a declaration that is one with an earlier one has its number
-    module _ (symmetric : (e f : A) → AreOne e f → AreOne f e) (transitive : (e f g : A) → AreOne e f → AreOne f g → AreOne e g) (place k : ℕ) (of : A) (has_number : HasNumber ds ks k place of) (with : AreOne of d) where
+    module _ (symmetric : (e f : A) → AreOne e f → AreOne f e) (transitive : (e f g : A) → AreOne e f → AreOne f g → AreOne e g) (index k : ℕ) (of : A) (has_number : HasNumber ds ks k index of) (with : AreOne of d) where
       -- the declarations of the number are those that are one with it
       joined_last : (i : ℕ) (e : A) (l : ℕ) → slice_get ds i ≡ Some e → slice_get ks i ≡ Some l → (l ≡ k) ↔ AreOne e d
       joined_last i e l is_e at =
-          elim (cases_order i place) [
+          elim (cases_order i index) [
             | inl equal ↦
                 let same : e ≡ of = same_there (slice_get ds i) e of is_e (ap (slice_get ds) equal ∙ has_number.there) in
                 (λ number. subst (λ x. AreOne x d) (sym same) with, λ are_one. same_there (slice_get ks i) l k at (ap (slice_get ks) equal ∙ has_number.numbered))
             | inr differ ↦ elim differ [
               | inl before ↦
-                  let both = is.one i place e of l k before is_e has_number.there at has_number.numbered in
+                  let both = is.one i index e of l k before is_e has_number.there at has_number.numbered in
                   (λ number. transitive e of d (both.0 number) with, λ are_one. both.1 (transitive e d of are_one (symmetric of d with)))
               | inr behind ↦
-                  let both = is.one place i of e k l behind has_number.there is_e has_number.numbered at in
+                  let both = is.one index i of e k l behind has_number.there is_e has_number.numbered at in
                   (λ number. transitive e of d (symmetric of e (both.0 (sym number))) with, λ are_one. sym (both.1 (transitive of d e with (symmetric e d are_one))))
             ]
           ]
@@ -167,15 +167,15 @@ module _ {A : Type 0} (AreOne : A → A → Type 0) where
           ]
 
       joined_below : (i l : ℕ) → slice_get (ks ++ k ∷ []) i ≡ Some l → l < n
-      joined_below i l at = elim (earlier_or_last ks k i l at) [ inl front ↦ is.below i l front | inr last ↦ subst (λ m. m < n) last.1 (is.below place k has_number.numbered) ]
+      joined_below i l at = elim (earlier_or_last ks k i l at) [ inl front ↦ is.below i l front | inr last ↦ subst (λ m. m < n) last.1 (is.below index k has_number.numbered) ]
 
       joined_in_order : (j l m : ℕ) → slice_get (ks ++ k ∷ []) j ≡ Some m → l < m → (i : ℕ) × (i < j) × (slice_get (ks ++ k ∷ []) i ≡ Some l)
       joined_in_order j l m at less =
           elim (earlier_or_last ks k j m at) [
             | inl front ↦ let (i, earlier, there) = is.in_order j l m front less in (i, earlier, earlier_one k i l there)
             | inr last ↦
-                let (i, earlier, there) = is.in_order place l k has_number.numbered (omega (arith, last.1, less)) in
-                (i, omega (arith, last.0, earlier, slice_get_within ks place k has_number.numbered), earlier_one k i l there)
+                let (i, earlier, there) = is.in_order index l k has_number.numbered (omega (arith, last.1, less)) in
+                (i, omega (arith, last.0, earlier, slice_get_within ks index k has_number.numbered), earlier_one k i l there)
           ]
 
       pub joined_numbered : AreNumbered AreOne (ds ++ d ∷ []) (ks ++ k ∷ []) n
@@ -190,18 +190,18 @@ module _ {A : Type 0} (AreOne : A → A → Type 0) where
     -- the first declaration of a number stays the first
     pub first_stays : (k m : ℕ) (e : A) → IsFirst ds ks k e → IsFirst (ds ++ d ∷ []) (ks ++ m ∷ []) k e
     first_stays k m e first = record {
-      place = first.place;
-      has_number = record { there = in_front ds (d ∷ []) first.place e first.has_number.there; numbered = earlier_one m first.place k first.has_number.numbered };
+      index = first.index;
+      has_number = record { there = in_front ds (d ∷ []) first.index e first.has_number.there; numbered = earlier_one m first.index k first.has_number.numbered };
       first = λ other at. elim (earlier_or_last ks m other k at) [
         | inl front ↦ first.first other front
-        | inr last ↦ omega (arith, last.0, slice_get_within ks first.place k first.has_number.numbered)
+        | inr last ↦ omega (arith, last.0, slice_get_within ks first.index k first.has_number.numbered)
       ];
     }
 
     -- the one with a new number is its first
     pub first_new : IsFirst (ds ++ d ∷ []) (ks ++ n ∷ []) n d
     first_new = record {
-      place = length ds;
+      index = length ds;
       has_number = record { there = at_end ds d []; numbered = ap (slice_get (ks ++ n ∷ [])) (sym is.as_many) ∙ at_end ks n [] };
       first = λ other at. elim (earlier_or_last ks n other n at) [
         | inl front ↦ absurd (omega (arith, is.below other n front))
@@ -210,15 +210,15 @@ module _ {A : Type 0} (AreOne : A → A → Type 0) where
     }
 
     -- a declaration of a number is an earlier one, or the last
-    pub earlier_number : (k m place : ℕ) (e : A) → HasNumber (ds ++ d ∷ []) (ks ++ m ∷ []) k place e → HasNumber ds ks k place e ⊎ ((place ≡ length ds) × (d ≡ e) × (m ≡ k))
-    earlier_number k m place e has =
-        elim (earlier_or_last ds d place e has.there) [
-          | inl front ↦ elim (earlier_or_last ks m place k has.numbered) [
+    pub earlier_number : (k m index : ℕ) (e : A) → HasNumber (ds ++ d ∷ []) (ks ++ m ∷ []) k index e → HasNumber ds ks k index e ⊎ ((index ≡ length ds) × (d ≡ e) × (m ≡ k))
+    earlier_number k m index e has =
+        elim (earlier_or_last ds d index e has.there) [
+          | inl front ↦ elim (earlier_or_last ks m index k has.numbered) [
             | inl at ↦ inl (record { there = front; numbered = at })
-            | inr last ↦ absurd (omega (arith, last.0, slice_get_within ds place e front, is.as_many))
+            | inr last ↦ absurd (omega (arith, last.0, slice_get_within ds index e front, is.as_many))
           ]
-          | inr last ↦ elim (earlier_or_last ks m place k has.numbered) [
-            | inl at ↦ absurd (omega (arith, last.0, slice_get_within ks place k at, is.as_many))
+          | inr last ↦ elim (earlier_or_last ks m index k has.numbered) [
+            | inl at ↦ absurd (omega (arith, last.0, slice_get_within ks index k at, is.as_many))
             | inr at ↦ inr (last.0, last.1, at.1)
           ]
         ]

@@ -9,7 +9,7 @@ use Rattle.rapid_model.specs.Names.{IsOneName}
 use Rattle.rapid_model.proofs.Lists.{made_there}
 use Rattle.typed_trees.specs.Plain.{TypedTree}
 use Rattle.typed_trees.specs.Sound.{has_sound_pers}
-use Rattle.cell_assembly.specs.Cells.{CellBreak, Making, CellTables, PersInfo, PersTables, cell_tables, tables, tell_all, trees_meetings, trees_pers}
+use Rattle.cell_assembly.specs.Cells.{CellBreak, Making, CellTables, PersInfo, PersTables, cell_tables, tables, give_all, trees_meetings, trees_pers}
 use Rattle.cell_assembly.specs.Made.{MadeCell, cell_of, make_cell, numbered, pers_cell}
 use Rattle.cell_rules.specs.Cell.{IsCellOf, pers_numbers}
 use Rattle.cell_rules.specs.Declared.{AreOne, declared_by, meetings_of}
@@ -23,40 +23,40 @@ use Rattle.cell_rules.proofs.Lists.{all_alike}
 use Rattle.cell_rules.proofs.Numbers.{none_numbered}
 use Rattle.cell_rules.proofs.Once.{cell_alike, same_made}
 use Rattle.cell_rules.proofs.Outcomes.{Outcome, followed}
-use Rattle.cell_rules.proofs.Tells.{AreTold, all_told}
+use Rattle.cell_rules.proofs.Giving.{AreGiven, all_given}
 use Rattle.cell_rules.proofs.Trees.{AreTables, meetings_right, no_meetings, numbered_right, trees_right}
 use Rattle.cell_rules.proofs.Values.{persistent_right, sound_there}
 
 no_infos : AreInfos [] [] []
-no_infos = record { numbered = none_numbered AreOne; infos = λ k p at. absurd (cc at); untold = λ k p at. absurd (cc at) }
+no_infos = record { numbered = none_numbered AreOne; infos = λ k p at. absurd (cc at); not_given = λ k p at. absurd (cc at) }
 
 module _ (script : ScriptData) (trees : List TypedTree) (indexed : list_all is_pers_value script.pers ≡ true) (sound : list_all has_sound_pers trees ≡ true) where
   -- tables of the cell
   TablesRight : CellTables → Type 0
   TablesRight t = IsCellOf script trees (cell_of script t) (numbered trees t.pers_of t.meeting_of)
 
-  -- the tables of the declarations, and then of what the script tells
+  -- the tables of the declarations, and then of what the script gives
   module _ (t : PersTables) (are : AreTables script.pers (declared_by trees) (declared_by trees) (map (λ tree. length tree.pers) trees) t) where
-    untold_yet : AreTold (declared_by trees) (concat t.lists) (length t.pers) are.infos.numbered (alike_so_far (declared_by trees) (concat t.lists) t.pers are.infos) script.pers [] t.pers
-    untold_yet = record {
+    none_given_yet : AreGiven (declared_by trees) (concat t.lists) (length t.pers) are.infos.numbered (alike_so_far (declared_by trees) (concat t.lists) t.pers are.infos) script.pers [] t.pers
+    none_given_yet = record {
       as_many = refl;
       infos = are.infos.infos;
-      each = λ k p at. ap length (are.infos.untold k p at) ∙ length-replicate (width p.len) None;
-      told = λ k p at place v there.
-          let none = all_alike (width p.len) None place (Some v) (ap (λ os. slice_get os place) (sym (are.infos.untold k p at)) ∙ there) in
+      each = λ k p at. ap length (are.infos.not_given k p at) ∙ length-replicate (width p.len) None;
+      given = λ k p at index v there.
+          let none = all_alike (width p.len) None index (Some v) (ap (λ os. slice_get os index) (sym (are.infos.not_given k p at)) ∙ there) in
           absurd (cc none);
-      untold = λ k p at place there v told. let e = told.there in cc e;
+      not_given = λ k p at index there v given. let e = given.there in cc e;
       right = λ number value at. absurd (cc at);
     }
 
-    module _ (ps : List PersInfo) (told : AreTold (declared_by trees) (concat t.lists) (length t.pers) are.infos.numbered (alike_so_far (declared_by trees) (concat t.lists) t.pers are.infos) script.pers script.pers ps) where
+    module _ (ps : List PersInfo) (given : AreGiven (declared_by trees) (concat t.lists) (length t.pers) are.infos.numbered (alike_so_far (declared_by trees) (concat t.lists) t.pers are.infos) script.pers script.pers ps) where
       tables_right : TablesRight (tables t ps (trees_meetings (record { names = []; lists = [] }) trees))
       unfolding TablesRight
       tables_right =
           let m = trees_meetings (record { names = []; lists = [] }) trees in
           let meetings = meetings_right [] [] (record { names = []; lists = [] }) trees no_meetings in
           let by_trees = numbered_right trees t.lists m.lists are.lengths_are meetings.lengths_are in
-          let count : length t.pers ≡ length (map pers_cell ps) = sym told.as_many ∙ sym (length-map ps pers_cell) in
+          let count : length t.pers ≡ length (map pers_cell ps) = sym given.as_many ∙ sym (length-map ps pers_cell) in
           record {
             steps = refl;
             tasks = refl;
@@ -71,8 +71,8 @@ module _ (script : ScriptData) (trees : List TypedTree) (indexed : list_all is_p
                 let (p, is_p, is_c) = made_there pers_cell ps k c at in
                 subst (IsPersistent script.pers (declared_by trees) (pers_numbers (numbered trees t.lists m.lists)) k) is_c
                 (subst (λ ks. IsPersistent script.pers (declared_by trees) ks k (pers_cell p)) (sym by_trees.pers_are)
-                (persistent_right script.pers (declared_by trees) (concat t.lists) k p (told.infos k p is_p) (sound_there 0 trees sound) (told.each k p is_p) (told.told k p is_p) (told.untold k p is_p)));
-            given = told.right;
+                (persistent_right script.pers (declared_by trees) (concat t.lists) k p (given.infos k p is_p) (sound_there 0 trees sound) (given.each k p is_p) (given.given k p is_p) (given.not_given k p is_p)));
+            given = given.right;
             meetings_numbered = subst (λ ks. AreNumbered IsOneName (meetings_of trees) ks (length m.names)) (sym by_trees.meetings_are) meetings.are.are_numbered;
             meetings = λ k name at. subst (λ ks. IsFirst (meetings_of trees) ks k name) (sym by_trees.meetings_are) (meetings.are.firsts k name at);
           }
@@ -85,9 +85,9 @@ module _ (script : ScriptData) (trees : List TypedTree) (indexed : list_all is_p
       let lengths = map (λ (tree : TypedTree). length tree.pers) trees in
       followed (AreTables given whole whole lengths) TablesRight (IsRefused script trees) (trees_pers none 0 trees) _
       (trees_right given whole [] [] none 0 trees refl (record { infos = no_infos; lengths_are = refl })) (λ t are.
-      followed (AreTold whole (concat t.lists) (length t.pers) are.infos.numbered (alike_so_far whole (concat t.lists) t.pers are.infos) given given) TablesRight (IsRefused script trees) (tell_all t.pers 0 given) _
-      (all_told whole (concat t.lists) (length t.pers) are.infos.numbered (alike_so_far whole (concat t.lists) t.pers are.infos) given [] given 0 t.pers refl refl indexed (untold_yet t are))
-      (λ ps told. tables_right t are ps told))
+      followed (AreGiven whole (concat t.lists) (length t.pers) are.infos.numbered (alike_so_far whole (concat t.lists) t.pers are.infos) given given) TablesRight (IsRefused script trees) (give_all t.pers 0 given) _
+      (all_given whole (concat t.lists) (length t.pers) are.infos.numbered (alike_so_far whole (concat t.lists) t.pers are.infos) given [] given 0 t.pers refl refl indexed (none_given_yet t are))
+      (λ ps given. tables_right t are ps given))
 
   made_or_refused : Outcome (λ made. IsCellOf script trees made.cell made.trees) (IsRefused script trees) (make_cell script trees)
   unfolding TablesRight

@@ -10,7 +10,7 @@ use Rattle.rapid_model.specs.declared.value.Value.{Value}
 use Rattle.rapid_model.proofs.Lists.{there_is}
 use Rattle.rapid_values.specs.Values.{start_value}
 use Rattle.cell_rules.specs.Declared.{Declared, AreOne, AreAlikeBefore}
-use Rattle.cell_rules.specs.First.{owner_of, IsDeclared, IsUndeclared, IsTold, IsFirstValue, Told, Given, Started, IsPersistent}
+use Rattle.cell_rules.specs.First.{owner_of, IsDeclared, IsUndeclared, IsGiven, IsFirstValue, ByScript, ByDeclaration, ByType, IsPersistent}
 use Rattle.cell_rules.specs.Given.{AreForOne, IsFor, IsRight}
 use Rattle.cell_rules.specs.Numbering.{AreNumbered, HasNumber}
 use Rattle.cell_rules.proofs.Alike.{alike_there, for_both, one_named, same_index}
@@ -19,74 +19,74 @@ use Rattle.cell_rules.proofs.Numbers.{same_first}
 
 module _ (ds : List Declared) (ks : List ℕ) (count : ℕ) (numbered : AreNumbered AreOne ds ks count) (alike : AreAlikeBefore (length ds) ds) (given : List PersValue) (right : (number : ℕ) (value : PersValue) → slice_get given number ≡ Some value → IsRight ds given number value) where
   -- a value that the script gives has an index exactly where the declaration is an array
-  index_there : (k number place : ℕ) (told : PersValue) (d : Declared) → slice_get given number ≡ Some told → HasNumber ds ks k place d → IsFor told d → is_some told.index ≡ is_some d.row.len
-  index_there k number place told d there has is_for =
-      let is = right number told there in
+  index_there : (k number index : ℕ) (row : PersValue) (d : Declared) → slice_get given number ≡ Some row → HasNumber ds ks k index d → IsFor row d → is_some row.index ≡ is_some d.row.len
+  index_there k number index row d there has is_for =
+      let is = right number row there in
       let found = is.finds in
-      let one = alike_there ds alike found.place place found.d d found.there has.there (for_both told found.d d found.is_for is_for) in
+      let one = alike_there ds alike found.index index found.d d found.there has.there (for_both row found.d d found.is_for is_for) in
       is.suits.index ∙ ap is_some (ap (λ row. row.len) found.is_row ∙ one.len)
 
   -- values that are given to one element are for one
-  for_one : (k element : ℕ) (v w : Value) → (t : IsTold given ds ks k element v) → (u : IsTold given ds ks k element w) → AreForOne t.told u.told
+  for_one : (k element : ℕ) (v w : Value) → (t : IsGiven given ds ks k element v) → (u : IsGiven given ds ks k element w) → AreForOne t.row u.row
   for_one k element v w t u =
-      let same = alike_there ds alike t.place u.place t.d u.d t.has_number.there u.has_number.there in
-      let named = one_named ds ks count numbered k t.place u.place t.d u.d t.has_number u.has_number in
+      let same = alike_there ds alike t.index u.index t.d u.d t.has_number.there u.has_number.there in
+      let named = one_named ds ks count numbered k t.index u.index t.d u.d t.has_number u.has_number in
       let lens = same (record { global = t.is_for.global; other_global = u.is_for.global; named = named }) in
       record {
         named = t.is_for.named ∙ named ∙ sym u.is_for.named;
-        index = same_index t.told.index u.told.index element t.index u.index
-            (index_there k t.number t.place t.told t.d t.there t.has_number t.is_for ∙ ap is_some lens.len ∙ sym (index_there k u.number u.place u.told u.d u.there u.has_number u.is_for));
+        index = same_index t.row.index u.row.index element t.at_element u.at_element
+            (index_there k t.number t.index t.row t.d t.there t.has_number t.is_for ∙ ap is_some lens.len ∙ sym (index_there k u.number u.index u.row u.d u.there u.has_number u.is_for));
       }
 
-  same_told : (k element : ℕ) (v w : Value) → IsTold given ds ks k element v → IsTold given ds ks k element w → v ≡ w
-  same_told k element v w t u =
+  same_given : (k element : ℕ) (v w : Value) → IsGiven given ds ks k element v → IsGiven given ds ks k element w → v ≡ w
+  same_given k element v w t u =
       elim (cases_order t.number u.number) [
         | inl equal ↦
-            let same : t.told ≡ u.told = same_there (slice_get given t.number) t.told u.told t.there (ap (slice_get given) equal ∙ u.there) in
+            let same : t.row ≡ u.row = same_there (slice_get given t.number) t.row u.row t.there (ap (slice_get given) equal ∙ u.there) in
             t.gives ∙ ap (λ (x : PersValue). x.value) same ∙ sym u.gives
         | inr differ ↦ elim differ [
-          | inl before ↦ absurd ((right u.number u.told u.there).once t.number t.told before t.there (for_one k element v w t u))
-          | inr behind ↦ absurd ((right t.number t.told t.there).once u.number u.told behind u.there (for_one k element w v u t))
+          | inl before ↦ absurd ((right u.number u.row u.there).once t.number t.row before t.there (for_one k element v w t u))
+          | inr behind ↦ absurd ((right t.number t.row t.there).once u.number u.row behind u.there (for_one k element w v u t))
         ]
       ]
 
   same_declared : (k : ℕ) (vs ws : List Value) → IsDeclared ds ks k vs → IsDeclared ds ks k ws → vs ≡ ws
   same_declared k vs ws a b =
-      elim (cases_order a.place b.place) [
+      elim (cases_order a.index b.index) [
         | inl equal ↦
-            let same : a.d ≡ b.d = same_there (slice_get ds a.place) a.d b.d a.has_number.there (ap (slice_get ds) equal ∙ b.has_number.there) in
+            let same : a.d ≡ b.d = same_there (slice_get ds a.index) a.d b.d a.has_number.there (ap (slice_get ds) equal ∙ b.has_number.there) in
             same_there a.d.row.first vs ws a.gives (ap (λ (x : Declared). x.row.first) same ∙ b.gives)
         | inr differ ↦ elim differ [
-          | inl before ↦ let none = sym a.gives ∙ b.none_before a.place a.d before a.has_number in absurd (cc none)
-          | inr behind ↦ let none = sym b.gives ∙ a.none_before b.place b.d behind b.has_number in absurd (cc none)
+          | inl before ↦ let none = sym a.gives ∙ b.none_before a.index a.d before a.has_number in absurd (cc none)
+          | inr behind ↦ let none = sym b.gives ∙ a.none_before b.index b.d behind b.has_number in absurd (cc none)
         ]
       ]
 
   not_both : (k : ℕ) (vs : List Value) → IsDeclared ds ks k vs → IsUndeclared ds ks k → ⊥
-  not_both k vs a none = let e = sym a.gives ∙ none a.place a.d a.has_number in absurd (cc e)
+  not_both k vs a none = let e = sym a.gives ∙ none a.index a.d a.has_number in absurd (cc e)
 
   -- an element has one first value
   same_value : (k : ℕ) (sort : Sort) (element : ℕ) (v w : Value) → IsFirstValue given ds ks k sort element v → IsFirstValue given ds ks k sort element w → v ≡ w
-  same_value k sort element v w (Told t) (Told u) = same_told k element v w t u
-  same_value k sort element v w (Told t) (Given untold first declared at) = absurd (untold v t)
-  same_value k sort element v w (Told t) (Started untold none starts) = absurd (untold v t)
-  same_value k sort element v w (Given untold first declared at) (Told u) = absurd (untold w u)
-  same_value k sort element v w (Given untold first declared at) (Given also other also_declared there) =
+  same_value k sort element v w (ByScript t) (ByScript u) = same_given k element v w t u
+  same_value k sort element v w (ByScript t) (ByDeclaration not_given first declared at) = absurd (not_given v t)
+  same_value k sort element v w (ByScript t) (ByType not_given none starts) = absurd (not_given v t)
+  same_value k sort element v w (ByDeclaration not_given first declared at) (ByScript u) = absurd (not_given w u)
+  same_value k sort element v w (ByDeclaration not_given first declared at) (ByDeclaration also other also_declared there) =
       same_there (slice_get first element) v w at (ap (λ vs. slice_get vs element) (same_declared k first other declared also_declared) ∙ there)
-  same_value k sort element v w (Given untold first declared at) (Started also none starts) = absurd (not_both k first declared none)
-  same_value k sort element v w (Started untold none starts) (Told u) = absurd (untold w u)
-  same_value k sort element v w (Started untold none starts) (Given also first declared at) = absurd (not_both k first declared none)
-  same_value k sort element v w (Started untold none starts) (Started also none_too starts_too) = same_there (start_value sort) v w starts starts_too
+  same_value k sort element v w (ByDeclaration not_given first declared at) (ByType also none starts) = absurd (not_both k first declared none)
+  same_value k sort element v w (ByType not_given none starts) (ByScript u) = absurd (not_given w u)
+  same_value k sort element v w (ByType not_given none starts) (ByDeclaration also first declared at) = absurd (not_both k first declared none)
+  same_value k sort element v w (ByType not_given none starts) (ByType also none_too starts_too) = same_there (start_value sort) v w starts starts_too
 
   module _ (k : ℕ) (p q : PersCell) (is : IsPersistent given ds ks k p) (other : IsPersistent given ds ks k q) where
     same_declaration : is.d ≡ other.d
     same_declaration = same_first AreOne ds ks k is.d other.d is.is_first other.is_first
 
     same_sorts : p.sort ≡ q.sort
-    same_sorts = is.sort is.is_first.place is.d is.is_first.has_number ∙ sym (other.sort is.is_first.place is.d is.is_first.has_number)
+    same_sorts = is.sort is.is_first.index is.d is.is_first.has_number ∙ sym (other.sort is.is_first.index is.d is.is_first.has_number)
 
     same_lens : p.len ≡ q.len
-    same_lens = is.len is.is_first.place is.d is.is_first.has_number ∙ sym (other.len is.is_first.place is.d is.is_first.has_number)
+    same_lens = is.len is.is_first.index is.d is.is_first.has_number ∙ sym (other.len is.is_first.index is.d is.is_first.has_number)
 
     as_many : length p.first ≡ length q.first
     as_many = is.as_many ∙ ap width same_lens ∙ sym other.as_many

@@ -93,7 +93,7 @@ module _ (named : List (List ℕ)) (ks : List ℕ) (names : List (List ℕ)) (ar
   found_again k m at one =
       let first = are.firsts k m at in
       record {
-        are_numbered = joined_numbered IsOneName named ks (length names) are.are_numbered name (λ e f same. sym same) (λ e f g same other. same ∙ other) first.place k m first.has_number (sym one);
+        are_numbered = joined_numbered IsOneName named ks (length names) are.are_numbered name (λ e f same. sym same) (λ e f g same other. same ∙ other) first.index k m first.has_number (sym one);
         firsts = λ j other there. first_stays IsOneName named ks (length names) are.are_numbered name j k other (are.firsts j other there);
       }
 
@@ -115,7 +115,7 @@ module _ (named : List (List ℕ)) (ks : List ℕ) (names : List (List ℕ)) (ar
           let (k, at) = there_is ks i (omega (arith, are.are_numbered.as_many, slice_get_within named i e there)) in
           let (m, is_m) = there_is names k (are.are_numbered.below i k at) in
           let first = are.firsts k m is_m in
-          none k m is_m (sym (alike first.place i k m e first.has_number (record { there = there; numbered = at }) ∙ one))
+          none k m is_m (sym (alike first.index i k m e first.has_number (record { there = there; numbered = at }) ∙ one))
         where
           alike : (i j k : ℕ) (m e : List ℕ) → HasNumber named ks k i m → HasNumber named ks k j e → IsOneName m e
           alike i j k m e has other =

@@ -16,21 +16,21 @@ use Rattle.cell_assembly.specs.Cells.{PersInfo}
 use Rattle.cell_assembly.specs.Made.{declared_values, over, pers_cell, start_of}
 use Rattle.cell_assembly.proofs.SoundInfo.{over_as_many}
 use Rattle.cell_rules.specs.Declared.{Declared, declared_from, of_task}
-use Rattle.cell_rules.specs.First.{IsFirstValue, IsPersistent, IsTold, IsUntold, Told, Given, Started}
+use Rattle.cell_rules.specs.First.{IsFirstValue, IsPersistent, IsGiven, IsNotGiven, ByScript, ByDeclaration, ByType}
 use Rattle.cell_rules.proofs.Infos.{AreDeclared, IsInfo}
 use Rattle.cell_rules.proofs.Lists.{all_alike}
 
 -- an element is what the script gives, or it is what stands below
-over_there : (told : List (Option Value)) (vs : List Value) (element : ℕ) (v : Value) → slice_get (over told vs) element ≡ Some v
-    → (slice_get told element ≡ Some (Some v)) ⊎ ((slice_get told element ≡ Some None) × (slice_get vs element ≡ Some v))
+over_there : (given : List (Option Value)) (vs : List Value) (element : ℕ) (v : Value) → slice_get (over given vs) element ≡ Some v
+    → (slice_get given element ≡ Some (Some v)) ⊎ ((slice_get given element ≡ Some None) × (slice_get vs element ≡ Some v))
 over_there [] [] element v at = absurd (cc at)
 over_there [] (w ∷ vs) element v at = absurd (cc at)
-over_there (None ∷ told) [] element v at = absurd (cc at)
-over_there (Some t ∷ told) [] element v at = absurd (cc at)
-over_there (Some t ∷ told) (w ∷ vs) zero v at = let e : t ≡ v = cc at in inl (ap (λ x. Some (Some x)) e)
-over_there (None ∷ told) (w ∷ vs) zero v at = inr (refl, at)
-over_there (Some t ∷ told) (w ∷ vs) (suc element) v at = over_there told vs element v at
-over_there (None ∷ told) (w ∷ vs) (suc element) v at = over_there told vs element v at
+over_there (None ∷ given) [] element v at = absurd (cc at)
+over_there (Some t ∷ given) [] element v at = absurd (cc at)
+over_there (Some t ∷ given) (w ∷ vs) zero v at = let e : t ≡ v = cc at in inl (ap (λ x. Some (Some x)) e)
+over_there (None ∷ given) (w ∷ vs) zero v at = inr (refl, at)
+over_there (Some t ∷ given) (w ∷ vs) (suc element) v at = over_there given vs element v at
+over_there (None ∷ given) (w ∷ vs) (suc element) v at = over_there given vs element v at
 
 -- what an element of a type with values begins with
 starts : (sort : Sort) → has_values sort ≡ true → start_value sort ≡ Some (start_of sort)
@@ -69,21 +69,21 @@ sound_length row first sound gives =
     let fit : fits row first ≡ true = ap (holds_where_there (fits row)) (sym gives) ∙ fitting in
     eqb-true (length first) (width row.len) (and_parts (length first == width row.len) (list_all (is_value_of row.sort) first) fit).0
 
-module _ (given : List PersValue) (ds : List Declared) (ks : List ℕ) (k : ℕ) (p : PersInfo) (is : IsInfo ds ks k p) (sound : (i : ℕ) (d : Declared) → slice_get ds i ≡ Some d → is_sound d.row ≡ true) (each : length p.told ≡ width p.len)
-    (told : (place : ℕ) (v : Value) → slice_get p.told place ≡ Some (Some v) → IsTold given ds ks k place v) (untold : (place : ℕ) → slice_get p.told place ≡ Some None → IsUntold given ds ks k place) where
+module _ (given : List PersValue) (ds : List Declared) (ks : List ℕ) (k : ℕ) (p : PersInfo) (is : IsInfo ds ks k p) (sound : (i : ℕ) (d : Declared) → slice_get ds i ≡ Some d → is_sound d.row ≡ true) (each : length p.given ≡ width p.len)
+    (is_given : (index : ℕ) (v : Value) → slice_get p.given index ≡ Some (Some v) → IsGiven given ds ks k index v) (not_given : (index : ℕ) → slice_get p.given index ≡ Some None → IsNotGiven given ds ks k index) where
   declared_as_many : (declared : Option (List Value)) → AreDeclared ds ks k declared → length (declared_values (record p { declared = declared })) ≡ width p.len
   declared_as_many None none = length-replicate (width p.len) (start_of p.sort)
   declared_as_many (Some first) gives =
-      sound_length gives.d.row first (sound gives.place gives.d gives.has_number.there) gives.gives ∙ ap width (sym (is.len gives.place gives.d gives.has_number))
+      sound_length gives.d.row first (sound gives.index gives.d gives.has_number.there) gives.gives ∙ ap width (sym (is.len gives.index gives.d gives.has_number))
 
-  below : (declared : Option (List Value)) → AreDeclared ds ks k declared → (element : ℕ) (v : Value) → IsUntold given ds ks k element → slice_get (declared_values (record p { declared = declared })) element ≡ Some v
+  below : (declared : Option (List Value)) → AreDeclared ds ks k declared → (element : ℕ) (v : Value) → IsNotGiven given ds ks k element → slice_get (declared_values (record p { declared = declared })) element ≡ Some v
       → IsFirstValue given ds ks k p.sort element v
   below None none element v quiet at =
       let d = is.d in
       let first = is.is_first in
-      let valued = ap has_values (is.sort first.place d first.has_number) ∙ sound_values d.row (sound first.place d first.has_number.there) in
-      Started quiet none (starts p.sort valued ∙ ap Some (all_alike (width p.len) (start_of p.sort) element v at))
-  below (Some first) gives element v quiet at = Given quiet first gives at
+      let valued = ap has_values (is.sort first.index d first.has_number) ∙ sound_values d.row (sound first.index d first.has_number.there) in
+      ByType quiet none (starts p.sort valued ∙ ap Some (all_alike (width p.len) (start_of p.sort) element v at))
+  below (Some first) gives element v quiet at = ByDeclaration quiet first gives at
 
   -- the persistent in the cell
   pub persistent_right : IsPersistent given ds ks k (pers_cell p)
@@ -97,9 +97,9 @@ module _ (given : List PersValue) (ds : List Declared) (ks : List ℕ) (k : ℕ)
         owner = is.owner;
         sort = is.sort;
         len = is.len;
-        as_many = over_as_many p.told vs (each ∙ sym long) ∙ long;
-        first = λ element v at. elim (over_there p.told vs element v at) [
-          | inl here ↦ Told (told element v here)
-          | inr elsewhere ↦ below p.declared is.declared element v (untold element elsewhere.0) elsewhere.1
+        as_many = over_as_many p.given vs (each ∙ sym long) ∙ long;
+        first = λ element v at. elim (over_there p.given vs element v at) [
+          | inl here ↦ ByScript (is_given element v here)
+          | inr elsewhere ↦ below p.declared is.declared element v (not_given element elsewhere.0) elsewhere.1
         ];
       }

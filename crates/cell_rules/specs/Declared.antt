@@ -32,8 +32,8 @@ pub record AreAlike (row other : TypedPers) : Type 0 where
 
 -- of the declarations before a place, those that are one are alike
 abbrev pub AreAlikeBefore : ℕ → List Declared → Type 0
-AreAlikeBefore place declared =
-    (i j : ℕ) (d e : Declared) → i < j → j < place → slice_get declared i ≡ Some d → slice_get declared j ≡ Some e → AreOne d e → AreAlike d.row e.row
+AreAlikeBefore index declared =
+    (i j : ℕ) (d e : Declared) → i < j → j < index → slice_get declared i ≡ Some d → slice_get declared j ≡ Some e → AreOne d e → AreAlike d.row e.row
 
 -- the meetings of the trees, by task and first naming
 abbrev pub meetings_of : List TypedTree → List (List ℕ)

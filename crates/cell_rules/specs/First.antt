@@ -23,37 +23,37 @@ owner_of d = if d.row.own then Some d.task else None
 module _ (declared : List Declared) (numbers : List ℕ) (k : ℕ) where
   -- the first of the persistent's declarations that gives values gives these
   pub record IsDeclared (first : List Value) : Type 0 where
-    pub place : ℕ
+    pub index : ℕ
     pub d : Declared
-    pub has_number : HasNumber declared numbers k place d
+    pub has_number : HasNumber declared numbers k index d
     pub gives : d.row.first ≡ Some first
-    pub none_before : (other : ℕ) (e : Declared) → other < place → HasNumber declared numbers k other e → e.row.first ≡ None
+    pub none_before : (other : ℕ) (e : Declared) → other < index → HasNumber declared numbers k other e → e.row.first ≡ None
 
   -- no declaration of the persistent gives values
   abbrev pub IsUndeclared : Type 0
-  IsUndeclared = (place : ℕ) (d : Declared) → HasNumber declared numbers k place d → d.row.first ≡ None
+  IsUndeclared = (index : ℕ) (d : Declared) → HasNumber declared numbers k index d → d.row.first ≡ None
 
 module _ (given : List PersValue) (declared : List Declared) (numbers : List ℕ) (k : ℕ) where
   -- the script gives this value to an element of the persistent of this number
-  pub record IsTold (element : ℕ) (value : Value) : Type 0 where
+  pub record IsGiven (element : ℕ) (value : Value) : Type 0 where
     pub number : ℕ
-    pub told : PersValue
-    pub there : slice_get given number ≡ Some told
-    pub place : ℕ
+    pub row : PersValue
+    pub there : slice_get given number ≡ Some row
+    pub index : ℕ
     pub d : Declared
-    pub has_number : HasNumber declared numbers k place d
-    pub is_for : IsFor told d
-    pub index : IsIndexOf told.index element
-    pub gives : value ≡ told.value
+    pub has_number : HasNumber declared numbers k index d
+    pub is_for : IsFor row d
+    pub at_element : IsIndexOf row.index element
+    pub gives : value ≡ row.value
 
-  abbrev pub IsUntold : ℕ → Type 0
-  IsUntold element = (value : Value) → IsTold element value → ⊥
+  abbrev pub IsNotGiven : ℕ → Type 0
+  IsNotGiven element = (value : Value) → IsGiven element value → ⊥
 
   -- the first value of an element of the persistent, which is of this type
   pub data IsFirstValue (sort : Sort) (element : ℕ) (value : Value) : Type 0 where
-    Told : IsTold element value → IsFirstValue sort element value
-    Given : IsUntold element → (first : List Value) → IsDeclared declared numbers k first → slice_get first element ≡ Some value → IsFirstValue sort element value
-    Started : IsUntold element → IsUndeclared declared numbers k → start_value sort ≡ Some value → IsFirstValue sort element value
+    ByScript : IsGiven element value → IsFirstValue sort element value
+    ByDeclaration : IsNotGiven element → (first : List Value) → IsDeclared declared numbers k first → slice_get first element ≡ Some value → IsFirstValue sort element value
+    ByType : IsNotGiven element → IsUndeclared declared numbers k → start_value sort ≡ Some value → IsFirstValue sort element value
 
   -- the persistent has the name and the owner of its first declaration, the type and the length of each of them, and so many first
   -- values
@@ -62,7 +62,7 @@ module _ (given : List PersValue) (declared : List Declared) (numbers : List ℕ
     pub is_first : IsFirst declared numbers k d
     pub name : p.name ≡ d.row.name
     pub owner : p.owner ≡ owner_of d
-    pub sort : (place : ℕ) (e : Declared) → HasNumber declared numbers k place e → p.sort ≡ e.row.sort
-    pub len : (place : ℕ) (e : Declared) → HasNumber declared numbers k place e → p.len ≡ e.row.len
+    pub sort : (index : ℕ) (e : Declared) → HasNumber declared numbers k index e → p.sort ≡ e.row.sort
+    pub len : (index : ℕ) (e : Declared) → HasNumber declared numbers k index e → p.len ≡ e.row.len
     pub as_many : length p.first ≡ width p.len
     pub first : (element : ℕ) (value : Value) → slice_get p.first element ≡ Some value → IsFirstValue p.sort element value

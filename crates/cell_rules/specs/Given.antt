@@ -25,9 +25,9 @@ pub record IsFor (value : PersValue) (d : Declared) : Type 0 where
 
 -- a declaration of the persistent that the value is for
 pub record Finds (declared : List Declared) (value : PersValue) (row : TypedPers) : Type 0 where
-  pub place : ℕ
+  pub index : ℕ
   pub d : Declared
-  pub there : slice_get declared place ≡ Some d
+  pub there : slice_get declared index ≡ Some d
   pub is_for : IsFor value d
   pub is_row : row ≡ d.row
 

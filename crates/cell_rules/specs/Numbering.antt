@@ -12,12 +12,12 @@ pub record AreNumbered {A : Type 0} (AreOne : A → A → Type 0) (declared : Li
   pub in_order : (j k l : ℕ) → slice_get numbers j ≡ Some l → k < l → (i : ℕ) × (i < j) × (slice_get numbers i ≡ Some k)
 
 -- the declaration at this place has this number
-pub record HasNumber {A : Type 0} (declared : List A) (numbers : List ℕ) (k place : ℕ) (d : A) : Type 0 where
-  pub there : slice_get declared place ≡ Some d
-  pub numbered : slice_get numbers place ≡ Some k
+pub record HasNumber {A : Type 0} (declared : List A) (numbers : List ℕ) (k index : ℕ) (d : A) : Type 0 where
+  pub there : slice_get declared index ≡ Some d
+  pub numbered : slice_get numbers index ≡ Some k
 
 -- the first declaration of this number
 pub record IsFirst {A : Type 0} (declared : List A) (numbers : List ℕ) (k : ℕ) (d : A) : Type 0 where
-  pub place : ℕ
-  pub has_number : HasNumber declared numbers k place d
-  pub first : (other : ℕ) → slice_get numbers other ≡ Some k → place ≤ other
+  pub index : ℕ
+  pub has_number : HasNumber declared numbers k index d
+  pub first : (other : ℕ) → slice_get numbers other ≡ Some k → index ≤ other

@@ -12,16 +12,16 @@ use Rattle.cell_rules.specs.Given.{Breaks, IsRight}
 -- the first declaration that differs in type or length from an earlier one of the same persistent: its task, its module and the byte
 -- of its name
 pub record IsClash (declared : List Declared) (task «module» at : ℕ) : Type 0 where
-  pub place : ℕ
+  pub index : ℕ
   pub d : Declared
-  pub there : slice_get declared place ≡ Some d
+  pub there : slice_get declared index ≡ Some d
   pub before : ℕ
   pub e : Declared
-  pub earlier : before < place
+  pub earlier : before < index
   pub stands : slice_get declared before ≡ Some e
   pub one : AreOne e d
   pub differ : AreAlike e.row d.row → ⊥
-  pub alike_before : AreAlikeBefore place declared
+  pub alike_before : AreAlikeBefore index declared
   pub is_task : task ≡ d.task
   pub is_module : «module» ≡ d.row.«module»
   pub is_at : at ≡ d.row.at

@@ -54,14 +54,14 @@ fn is_shared(info: &PersInfo) -> bool {
     let [one, two] = declared.as_slice() else {
         return false;
     };
-    let [None, Some(told)] = info.told.as_slice() else {
+    let [None, Some(given)] = info.given.as_slice() else {
         return false;
     };
     info.name.bytes() == b"Counts".as_slice()
         && info.owner.is_none()
         && *one == number(1_000)
         && *two == number(2_000)
-        && *told == number(7_000)
+        && *given == number(7_000)
 }
 
 #[test]

@@ -12,7 +12,7 @@ use Rattle.rule_checks.proofs.Steps.{behind, ok_same}
 use Rattle.data_scopes.proofs.Keeping.{set_same}
 use Rattle.data_scopes.proofs.Counted.{get_last}
 use Rattle.named_data.specs.Wants.{same_sort}
-use Rattle.cell_assembly.specs.Cells.{Making, Numbered, PersInfo, PersTables, added, all_pers, at_value, element, fits_index, global_number, global_pers, has_sort, is_told, join, joined, new_pers, one_pers, same_len, tell, tell_all, tell_global, tell_to, trees_pers, with_declared, with_list, with_told}
+use Rattle.cell_assembly.specs.Cells.{Making, Numbered, PersInfo, PersTables, added, all_pers, at_value, element, fits_index, global_number, global_pers, has_sort, is_given, join, joined, new_pers, one_pers, same_len, give, give_all, give_global, give_to, trees_pers, with_declared, with_list, with_given}
 use Rattle.cell_assembly.proofs.SoundInfo.{same_len_is, same_sort_is}
 use Rattle.name_laws.specs.Declared.{AreEach}
 use Rattle.name_laws.proofs.Items.{front_append}
@@ -159,28 +159,28 @@ trees_walked t task (tree ∷ trees) u e =
     })
 
 -- the script's values change no type and no length
-tell_keeps : (ps qs : List PersInfo) (number : ℕ) (row : PersValue) (k : ℕ) (found : Option PersInfo) → slice_get ps k ≡ found → tell_to ps number row k found ≡ Ok qs → Keeps ps qs
-tell_keeps ps qs number row k None there e = absurd cc
-tell_keeps ps qs number row k (Some p) there e =
-    let place = element row.index in
+give_keeps : (ps qs : List PersInfo) (number : ℕ) (row : PersValue) (k : ℕ) (found : Option PersInfo) → slice_get ps k ≡ found → give_to ps number row k found ≡ Ok qs → Keeps ps qs
+give_keeps ps qs number row k None there e = absurd cc
+give_keeps ps qs number row k (Some p) there e =
+    let index = element row.index in
     let P : Type 0 = (k : ℕ) (p : PersInfo) → slice_get ps k ≡ Some p → IsKept qs k p in
     behind P qs (must (has_sort p.sort row.value && fits_index p.len row.index) (at_value number Kind)) _ e (λ u suits rest.
-    behind P qs (must (nat_le (place + 1) (width p.len)) (at_value number Range)) _ rest (λ v within more.
-    behind P qs (must (not (is_told (slice_get p.told place))) (at_value number Twice)) _ more (λ w untold done.
-    subst (Keeps ps) (ok_same (set ps k (with_told p place row.value)) qs done) (keeps_set ps k p (with_told p place row.value) there refl refl))))
+    behind P qs (must (nat_le (index + 1) (width p.len)) (at_value number Range)) _ rest (λ v within more.
+    behind P qs (must (not (is_given (slice_get p.given index))) (at_value number Twice)) _ more (λ w not_given done.
+    subst (Keeps ps) (ok_same (set ps k (with_given p index row.value)) qs done) (keeps_set ps k p (with_given p index row.value) there refl refl))))
 
-global_keeps : (ps qs : List PersInfo) (number : ℕ) (row : PersValue) (k : Option ℕ) → tell_global ps number row k ≡ Ok qs → Keeps ps qs
+global_keeps : (ps qs : List PersInfo) (number : ℕ) (row : PersValue) (k : Option ℕ) → give_global ps number row k ≡ Ok qs → Keeps ps qs
 global_keeps ps qs number row None e = absurd cc
-global_keeps ps qs number row (Some k) e = tell_keeps ps qs number row k (slice_get ps k) refl e
+global_keeps ps qs number row (Some k) e = give_keeps ps qs number row k (slice_get ps k) refl e
 
-told_keeps : (ps : List PersInfo) (number : ℕ) (rows : List PersValue) (qs : List PersInfo) → tell_all ps number rows ≡ Ok qs → Keeps ps qs
-told_keeps ps number [] qs e = subst (Keeps ps) (ok_same ps qs e) (keeps_same ps)
-told_keeps ps number (row ∷ rows) qs e =
+given_keep : (ps : List PersInfo) (number : ℕ) (rows : List PersValue) (qs : List PersInfo) → give_all ps number rows ≡ Ok qs → Keeps ps qs
+given_keep ps number [] qs e = subst (Keeps ps) (ok_same ps qs e) (keeps_same ps)
+given_keep ps number (row ∷ rows) qs e =
     let P : Type 0 = (k : ℕ) (p : PersInfo) → slice_get ps k ≡ Some p → IsKept qs k p in
-    behind P qs (tell ps number row) _ e (λ us first rest. keeps_then ps us qs (global_keeps ps us number row (global_number row.name ps) first) (told_keeps us (number + 1) rows qs rest))
+    behind P qs (give ps number row) _ e (λ us first rest. keeps_then ps us qs (global_keeps ps us number row (global_number row.name ps) first) (given_keep us (number + 1) rows qs rest))
 
 -- in the cell
-pub pers_numbered : (trees : List TypedTree) (t : PersTables) (rows : List PersValue) (qs : List PersInfo) → trees_pers (record { pers = []; lists = [] }) 0 trees ≡ Ok t → tell_all t.pers 0 rows ≡ Ok qs → AreEach (TreeOf qs) trees t.lists
-pers_numbered trees t rows qs walked told =
+pub pers_numbered : (trees : List TypedTree) (t : PersTables) (rows : List PersValue) (qs : List PersInfo) → trees_pers (record { pers = []; lists = [] }) 0 trees ≡ Ok t → give_all t.pers 0 rows ≡ Ok qs → AreEach (TreeOf qs) trees t.lists
+pers_numbered trees t rows qs walked given =
     let h = trees_walked (record { pers = []; lists = [] }) 0 trees t walked in
-    trees_later t.pers qs trees t.lists (told_keeps t.pers 0 rows qs told) (subst (AreEach (TreeOf t.pers) trees) (sym h.lists) h.each)
+    trees_later t.pers qs trees t.lists (given_keep t.pers 0 rows qs given) (subst (AreEach (TreeOf t.pers) trees) (sym h.lists) h.each)

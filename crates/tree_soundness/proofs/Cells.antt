@@ -10,7 +10,7 @@ use Rattle.rapid_model.specs.declared.task_row.TaskRow.{TaskRow}
 use Rattle.rapid_model.proofs.Lists.{there_is}
 use Rattle.typed_trees.specs.Plain.{TypedPers, TypedTree}
 use Rattle.rule_checks.proofs.Steps.{behind, ok_same}
-use Rattle.cell_assembly.specs.Cells.{MeetingTables, PersInfo, cell_tables, tables, tell_all, trees_meetings, trees_pers}
+use Rattle.cell_assembly.specs.Cells.{MeetingTables, PersInfo, cell_tables, tables, give_all, trees_meetings, trees_pers}
 use Rattle.cell_assembly.specs.Made.{MadeCell, cell_of, make_cell, numbered, pers_cell, with_numbers}
 use Rattle.name_laws.specs.Declared.{AreEach}
 use Rattle.name_laws.proofs.Tree.{each_length}
@@ -54,13 +54,13 @@ is_made script trees made e =
     let P : Type 0 = IsMade script trees made in
     behind P made (cell_tables script.pers trees) _ e (λ all tabled last.
     behind P all (trees_pers (record { pers = []; lists = [] }) 0 trees) _ tabled (λ t walked rest.
-    behind P all (tell_all t.pers 0 script.pers) _ rest (λ ps told done.
+    behind P all (give_all t.pers 0 script.pers) _ rest (λ ps given done.
     let same = ok_same (tables t ps (trees_meetings (record { names = []; lists = [] }) trees)) all done in
     let made_is = ok_same _ made last in
     record {
       pers = ps;
       lists = t.lists;
-      each = pers_numbered trees t script.pers ps walked told;
+      each = pers_numbered trees t script.pers ps walked given;
       is = sym made_is ∙ ap (λ x. record { cell = cell_of script x; trees = numbered trees x.pers_of x.meeting_of }) (sym same);
     })))
 

@@ -6,14 +6,14 @@ use Rattle.rapid_model.specs.declared.value.Value.{Value}
 use Rattle.cell_assembly.specs.Made.{over}
 use Rattle.cell_assembly.proofs.pers_cells.over.Goals as goal
 
-over_none : (told : List (Option Value)) (vs : List Value) → (told ≡ []) ⊎ (vs ≡ []) → over told vs ≡ []
-over_none told vs (inl e) = ap (λ ts. over ts vs) e
+over_none : (given : List (Option Value)) (vs : List Value) → (given ≡ []) ⊎ (vs ≡ []) → over given vs ≡ []
+over_none given vs (inl e) = ap (λ ts. over ts vs) e
 over_none [] vs (inr e) = refl
-over_none (Some t ∷ told) vs (inr e) = ap (over (Some t ∷ told)) e
-over_none (None ∷ told) vs (inr e) = ap (over (None ∷ told)) e
+over_none (Some t ∷ given) vs (inr e) = ap (over (Some t ∷ given)) e
+over_none (None ∷ given) vs (inr e) = ap (over (None ∷ given)) e
 
 pub returns : goal.returns
 returns c =
-    let it = c.loop-told.told-iterator in
+    let it = c.loop-given.given-iterator in
     let none = over_none (iter_rest (zip_first it)) (iter_rest (zip_second it)) (either_empty_from_Zip it c.next.new.self c.next.result c.in-None.is c.next.ensures.steps) in
-    ap Ok (sym c.loop-told.invariant ∙ ap (λ rest. c.loop-told.first.items ++ rest) none ∙ append-nil c.loop-told.first.items)
+    ap Ok (sym c.loop-given.invariant ∙ ap (λ rest. c.loop-given.first.items ++ rest) none ∙ append-nil c.loop-given.first.items)

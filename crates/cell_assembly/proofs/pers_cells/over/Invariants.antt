@@ -4,5 +4,5 @@ use Rattle.std.specs.Slice.Iter.{iter_rest}
 use Rattle.cell_assembly.specs.Made.{over}
 use Rattle.cell_assembly.proofs.pers_cells.over.Given as goal
 
-abbrev pub invariant-loop-told : goal.invariant-loop-told
-invariant-loop-told l = l.first.items ++ over (iter_rest (zip_first l.told-iterator)) (iter_rest (zip_second l.told-iterator)) ≡ over l.told l.values
+abbrev pub invariant-loop-given : goal.invariant-loop-given
+invariant-loop-given l = l.first.items ++ over (iter_rest (zip_first l.given-iterator)) (iter_rest (zip_second l.given-iterator)) ≡ over l.given l.values

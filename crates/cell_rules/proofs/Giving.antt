@@ -16,9 +16,9 @@ use Rattle.rapid_model.specs.declared.sort.Sort.TheVariants as sorts
 use Rattle.rapid_model.specs.declared.value.Value.{Value}
 use Rattle.rapid_model.specs.declared.value.Value.TheVariants as values
 use Rattle.rapid_model.proofs.Lists.{there_is}
-use Rattle.cell_assembly.specs.Cells.{PersInfo, has_sort, fits_index, element, is_told, with_told, at_value, key_of, is_global, global_number, tell_to, tell_global, tell, tell_all}
+use Rattle.cell_assembly.specs.Cells.{PersInfo, has_sort, fits_index, element, is_given, with_given, at_value, key_of, is_global, global_number, give_to, give_global, give, give_all}
 use Rattle.cell_rules.specs.Declared.{Declared, AreOne, AreAlikeBefore}
-use Rattle.cell_rules.specs.First.{IsIndexOf, IsTold, IsUntold}
+use Rattle.cell_rules.specs.First.{IsIndexOf, IsGiven, IsNotGiven}
 use Rattle.cell_rules.specs.Given.{given_sort, AreForOne, Breaks, Finds, IsFor, IsInside, IsRight, Suits}
 use Rattle.cell_rules.specs.Numbering.{AreNumbered}
 use Rattle.cell_rules.specs.Refused.{IsBroken, IsRefusal}
@@ -77,41 +77,41 @@ element_is : (index : Option ℕ) → FromOne index → IsIndexOf index (element
 element_is None one = refl
 element_is (Some index) one = omega (arith, one)
 
-is_element : (index : Option ℕ) (place : ℕ) → FromOne index → IsIndexOf index place → place ≡ element index
-is_element None place one is = is
-is_element (Some index) place one is = omega (arith, is)
+is_element : (index : Option ℕ) (at : ℕ) → FromOne index → IsIndexOf index at → at ≡ element index
+is_element None at one is = is
+is_element (Some index) at one is = omega (arith, is)
 
-told_there : (o : Option (Option Value)) → is_told o ≡ true → (v : Value) × (o ≡ Some (Some v))
-told_there None e = absurd (cc e)
-told_there (Some None) e = absurd (cc e)
-told_there (Some (Some v)) e = (v, refl)
+given_there : (o : Option (Option Value)) → is_given o ≡ true → (v : Value) × (o ≡ Some (Some v))
+given_there None e = absurd (cc e)
+given_there (Some None) e = absurd (cc e)
+given_there (Some (Some v)) e = (v, refl)
 
-not_told : (o : Option Value) → is_told (Some o) ≡ false → o ≡ None
-not_told None e = refl
-not_told (Some v) e = absurd (cc e)
+none_given : (o : Option Value) → is_given (Some o) ≡ false → o ≡ None
+none_given None e = refl
+none_given (Some v) e = absurd (cc e)
 
 module _ (ds : List Declared) (ks : List ℕ) (count : ℕ) (numbered : AreNumbered AreOne ds ks count) (alike : AreAlikeBefore (length ds) ds) (whole : List PersValue) where
   -- The persistents, with what the values so far say of their elements; and these values keep the rules.
-  pub record AreTold (done : List PersValue) (ps : List PersInfo) : Type 0 where
+  pub record AreGiven (done : List PersValue) (ps : List PersInfo) : Type 0 where
     pub as_many : length ps ≡ count
     pub infos : (k : ℕ) (p : PersInfo) → slice_get ps k ≡ Some p → IsInfo ds ks k p
-    pub each : (k : ℕ) (p : PersInfo) → slice_get ps k ≡ Some p → length p.told ≡ width p.len
-    pub told : (k : ℕ) (p : PersInfo) → slice_get ps k ≡ Some p → (place : ℕ) (v : Value) → slice_get p.told place ≡ Some (Some v) → IsTold done ds ks k place v
-    pub untold : (k : ℕ) (p : PersInfo) → slice_get ps k ≡ Some p → (place : ℕ) → slice_get p.told place ≡ Some None → IsUntold done ds ks k place
+    pub each : (k : ℕ) (p : PersInfo) → slice_get ps k ≡ Some p → length p.given ≡ width p.len
+    pub given : (k : ℕ) (p : PersInfo) → slice_get ps k ≡ Some p → (index : ℕ) (v : Value) → slice_get p.given index ≡ Some (Some v) → IsGiven done ds ks k index v
+    pub not_given : (k : ℕ) (p : PersInfo) → slice_get ps k ≡ Some p → (index : ℕ) → slice_get p.given index ≡ Some None → IsNotGiven done ds ks k index
     pub right : (number : ℕ) (value : PersValue) → slice_get done number ≡ Some value → IsRight ds whole number value
 
-  -- what was told before is told with one value more
-  told_more : (done : List PersValue) (row : PersValue) (k place : ℕ) (v : Value) → IsTold done ds ks k place v → IsTold (done ++ row ∷ []) ds ks k place v
-  told_more done row k place v t = record { number = t.number; told = t.told; there = in_front done (row ∷ []) t.number t.told t.there; place = t.place; d = t.d; has_number = t.has_number; is_for = t.is_for; index = t.index; gives = t.gives }
+  -- what was given before is given with one value more
+  given_more : (done : List PersValue) (row : PersValue) (k index : ℕ) (v : Value) → IsGiven done ds ks k index v → IsGiven (done ++ row ∷ []) ds ks k index v
+  given_more done row k index v t = record { number = t.number; row = t.row; there = in_front done (row ∷ []) t.number t.row t.there; index = t.index; d = t.d; has_number = t.has_number; is_for = t.is_for; at_element = t.at_element; gives = t.gives }
 
-  -- what is told with one value more was told before, or is told by that
-  told_by : (done : List PersValue) (row : PersValue) (k place : ℕ) (v : Value) (t : IsTold (done ++ row ∷ []) ds ks k place v) → IsTold done ds ks k place v ⊎ (row ≡ t.told)
-  told_by done row k place v t = elim (earlier_or_last done row t.number t.told t.there) [
-    | inl early ↦ inl (record { number = t.number; told = t.told; there = early; place = t.place; d = t.d; has_number = t.has_number; is_for = t.is_for; index = t.index; gives = t.gives })
+  -- what is given with one value more was given before, or is given by that
+  given_by : (done : List PersValue) (row : PersValue) (k index : ℕ) (v : Value) (t : IsGiven (done ++ row ∷ []) ds ks k index v) → IsGiven done ds ks k index v ⊎ (row ≡ t.row)
+  given_by done row k index v t = elim (earlier_or_last done row t.number t.row t.there) [
+    | inl early ↦ inl (record { number = t.number; row = t.row; there = early; index = t.index; d = t.d; has_number = t.has_number; is_for = t.is_for; at_element = t.at_element; gives = t.gives })
     | inr last ↦ inr last.1
   ]
 
-  module _ (done rest : List PersValue) (row : PersValue) (is_whole : whole ≡ done ++ row ∷ rest) (one : FromOne row.index) (ps : List PersInfo) (are : AreTold done ps) where
+  module _ (done rest : List PersValue) (row : PersValue) (is_whole : whole ≡ done ++ row ∷ rest) (one : FromOne row.index) (ps : List PersInfo) (are : AreGiven done ps) where
     there : slice_get whole (length done) ≡ Some row
     there = ap (λ vs. slice_get vs (length done)) is_whole ∙ at_end done row rest
 
@@ -123,23 +123,23 @@ module _ (ds : List Declared) (ks : List ℕ) (count : ℕ) (numbered : AreNumbe
 
     no_such : global_number row.name ps ≡ None → Breaks ds whole (length done) row NoSuch
     no_such none found_row found =
-        let (k, at) = there_is ks found.place (omega (arith, numbered.as_many, slice_get_within ds found.place found.d found.there)) in
-        let (p, is_p) = there_is ps k (omega (arith, are.as_many, numbered.below found.place k at)) in
+        let (k, at) = there_is ks found.index (omega (arith, numbered.as_many, slice_get_within ds found.index found.d found.there)) in
+        let (p, is_p) = there_is ps k (omega (arith, are.as_many, numbered.below found.index k at)) in
         both_ways (is_global row.name p) (position_nowhere (is_global row.name) ps none k p is_p)
-        (info_global ds ks count numbered k found.place p found.d (are.infos k p is_p) (record { there = found.there; numbered = at }) found.is_for.global row.name found.is_for.named)
+        (info_global ds ks count numbered k found.index p found.d (are.infos k p is_p) (record { there = found.there; numbered = at }) found.is_for.global row.name found.is_for.named)
 
     module _ (k : ℕ) (p : PersInfo) (at : slice_get ps k ≡ Some p) (global : is_global row.name p ≡ true) where
       d_for : IsFor row (are.infos k p at).d
       d_for = let one_is = info_one ds ks count numbered k p row.name (are.infos k p at) global in record { global = one_is.0; named = one_is.1 }
 
       found : Finds ds row (are.infos k p at).d.row
-      found = let i = are.infos k p at in record { place = i.is_first.place; d = i.d; there = i.is_first.has_number.there; is_for = d_for; is_row = refl }
+      found = let i = are.infos k p at in record { index = i.is_first.index; d = i.d; there = i.is_first.has_number.there; is_for = d_for; is_row = refl }
 
       sort_is : p.sort ≡ (are.infos k p at).d.row.sort
-      sort_is = let i = are.infos k p at in i.sort i.is_first.place i.d i.is_first.has_number
+      sort_is = let i = are.infos k p at in i.sort i.is_first.index i.d i.is_first.has_number
 
       len_is : p.len ≡ (are.infos k p at).d.row.len
-      len_is = let i = are.infos k p at in i.len i.is_first.place i.d i.is_first.has_number
+      len_is = let i = are.infos k p at in i.len i.is_first.index i.d i.is_first.has_number
 
       suits_from : has_sort p.sort row.value && fits_index p.len row.index ≡ true → Suits row (are.infos k p at).d.row
       suits_from e =
@@ -173,55 +173,55 @@ module _ (ds : List Declared) (ks : List ℕ) (count : ℕ) (numbered : AreNumbe
           within = subst (IsInside row.index) len_is (inside_from row.index p.len one index_is few)
 
           -- an earlier value for the element
-          for_one_there : (v : Value) → (t : IsTold done ds ks k (element row.index) v) → AreForOne t.told row
+          for_one_there : (v : Value) → (t : IsGiven done ds ks k (element row.index) v) → AreForOne t.row row
           for_one_there v t =
               let i = are.infos k p at in
-              let named = one_named ds ks count numbered k t.place i.is_first.place t.d i.d t.has_number i.is_first.has_number in
-              let t_right = are.right t.number t.told t.there in
-              let t_found : Finds ds t.told t.d.row = record { place = t.place; d = t.d; there = t.has_number.there; is_for = t.is_for; is_row = refl } in
-              let t_suits = suits_alike t.told t_right.row t.d.row (found_alike ds alike t.told t_right.row t.d.row t_right.finds t_found) t_right.suits in
+              let named = one_named ds ks count numbered k t.index i.is_first.index t.d i.d t.has_number i.is_first.has_number in
+              let t_right = are.right t.number t.row t.there in
+              let t_found : Finds ds t.row t.d.row = record { index = t.index; d = t.d; there = t.has_number.there; is_for = t.is_for; is_row = refl } in
+              let t_suits = suits_alike t.row t_right.row t.d.row (found_alike ds alike t.row t_right.row t.d.row t_right.finds t_found) t_right.suits in
               record {
                 named = t.is_for.named ∙ named ∙ sym d_for.named;
-                index = same_index t.told.index row.index (element row.index) t.index (element_is row.index one)
-                    (t_suits.index ∙ ap is_some (sym (i.len t.place t.d t.has_number)) ∙ sym index_is);
+                index = same_index t.row.index row.index (element row.index) t.at_element (element_is row.index one)
+                    (t_suits.index ∙ ap is_some (sym (i.len t.index t.d t.has_number)) ∙ sym index_is);
               }
 
-          twice : not (is_told (slice_get p.told (element row.index))) ≡ false → Breaks ds whole (length done) row Twice
+          twice : not (is_given (slice_get p.given (element row.index))) ≡ false → Breaks ds whole (length done) row Twice
           twice e =
-              let (v, at_v) = told_there (slice_get p.told (element row.index)) (not-false (is_told (slice_get p.told (element row.index))) e) in
-              let t = are.told k p at (element row.index) v at_v in
+              let (v, at_v) = given_there (slice_get p.given (element row.index)) (not-false (is_given (slice_get p.given (element row.index))) e) in
+              let t = are.given k p at (element row.index) v at_v in
               record {
                 row = (are.infos k p at).d.row;
                 finds = found;
                 suits = suits;
                 inside = within;
                 before = t.number;
-                other = t.told;
-                earlier = slice_get_within done t.number t.told t.there;
-                there = ap (λ vs. slice_get vs t.number) is_whole ∙ in_front done (row ∷ rest) t.number t.told t.there;
+                other = t.row;
+                earlier = slice_get_within done t.number t.row t.there;
+                there = ap (λ vs. slice_get vs t.number) is_whole ∙ in_front done (row ∷ rest) t.number t.row t.there;
                 for_one = for_one_there v t;
               }
 
-          module _ (fresh : not (is_told (slice_get p.told (element row.index))) ≡ true) where
-            untold_here : slice_get p.told (element row.index) ≡ Some None
-            untold_here =
-                let (o, at_o) = there_is p.told (element row.index) (omega (arith, few, are.each k p at)) in
-                let no = not-true (is_told (slice_get p.told (element row.index))) fresh in
-                at_o ∙ ap Some (not_told o (ap is_told (sym at_o) ∙ no))
+          module _ (fresh : not (is_given (slice_get p.given (element row.index))) ≡ true) where
+            not_given_here : slice_get p.given (element row.index) ≡ Some None
+            not_given_here =
+                let (o, at_o) = there_is p.given (element row.index) (omega (arith, few, are.each k p at)) in
+                let no = not-true (is_given (slice_get p.given (element row.index))) fresh in
+                at_o ∙ ap Some (none_given o (ap is_given (sym at_o) ∙ no))
 
-            -- a value for the element was none that is told
-            told_from : (before : ℕ) (other : PersValue) → before < length done → slice_get whole before ≡ Some other → AreForOne other row → IsTold done ds ks k (element row.index) other.value
-            told_from before other early at_other for_one =
+            -- a value for the element was none that is given
+            given_from : (before : ℕ) (other : PersValue) → before < length done → slice_get whole before ≡ Some other → AreForOne other row → IsGiven done ds ks k (element row.index) other.value
+            given_from before other early at_other for_one =
                 let i = are.infos k p at in
                 record {
                   number = before;
-                  told = other;
+                  row = other;
                   there = front_there done (row ∷ rest) before other early (ap (λ vs. slice_get vs before) (sym is_whole) ∙ at_other);
-                  place = i.is_first.place;
+                  index = i.is_first.index;
                   d = i.d;
                   has_number = i.is_first.has_number;
                   is_for = record { global = d_for.global; named = for_one.named ∙ d_for.named };
-                  index = subst (λ x. IsIndexOf x (element row.index)) (sym for_one.index) (element_is row.index one);
+                  at_element = subst (λ x. IsIndexOf x (element row.index)) (sym for_one.index) (element_is row.index one);
                   gives = refl;
                 }
 
@@ -231,58 +231,58 @@ module _ (ds : List Declared) (ks : List ℕ) (count : ℕ) (numbered : AreNumbe
               finds = found;
               suits = suits;
               inside = within;
-              once = λ before other early at_other for_one. are.untold k p at (element row.index) untold_here other.value (told_from before other early at_other for_one);
+              once = λ before other early at_other for_one. are.not_given k p at (element row.index) not_given_here other.value (given_from before other early at_other for_one);
             }
 
-            told_now : IsTold (done ++ row ∷ []) ds ks k (element row.index) row.value
-            told_now =
+            given_now : IsGiven (done ++ row ∷ []) ds ks k (element row.index) row.value
+            given_now =
                 let i = are.infos k p at in
                 record {
                   number = length done;
-                  told = row;
+                  row = row;
                   there = at_end done row [];
-                  place = i.is_first.place;
+                  index = i.is_first.index;
                   d = i.d;
                   has_number = i.is_first.has_number;
                   is_for = d_for;
-                  index = element_is row.index one;
+                  at_element = element_is row.index one;
                   gives = refl;
                 }
 
             -- a value that the last one tells is of this number and this element
-            told_number : (j place : ℕ) (v : Value) (t : IsTold (done ++ row ∷ []) ds ks j place v) → row ≡ t.told → (j ≡ k) × (place ≡ element row.index)
-            told_number j place v t same =
+            given_number : (j index : ℕ) (v : Value) (t : IsGiven (done ++ row ∷ []) ds ks j index v) → row ≡ t.row → (j ≡ k) × (index ≡ element row.index)
+            given_number j index v t same =
                 let i = are.infos k p at in
                 let for_row = subst (λ x. IsFor x t.d) (sym same) t.is_for in
-                let also = one_number ds ks count numbered k i.is_first.place t.place i.d t.d i.is_first.has_number t.has_number.there (for_both row i.d t.d d_for for_row) in
-                (same_there (slice_get ks t.place) j k t.has_number.numbered also.numbered, is_element row.index place one (subst (λ (x : PersValue). IsIndexOf x.index place) (sym same) t.index))
+                let also = one_number ds ks count numbered k i.is_first.index t.index i.d t.d i.is_first.has_number t.has_number.there (for_both row i.d t.d d_for for_row) in
+                (same_there (slice_get ks t.index) j k t.has_number.numbered also.numbered, is_element row.index index one (subst (λ (x : PersValue). IsIndexOf x.index index) (sym same) t.at_element))
 
-            told_here : (place : ℕ) (v : Value) → slice_get (set p.told (element row.index) (Some row.value)) place ≡ Some (Some v) → IsTold (done ++ row ∷ []) ds ks k place v
-            told_here place v at_v = elim (put_there p.told (element row.index) (Some row.value) place (Some v) at_v) [
+            given_here : (index : ℕ) (v : Value) → slice_get (set p.given (element row.index) (Some row.value)) index ≡ Some (Some v) → IsGiven (done ++ row ∷ []) ds ks k index v
+            given_here index v at_v = elim (put_there p.given (element row.index) (Some row.value) index (Some v) at_v) [
               | inl here ↦
                   let same : row.value ≡ v = cc here.1 in
-                  subst (λ e. IsTold (done ++ row ∷ []) ds ks k e v) (sym here.0) (subst (IsTold (done ++ row ∷ []) ds ks k (element row.index)) same told_now)
-              | inr elsewhere ↦ told_more done row k place v (are.told k p at place v elsewhere.1)
+                  subst (λ e. IsGiven (done ++ row ∷ []) ds ks k e v) (sym here.0) (subst (IsGiven (done ++ row ∷ []) ds ks k (element row.index)) same given_now)
+              | inr elsewhere ↦ given_more done row k index v (are.given k p at index v elsewhere.1)
             ]
 
-            untold_there : (place : ℕ) → slice_get (set p.told (element row.index) (Some row.value)) place ≡ Some None → IsUntold (done ++ row ∷ []) ds ks k place
-            untold_there place at_none v t = elim (put_there p.told (element row.index) (Some row.value) place None at_none) [
+            not_given_there : (index : ℕ) → slice_get (set p.given (element row.index) (Some row.value)) index ≡ Some None → IsNotGiven (done ++ row ∷ []) ds ks k index
+            not_given_there index at_none v t = elim (put_there p.given (element row.index) (Some row.value) index None at_none) [
               | inl here ↦ let e = here.1 in cc e
-              | inr elsewhere ↦ elim (told_by done row k place v t) [
-                | inl early ↦ are.untold k p at place elsewhere.1 v early
-                | inr last ↦ elsewhere.0 (told_number k place v t last).1
+              | inr elsewhere ↦ elim (given_by done row k index v t) [
+                | inl early ↦ are.not_given k p at index elsewhere.1 v early
+                | inr last ↦ elsewhere.0 (given_number k index v t last).1
               ]
             ]
 
-            untold_elsewhere : (j : ℕ) (q : PersInfo) → slice_get ps j ≡ Some q → (j ≡ k → ⊥) → (place : ℕ) → slice_get q.told place ≡ Some None → IsUntold (done ++ row ∷ []) ds ks j place
-            untold_elsewhere j q at_q other place at_none v t = elim (told_by done row j place v t) [
-              | inl early ↦ are.untold j q at_q place at_none v early
-              | inr last ↦ other (told_number j place v t last).0
+            not_given_elsewhere : (j : ℕ) (q : PersInfo) → slice_get ps j ≡ Some q → (j ≡ k → ⊥) → (index : ℕ) → slice_get q.given index ≡ Some None → IsNotGiven (done ++ row ∷ []) ds ks j index
+            not_given_elsewhere j q at_q other index at_none v t = elim (given_by done row j index v t) [
+              | inl early ↦ are.not_given j q at_q index at_none v early
+              | inr last ↦ other (given_number j index v t last).0
             ]
 
-            told_too : AreTold (done ++ row ∷ []) (set ps k (with_told p (element row.index) row.value))
-            told_too =
-                let q = with_told p (element row.index) row.value in
+            given_too : AreGiven (done ++ row ∷ []) (set ps k (with_given p (element row.index) row.value))
+            given_too =
+                let q = with_given p (element row.index) row.value in
                 let i = are.infos k p at in
                 let info : IsInfo ds ks k q = record { d = i.d; is_first = i.is_first; name = i.name; owner = i.owner; sort = i.sort; len = i.len; declared = i.declared } in
                 record {
@@ -292,20 +292,20 @@ module _ (ds : List Declared) (ks : List ℕ) (count : ℕ) (numbered : AreNumbe
                     | inr elsewhere ↦ are.infos j r elsewhere.1
                   ];
                   each = λ j r at_r. elim (put_there ps k q j r at_r) [
-                    | inl here ↦ subst (λ (x : PersInfo). length x.told ≡ width x.len) here.1 (length-set p.told (element row.index) (Some row.value) ∙ are.each k p at)
+                    | inl here ↦ subst (λ (x : PersInfo). length x.given ≡ width x.len) here.1 (length-set p.given (element row.index) (Some row.value) ∙ are.each k p at)
                     | inr elsewhere ↦ are.each j r elsewhere.1
                   ];
-                  told = λ j r at_r. elim (put_there ps k q j r at_r) [
+                  given = λ j r at_r. elim (put_there ps k q j r at_r) [
                     | inl here ↦
-                        subst (λ n. (place : ℕ) (v : Value) → slice_get r.told place ≡ Some (Some v) → IsTold (done ++ row ∷ []) ds ks n place v) (sym here.0)
-                        (subst (λ (x : PersInfo). (place : ℕ) (v : Value) → slice_get x.told place ≡ Some (Some v) → IsTold (done ++ row ∷ []) ds ks k place v) here.1 told_here)
-                    | inr elsewhere ↦ λ place v at_v. told_more done row j place v (are.told j r elsewhere.1 place v at_v)
+                        subst (λ n. (index : ℕ) (v : Value) → slice_get r.given index ≡ Some (Some v) → IsGiven (done ++ row ∷ []) ds ks n index v) (sym here.0)
+                        (subst (λ (x : PersInfo). (index : ℕ) (v : Value) → slice_get x.given index ≡ Some (Some v) → IsGiven (done ++ row ∷ []) ds ks k index v) here.1 given_here)
+                    | inr elsewhere ↦ λ index v at_v. given_more done row j index v (are.given j r elsewhere.1 index v at_v)
                   ];
-                  untold = λ j r at_r. elim (put_there ps k q j r at_r) [
+                  not_given = λ j r at_r. elim (put_there ps k q j r at_r) [
                     | inl here ↦
-                        subst (λ n. (place : ℕ) → slice_get r.told place ≡ Some None → IsUntold (done ++ row ∷ []) ds ks n place) (sym here.0)
-                        (subst (λ (x : PersInfo). (place : ℕ) → slice_get x.told place ≡ Some None → IsUntold (done ++ row ∷ []) ds ks k place) here.1 untold_there)
-                    | inr elsewhere ↦ untold_elsewhere j r elsewhere.1 elsewhere.0
+                        subst (λ n. (index : ℕ) → slice_get r.given index ≡ Some None → IsNotGiven (done ++ row ∷ []) ds ks n index) (sym here.0)
+                        (subst (λ (x : PersInfo). (index : ℕ) → slice_get x.given index ≡ Some None → IsNotGiven (done ++ row ∷ []) ds ks k index) here.1 not_given_there)
+                    | inr elsewhere ↦ not_given_elsewhere j r elsewhere.1 elsewhere.0
                   ];
                   right = λ number value at_value. elim (earlier_or_last done row number value at_value) [
                     | inl early ↦ are.right number value early
@@ -313,26 +313,26 @@ module _ (ds : List Declared) (ks : List ℕ) (count : ℕ) (numbered : AreNumbe
                   ];
                 }
 
-    tell_to_right : (k : ℕ) (found_there : Option PersInfo) → slice_get ps k ≡ found_there → (p : PersInfo) → slice_get ps k ≡ Some p → is_global row.name p ≡ true
-        → Outcome (AreTold (done ++ row ∷ [])) (IsRefusal ds whole) (tell_to ps (length done) row k found_there)
-    tell_to_right k None at_none p at global = absurd (let e = sym at_none ∙ at in cc e)
-    tell_to_right k (Some q) at_q p at global =
+    give_to_right : (k : ℕ) (found_there : Option PersInfo) → slice_get ps k ≡ found_there → (p : PersInfo) → slice_get ps k ≡ Some p → is_global row.name p ≡ true
+        → Outcome (AreGiven (done ++ row ∷ [])) (IsRefusal ds whole) (give_to ps (length done) row k found_there)
+    give_to_right k None at_none p at global = absurd (let e = sym at_none ∙ at in cc e)
+    give_to_right k (Some q) at_q p at global =
         let same : p ≡ q = same_there (slice_get ps k) p q at at_q in
         let q_global = subst (λ r. is_global row.name r ≡ true) same global in
-        let next = set ps k (with_told q (element row.index) row.value) in
-        ruled (AreTold (done ++ row ∷ [])) (IsRefusal ds whole) (has_sort q.sort row.value && fits_index q.len row.index) (at_value (length done) Kind) _ (λ e. broken Kind (other_kind k q at_q q_global e)) (λ suiting.
-        ruled (AreTold (done ++ row ∷ [])) (IsRefusal ds whole) (nat_le (element row.index + 1) (width q.len)) (at_value (length done) Range) _
+        let next = set ps k (with_given q (element row.index) row.value) in
+        ruled (AreGiven (done ++ row ∷ [])) (IsRefusal ds whole) (has_sort q.sort row.value && fits_index q.len row.index) (at_value (length done) Kind) _ (λ e. broken Kind (other_kind k q at_q q_global e)) (λ suiting.
+        ruled (AreGiven (done ++ row ∷ [])) (IsRefusal ds whole) (nat_le (element row.index + 1) (width q.len)) (at_value (length done) Range) _
         (λ e. broken Range (outside k q at_q q_global (suits_from k q at_q q_global suiting) e)) (λ few.
-        ruled (AreTold (done ++ row ∷ [])) (IsRefusal ds whole) (not (is_told (slice_get q.told (element row.index)))) (at_value (length done) Twice) (Ok next)
+        ruled (AreGiven (done ++ row ∷ [])) (IsRefusal ds whole) (not (is_given (slice_get q.given (element row.index)))) (at_value (length done) Twice) (Ok next)
         (λ e. broken Twice (twice k q at_q q_global (suits_from k q at_q q_global suiting) (leb-true (element row.index + 1) (width q.len) few) e))
-        (λ fresh. told_too k q at_q q_global (suits_from k q at_q q_global suiting) (leb-true (element row.index + 1) (width q.len) few) fresh)))
+        (λ fresh. given_too k q at_q q_global (suits_from k q at_q q_global suiting) (leb-true (element row.index + 1) (width q.len) few) fresh)))
 
-    tell_global_right : (k : Option ℕ) → global_number row.name ps ≡ k → Outcome (AreTold (done ++ row ∷ [])) (IsRefusal ds whole) (tell_global ps (length done) row k)
-    tell_global_right None none = broken NoSuch (no_such none)
-    tell_global_right (Some k) is = let (p, at, global) = position_there (is_global row.name) ps k is in tell_to_right k (slice_get ps k) refl p at global
+    give_global_right : (k : Option ℕ) → global_number row.name ps ≡ k → Outcome (AreGiven (done ++ row ∷ [])) (IsRefusal ds whole) (give_global ps (length done) row k)
+    give_global_right None none = broken NoSuch (no_such none)
+    give_global_right (Some k) is = let (p, at, global) = position_there (is_global row.name) ps k is in give_to_right k (slice_get ps k) refl p at global
 
-    tell_right : Outcome (AreTold (done ++ row ∷ [])) (IsRefusal ds whole) (tell ps (length done) row)
-    tell_right = tell_global_right (global_number row.name ps) refl
+    give_right : Outcome (AreGiven (done ++ row ∷ [])) (IsRefusal ds whole) (give ps (length done) row)
+    give_right = give_global_right (global_number row.name ps) refl
 
   from_one : (row : PersValue) → is_pers_value row ≡ true → FromOne row.index
   from_one row is =
@@ -345,11 +345,11 @@ module _ (ds : List Declared) (ks : List ℕ) (count : ℕ) (numbered : AreNumbe
       one_there (Some index) e = let (low, _) = and_parts (nat_le 1 index) (nat_le index 1_000) e in leb-true 1 index low
 
   -- all values of the script
-  pub all_told : (done rest : List PersValue) (number : ℕ) (ps : List PersInfo) → number ≡ length done → whole ≡ done ++ rest → list_all is_pers_value rest ≡ true → AreTold done ps
-      → Outcome (AreTold whole) (IsRefusal ds whole) (tell_all ps number rest)
-  all_told done [] number ps is_number is_whole kept are = subst (λ vs. AreTold vs ps) (sym (is_whole ∙ append-nil done)) are
-  all_told done (row ∷ rest) number ps is_number is_whole kept are =
+  pub all_given : (done rest : List PersValue) (number : ℕ) (ps : List PersInfo) → number ≡ length done → whole ≡ done ++ rest → list_all is_pers_value rest ≡ true → AreGiven done ps
+      → Outcome (AreGiven whole) (IsRefusal ds whole) (give_all ps number rest)
+  all_given done [] number ps is_number is_whole kept are = subst (λ vs. AreGiven vs ps) (sym (is_whole ∙ append-nil done)) are
+  all_given done (row ∷ rest) number ps is_number is_whole kept are =
       let (here, more) = and_parts (is_pers_value row) (list_all is_pers_value rest) kept in
-      followed (AreTold (done ++ row ∷ [])) (AreTold whole) (IsRefusal ds whole) (tell ps number row) (λ qs. tell_all qs (number + 1) rest)
-      (subst (λ n. Outcome (AreTold (done ++ row ∷ [])) (IsRefusal ds whole) (tell ps n row)) (sym is_number) (tell_right done rest row is_whole (from_one row here) ps are))
-      (λ qs told. all_told (done ++ row ∷ []) rest (number + 1) qs (omega (arith, is_number, one_longer done row)) (is_whole ∙ sym (append_assoc done (row ∷ []) rest)) more told)
+      followed (AreGiven (done ++ row ∷ [])) (AreGiven whole) (IsRefusal ds whole) (give ps number row) (λ qs. give_all qs (number + 1) rest)
+      (subst (λ n. Outcome (AreGiven (done ++ row ∷ [])) (IsRefusal ds whole) (give ps n row)) (sym is_number) (give_right done rest row is_whole (from_one row here) ps are))
+      (λ qs given. all_given (done ++ row ∷ []) rest (number + 1) qs (omega (arith, is_number, one_longer done row)) (is_whole ∙ sym (append_assoc done (row ∷ []) rest)) more given)

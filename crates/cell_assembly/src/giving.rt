@@ -37,7 +37,7 @@ fn fits_index(len: Option<u16>, index: Option<u16>) -> bool
     }
 }
 
-/// The place among the elements, from 0, that an index from 1 names.
+/// Which element, from 0, an index from 1 names.
 fn element(index: Option<u16>) -> usize
     ensures { result ≡ Cells.element index }
 {
@@ -80,22 +80,22 @@ fn in_script(number: usize, rule: ScriptRule) -> CellFault
     }
 }
 
-/// Whether the script has given a value to the element at this place.
-fn is_told(told: &[Option<Value>], place: usize) -> bool
-    ensures { result ≡ Cells.is_told (slice_get told.now place) }
+/// Whether the script has given a value to the element of this index.
+fn is_given(given: &[Option<Value>], index: usize) -> bool
+    ensures { result ≡ Cells.is_given (slice_get given.now index) }
 {
-    match told.get(place) {
+    match given.get(index) {
         Some(value) => value.is_some(),
         None => false,
     }
 }
 
-/// The element at this place has this value; nothing changes where there is none.
-fn with_told(info: &mut PersInfo, place: usize, value: Value)
-    ensures { view_info info.new ≡ Cells.with_told (view_info info.old) place value }
+/// The element of this index has this value; nothing changes where there is none.
+fn with_given(info: &mut PersInfo, index: usize, value: Value)
+    ensures { view_info info.new ≡ Cells.with_given (view_info info.old) index value }
 {
-    if place < info.told.len() {
-        info.told[place] = Some(value);
+    if index < info.given.len() {
+        info.given[index] = Some(value);
     }
 }
 
@@ -107,13 +107,13 @@ fn suits(info: &PersInfo, row: &PersValue) -> bool
 }
 
 /// A value of the script for the persistent of this number.
-fn tell_to(
+fn give_to(
     infos: Vec<PersInfo>,
     number: usize,
     row: &PersValue,
     k: u32,
 ) -> Result<Vec<PersInfo>, CellFault>
-    ensures { let ps = view_infos infos in Gives view_infos result (Cells.tell_to ps number row.now k (slice_get ps k)) }
+    ensures { let ps = view_infos infos in Gives view_infos result (Cells.give_to ps number row.now k (slice_get ps k)) }
 {
     let mut infos = infos;
     let at = k as usize;
@@ -124,49 +124,49 @@ fn tell_to(
     if !suits(info, row) {
         return Err(in_script(number, ScriptRule::Kind));
     }
-    let place = element(row.index);
-    if place >= width(info.len) {
+    let index = element(row.index);
+    if index >= width(info.len) {
         return Err(in_script(number, ScriptRule::Range));
     }
-    if is_told(&info.told, place) {
+    if is_given(&info.given, index) {
         return Err(in_script(number, ScriptRule::Twice));
     }
-    with_told(info, place, row.value.copy());
+    with_given(info, index, row.value.copy());
     Ok(infos)
 }
 
 /// A value of the script for the global persistent of this number, if there is one.
-fn tell_global(
+fn give_global(
     infos: Vec<PersInfo>,
     number: usize,
     row: &PersValue,
     k: Option<u32>,
 ) -> Result<Vec<PersInfo>, CellFault>
-    ensures { Gives view_infos result (Cells.tell_global (view_infos infos) number row.now k) }
+    ensures { Gives view_infos result (Cells.give_global (view_infos infos) number row.now k) }
 {
     match k {
-        Some(k) => tell_to(infos, number, row, k),
+        Some(k) => give_to(infos, number, row, k),
         None => Err(in_script(number, ScriptRule::NoSuch)),
     }
 }
 
 /// The value of this number in the script.
-fn tell(pers: Persistents, number: usize, row: &PersValue) -> Result<Persistents, CellFault>
-    ensures { Gives (λ told. told) result (Cells.tell pers number row.now) }
+fn give(pers: Persistents, number: usize, row: &PersValue) -> Result<Persistents, CellFault>
+    ensures { Gives (λ given. given) result (Cells.give pers number row.now) }
 {
     let k = pers.global_number(&row.name);
     let Persistents { infos, globals } = pers;
-    let infos = tell_global(infos, number, row, k)?;
+    let infos = give_global(infos, number, row, k)?;
     Ok(Persistents { infos, globals })
 }
 
 /// The values of the script, in order.
-pub(crate) fn tell_all(pers: Persistents, rows: &[PersValue]) -> Result<Persistents, CellFault>
-    ensures { Gives (λ told. told) result (Cells.tell_all pers 0 rows.now) }
+pub(crate) fn give_all(pers: Persistents, rows: &[PersValue]) -> Result<Persistents, CellFault>
+    ensures { Gives (λ given. given) result (Cells.give_all pers 0 rows.now) }
 {
-    let mut told = pers;
+    let mut given = pers;
     for (number, row) in rows.iter().enumerate() {
-        told = tell(told, number, row)?;
+        given = give(given, number, row)?;
     }
-    Ok(told)
+    Ok(given)
 }

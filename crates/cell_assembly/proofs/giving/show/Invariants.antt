@@ -1,5 +1,5 @@
 use Rattle.std.proofs.Common.{◌≡◌, ◌++◌, take}
-use Rattle.cell_assembly.proofs.telling.show.Given as goal
+use Rattle.cell_assembly.proofs.giving.show.Given as goal
 
 abbrev pub invariant-loop-byte : goal.invariant-loop-byte
 invariant-loop-byte l = l.text ≡ l.initial.text ++ take l.byte-index l.bytes
