@@ -249,7 +249,7 @@ module _ (ds : List Declared) (ks : List ℕ) (count : ℕ) (numbered : AreNumbe
                   gives = refl;
                 }
 
-            -- a value that the last one tells is of this number and this element
+            -- a value that the last one gives is of this number and this element
             given_number : (j index : ℕ) (v : Value) (t : IsGiven (done ++ row ∷ []) ds ks j index v) → row ≡ t.row → (j ≡ k) × (index ≡ element row.index)
             given_number j index v t same =
                 let i = are.infos k p at in

@@ -88,43 +88,43 @@ module _ (modules : List PlainModule) (signals : List SignalRow) (tree : TypedTr
   item_const number c (Datum local task d at) h seen = datum_const number c local task d at (is_scalar_const d) (is_pers d.kind) seen h.row h.value
   item_const number c (Routine r) h seen = tt
 
-  param_const : (place : ℕ) (mode : Mode) → Q (param_meant place mode)
-  param_const place modes.Value = tt
-  param_const place modes.Inout = tt
-  param_const place modes.Var = tt
-  param_const place modes.Pers = tt
+  param_const : (index : ℕ) (mode : Mode) → Q (param_meant index mode)
+  param_const index modes.Value = tt
+  param_const index modes.Inout = tt
+  param_const index modes.Var = tt
+  param_const index modes.Pers = tt
 
   -- a datum of a routine has the type of its row
-  local_is : (number : ℕ) (c : Tally) (r : PlainRoutine) (place : ℕ) (d : PlainDatum) (sort : Sort) → declared.RowIn tables names.rows number c (Routine r) → slice_get r.locals place ≡ Some d
-      → IsType tables (spot_of number (Some c.routines) d.sort) d.sort sort → sort_in (local_of names.rows (Some c.routines) (length r.params + place)) ≡ sort
-  local_is number c r place d sort (row, found, typed) there is =
+  local_is : (number : ℕ) (c : Tally) (r : PlainRoutine) (index : ℕ) (d : PlainDatum) (sort : Sort) → declared.RowIn tables names.rows number c (Routine r) → slice_get r.locals index ≡ Some d
+      → IsType tables (spot_of number (Some c.routines) d.sort) d.sort sort → sort_in (local_of names.rows (Some c.routines) (length r.params + index)) ≡ sort
+  local_is number c r index d sort (row, found, typed) there is =
       let as_many : length r.params ≡ length row.params = each_length (declared.IsParam tables number c.routines) r.params row.params typed.params in
-      let other = partner (declared.IsDatumRow tables number (Some c.routines)) r.locals row.locals place d typed.locals there in
-      local_sort tables number c.routines names.rows row (length r.params) found as_many place other.y other.is
+      let other = partner (declared.IsDatumRow tables number (Some c.routines)) r.locals row.locals index d typed.locals there in
+      local_sort tables number c.routines names.rows row (length r.params) found as_many index other.y other.is
       ∙ type_one tables (spot_of number (Some c.routines) d.sort) d.sort other.y.sort sort other.such is
 
-  local_const : (number : ℕ) (c : Tally) (r : PlainRoutine) → Known number c (Routine r) → spot.routine ≡ Some c.routines → (place consts : ℕ) (d : PlainDatum) → slice_get r.locals place ≡ Some d → str_to_ascii_lowercase name ≡ str_to_ascii_lowercase d.name.text
-      → consts ≡ c.consts + consts_before place r.locals → (scalar : Bool) → is_scalar_const d ≡ scalar → Q (if scalar then meants.Const consts else meants.Local (length r.params + place))
-  local_const number c r h is place consts d there named counted true scalar = λ within.
-      let row = h.row place d there scalar in
-      let value = h.value.values place d there scalar (subst (λ n. n < length p.names.kept) counted within) in
+  local_const : (number : ℕ) (c : Tally) (r : PlainRoutine) → Known number c (Routine r) → spot.routine ≡ Some c.routines → (index consts : ℕ) (d : PlainDatum) → slice_get r.locals index ≡ Some d → str_to_ascii_lowercase name ≡ str_to_ascii_lowercase d.name.text
+      → consts ≡ c.consts + consts_before index r.locals → (scalar : Bool) → is_scalar_const d ≡ scalar → Q (if scalar then meants.Const consts else meants.Local (length r.params + index))
+  local_const number c r h is index consts d there named counted true scalar = λ within.
+      let row = h.row index d there scalar in
+      let value = h.value.values index d there scalar (subst (λ n. n < length p.names.kept) counted within) in
       let in_tree = h.in_tree in
       subst (IsConst modules signals tree p.names spot name) (sym counted) (inr (record {
         inside = record { routine = c.routines; number = number; r = r; row = in_tree.1.row; is_inside = is; stands = in_tree.0; has_row = in_tree.1.has_row; is_row = in_tree.1.is_row };
-        place = place;
+        index = index;
         d = d;
         row = row.row;
         is_datum = there;
         named = named;
-        has_row = ap (λ (rs : Rows). slice_get rs.consts (c.consts + consts_before place r.locals)) same ∙ row.is;
+        has_row = ap (λ (rs : Rows). slice_get rs.consts (c.consts + consts_before index r.locals)) same ∙ row.is;
         is_row = row.is_row;
-        has_value = subst (HasItsValue p.names (c.consts + consts_before place r.locals) number (Some c.routines) d) (local_is number c r place d row.row.sort h.named there row.is_row.sort) value;
+        has_value = subst (HasItsValue p.names (c.consts + consts_before index r.locals) number (Some c.routines) d) (local_is number c r index d row.row.sort h.named there row.is_row.sort) value;
       }))
-  local_const number c r h is place consts d there named counted false scalar = tt
+  local_const number c r h is index consts d there named counted false scalar = tt
 
   place_const : (number : ℕ) (c : Tally) (r : PlainRoutine) → Known number c (Routine r) → spot.routine ≡ Some c.routines → (meant : Meant) → PlaceEntry c.consts r (str_to_ascii_lowercase name) meant → Q meant
-  place_const number c r h is meant (inl e) = subst Q (sym e.means) (param_const e.place e.p.mode)
-  place_const number c r h is meant (inr e) = subst Q (sym e.means) (local_const number c r h is e.place e.consts e.d e.is_datum e.named e.counted (is_scalar_const e.d) refl)
+  place_const number c r h is meant (inl e) = subst Q (sym e.means) (param_const e.index e.p.mode)
+  place_const number c r h is meant (inr e) = subst Q (sym e.means) (local_const number c r h is e.index e.consts e.d e.is_datum e.named e.counted (is_scalar_const e.d) refl)
 
   const_is : AllModules Known 0 no_counts modules → (k : ℕ) → meaning tables spot name ≡ Some (meants.Const k) → k < length p.names.kept → IsConst modules signals tree p.names spot name k
   const_is all k means =

@@ -19,17 +19,17 @@ use Rattle.name_laws.proofs.Items.{Fact, IsFront, IsWalk, front_more, stays, fro
 -- how many CONSTs that are no arrays stand before a place
 abbrev pub consts_before : ℕ → List PlainDatum → ℕ
 consts_before zero ds = 0
-consts_before (suc place) [] = 0
-consts_before (suc place) (d ∷ ds) = (if is_scalar_const d then 1 else 0) + consts_before place ds
+consts_before (suc index) [] = 0
+consts_before (suc index) (d ∷ ds) = (if is_scalar_const d then 1 else 0) + consts_before index ds
 
-pub before_more : (ds : List PlainDatum) (place : ℕ) (d : PlainDatum) → slice_get ds place ≡ Some d → consts_before (suc place) ds ≡ consts_before place ds + (if is_scalar_const d then 1 else 0)
-before_more [] place d is = absurd (cc is)
+pub before_more : (ds : List PlainDatum) (index : ℕ) (d : PlainDatum) → slice_get ds index ≡ Some d → consts_before (suc index) ds ≡ consts_before index ds + (if is_scalar_const d then 1 else 0)
+before_more [] index d is = absurd (cc is)
 before_more (e ∷ ds) zero d is =
     let same : e ≡ d = cc is in
     ap (λ x. (if is_scalar_const x then 1 else 0) + 0) same ∙ omega arith
-before_more (e ∷ ds) (suc place) d is =
+before_more (e ∷ ds) (suc index) d is =
     let here : ℕ = if is_scalar_const e then 1 else 0 in
-    ap (λ n. here + n) (before_more ds place d is) ∙ omega arith
+    ap (λ n. here + n) (before_more ds index d is) ∙ omega arith
 
 -- the row of a datum as it is found
 pub record IsFull (tables : Tables) (number : ℕ) (routine : Option ℕ) (d : PlainDatum) (row : DatumRow) : Type 0 where
@@ -99,10 +99,10 @@ module _ (tables : Tables) where
     pub is : slice_get rows k ≡ Some row
     pub is_row : IsConstRow tables number (Some routine) d row
 
-  const_at : (number routine : ℕ) (ds : List PlainDatum) (rows : List DatumRow) → AreEach (IsFull tables number (Some routine)) ds rows → (place : ℕ) (d : PlainDatum) → slice_get ds place ≡ Some d → is_scalar_const d ≡ true
-      → IsConstAt number routine d (scalar_rows rows) (consts_before place ds)
-  const_at number routine [] rows each place d is scalar = absurd (cc is)
-  const_at number routine (e ∷ ds) [] each place d is scalar = absurd each
+  const_at : (number routine : ℕ) (ds : List PlainDatum) (rows : List DatumRow) → AreEach (IsFull tables number (Some routine)) ds rows → (index : ℕ) (d : PlainDatum) → slice_get ds index ≡ Some d → is_scalar_const d ≡ true
+      → IsConstAt number routine d (scalar_rows rows) (consts_before index ds)
+  const_at number routine [] rows each index d is scalar = absurd (cc is)
+  const_at number routine (e ∷ ds) [] each index d is scalar = absurd each
   const_at number routine (e ∷ ds) (row ∷ rows) each zero d is scalar =
       let same : e ≡ d = cc is in
       let e_scalar = subst (λ x. is_scalar_const x ≡ true) (sym same) scalar in
@@ -112,13 +112,13 @@ module _ (tables : Tables) where
         is = ap (λ xs. slice_get xs 0) first;
         is_row = subst (λ x. IsConstRow tables number (Some routine) x row) same (const_row number (Some routine) e row e_scalar each.0);
       }
-  const_at number routine (e ∷ ds) (row ∷ rows) each (suc place) d is scalar =
-      let more = const_at number routine ds rows each.1 place d is scalar in
-      record { row = more.row; is = ap (λ xs. slice_get xs (consts_before (suc place) (e ∷ ds))) (scalars_with number (Some routine) e row rows each.0) ∙ past (is_scalar_const e) ∙ more.is; is_row = more.is_row }
+  const_at number routine (e ∷ ds) (row ∷ rows) each (suc index) d is scalar =
+      let more = const_at number routine ds rows each.1 index d is scalar in
+      record { row = more.row; is = ap (λ xs. slice_get xs (consts_before (suc index) (e ∷ ds))) (scalars_with number (Some routine) e row rows each.0) ∙ past (is_scalar_const e) ∙ more.is; is_row = more.is_row }
     where
-      past : (b : Bool) → slice_get (row_if b row (scalar_rows rows)) ((if b then 1 else 0) + consts_before place ds) ≡ slice_get (scalar_rows rows) (consts_before place ds)
-      past true = let n : 1 + consts_before place ds ≡ suc (consts_before place ds) = omega arith in ap (slice_get (row ∷ scalar_rows rows)) n
-      past false = let n : 0 + consts_before place ds ≡ consts_before place ds = omega arith in ap (slice_get (scalar_rows rows)) n
+      past : (b : Bool) → slice_get (row_if b row (scalar_rows rows)) ((if b then 1 else 0) + consts_before index ds) ≡ slice_get (scalar_rows rows) (consts_before index ds)
+      past true = let n : 1 + consts_before index ds ≡ suc (consts_before index ds) = omega arith in ap (slice_get (row ∷ scalar_rows rows)) n
+      past false = let n : 0 + consts_before index ds ≡ consts_before index ds = omega arith in ap (slice_get (scalar_rows rows)) n
 
   one_counted : (b : Bool) (row : DatumRow) (rows : List DatumRow) (n : ℕ) → length rows ≡ n → length (row_if b row rows) ≡ (if b then 1 else 0) + n
   one_counted true row rows n is = omega (arith, is)
@@ -150,14 +150,14 @@ module _ (tables : Tables) where
   DatumIn rows number c d false = Unit {0}
 
   -- and so have those of a routine
-  pub record LocalConst (rows : Rows) (number : ℕ) (c : Tally) (r : PlainRoutine) (place : ℕ) (d : PlainDatum) : Type 0 where
+  pub record LocalConst (rows : Rows) (number : ℕ) (c : Tally) (r : PlainRoutine) (index : ℕ) (d : PlainDatum) : Type 0 where
     pub row : DatumRow
-    pub is : slice_get rows.consts (c.consts + consts_before place r.locals) ≡ Some row
+    pub is : slice_get rows.consts (c.consts + consts_before index r.locals) ≡ Some row
     pub is_row : IsConstRow tables number (Some c.routines) d row
 
   abbrev pub RowIn : Rows → Fact
   RowIn rows number c (Datum local task d at) = DatumIn rows number c d (is_scalar_const d)
-  RowIn rows number c (Routine r) = (place : ℕ) (d : PlainDatum) → slice_get r.locals place ≡ Some d → is_scalar_const d ≡ true → LocalConst rows number c r place d
+  RowIn rows number c (Routine r) = (index : ℕ) (d : PlainDatum) → slice_get r.locals index ≡ Some d → is_scalar_const d ≡ true → LocalConst rows number c r index d
 
   datum_later : (rows more : Rows) (number : ℕ) (c : Tally) (d : PlainDatum) (scalar : Bool) → Grow rows more → DatumIn rows number c d scalar → DatumIn more number c d scalar
   datum_later rows more number c d true g h = record { row = h.row; is = g c.consts h.row h.is; is_row = h.is_row }
@@ -165,7 +165,7 @@ module _ (tables : Tables) where
 
   row_later : (rows more : Rows) (number : ℕ) (c : Tally) (item : PlainItem) → Grow rows more → RowIn rows number c item → RowIn more number c item
   row_later rows more number c (Datum local task d at) g h = datum_later rows more number c d (is_scalar_const d) g h
-  row_later rows more number c (Routine r) g h = λ place d is scalar. let l = h place d is scalar in record { row = l.row; is = g (c.consts + consts_before place r.locals) l.row l.is; is_row = l.is_row }
+  row_later rows more number c (Routine r) g h = λ index d is scalar. let l = h index d is scalar in record { row = l.row; is = g (c.consts + consts_before index r.locals) l.row l.is; is_row = l.is_row }
 
   abbrev Stepped : ℕ → Tally → PlainItem → Rows → Rows → Type 0
   Stepped number c item rows got = AreCounted (after_item c item) got × Grow rows got × RowIn got number c item
@@ -199,9 +199,9 @@ module _ (tables : Tables) where
           routines = omega (arith, h.routines, length-append rows.routines (row ∷ []));
         },
         front_append rows.consts (scalar_rows row.locals),
-        λ place d there scalar.
-            let at = const_at number c.routines r.locals row.locals each place d there scalar in
-            record { row = at.row; is = behind_front rows.consts (scalar_rows row.locals) c.consts (consts_before place r.locals) h.consts ∙ at.is; is_row = at.is_row },
+        λ index d there scalar.
+            let at = const_at number c.routines r.locals row.locals each index d there scalar in
+            record { row = at.row; is = behind_front rows.consts (scalar_rows row.locals) c.consts (consts_before index r.locals) h.consts ∙ at.is; is_row = at.is_row },
       ))
 
   pub consts_walk : IsWalk Rows (item_rows tables) (items_rows tables) (modules_rows tables) AreCounted Grow RowIn

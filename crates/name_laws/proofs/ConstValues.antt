@@ -156,24 +156,24 @@ module _ (rows : Rows) where
       })
 
   -- the CONSTs among a routine's data, the first of which has this place behind its parameters
-  pub record LocalsKept (number around place : ℕ) (ds : List PlainDatum) (n m : Inner) : Type 0 where
+  pub record LocalsKept (number around index : ℕ) (ds : List PlainDatum) (n m : Inner) : Type 0 where
     pub count : m.consts ≡ n.consts + scalar_consts ds
     pub knows : Knows m.names m.consts
     pub grows : Grows n.names n.consts m.names m.consts
     pub values : (k : ℕ) (d : PlainDatum) → slice_get ds k ≡ Some d → is_scalar_const d ≡ true → n.consts + consts_before k ds < length m.names.kept
-        → HasItsValue m.names (n.consts + consts_before k ds) number (Some around) d (sort_in (local_of rows (Some around) (place + k)))
+        → HasItsValue m.names (n.consts + consts_before k ds) number (Some around) d (sort_in (local_of rows (Some around) (index + k)))
 
   -- a datum of a routine
-  pub record LocalKept (number around place : ℕ) (d : PlainDatum) (scalar : Bool) (n u : Inner) : Type 0 where
+  pub record LocalKept (number around index : ℕ) (d : PlainDatum) (scalar : Bool) (n u : Inner) : Type 0 where
     pub count : u.consts ≡ n.consts + (if scalar then 1 else 0)
     pub longer : length u.known ≡ length n.known + 1
     pub knows : Knows u.names u.consts
     pub grows : Grows n.names n.consts u.names u.consts
-    pub value : scalar ≡ true → n.consts < length u.names.kept → HasItsValue u.names n.consts number (Some around) d (sort_in (local_of rows (Some around) place))
+    pub value : scalar ≡ true → n.consts < length u.names.kept → HasItsValue u.names n.consts number (Some around) d (sort_in (local_of rows (Some around) index))
 
-  local_by_kind : (number around place : ℕ) (known : Elements) (d : PlainDatum) (n : Inner) (sort : Sort) (i : Initial) (scalar : Bool) (elements : Option (List Value)) → sort ≡ sort_in (local_of rows (Some around) place) → Knows n.names n.consts
-      → is_scalar_const d ≡ scalar → initial n.names number (Some around) known sort d ≡ Ok i → LocalKept number around place d scalar n (local_by rows n d sort i scalar elements)
-  local_by_kind number around place known d n sort i true elements is_sort knows scalar is =
+  local_by_kind : (number around index : ℕ) (known : Elements) (d : PlainDatum) (n : Inner) (sort : Sort) (i : Initial) (scalar : Bool) (elements : Option (List Value)) → sort ≡ sort_in (local_of rows (Some around) index) → Knows n.names n.consts
+      → is_scalar_const d ≡ scalar → initial n.names number (Some around) known sort d ≡ Ok i → LocalKept number around index d scalar n (local_by rows n d sort i scalar elements)
+  local_by_kind number around index known d n sort i true elements is_sort knows scalar is =
       let kept = value_kept n.names n.consts number (Some around) known sort d i knows scalar is in
       record {
         count = refl;
@@ -182,51 +182,51 @@ module _ (rows : Rows) where
         grows = kept.grows;
         value = λ e within. subst (HasItsValue (keeping n.names n.consts i.values) n.consts number (Some around) d) is_sort (kept.has_value within);
       }
-  local_by_kind number around place known d n sort i false elements is_sort knows scalar is =
+  local_by_kind number around index known d n sort i false elements is_sort knows scalar is =
       record { count = omega arith; longer = length-append n.known (elements ∷ []); knows = knows; grows = grows_same n.names n.consts; value = λ e. absurd (cc e) }
 
-  local_kept : (number around place : ℕ) (slots : List (Option (List Value))) (d : PlainDatum) (n u : Inner) → length n.known ≡ place → Knows n.names n.consts → local number around slots d n ≡ Ok u
-      → LocalKept number around place d (is_scalar_const d) n u
-  local_kept number around place slots d n u long knows e =
+  local_kept : (number around index : ℕ) (slots : List (Option (List Value))) (d : PlainDatum) (n u : Inner) → length n.known ≡ index → Knows n.names n.consts → local number around slots d n ≡ Ok u
+      → LocalKept number around index d (is_scalar_const d) n u
+  local_kept number around index slots d n u long knows e =
       let sort = sort_in (local_of n.names.rows (Some around) (length n.known)) in
-      let is_sort : sort ≡ sort_in (local_of rows (Some around) place) = ap (λ r. sort_in (local_of r (Some around) (length n.known))) knows.same ∙ ap (λ k. sort_in (local_of rows (Some around) k)) long in
-      behind (LocalKept number around place d (is_scalar_const d) n u) u (initial n.names number (Some around) (record { slots = slots; locals = n.known }) sort d) _ e (λ i is done.
-      subst (LocalKept number around place d (is_scalar_const d) n) (ok_same _ u done) (local_by_kind number around place (record { slots = slots; locals = n.known }) d n sort i (is_scalar_const d) _ is_sort knows refl is))
+      let is_sort : sort ≡ sort_in (local_of rows (Some around) index) = ap (λ r. sort_in (local_of r (Some around) (length n.known))) knows.same ∙ ap (λ k. sort_in (local_of rows (Some around) k)) long in
+      behind (LocalKept number around index d (is_scalar_const d) n u) u (initial n.names number (Some around) (record { slots = slots; locals = n.known }) sort d) _ e (λ i is done.
+      subst (LocalKept number around index d (is_scalar_const d) n) (ok_same _ u done) (local_by_kind number around index (record { slots = slots; locals = n.known }) d n sort i (is_scalar_const d) _ is_sort knows refl is))
 
-  locals_kept : (number around place : ℕ) (slots : List (Option (List Value))) (ds : List PlainDatum) (n m : Inner) → length n.known ≡ place → Knows n.names n.consts → locals number around slots ds n ≡ Ok m → LocalsKept number around place ds n m
-  locals_kept number around place slots [] n m long knows e =
-      subst (LocalsKept number around place [] n) (ok_same n m e) (record { count = omega arith; knows = knows; grows = grows_same n.names n.consts; values = λ k d is. absurd (cc is) })
-  locals_kept number around place slots (d ∷ ds) n m long knows e =
-      behind (LocalsKept number around place (d ∷ ds) n m) m (local number around slots d n) _ e (λ u is rest.
-      let one = local_kept number around place slots d n u long knows is in
-      let more = locals_kept number around (place + 1) slots ds u m (omega (arith, one.longer, long)) one.knows rest in
+  locals_kept : (number around index : ℕ) (slots : List (Option (List Value))) (ds : List PlainDatum) (n m : Inner) → length n.known ≡ index → Knows n.names n.consts → locals number around slots ds n ≡ Ok m → LocalsKept number around index ds n m
+  locals_kept number around index slots [] n m long knows e =
+      subst (LocalsKept number around index [] n) (ok_same n m e) (record { count = omega arith; knows = knows; grows = grows_same n.names n.consts; values = λ k d is. absurd (cc is) })
+  locals_kept number around index slots (d ∷ ds) n m long knows e =
+      behind (LocalsKept number around index (d ∷ ds) n m) m (local number around slots d n) _ e (λ u is rest.
+      let one = local_kept number around index slots d n u long knows is in
+      let more = locals_kept number around (index + 1) slots ds u m (omega (arith, one.longer, long)) one.knows rest in
       let here : ℕ = if is_scalar_const d then 1 else 0 in
       record {
         count = more.count ∙ ap (λ c. c + scalar_consts ds) one.count ∙ omega arith;
         knows = more.knows;
         grows = grows_then n.names n.consts u.names u.consts m.names m.consts one.grows more.grows;
-        values = values_of number around place d ds n u m one more;
+        values = values_of number around index d ds n u m one more;
       })
     where
-      values_of : (number around place : ℕ) (d : PlainDatum) (ds : List PlainDatum) (n u m : Inner) → LocalKept number around place d (is_scalar_const d) n u → LocalsKept number around (place + 1) ds u m → (k : ℕ) (e : PlainDatum)
+      values_of : (number around index : ℕ) (d : PlainDatum) (ds : List PlainDatum) (n u m : Inner) → LocalKept number around index d (is_scalar_const d) n u → LocalsKept number around (index + 1) ds u m → (k : ℕ) (e : PlainDatum)
           → slice_get (d ∷ ds) k ≡ Some e → is_scalar_const e ≡ true → n.consts + consts_before k (d ∷ ds) < length m.names.kept
-          → HasItsValue m.names (n.consts + consts_before k (d ∷ ds)) number (Some around) e (sort_in (local_of rows (Some around) (place + k)))
-      values_of number around place d ds n u m one more zero e is scalar within =
+          → HasItsValue m.names (n.consts + consts_before k (d ∷ ds)) number (Some around) e (sort_in (local_of rows (Some around) (index + k)))
+      values_of number around index d ds n u m one more zero e is scalar within =
           let same : d ≡ e = cc is in
           let d_scalar = subst (λ x. is_scalar_const x ≡ true) (sym same) scalar in
           let first : n.consts + 0 ≡ n.consts = omega arith in
-          let spot : place + 0 ≡ place = omega arith in
+          let spot : index + 0 ≡ index = omega arith in
           let grown : u.consts ≡ n.consts + 1 = one.count ∙ ap (λ b. n.consts + (if b then 1 else 0)) d_scalar in
           let value = one.value d_scalar (omega (arith, within, more.grows.long)) in
-          let later = value_later u.names u.consts m.names m.consts n.consts number (Some around) d (sort_in (local_of rows (Some around) place)) (omega (arith, grown)) more.grows value in
-          subst (λ x. HasItsValue m.names (n.consts + 0) number (Some around) x (sort_in (local_of rows (Some around) (place + 0)))) same
-          (subst (λ c. HasItsValue m.names c number (Some around) d (sort_in (local_of rows (Some around) (place + 0)))) (sym first)
+          let later = value_later u.names u.consts m.names m.consts n.consts number (Some around) d (sort_in (local_of rows (Some around) index)) (omega (arith, grown)) more.grows value in
+          subst (λ x. HasItsValue m.names (n.consts + 0) number (Some around) x (sort_in (local_of rows (Some around) (index + 0)))) same
+          (subst (λ c. HasItsValue m.names c number (Some around) d (sort_in (local_of rows (Some around) (index + 0)))) (sym first)
           (subst (λ p. HasItsValue m.names n.consts number (Some around) d (sort_in (local_of rows (Some around) p))) (sym spot) later))
-      values_of number around place d ds n u m one more (suc k) e is scalar within =
+      values_of number around index d ds n u m one more (suc k) e is scalar within =
           let here : ℕ = if is_scalar_const d then 1 else 0 in
           let count : u.consts + consts_before k ds ≡ n.consts + consts_before (suc k) (d ∷ ds) = ap (λ c. c + consts_before k ds) one.count ∙ omega arith in
-          let spot : (place + 1) + k ≡ place + suc k = omega arith in
-          subst (λ c. HasItsValue m.names c number (Some around) e (sort_in (local_of rows (Some around) (place + suc k)))) count
+          let spot : (index + 1) + k ≡ index + suc k = omega arith in
+          subst (λ c. HasItsValue m.names c number (Some around) e (sort_in (local_of rows (Some around) (index + suc k)))) count
           (subst (λ p. HasItsValue m.names (u.consts + consts_before k ds) number (Some around) e (sort_in (local_of rows (Some around) p))) spot
           (more.values k e is scalar (omega (arith, within, count))))
 

@@ -37,20 +37,20 @@ module _ (names : Names) (number : ℕ) (around : Option ℕ) (known : Elements)
 
 module _ (rows : Rows) where
   -- of a datum of a routine, at this place behind its parameters
-  pub record IsLocalOf (around place : ℕ) (d : PlainDatum) (t : TypedLocal) : Type 0 where
+  pub record IsLocalOf (around index : ℕ) (d : PlainDatum) (t : TypedLocal) : Type 0 where
     pub i : Initial
-    pub is : t ≡ inner_row d (sort_in (local_of rows (Some around) place)) i
+    pub is : t ≡ inner_row d (sort_in (local_of rows (Some around) index)) i
     pub array : is_some i.len ≡ is_some d.len
 
   abbrev pub AreLocalsOf : ℕ → ℕ → List PlainDatum → List TypedLocal → Type 0
-  AreLocalsOf around place [] [] = Unit {0}
-  AreLocalsOf around place (d ∷ ds) (t ∷ ts) = IsLocalOf around place d t × AreLocalsOf around (place + 1) ds ts
-  AreLocalsOf around place _ _ = ⊥
+  AreLocalsOf around index [] [] = Unit {0}
+  AreLocalsOf around index (d ∷ ds) (t ∷ ts) = IsLocalOf around index d t × AreLocalsOf around (index + 1) ds ts
+  AreLocalsOf around index _ _ = ⊥
 
-  record LocalsDone (around place : ℕ) (ds : List PlainDatum) (n m : Inner) : Type 0 where
+  record LocalsDone (around index : ℕ) (ds : List PlainDatum) (n m : Inner) : Type 0 where
     pub ts : List TypedLocal
     pub is : m.rows ≡ n.rows ++ ts
-    pub each : AreLocalsOf around place ds ts
+    pub each : AreLocalsOf around index ds ts
     pub same : m.names.rows ≡ rows
 
   record WithLocal (n : Inner) (t : TypedLocal) (m : Inner) : Type 0 where
@@ -76,17 +76,17 @@ module _ (rows : Rows) where
   local_added n d sort i true elements = record { behind = refl; longer = length-append n.known (None ∷ []); same = kept_rows n.names n.consts i.values }
   local_added n d sort i false elements = record { behind = refl; longer = length-append n.known (elements ∷ []); same = refl }
 
-  locals_done : (number around place : ℕ) (slots : List (Option (List Value))) (ds : List PlainDatum) (n m : Inner) → n.names.rows ≡ rows → length n.known ≡ place → locals number around slots ds n ≡ Ok m → LocalsDone around place ds n m
-  locals_done number around place slots [] n m same long e =
-      subst (LocalsDone around place [] n) (ok_same n m e) (record { ts = []; is = sym (append-nil n.rows); each = tt; same = same })
-  locals_done number around place slots (d ∷ ds) n m same long e =
-      let P : Type 0 = LocalsDone around place (d ∷ ds) n m in
+  locals_done : (number around index : ℕ) (slots : List (Option (List Value))) (ds : List PlainDatum) (n m : Inner) → n.names.rows ≡ rows → length n.known ≡ index → locals number around slots ds n ≡ Ok m → LocalsDone around index ds n m
+  locals_done number around index slots [] n m same long e =
+      subst (LocalsDone around index [] n) (ok_same n m e) (record { ts = []; is = sym (append-nil n.rows); each = tt; same = same })
+  locals_done number around index slots (d ∷ ds) n m same long e =
+      let P : Type 0 = LocalsDone around index (d ∷ ds) n m in
       behind P m (local number around slots d n) _ e (λ u one rest.
       let sort = sort_in (local_of n.names.rows (Some around) (length n.known)) in
       behind P u (initial n.names number (Some around) (record { slots = slots; locals = n.known }) sort d) _ one (λ i is done.
       let t = inner_row d sort i in
       let added : WithLocal n t u = subst (WithLocal n t) (ok_same _ u done) (local_added n d sort i (is_scalar_const d) _) in
-      let after = locals_done number around (place + 1) slots ds u m (added.same ∙ same) (added.longer ∙ ap (λ k. k + 1) long) rest in
+      let after = locals_done number around (index + 1) slots ds u m (added.same ∙ same) (added.longer ∙ ap (λ k. k + 1) long) rest in
       record {
         ts = t ∷ after.ts;
         is = after.is ∙ ap (λ l. l ++ after.ts) added.behind ∙ append_assoc n.rows (t ∷ []) after.ts;

@@ -32,27 +32,27 @@ module _ (A B C : Fact) (made : (number : ℕ) (c : Tally) (item : PlainItem) �
 
 -- these are the elements of a list from this place on
 abbrev pub Rest : {A : Type 0} → List A → ℕ → List A → Type 0
-Rest all place rest = (k : ℕ) → slice_get all (place + k) ≡ slice_get rest k
+Rest all index rest = (k : ℕ) → slice_get all (index + k) ≡ slice_get rest k
 
 pub rest_all : {A : Type 0} (all : List A) → Rest all 0 all
 rest_all all k = let e : 0 + k ≡ k = omega arith in ap (slice_get all) e
 
-pub rest_first : {A : Type 0} (all : List A) (place : ℕ) (x : A) (rest : List A) → Rest all place (x ∷ rest) → slice_get all place ≡ Some x
-rest_first all place x rest is = let e : place ≡ place + 0 = omega arith in ap (slice_get all) e ∙ is 0
+pub rest_first : {A : Type 0} (all : List A) (index : ℕ) (x : A) (rest : List A) → Rest all index (x ∷ rest) → slice_get all index ≡ Some x
+rest_first all index x rest is = let e : index ≡ index + 0 = omega arith in ap (slice_get all) e ∙ is 0
 
-pub rest_more : {A : Type 0} (all : List A) (place : ℕ) (x : A) (rest : List A) → Rest all place (x ∷ rest) → Rest all (place + 1) rest
-rest_more all place x rest is k = let e : (place + 1) + k ≡ place + suc k = omega arith in ap (slice_get all) e ∙ is (suc k)
+pub rest_more : {A : Type 0} (all : List A) (index : ℕ) (x : A) (rest : List A) → Rest all index (x ∷ rest) → Rest all (index + 1) rest
+rest_more all index x rest is k = let e : (index + 1) + k ≡ index + suc k = omega arith in ap (slice_get all) e ∙ is (suc k)
 
 -- each item stands in the module of its number
 module _ (modules : List PlainModule) where
   abbrev pub Stands : Fact
   Stands number c item = StandsIn modules number item
 
-  items_stand : (number : ℕ) (m : PlainModule) (c : Tally) (place : ℕ) (items : List PlainItem) → slice_get modules number ≡ Some m → Rest m.items place items → AllItems Stands number c items
-  items_stand number m c place [] is rest = tt
-  items_stand number m c place (item ∷ items) is rest = (
-    record { unit = m; place = place; is_module = is; is_item = rest_first m.items place item items rest },
-    items_stand number m (after_item c item) (place + 1) items is (rest_more m.items place item items rest),
+  items_stand : (number : ℕ) (m : PlainModule) (c : Tally) (index : ℕ) (items : List PlainItem) → slice_get modules number ≡ Some m → Rest m.items index items → AllItems Stands number c items
+  items_stand number m c index [] is rest = tt
+  items_stand number m c index (item ∷ items) is rest = (
+    record { unit = m; index = index; is_module = is; is_item = rest_first m.items index item items rest },
+    items_stand number m (after_item c item) (index + 1) items is (rest_more m.items index item items rest),
   )
 
   pub modules_stand : (number : ℕ) (c : Tally) (ms : List PlainModule) → Rest modules number ms → AllModules Stands number c ms

@@ -168,16 +168,16 @@ first_there labels (m ∷ ls) (suc k) l fs at = first_there labels ls k l fs.1 a
 
 -- first labels that stand apart are numbered in their order
 pub in_order : (labels : List PlainName) → AreFirst labels labels → AreApart (map (λ x. x.at) labels) → AreInOrder (numbered labels labels)
-in_order labels fs apart place n at = there (slice_get labels place) refl (sym (slice_get-map (number labels) labels place) ∙ at)
+in_order labels fs apart index n at = there (slice_get labels index) refl (sym (slice_get-map (number labels) labels index) ∙ at)
   where
-    there : (o : Option PlainName) → slice_get labels place ≡ o → option_map (number labels) o ≡ Some n → n ≡ place
+    there : (o : Option PlainName) → slice_get labels index ≡ o → option_map (number labels) o ≡ Some n → n ≡ index
     there None is e = absurd (cc e)
     there (Some l) is e =
         let same : number labels l ≡ n = cc e in
-        let here : slice_get (map (λ (x : PlainName). x.at) labels) place ≡ Some l.at = slice_get-map (λ (x : PlainName). x.at) labels place ∙ ap (option_map (λ (x : PlainName). x.at)) is in
+        let here : slice_get (map (λ (x : PlainName). x.at) labels) index ≡ Some l.at = slice_get-map (λ (x : PlainName). x.at) labels index ∙ ap (option_map (λ (x : PlainName). x.at)) is in
         let also : slice_get (map (λ (x : PlainName). x.at) labels) n ≡ Some l.at =
-        slice_get-map (λ (x : PlainName). x.at) labels n ∙ ap (at_in labels) (sym same) ∙ first_at l labels (first_there labels labels place l fs is) in
-        one_place (map (λ (x : PlainName). x.at) labels) n place l.at apart also here
+        slice_get-map (λ (x : PlainName). x.at) labels n ∙ ap (at_in labels) (sym same) ∙ first_at l labels (first_there labels labels index l fs is) in
+        one_place (map (λ (x : PlainName). x.at) labels) n index l.at apart also here
 
 -- the label that a statement is
 abbrev pub first_label : PlainStmt → List PlainName

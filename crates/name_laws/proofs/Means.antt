@@ -56,30 +56,30 @@ module _ (modules : List PlainModule) (signals : List SignalRow) (arm : Bool) (t
   item_row number c (Datum local task d at) h seen = datum_row number c local task d at (is_scalar_const d) (is_pers d.kind) seen h.1
   item_row number c (Routine r) h seen = record { number = number; r = r; row = h.1.row; seen = seen; has_row = h.1.has_row; is_row = h.1.is_row }
 
-  param_row : (inside : Inside modules signals tree spot name) (place : ℕ) (p : PlainParam) → slice_get inside.r.params place ≡ Some p → IsOneName name p.name.text → (by_value : Bool) → is_by_value p.mode ≡ by_value →
-      specs.IsParam modules signals tree spot name by_value place
-  param_row inside place p is named by_value handed =
-      let found = partner (IsParamRow tables inside.number inside.routine) inside.r.params inside.row.params place p inside.is_row.params is in
+  param_row : (inside : Inside modules signals tree spot name) (index : ℕ) (p : PlainParam) → slice_get inside.r.params index ≡ Some p → IsOneName name p.name.text → (by_value : Bool) → is_by_value p.mode ≡ by_value →
+      specs.IsParam modules signals tree spot name by_value index
+  param_row inside index p is named by_value handed =
+      let found = partner (IsParamRow tables inside.number inside.routine) inside.r.params inside.row.params index p inside.is_row.params is in
       record { inside = inside; p = p; row = found.y; is_param = is; named = named; handed = handed; has_row = found.is; is_row = found.such }
 
-  param_by_mode : (place : ℕ) (mode : Mode) → ((by_value : Bool) → is_by_value mode ≡ by_value → specs.IsParam modules signals tree spot name by_value place) → Q (param_meant place mode)
-  param_by_mode place modes.Value h = inl (h true refl)
-  param_by_mode place modes.Inout h = h false refl
-  param_by_mode place modes.Var h = h false refl
-  param_by_mode place modes.Pers h = h false refl
+  param_by_mode : (index : ℕ) (mode : Mode) → ((by_value : Bool) → is_by_value mode ≡ by_value → specs.IsParam modules signals tree spot name by_value index) → Q (param_meant index mode)
+  param_by_mode index modes.Value h = inl (h true refl)
+  param_by_mode index modes.Inout h = h false refl
+  param_by_mode index modes.Var h = h false refl
+  param_by_mode index modes.Pers h = h false refl
 
-  local_row : (inside : Inside modules signals tree spot name) (place consts : ℕ) (d : PlainDatum) → slice_get inside.r.locals place ≡ Some d → IsOneName name d.name.text → (scalar : Bool) → is_scalar_const d ≡ scalar →
-      Q (if scalar then meants.Const consts else meants.Local (length inside.r.params + place))
-  local_row inside place consts d is named true scalar = tt
-  local_row inside place consts d is named false scalar =
-      let found = partner (IsLocalRow tables inside.number inside.routine) inside.r.locals inside.row.locals place d inside.is_row.locals is in
+  local_row : (inside : Inside modules signals tree spot name) (index consts : ℕ) (d : PlainDatum) → slice_get inside.r.locals index ≡ Some d → IsOneName name d.name.text → (scalar : Bool) → is_scalar_const d ≡ scalar →
+      Q (if scalar then meants.Const consts else meants.Local (length inside.r.params + index))
+  local_row inside index consts d is named true scalar = tt
+  local_row inside index consts d is named false scalar =
+      let found = partner (IsLocalRow tables inside.number inside.routine) inside.r.locals inside.row.locals index d inside.is_row.locals is in
       inr (record {
         inside = inside;
-        place = place;
+        index = index;
         d = d;
         row = found.y;
         is_datum = is;
-        behind = ap (λ n. n + place) (each_length (IsParamRow tables inside.number inside.routine) inside.r.params inside.row.params inside.is_row.params);
+        behind = ap (λ n. n + index) (each_length (IsParamRow tables inside.number inside.routine) inside.r.params inside.row.params inside.is_row.params);
         named = named;
         no_constant = scalar;
         has_row = found.is;
@@ -88,9 +88,9 @@ module _ (modules : List PlainModule) (signals : List SignalRow) (arm : Bool) (t
 
   place_row : (first : ℕ) (inside : Inside modules signals tree spot name) (meant : Meant) → PlaceEntry first inside.r (str_to_ascii_lowercase name) meant → Q meant
   place_row first inside meant (inl e) =
-      subst Q (sym e.means) (param_by_mode e.place e.p.mode (param_row inside e.place e.p e.is_param e.named))
+      subst Q (sym e.means) (param_by_mode e.index e.p.mode (param_row inside e.index e.p e.is_param e.named))
   place_row first inside meant (inr e) =
-      subst Q (sym e.means) (local_row inside e.place e.consts e.d e.is_datum e.named (is_scalar_const e.d) refl)
+      subst Q (sym e.means) (local_row inside e.index e.consts e.d e.is_datum e.named (is_scalar_const e.d) refl)
 
   -- the routine in which the spot stands
   abbrev around : (number : ℕ) (c : Tally) (r : PlainRoutine) → A number c (Routine r) → spot.routine ≡ Some c.routines → Inside modules signals tree spot name

@@ -63,13 +63,13 @@ module _ (modules : List PlainModule) (names : Names) (locals : List (List Typed
       behind (All ts) ts (typed_routine names locals number (length rs) r) _ e (λ t is done.
       subst All (ok_same _ ts done) (one_more rs t all (record { number = number; r = r; stands = stands; right = routine_right names locals number (length rs) r t is })))
 
-  items_right : (number : ℕ) (m : PlainModule) (place : ℕ) (items : List PlainItem) (rs ts : List TypedRoutine) → slice_get modules number ≡ Some m → Rest m.items place items → All rs →
+  items_right : (number : ℕ) (m : PlainModule) (index : ℕ) (items : List PlainItem) (rs ts : List TypedRoutine) → slice_get modules number ≡ Some m → Rest m.items index items → All rs →
       items_bodies names locals number items rs ≡ Ok ts → All ts
-  items_right number m place [] rs ts is rest all e = subst All (ok_same rs ts e) all
-  items_right number m place (item ∷ items) rs ts is rest all e =
+  items_right number m index [] rs ts is rest all e = subst All (ok_same rs ts e) all
+  items_right number m index (item ∷ items) rs ts is rest all e =
       behind (All ts) ts (item_bodies names locals number item rs) _ e (λ us one more.
-      items_right number m (place + 1) items us ts is (rest_more m.items place item items rest)
-      (item_right number item rs us (record { unit = m; place = place; is_module = is; is_item = rest_first m.items place item items rest }) all one) more)
+      items_right number m (index + 1) items us ts is (rest_more m.items index item items rest)
+      (item_right number item rs us (record { unit = m; index = index; is_module = is; is_item = rest_first m.items index item items rest }) all one) more)
 
   modules_right : (number : ℕ) (ms : List PlainModule) (rs ts : List TypedRoutine) → Rest modules number ms → All rs → bodies names locals number ms rs ≡ Ok ts → All ts
   modules_right number [] rs ts rest all e = subst All (ok_same rs ts e) all

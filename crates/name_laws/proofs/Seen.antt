@@ -16,47 +16,47 @@ use Rattle.name_laws.proofs.Items.{Fact, AllItems, AllModules, Rest, rest_all, r
 
 -- a parameter of a routine, by its place
 pub record ParamEntry (r : PlainRoutine) (key : List ℕ) (meant : Meant) : Type 0 where
-  pub place : ℕ
+  pub index : ℕ
   pub p : PlainParam
-  pub is_param : slice_get r.params place ≡ Some p
+  pub is_param : slice_get r.params index ≡ Some p
   pub named : key ≡ str_to_ascii_lowercase p.name.text
-  pub means : meant ≡ param_meant place p.mode
+  pub means : meant ≡ param_meant index p.mode
 
 -- a datum of a routine, by its place behind the parameters, and by how many CONSTs stand before it
 pub record LocalEntry (first : ℕ) (r : PlainRoutine) (key : List ℕ) (meant : Meant) : Type 0 where
-  pub place : ℕ
+  pub index : ℕ
   pub consts : ℕ
   pub d : PlainDatum
-  pub is_datum : slice_get r.locals place ≡ Some d
+  pub is_datum : slice_get r.locals index ≡ Some d
   pub named : key ≡ str_to_ascii_lowercase d.name.text
-  pub counted : consts ≡ first + consts_before place r.locals
-  pub means : meant ≡ local_meant (length r.params + place) consts d
+  pub counted : consts ≡ first + consts_before index r.locals
+  pub means : meant ≡ local_meant (length r.params + index) consts d
 
 abbrev pub PlaceEntry : ℕ → PlainRoutine → List ℕ → Meant → Type 0
 PlaceEntry first r key meant = ParamEntry r key meant ⊎ LocalEntry first r key meant
 
-params_entered : (first : ℕ) (r : PlainRoutine) (place : ℕ) (ps : List PlainParam) (scope : Scope) → Rest r.params place ps → Holds (PlaceEntry first r) scope → Holds (PlaceEntry first r) (declare_params place ps scope)
-params_entered first r place [] scope rest all = all
-params_entered first r place (p ∷ ps) scope rest all =
-    params_entered first r (place + 1) ps _ (rest_more r.params place p ps rest)
-    (holds_declare (PlaceEntry first r) p.name.text (param_meant place p.mode) scope
-    (inl (record { place = place; p = p; is_param = rest_first r.params place p ps rest; named = refl; means = refl })) all)
+params_entered : (first : ℕ) (r : PlainRoutine) (index : ℕ) (ps : List PlainParam) (scope : Scope) → Rest r.params index ps → Holds (PlaceEntry first r) scope → Holds (PlaceEntry first r) (declare_params index ps scope)
+params_entered first r index [] scope rest all = all
+params_entered first r index (p ∷ ps) scope rest all =
+    params_entered first r (index + 1) ps _ (rest_more r.params index p ps rest)
+    (holds_declare (PlaceEntry first r) p.name.text (param_meant index p.mode) scope
+    (inl (record { index = index; p = p; is_param = rest_first r.params index p ps rest; named = refl; means = refl })) all)
 
-locals_entered : (first : ℕ) (r : PlainRoutine) (place consts : ℕ) (ds : List PlainDatum) (scope : Scope) → Rest r.locals place ds → consts ≡ first + consts_before place r.locals → Holds (PlaceEntry first r) scope
-    → Holds (PlaceEntry first r) (declare_locals (length r.params + place) consts ds scope)
-locals_entered first r place consts [] scope rest counted all = all
-locals_entered first r place consts (d ∷ ds) scope rest counted all =
+locals_entered : (first : ℕ) (r : PlainRoutine) (index consts : ℕ) (ds : List PlainDatum) (scope : Scope) → Rest r.locals index ds → consts ≡ first + consts_before index r.locals → Holds (PlaceEntry first r) scope
+    → Holds (PlaceEntry first r) (declare_locals (length r.params + index) consts ds scope)
+locals_entered first r index consts [] scope rest counted all = all
+locals_entered first r index consts (d ∷ ds) scope rest counted all =
     let one : ℕ = if is_scalar_const d then 1 else 0 in
     let next = consts + one in
-    let entered = declare d.name.text (local_meant (length r.params + place) consts d) scope in
-    let there = rest_first r.locals place d ds rest in
-    let e : length r.params + (place + 1) ≡ (length r.params + place) + 1 = omega arith in
-    let step : place + 1 ≡ suc place = omega arith in
-    let more : consts + one ≡ first + consts_before (place + 1) r.locals = omega (arith, counted, before_more r.locals place d there, ap (λ k. consts_before k r.locals) step) in
+    let entered = declare d.name.text (local_meant (length r.params + index) consts d) scope in
+    let there = rest_first r.locals index d ds rest in
+    let e : length r.params + (index + 1) ≡ (length r.params + index) + 1 = omega arith in
+    let step : index + 1 ≡ suc index = omega arith in
+    let more : consts + one ≡ first + consts_before (index + 1) r.locals = omega (arith, counted, before_more r.locals index d there, ap (λ k. consts_before k r.locals) step) in
     subst (λ n. Holds (PlaceEntry first r) (declare_locals n next ds entered)) e
-    (locals_entered first r (place + 1) next ds entered (rest_more r.locals place d ds rest) more
-    (holds_declare (PlaceEntry first r) d.name.text (local_meant (length r.params + place) consts d) scope
-    (inr (record { place = place; consts = consts; d = d; is_datum = there; named = refl; counted = counted; means = refl })) all))
+    (locals_entered first r (index + 1) next ds entered (rest_more r.locals index d ds rest) more
+    (holds_declare (PlaceEntry first r) d.name.text (local_meant (length r.params + index) consts d) scope
+    (inr (record { index = index; consts = consts; d = d; is_datum = there; named = refl; counted = counted; means = refl })) all))
 
 routine_entered : (c : Tally) (r : PlainRoutine) → Holds (PlaceEntry c.consts r) (routine_scope c r)
 routine_entered c r =
@@ -175,18 +175,18 @@ module _ (A : Fact) where
   all_loops_entered number c (m ∷ ms) h =
       loops_entered number c m.items (all_loops ms) h.0 (all_loops_entered (number + 1) (after_items c m.items) ms h.1)
 
-  loops_at : (first k : ℕ) (lists : List (List Loop)) (place : ℕ) (loop : Loop) → EachLoops first lists → slice_get (list_at lists k) place ≡ Some loop → RoutineLoops (first + k) (list_at lists k)
-  loops_at first k [] place loop all is = absurd (cc)
-  loops_at first zero (loops ∷ more) place loop all is = let e : first ≡ first + zero = omega arith in subst (λ n. RoutineLoops n loops) e all.0
-  loops_at first (suc k) (loops ∷ more) place loop all is =
-      let e : (first + 1) + k ≡ first + suc k = omega arith in subst (λ n. RoutineLoops n (list_at more k)) e (loops_at (first + 1) k more place loop all.1 is)
+  loops_at : (first k : ℕ) (lists : List (List Loop)) (index : ℕ) (loop : Loop) → EachLoops first lists → slice_get (list_at lists k) index ≡ Some loop → RoutineLoops (first + k) (list_at lists k)
+  loops_at first k [] index loop all is = absurd (cc)
+  loops_at first zero (loops ∷ more) index loop all is = let e : first ≡ first + zero = omega arith in subst (λ n. RoutineLoops n loops) e all.0
+  loops_at first (suc k) (loops ∷ more) index loop all is =
+      let e : (first + 1) + k ≡ first + suc k = omega arith in subst (λ n. RoutineLoops n (list_at more k)) e (loops_at (first + 1) k more index loop all.1 is)
 
   -- a FOR is one of its routine's
-  pub loops_there : (modules : List PlainModule) → AllModules A 0 no_counts modules → (routine place : ℕ) (loop : Loop) → slice_get (list_at (all_loops modules) routine) place ≡ Some loop →
+  pub loops_there : (modules : List PlainModule) → AllModules A 0 no_counts modules → (routine index : ℕ) (loop : Loop) → slice_get (list_at (all_loops modules) routine) index ≡ Some loop →
       RoutineLoops routine (list_at (all_loops modules) routine)
-  loops_there modules h routine place loop is =
+  loops_there modules h routine index loop is =
       let e : 0 + routine ≡ routine = omega arith in
-      subst (λ n. RoutineLoops n (list_at (all_loops modules) routine)) e (loops_at 0 routine (all_loops modules) place loop (all_loops_entered 0 no_counts modules h) is)
+      subst (λ n. RoutineLoops n (list_at (all_loops modules) routine)) e (loops_at 0 routine (all_loops modules) index loop (all_loops_entered 0 no_counts modules h) is)
 
 -- a FOR whose variable has the name
 pub record LoopFound (key : List ℕ) (loops : List Loop) (k : ℕ) : Type 0 where

@@ -42,12 +42,12 @@ list_there (x ∷ xs) zero list is = cc
 list_there (x ∷ xs) (suc k) list is = list_there xs k list is
 
 -- behind the parameters are the data
-place_found : (row : RoutineRow) (n place : ℕ) → n ≡ length row.params → place_row row (n + place) ≡ slice_get row.locals place
-place_found row n place as_many =
-    let le : length row.params ≤ n + place = omega (arith, as_many) in
-    let past : nat_lt (n + place) (length row.params) ≡ false = le-ltb (n + place) (length row.params) le in
-    let left : (n + place) - length row.params ≡ place = omega (arith, as_many) in
-    ap (λ b. if b then option_map value_row (slice_get row.params (n + place)) else slice_get row.locals ((n + place) - length row.params)) past
+place_found : (row : RoutineRow) (n index : ℕ) → n ≡ length row.params → place_row row (n + index) ≡ slice_get row.locals index
+place_found row n index as_many =
+    let le : length row.params ≤ n + index = omega (arith, as_many) in
+    let past : nat_lt (n + index) (length row.params) ≡ false = le-ltb (n + index) (length row.params) le in
+    let left : (n + index) - length row.params ≡ index = omega (arith, as_many) in
+    ap (λ b. if b then option_map value_row (slice_get row.params (n + index)) else slice_get row.locals ((n + index) - length row.params)) past
     ∙ ap (slice_get row.locals) left
 
 module _ (tables : Tables) (number around : ℕ) where
@@ -58,27 +58,27 @@ module _ (tables : Tables) (number around : ℕ) where
   params_rows (p ∷ ps) (row ∷ rows) h = (record { name = refl; mode = h.0.mode; sort = h.0.sort }, params_rows ps rows h.1)
 
   module _ (rows : Rows) (row : RoutineRow) (n : ℕ) (found : slice_get rows.routines around ≡ Some row) (as_many : n ≡ length row.params) where
-    pub local_sort : (place : ℕ) (d : DatumRow) → slice_get row.locals place ≡ Some d → sort_in (local_of rows (Some around) (n + place)) ≡ d.sort
-    local_sort place d is =
-        ap (λ o. sort_in (option_and_then (λ r. place_row r (n + place)) o)) found
-        ∙ ap sort_in (place_found row n place as_many ∙ is)
+    pub local_sort : (index : ℕ) (d : DatumRow) → slice_get row.locals index ≡ Some d → sort_in (local_of rows (Some around) (n + index)) ≡ d.sort
+    local_sort index d is =
+        ap (λ o. sort_in (option_and_then (λ r. place_row r (n + index)) o)) found
+        ∙ ap sort_in (place_found row n index as_many ∙ is)
 
-    locals_rows : (place : ℕ) (ds : List PlainDatum) (found_rows : List DatumRow) (ts : List TypedLocal) → Rest row.locals place found_rows →
-        AreEach (declared.IsDatumRow tables number (Some around)) ds found_rows → data_are.AreLocalsOf rows around (n + place) ds ts → AreEach (IsLocalRow tables number around) ds ts
-    locals_rows place [] found_rows [] rest h k = tt
-    locals_rows place [] found_rows (t ∷ ts) rest h k = absurd k
-    locals_rows place (d ∷ ds) found_rows [] rest h k = absurd k
-    locals_rows place (d ∷ ds) [] (t ∷ ts) rest h k = absurd h
-    locals_rows place (d ∷ ds) (f ∷ fs) (t ∷ ts) rest h k =
-        let e : (n + place) + 1 ≡ n + (place + 1) = omega arith in
-        let sort : t.sort ≡ f.sort = ap (λ x. x.sort) k.0.is ∙ local_sort place f (rest_first row.locals place f fs rest) in (
+    locals_rows : (index : ℕ) (ds : List PlainDatum) (found_rows : List DatumRow) (ts : List TypedLocal) → Rest row.locals index found_rows →
+        AreEach (declared.IsDatumRow tables number (Some around)) ds found_rows → data_are.AreLocalsOf rows around (n + index) ds ts → AreEach (IsLocalRow tables number around) ds ts
+    locals_rows index [] found_rows [] rest h k = tt
+    locals_rows index [] found_rows (t ∷ ts) rest h k = absurd k
+    locals_rows index (d ∷ ds) found_rows [] rest h k = absurd k
+    locals_rows index (d ∷ ds) [] (t ∷ ts) rest h k = absurd h
+    locals_rows index (d ∷ ds) (f ∷ fs) (t ∷ ts) rest h k =
+        let e : (n + index) + 1 ≡ n + (index + 1) = omega arith in
+        let sort : t.sort ≡ f.sort = ap (λ x. x.sort) k.0.is ∙ local_sort index f (rest_first row.locals index f fs rest) in (
           record {
             name = ap (λ x. x.name) k.0.is;
             variable = ap (λ x. x.variable) k.0.is;
             sort = subst (IsType tables (spot_of number (Some around) d.sort) d.sort) (sym sort) h.0;
             array = ap (λ x. is_some x.len) k.0.is ∙ k.0.array;
           },
-          locals_rows (place + 1) ds fs ts (rest_more row.locals place f fs rest) h.1 (subst (λ m. data_are.AreLocalsOf rows around m ds ts) e k.1),
+          locals_rows (index + 1) ds fs ts (rest_more row.locals index f fs rest) h.1 (subst (λ m. data_are.AreLocalsOf rows around m ds ts) e k.1),
         )
 
 module _ (tables : Tables) (slots : List TypedSlot) (pers : List TypedPers) (routines : List TypedRoutine) where

@@ -54,10 +54,10 @@ module _ (modules : List PlainModule) (signals : List SignalRow) (tree : TypedTr
   -- a CONST of the routine around, its row and its value
   pub record IsRoutineConst (k : ℕ) : Type 0 where
     pub inside : Inside modules signals tree spot name
-    pub place : ℕ
+    pub index : ℕ
     pub d : PlainDatum
     pub row : DatumRow
-    pub is_datum : slice_get inside.r.locals place ≡ Some d
+    pub is_datum : slice_get inside.r.locals index ≡ Some d
     pub named : IsOneName name d.name.text
     pub has_row : slice_get names.rows.consts k ≡ Some row
     pub is_row : IsConstRow (tables_of modules signals) inside.number (Some inside.routine) d row

@@ -12,9 +12,9 @@ use Rattle.data_scopes.specs.Scopes.{Tables, meaning}
 -- an item stands in the module of this number
 pub record StandsIn (modules : List PlainModule) (number : ℕ) (item : PlainItem) : Type 0 where
   pub unit : PlainModule
-  pub place : ℕ
+  pub index : ℕ
   pub is_module : slice_get modules number ≡ Some unit
-  pub is_item : slice_get unit.items place ≡ Some item
+  pub is_item : slice_get unit.items index ≡ Some item
 
 -- an item of the module of this number has the name, and is seen at the spot: a LOCAL one in its own module alone
 pub record IsSeen (modules : List PlainModule) (spot : Spot) (name : List ℕ) (number : ℕ) (item : PlainItem) : Type 0 where
@@ -34,7 +34,7 @@ IsResultType tables spot None None = Unit {0}
 IsResultType tables spot (Some name) (Some sort) = IsType tables (spot name) name sort
 IsResultType tables spot _ _ = ⊥
 
--- two lists are as long as each other, and each pair of one place is such
+-- two lists are as long as each other, and each pair of one index is such
 abbrev pub AreEach : {A B : Type 0} → (A → B → Type 0) → List A → List B → Type 0
 AreEach IsSuch [] [] = Unit {0}
 AreEach IsSuch (x ∷ xs) (y ∷ ys) = IsSuch x y × AreEach IsSuch xs ys

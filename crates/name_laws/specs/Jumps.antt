@@ -21,7 +21,7 @@ abbrev mutual
   Lands around (Goto at number) = Contains around number
   Lands around (If at arms other) = LandInArms around arms × LandInElse around other
   Lands around (IfOne at test simple) = Lands around simple
-  Lands around (For at place first last step list) = Land (own list ++ around) list
+  Lands around (For at local first last step list) = Land (own list ++ around) list
   Lands around (While at test list) = Land (own list ++ around) list
   Lands around (Test at value cases other) = LandInCases around cases × LandInElse around other
   Lands around _ = Unit {0}
@@ -56,9 +56,9 @@ abbrev pub AreApart : List ℕ → Type 0
 AreApart [] = Unit {0}
 AreApart (x ∷ xs) = IsApart x xs × AreApart xs
 
--- each number is its place, from 0
+-- each number is its index
 abbrev pub AreInOrder : List ℕ → Type 0
-AreInOrder numbers = (place number : ℕ) → slice_get numbers place ≡ Some number → number ≡ place
+AreInOrder numbers = (index number : ℕ) → slice_get numbers index ≡ Some number → number ≡ index
 
 -- the labels of a routine stand at different bytes, as those of each text do
 abbrev pub LabelsApart : PlainRoutine → Type 0

@@ -82,14 +82,14 @@ module _ (modules : List PlainModule) (signals : List SignalRow) (tree : TypedTr
   -- a VAR or an array CONST of the routine around, behind its parameters, and its row
   pub record IsLocal (k : ℕ) : Type 0 where
     pub inside : Inside
-    pub place : ℕ
+    pub index : ℕ
     pub d : PlainDatum
     pub row : TypedLocal
-    pub is_datum : slice_get inside.r.locals place ≡ Some d
-    pub behind : k ≡ length inside.row.params + place
+    pub is_datum : slice_get inside.r.locals index ≡ Some d
+    pub behind : k ≡ length inside.row.params + index
     pub named : IsOneName name d.name.text
     pub no_constant : is_scalar_const d ≡ false
-    pub has_row : slice_get inside.row.locals place ≡ Some row
+    pub has_row : slice_get inside.row.locals index ≡ Some row
     pub is_row : IsLocalRow (tables_of modules signals) inside.number inside.routine d row
 
   -- a FOR of the routine around, by its variable; the routine has a place for it

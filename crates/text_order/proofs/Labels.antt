@@ -106,4 +106,4 @@ routine_apart levels m source spelled k r at =
 -- and so of each routine of modules that texts spell
 pub routines_apart : (levels : ℕ) (modules : List PlainModule) → AreSpelled levels modules → (number : ℕ) (r : PlainRoutine) → StandsIn modules number (Routine r) → LabelsApart r
 routines_apart levels modules spelled number r stands =
-    let (source, is_spelled) = spelled number stands.unit stands.is_module in routine_apart levels stands.unit source is_spelled stands.place r stands.is_item
+    let (source, is_spelled) = spelled number stands.unit stands.is_module in routine_apart levels stands.unit source is_spelled stands.index r stands.is_item

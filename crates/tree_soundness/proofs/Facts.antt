@@ -184,7 +184,7 @@ module _ (modules : List PlainModule) (signals : List SignalRow) (c : Setting) (
       value_at p.inside.row a place row p.row (place_is p.inside.row a place row is) p.has_row (ap (λ (m : Mode). kind_by m p.row.sort) p.is_row.mode ∙ value_kind p.p.mode p.row.sort p.handed))
       (λ l.
       let a = around name l.inside in
-      datum_at l.inside.row a place l.place row l.row (place_is l.inside.row a place row is) l.behind l.has_row)
+      datum_at l.inside.row a place l.index row l.row (place_is l.inside.row a place row is) l.behind l.has_row)
       has) h
 
   parameter_holds : (place : ℕ) (name : List ℕ) (row : Option ParamRow) (d : NamedDatum) → param_of other.rows spot.routine place ≡ row → HasItsRow modules signals c.tree spot name (meants.Ref place)
