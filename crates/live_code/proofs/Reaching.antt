@@ -1,4 +1,4 @@
--- Where code comes to: it begins, and goes on by its operations, by what they read and write, and by answers.
+-- Where code comes to: it begins, and goes on by its operations and by answers.
 use Rattle.std.proofs.Common.{◌≡◌, refl, sym, ap, ◌∙◌, ℕ, suc, ◌+◌, nat_le, Bool, true, false, List, [], ◌∷◌, ◌++◌, length, if◌then◌else◌, IsTrue, append_assoc, arith}
 use Rattle.std.proofs.lemmas.List.{append-nil}
 use Rattle.rapid_model.specs.Fits.{fits_request}
