@@ -31,7 +31,7 @@ fn same_len(a: Option<u16>, b: Option<u16>) -> bool
 pub(crate) fn copy_values(alloc: Global, values: &[Value]) -> Result<Vec<Value>, CellFault>
     ensures { Gives (λ copy. copy.items) result (Ok values.now) }
 {
-    let mut copy = Vec::new(alloc);
+    let mut copy = Vec::with_capacity(alloc, values.len())?;
     for value in values {
         copy.push(value.copy())?;
     }
@@ -52,7 +52,7 @@ fn copy_first(alloc: Global, first: &Option<Vec<Value>>) -> Result<Option<Vec<Va
 fn nothing_given(alloc: Global, width: usize) -> Result<Vec<Option<Value>>, CellFault>
     ensures { Gives (λ given. given.items) result (Ok (replicate width None)) }
 {
-    let mut given = Vec::new(alloc);
+    let mut given = Vec::with_capacity(alloc, width)?;
     for _element in 0..width {
         given.push(None)?;
     }

@@ -26,7 +26,7 @@ fn start_of(sort: Sort) -> Value
 fn start_values(alloc: Global, sort: Sort, width: usize) -> Result<Vec<Value>, CellFault>
     ensures { Gives (λ values. values.items) result (Ok (replicate width (Made.start_of sort))) }
 {
-    let mut values = Vec::new(alloc);
+    let mut values = Vec::with_capacity(alloc, width)?;
     for _element in 0..width {
         values.push(start_of(sort))?;
     }
@@ -57,7 +57,7 @@ fn given_or(given: &Option<Value>, value: &Value) -> Value
 fn over(alloc: Global, given: &[Option<Value>], values: &[Value]) -> Result<Vec<Value>, CellFault>
     ensures { Gives (λ first. first.items) result (Ok (Made.over given.now values.now)) }
 {
-    let mut first = Vec::new(alloc);
+    let mut first = Vec::with_capacity(alloc, given.len())?;
     for (given, value) in given.iter().zip(values) {
         first.push(given_or(given, value))?;
     }
@@ -83,7 +83,7 @@ fn pers_cell(alloc: Global, info: &PersInfo) -> Result<PersCell, CellFault>
 pub(crate) fn pers_cells(alloc: Global, pers: &[PersInfo]) -> Result<Vec<PersCell>, CellFault>
     ensures { Gives (λ cells. cells.items) result (Ok (map Made.pers_cell (map view_info pers.now))) }
 {
-    let mut cells = Vec::new(alloc);
+    let mut cells = Vec::with_capacity(alloc, pers.len())?;
     for info in pers {
         cells.push(pers_cell(alloc, info)?)?;
     }

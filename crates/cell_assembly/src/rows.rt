@@ -20,7 +20,7 @@ fn task_row(task: &ScriptTask) -> TaskRow
 pub(crate) fn task_rows(alloc: Global, tasks: &[ScriptTask]) -> Result<Vec<TaskRow>, CellFault>
     ensures { Gives (λ rows. rows.items) result (Ok (map row_of tasks.now)) }
 {
-    let mut rows = Vec::new(alloc);
+    let mut rows = Vec::with_capacity(alloc, tasks.len())?;
     for task in tasks {
         rows.push(task_row(task))?;
     }
@@ -45,7 +45,7 @@ pub(crate) fn copy_signals(
 ) -> Result<Vec<SignalRow>, CellFault>
     ensures { Gives (λ copy. copy.items) result (Ok signals.now) }
 {
-    let mut copy = Vec::new(alloc);
+    let mut copy = Vec::with_capacity(alloc, signals.len())?;
     for signal in signals {
         copy.push(copy_signal(signal))?;
     }
@@ -69,7 +69,7 @@ fn copy_zone(zone: &ZoneRow) -> ZoneRow
 pub(crate) fn copy_zones(alloc: Global, zones: &[ZoneRow]) -> Result<Vec<ZoneRow>, CellFault>
     ensures { Gives (λ copy. copy.items) result (Ok zones.now) }
 {
-    let mut copy = Vec::new(alloc);
+    let mut copy = Vec::with_capacity(alloc, zones.len())?;
     for zone in zones {
         copy.push(copy_zone(zone))?;
     }

@@ -30,7 +30,7 @@ fn values_or_fault(
 ) -> Result<Vec<Value>, TypeFault>
     ensures { Gives (λ v. v.items) result (Values.values_or_fault (view_site site.now) at sort (constant_values (elements_of known.now) (exprs_of (map view_expr elements.now)))) }
 {
-    let mut values = Vec::new(site.alloc);
+    let mut values = Vec::with_capacity(site.alloc, elements.len())?;
     for element in elements {
         let value = value_or_fault(site, at, sort, constant_value(known, element))?;
         values.push(value)?;

@@ -34,7 +34,7 @@ fn array_elements(
 ) -> Result<Vec<Expr>, TypeFault>
     ensures { Gives (λ es. exprs_of (map view_expr es.items)) result (Values.array_elements (view_site site.now) sort (raw_exprs_of (map view_raw elements.now))) }
 {
-    let mut trees = Vec::new(site.alloc);
+    let mut trees = Vec::with_capacity(site.alloc, elements.len())?;
     for element in elements {
         let tree = typed(site, element, Wanted::Is(sort))?;
         trees.push(tree)?;

@@ -41,7 +41,7 @@ fn start_datum(sort: Sort) -> Datum
 fn plain_data(alloc: Global, values: &[Value]) -> Result<Vec<Datum>, TypeFault>
     ensures { Gives (λ v. v.items) result (Ok (map Datum.Plain values.now)) }
 {
-    let mut held = Vec::new(alloc);
+    let mut held = Vec::with_capacity(alloc, values.len())?;
     for value in values {
         held.push(Datum::Plain(value.copy()))?;
     }

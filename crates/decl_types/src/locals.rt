@@ -185,16 +185,23 @@ fn unknown(alloc: Global, count: usize) -> Result<Vec<Option<Vec<Value>>>, TypeF
     Ok(known)
 }
 
-/// Parameters come before the data, and are never known.
-fn entered(alloc: Global, scopes: Scopes, consts: u32, count: usize) -> Result<Inner, TypeFault>
+/// Parameters come before the data, and are never known. There is room for so many rows.
+fn entered(
+    alloc: Global,
+    scopes: Scopes,
+    consts: u32,
+    count: usize,
+    room: usize,
+) -> Result<Inner, TypeFault>
     ensures { Gives view_inner result (Ok (record { names = scopes; consts = consts; known = replicate count None; rows = [] })) }
 {
     let known = unknown(alloc, count)?;
+    let rows = Vec::with_capacity(alloc, room)?;
     Ok(Inner {
         scopes,
         consts,
         known,
-        rows: Vec::new(alloc),
+        rows,
     })
 }
 
@@ -217,7 +224,8 @@ pub(crate) fn routine(
         values,
     } = progress;
     let own = number_of(routines.len())?;
-    let inner = entered(alloc, scopes, consts, declared.params.len())?;
+    let count = declared.params.len();
+    let inner = entered(alloc, scopes, consts, count, declared.locals.len())?;
     let inner = locals(alloc, number, own, &known, &declared.locals, inner)?;
     let Inner {
         scopes,

@@ -46,7 +46,7 @@ pub(crate) fn single_value(
     let at = begin_of(value);
     must(site, is_constant(known, &tree), at, TypeRule::NotConst)?;
     let first = value_or_fault(site, at, sort, constant_value(known, &tree))?;
-    let mut values = Vec::new(site.alloc);
+    let mut values = Vec::with_capacity(site.alloc, 1)?;
     values.push(first)?;
     Ok(values)
 }
