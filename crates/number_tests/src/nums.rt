@@ -63,12 +63,26 @@ fn arithmetic(rt: HostRuntime) {
             3_000,
             [Some(5_000), Some(6_000), Some(667), Some(0), Some(2_000)],
         ),
+        (-1, 500, [Some(499), Some(-1), Some(-2), Some(0), Some(-1)]),
+        (
+            1_000,
+            300,
+            [Some(1_300), Some(300), Some(3_333), Some(3_000), Some(100)],
+        ),
+    ];
+    for (left, right, counts) in worked {
+        assert_eq!(rt; answers(left, right), Some(counts));
+    }
+}
+
+#[test]
+fn signs(rt: HostRuntime) {
+    let worked = [
         (
             -2_000,
             3_000,
             [Some(1_000), Some(-6_000), Some(-667), Some(0), Some(-2_000)],
         ),
-        (-1, 500, [Some(499), Some(-1), Some(-2), Some(0), Some(-1)]),
         (
             -7_000,
             2_000,
@@ -91,11 +105,15 @@ fn arithmetic(rt: HostRuntime) {
                 Some(1_000),
             ],
         ),
-        (
-            1_000,
-            300,
-            [Some(1_300), Some(300), Some(3_333), Some(3_000), Some(100)],
-        ),
+    ];
+    for (left, right, counts) in worked {
+        assert_eq!(rt; answers(left, right), Some(counts));
+    }
+}
+
+#[test]
+fn limits(rt: HostRuntime) {
+    let worked = [
         (
             9_000_000_000_000,
             9_000_000_000_000,
