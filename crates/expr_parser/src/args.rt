@@ -138,7 +138,7 @@ fn option<'a>(p: &Parser<'_, 'a>, at: usize, left: u32) -> Result<(RawArg<'a>, u
     let (_backslash, first) = p.tokens.take(at, &[Sign::Backslash])?;
     let (name, next) = name(p, first)?;
     let (value, end) = value_if_any(p, next, left)?;
-    Ok((RawArg::option(p.tokens.place(at), name, value), end))
+    Ok((RawArg::option(p.tokens.byte_at(at), name, value), end))
 }
 
 /// The value of an option, if it has one.

@@ -1,7 +1,7 @@
 //! Chains of operators.
 
 ghost use Rattle.std.specs.Prelude.{◌≡◌, ◌++◌, ◌∷◌, [], map, OnOk, IfErr};
-ghost use Rattle.rapid_forms.specs.Forms.{place};
+ghost use Rattle.rapid_forms.specs.Forms.{first_byte};
 ghost use Rattle.raw_trees.specs.Views.{view_expr, view_step};
 ghost use Rattle.rapid_forms.specs.declared.fault.SyntaxFault.TheVariants.{Memory};
 ghost use Rattle.rapid_forms.specs.Reading.{Gives, Makes, many_read, rest_from};
@@ -59,12 +59,12 @@ fn chained<'a>(
     first: RawExpr<'a>,
     rest: Vec<(Operator, RawExpr<'a>)>,
 ) -> Result<RawExpr<'a>, SyntaxFault>
-    ensures { Makes view_expr result (chain_tree (place (rest_from p.now.tokens at)) (view_expr first.entry, map view_step rest.entry.items)) }
+    ensures { Makes view_expr result (chain_tree (first_byte (rest_from p.now.tokens at)) (view_expr first.entry, map view_step rest.entry.items)) }
 {
     if rest.is_empty() {
         return Ok(first);
     }
-    let chain = RawExpr::chain(p.alloc, p.tokens.place(at), first, rest)?;
+    let chain = RawExpr::chain(p.alloc, p.tokens.byte_at(at), first, rest)?;
     Ok(chain)
 }
 
@@ -170,7 +170,7 @@ fn negated<'a>(
     }
     let (_word, next) = p.tokens.take(at, &[Sign::Not])?;
     let (value, end) = chain(p, next, left, Level::And)?;
-    let not = RawExpr::not(p.alloc, p.tokens.place(at), value)?;
+    let not = RawExpr::not(p.alloc, p.tokens.byte_at(at), value)?;
     Ok((not, end))
 }
 
@@ -185,7 +185,7 @@ fn signed<'a>(p: &Parser<'_, 'a>, at: usize, left: u32) -> Result<(RawExpr<'a>, 
     }
     let (sign, next) = p.tokens.take(at, &[Sign::Plus, Sign::Minus])?;
     let (operand, end) = chain(p, next, left, Level::Term)?;
-    let signed = RawExpr::signed(p.alloc, p.tokens.place(at), is_minus(&sign), operand)?;
+    let signed = RawExpr::signed(p.alloc, p.tokens.byte_at(at), is_minus(&sign), operand)?;
     Ok((signed, end))
 }
 
@@ -206,7 +206,7 @@ fn relation<'a>(
     let (step, end) = comparison(p, next, left)?;
     let mut rest = Vec::with_capacity(p.alloc, 1)?;
     rest.push(step)?;
-    let chain = RawExpr::chain(p.alloc, p.tokens.place(at), first, rest)?;
+    let chain = RawExpr::chain(p.alloc, p.tokens.byte_at(at), first, rest)?;
     Ok((chain, end))
 }
 

@@ -27,7 +27,7 @@ pub(crate) fn group<'a>(
     let (_open, first) = p.tokens.take(at, &[Sign::OpenParenthesis])?;
     let (value, next) = expr(p, first, left - 1)?;
     let (_close, end) = p.tokens.take(next, &[Sign::CloseParenthesis])?;
-    let group = RawExpr::group(p.alloc, p.tokens.place(at), value)?;
+    let group = RawExpr::group(p.alloc, p.tokens.byte_at(at), value)?;
     Ok((group, end))
 }
 
@@ -47,7 +47,7 @@ pub(crate) fn aggregate<'a>(
     let (_open, first) = p.tokens.take(at, &[Sign::OpenBracket])?;
     let (values, next) = exprs(p, first, left - 1)?;
     let (_close, end) = p.tokens.take(next, &[Sign::CloseBracket])?;
-    Ok((RawExpr::aggregate(p.tokens.place(at), values), end))
+    Ok((RawExpr::aggregate(p.tokens.byte_at(at), values), end))
 }
 
 /// An index in braces, within `left` levels, and the number of the token behind it.

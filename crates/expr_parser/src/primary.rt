@@ -87,11 +87,11 @@ fn named<'a>(p: &Parser<'_, 'a>, at: usize, left: u32) -> Result<(RawExpr<'a>, u
     let (name, next) = name(p, at)?;
     if p.tokens.sees(next, &[Sign::OpenParenthesis]) {
         let (args, end) = call(p, next, left)?;
-        return Ok((RawExpr::invoke(p.tokens.place(at), name, args), end));
+        return Ok((RawExpr::invoke(p.tokens.byte_at(at), name, args), end));
     }
     let ((index, parts), end) = place_parts(p, next, left)?;
     let place = RawPlace::new(p.alloc, name, index, parts)?;
-    Ok((RawExpr::place(p.tokens.place(at), place), end))
+    Ok((RawExpr::place(p.tokens.byte_at(at), place), end))
 }
 
 /// What stands behind a name in a place, within `left` levels: an index, or none, and components. With it the number of

@@ -5,7 +5,7 @@ use Rattle.rapid_lexer.specs.Tokens.{Lexeme}
 use Rattle.raw_trees.specs.Plain.{PlainItem}
 use Rattle.rapid_forms.specs.declared.sign.Sign.TheVariants as signs
 use Rattle.rapid_forms.specs.Signs.{begins_with}
-use Rattle.rapid_forms.specs.Forms.{place}
+use Rattle.rapid_forms.specs.Forms.{first_byte}
 use Rattle.rapid_forms.specs.Reading.{Read, then_read, seq_read, either_read, made_read}
 use Rattle.module_parser.specs.Grammar.{datum_item, proc_tree, func_tree, trap_tree}
 use Rattle.module_parser.specs.Reads.{datum_signs, datum_read, proc_read, func_read, trap_read, behind_local_read, local_read, local_tree}
@@ -50,6 +50,6 @@ module _ (n at : ℕ) (local : Option Lexeme) (ts : List Lexeme) where
       trap_behind e = rw (no_datum, no_proc, e) (made_often (trap_read n ts) (λ x. inr x) (λ x. inr x) (λ x. inr x) (λ x. local_tree at (local, x)))
 
 -- an item at the byte of its first token, of which the word LOCAL, if it is there, was read
-pub local_behind : (n at : ℕ) (ts : List Lexeme) (local : Option Lexeme) (rest : List Lexeme) → at ≡ place ts → local_read ts ≡ Ok (local, rest) → made_read local_tree (seq_read local_read (behind_local_read n)) ts ≡ placed_read n at local rest
+pub local_behind : (n at : ℕ) (ts : List Lexeme) (local : Option Lexeme) (rest : List Lexeme) → at ≡ first_byte ts → local_read ts ≡ Ok (local, rest) → made_read local_tree (seq_read local_read (behind_local_read n)) ts ≡ placed_read n at local rest
 unfolding made_read seq_read then_read
-local_behind n at ts local rest here e = rw e (made_twice (behind_local_read n rest) (λ x. (local, x)) (λ x. local_tree (place ts) x) ∙ ap (λ p. placed_read n p local rest) (sym here))
+local_behind n at ts local rest here e = rw e (made_twice (behind_local_read n rest) (λ x. (local, x)) (λ x. local_tree (first_byte ts) x) ∙ ap (λ p. placed_read n p local rest) (sym here))

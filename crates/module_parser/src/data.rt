@@ -32,7 +32,7 @@ pub(crate) fn datum<'a>(
         name,
         len,
         first,
-        at: p.tokens.place(at),
+        at: p.tokens.byte_at(at),
     };
     Ok((datum, end))
 }

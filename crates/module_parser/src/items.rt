@@ -27,7 +27,7 @@ pub(crate) fn item<'a>(p: &Parser<'_, 'a>, at: usize) -> Result<(RawItem<'a>, us
         return task(p, at);
     }
     let (local, next) = local_if_any(p, at)?;
-    behind_local(p, local, p.tokens.place(at), next)
+    behind_local(p, local, p.tokens.byte_at(at), next)
 }
 
 /// A persistent that each task has for itself.
@@ -41,7 +41,7 @@ fn task<'a>(p: &Parser<'_, 'a>, at: usize) -> Result<(RawItem<'a>, usize), Synta
         local: false,
         task: true,
         datum,
-        at: p.tokens.place(at),
+        at: p.tokens.byte_at(at),
     };
     Ok((item, end))
 }
@@ -61,25 +61,25 @@ fn local_if_any<'a>(
     Ok((Some(word), next))
 }
 
-/// What stands behind LOCAL, if that is there, in an item that begins at byte `place`.
+/// What stands behind LOCAL, if that is there, in an item that begins at this byte.
 fn behind_local<'a>(
     p: &Parser<'_, 'a>,
     local: Option<Token<'a>>,
-    place: usize,
+    byte: usize,
     at: usize,
 ) -> Result<(RawItem<'a>, usize), SyntaxFault>
-    ensures { Gives p.now.tokens view_item result (then_read (behind_local_read 64 (rest_from p.now.tokens at)) (λ x rest. Ok (local_tree place (option_map view local.entry, x), rest))) }
+    ensures { Gives p.now.tokens view_item result (then_read (behind_local_read 64 (rest_from p.now.tokens at)) (λ x rest. Ok (local_tree byte (option_map view local.entry, x), rest))) }
 {
     if p.tokens.sees(at, &DATUM_SIGNS) {
-        return local_datum(p, local, place, at);
+        return local_datum(p, local, byte, at);
     }
     if p.tokens.sees(at, &[Sign::Proc]) {
-        return procedure(p, local, place, at);
+        return procedure(p, local, byte, at);
     }
     if p.tokens.sees(at, &[Sign::Func]) {
-        return function(p, local, place, at);
+        return function(p, local, byte, at);
     }
-    trap(p, local, place, at)
+    trap(p, local, byte, at)
 }
 
 /// Whether the word LOCAL was there.
@@ -93,17 +93,17 @@ fn is_there(word: Option<Token<'_>>) -> bool
 fn local_datum<'a>(
     p: &Parser<'_, 'a>,
     local: Option<Token<'a>>,
-    place: usize,
+    byte: usize,
     at: usize,
 ) -> Result<(RawItem<'a>, usize), SyntaxFault>
-    ensures { Gives p.now.tokens view_item result (then_read (datum_read datum_signs 64 (rest_from p.now.tokens at)) (λ x rest. Ok (datum_item place (option_map view local.entry, x), rest))) }
+    ensures { Gives p.now.tokens view_item result (then_read (datum_read datum_signs 64 (rest_from p.now.tokens at)) (λ x rest. Ok (datum_item byte (option_map view local.entry, x), rest))) }
 {
     let (datum, end) = datum(p, at, &DATUM_SIGNS)?;
     let item = RawItem::Datum {
         local: is_there(local),
         task: false,
         datum,
-        at: place,
+        at: byte,
     };
     Ok((item, end))
 }
@@ -112,10 +112,10 @@ fn local_datum<'a>(
 fn procedure<'a>(
     p: &Parser<'_, 'a>,
     local: Option<Token<'a>>,
-    place: usize,
+    byte: usize,
     at: usize,
 ) -> Result<(RawItem<'a>, usize), SyntaxFault>
-    ensures { Gives p.now.tokens view_item result (then_read (proc_read 64 (rest_from p.now.tokens at)) (λ x rest. Ok (proc_tree place (option_map view local.entry, x), rest))) }
+    ensures { Gives p.now.tokens view_item result (then_read (proc_read 64 (rest_from p.now.tokens at)) (λ x rest. Ok (proc_tree byte (option_map view local.entry, x), rest))) }
 {
     let (_word, first) = p.tokens.take(at, &[Sign::Proc])?;
     let (name, next) = name(p, first)?;
@@ -131,7 +131,7 @@ fn procedure<'a>(
         locals: body.locals,
         list: body.list,
         handler: body.handler,
-        at: place,
+        at: byte,
     };
     Ok((RawItem::Routine(routine), end))
 }
@@ -140,10 +140,10 @@ fn procedure<'a>(
 fn function<'a>(
     p: &Parser<'_, 'a>,
     local: Option<Token<'a>>,
-    place: usize,
+    byte: usize,
     at: usize,
 ) -> Result<(RawItem<'a>, usize), SyntaxFault>
-    ensures { Gives p.now.tokens view_item result (then_read (func_read 64 (rest_from p.now.tokens at)) (λ x rest. Ok (func_tree place (option_map view local.entry, x), rest))) }
+    ensures { Gives p.now.tokens view_item result (then_read (func_read 64 (rest_from p.now.tokens at)) (λ x rest. Ok (func_tree byte (option_map view local.entry, x), rest))) }
 {
     let (_word, first) = p.tokens.take(at, &[Sign::Func])?;
     let (sort, second) = name(p, first)?;
@@ -160,7 +160,7 @@ fn function<'a>(
         locals: body.locals,
         list: body.list,
         handler: body.handler,
-        at: place,
+        at: byte,
     };
     Ok((RawItem::Routine(routine), end))
 }
@@ -169,10 +169,10 @@ fn function<'a>(
 fn trap<'a>(
     p: &Parser<'_, 'a>,
     local: Option<Token<'a>>,
-    place: usize,
+    byte: usize,
     at: usize,
 ) -> Result<(RawItem<'a>, usize), SyntaxFault>
-    ensures { Gives p.now.tokens view_item result (then_read (trap_read 64 (rest_from p.now.tokens at)) (λ x rest. Ok (trap_tree place (option_map view local.entry, x), rest))) }
+    ensures { Gives p.now.tokens view_item result (then_read (trap_read 64 (rest_from p.now.tokens at)) (λ x rest. Ok (trap_tree byte (option_map view local.entry, x), rest))) }
 {
     let (_word, first) = p.tokens.take(at, &[Sign::Trap])?;
     let (name, after) = name(p, first)?;
@@ -187,7 +187,7 @@ fn trap<'a>(
         locals: body.locals,
         list: body.list,
         handler: body.handler,
-        at: place,
+        at: byte,
     };
     Ok((RawItem::Routine(routine), end))
 }

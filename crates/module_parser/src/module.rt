@@ -48,7 +48,7 @@ pub(crate) fn module<'a>(
         name,
         attributes,
         items,
-        at: p.tokens.place(at),
+        at: p.tokens.byte_at(at),
     };
     Ok((module, end))
 }

@@ -81,7 +81,7 @@ fn param<'a>(p: &Parser<'_, 'a>, at: usize) -> Result<(RawParam<'a>, usize), Syn
     let (mode, first) = mode_if_any(p, at)?;
     let (sort, second) = name(p, first)?;
     let (name, end) = name(p, second)?;
-    Ok((param_of(p.tokens.place(at), mode, sort, name), end))
+    Ok((param_of(p.tokens.byte_at(at), mode, sort, name), end))
 }
 
 /// A parameter at a byte, with the word of its mode, if that is there.

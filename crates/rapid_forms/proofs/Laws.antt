@@ -5,7 +5,7 @@ use Rattle.std.proofs.lemmas.List.{append_assoc, append-nil}
 use Rattle.rapid_lexer.specs.Tokens.{Lexeme}
 use Rattle.rapid_forms.specs.declared.sign.Sign.{Sign}
 use Rattle.rapid_forms.specs.Signs.{has, sign_of, begins_with}
-use Rattle.rapid_forms.specs.Forms.{Form, one, seq, either, optional, many, made, nothing, WholeEach, place}
+use Rattle.rapid_forms.specs.Forms.{Form, one, seq, either, optional, many, made, nothing, WholeEach, first_byte}
 use Rattle.rapid_forms.proofs.Cuts.{Even, Shorter, Longer, cuts, both_empty, heads, behind, no_middle, no_front}
 use Rattle.rapid_forms.proofs.Sets.{apart, covered, when, has_apart, has_covered, has_left, has_right, has_when}
 
@@ -338,7 +338,7 @@ made_ll f l = record {
   head = l.head;
   empty = λ y w. l.empty w.0 w.1;
   goes = λ y ts t us w. l.goes w.0 ts t us w.1;
-  only = λ y z ts w w'. w.2 ∙ ap (f (place ts)) (l.only w.0 w'.0 ts w.1 w'.1) ∙ sym w'.2;
+  only = λ y z ts w w'. w.2 ∙ ap (f (first_byte ts)) (l.only w.0 w'.0 ts w.1 w'.1) ∙ sym w'.2;
 }
 
 pub nothing_ll : {A : Type 0} {null : Bool} {first more : List Sign} → LL null first more (nothing {A = A})

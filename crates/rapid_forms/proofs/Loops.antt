@@ -95,7 +95,7 @@ loop_done a signs xs ts h = rw (many_closed a signs ts h) (ap (λ l. Ok (l, ts))
 
 -- What a function gives that returns from the loop with the fault of one more. What is given with a fault has no view.
 pub loop_fails : {A : Type 0} {a : Reader A} → Takes a → (signs : List Sign) (xs : List A) (tokens : Tokens) (fault : SyntaxFault) (next : ℕ) (read : Read (List A)) → begins_with signs (rest_from tokens next) ≡ true → with_front xs (many_read signs a (rest_from tokens next)) ≡ read → Gives tokens (λ (x : A). x) (Err fault) (a (rest_from tokens next)) → Gives tokens (λ (x : List A). x) (Err fault) read
-loop_fails t signs xs tokens (Rule rule place) next read h same (halt, e, is) = (halt, sym same ∙ loop_stops t signs xs (rest_from tokens next) halt h e, is)
+loop_fails t signs xs tokens (Rule rule byte) next read h same (halt, e, is) = (halt, sym same ∙ loop_stops t signs xs (rest_from tokens next) halt h e, is)
 loop_fails t signs xs tokens (Lex f) next read h same (halt, e, is) = (halt, sym same ∙ loop_stops t signs xs (rest_from tokens next) halt h e, is)
 loop_fails t signs xs tokens Memory next read h same g = tt
 

@@ -3,7 +3,7 @@ use Rattle.std.proofs.Common.{◌≡◌, Bool, true, false, if◌then◌else◌,
 use Rattle.rapid_lexer.specs.Tokens.{Lexeme}
 use Rattle.rapid_forms.specs.declared.sign.Sign.{Sign}
 use Rattle.rapid_forms.specs.Signs.{has, sign_of}
-use Rattle.rapid_forms.specs.Forms.{place}
+use Rattle.rapid_forms.specs.Forms.{first_byte}
 use Rattle.rapid_forms.specs.Reading.{Fails, Read, one_read}
 
 abbrev gives : {A : Type 0} → A × List Lexeme → Read A
@@ -27,5 +27,5 @@ one_gave signs (c ∷ ts) t rest e =
     ]
 
 -- and a form that it begins stands at its byte
-pub one_placed : (signs : List Sign) (ts : List Lexeme) (t : Lexeme) (rest : List Lexeme) → one_read signs ts ≡ Ok (t, rest) → place ts ≡ t.at
-one_placed signs ts t rest e = ap place (one_gave signs ts t rest e)
+pub one_placed : (signs : List Sign) (ts : List Lexeme) (t : Lexeme) (rest : List Lexeme) → one_read signs ts ≡ Ok (t, rest) → first_byte ts ≡ t.at
+one_placed signs ts t rest e = ap first_byte (one_gave signs ts t rest e)

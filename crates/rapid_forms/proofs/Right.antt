@@ -6,14 +6,14 @@ use Rattle.std.proofs.lemmas.List.{append_assoc, append-nil, length-append}
 use Rattle.rapid_lexer.specs.Tokens.{Lexeme}
 use Rattle.rapid_forms.specs.declared.sign.Sign.{Sign}
 use Rattle.rapid_forms.specs.Signs.{has, sign_of, begins_with}
-use Rattle.rapid_forms.specs.Forms.{Form, one, seq, either, optional, many, made, nothing, place}
+use Rattle.rapid_forms.specs.Forms.{Form, one, seq, either, optional, many, made, nothing, first_byte}
 use Rattle.rapid_forms.specs.Reading.{Fails, Deep, Read, Reader, then_read, one_read, seq_read, either_read, optional_read, many_within, many_read, made_read, nothing_read}
 use Rattle.rapid_forms.proofs.Laws.{LL, many_ll}
 use Rattle.rapid_forms.proofs.Cuts.{Even, Shorter, Longer, cuts, behind, no_middle, no_front}
 use Rattle.rapid_forms.proofs.Sets.{apart, has_apart}
 use Rattle.rapid_forms.proofs.Up.{Up, seq_up, many_up}
 use Rattle.rapid_forms.proofs.Opens.{Opens, seq_opens}
-use Rattle.rapid_forms.proofs.Same.{Same, either_swapped, place_front}
+use Rattle.rapid_forms.proofs.Same.{Same, either_swapped, byte_front}
 
 -- the next token, if there is one, does not go on with the front
 abbrev pub Ends : {A : Type 0} → Form A → List Lexeme → List Lexeme → Type 0
@@ -342,7 +342,7 @@ optional_reads {A} {null} {first} {more} {F} {n} {a} ra lf o up = record {
 }
 
 -- premise: what is made of a whole one does not depend on where no token stands
-made_right : {A B : Type 0} (F : ℕ → Form A) (f : ℕ → A → B) (n : ℕ) (ts : List Lexeme) → ((x : A) (front rest : List Lexeme) → ts ≡ front ++ rest → (F n).Whole x front → f (place ts) x ≡ f (place front) x) → (read : Read A) → Right F n ts read → Right (λ m. made f (F m)) n ts (then_read read λ x rest. Ok (f (place ts) x, rest))
+made_right : {A B : Type 0} (F : ℕ → Form A) (f : ℕ → A → B) (n : ℕ) (ts : List Lexeme) → ((x : A) (front rest : List Lexeme) → ts ≡ front ++ rest → (F n).Whole x front → f (first_byte ts) x ≡ f (first_byte front) x) → (read : Read A) → Right F n ts read → Right (λ m. made f (F m)) n ts (then_read read λ x rest. Ok (f (first_byte ts) x, rest))
 unfolding made then_read
 made_right F f n ts same (Ok x) h = record { front = h.front; split = h.split; whole = (x.0, h.whole, same x.0 h.front x.1 h.split h.whole); ends = h.ends }
 made_right F f n ts same (Err (Fails rest)) h = record { front = h.front; split = h.split; begun = h.begun; ends = h.ends; none = λ m le y w. h.none m le w.0 w.1 }
@@ -363,13 +363,13 @@ made_right F f n ts same (Err (Deep rest)) h = record {
 pub made_reads : {A B : Type 0} {first more : List Sign} {F : ℕ → Form A} {n : ℕ} {a : Reader A} (f : ℕ → A → B) → Reads F n a → ((m : ℕ) → LL false first more (F m)) → Reads (λ m. made f (F m)) n (made_read f a)
 unfolding made_read
 made_reads {F = F} {n = n} {a = a} f ra lf = record {
-  right = λ ts. made_right F f n ts (λ x front rest split w. ap (λ at. f at x) (place_front (lf n) x ts front rest split w)) (a ts) (ra.right ts);
+  right = λ ts. made_right F f n ts (λ x front rest split w. ap (λ at. f at x) (byte_front (lf n) x ts front rest split w)) (a ts) (ra.right ts);
 }
 
 -- premise: the place counts for nothing
 pub remade_reads : {A B : Type 0} {F : ℕ → Form A} {n : ℕ} {a : Reader A} (f : ℕ → A → B) → Reads F n a → ((p q : ℕ) (x : A) → f p x ≡ f q x) → Reads (λ m. made f (F m)) n (made_read f a)
 unfolding made_read
-remade_reads {F = F} {n = n} {a = a} f ra same = record { right = λ ts. made_right F f n ts (λ x front rest split w. same (place ts) (place front) x) (a ts) (ra.right ts) }
+remade_reads {F = F} {n = n} {a = a} f ra same = record { right = λ ts. made_right F f n ts (λ x front rest split w. same (first_byte ts) (first_byte front) x) (a ts) (ra.right ts) }
 
 -- a reader answers for a form that is the same
 pub same_reads : {A : Type 0} {F G : ℕ → Form A} {n : ℕ} {a : Reader A} → Reads F n a → ((m : ℕ) → Same (F m) (G m)) → Reads G n a

@@ -2,7 +2,7 @@
 use Rattle.std.proofs.Common.{◌≡◌, ℕ, Bool, false, ◌⊎◌, inl, inr, List, [], ◌∷◌, ◌++◌, Option, None, Some, refl, sym, ◌∙◌, ap, subst}
 use Rattle.rapid_lexer.specs.Tokens.{Lexeme}
 use Rattle.rapid_forms.specs.declared.sign.Sign.{Sign}
-use Rattle.rapid_forms.specs.Forms.{Form, seq, either, optional, many, made, place}
+use Rattle.rapid_forms.specs.Forms.{Form, seq, either, optional, many, made, first_byte}
 use Rattle.rapid_forms.proofs.Cuts.{ahead, behind, no_front}
 use Rattle.rapid_forms.proofs.Laws.{LL}
 use Rattle.rapid_forms.proofs.Up.{Up, up_refl, up_trans, seq_up, either_up, many_up, made_up}
@@ -116,9 +116,9 @@ shared {A} {B} {C} {D} f g a b c = record {
   };
 } where
   whole : (t : D) (ts : List Lexeme) (x : A × (B ⊎ C)) → (seq a (either (made left b) (made right c))).Whole x ts
-      → t ≡ joined f g (place ts) x → (either (made f (seq a b)) (made g (seq a c))).Whole t ts
-  whole t ts (x, s) (u, v, p, w, inl (y, q, e)) r = inl ((x, y), (u, v, p, w, q), r ∙ ap (λ z. joined f g (place ts) (x, z)) e)
-  whole t ts (x, s) (u, v, p, w, inr (y, q, e)) r = inr ((x, y), (u, v, p, w, q), r ∙ ap (λ z. joined f g (place ts) (x, z)) e)
+      → t ≡ joined f g (first_byte ts) x → (either (made f (seq a b)) (made g (seq a c))).Whole t ts
+  whole t ts (x, s) (u, v, p, w, inl (y, q, e)) r = inl ((x, y), (u, v, p, w, q), r ∙ ap (λ z. joined f g (first_byte ts) (x, z)) e)
+  whole t ts (x, s) (u, v, p, w, inr (y, q, e)) r = inr ((x, y), (u, v, p, w, q), r ∙ ap (λ z. joined f g (first_byte ts) (x, z)) e)
 
 -- of two lines that begin alike and go on with things of one kind
 pub alike : {A B C : Type 0} (f : ℕ → A × B → C) (a : Form A) (b b' : Form B)
@@ -169,8 +169,8 @@ made_behind f a b = record {
 pub made_made : {A B C : Type 0} (f : ℕ → A → B) (g : ℕ → B → C) (a : Form A) → Same (made g (made f a)) (made (λ at x. g at (f at x)) a)
 unfolding made
 made_made f g a = record {
-  to = record { whole = λ t ts w. (w.1.0, w.1.1, w.2 ∙ ap (g (place ts)) w.1.2); begun = λ ts b. b };
-  back = record { whole = λ t ts w. (f (place ts) w.0, (w.0, w.1, refl), w.2); begun = λ ts b. b };
+  to = record { whole = λ t ts w. (w.1.0, w.1.1, w.2 ∙ ap (g (first_byte ts)) w.1.2); begun = λ ts b. b };
+  back = record { whole = λ t ts w. (f (first_byte ts) w.0, (w.0, w.1, refl), w.2); begun = λ ts b. b };
 }
 
 -- a sequence bracketed to the left, and to the right
@@ -211,10 +211,10 @@ both_shared {A} {B} {E = E} f g a b c d =
     front h e = same_sym (same_trans (made_same _ (bracketed a b e)) (made_made _ _ _))
 
 -- a whole one that takes a token stands at the same place as what it is the front of
-pub place_front : {A : Type 0} {first more : List Sign} {a : Form A} → LL false first more a → (x : A) (ts u v : List Lexeme)
-    → ts ≡ u ++ v → a.Whole x u → place ts ≡ place u
-place_front l x ts [] v p w = let h = l.empty x w in cc
-place_front l x ts (t ∷ u) v p w = ap place p
+pub byte_front : {A : Type 0} {first more : List Sign} {a : Form A} → LL false first more a → (x : A) (ts u v : List Lexeme)
+    → ts ≡ u ++ v → a.Whole x u → first_byte ts ≡ first_byte u
+byte_front l x ts [] v p w = let h = l.empty x w in cc
+byte_front l x ts (t ∷ u) v p w = ap first_byte p
 
 -- premise: the first form takes a token, so that its place is that of the whole
 pub regrouped : {A B C : Type 0} {first more : List Sign} {a : Form A} (f : ℕ → A → B) (c : Form C) → LL false first more a
@@ -223,7 +223,7 @@ unfolding seq made
 regrouped {a = a} f c l = record {
   to = record {
     whole = λ x ts (u, v, p, (y, w, e), q).
-        ((y, x.1), (u, v, p, w, q), ap (λ z. (z, x.1)) (e ∙ ap (λ n. f n y) (sym (place_front l y ts u v p w))));
+        ((y, x.1), (u, v, p, w, q), ap (λ z. (z, x.1)) (e ∙ ap (λ n. f n y) (sym (byte_front l y ts u v p w))));
     begun = λ ts. elim [ inl p ↦ inl p | inr (x, u, v, p, (y, w, e), q) ↦ inr (y, u, v, p, w, q) ];
   };
   back = record {
@@ -231,10 +231,10 @@ regrouped {a = a} f c l = record {
       u,
       v,
       p,
-      (y.0, w, ap (λ r. r.0) e ∙ ap (λ n. f n y.0) (place_front l y.0 ts u v p w)),
+      (y.0, w, ap (λ r. r.0) e ∙ ap (λ n. f n y.0) (byte_front l y.0 ts u v p w)),
       subst (λ z. c.Whole z v) (sym (ap (λ r. r.1) e)) q,
     );
-    begun = λ ts. elim [ inl p ↦ inl p | inr (y, u, v, p, w, q) ↦ inr (f (place u) y, u, v, p, (y, w, refl), q) ];
+    begun = λ ts. elim [ inl p ↦ inl p | inr (y, u, v, p, w, q) ↦ inr (f (first_byte u) y, u, v, p, (y, w, refl), q) ];
   };
 }
 
@@ -285,8 +285,8 @@ commas {A} {B} {C} {D} f g k b c s = record {
   begun ts (inr (inr (Some x, u, v, p, w, q))) = inl (inr (x, u, v, p, w, inr q))
   begun ts (inr (inr (None, u, v, p, w, q))) = inr (subst c.Begun (sym (no_front ts u v p w)) q)
 
-  chosen : (ts : List Lexeme) (x : A) {y z : B ⊎ C} → y ≡ z → joined f (λ at x. g at (Some x.0, x.1)) (place ts) (x, y) ≡ joined f (λ at x. g at (Some x.0, x.1)) (place ts) (x, z)
-  chosen ts x r = ap (λ z. joined f (λ at x. g at (Some x.0, x.1)) (place ts) (x, z)) r
+  chosen : (ts : List Lexeme) (x : A) {y z : B ⊎ C} → y ≡ z → joined f (λ at x. g at (Some x.0, x.1)) (first_byte ts) (x, y) ≡ joined f (λ at x. g at (Some x.0, x.1)) (first_byte ts) (x, z)
+  chosen ts x r = ap (λ z. joined f (λ at x. g at (Some x.0, x.1)) (first_byte ts) (x, z)) r
 
   back : (t : D) (ts : List Lexeme) → one_line.Whole t ts → two_lines.Whole t ts
   back t ts (inl ((x, z), (u, v, p, w, inl (y, q, r)), e)) = inl ((x, y), (u, v, p, w, q), e ∙ chosen ts x r)

@@ -138,10 +138,10 @@ module _ {A : Type 0} (F : ℕ → Form A) (n : ℕ) where
         let (k, h, e) = subst (Answers F n (rest_from tokens at)) g a in
         let len = length-map tokens.list.now lexeme in
         (k, h, next_is (views tokens.list.now) at x.1 k (omega (arith, within.0)) (omega (arith, within.1)) h.longest.there e)
-    answer_parses (Err (Rule rule place)) read a within (Fails rest, e, same) =
+    answer_parses (Err (Rule rule byte)) read a within (Fails rest, e, same) =
         let (k, h, left) = subst (Answers F n (rest_from tokens at)) e a in
         inl (k, h, same ∙ ap (syntax_fault tokens.end) (left ∙ drop-drop k at (views tokens.list.now)))
-    answer_parses (Err (Rule rule place)) read a within (Deep rest, e, same) =
+    answer_parses (Err (Rule rule byte)) read a within (Deep rest, e, same) =
         let (k, h, left) = subst (Answers F n (rest_from tokens at)) e a in
         inr (k, h, same ∙ ap (depth_fault tokens.end) (left ∙ drop-drop k at (views tokens.list.now)))
     answer_parses (Err (Lex f)) read a within (Fails rest, e, same) = cc

@@ -54,14 +54,14 @@ many {A} a = record {
 }
 
 -- the byte at which the first token stands
-abbrev pub place : List Lexeme → ℕ
-place [] = 0
-place (t ∷ ts) = t.at
+abbrev pub first_byte : List Lexeme → ℕ
+first_byte [] = 0
+first_byte (t ∷ ts) = t.at
 
 -- the same tokens, which stand for what is made of their place and of what they stood for
 unfoldable pub made : {A B : Type 0} → (ℕ → A → B) → Form A → Form B
 made {A} {B} f a = record {
-  Whole = λ y ts. (x : A) × a.Whole x ts × (y ≡ f (place ts) x);
+  Whole = λ y ts. (x : A) × a.Whole x ts × (y ≡ f (first_byte ts) x);
   Begun = a.Begun;
 }
 

@@ -42,9 +42,9 @@ pub record IsTooDeep {A : Type 0} (F : ℕ → Form A) (n : ℕ) (ts : List Lexe
   pub deep : (F n).Begun (take (suc k) ts) → ⊥
 
 -- the byte at which the first token stands, or the text's end
-abbrev pub place_or : ℕ → List Lexeme → ℕ
-place_or end [] = end
-place_or end (t ∷ ts) = t.at
+abbrev pub byte_or : ℕ → List Lexeme → ℕ
+byte_or end [] = end
+byte_or end (t ∷ ts) = t.at
 
 -- words of RAPID that this profile leaves out
 abbrev pub is_left_out : List Lexeme → Bool
@@ -52,18 +52,18 @@ is_left_out ts = begins_with (signs.Alias ∷ signs.Record ∷ signs.Undo ∷ si
 
 -- the fault before these tokens, with which those before them do not go on
 abbrev pub syntax_fault : ℕ → List Lexeme → SyntaxFault
-syntax_fault end ts = Rule (if is_left_out ts then LeftOut else Syntax) (place_or end ts)
+syntax_fault end ts = Rule (if is_left_out ts then LeftOut else Syntax) (byte_or end ts)
 
 -- the fault before these tokens, the first of which opens a level too many
 abbrev pub depth_fault : ℕ → List Lexeme → SyntaxFault
-depth_fault end ts = Rule TooDeep (place_or end ts)
+depth_fault end ts = Rule TooDeep (byte_or end ts)
 
 -- What a parser answered for the tokens of a text of so many bytes, from token `at` on: a tree, as view sees it, and the
 -- number of the token behind it; or a fault. Want of memory aside.
 abbrev pub Parses : {X A : Type 0} → (ℕ → Form A) → ℕ → List Lexeme → ℕ → ℕ → (X → A) → Result (X × ℕ) SyntaxFault → Type 0
 Parses F n ts end at view (Ok x) = (k : ℕ) × IsParsed F n (drop at ts) (view x.0) k × (x.1 ≡ at + k)
-Parses F n ts end at view (Err (Rule rule place)) =
-    ((k : ℕ) × IsFaulty F n (drop at ts) k × (Rule rule place ≡ syntax_fault end (drop (at + k) ts)))
-    ⊎ ((k : ℕ) × IsTooDeep F n (drop at ts) k × (Rule rule place ≡ depth_fault end (drop (at + k) ts)))
+Parses F n ts end at view (Err (Rule rule byte)) =
+    ((k : ℕ) × IsFaulty F n (drop at ts) k × (Rule rule byte ≡ syntax_fault end (drop (at + k) ts)))
+    ⊎ ((k : ℕ) × IsTooDeep F n (drop at ts) k × (Rule rule byte ≡ depth_fault end (drop (at + k) ts)))
 Parses F n ts end at view (Err (Lex f)) = ⊥
 Parses F n ts end at view (Err Memory) = Unit {0}

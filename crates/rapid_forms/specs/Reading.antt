@@ -7,7 +7,7 @@ use Rattle.rapid_forms.specs.declared.fault.SyntaxFault.{SyntaxFault}
 use Rattle.rapid_forms.specs.declared.fault.SyntaxFault.TheVariants.{Memory}
 use Rattle.rapid_forms.specs.declared.tokens.Tokens.{Tokens}
 use Rattle.rapid_forms.specs.Signs.{has, sign_of, begins_with}
-use Rattle.rapid_forms.specs.Forms.{place}
+use Rattle.rapid_forms.specs.Forms.{first_byte}
 use Rattle.rapid_forms.specs.Parsed.{syntax_fault, depth_fault}
 
 -- where reading stopped: the tokens that are left there
@@ -52,7 +52,7 @@ unfoldable pub many_read : {A : Type 0} → List Sign → Reader A → Reader (L
 many_read signs a ts = many_within (length ts) signs a ts
 
 unfoldable pub made_read : {A B : Type 0} → (ℕ → A → B) → Reader A → Reader B
-made_read f a ts = then_read (a ts) λ x rest. Ok (f (place ts) x, rest)
+made_read f a ts = then_read (a ts) λ x rest. Ok (f (first_byte ts) x, rest)
 
 -- no level is left: one of these signs would open one
 unfoldable pub nothing_read : {A : Type 0} → List Sign → Reader A

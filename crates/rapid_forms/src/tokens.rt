@@ -3,8 +3,8 @@
 ghost use Rattle.std.specs.Prelude.{◌≡◌, ◌∷◌, [], if◌then◌else◌};
 ghost use Rattle.rapid_lexer.specs.Tokens.{view};
 ghost use Rattle.rapid_forms.specs.Signs.{begins_with, first_sign, has, is_seen};
-ghost use Rattle.rapid_forms.specs.Forms.{place};
-ghost use Rattle.rapid_forms.specs.Parsed.{depth_fault, place_or, syntax_fault};
+ghost use Rattle.rapid_forms.specs.Forms.{first_byte};
+ghost use Rattle.rapid_forms.specs.Parsed.{byte_or, depth_fault, syntax_fault};
 ghost use Rattle.rapid_forms.specs.Reading.{Gives, one_read, rest_from};
 
 use crate::fault::{SyntaxFault, SyntaxRule};
@@ -72,8 +72,8 @@ impl<'t, 'a> Tokens<'t, 'a> {
     }
 
     /// The byte at which token `at` stands; 0 where there is none.
-    pub fn place(&self, at: usize) -> usize
-        ensures { result ≡ place (rest_from self.now at) }
+    pub fn byte_at(&self, at: usize) -> usize
+        ensures { result ≡ first_byte (rest_from self.now at) }
     {
         match self.list.get(at) {
             Some(token) => token.at,
@@ -82,8 +82,8 @@ impl<'t, 'a> Tokens<'t, 'a> {
     }
 
     /// The byte at which token `at` stands, or the text's end.
-    fn place_or_end(&self, at: usize) -> usize
-        ensures { result ≡ place_or self.now.end (rest_from self.now at) }
+    fn byte_or_end(&self, at: usize) -> usize
+        ensures { result ≡ byte_or self.now.end (rest_from self.now at) }
     {
         match self.list.get(at) {
             Some(token) => token.at,
@@ -102,7 +102,7 @@ impl<'t, 'a> Tokens<'t, 'a> {
         };
         SyntaxFault::Rule {
             rule,
-            at: self.place_or_end(at),
+            at: self.byte_or_end(at),
         }
     }
 
@@ -116,7 +116,7 @@ impl<'t, 'a> Tokens<'t, 'a> {
         }
         SyntaxFault::Rule {
             rule: SyntaxRule::TooDeep,
-            at: self.place_or_end(at),
+            at: self.byte_or_end(at),
         }
     }
 }

@@ -145,13 +145,13 @@ quote_no_gap rest = (refl, omega arith)
 broken_no_gap : (bytes : List ℕ) (cs : List (List ℕ)) (left : List ℕ) → IsBroken bytes cs left → NoGap bytes
 broken_no_gap bytes cs left h = subst NoGap (sym h.whole) (quote_no_gap (concat cs ++ left))
 
-pub misfit_no_gap : (rule : LexRule) (here : ℕ) (bytes : List ℕ) (place : ℕ) → IsMisfit rule here bytes place → NoGap bytes
-misfit_no_gap BadByte here bytes place (inl h) = front_no_gap bytes h.1
-misfit_no_gap BadByte here bytes place (inr h) = broken_no_gap bytes h.0 h.1 h.2
-misfit_no_gap OpenString here bytes place h = broken_no_gap bytes h.1.0 h.1.1 h.1.2
-misfit_no_gap BadEscape here bytes place h = broken_no_gap bytes h.0 h.1 h.2
-misfit_no_gap LongString here bytes place (inl h, p) = begin_no_gap Quoted bytes h.text h.after h.whole (h.characters, h.is_string)
-misfit_no_gap LongString here bytes place (inr h, p) = broken_no_gap bytes h.0 h.1 h.2
-misfit_no_gap LongName here bytes place h = begin_no_gap Name bytes h.0.text h.0.after h.0.whole h.0.is_token
-misfit_no_gap BadLiteral here bytes place h = begin_no_gap Number bytes h.0.text h.0.after h.0.whole h.0.is_token
-misfit_no_gap OpenHeader here bytes place h = absurd h
+pub misfit_no_gap : (rule : LexRule) (here : ℕ) (bytes : List ℕ) (at : ℕ) → IsMisfit rule here bytes at → NoGap bytes
+misfit_no_gap BadByte here bytes at (inl h) = front_no_gap bytes h.1
+misfit_no_gap BadByte here bytes at (inr h) = broken_no_gap bytes h.0 h.1 h.2
+misfit_no_gap OpenString here bytes at h = broken_no_gap bytes h.1.0 h.1.1 h.1.2
+misfit_no_gap BadEscape here bytes at h = broken_no_gap bytes h.0 h.1 h.2
+misfit_no_gap LongString here bytes at (inl h, p) = begin_no_gap Quoted bytes h.text h.after h.whole (h.characters, h.is_string)
+misfit_no_gap LongString here bytes at (inr h, p) = broken_no_gap bytes h.0 h.1 h.2
+misfit_no_gap LongName here bytes at h = begin_no_gap Name bytes h.0.text h.0.after h.0.whole h.0.is_token
+misfit_no_gap BadLiteral here bytes at h = begin_no_gap Number bytes h.0.text h.0.after h.0.whole h.0.is_token
+misfit_no_gap OpenHeader here bytes at h = absurd h

@@ -44,8 +44,8 @@ no_quote bytes cs b left h e =
     closes cs left h.are (subst (λ (r : List ℕ). NoToken r) (h.whole ∙ ap (λ (n : ℕ). 34 ∷ (concat cs ++ n ∷ left)) e) h.none)
 
 stop_from : (here : ℕ) (bytes : List ℕ) (cs : List (List ℕ)) (b : ℕ) (left : List ℕ) (ends escape : Bool) → (eqb b 10 || eqb b 13) ≡ ends → eqb b 92 ≡ escape → IsStop here bytes cs (b ∷ left)
-    → let place = here + 1 + length (concat cs) in
-    IsAt here bytes (Err (cond ends (fault OpenString here) (cond escape (fault BadEscape place) (fault BadByte place))))
+    → let at = here + 1 + length (concat cs) in
+    IsAt here bytes (Err (cond ends (fault OpenString here) (cond escape (fault BadEscape at) (fault BadByte at))))
 stop_from here bytes cs b left true escape e f h = (
   here + 1 + length (concat cs),
   (
@@ -132,18 +132,18 @@ at_end_none [] h = refl
 at_end_none (b ∷ bs) (inl e) = subst (λ (n : ℕ). character_len (n ∷ bs) ≡ 0) (sym e) refl
 at_end_none (b ∷ bs) (inr e) = subst (λ (n : ℕ). character_len (n ∷ bs) ≡ 0) (sym e) refl
 
-at_end_stopped : (quote place : ℕ) (left : List ℕ) → IsAtEnd left → stopped quote place left ≡ fault OpenString quote
-at_end_stopped quote place [] h = refl
-at_end_stopped quote place (b ∷ bs) (inl e) = subst (λ (n : ℕ). stopped quote place (n ∷ bs) ≡ fault OpenString quote) (sym e) refl
-at_end_stopped quote place (b ∷ bs) (inr e) = subst (λ (n : ℕ). stopped quote place (n ∷ bs) ≡ fault OpenString quote) (sym e) refl
+at_end_stopped : (quote at : ℕ) (left : List ℕ) → IsAtEnd left → stopped quote at left ≡ fault OpenString quote
+at_end_stopped quote at [] h = refl
+at_end_stopped quote at (b ∷ bs) (inl e) = subst (λ (n : ℕ). stopped quote at (n ∷ bs) ≡ fault OpenString quote) (sym e) refl
+at_end_stopped quote at (b ∷ bs) (inr e) = subst (λ (n : ℕ). stopped quote at (n ∷ bs) ≡ fault OpenString quote) (sym e) refl
 
 bad_escape_none : (left : List ℕ) → IsBadEscape left → character_len left ≡ 0
 bad_escape_none [] h = absurd h
 bad_escape_none (b ∷ bs) h = begins_none (b ∷ bs) h.1
 
-bad_escape_stopped : (quote place : ℕ) (left : List ℕ) → IsBadEscape left → stopped quote place left ≡ fault BadEscape place
-bad_escape_stopped quote place [] h = absurd h
-bad_escape_stopped quote place (b ∷ bs) h = subst (λ (n : ℕ). stopped quote place (n ∷ bs) ≡ fault BadEscape place) (sym h.0) refl
+bad_escape_stopped : (quote at : ℕ) (left : List ℕ) → IsBadEscape left → stopped quote at left ≡ fault BadEscape at
+bad_escape_stopped quote at [] h = absurd h
+bad_escape_stopped quote at (b ∷ bs) h = subst (λ (n : ℕ). stopped quote at (n ∷ bs) ≡ fault BadEscape at) (sym h.0) refl
 
 unprintable_other : (b n : ℕ) → is_printable b ≡ false → is_printable n ≡ true → eqb b n ≡ false
 unprintable_other b n e f = ne_eqb b n (λ s. let x : false ≡ true = sym e ∙ ap is_printable s ∙ f in cc)
@@ -152,16 +152,16 @@ bad_byte_none : (left : List ℕ) → IsBadInString left → character_len left 
 bad_byte_none [] h = absurd h
 bad_byte_none (b ∷ bs) h = rw (unprintable_other b 34 h.0 refl, unprintable_other b 92 h.0 refl, h.0) refl
 
-bad_byte_stopped : (quote place : ℕ) (left : List ℕ) → IsBadInString left → stopped quote place left ≡ fault BadByte place
-bad_byte_stopped quote place [] h = absurd h
-bad_byte_stopped quote place (b ∷ bs) h = rw (ne_eqb b 10 h.1, ne_eqb b 13 h.2, unprintable_other b 92 h.0 refl) refl
+bad_byte_stopped : (quote at : ℕ) (left : List ℕ) → IsBadInString left → stopped quote at left ≡ fault BadByte at
+bad_byte_stopped quote at [] h = absurd h
+bad_byte_stopped quote at (b ∷ bs) h = rw (ne_eqb b 10 h.1, ne_eqb b 13 h.2, unprintable_other b 92 h.0 refl) refl
 
 abbrev gives : LexRule → ℕ → Result Lexeme LexFault
-gives rule place = Err (fault rule place)
+gives rule at = Err (fault rule at)
 
-stops_is : (rule : LexRule) (stops : List ℕ → Type 0) → ((left : List ℕ) → stops left → character_len left ≡ 0) → ((quote place : ℕ) (left : List ℕ) → stops left → stopped quote place left ≡ fault rule place)
-    → (here : ℕ) (bytes : List ℕ) (place : ℕ) → StopsString stops here bytes place → gives rule place ≡ token_at here bytes
-stops_is rule stops none is here bytes place h =
+stops_is : (rule : LexRule) (stops : List ℕ → Type 0) → ((left : List ℕ) → stops left → character_len left ≡ 0) → ((quote at : ℕ) (left : List ℕ) → stops left → stopped quote at left ≡ fault rule at)
+    → (here : ℕ) (bytes : List ℕ) (at : ℕ) → StopsString stops here bytes at → gives rule at ≡ token_at here bytes
+stops_is rule stops none is here bytes at h =
     let cs = h.0 in
     let left = h.1 in
     sym (stop_is here bytes cs left h.2 h.3 (none left h.4) ∙ ap (λ (f : LexFault). Err f) (is here (here + 1 + length (concat cs)) left h.4) ∙ ap (gives rule) (sym h.5))
@@ -170,21 +170,21 @@ bad_front_is : (here : ℕ) (bytes : List ℕ) → NoToken bytes → IsBadAtFron
 bad_front_is here [] none h = absurd h
 bad_front_is here (b ∷ bs) none h = sym (no_begin here (b ∷ bs) none ∙ ap (λ (t : Bool). Err (cond t (broken here bs) (fault BadByte here))) (ne_eqb b 34 h.2))
 
-misfit_is : (rule : LexRule) (here : ℕ) (bytes : List ℕ) (place : ℕ) → IsMisfit rule here bytes place → gives rule place ≡ token_at here bytes
-misfit_is BadByte here bytes place (inl h) = ap (gives BadByte) h.2 ∙ bad_front_is here bytes h.0 h.1
-misfit_is BadByte here bytes place (inr h) = stops_is BadByte IsBadInString bad_byte_none bad_byte_stopped here bytes place h
-misfit_is OpenString here bytes place h =
+misfit_is : (rule : LexRule) (here : ℕ) (bytes : List ℕ) (at : ℕ) → IsMisfit rule here bytes at → gives rule at ≡ token_at here bytes
+misfit_is BadByte here bytes at (inl h) = ap (gives BadByte) h.2 ∙ bad_front_is here bytes h.0 h.1
+misfit_is BadByte here bytes at (inr h) = stops_is BadByte IsBadInString bad_byte_none bad_byte_stopped here bytes at h
+misfit_is OpenString here bytes at h =
     let s = h.1 in
     ap (gives OpenString) h.2 ∙ sym (stop_is here bytes s.0 s.1 s.2 s.3 (at_end_none s.1 s.4) ∙ ap (λ (f : LexFault). Err f) (at_end_stopped here (here + 1 + length (concat s.0)) s.1 s.4))
-misfit_is BadEscape here bytes place h = stops_is BadEscape IsBadEscape bad_escape_none bad_escape_stopped here bytes place h
-misfit_is LongString here bytes place (inl h, p) =
+misfit_is BadEscape here bytes at h = stops_is BadEscape IsBadEscape bad_escape_none bad_escape_stopped here bytes at h
+misfit_is LongString here bytes at (inl h, p) =
     ap (gives LongString) p ∙ sym (begin_is here bytes h.text h.after Quoted h.whole (h.characters, h.is_string) h.is_longest ∙ long_string_is here h.text h.characters h.is_string h.excess)
-misfit_is LongString here bytes place (inr h, p) = ap (gives LongString) p ∙ sym (over_is here bytes h.0 h.1 h.2 h.3)
-misfit_is LongName here bytes place h =
+misfit_is LongString here bytes at (inr h, p) = ap (gives LongString) p ∙ sym (over_is here bytes h.0 h.1 h.2 h.3)
+misfit_is LongName here bytes at h =
     ap (gives LongName) h.1 ∙ sym (begin_is here bytes h.0.text h.0.after Name h.0.whole h.0.is_token h.0.is_longest ∙ long_name_is here h.0.text h.0.excess)
-misfit_is BadLiteral here bytes place h =
+misfit_is BadLiteral here bytes at h =
     ap (gives BadLiteral) h.1 ∙ sym (begin_is here bytes h.0.text h.0.after Number h.0.whole h.0.is_token h.0.is_longest ∙ bad_literal_is here h.0.text h.0.excess)
-misfit_is OpenHeader here bytes place h = absurd h
+misfit_is OpenHeader here bytes at h = absurd h
 
 lexeme_is : (t : Lexeme) (here : ℕ) → t.at ≡ here → lexeme t.kind here t.text ≡ t
 lexeme_is t here e = subst (λ (n : ℕ). lexeme t.kind n t.text ≡ t) e refl

@@ -25,7 +25,7 @@ right_behind at n bytes left (Ok t) le e gap h =
         gap = take n bytes;
         whole = sym (take-append-drop n bytes) ∙ ap (λ (r : List ℕ). take n bytes ++ r) (e ∙ h.1);
         is_gap = subst (λ (r : List ℕ). IsGap (take n bytes) r) (e ∙ h.1) gap;
-        place = omega (arith, h.2, len);
+        is_at = omega (arith, h.2, len);
         is_token = h.3;
         is_longest = h.4;
         within_limits = h.5;
@@ -79,7 +79,7 @@ next_is at bytes None h =
 next_is at bytes (Some (Ok t)) (after, h) =
     let x = token_no_gap t.kind t.text after h.is_token in
     let len : 0 < length (t.text ++ after) = omega (arith, x.1, length-append t.text after) in
-    let found = token_at_is (at + length h.gap) (t.text ++ after) (Ok t) (after, refl, h.place, h.is_token, h.is_longest, h.within_limits) in
+    let found = token_at_is (at + length h.gap) (t.text ++ after) (Ok t) (after, refl, h.is_at, h.is_token, h.is_longest, h.within_limits) in
     ap (λ (r : Result Lexeme LexFault). Some r) found ∙ sym (behind_gap at bytes h.gap (t.text ++ after) h.whole h.is_gap x.0 len)
 next_is at bytes (Some (Err f)) (gap, left, whole, g, h) =
     let x = misfit_no_gap f.rule (at + length gap) left f.at h in
@@ -89,7 +89,7 @@ next_is at bytes (Some (Err f)) (gap, left, whole, g, h) =
 -- a token that comes next lies in the source
 follows_within : (at : ℕ) (source : List ℕ) (t : Lexeme) (after : List ℕ) → at ≤ length source → Follows at (drop at source) t after → t.at + length t.text ≤ length source
 follows_within at source t after le h =
-    omega (arith, h.place, ap length h.whole, length-drop at source, length-append h.gap (t.text ++ after), length-append t.text after)
+    omega (arith, h.is_at, ap length h.whole, length-drop at source, length-append h.gap (t.text ++ after), length-append t.text after)
 
 pub next_within : (at : ℕ) (source : List ℕ) (r : Option (Result Token LexFault)) → at ≤ length source → seen_next r ≡ next_of at (drop at source)
     → IfSome r (λ x. IfOk x (λ t. t.at + length t.text.now ≤ length source))

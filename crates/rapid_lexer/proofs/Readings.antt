@@ -40,7 +40,7 @@ passes_push (u ∷ ts) at bytes there left t after p h = (p.0, p.1, passes_push 
 pub follows_more : (at : ℕ) (bytes : List ℕ) (t : Lexeme) (after : List ℕ) → Follows at bytes t after → (at < t.at + length t.text) × (t.at + length t.text ≤ at + length bytes)
 follows_more at bytes t after h =
     let some = (token_no_gap t.kind t.text after h.is_token).1 in
-    (omega (arith, some, h.place), omega (arith, h.place, ap length h.whole, length-append h.gap (t.text ++ after), length-append t.text after))
+    (omega (arith, some, h.is_at), omega (arith, h.is_at, ap length h.whole, length-append h.gap (t.text ++ after), length-append t.text after))
 
 left_behind : (at : ℕ) (source : List ℕ) (t : Lexeme) (after : List ℕ) → Follows at (drop at source) t after → after ≡ drop (t.at + length t.text) source
 left_behind at source t after h =
@@ -52,7 +52,7 @@ left_behind at source t after h =
 follows_slice : (at : ℕ) (source : List ℕ) (t : Lexeme) (after : List ℕ) → Follows at (drop at source) t after → IsSliceOf source t
 follows_slice at source t after h =
     let behind : t.text ++ after ≡ drop t.at source =
-    sym (drop_at h.gap (t.text ++ after) (length h.gap) refl) ∙ ap (drop (length h.gap)) (sym h.whole) ∙ drop-drop (length h.gap) at source ∙ ap (λ (n : ℕ). drop n source) (sym h.place) in
+    sym (drop_at h.gap (t.text ++ after) (length h.gap) refl) ∙ ap (drop (length h.gap)) (sym h.whole) ∙ drop-drop (length h.gap) at source ∙ ap (λ (n : ℕ). drop n source) (sym h.is_at) in
     sym (take_at t.text after (length t.text) refl) ∙ ap (take (length t.text)) behind
 
 passes_slices : (ts : List Lexeme) (at : ℕ) (source : List ℕ) (there : ℕ) (left : List ℕ) → Passes at (drop at source) ts there left → AllByRecursion (IsSliceOf source) ts

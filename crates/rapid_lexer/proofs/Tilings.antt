@@ -28,7 +28,7 @@ pub record Ends (at : ℕ) (bytes : List ℕ) (ts : List Lexeme) (answer : Optio
 -- what a token leaves
 pub after_is : (at : ℕ) (bytes : List ℕ) (t : Lexeme) (after : List ℕ) → Follows at bytes t after → after ≡ drop (t.at + length t.text - at) bytes
 after_is at bytes t after h =
-    let n : length (h.gap ++ t.text) ≡ t.at + length t.text - at = omega (arith, h.place, length-append h.gap t.text) in
+    let n : length (h.gap ++ t.text) ≡ t.at + length t.text - at = omega (arith, h.is_at, length-append h.gap t.text) in
     sym (ap (drop (t.at + length t.text - at)) (h.whole ∙ sym (append_assoc h.gap t.text after)) ∙ drop_at (h.gap ++ t.text) after (t.at + length t.text - at) n)
 
 not_final : (at : ℕ) (bytes : List ℕ) (a : Option (Result Lexeme LexFault)) (t : Lexeme) (after : List ℕ) → IsNext at bytes a → IsFinal a → Follows at bytes t after → ⊥

@@ -65,18 +65,18 @@ IsBadAtFront (b ∷ bs) = (is_blank b ≡ false) × (b ≢ 33) × (b ≢ 34)
 
 -- Behind a quote at a place come at most 80 characters, and then, at the place of the fault, what stops the string.
 abbrev pub StopsString : (List ℕ → Type 0) → ℕ → List ℕ → ℕ → Type 0
-StopsString stops here bytes place = (cs : List (List ℕ)) × (left : List ℕ) × IsBroken bytes cs left × (length cs ≤ 80) × stops left × (place ≡ here + 1 + length (concat cs))
+StopsString stops here bytes at = (cs : List (List ℕ)) × (left : List ℕ) × IsBroken bytes cs left × (length cs ≤ 80) × stops left × (at ≡ here + 1 + length (concat cs))
 
 -- At this place of the text, where no gap begins, no token fits: the rule, and the place where the fault stands. Within one
 -- string it is the fault that stands first in the bytes; for this order a string is too long from its 81st character on.
 abbrev pub IsMisfit : LexRule → ℕ → List ℕ → ℕ → Type 0
-IsMisfit BadByte here bytes place = (NoToken bytes × IsBadAtFront bytes × (place ≡ here)) ⊎ StopsString IsBadInString here bytes place
-IsMisfit OpenString here bytes place = (end : ℕ) × StopsString IsAtEnd here bytes end × (place ≡ here)
-IsMisfit BadEscape here bytes place = StopsString IsBadEscape here bytes place
-IsMisfit LongString here bytes place = (IsLongString bytes ⊎ ((cs : List (List ℕ)) × (left : List ℕ) × IsBroken bytes cs left × (length cs ≡ 81))) × (place ≡ here)
-IsMisfit LongName here bytes place = IsTooLong Name (λ text. 32 < length text) bytes × (place ≡ here)
-IsMisfit BadLiteral here bytes place = IsTooLong Number (λ text. literal_value text ≡ None) bytes × (place ≡ here)
-IsMisfit OpenHeader here bytes place = ⊥
+IsMisfit BadByte here bytes at = (NoToken bytes × IsBadAtFront bytes × (at ≡ here)) ⊎ StopsString IsBadInString here bytes at
+IsMisfit OpenString here bytes at = (end : ℕ) × StopsString IsAtEnd here bytes end × (at ≡ here)
+IsMisfit BadEscape here bytes at = StopsString IsBadEscape here bytes at
+IsMisfit LongString here bytes at = (IsLongString bytes ⊎ ((cs : List (List ℕ)) × (left : List ℕ) × IsBroken bytes cs left × (length cs ≡ 81))) × (at ≡ here)
+IsMisfit LongName here bytes at = IsTooLong Name (λ text. 32 < length text) bytes × (at ≡ here)
+IsMisfit BadLiteral here bytes at = IsTooLong Number (λ text. literal_value text ≡ None) bytes × (at ≡ here)
+IsMisfit OpenHeader here bytes at = ⊥
 
 -- what a call gave, a token without where its text lies
 abbrev pub seen : Result Token LexFault → Result Lexeme LexFault

@@ -46,7 +46,7 @@ pub record Follows (at : ℕ) (bytes : List ℕ) (token : Lexeme) (after : List 
   pub gap : List ℕ
   pub whole : bytes ≡ gap ++ (token.text ++ after)
   pub is_gap : IsGap gap (token.text ++ after)
-  pub place : token.at ≡ at + length gap
+  pub is_at : token.at ≡ at + length gap
   pub is_token : IsToken token.kind token.text
   pub is_longest : IsLongest token.text after
   pub within_limits : IsWithinLimits token.kind token.text

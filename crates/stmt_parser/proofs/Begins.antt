@@ -2,7 +2,7 @@
 use Rattle.std.proofs.Common.{◌≡◌, ℕ, List, Ok, Err, refl, ap, ◌∙◌}
 use Rattle.rapid_lexer.specs.Tokens.{Lexeme}
 use Rattle.raw_trees.specs.Plain.{PlainName}
-use Rattle.rapid_forms.specs.Forms.{place}
+use Rattle.rapid_forms.specs.Forms.{first_byte}
 use Rattle.rapid_forms.specs.Reading.{Read, then_read, made_read}
 use Rattle.expr_parser.specs.Grammar.{name_tree}
 use Rattle.expr_parser.specs.Reads.{name_read}
@@ -17,6 +17,6 @@ unfolding then_read
 tree_placed (Ok p) at = refl
 tree_placed (Err h) at = refl
 
-pub name_placed : (ts : List Lexeme) (n : PlainName) (rest : List Lexeme) → name_read ts ≡ Ok (n, rest) → place ts ≡ n.at
+pub name_placed : (ts : List Lexeme) (n : PlainName) (rest : List Lexeme) → name_read ts ≡ Ok (n, rest) → first_byte ts ≡ n.at
 unfolding name_read made_read
-name_placed ts n rest e = tree_placed _ (place ts) ∙ ap (place_read (place ts)) e
+name_placed ts n rest e = tree_placed _ (first_byte ts) ∙ ap (place_read (first_byte ts)) e

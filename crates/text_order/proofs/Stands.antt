@@ -3,7 +3,7 @@ use Rattle.std.proofs.Common.{◌≡◌, ◌⊎◌, inl, inr, ℕ, List, [], ◌
 use Rattle.rapid_lexer.specs.Tokens.{Lexeme}
 use Rattle.raw_trees.specs.Plain.{PlainStmt, Label}
 use Rattle.rapid_forms.specs.declared.sign.Sign.{Sign}
-use Rattle.rapid_forms.specs.Forms.{Form, WholeEach, place, one, seq, either, optional, many, made}
+use Rattle.rapid_forms.specs.Forms.{Form, WholeEach, first_byte, one, seq, either, optional, many, made}
 use Rattle.text_order.specs.Stated.{byte_of, stated}
 
 -- a label's name stands where the label does
@@ -100,23 +100,23 @@ module _ {A B : Type 0} (tree : ℕ → A → B) (f : Form A) (in_it : A → Lis
   unfolding made
   made_stand stands y ts whole =
       let (x, is, e) = whole in
-      subst (λ ss. Stand ss ts) (sym (ap in_tree e ∙ same (place ts) x)) (stands x ts is)
+      subst (λ ss. Stand ss ts) (sym (ap in_tree e ∙ same (first_byte ts) x)) (stands x ts is)
 
   pub made_leads : Leads f in_it → Leads (made tree f) in_tree
   unfolding made
   made_leads leads y ts whole =
       let (x, is, e) = whole in
       let (t, rest, front, stand) = leads x ts is in
-      (t, rest, front, subst (λ ss. Stand ss rest) (sym (ap in_tree e ∙ same (place ts) x)) stand)
+      (t, rest, front, subst (λ ss. Stand ss rest) (sym (ap in_tree e ∙ same (first_byte ts) x)) stand)
 
 -- a statement begins at its first token, and those in it stand behind that
 module _ {A : Type 0} (tree : ℕ → A → PlainStmt) (f : Form A) (in_it : A → List PlainStmt) (same : (at : ℕ) (x : A) → stated (tree at x) ≡ tree at x ∷ in_it x) (begins : (at : ℕ) (x : A) → byte_of (tree at x) ≡ at)
-    (named : (x : A) (ts : List Lexeme) → f.Whole x ts → IsNamedHere (tree (place ts) x)) where
+    (named : (x : A) (ts : List Lexeme) → f.Whole x ts → IsNamedHere (tree (first_byte ts) x)) where
   pub statement_stands : Leads f in_it → Stands (made tree f) stated
   unfolding made
   statement_stands leads y ts whole =
       let (x, is, e) = whole in
       let (t, rest, front, stand) = leads x ts is in
-      let at : place ts ≡ t.at = ap place front in
+      let at : first_byte ts ≡ t.at = ap first_byte front in
       subst (λ us. Stand (stated y) us) (sym front)
-      (subst (λ ss. Stand ss (t ∷ rest)) (sym (ap stated e ∙ same (place ts) x)) (inl (record { at = begins (place ts) x ∙ at; named = named x ts is }, stand)))
+      (subst (λ ss. Stand ss (t ∷ rest)) (sym (ap stated e ∙ same (first_byte ts) x)) (inl (record { at = begins (first_byte ts) x ∙ at; named = named x ts is }, stand)))

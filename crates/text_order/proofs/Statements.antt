@@ -5,7 +5,7 @@ use Rattle.rapid_lexer.specs.Tokens.{Lexeme}
 use Rattle.raw_trees.specs.Plain.{PlainName, PlainExpr, PlainStmt, arms_of, cases_of, else_of, stmts_of}
 use Rattle.rapid_forms.specs.declared.sign.Sign.{Sign}
 use Rattle.rapid_forms.specs.declared.sign.Sign.TheVariants as signs
-use Rattle.rapid_forms.specs.Forms.{Form, place as first_place, one, seq, optional, many, made, nothing}
+use Rattle.rapid_forms.specs.Forms.{Form, first_byte, one, seq, optional, many, made, nothing}
 use Rattle.expr_parser.specs.Grammar.{Inside, inside, mark, name, name_tree, place, place_tree, parts_of, exprs, expr_of, behind, none_or, first_and_more}
 use Rattle.stmt_parser.specs.Grammar.{assign_tree, call_tree, goto_tree, return_tree, exit_tree, raise_tree, retry_tree, try_next_tree, connect_tree, label_tree, arm_tree, if_tree, if_one_tree, for_tree, while_tree, case_tree, test_tree, simple, arm, branches, loop_for, loop_while, case, choice, stmt_of, list_of, stmts, list}
 use Rattle.text_order.specs.Stated.{byte_of, stated, stated_in, stated_in_arms, stated_in_cases, stated_in_else}
@@ -54,7 +54,7 @@ behind_stand sign g in_g stands = made_stand behind (seq (mark sign) g) (λ x. i
 
 -- a statement without others in it
 bare_stands : {A : Type 0} (tree : ℕ → A → PlainStmt) (f : Form A) → ((at : ℕ) (x : A) → stated (tree at x) ≡ tree at x ∷ []) → ((at : ℕ) (x : A) → byte_of (tree at x) ≡ at)
-    → ((x : A) (ts : List Lexeme) → f.Whole x ts → IsNamedHere (tree (first_place ts) x)) → Leads f none_in → Stands (made tree f) stated
+    → ((x : A) (ts : List Lexeme) → f.Whole x ts → IsNamedHere (tree (first_byte ts) x)) → Leads f none_in → Stands (made tree f) stated
 bare_stands tree f same begins named leads = statement_stands tree f none_in same begins named leads
 
 word_only : {B : Type 0} (sign : Sign) (g : Form B) → Leads (seq (mark sign) g) none_in
@@ -90,12 +90,12 @@ simple_stands i =
     (bare_stands connect_tree connect (λ at x. refl) (λ at x. refl) (λ x ts w. tt) (word_only signs.Connect (seq (place i) (seq (mark signs.With) (seq name end))))))))))))
 
 -- a label's name is its first token
-label_named : (x : PlainName × Lexeme) (ts : List Lexeme) → (seq name (mark signs.Colon)).Whole x ts → x.0.at ≡ first_place ts
+label_named : (x : PlainName × Lexeme) (ts : List Lexeme) → (seq name (mark signs.Colon)).Whole x ts → x.0.at ≡ first_byte ts
 unfolding seq name made one
 label_named x ts whole =
     let (u, v, e, is, also) = whole in
     let (t, one_is, made_is) = is in
-    ap (λ (n : PlainName). n.at) made_is ∙ ap first_place one_is.0 ∙ sym (ap first_place (e ∙ ap (λ us. us ++ v) one_is.0))
+    ap (λ (n : PlainName). n.at) made_is ∙ ap first_byte one_is.0 ∙ sym (ap first_byte (e ∙ ap (λ us. us ++ v) one_is.0))
 
 module _ (i : Inside) (lists : Form (List PlainStmt)) (stand : Stands lists in_list) where
   arm_stands : Stands (arm i lists) in_arm

@@ -11,7 +11,7 @@ from_on : (at : ℕ) (bytes : List ℕ) (ts : List Lexeme) (there : ℕ) (left :
 from_on at bytes [] there left n less passes = tt
 from_on at bytes (t ∷ ts) there left n less passes =
     let (after, follows, more) = passes in
-    (omega (arith, less, follows.place), from_on (t.at + length t.text) after ts there left n (omega (arith, less, follows.place)) more)
+    (omega (arith, less, follows.is_at), from_on (t.at + length t.text) after ts there left n (omega (arith, less, follows.is_at)) more)
 
 ascending_from : (at : ℕ) (bytes : List ℕ) (ts : List Lexeme) (there : ℕ) (left : List ℕ) → Passes at bytes ts there left → AreAscending (map (λ (t : Lexeme). t.at) ts)
 ascending_from at bytes [] there left passes = tt

@@ -136,14 +136,14 @@ fn is_named(name: &RawName<'_>, text: &[u8], at: usize) -> bool {
     name.text == text && name.at == at
 }
 
-fn is_number(value: &Option<RawExpr<'_>>, text: &[u8], place: usize) -> bool {
+fn is_number(value: &Option<RawExpr<'_>>, text: &[u8], byte: usize) -> bool {
     match value {
         Some(
             RawExpr {
                 at,
                 form: RawExprForm::Number(digits),
             },
-        ) => *digits == text && *at == place,
+        ) => *digits == text && *at == byte,
         _ => false,
     }
 }
@@ -153,7 +153,7 @@ fn datum_of<'m, 'a>(
     item: &'m RawItem<'a>,
     is_local: bool,
     is_task: bool,
-    place: usize,
+    byte: usize,
 ) -> Option<&'m RawDatum<'a>> {
     match item {
         RawItem::Datum {
@@ -161,7 +161,7 @@ fn datum_of<'m, 'a>(
             task,
             datum,
             at,
-        } if *local == is_local && *task == is_task && *at == place => Some(datum),
+        } if *local == is_local && *task == is_task && *at == byte => Some(datum),
         _ => None,
     }
 }

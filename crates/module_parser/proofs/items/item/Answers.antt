@@ -12,5 +12,5 @@ returns c =
     let tokens = c.args.p.now.tokens in
     rw (sym c.sees.ensures ∙ c.if-sees.false)
     (subst (λ read. Gives tokens view_item c.behind_local.result read)
-    (sym (local_behind 64 c.place.result (rest_from tokens c.args.at) (option_map view c.in_ok-local.local) _ c.place.ensures c.in_ok-local.ensures))
+    (sym (local_behind 64 c.byte_at.result (rest_from tokens c.args.at) (option_map view c.in_ok-local.local) _ c.byte_at.ensures c.in_ok-local.ensures))
     c.behind_local.ensures)
