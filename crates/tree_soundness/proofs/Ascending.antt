@@ -5,7 +5,7 @@ use Rattle.std.proofs.lemmas.List.{append-nil, map-append}
 use Rattle.raw_trees.specs.Plain.{PlainName}
 use Rattle.rapid_lexer.specs.Tokens.{Lexeme, Passes, Tiles}
 use Rattle.rapid_lexer.proofs.GapWalks.{token_no_gap}
-use Rattle.rapid_forms.specs.Forms.{Form, WholeEach, either, made, many, optional, place, seq}
+use Rattle.rapid_forms.specs.Forms.{Form, WholeEach, either, first_byte, made, many, optional, seq}
 use Rattle.name_laws.specs.Jumps.{AreApart, IsApart}
 
 -- numbers that ascend from one on, to below another
@@ -58,7 +58,7 @@ halves low ts u v high is h = halves_of low u v high (subst (λ x. Ascend low (p
 passed : (at : ℕ) (bytes : List ℕ) (ts : List Lexeme) (there : ℕ) (left : List ℕ) → Passes at bytes ts there left → Ascend at (places ts) there
 passed at bytes [] there left (same, is) = omega (arith, same)
 passed at bytes (t ∷ ts) there left (after, follows, rest) =
-    let stands = follows.place in
+    let stands = follows.is_at in
     let long = (token_no_gap t.kind t.text after follows.is_token).1 in
     let more = passed (t.at + length t.text) after ts there left rest in
     (omega (arith, stands), sooner (suc t.at) (t.at + length t.text) (places ts) there (omega (arith, long)) more)
@@ -103,7 +103,7 @@ one_of a b f ha hb x ts whole = ⊎_elim (λ here. ha x ts here) (λ there. hb x
 
 pub made_of : {A B : Type 0} (a : Form A) (tree : ℕ → A → B) (f : A → List PlainName) (g : B → List PlainName) → ((at : ℕ) (x : A) → f x ≡ g (tree at x)) → Each a f → Each (made tree a) g
 unfolding made
-made_of a tree f g same ha y ts (x, whole, is) = subst (λ z. Under (g z) ts) (sym is) (subst (λ l. Under l ts) (same (place ts) x) (ha x ts whole))
+made_of a tree f g same ha y ts (x, whole, is) = subst (λ z. Under (g z) ts) (sym is) (subst (λ l. Under l ts) (same (first_byte ts) x) (ha x ts whole))
 
 pub perhaps : {A : Type 0} (a : Form A) (f : A → List PlainName) (g : Option A → List PlainName) → [] ≡ g None → ((x : A) → f x ≡ g (Some x)) → Each a f → Each (optional a) g
 unfolding optional

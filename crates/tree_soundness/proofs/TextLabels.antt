@@ -5,7 +5,7 @@ use Rattle.std.proofs.Math.Logic.{⊎_elim}
 use Rattle.std.proofs.lemmas.List.Elements.{All-append, All-cons, All-head, All-nil, All-tail, All-weaker}
 use Rattle.raw_trees.specs.Plain.{PlainExpr, PlainItem, PlainModule, PlainName, PlainStmt, Datum, Routine, arms_of, cases_of, else_of, stmts_of}
 use Rattle.rapid_lexer.specs.Tokens.{Lexeme}
-use Rattle.rapid_forms.specs.Forms.{Form, WholeEach, either, made, many, nothing, one, place, seq}
+use Rattle.rapid_forms.specs.Forms.{Form, WholeEach, either, first_byte, made, many, nothing, one, seq}
 use Rattle.expr_parser.specs.Grammar.{Inside, behind, first_and_more, inside, name, none_or}
 use Rattle.stmt_parser.specs.Grammar.{arm, arm_tree, branches, case, case_tree, choice, for_tree, if_one_tree, if_tree, label_tree, list, list_of, loop_for, loop_while, simple, stmt_of, stmts, test_tree, while_tree}
 use Rattle.module_parser.specs.Grammar.{Body, body, func_tree, item, proc_tree, routine, trap_tree, «module»}
@@ -21,7 +21,7 @@ named : Each name (λ l. l ∷ [])
 unfolding name made one
 named l ts (t, (is, sign), is_name) low high h =
     let there : Ascend low (t.at ∷ []) high = subst (λ x. Ascend low (places x) high) is h in
-    let same : t.at ≡ l.at = ap place (sym is) ∙ ap (λ (x : PlainName). x.at) (sym is_name) in
+    let same : t.at ≡ l.at = ap first_byte (sym is) ∙ ap (λ (x : PlainName). x.at) (sym is_name) in
     subst (λ at. Ascend low (at ∷ []) high) same there
 
 abbrev labels_of_list : List PlainStmt → List PlainName
