@@ -163,7 +163,7 @@ look_kept mine t actor seen (dues.Trap number trap) is kept =
     let e = event actor requests.Look (answers.Trap number trap) in
     subst (λ (queue : List ℕ). KeptTask (mine ++ e ∷ []) (in_first_trap t queue)) (sym first.queue) (record {
       sound = record {
-        places = kept.sound.places;
+        count = kept.sound.count;
         room = let room : length (number ∷ first.rest) ≤ 1_024 = subst (λ (queue : List ℕ). length queue ≤ 1_024) first.queue kept.sound.room in omega arith;
         connected = (and_parts (is_some (connected_at t.numbers number)) (list_all (λ n. is_some (connected_at t.numbers n)) first.rest)
             (subst (λ (queue : List ℕ). list_all (λ n. is_some (connected_at t.numbers n)) queue ≡ true) first.queue kept.sound.connected)).1;
@@ -180,7 +180,7 @@ look_kept mine t actor seen (dues.Trap number trap) is kept =
 pub free_number : (t : TaskData) (old number : ℕ) → length t.numbers ≡ 64 → connect_answer t old ≡ Ok number → (1 ≤ number) × (number ≤ 64)
 free_number t old number places is = by (is_some (connected_at t.numbers old)) is
   where
-    least : (place : Option ℕ) → IfSome place (λ p. p < 64) → least_free place ≡ Ok number → (1 ≤ number) × (number ≤ 64)
+    least : (index : Option ℕ) → IfSome index (λ p. p < 64) → least_free index ≡ Ok number → (1 ≤ number) × (number ≤ 64)
     least None below e = cc
     least (Some p) below e = let same : p + 1 ≡ number = cc in (omega arith, omega arith)
 
@@ -192,8 +192,8 @@ connect_kept : (mine : List Event) (t : TaskData) (actor old trap : ℕ) (result
     → KeptTask (mine ++ event actor (requests.Connect old trap) (number_of result) ∷ []) (own_with t (requests.Connect old trap) (number_of result))
 connect_kept mine t actor old trap (Ok number) is kept =
     let e = event actor (requests.Connect old trap) (answers.Number number) in
-    let bounds = free_number t old number kept.sound.places is in
-    kept_written (mine ++ e ∷ []) t number (record { trap = trap; order = None; asleep = false }) (kept_same mine t e kept refl refl) (omega (arith, kept.sound.places))
+    let bounds = free_number t old number kept.sound.count is in
+    kept_written (mine ++ e ∷ []) t number (record { trap = trap; order = None; asleep = false }) (kept_same mine t e kept refl refl) (omega (arith, kept.sound.count))
     (just_named mine e trap (eq-eqb trap trap refl))
 connect_kept mine t actor old trap (Err connect_faults.Already) is kept = kept_same mine t (event actor (requests.Connect old trap) answers.Already) kept refl refl
 connect_kept mine t actor old trap (Err connect_faults.NoMore) is kept = kept_same mine t (event actor (requests.Connect old trap) answers.NoMore) kept refl refl
@@ -313,7 +313,7 @@ none_kept : (cell : CellData) → KeptTasks cell []
 none_kept cell = record {
   count = length-replicate (length cell.tasks) before_all;
   each = λ task within. subst (λ (t : TaskData). KeptTask [] t) (sym (fresh_at (length cell.tasks) task)) (record {
-    sound = record { places = refl; room = omega arith; connected = refl };
+    sound = record { count = refl; room = omega arith; connected = refl };
     traps = λ k c is. absurd (none_there 64 k c is);
     begun = refl;
   });

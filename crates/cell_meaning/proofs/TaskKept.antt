@@ -82,7 +82,7 @@ pub kept_written : (mine : List Event) (t : TaskData) (number : ℕ) (c : Connec
     → KeptTask mine (with_number t number (Some c))
 kept_written mine t number c kept within named = record {
   sound = record {
-    places = length-set t.numbers (number - 1) (Some c) ∙ kept.sound.places;
+    count = length-set t.numbers (number - 1) (Some c) ∙ kept.sound.count;
     room = kept.sound.room;
     connected = queued-with t.numbers t.queue (number - 1) c within kept.sound.connected;
   };
@@ -94,7 +94,7 @@ kept_written mine t number c kept within named = record {
 pub kept_deleted : (mine : List Event) (t : TaskData) (number : ℕ) → KeptTask mine t → 1 ≤ number → KeptTask mine (deleted t number)
 kept_deleted mine t number kept some = record {
   sound = record {
-    places = length-set t.numbers (number - 1) None ∙ kept.sound.places;
+    count = length-set t.numbers (number - 1) None ∙ kept.sound.count;
     room = let shorter = length-filter-le (λ n. not (n == number)) t.queue in let old = kept.sound.room in omega arith;
     connected = queued-without t.numbers t.queue number some kept.sound.connected;
   };
@@ -114,7 +114,7 @@ fired_trap changes (Some old) c is = (old, refl, either (fires changes (Some old
 pub kept_fired : (mine : List Event) (t : TaskData) (changes : List Watched) → KeptTask mine t → KeptTask mine (after_changes changes t)
 kept_fired mine t changes kept = record {
   sound = record {
-    places = length-map t.numbers (after_firing changes) ∙ kept.sound.places;
+    count = length-map t.numbers (after_firing changes) ∙ kept.sound.count;
     room = let few = length-take 1_024 (t.queue ++ fired_numbers changes t.numbers) in omega (arith, few);
     connected = queued-after changes t.numbers t.queue 1_024 kept.sound.connected;
   };

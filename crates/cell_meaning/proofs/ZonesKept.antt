@@ -49,7 +49,7 @@ zones_kept cell history =
 pub free_zone : (zones : List (Option OwnZone)) (old number : ℕ) → length zones ≡ 10 → set_answer zones old ≡ Ok number → (1 ≤ number) × (number ≤ 10)
 free_zone zones old number places is = by (is_some (zone_at zones old)) is
   where
-    least : (place : Option ℕ) → IfSome place (λ p. p < 10) → least_free place ≡ Ok number → (1 ≤ number) × (number ≤ 10)
+    least : (index : Option ℕ) → IfSome index (λ p. p < 10) → least_free index ≡ Ok number → (1 ≤ number) × (number ≤ 10)
     least None below e = cc
     least (Some p) below e = let same : p + 1 ≡ number = cc in (omega arith, omega arith)
 

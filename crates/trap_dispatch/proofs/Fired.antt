@@ -12,11 +12,11 @@ range_with_len_more : (a n e : ℕ) → a + n ≡ e → range_with_len a (suc n)
 range_with_len_more a zero e last = ap (λ (k : ℕ). k ∷ []) (omega arith)
 range_with_len_more a (suc n) e last = ap (λ (ks : List ℕ). a ∷ ks) (range_with_len_more (a + 1) n e (omega arith))
 
--- the number of a place
-pub connected_at-next : (numbers : List (Option Connected)) (place : ℕ) → connected_at numbers (suc place) ≡ slice_index_or numbers place None
-connected_at-next numbers place =
-    let same : suc place - 1 ≡ place = omega arith in
-    rw (eqb-suc-zero place, same) refl
+-- the number of an index
+pub connected_at-next : (numbers : List (Option Connected)) (index : ℕ) → connected_at numbers (suc index) ≡ slice_index_or numbers index None
+connected_at-next numbers index =
+    let same : suc index - 1 ≡ index = omega arith in
+    rw (eqb-suc-zero index, same) refl
 
 -- one place more, whose number is among those that fire or not
 pub fired_more : (changes : List Watched) (numbers : List (Option Connected)) (n : ℕ) →

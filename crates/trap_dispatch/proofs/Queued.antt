@@ -19,20 +19,20 @@ abbrev pub is_connected : List (Option Connected) → ℕ → Bool
 is_connected numbers number = is_some (connected_at numbers number)
 
 -- another number is connected
-connected-with : (numbers : List (Option Connected)) (place : ℕ) (c : Connected) → place < length numbers
-    → (n : ℕ) → is_connected numbers n ≡ true → is_connected (set numbers place (Some c)) n ≡ true
-connected-with numbers place c there zero h = absurd (false≢true h)
-connected-with numbers place c there (suc k) h =
-    rw (connected_at-next (set numbers place (Some c)) k) (at_place (eqb_tells k place))
+connected-with : (numbers : List (Option Connected)) (index : ℕ) (c : Connected) → index < length numbers
+    → (n : ℕ) → is_connected numbers n ≡ true → is_connected (set numbers index (Some c)) n ≡ true
+connected-with numbers index c there zero h = absurd (false≢true h)
+connected-with numbers index c there (suc k) h =
+    rw (connected_at-next (set numbers index (Some c)) k) (at_index (eqb_tells k index))
   where
-    at_place : ((eqb k place ≡ true) × (k ≡ place)) ⊎ ((eqb k place ≡ false) × (k ≢ place)) → is_some (get_or (set numbers place (Some c)) k None) ≡ true
-    at_place (inl same) = rw (get_or-set_at numbers place k (Some c) None same.1 there) refl
-    at_place (inr other) = rw (get_or-set_other numbers place k (Some c) None other.1, ← connected_at-next numbers k) h
+    at_index : ((eqb k index ≡ true) × (k ≡ index)) ⊎ ((eqb k index ≡ false) × (k ≢ index)) → is_some (get_or (set numbers index (Some c)) k None) ≡ true
+    at_index (inl same) = rw (get_or-set_at numbers index k (Some c) None same.1 there) refl
+    at_index (inr other) = rw (get_or-set_other numbers index k (Some c) None other.1, ← connected_at-next numbers k) h
 
-pub queued-with : (numbers : List (Option Connected)) (queue : List ℕ) (place : ℕ) (c : Connected) → place < length numbers
-    → list_all (is_connected numbers) queue ≡ true → list_all (is_connected (set numbers place (Some c))) queue ≡ true
-queued-with numbers queue place c there h =
-    list_all-weaker (is_connected numbers) (is_connected (set numbers place (Some c))) (connected-with numbers place c there) queue h
+pub queued-with : (numbers : List (Option Connected)) (queue : List ℕ) (index : ℕ) (c : Connected) → index < length numbers
+    → list_all (is_connected numbers) queue ≡ true → list_all (is_connected (set numbers index (Some c))) queue ≡ true
+queued-with numbers queue index c there h =
+    list_all-weaker (is_connected numbers) (is_connected (set numbers index (Some c))) (connected-with numbers index c there) queue h
 
 -- a number is free
 connected-without : (numbers : List (Option Connected)) (number : ℕ) → 1 ≤ number
@@ -82,10 +82,10 @@ queued-after changes numbers queue room h =
 abbrev pub IsSound : List (Option Connected) → Buffer ℕ → Type 0
 IsSound numbers queue = (queue.capacity ≡ 1_024) × IsTask numbers queue.items
 
-pub sound-with : (numbers : List (Option Connected)) (queue : Buffer ℕ) (place : ℕ) (c : Connected) → place < 64 → IsSound numbers queue → IsSound (set numbers place (Some c)) queue
-sound-with numbers queue place c there sound =
+pub sound-with : (numbers : List (Option Connected)) (queue : Buffer ℕ) (index : ℕ) (c : Connected) → index < 64 → IsSound numbers queue → IsSound (set numbers index (Some c)) queue
+sound-with numbers queue index c there sound =
     let old = sound.1 in
-    (sound.0, record { places = length-set numbers place (Some c) ∙ old.places; room = old.room; connected = queued-with numbers queue.items place c (omega arith) old.connected })
+    (sound.0, record { count = length-set numbers index (Some c) ∙ old.count; room = old.room; connected = queued-with numbers queue.items index c (omega arith) old.connected })
 
 some_number : (numbers : List (Option Connected)) (number : ℕ) → is_some (connected_at numbers number) ≡ true → 1 ≤ number
 some_number numbers zero h = absurd (false≢true h)
@@ -104,7 +104,7 @@ pub sound-without : (numbers : List (Option Connected)) (queue new : Buffer ℕ)
 sound-without numbers queue new number there is sound =
     let old = sound.1 in
     let shorter = length-filter-le (λ n. not (eqb n number)) queue.items in
-    rw is (sound.0, record { places = length-set numbers (number - 1) None ∙ old.places; room = omega arith; connected = queued-without numbers queue.items number (some_number numbers number there) old.connected })
+    rw is (sound.0, record { count = length-set numbers (number - 1) None ∙ old.count; room = omega arith; connected = queued-without numbers queue.items number (some_number numbers number there) old.connected })
 
 pub sound-after : (changes : List Watched) (numbers after : List (Option Connected)) (queue new : Buffer ℕ) (fired : List ℕ)
     → after ≡ map (after_firing changes) numbers → fired ≡ fired_numbers changes numbers → new ≡ buffer (take queue.capacity (queue.items ++ fired)) queue.capacity
@@ -112,7 +112,7 @@ pub sound-after : (changes : List Watched) (numbers after : List (Option Connect
 sound-after changes numbers after queue new fired is_after is_fired is_new sound =
     let old = sound.1 in
     let few = length-take queue.capacity (queue.items ++ fired_numbers changes numbers) in
-    rw (is_new, is_after, is_fired) (sound.0, record { places = length-map numbers (after_firing changes) ∙ old.places; room = omega (arith, sound.0); connected = queued-after changes numbers queue.items queue.capacity old.connected })
+    rw (is_new, is_after, is_fired) (sound.0, record { count = length-map numbers (after_firing changes) ∙ old.count; room = omega (arith, sound.0); connected = queued-after changes numbers queue.items queue.capacity old.connected })
 
 -- a task's interrupts after the changes, part by part
 pub parts-after : (changes : List Watched) (t : TaskData) (numbers : List (Option Connected)) (queue new : Buffer ℕ) (fired : List ℕ) (flood : Bool)

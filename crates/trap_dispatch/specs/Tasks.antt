@@ -20,7 +20,7 @@ pub record TaskData : Type 0 where
 
 -- there are 64 places and room for 1,024 firings, and each number that waits is connected
 pub record IsTask (numbers : List (Option Connected)) (queue : List ℕ) : Type 0 where
-  pub places : length numbers ≡ 64
+  pub count : length numbers ≡ 64
   pub room : length queue ≤ 1_024
   pub connected : IsTrue (list_all (λ number. is_some (connected_at numbers number)) queue)
 
@@ -31,7 +31,7 @@ before_all = record { numbers = replicate 64 None; queue = []; flood = false; di
 -- the least free number, which comes from 1
 abbrev pub least_free : Option ℕ → Result ℕ ConnectFault
 least_free None = Err connect_faults.NoMore
-least_free (Some place) = Ok (place + 1)
+least_free (Some index) = Ok (index + 1)
 
 -- the answer to a connection: the old number is connected, or no number is free, or the least free one
 abbrev pub connect_answer : TaskData → ℕ → Result ℕ ConnectFault
@@ -39,7 +39,7 @@ connect_answer t old = if is_some (connected_at t.numbers old) then Err connect_
 
 -- the same with another place of a number
 abbrev pub with_number : TaskData → ℕ → Option Connected → TaskData
-with_number t number place = record t { numbers = slice_set t.numbers (number - 1) place }
+with_number t number connected = record t { numbers = slice_set t.numbers (number - 1) connected }
 
 -- connected just now: awake, with no order
 abbrev pub fresh : ℕ → Option Connected

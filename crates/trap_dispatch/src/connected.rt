@@ -23,10 +23,10 @@ pub(crate) fn connected_at(numbers: &[Option<Connected>; 64], number: u8) -> Opt
     numbers[number as usize - 1]
 }
 
-/// The first free place.
-pub(crate) fn free_place(numbers: &[Option<Connected>; 64]) -> Option<usize>
-    ensures there { IfSome result (λ place. place < 64) }
+/// The index of the first free number.
+pub(crate) fn free_index(numbers: &[Option<Connected>; 64]) -> Option<usize>
+    ensures there { IfSome result (λ index. index < 64) }
     ensures first { result ≡ position_from is_none 0 numbers.now }
 {
-    numbers.iter().position(|place| place.is_none())
+    numbers.iter().position(|entry| entry.is_none())
 }

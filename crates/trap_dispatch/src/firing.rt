@@ -17,9 +17,9 @@ pub(crate) fn fired_numbers(
     ensures { result.items ≡ fired_numbers changes.now numbers.now }
 {
     let mut fired = ArrayVec::new();
-    for place in 0..64 {
-        if fires(numbers[place], changes) {
-            fired.push(place as u8 + 1);
+    for index in 0..64 {
+        if fires(numbers[index], changes) {
+            fired.push(index as u8 + 1);
         }
     }
     fired
@@ -29,21 +29,21 @@ pub(crate) fn fired_numbers(
 pub(crate) fn end_fired(numbers: &mut [Option<Connected>; 64], changes: &[Watched])
     ensures { numbers.new ≡ map (after_firing changes.now) numbers.old }
 {
-    for place in 0..64 {
-        numbers[place] = after_firing(numbers[place], changes);
+    for index in 0..64 {
+        numbers[index] = after_firing(numbers[index], changes);
     }
 }
 
-/// A place of a number after the changes: a Single order that fires ends.
-fn after_firing(place: Option<Connected>, changes: &[Watched]) -> Option<Connected>
-    ensures { result ≡ after_firing changes.now place }
+/// What stands for a number after the changes: a Single order that fires ends.
+fn after_firing(entry: Option<Connected>, changes: &[Watched]) -> Option<Connected>
+    ensures { result ≡ after_firing changes.now entry }
 {
-    match place {
-        Some(connected) if fires(place, changes) => Some(Connected {
+    match entry {
+        Some(connected) if fires(entry, changes) => Some(Connected {
             order: after_its_firing(connected.order),
             ..connected
         }),
-        _ => place,
+        _ => entry,
     }
 }
 
@@ -55,10 +55,10 @@ fn after_its_firing(order: Option<Order>) -> Option<Order>
 }
 
 /// Whether the interrupt, if there is one, fires: it has an order on one of the changes and does not sleep.
-fn fires(place: Option<Connected>, changes: &[Watched]) -> bool
-    ensures { result ≡ fires changes.now place }
+fn fires(entry: Option<Connected>, changes: &[Watched]) -> bool
+    ensures { result ≡ fires changes.now entry }
 {
-    match place {
+    match entry {
         Some(connected) => !connected.asleep && is_on(connected.order, changes),
         None => false,
     }

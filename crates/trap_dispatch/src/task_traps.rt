@@ -6,7 +6,7 @@ ghost use Rattle.trap_dispatch.specs.Tasks.{before_all, connect_answer, fresh, i
 ghost use Rattle.trap_dispatch.specs.declared.order_fault.OrderFault.TheVariants as order_faults;
 
 use crate::connect_fault::ConnectFault;
-use crate::connected::{Connected, connected_at, free_place};
+use crate::connected::{Connected, connected_at, free_index};
 use crate::due::Due;
 use crate::firing::{end_fired, fired_numbers};
 use crate::order::Order;
@@ -66,14 +66,14 @@ impl TaskTraps {
         if connected_at(&self.numbers, old).is_some() {
             return Err(ConnectFault::Already);
         }
-        match free_place(&self.numbers) {
-            Some(place) => {
-                self.numbers[place] = Some(Connected {
+        match free_index(&self.numbers) {
+            Some(index) => {
+                self.numbers[index] = Some(Connected {
                     trap,
                     order: None,
                     asleep: false,
                 });
-                Ok(place as u8 + 1)
+                Ok(index as u8 + 1)
             }
             None => Err(ConnectFault::NoMore),
         }

@@ -1,4 +1,4 @@
--- The first place that stops a segment, and the zone of its name.
+-- The first zone that stops a segment, and the zone of its name.
 use Rattle.std.proofs.Common.{◌≡◌, ◌≤◌, ◌⊎◌, inl, inr, ℕ, zero, suc, ◌+◌, ◌-◌, ◌<◌, Bool, true, List, Option, None, Some, IsTrue, length, slice_index_or, slice_get, nat_lt, refl, arith}
 use Rattle.std.proofs.lemmas.Bool.{cases_lt, false≢true}
 use Rattle.std.proofs.lemmas.Bool.Decides.{nat_tests}
@@ -14,11 +14,11 @@ use Rattle.world_zones.specs.First.{Stops}
 use Rattle.world_zones.specs.Touched.{IsTouched, IsFirstTouched, comes_before}
 use Rattle.world_zones.specs.Zones.{ZonesData, arm_at, own_shape, shape_of_cell, zone_at}
 
--- the number of a place
-zone_at-next : (zones : List (Option OwnZone)) (place : ℕ) → zone_at zones (suc place) ≡ slice_index_or zones place None
-zone_at-next zones place =
-    let same : suc place - 1 ≡ place = omega arith in
-    rw (eqb-suc-zero place, same) refl
+-- the number of an index
+zone_at-next : (zones : List (Option OwnZone)) (index : ℕ) → zone_at zones (suc index) ≡ slice_index_or zones index None
+zone_at-next zones index =
+    let same : suc index - 1 ≡ index = omega arith in
+    rw (eqb-suc-zero index, same) refl
 
 nothing-stops : (p q : Joints) → ¬ Stops p q None
 nothing-stops p q s = absurd (none-some s.is)
@@ -46,25 +46,25 @@ module _ (arm : List (Option OwnZone)) (cells : List CellZone) (zones : ZonesDat
   before_own : (end number : ℕ) → nat_lt number end ≡ true → number < end
   before_own end number h = grind (arith, nat_tests)
 
-  pub first-own : (place : ℕ) → Stops p q (own_shape (slice_index_or arm place None)) × ((k : ℕ) → k < place → ¬ Stops p q (own_shape (slice_index_or arm k None)))
-      → IsFirstTouched zones task signals p q (Own (place + 1))
-  first-own place found = record {
-    touched = rw (add-one, zone_at-next (arm_at zones task) place, ← is_arm) found.0;
+  pub first-own : (index : ℕ) → Stops p q (own_shape (slice_index_or arm index None)) × ((k : ℕ) → k < index → ¬ Stops p q (own_shape (slice_index_or arm k None)))
+      → IsFirstTouched zones task signals p q (Own (index + 1))
+  first-own index found = record {
+    touched = rw (add-one, zone_at-next (arm_at zones task) index, ← is_arm) found.0;
     first = earlier;
   }
     where
-      earlier : (other : ZoneName) → IsTrue (comes_before other (Own (place + 1))) → ¬ IsTouched zones task signals p q other
-      earlier (Own number) h = no_own place found.1 number (before_own (place + 1) number h)
+      earlier : (other : ZoneName) → IsTrue (comes_before other (Own (index + 1))) → ¬ IsTouched zones task signals p q other
+      earlier (Own number) h = no_own index found.1 number (before_own (index + 1) number h)
       earlier (Cell k) h = absurd (false≢true h)
 
-  pub first-cell : ((k : ℕ) → ¬ Stops p q (own_shape (slice_index_or arm k None))) → (place : ℕ)
-      → Stops p q (shape_of_cell task signals (slice_get cells place)) × ((k : ℕ) → k < place → ¬ Stops p q (shape_of_cell task signals (slice_get cells k)))
-      → IsFirstTouched zones task signals p q (Cell place)
-  first-cell own place found = record { touched = rw (← is_cell) found.0; first = earlier }
+  pub first-cell : ((k : ℕ) → ¬ Stops p q (own_shape (slice_index_or arm k None))) → (index : ℕ)
+      → Stops p q (shape_of_cell task signals (slice_get cells index)) × ((k : ℕ) → k < index → ¬ Stops p q (shape_of_cell task signals (slice_get cells k)))
+      → IsFirstTouched zones task signals p q (Cell index)
+  first-cell own index found = record { touched = rw (← is_cell) found.0; first = earlier }
     where
-      earlier : (other : ZoneName) → IsTrue (comes_before other (Cell place)) → ¬ IsTouched zones task signals p q other
+      earlier : (other : ZoneName) → IsTrue (comes_before other (Cell index)) → ¬ IsTouched zones task signals p q other
       earlier (Own number) h s = no_own number (λ k _. own k) number (omega arith) s
-      earlier (Cell k) h s = found.1 k (before_own place k h) (rw (is_cell) s)
+      earlier (Cell k) h s = found.1 k (before_own index k h) (rw (is_cell) s)
 
   pub none-touched : ((k : ℕ) → ¬ Stops p q (own_shape (slice_index_or arm k None))) → ((k : ℕ) → ¬ Stops p q (shape_of_cell task signals (slice_get cells k)))
       → (name : ZoneName) → ¬ IsTouched zones task signals p q name

@@ -1,4 +1,4 @@
--- The first place that stops a segment.
+-- The first zone that stops a segment.
 use Rattle.std.specs.Prelude.{◌≡◌, ◌<◌, ℕ, Option, Some, MatchOption}
 use Rattle.rapid_num.specs.declared.joints.Joints.{Joints}
 use Rattle.rapid_num.specs.declared.shape.Shape.{Shape}
@@ -10,6 +10,6 @@ pub record Stops (p q : Joints) (there : Option Shape) : Type 0 where
   pub is : there ≡ Some shape
   pub touched : Touches p q shape
 
--- the first place at which it holds, or none where it holds at none
-abbrev pub IsFirstPlace : (ℕ → Type 0) → Option ℕ → Type 0
-IsFirstPlace Holds found = MatchOption found ((k : ℕ) → ¬ Holds k) (λ place. Holds place × ((k : ℕ) → k < place → ¬ Holds k))
+-- the first index at which it holds, or none where it holds at none
+abbrev pub IsFirstIndex : (ℕ → Type 0) → Option ℕ → Type 0
+IsFirstIndex Holds found = MatchOption found ((k : ℕ) → ¬ Holds k) (λ index. Holds index × ((k : ℕ) → k < index → ¬ Holds k))

@@ -37,7 +37,7 @@ with_zone zones number zone = slice_set zones (number - 1) zone
 -- the least free number, which comes from 1
 abbrev pub least_free : Option ℕ → Result ℕ ZoneFault
 least_free None = Err zone_faults.ZoneFull
-least_free (Some place) = Ok (place + 1)
+least_free (Some index) = Ok (index + 1)
 
 -- the answer to a new zone: the old number names a zone, or no number is free, or the least free one
 abbrev pub set_answer : List (Option OwnZone) → ℕ → Result ℕ ZoneFault

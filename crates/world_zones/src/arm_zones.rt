@@ -1,9 +1,9 @@
 ghost use Rattle.std.specs.Prelude.{◌≡◌, ◌<◌, ◌↔◌, None, replicate, slice_index_or, IfOk, IfSome, IsOk, IsTrue, OnOk, OnErr};
 ghost use Rattle.world_zones.specs.Zones.{given, is_temporary, own_shape, set_answer, switched, with_zone, zone_at};
-ghost use Rattle.world_zones.specs.First.{IsFirstPlace, Stops};
+ghost use Rattle.world_zones.specs.First.{IsFirstIndex, Stops};
 
 use crate::no_zone::NoZone;
-use crate::own_zone::{OwnZone, free_place, own_shape, zone_at};
+use crate::own_zone::{OwnZone, free_index, own_shape, zone_at};
 use crate::stopping::stops;
 use crate::zone_fault::ZoneFault;
 use rapid_num::{Joints, Shape};
@@ -43,14 +43,14 @@ impl ArmZones {
         if zone_at(&self.zones, old).is_some() {
             return Err(ZoneFault::ZoneUsed);
         }
-        match free_place(&self.zones[..]) {
-            Some(place) => {
-                self.zones[place] = Some(OwnZone {
+        match free_index(&self.zones[..]) {
+            Some(index) => {
+                self.zones[index] = Some(OwnZone {
                     temporary,
                     on: true,
                     shape: *shape,
                 });
-                Ok(place as u8 + 1)
+                Ok(index as u8 + 1)
             }
             None => Err(ZoneFault::ZoneFull),
         }
@@ -86,14 +86,14 @@ impl ArmZones {
         }
     }
 
-    /// The first place whose zone stops the segment.
+    /// The index of the first zone that stops the segment.
     pub(crate) fn first_touched(&self, p: &Joints, q: &Joints) -> Option<usize>
-        ensures there { IfSome result (λ place. place < 10) }
-        ensures first { IsFirstPlace (λ place. Stops p.now q.now (own_shape (slice_index_or self.now place None))) result }
+        ensures there { IfSome result (λ index. index < 10) }
+        ensures first { IsFirstIndex (λ index. Stops p.now q.now (own_shape (slice_index_or self.now index None))) result }
     {
-        for place in 0..10 {
-            if stops(own_shape(&self.zones[place]), p, q) {
-                return Some(place);
+        for index in 0..10 {
+            if stops(own_shape(&self.zones[index]), p, q) {
+                return Some(index);
             }
         }
         None

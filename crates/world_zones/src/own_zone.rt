@@ -23,12 +23,12 @@ pub(crate) fn zone_at(zones: &[Option<OwnZone>; 10], number: u8) -> Option<OwnZo
     zones[number as usize - 1]
 }
 
-/// The first free place.
-pub(crate) fn free_place(zones: &[Option<OwnZone>]) -> Option<usize>
-    ensures there { IfSome result (λ place. place < length zones.now) }
+/// The index of the first free number.
+pub(crate) fn free_index(zones: &[Option<OwnZone>]) -> Option<usize>
+    ensures there { IfSome result (λ index. index < length zones.now) }
     ensures first { result ≡ position_from is_none 0 zones.now }
 {
-    zones.iter().position(|place| place.is_none())
+    zones.iter().position(|zone| zone.is_none())
 }
 
 /// The shape of the zone, if there is one and it is on.

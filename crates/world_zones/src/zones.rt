@@ -1,6 +1,6 @@
 ghost use Rattle.std.specs.Prelude.{◌≡◌, ◌<◌, ◌≤◌, ◌↔◌, true, false, None, All, length, map, replicate, slice_get, IfOk, IsOk, IsTrue, IfSome, IfNone, OnOk, OnErr};
 ghost use Rattle.rapid_model.specs.declared.zone_name.ZoneName.{ZoneName as TheZoneName};
-ghost use Rattle.world_zones.specs.First.{IsFirstPlace, Stops};
+ghost use Rattle.world_zones.specs.First.{IsFirstIndex, Stops};
 ghost use Rattle.world_zones.specs.Touched.{IsFirstTouched, IsTouched};
 ghost use Rattle.world_zones.specs.Zones.{arm_at, before_all, given, is_temporary, no_zones, set_answer, shape_of_cell, switched, with_arm, with_zone, zone_at, zone_of};
 
@@ -109,9 +109,9 @@ impl Zones {
         ensures none { IfNone result ((zone : TheZoneName) → ¬ IsTouched self.now task (V.values signals.now) p.now q.now zone) }
     {
         match self.arms[task as usize].first_touched(p, q) {
-            Some(place) => Some(ZoneName::Own(place as u8 + 1)),
+            Some(index) => Some(ZoneName::Own(index as u8 + 1)),
             None => match first_of_cell(self.cell.as_slice(), task, p, q, signals) {
-                Some(place) => Some(ZoneName::Cell(place as u8)),
+                Some(index) => Some(ZoneName::Cell(index as u8)),
                 None => None,
             },
         }
@@ -127,12 +127,12 @@ fn first_of_cell<V: SignalValues>(
     signals: &V,
 ) -> Option<usize>
     requires signals { All (λ zone. zone.signal < length (V.values signals.now)) cell.now }
-    ensures there { IfSome result (λ place. place < length cell.now) }
-    ensures first { IsFirstPlace (λ place. Stops p.now q.now (shape_of_cell task (V.values signals.now) (slice_get cell.now place))) result }
+    ensures there { IfSome result (λ index. index < length cell.now) }
+    ensures first { IsFirstIndex (λ index. Stops p.now q.now (shape_of_cell task (V.values signals.now) (slice_get cell.now index))) result }
 {
-    for place in 0..cell.len() {
-        if stops(cell_shape(&cell[place], task, signals), p, q) {
-            return Some(place);
+    for index in 0..cell.len() {
+        if stops(cell_shape(&cell[index], task, signals), p, q) {
+            return Some(index);
         }
     }
     None

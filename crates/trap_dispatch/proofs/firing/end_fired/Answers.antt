@@ -3,7 +3,7 @@ use Rattle.trap_dispatch.specs.Firing.{after_firing}
 use Rattle.trap_dispatch.proofs.Mapped.{mapped_to-next}
 use Rattle.trap_dispatch.proofs.firing.end_fired.Goals as goal
 
-pub loop-place-preserved : goal.loop-place-preserved
-loop-place-preserved c =
-    let next = mapped_to-next (after_firing c.args.changes.now) c.args.numbers.now c.loop-place.place None (omega arith) in
+pub loop-index-preserved : goal.loop-index-preserved
+loop-index-preserved c =
+    let next = mapped_to-next (after_firing c.args.changes.now) c.args.numbers.now c.loop-index.index None (omega arith) in
     cc

@@ -4,6 +4,6 @@ use Rattle.trap_dispatch.specs.Firing.{connected_at, fires}
 use Rattle.trap_dispatch.proofs.firing.fired_numbers.Given as goal
 
 -- the numbers so far that fire, of which there are no more than numbers
-abbrev pub invariant-loop-place : goal.invariant-loop-place
-invariant-loop-place l =
-    (l.fired.items ≡ filter (λ number. fires l.changes (connected_at l.numbers number)) (range_with_len 1 l.place)) × (length l.fired.items ≤ l.place)
+abbrev pub invariant-loop-index : goal.invariant-loop-index
+invariant-loop-index l =
+    (l.fired.items ≡ filter (λ number. fires l.changes (connected_at l.numbers number)) (range_with_len 1 l.index)) × (length l.fired.items ≤ l.index)

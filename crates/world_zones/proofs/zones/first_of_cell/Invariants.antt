@@ -4,5 +4,5 @@ use Rattle.world_zones.specs.Zones.{shape_of_cell}
 use Rattle.world_zones.proofs.zones.first_of_cell.Given as goal
 
 -- no zone so far stops it
-abbrev pub invariant-loop-place : goal.invariant-loop-place
-invariant-loop-place g l = (k : ℕ) → k < l.place → ¬ Stops l.p l.q (shape_of_cell l.task (g.V.SignalValues.values l.signals) (slice_get l.cell k))
+abbrev pub invariant-loop-index : goal.invariant-loop-index
+invariant-loop-index g l = (k : ℕ) → k < l.index → ¬ Stops l.p l.q (shape_of_cell l.task (g.V.SignalValues.values l.signals) (slice_get l.cell k))

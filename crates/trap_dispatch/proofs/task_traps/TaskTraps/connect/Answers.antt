@@ -4,4 +4,4 @@ use Rattle.trap_dispatch.proofs.task_traps.TaskTraps.connect.Goals as goal
 
 pub invariant_of-self : goal.invariant_of-self
 invariant_of-self c =
-    sound-with c.self.inside.numbers c.self.inside.queue c.in-Some.place (record { trap = c.args.trap; order = None; asleep = false }) c.in-Some.ensures.there c.self.invariant
+    sound-with c.self.inside.numbers c.self.inside.queue c.in-Some.index (record { trap = c.args.trap; order = None; asleep = false }) c.in-Some.ensures.there c.self.invariant
