@@ -61,10 +61,10 @@ is_first name (label ∷ labels) = if names_label name.text label then label.at 
 abbrev pub is_visible : List ℕ → List PlainName → Bool
 is_visible text labels = list_any (names_label text) labels
 
--- the place of the first label of this name, from 0
-abbrev pub label_place : List ℕ → List PlainName → Option ℕ
-label_place text [] = None
-label_place text (label ∷ labels) = if names_label text label then Some 0 else option_map suc (label_place text labels)
+-- the index of the first label of this name, from 0
+abbrev pub label_index : List ℕ → List PlainName → Option ℕ
+label_index text [] = None
+label_index text (label ∷ labels) = if names_label text label then Some 0 else option_map suc (label_index text labels)
 
 -- the labels of lists, the innermost list first
 abbrev pub labels_around : List (Bor (List PlainName)) → List PlainName

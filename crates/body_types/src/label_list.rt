@@ -30,7 +30,7 @@ impl<'a> Model for LabelList<'a> {
     ghost view = { λ l. map view_name l.labels.items };
 
     // The table finds the first label of each name.
-    ghost invariant = { λ l. Finds l.firsts (λ text. Labels.label_place text (map view_name l.labels.items)) };
+    ghost invariant = { λ l. Finds l.firsts (λ text. Labels.label_index text (map view_name l.labels.items)) };
 }
 
 impl<'a> LabelList<'a> {

@@ -6,7 +6,7 @@ use Rattle.std.specs.Str.{str_eq_ignore_ascii_case}
 use Rattle.std.proofs.lemmas.Bool.{lt-ltb}
 use Rattle.std.proofs.lemmas.Bool.Decides.{nat_tests}
 use Rattle.name_tables.specs.Names.{NameList, found_in, entered, Finds, Enters}
-use Rattle.name_tables.proofs.Places.{enters, place_last, place_entered}
+use Rattle.name_tables.proofs.Places.{enters, index_last, index_entered}
 use Rattle.cell_assembly.specs.Cells
 
 is_shared : (owner : Option ℕ) → is_some owner ≡ false → is_none owner ≡ true
@@ -31,11 +31,11 @@ position_cons p x xs = by (p x)
 -- one more persistent, and the table that it is entered in
 pub pers_entered : (table new : NameList ℕ) (ps : List Cells.PersInfo) (p : Cells.PersInfo) (number : ℕ) → Finds table (λ name. Cells.global_number name ps) → Enters table new (λ name. Cells.is_global name p) number → number ≡ length ps
     → Finds new (λ name. Cells.global_number name (ps ++ p ∷ []))
-pers_entered table new ps p number = place_entered table new Cells.global_number Cells.is_global ps p number (λ name. place_last (Cells.global_number name) (Cells.is_global name) refl (position_cons (Cells.is_global name)) ps p)
+pers_entered table new ps p number = index_entered table new Cells.global_number Cells.is_global ps p number (λ name. index_last (Cells.global_number name) (Cells.is_global name) refl (position_cons (Cells.is_global name)) ps p)
 
 -- and one more meeting
 pub meeting_entered : (table new : NameList ℕ) (names : List (List ℕ)) (called : List ℕ) (number : ℕ) → Finds table (λ name. Cells.meeting_number name names) → new ≡ entered called number table → number ≡ length names
     → Finds new (λ name. Cells.meeting_number name (names ++ called ∷ []))
 meeting_entered table new names called number is last =
-    place_entered table new Cells.meeting_number str_eq_ignore_ascii_case names called number (λ name. place_last (Cells.meeting_number name) (str_eq_ignore_ascii_case name) refl (position_cons (str_eq_ignore_ascii_case name)) names called) is
+    index_entered table new Cells.meeting_number str_eq_ignore_ascii_case names called number (λ name. index_last (Cells.meeting_number name) (str_eq_ignore_ascii_case name) refl (position_cons (str_eq_ignore_ascii_case name)) names called) is
     (λ name. ap (found_in name) last ∙ enters called number table name)

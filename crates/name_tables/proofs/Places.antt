@@ -36,23 +36,23 @@ next_or (Some k) t n = refl
 next_or None true n = refl
 next_or None false n = refl
 
--- a recursion that finds the first place of a name, past one more element
-pub place_last : {X : Type 0} (find : List X → Option ℕ) (p : X → Bool) → find [] ≡ None
+-- a recursion that finds the first index of a name, past one more element
+pub index_last : {X : Type 0} (find : List X → Option ℕ) (p : X → Bool) → find [] ≡ None
     → ((x : X) (xs : List X) → find (x ∷ xs) ≡ (if p x then Some 0 else option_map suc (find xs))) → (xs : List X) (x : X) → find (xs ++ x ∷ []) ≡ option_or (find xs) (if p x then Some (length xs) else None)
-place_last find p none more [] x =
+index_last find p none more [] x =
     more x [] ∙ ap (λ o. if p x then Some 0 else option_map suc o) none ∙ sym (ap (λ o. option_or o (if p x then Some 0 else None)) none)
-place_last find p none more (y ∷ xs) x =
-    more y (xs ++ x ∷ []) ∙ by (p y) (place_last find p none more xs x) ∙ sym (ap (λ o. option_or o (if p x then Some (suc (length xs)) else None)) (more y xs))
+index_last find p none more (y ∷ xs) x =
+    more y (xs ++ x ∷ []) ∙ by (p y) (index_last find p none more xs x) ∙ sym (ap (λ o. option_or o (if p x then Some (suc (length xs)) else None)) (more y xs))
   where
     by : (t : Bool) → find (xs ++ x ∷ []) ≡ option_or (find xs) (if p x then Some (length xs) else None)
         → (if t then Some 0 else option_map suc (find (xs ++ x ∷ []))) ≡ option_or (if t then Some 0 else option_map suc (find xs)) (if p x then Some (suc (length xs)) else None)
     by true last = refl
     by false last = ap (option_map suc) last ∙ next_or (find xs) (p x) (length xs)
 
--- a table of the first places of a list's elements, with one more element
-pub place_entered : {X : Type 0} (table new : NameList ℕ) (find : List ℕ → List X → Option ℕ) (p : List ℕ → X → Bool) (xs : List X) (x : X) (number : ℕ)
+-- a table of the first indexes of a list's elements, with one more element
+pub index_entered : {X : Type 0} (table new : NameList ℕ) (find : List ℕ → List X → Option ℕ) (p : List ℕ → X → Bool) (xs : List X) (x : X) (number : ℕ)
     → ((name : List ℕ) → find name (xs ++ x ∷ []) ≡ option_or (find name xs) (if p name x then Some (length xs) else None))
     → Finds table (λ name. find name xs) → Enters table new (λ name. p name x) number → number ≡ length xs → Finds new (λ name. find name (xs ++ x ∷ []))
-place_entered table new find p xs x number last is more at name =
+index_entered table new find p xs x number last is more at name =
     more name ∙ ap (λ o. option_or o (if p name x then Some number else None)) (is name)
     ∙ ap (λ k. option_or (find name xs) (if p name x then Some k else None)) at ∙ sym (last name)

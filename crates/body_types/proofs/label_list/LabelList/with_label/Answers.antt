@@ -1,7 +1,7 @@
 use Rattle.std.proofs.Common.{◌≡◌, [], ◌∷◌, length, map, ap, sym, ◌∙◌}
 use Rattle.std.proofs.lemmas.List.{length-map, map-append}
 use Rattle.raw_trees.specs.Views.{view_name}
-use Rattle.body_types.specs.Labels.{label_place}
+use Rattle.body_types.specs.Labels.{label_index}
 use Rattle.body_types.proofs.LabelPlaces.{label_entered}
 use Rattle.body_types.proofs.label_list.LabelList.with_label.Goals as goal
 
@@ -11,4 +11,4 @@ invariant_of-result c name =
     let number = c.in_ok-number.number in
     let last : number ≡ length items = cc (c.in_ok-number.ensures.ok, c.len.ensures) in
     label_entered c.self.inside.firsts c.enter.new.self (map view_name items) (view_name c.args.label) number c.self.invariant c.in_ok-enter.ensures.ok (last ∙ sym (length-map items view_name)) name
-    ∙ ap (label_place name) (sym (ap (map view_name) c.in_ok-push.ensures.items ∙ map-append view_name items (c.args.label ∷ [])))
+    ∙ ap (label_index name) (sym (ap (map view_name) c.in_ok-push.ensures.items ∙ map-append view_name items (c.args.label ∷ [])))
