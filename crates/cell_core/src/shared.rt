@@ -128,7 +128,7 @@ impl Core {
         ensures history { self.new.history ≡ self.old.history ++ record { actor = actor; request = request; answer = result } ∷ [] }
         ensures fits { IsTrue (fits_request (fitting_in self.old.cell (part_of actor self.old.history)) request result) }
     {
-        let place = self.events.len();
+        let index = self.events.len();
         // The request is long: it is moved once, to its place in the history, where the boards read it. Then comes the answer.
         self.events.push_reserved(Event {
             actor,
@@ -137,8 +137,8 @@ impl Core {
         });
         let answer = self
             .boards
-            .take(&self.cell, actor, &self.events[place].request);
-        self.events[place].answer = answer.copy();
+            .take(&self.cell, actor, &self.events[index].request);
+        self.events[index].answer = answer.copy();
         answer
     }
 

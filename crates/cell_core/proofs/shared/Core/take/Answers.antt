@@ -14,8 +14,8 @@ use Rattle.cell_core.proofs.Ready.{actor_there, can_count, ready}
 use Rattle.cell_core.proofs.shared.Core.take.Goals as goal
 
 -- what is read at the end of the history is what was appended
-appended : (history items : List Event) (e found : Event) (place : ℕ) → items ≡ history ++ e ∷ [] → place ≡ length history → found ≡ get_or items place found → found ≡ e
-appended history items e found place is at reads = reads ∙ ap (λ (xs : List Event). get_or xs place found) is ∙ get_or_at history e [] found place (sym at)
+appended : (history items : List Event) (e found : Event) (index : ℕ) → items ≡ history ++ e ∷ [] → index ≡ length history → found ≡ get_or items index found → found ≡ e
+appended history items e found index is at reads = reads ∙ ap (λ (xs : List Event). get_or xs index found) is ∙ get_or_at history e [] found index (sym at)
 
 pub push_reserved-requires : goal.push_reserved-requires
 push_reserved-requires c =
@@ -28,7 +28,7 @@ pub take-answer-requires-clause-ready : goal.take-answer-requires-clause-ready
 take-answer-requires-clause-ready c =
     let core = c.self.inside in
     let may = rw (← c.self.view_is) at c.requires.asked in
-    let found = appended core.events.items c.push_reserved.new.self.items _ c.index.result.now c.len-place.result c.push_reserved.ensures.items (omega (arith, c.len-place.ensures, core.events.ok.0)) c.index.ensures in
+    let found = appended core.events.items c.push_reserved.new.self.items _ c.index.result.now c.len-index.result c.push_reserved.ensures.items (omega (arith, c.len-index.ensures, core.events.ok.0)) c.index.ensures in
     subst (λ (r : Request). CanAnswer core.cell core.boards c.args.actor r) (sym (ap (λ (e : Event). e.request) found))
     (ready core.cell core.events.items core.boards core.steps c.args.actor c.args.request c.self.invariant.0 may)
 
@@ -40,26 +40,26 @@ take-answer-requires-clause-few c =
     (actor_there core.cell c.args.actor (part_of c.args.actor core.events.items) c.args.request may)
 
 -- the history with the answer put in
-answered : (history items : List Event) (e found : Event) (place : ℕ) (answer : Answer) → items ≡ history ++ e ∷ [] → place ≡ length history → found ≡ get_or items place found
-    → set items place (record found { answer = answer }) ≡ history ++ record e { answer = answer } ∷ []
-answered history items e found place answer is at reads =
-    ap (λ (xs : List Event). set xs place (record found { answer = answer })) is ∙ set_at history e [] (record found { answer = answer }) place (sym at)
-    ∙ ap (λ (f : Event). history ++ record f { answer = answer } ∷ []) (appended history items e found place is at reads)
+answered : (history items : List Event) (e found : Event) (index : ℕ) (answer : Answer) → items ≡ history ++ e ∷ [] → index ≡ length history → found ≡ get_or items index found
+    → set items index (record found { answer = answer }) ≡ history ++ record e { answer = answer } ∷ []
+answered history items e found index answer is at reads =
+    ap (λ (xs : List Event). set xs index (record found { answer = answer })) is ∙ set_at history e [] (record found { answer = answer }) index (sym at)
+    ∙ ap (λ (f : Event). history ++ record f { answer = answer } ∷ []) (appended history items e found index is at reads)
 
 -- the event
 abbrev event : goal.After-self-1 → Event
 event c = record { actor = c.args.actor; request = c.args.request; answer = c.take-answer.result }
 
-the_history : (c : goal.After-self-1) → set c.push_reserved.new.self.items c.len-place.result (record c.index_mut.result.now { answer = c.copy.result }) ≡ c.self.inside.events.items ++ event c ∷ []
+the_history : (c : goal.After-self-1) → set c.push_reserved.new.self.items c.len-index.result (record c.index_mut.result.now { answer = c.copy.result }) ≡ c.self.inside.events.items ++ event c ∷ []
 the_history c =
     let core = c.self.inside in
-    answered core.events.items c.push_reserved.new.self.items _ c.index_mut.result.now c.len-place.result c.copy.result c.push_reserved.ensures.items (omega (arith, c.len-place.ensures, core.events.ok.0)) c.index_mut.ensures.value
+    answered core.events.items c.push_reserved.new.self.items _ c.index_mut.result.now c.len-index.result c.copy.result c.push_reserved.ensures.items (omega (arith, c.len-index.ensures, core.events.ok.0)) c.index_mut.ensures.value
     ∙ ap (λ (a : Answer). core.events.items ++ record (event c) { answer = a } ∷ []) c.copy.ensures
 
 asked : (c : goal.After-self-1) → c.index.result.now.request ≡ c.args.request
 asked c =
     let core = c.self.inside in
-    ap (λ (e : Event). e.request) (appended core.events.items c.push_reserved.new.self.items _ c.index.result.now c.len-place.result c.push_reserved.ensures.items (omega (arith, c.len-place.ensures, core.events.ok.0)) c.index.ensures)
+    ap (λ (e : Event). e.request) (appended core.events.items c.push_reserved.new.self.items _ c.index.result.now c.len-index.result c.push_reserved.ensures.items (omega (arith, c.len-index.ensures, core.events.ok.0)) c.index.ensures)
 
 served : (c : goal.After-self-1) → IsServed c.self.inside.cell c.self.inside.events.items (event c)
 served c =
