@@ -11,7 +11,7 @@ pub record AreNumbered {A : Type 0} (AreOne : A → A → Type 0) (declared : Li
   pub each : (k : ℕ) → k < count → (i : ℕ) × (slice_get numbers i ≡ Some k)
   pub in_order : (j k l : ℕ) → slice_get numbers j ≡ Some l → k < l → (i : ℕ) × (i < j) × (slice_get numbers i ≡ Some k)
 
--- the declaration at this place has this number
+-- the declaration at this index has this number
 pub record HasNumber {A : Type 0} (declared : List A) (numbers : List ℕ) (k index : ℕ) (d : A) : Type 0 where
   pub there : slice_get declared index ≡ Some d
   pub numbered : slice_get numbers index ≡ Some k

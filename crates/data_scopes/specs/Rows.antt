@@ -49,6 +49,7 @@ rows_by rows scalar pers row =
     else if pers then record { consts = rows.consts; slots = rows.slots; pers = rows.pers ++ row ∷ []; routines = rows.routines }
     else record { consts = rows.consts; slots = rows.slots ++ row ∷ []; pers = rows.pers; routines = rows.routines }
 
+-- behind these rows one of this datum
 abbrev pub with_datum : Rows → PlainDatum → DatumRow → Rows
 with_datum rows d row = rows_by rows (is_scalar_const d) (is_pers d.kind) row
 
