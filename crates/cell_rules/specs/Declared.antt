@@ -30,7 +30,7 @@ pub record AreAlike (row other : TypedPers) : Type 0 where
   pub sort : row.sort ≡ other.sort
   pub len : row.len ≡ other.len
 
--- of the declarations before a place, those that are one are alike
+-- of the declarations before an index, those that are one are alike
 abbrev pub AreAlikeBefore : ℕ → List Declared → Type 0
 AreAlikeBefore index declared =
     (i j : ℕ) (d e : Declared) → i < j → j < index → slice_get declared i ≡ Some d → slice_get declared j ≡ Some e → AreOne d e → AreAlike d.row e.row
