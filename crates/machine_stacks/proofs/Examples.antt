@@ -4,9 +4,9 @@ use Rattle.typed_trees.specs.declared.datum.Datum.{Datum}
 use Rattle.typed_trees.specs.declared.datum.Datum.TheVariants as datums
 use Rattle.rapid_meaning.specs.Data.{put_in_frame, frame_at, with_frame}
 use Rattle.stack_code.specs.declared.first_run.FirstRun.{FirstRun}
-use Rattle.machine_stacks.specs.FrameStack.{frames_in, place_in}
+use Rattle.machine_stacks.specs.FrameStack.{frames_in, index_in}
 use Rattle.machine_stacks.specs.OperandStack.{stacked}
-use Rattle.machine_stacks.specs.Starts.{frame_from, place_of, values_from}
+use Rattle.machine_stacks.specs.Starts.{frame_from, index_of, values_from}
 use Rattle.machine_stacks.specs.declared.mark.Mark.{Mark}
 use Rattle.machine_stacks.specs.declared.run_start.RunStart.{RunStart}
 
@@ -32,16 +32,16 @@ marks = record { base = 3; seen = 7 } ∷ record { base = 0; seen = 5 } ∷ []
 two_frames : frames_in four marks ≡ record { values = m 4 ∷ []; seen = 7 } ∷ record { values = m 1 ∷ m 2 ∷ m 3 ∷ []; seen = 5 } ∷ []
 two_frames = refl
 
-in_the_outer : place_in 4 marks 0 2 ≡ Some 2
-unfolding place_in
+in_the_outer : index_in 4 marks 0 2 ≡ Some 2
+unfolding index_in
 in_the_outer = refl
 
-past_the_outer : place_in 4 marks 0 3 ≡ None
-unfolding place_in
+past_the_outer : index_in 4 marks 0 3 ≡ None
+unfolding index_in
 past_the_outer = refl
 
-in_the_inner : place_in 4 marks 1 0 ≡ Some 3
-unfolding place_in
+in_the_inner : index_in 4 marks 1 0 ≡ Some 3
+unfolding index_in
 in_the_inner = refl
 
 written_in_the_outer : put_in_frame (frames_in four marks) 0 1 (m 9) (frame_at (frames_in four marks) 0)
@@ -57,7 +57,7 @@ firsts = record { datum = m 1; count = 2 } ∷ record { datum = m 2; count = 3 }
 abbrev start : RunStart
 start = record { run = 1; skip = 1 }
 
-fourth : place_of firsts start ≡ 3
+fourth : index_of firsts start ≡ 3
 fourth = refl
 
 begun : frame_from firsts start (m 8 ∷ []) 2 ≡ record { values = m 8 ∷ m 2 ∷ m 2 ∷ []; seen = 0 }

@@ -10,17 +10,17 @@ use Rattle.std.specs.Option.{option_and_then, option_map_or}
 use Rattle.typed_trees.specs.declared.datum.Datum.{Datum}
 use Rattle.rapid_meaning.specs.Data.{Frame, frame_at, put_in_frame, with_datum, with_frame}
 use Rattle.machine_stacks.specs.Cuts.{IsCut}
-use Rattle.machine_stacks.specs.FrameStack.{bases_of, end_of, frames_in, place_behind, place_in, written}
+use Rattle.machine_stacks.specs.FrameStack.{bases_of, end_of, frames_in, index_behind, index_in, written}
 use Rattle.machine_stacks.specs.declared.mark.Mark.{Mark}
 use Rattle.machine_stacks.proofs.Framing.{length-frames_in}
 
--- where a test chooses a place
+-- where a test chooses an index
 
 chosen : (t : Bool) (q p : ℕ) → (if t then Some q else None) ≡ Some p → (t ≡ true) × (q ≡ p)
 chosen true q p e = (refl, cc)
 chosen false q p e = absurd cc
 
-behind_within : (base len at p : ℕ) → place_behind base len at ≡ Some p → (base ≤ p) × (p < len)
+behind_within : (base len at p : ℕ) → index_behind base len at ≡ Some p → (base ≤ p) × (p < len)
 behind_within base len at p e =
     let parts : (nat_lt at (len - base) ≡ true) × (base + at ≡ p) = chosen (nat_lt at (len - base)) (base + at) p e in
     let below : at < len - base = ltb-true at (len - base) parts.0 in
@@ -30,13 +30,13 @@ either : (t : Bool) (p q : Option ℕ) (len : ℕ) → ((x : ℕ) → p ≡ Some
 either true p q len f g x e = f x e
 either false p q len f g x e = g x e
 
--- a place is within the list
-pub place_within : (len : ℕ) (marks : List Mark) (frame at : ℕ) → IsCut len (bases_of marks) → (p : ℕ) → place_in len marks frame at ≡ Some p → p < len
-unfolding place_in
-place_within len [] frame at h p e = absurd cc
-place_within len (mark ∷ marks) frame at h p e =
-    either (length marks == frame) (place_behind mark.base len at) (place_in mark.base marks frame at) len (λ x d. (behind_within mark.base len at x d).1)
-    (λ x d. let below : x < mark.base = place_within mark.base marks frame at h.1 x d in let within : mark.base ≤ len = h.0 in omega arith) p e
+-- an index is within the list
+pub index_within : (len : ℕ) (marks : List Mark) (frame at : ℕ) → IsCut len (bases_of marks) → (p : ℕ) → index_in len marks frame at ≡ Some p → p < len
+unfolding index_in
+index_within len [] frame at h p e = absurd cc
+index_within len (mark ∷ marks) frame at h p e =
+    either (length marks == frame) (index_behind mark.base len at) (index_in mark.base marks frame at) len (λ x d. (behind_within mark.base len at x d).1)
+    (λ x d. let below : x < mark.base = index_within mark.base marks frame at h.1 x d in let within : mark.base ≤ len = h.0 in omega arith) p e
 
 pub if_within : (o q : Option ℕ) (n len : ℕ) → o ≡ q → n ≡ len → ((p : ℕ) → q ≡ Some p → p < len) → IfSome o (λ p. p < n)
 if_within None q n len e d h = tt
@@ -55,7 +55,7 @@ slice_get-take (suc n) i [] h = refl
 slice_get-take (suc n) zero (x ∷ xs) h = refl
 slice_get-take (suc n) (suc i) (x ∷ xs) h = slice_get-take n i xs (omega arith)
 
-read_behind : (values : List Datum) (base at : ℕ) → slice_get (drop base values) at ≡ option_and_then (slice_get values) (place_behind base (length values) at)
+read_behind : (values : List Datum) (base at : ℕ) → slice_get (drop base values) at ≡ option_and_then (slice_get values) (index_behind base (length values) at)
 read_behind values base at =
     elim (leb_tells (suc at) (length values - base)) [
       | inl holds ↦ rw holds.0 (slice_get-drop base at values)
@@ -76,18 +76,18 @@ read_either false values at f o p q here there = there
 
 -- what a frame holds at a place stands there in the list
 pub read : (values : List Datum) (marks : List Mark) (frame at : ℕ)
-    → IsCut (length values) (bases_of marks) → option_and_then (λ (f : Frame). slice_get f.values at) (frame_at (frames_in values marks) frame) ≡ option_and_then (slice_get values) (place_in (length values) marks frame at)
-unfolding frame_at place_in
+    → IsCut (length values) (bases_of marks) → option_and_then (λ (f : Frame). slice_get f.values at) (frame_at (frames_in values marks) frame) ≡ option_and_then (slice_get values) (index_in (length values) marks frame at)
+unfolding frame_at index_in
 read values [] frame at h = refl
 read values (mark ∷ marks) frame at h =
     let base : ℕ = mark.base in
     let len : length (take base values) ≡ base = length-take-le base values h.0 in
-    let below : option_and_then (λ (f : Frame). slice_get f.values at) (frame_at (frames_in (take base values) marks) frame) ≡ option_and_then (slice_get (take base values)) (place_in base marks frame at) =
+    let below : option_and_then (λ (f : Frame). slice_get f.values at) (frame_at (frames_in (take base values) marks) frame) ≡ option_and_then (slice_get (take base values)) (index_in base marks frame at) =
     rw len at (read (take base values) marks frame at (rw len h.1)) in
     rw (length-frames_in (take base values) marks)
     (read_either (length marks == frame) values at (record { values = drop base values; seen = mark.seen }) (frame_at (frames_in (take base values) marks) frame)
-    (place_behind base (length values) at) (place_in base marks frame at) (read_behind values base at)
-    (below ∙ read_below base values (place_in base marks frame at) (place_within base marks frame at h.1)))
+    (index_behind base (length values) at) (index_in base marks frame at) (read_behind values base at)
+    (below ∙ read_below base values (index_in base marks frame at) (index_within base marks frame at h.1)))
 
 -- writing
 
@@ -97,7 +97,7 @@ length-written (Some p) new values = length-set values p new
 
 -- the values of a frame and those below, once a datum is written behind its base
 written_behind : (values : List Datum) (base at : ℕ) (new : Datum)
-    → (drop base (written (place_behind base (length values) at) new values) ≡ slice_set (drop base values) at new) × (take base (written (place_behind base (length values) at) new values) ≡ take base values)
+    → (drop base (written (index_behind base (length values) at) new values) ≡ slice_set (drop base values) at new) × (take base (written (index_behind base (length values) at) new values) ≡ take base values)
 written_behind values base at new =
     elim (leb_tells (suc at) (length values - base)) [
       | inl holds ↦ rw holds.0 (drop-set-add base values at new, take-set-le base values (base + at) new (omega arith))
@@ -129,13 +129,13 @@ put_later : (f : Frame) (below : List Frame) (frame at : ℕ) (new : Datum) → 
 unfolding frame_at
 put_later f below frame at new e = rw e (put_later_by f below frame at new (frame_at below frame) e)
 
-place_first : (len : ℕ) (mark : Mark) (marks : List Mark) (frame at : ℕ) → (length marks == frame) ≡ true → place_in len (mark ∷ marks) frame at ≡ place_behind mark.base len at
-unfolding place_in
-place_first len mark marks frame at e = rw e refl
+index_first : (len : ℕ) (mark : Mark) (marks : List Mark) (frame at : ℕ) → (length marks == frame) ≡ true → index_in len (mark ∷ marks) frame at ≡ index_behind mark.base len at
+unfolding index_in
+index_first len mark marks frame at e = rw e refl
 
-place_later : (len : ℕ) (mark : Mark) (marks : List Mark) (frame at : ℕ) → (length marks == frame) ≡ false → place_in len (mark ∷ marks) frame at ≡ place_in mark.base marks frame at
-unfolding place_in
-place_later len mark marks frame at e = rw e refl
+index_later : (len : ℕ) (mark : Mark) (marks : List Mark) (frame at : ℕ) → (length marks == frame) ≡ false → index_in len (mark ∷ marks) frame at ≡ index_in mark.base marks frame at
+unfolding index_in
+index_later len mark marks frame at e = rw e refl
 
 -- frames with the same marks, of two lists that agree behind the last mark and whose beginnings have frames that are known
 frames_of_parts : (values : List Datum) (mark : Mark) (marks : List Mark) (own : List Datum) (below : List Frame)
@@ -144,8 +144,8 @@ frames_of_parts values mark marks own below e d = rw (e, d) refl
 
 -- a datum written at the place of a frame's value is what that frame holds there, and nothing else changes
 pub write : (values : List Datum) (marks : List Mark) (frame at : ℕ) (new : Datum) → IsCut (length values) (bases_of marks)
-    → frames_in (written (place_in (length values) marks frame at) new values) marks ≡ put_in_frame (frames_in values marks) frame at new (frame_at (frames_in values marks) frame)
-unfolding frame_at place_in
+    → frames_in (written (index_in (length values) marks frame at) new values) marks ≡ put_in_frame (frames_in values marks) frame at new (frame_at (frames_in values marks) frame)
+unfolding frame_at index_in
 write values [] frame at new h = refl
 write values (mark ∷ marks) frame at new h =
     let base : ℕ = mark.base in
@@ -157,34 +157,34 @@ write values (mark ∷ marks) frame at new h =
       | inl holds ↦
           let parts = written_behind values base at new in
           let t : (length rest == frame) ≡ true = ap (λ n. n == frame) count ∙ holds.0 in
-          ap (λ o. frames_in (written o new values) (mark ∷ marks)) (place_first (length values) mark marks frame at holds.0)
-          ∙ frames_of_parts (written (place_behind base (length values) at) new values) mark marks (slice_set (drop base values) at new) rest parts.0 (ap (λ vs. frames_in vs marks) parts.1)
+          ap (λ o. frames_in (written o new values) (mark ∷ marks)) (index_first (length values) mark marks frame at holds.0)
+          ∙ frames_of_parts (written (index_behind base (length values) at) new values) mark marks (slice_set (drop base values) at new) rest parts.0 (ap (λ vs. frames_in vs marks) parts.1)
           ∙ sym (put_first f rest frame at new t)
       | inr fails ↦
-          let o : Option ℕ = place_in base marks frame at in
-          let parts = written_below values base new o (place_within base marks frame at h.1) in
+          let o : Option ℕ = index_in base marks frame at in
+          let parts = written_below values base new o (index_within base marks frame at h.1) in
           let t : (length rest == frame) ≡ false = ap (λ n. n == frame) count ∙ fails.0 in
           let below : frames_in (written o new (take base values)) marks ≡ put_in_frame rest frame at new (frame_at rest frame) = rw len at (write (take base values) marks frame at new (rw len h.1)) in
-          ap (λ o. frames_in (written o new values) (mark ∷ marks)) (place_later (length values) mark marks frame at fails.0)
+          ap (λ o. frames_in (written o new values) (mark ∷ marks)) (index_later (length values) mark marks frame at fails.0)
           ∙ frames_of_parts (written o new values) mark marks (drop base values) (put_in_frame rest frame at new (frame_at rest frame)) parts.0 (ap (λ vs. frames_in vs marks) parts.1 ∙ below)
           ∙ sym (put_later f rest frame at new t)
     ]
 
--- places by the marks from the first frame on
+-- indexes by the marks from the first frame on
 
-pub behind : (base len at : ℕ) → at < len - base → place_behind base len at ≡ Some (base + at)
+pub behind : (base len at : ℕ) → at < len - base → index_behind base len at ≡ Some (base + at)
 behind base len at h = elim (leb_tells (suc at) (len - base)) [ inl holds ↦ rw holds.0 refl | inr fails ↦ absurd (omega arith) ]
 
-pub past : (base len at : ℕ) → len - base ≤ at → place_behind base len at ≡ None
+pub past : (base len at : ℕ) → len - base ≤ at → index_behind base len at ≡ None
 past base len at h = elim (leb_tells (suc at) (len - base)) [ inl holds ↦ absurd (omega arith) | inr fails ↦ rw fails.0 refl ]
 
-pub no_place : (len : ℕ) (marks : List Mark) (frame at : ℕ) → length marks ≤ frame → place_in len marks frame at ≡ None
-unfolding place_in
-no_place len [] frame at h = refl
-no_place len (mark ∷ marks) frame at h =
+pub no_index : (len : ℕ) (marks : List Mark) (frame at : ℕ) → length marks ≤ frame → index_in len marks frame at ≡ None
+unfolding index_in
+no_index len [] frame at h = refl
+no_index len (mark ∷ marks) frame at h =
     let past : suc (length marks) ≤ frame = h in
     let t : (length marks == frame) ≡ false = ne_eqb (length marks) frame (λ e. omega arith) in
-    rw t (no_place mark.base marks frame at (omega arith))
+    rw t (no_index mark.base marks frame at (omega arith))
 
 end_of-append : (len : ℕ) (marks : List Mark) (mark : Mark) (next : ℕ) → next ≤ length marks → end_of len (marks ++ mark ∷ []) next ≡ end_of mark.base marks next
 end_of-append len [] mark zero h = refl
@@ -195,7 +195,7 @@ end_of-append len (first ∷ marks) mark (suc next) h = end_of-append len marks 
 -- where the values of a frame stand, by the marks from the first on
 abbrev pub Stands : ℕ → List Mark → List Mark → ℕ → ℕ → Mark → Type 0
 Stands len innermost marks frame at d =
-    (place_in len innermost frame at ≡ place_behind (get_or marks frame d).base (end_of len marks (frame + 1)) at) × ((get_or marks frame d).base ≤ end_of len marks (frame + 1))
+    (index_in len innermost frame at ≡ index_behind (get_or marks frame d).base (end_of len marks (frame + 1)) at) × ((get_or marks frame d).base ≤ end_of len marks (frame + 1))
 
 -- with one more frame, the innermost
 stands_more : (len : ℕ) (mark : Mark) (marks outer : List Mark) (frame at : ℕ) (d : Mark)
@@ -204,7 +204,7 @@ stands_more : (len : ℕ) (mark : Mark) (marks outer : List Mark) (frame at : �
 stands_more len mark marks outer frame at d count h k below =
     let all : List Mark = outer ++ mark ∷ [] in
     let end : ℕ = end_of len all (frame + 1) in
-    let Q : Mark → ℕ → Type 0 = λ m e. (place_in len (mark ∷ marks) frame at ≡ place_behind m.base e at) × (m.base ≤ e) in
+    let Q : Mark → ℕ → Type 0 = λ m e. (index_in len (mark ∷ marks) frame at ≡ index_behind m.base e at) × (m.base ≤ e) in
     elim (eqb_tells (length marks) frame) [
       | inl holds ↦
           let index : frame ≡ length outer = let same : length marks ≡ frame = holds.1 in omega arith in
@@ -212,13 +212,13 @@ stands_more len mark marks outer frame at d count h k below =
           let long : length all ≡ length outer + 1 = length-append outer (mark ∷ []) in
           let none : slice_get all (frame + 1) ≡ None = slice_get_past all (frame + 1) (omega arith) in
           let last : end ≡ len = ap (λ o. option_map_or (λ (m : Mark). m.base) o len) none in
-          subst (λ m. Q m end) (sym own) (subst (λ e. Q mark e) (sym last) (place_first len mark marks frame at holds.0, h.0))
+          subst (λ m. Q m end) (sym own) (subst (λ e. Q mark e) (sym last) (index_first len mark marks frame at holds.0, h.0))
       | inr fails ↦
           let b : frame < length marks = let other : length marks ≢ frame = fails.1 in omega arith in
           let outside : Stands mark.base marks outer frame at d = below b in
           let own : get_or all frame d ≡ get_or outer frame d = get_or_append_left outer (mark ∷ []) d frame (omega arith) in
           let last : end ≡ end_of mark.base outer (frame + 1) = end_of-append len outer mark (frame + 1) (omega arith) in
-          subst (λ m. Q m end) (sym own) (subst (λ e. Q (get_or outer frame d) e) (sym last) (place_later len mark marks frame at fails.0 ∙ outside.0, outside.1))
+          subst (λ m. Q m end) (sym own) (subst (λ e. Q (get_or outer frame d) e) (sym last) (index_later len mark marks frame at fails.0 ∙ outside.0, outside.1))
     ]
 
 pub stands : (len : ℕ) (marks : List Mark) (frame at : ℕ) (d : Mark) → IsCut len (bases_of marks) → frame < length marks → Stands len marks (reverse marks) frame at d

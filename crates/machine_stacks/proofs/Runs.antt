@@ -11,7 +11,7 @@ use Rattle.stack_code.specs.Entering.{frame_in}
 use Rattle.stack_code.specs.Firsts.{in_full}
 use Rattle.stack_code.specs.declared.first_run.FirstRun.{FirstRun}
 use Rattle.stack_code.specs.declared.routine_row.RoutineRow.{RoutineRow}
-use Rattle.machine_stacks.specs.Starts.{frame_from, place_of, values_from}
+use Rattle.machine_stacks.specs.Starts.{frame_from, index_of, values_from}
 use Rattle.machine_stacks.specs.declared.run_start.RunStart.{RunStart}
 
 -- the values of one run
@@ -89,7 +89,7 @@ same_default (run ∷ runs) (suc i) d e h = same_default runs i d e (omega arith
 
 -- a place in the next run
 pub next_run : (firsts : List FirstRun) (run skip : ℕ) (d : FirstRun) → run < length firsts → (get_or firsts run d).count ≤ skip
-    → place_of firsts (record { run = run + 1; skip = skip - (get_or firsts run d).count }) ≡ place_of firsts (record { run = run; skip = skip })
+    → index_of firsts (record { run = run + 1; skip = skip - (get_or firsts run d).count }) ≡ index_of firsts (record { run = run; skip = skip })
 next_run firsts run skip d h k =
     let first : FirstRun = get_or firsts run d in
     let before : List Datum = in_full (take run firsts) in
@@ -102,5 +102,5 @@ next_run firsts run skip d h k =
 
 -- the frame of a call, as the meaning of code makes it
 pub frame_from-row : (code : CodeData) (row : RoutineRow) (args : List Datum) (firsts : List FirstRun) (start : RunStart)
-    → code.firsts ≡ in_full firsts → place_of firsts start ≡ row.first → frame_from firsts start args (row.values - row.args) ≡ frame_in code row args
+    → code.firsts ≡ in_full firsts → index_of firsts start ≡ row.first → frame_from firsts start args (row.values - row.args) ≡ frame_in code row args
 frame_from-row code row args firsts start all at = rw (all, at) refl

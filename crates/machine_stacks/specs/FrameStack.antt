@@ -19,20 +19,20 @@ abbrev pub frames_in : List Datum → List Mark → List Frame
 frames_in values [] = []
 frames_in values (mark ∷ marks) = record { values = drop mark.base values; seen = mark.seen } ∷ frames_in (take mark.base values) marks
 
--- where the values of a frame stand that begins at a place, in a list of this length
-abbrev pub place_behind : ℕ → ℕ → ℕ → Option ℕ
-place_behind base len at = if nat_lt at (len - base) then Some (base + at) else None
+-- where the values of a frame stand that begins at an index, in a list of this length
+abbrev pub index_behind : ℕ → ℕ → ℕ → Option ℕ
+index_behind base len at = if nat_lt at (len - base) then Some (base + at) else None
 
 -- where a value of the frame with so many below it stands in a list of this length
-unfoldable pub place_in : ℕ → List Mark → ℕ → ℕ → Option ℕ
-place_in len [] frame at = None
-place_in len (mark ∷ marks) frame at = if length marks == frame then place_behind mark.base len at else place_in mark.base marks frame at
+unfoldable pub index_in : ℕ → List Mark → ℕ → ℕ → Option ℕ
+index_in len [] frame at = None
+index_in len (mark ∷ marks) frame at = if length marks == frame then index_behind mark.base len at else index_in mark.base marks frame at
 
 -- by the marks from the first frame on, a frame ends where the next one begins, and the last one with the list
 abbrev pub end_of : ℕ → List Mark → ℕ → ℕ
 end_of len marks next = option_map_or (λ mark. mark.base) (slice_get marks next) len
 
--- the list with a datum at a place, if there is one
+-- the list with a datum at an index, if there is one
 abbrev pub written : Option ℕ → Datum → List Datum → List Datum
 written None new values = values
-written (Some place) new values = slice_set values place new
+written (Some index) new values = slice_set values index new

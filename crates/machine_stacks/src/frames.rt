@@ -9,7 +9,7 @@ use crate::first_values::append_firsts;
 use crate::held::Held;
 use crate::mark::Mark;
 use crate::operands::Operands;
-use crate::places::{place_at, value_at, write_at, write_num_at};
+use crate::indexes::{index_at, value_at, write_at, write_num_at};
 use crate::run_start::RunStart;
 use rapid_num::Num;
 use stack_code::FirstRun;
@@ -118,8 +118,8 @@ impl Frames {
     pub fn get(&self, frame: usize, at: usize) -> Option<&Held>
         ensures { option_copied result ≡ option_and_then (λ f. slice_get f.values at) (frame_at self.now.frames frame) }
     {
-        let place = place_at(self.values.len(), &self.marks, frame, at);
-        value_at(&self.values, place)
+        let index = index_at(self.values.len(), &self.marks, frame, at);
+        value_at(&self.values, index)
     }
 
     /// Puts a value in the place of another of a frame, by the number of frames below it and the place in it, from 0. Where the
@@ -127,8 +127,8 @@ impl Frames {
     pub fn put(&mut self, frame: usize, at: usize, datum: Held)
         ensures { self.new ≡ record self.old { frames = put_in_frame self.old.frames frame at datum (frame_at self.old.frames frame) } }
     {
-        let place = place_at(self.values.len(), &self.marks, frame, at);
-        write_at(&mut self.values, place, datum);
+        let index = index_at(self.values.len(), &self.marks, frame, at);
+        write_at(&mut self.values, index, datum);
     }
 
     /// Puts a num in the place of a value of a frame, by the number of frames below it and the place in it, from 0. Where the
@@ -136,7 +136,7 @@ impl Frames {
     pub fn put_num(&mut self, frame: usize, at: usize, number: Num)
         ensures { self.new ≡ record self.old { frames = put_in_frame self.old.frames frame at (Plain (values.Num number)) (frame_at self.old.frames frame) } }
     {
-        let place = place_at(self.values.len(), &self.marks, frame, at);
-        write_num_at(&mut self.values, place, number);
+        let index = index_at(self.values.len(), &self.marks, frame, at);
+        write_num_at(&mut self.values, index, number);
     }
 }

@@ -5,10 +5,10 @@
 mod first_values;
 mod frames;
 mod held;
+mod indexes;
 mod mark;
 mod moving;
 mod operands;
-mod places;
 mod run_start;
 mod slots;
 mod starts;

@@ -1,5 +1,5 @@
 ghost use Rattle.std.specs.Prelude.{◌≡◌, map, All, IsTrue, IfOk};
-ghost use Rattle.machine_stacks.specs.Starts.{lies_within, place_of};
+ghost use Rattle.machine_stacks.specs.Starts.{lies_within, index_of};
 
 use crate::run_start::RunStart;
 use stack_code::{FirstRun, RoutineRow};
@@ -12,29 +12,29 @@ pub fn starts_of(
     rows: &[RoutineRow],
     firsts: &[FirstRun],
 ) -> Result<Vec<RunStart>, AllocError>
-    ensures places { IfOk result (λ starts. map (place_of firsts.now) starts.items ≡ map (λ row. row.first) rows.now) }
+    ensures indexes { IfOk result (λ starts. map (index_of firsts.now) starts.items ≡ map (λ row. row.first) rows.now) }
     ensures within { IfOk result (λ starts. All (λ start. IsTrue (lies_within firsts.now start)) starts.items) }
 {
     let mut starts = Vec::with_capacity(alloc, rows.len())?;
     let mut last = RunStart { run: 0, skip: 0 };
-    let mut place = 0;
+    let mut index = 0;
     for row in rows {
-        last = moved(firsts, last, place, row.first);
-        place = row.first;
+        last = moved(firsts, last, index, row.first);
+        index = row.first;
         starts.push(last)?;
     }
     Ok(starts)
 }
 
-/// A start of another place, in the run that has the value there. It walks ahead, or from the first run where the place lies
+/// A start of another index, in the run that has the value there. It walks ahead, or from the first run where the index lies
 /// before the one that it comes from.
-fn moved(firsts: &[FirstRun], from: RunStart, place: u32, to: u32) -> RunStart
-    requires from { place_of firsts.now from ≡ place }
-    ensures to { place_of firsts.now result ≡ to }
+fn moved(firsts: &[FirstRun], from: RunStart, index: u32, to: u32) -> RunStart
+    requires from { index_of firsts.now from ≡ index }
+    ensures to { index_of firsts.now result ≡ to }
     ensures within { IsTrue (lies_within firsts.now result) }
 {
-    if place <= to {
-        let skip = from.skip + (to - place);
+    if index <= to {
+        let skip = from.skip + (to - index);
         settled(
             firsts,
             RunStart {
@@ -47,9 +47,9 @@ fn moved(firsts: &[FirstRun], from: RunStart, place: u32, to: u32) -> RunStart
     }
 }
 
-/// The same place, in the run that has the value there.
+/// The same index, in the run that has the value there.
 fn settled(firsts: &[FirstRun], start: RunStart) -> RunStart
-    ensures same { place_of firsts.now result ≡ place_of firsts.now start }
+    ensures same { index_of firsts.now result ≡ index_of firsts.now start }
     ensures within { IsTrue (lies_within firsts.now result) }
 {
     let mut run = start.run;

@@ -8,28 +8,28 @@ use Rattle.stack_code.specs.Entering.{frame_in}
 use Rattle.stack_code.specs.Firsts.{in_full}
 use Rattle.stack_code.specs.declared.first_run.FirstRun.{FirstRun}
 use Rattle.stack_code.specs.declared.routine_row.RoutineRow.{RoutineRow}
-use Rattle.machine_stacks.specs.Starts.{frame_from, place_of, values_from}
+use Rattle.machine_stacks.specs.Starts.{frame_from, index_of, values_from}
 use Rattle.machine_stacks.specs.declared.run_start.RunStart.{RunStart}
 use Rattle.machine_stacks.proofs.Runs.{frame_from-row, one_run}
 use Rattle.task_steps.specs.Loading.{IsLoaded}
 
 -- what stands at a place of two lists that some part of each makes equal
 beside_it : (runs : List FirstRun) (starts : List RunStart) (rows : List RoutineRow) (k : ℕ) (row : RoutineRow)
-    → map (place_of runs) starts ≡ map (λ row. row.first) rows → slice_get rows k ≡ Some row → (k < length starts) × ((d : RunStart) → place_of runs (get_or starts k d) ≡ row.first)
+    → map (index_of runs) starts ≡ map (λ row. row.first) rows → slice_get rows k ≡ Some row → (k < length starts) × ((d : RunStart) → index_of runs (get_or starts k d) ≡ row.first)
 beside_it runs starts [] k row same there = cc
 beside_it runs [] (other ∷ rows) k row same there = cc
 beside_it runs (start ∷ starts) (other ∷ rows) zero row same there =
     let own : other ≡ row = cc in
-    let first : place_of runs start ≡ other.first = cc in
+    let first : index_of runs start ≡ other.first = cc in
     (omega arith, λ d. first ∙ ap (λ (r : RoutineRow). r.first) own)
 beside_it runs (start ∷ starts) (other ∷ rows) (suc k) row same there =
-    let more : map (place_of runs) starts ≡ map (λ row. row.first) rows = cc in
+    let more : map (index_of runs) starts ≡ map (λ row. row.first) rows = cc in
     let it = beside_it runs starts rows k row more there in
     (omega (arith, it.0), it.1)
 
-pub start_place : (code : CodeData) (runs : List FirstRun) (starts : List RunStart) (k : ℕ) (row : RoutineRow) (d : RunStart) → IsLoaded code runs starts → slice_get code.routines k ≡ Some row
-    → place_of runs (get_or starts k d) ≡ row.first
-start_place code runs starts k row d loaded there = (beside_it runs starts code.routines k row loaded.places there).1 d
+pub start_index : (code : CodeData) (runs : List FirstRun) (starts : List RunStart) (k : ℕ) (row : RoutineRow) (d : RunStart) → IsLoaded code runs starts → slice_get code.routines k ≡ Some row
+    → index_of runs (get_or starts k d) ≡ row.first
+start_index code runs starts k row d loaded there = (beside_it runs starts code.routines k row loaded.indexes there).1 d
 
 -- how many values a run adds
 pub length_run : (left skip passed count : ℕ) (firsts : List FirstRun) (run : ℕ) (first : FirstRun)
@@ -50,19 +50,19 @@ pub none_wanted : (xs : List Datum) (left : ℕ) → left ≡ 0 → length (take
 none_wanted xs left none = rw none refl
 
 -- the values and the frame of a routine that is there
-at_place : (code : CodeData) (runs : List FirstRun) (starts : List RunStart) (k : ℕ) (row : RoutineRow) (start : RunStart) → IsLoaded code runs starts → slice_get code.routines k ≡ Some row
-    → start ≡ get_or starts k start → place_of runs start ≡ row.first
-at_place code runs starts k row start loaded there is = ap (λ (s : RunStart). place_of runs s) is ∙ start_place code runs starts k row start loaded there
+at_index : (code : CodeData) (runs : List FirstRun) (starts : List RunStart) (k : ℕ) (row : RoutineRow) (start : RunStart) → IsLoaded code runs starts → slice_get code.routines k ≡ Some row
+    → start ≡ get_or starts k start → index_of runs start ≡ row.first
+at_index code runs starts k row start loaded there is = ap (λ (s : RunStart). index_of runs s) is ∙ start_index code runs starts k row start loaded there
 
 pub loaded_values : (code : CodeData) (runs firsts : List FirstRun) (starts : List RunStart) (k : ℕ) (row : RoutineRow) (start : RunStart) (own : ℕ)
     → IsLoaded code runs starts → slice_get code.routines k ≡ Some row → start ≡ get_or starts k start → firsts ≡ runs → own ≡ row.values - row.args
     → values_from firsts start own ≡ take (row.values - row.args) (drop row.first code.firsts)
 loaded_values code runs firsts starts k row start own loaded there is same most =
-    let place : place_of runs start ≡ row.first = at_place code runs starts k row start loaded there is in
-    rw (same, most, place, loaded.values) refl
+    let index : index_of runs start ≡ row.first = at_index code runs starts k row start loaded there is in
+    rw (same, most, index, loaded.values) refl
 
 pub loaded_frame : (code : CodeData) (runs firsts : List FirstRun) (starts : List RunStart) (k : ℕ) (row : RoutineRow) (start : RunStart) (own : ℕ) (args : List Datum)
     → IsLoaded code runs starts → slice_get code.routines k ≡ Some row → start ≡ get_or starts k start → firsts ≡ runs → own ≡ row.values - row.args
     → frame_from firsts start args own ≡ frame_in code row args
 loaded_frame code runs firsts starts k row start own args loaded there is same most =
-    rw (same, most) (frame_from-row code row args runs start (sym loaded.values) (at_place code runs starts k row start loaded there is))
+    rw (same, most) (frame_from-row code row args runs start (sym loaded.values) (at_index code runs starts k row start loaded there is))

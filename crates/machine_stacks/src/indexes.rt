@@ -4,7 +4,7 @@ ghost use Rattle.std.specs.Vec.{vec_capacity};
 ghost use Rattle.rapid_model.specs.declared.value.Value.TheVariants.{Num as OfNum};
 ghost use Rattle.typed_trees.specs.declared.datum.Datum.TheVariants.{Plain};
 ghost use Rattle.machine_stacks.specs.Cuts.{IsCut};
-ghost use Rattle.machine_stacks.specs.FrameStack.{bases_of, end_of, place_in, written};
+ghost use Rattle.machine_stacks.specs.FrameStack.{bases_of, end_of, index_in, written};
 
 use crate::held::Held;
 use crate::mark::Mark;
@@ -13,9 +13,9 @@ use std::mem;
 
 /// Where a value of a frame stands among so many values of all frames, by the number of frames below it and the place in it;
 /// none where the frame has none there.
-pub fn place_at(values: usize, marks: &[Mark], frame: usize, at: usize) -> Option<usize>
+pub fn index_at(values: usize, marks: &[Mark], frame: usize, at: usize) -> Option<usize>
     requires { IsCut values (bases_of (reverse marks.now)) }
-    ensures { result ≡ place_in values (reverse marks.now) frame at }
+    ensures { result ≡ index_in values (reverse marks.now) frame at }
 {
     if frame >= marks.len() {
         return None;
@@ -39,35 +39,35 @@ fn end_at(values: usize, marks: &[Mark], next: usize) -> usize
     }
 }
 
-/// The value at a place, if there is one.
-pub fn value_at(values: &[Held], place: Option<usize>) -> Option<&Held>
-    ensures { option_copied result ≡ option_and_then (slice_get values.now) place }
+/// The value at an index, if there is one.
+pub fn value_at(values: &[Held], index: Option<usize>) -> Option<&Held>
+    ensures { option_copied result ≡ option_and_then (slice_get values.now) index }
 {
-    match place {
-        Some(place) => values.get(place),
+    match index {
+        Some(index) => values.get(index),
         None => None,
     }
 }
 
-/// Puts a value at a place, if there is one. Takes no memory.
-pub fn write_at(values: &mut Vec<Held>, place: Option<usize>, datum: Held)
-    requires { IfSome place (λ p. p < vec_len values.old) }
-    ensures items { values.new.items ≡ written place datum values.old.items }
+/// Puts a value at an index, if there is one. Takes no memory.
+pub fn write_at(values: &mut Vec<Held>, index: Option<usize>, datum: Held)
+    requires { IfSome index (λ p. p < vec_len values.old) }
+    ensures items { values.new.items ≡ written index datum values.old.items }
     ensures capacity { vec_capacity values.new ≡ vec_capacity values.old }
 {
-    match place {
-        Some(place) => drop(mem::replace(&mut values[place], datum)),
+    match index {
+        Some(index) => drop(mem::replace(&mut values[index], datum)),
         None => drop(datum),
     }
 }
 
-/// Puts a num at a place, if there is one. Takes no memory.
-pub fn write_num_at(values: &mut Vec<Held>, place: Option<usize>, number: Num)
-    requires { IfSome place (λ p. p < vec_len values.old) }
-    ensures items { values.new.items ≡ written place (Plain (OfNum number)) values.old.items }
+/// Puts a num at an index, if there is one. Takes no memory.
+pub fn write_num_at(values: &mut Vec<Held>, index: Option<usize>, number: Num)
+    requires { IfSome index (λ p. p < vec_len values.old) }
+    ensures items { values.new.items ≡ written index (Plain (OfNum number)) values.old.items }
     ensures capacity { vec_capacity values.new ≡ vec_capacity values.old }
 {
-    if let Some(place) = place {
-        values[place].set_num(number);
+    if let Some(index) = index {
+        values[index].set_num(number);
     }
 }
