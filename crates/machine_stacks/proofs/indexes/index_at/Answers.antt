@@ -1,10 +1,10 @@
 use Rattle.std.proofs.Common.{reverse, sym, ◌∙◌, arith}
 use Rattle.std.proofs.lemmas.List.{length-reverse}
-use Rattle.machine_stacks.proofs.Placing.{Stands, behind, no_place, past, stands_at}
+use Rattle.machine_stacks.proofs.Placing.{Stands, behind, no_index, past, stands_at}
 use Rattle.machine_stacks.proofs.indexes.index_at.Goals as goal
 
 pub returns-then-frame-marks : goal.returns-then-frame-marks
-returns-then-frame-marks c = sym (no_place c.args.values (reverse c.args.marks.now) c.args.frame c.args.at (omega (arith, length-reverse c.args.marks.now)))
+returns-then-frame-marks c = sym (no_index c.args.values (reverse c.args.marks.now) c.args.frame c.args.at (omega (arith, length-reverse c.args.marks.now)))
 
 pub overflow_sub-end : goal.overflow_sub-end
 overflow_sub-end c =
