@@ -150,7 +150,7 @@ task_fits cell history actor (requests.Setpoint to) answer known is =
     move_fits cell history (part_of actor history) actor to stands.position answer (subst (λ (o : Option Joints). IsMoveAnswer cell history actor to o answer) stands.there is)
 task_fits cell history actor (requests.Connect old trap) answer known is =
     subst (λ (a : Answer). Fits cell (part_of actor history) (requests.Connect old trap) a) (sym is)
-    (number_fits cell (part_of actor history) (interrupts_of cell history actor) old trap (connect_answer (interrupts_of cell history actor) old) refl ((tasks_kept cell history known.asked).each actor known.may.within).sound.places)
+    (number_fits cell (part_of actor history) (interrupts_of cell history actor) old trap (connect_answer (interrupts_of cell history actor) old) refl ((tasks_kept cell history known.asked).each actor known.may.within).sound.count)
 task_fits cell history actor (requests.Order number on single) answer known is =
     subst (λ (a : Answer). Fits cell (part_of actor history) (requests.Order number on single) a) (sym is) (order_fits cell (part_of actor history) (requests.Order number on single) (connected_at (interrupts_of cell history actor).numbers number) refl refl refl)
 task_fits cell history actor (requests.Sleep number) answer known is =

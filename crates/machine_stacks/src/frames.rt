@@ -7,9 +7,9 @@ ghost use Rattle.machine_stacks.specs.Starts.{frame_from};
 
 use crate::first_values::append_firsts;
 use crate::held::Held;
+use crate::indexes::{index_at, value_at, write_at, write_num_at};
 use crate::mark::Mark;
 use crate::operands::Operands;
-use crate::indexes::{index_at, value_at, write_at, write_num_at};
 use crate::run_start::RunStart;
 use rapid_num::Num;
 use stack_code::FirstRun;
