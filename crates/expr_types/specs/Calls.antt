@@ -198,8 +198,8 @@ zone_need_of (Optional name held at) = zone_named name.text
 
 -- a need, where that of a world zone's variable is this one
 abbrev pub with_zone : Need → Need → Need
-with_zone zone needs.WorldZone = zone
-with_zone zone need = need
+with_zone variable needs.WorldZone = variable
+with_zone variable need = need
 
 -- a need in a call with these arguments
 abbrev pub need_in : PlainArgs → Need → Need
