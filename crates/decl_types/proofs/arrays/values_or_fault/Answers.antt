@@ -24,7 +24,7 @@ returns-in_err-value c =
     ∙ ap (λ os. values_or_fault site c.args.at c.args.sort (behind front os)) (sym (values_more known c.args.elements.now c.loop-element.element-index c.element-item.result c.loop-element-test.true c.element-item.is))
     ∙ c.loop-element.invariant.rest in
     let stops = subst (Fails c.in_err-value.field-0.0) same (stops_at site c.args.at c.args.sort front c.constant_value.result more _ c.in_err-value.ensures) in
-    let p = err_from_is_err_and c.from_residual.result c.from_residual.ensures.1 in
+    let p = err_from_is_err_and c.from_residual-in_err-value.result c.from_residual-in_err-value.ensures.1 in
     rw (p.1, p.2) stops
 
 pub loop-element-preserved : goal.loop-element-preserved
