@@ -21,7 +21,7 @@ use Rattle.rule_checks.specs.Checks.{◌>>=◌}
 use Rattle.rule_checks.specs.TypeChecks.{Checked}
 use Rattle.named_data.specs.declared.wanted.Wanted.TheVariants.{Is, Fits}
 use Rattle.expr_types.specs.Typing.{typed, sort_of}
-use Rattle.body_types.specs.Bodies.{Around, Body, Bounds, Typed, bounds, choices, counter_place, otherwise, site, stmt}
+use Rattle.body_types.specs.Bodies.{Around, Body, Bounds, Typed, bounds, choices, counter_index, otherwise, site, stmt}
 use Rattle.body_types.specs.Labels.{labels_in, labels_in_arms, labels_in_cases, labels_in_else, labels_of}
 use Rattle.body_types.specs.Parts.{arms_in, cases_in, else_in}
 use Rattle.body_types.proofs.Lists.{inside}
@@ -64,7 +64,7 @@ else_given body around next list other is = ap (λ o. otherwise body (raw_else_o
 
 -- a FOR, a WHILE and a TEST of these parts
 abbrev pub as_for : Body → ℕ → ℕ → Bounds → Typed Plain.TypedStmts → Checked (Typed Plain.TypedStmt)
-as_for body at loop b l = Ok (record { tree = Plain.For at (counter_place body loop) b.first b.last b.step l.tree; next = l.next })
+as_for body at loop b l = Ok (record { tree = Plain.For at (counter_index body loop) b.first b.last b.step l.tree; next = l.next })
 
 abbrev pub as_while : ℕ → Plain.TypedExpr → Typed Plain.TypedStmts → Checked (Typed Plain.TypedStmt)
 as_while at t l = Ok (record { tree = Plain.While at t l.tree; next = l.next })

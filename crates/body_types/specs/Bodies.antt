@@ -13,7 +13,7 @@ use Rattle.typed_trees.specs.Plain.{TypedExpr, TypedExprs, TypedPlace, TypedArgs
 use Rattle.rule_checks.specs.declared.rule.TypeRule.TheVariants.{NoName, NotThis, TypeClash, ReadOnly, NoLabel, LabelTwice, HandlerOnly, ReturnKind}
 use Rattle.data_scopes.specs.declared.meant.Meant.{Meant}
 use Rattle.data_scopes.specs.declared.meant.Meant.TheVariants as meants
-use Rattle.data_scopes.specs.Called.{kind_of, params_of, places_of, result_of}
+use Rattle.data_scopes.specs.Called.{kind_of, params_of, data_count_of, result_of}
 use Rattle.rule_checks.specs.Checks.{◌>>=◌, must}
 use Rattle.rule_checks.specs.TypeChecks.{Checked}
 use Rattle.data_scopes.specs.Scopes.{Names}
@@ -174,8 +174,8 @@ bounds s first last step =
     Ok (record { first = f; last = l; step = t }))))
 
 -- the place of a FOR's variable, behind the parameters and data of its routine
-abbrev pub counter_place : Body → ℕ → ℕ
-counter_place body loop = places_of body.names.rows (Some body.routine) + loop
+abbrev pub counter_index : Body → ℕ → ℕ
+counter_index body loop = data_count_of body.names.rows (Some body.routine) + loop
 
 -- the values of a CASE, of the type of the tested one
 abbrev pub case_values : Site → Sort → List PlainExpr → Checked TypedExprs
@@ -215,7 +215,7 @@ unfoldable mutual
   stmt body (For at name first last step list) around next =
       bounds (site body around at) first last step >>= (λ b.
       stmts body list (into_loop around next list) (next + 1) >>= (λ l.
-      Ok (record { tree = Plain.For at (counter_place body next) b.first b.last b.step l.tree; next = l.next })))
+      Ok (record { tree = Plain.For at (counter_index body next) b.first b.last b.step l.tree; next = l.next })))
   stmt body (While at test list) around next =
       typed (site body around at) test (Is sorts.Bool) >>= (λ t.
       stmts body list (into around list) next >>= (λ l. Ok (record { tree = Plain.While at t l.tree; next = l.next })))

@@ -7,7 +7,7 @@ mod body;
 mod bounds;
 mod calls;
 mod case_values;
-mod counter_place;
+mod counter_index;
 mod jumps;
 mod label_list;
 mod labels;

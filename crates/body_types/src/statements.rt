@@ -18,7 +18,7 @@ use crate::body::Body;
 use crate::bounds::bounds_of;
 use crate::calls::{called, connected};
 use crate::case_values::case_values;
-use crate::counter_place::counter_place;
+use crate::counter_index::counter_index;
 use crate::jumps::{jumped, labelled};
 use crate::labels::{has_labels, levels_within, own_labels};
 use crate::returns::{in_handler, raised, returned};
@@ -97,7 +97,7 @@ fn stmt<'b>(
         }
         RawForm::For { bounds, list, .. } => {
             let bounds = bounds_of(&site, bounds)?;
-            let local = counter_place(body, next)?;
+            let local = counter_index(body, next)?;
             let list = inner(list, body, &around.in_loop(next), number_after(next)?)?;
             let tree = Stmt::count(body.alloc, at, local, bounds, list.list)?;
             Ok(with_next(list.next, tree))

@@ -15,7 +15,7 @@ use Rattle.cell_meaning.specs.Premises.{StartsFull}
 use Rattle.rapid_model.proofs.Cuts.{cut_none}
 use Rattle.cell_core.specs.Actors.{before, actor_at}
 use Rattle.cell_core.specs.Boards.{BoardData, actors_of, boards_of}
-use Rattle.cell_core.specs.Keeping.{Tells, Keeps, ends_told}
+use Rattle.cell_core.specs.Keeping.{Tells, Keeps, fates_count}
 use Rattle.cell_core.specs.Soundness.{IsServed}
 use Rattle.cell_core.specs.declared.actor.Actor.{Actor}
 
@@ -46,9 +46,9 @@ starts_told cell number = record {
   made = refl;
 }
 
-none_told : (rows : List TaskRow) → ends_told (actors_of rows) ≡ 0
-none_told [] = refl
-none_told (row ∷ rows) = omega (arith, sum_by-cons (λ (a : Actor). cond (is_some a.end) 1 0) (before row.arm) (actors_of rows), none_told rows)
+no_fate : (rows : List TaskRow) → fates_count (actors_of rows) ≡ 0
+no_fate [] = refl
+no_fate (row ∷ rows) = omega (arith, sum_by-cons (λ (a : Actor). cond (is_some a.end) 1 0) (before row.arm) (actors_of rows), no_fate rows)
 
 same_rows : (rows : List PersCell) → (map (λ (r : PersData). r.sort) (map first_row rows) ≡ map (λ (r : PersCell). r.sort) rows) × (map (λ (r : PersData). r.len) (map first_row rows) ≡ map (λ (r : PersCell). r.len) rows)
 same_rows [] = (refl, refl)
@@ -78,5 +78,5 @@ Keeps-none cell boards steps limits full are steps_are = subst (λ (b : BoardDat
   within = omega arith;
   script_on = ap (λ (a : Actor). a.end) (actor_starts cell.tasks (length cell.tasks) (omega arith));
   inputs_within = omega (arith, ap (λ (a : Actor). a.events) (actor_starts cell.tasks (length cell.tasks) (omega arith)));
-  events = omega (arith, none_told cell.tasks, ap (λ (a : Actor). a.events) (actor_starts cell.tasks (length cell.tasks) (omega arith)));
+  events = omega (arith, no_fate cell.tasks, ap (λ (a : Actor). a.events) (actor_starts cell.tasks (length cell.tasks) (omega arith)));
 })

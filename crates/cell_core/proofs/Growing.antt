@@ -7,7 +7,7 @@ use Rattle.std.proofs.lemmas.List.{get_or-set_same, get_or-set_other, map-set}
 use Rattle.std.proofs.lemmas.List.Sums.{sum_by-set, count_by-le-length}
 use Rattle.rapid_num.specs.declared.joints.Joints.{Joints}
 use Rattle.rapid_model.specs.CellData.{CellData}
-use Rattle.rapid_model.specs.Own.{part_of, end_of, fate_told, is_held, is_trap, is_leave}
+use Rattle.rapid_model.specs.Own.{part_of, end_of, fate_of, is_held, is_trap, is_leave}
 use Rattle.rapid_model.specs.Requests.{suits_task}
 use Rattle.rapid_model.specs.declared.answer.Answer.{Answer}
 use Rattle.rapid_model.specs.declared.answer.Answer.TheVariants as answers
@@ -41,7 +41,7 @@ use Rattle.cell_meaning.proofs.MoreEvents.{part_of-own, part_of-other, end_of-mo
 use Rattle.cell_core.specs.Actors.{one_if, actor_with, actor_at, before}
 use Rattle.cell_core.specs.Boards.{BoardData, elements_of, put_in, store_with, change_on, boards_with}
 use Rattle.cell_core.specs.Changes.{watched_of, is_some_change}
-use Rattle.cell_core.specs.Keeping.{Tells, Keeps, ends_told}
+use Rattle.cell_core.specs.Keeping.{Tells, Keeps, fates_count}
 use Rattle.cell_core.specs.Ready.{CanAnswer}
 use Rattle.cell_core.specs.Soundness.{IsSound, IsServed}
 use Rattle.cell_core.specs.declared.actor.Actor.{Actor}
@@ -61,7 +61,7 @@ Tells-own cell history e actor changes tells =
     let mine = part_of-own e.actor history e refl in
     record {
       arm = ap (λ (arm : Option Joints). option_map (λ position. moved position e.request e.answer) arm) tells.arm ∙ sym (arm_after-own cell history e);
-      end = ap (λ (told : Option Fate). option_or told (fate_told e.request)) tells.end ∙ sym (end_of-more (part_of e.actor history) e) ∙ sym (ap end_of mine);
+      end = ap (λ (told : Option Fate). option_or told (fate_of e.request)) tells.end ∙ sym (end_of-more (part_of e.actor history) e) ∙ sym (ap end_of mine);
       held = sym (is_held-more (part_of e.actor history) e) ∙ sym (ap is_held mine);
       seen = ap (λ (seen : ℕ). seen_with seen e.request) tells.seen ∙ sym (seen_after-own history e);
       given = ap (λ (n : ℕ). n + one_if (is_given e.request e.answer)) tells.given ∙ sym (setpoints_given-own history e);
@@ -145,23 +145,23 @@ count_within cell history served request same few left = by (is_counted request)
     by false h = omega (arith, few)
 
 -- each event is counted, or ended its task, or is an input
-pub none_told : (told : Option Fate) → is_some told ≡ false → told ≡ None
-none_told None h = refl
-none_told (Some fate) h = cc
+pub no_fate : (told : Option Fate) → is_some told ≡ false → told ≡ None
+no_fate None h = refl
+no_fate (Some fate) h = cc
 
 -- how many ends are told, and how many steps the input script did
 pub record Counts (actors after : List Actor) (script : ℕ) (request : Request) (inputs : ℕ) : Type 0 where
   pub script_on : (actor_at after script).end ≡ None
   pub inputs_within : (actor_at after script).events ≤ inputs
-  pub ends : ends_told after + (actor_at after script).events + one_if (is_counted request) ≡ ends_told actors + (actor_at actors script).events + 1
+  pub ends : fates_count after + (actor_at after script).events + one_if (is_counted request) ≡ fates_count actors + (actor_at actors script).events + 1
 
-one_of_both : (cell : CellData) (row : TaskRow) (mine : List Event) (request : Request) → suits_task cell row mine request ≡ true → one_if (is_counted request) + one_if (is_some (fate_told request)) ≡ 1
+one_of_both : (cell : CellData) (row : TaskRow) (mine : List Event) (request : Request) → suits_task cell row mine request ≡ true → one_if (is_counted request) + one_if (is_some (fate_of request)) ≡ 1
 one_of_both cell row mine (requests.Input index) suits = absurd (false≢true suits)
 one_of_both cell row mine (requests.End fate) suits = refl
 one_of_both cell row mine _ suits = refl
 
 ends_more : (actors : List Actor) (number : ℕ) (now : Actor) → number < length actors
-    → ends_told (set actors number now) + one_if (is_some (actor_at actors number).end) ≡ ends_told actors + one_if (is_some now.end)
+    → fates_count (set actors number now) + one_if (is_some (actor_at actors number).end) ≡ fates_count actors + one_if (is_some now.end)
 ends_more actors number now within = sum_by-set (λ (a : Actor). cond (is_some a.end) 1 0) actors number now (before None) within
 
 task_counts : (cell : CellData) (history : List Event) (actors : List Actor) (changes : ℕ) (changed : Bool) (actor : ℕ) (request : Request) (answer : Answer) → length actors ≡ length cell.tasks + 1
@@ -169,9 +169,9 @@ task_counts : (cell : CellData) (history : List Event) (actors : List Actor) (ch
     → Counts actors (set actors actor (actor_with (actor_at actors actor) changed request answer)) (length cell.tasks) request (length cell.inputs)
 task_counts cell history actors changes changed actor request answer count tells on few may =
     let now = actor_with (actor_at actors actor) changed request answer in
-    let alive : (actor_at actors actor).end ≡ None = tells.end ∙ none_told (end_of (part_of actor history)) may.alive in
+    let alive : (actor_at actors actor).end ≡ None = tells.end ∙ no_fate (end_of (part_of actor history)) may.alive in
     let was : one_if (is_some (actor_at actors actor).end) ≡ 0 = ap (λ (told : Option Fate). one_if (is_some told)) alive in
-    let is : one_if (is_some now.end) ≡ one_if (is_some (fate_told request)) = ap (λ (told : Option Fate). one_if (is_some (option_or told (fate_told request)))) alive in
+    let is : one_if (is_some now.end) ≡ one_if (is_some (fate_of request)) = ap (λ (told : Option Fate). one_if (is_some (option_or told (fate_of request)))) alive in
     let apart : length cell.tasks ≡ actor → ⊥ = λ same. absurd (omega (arith, may.within, same)) in
     let stays = get_or-set_other actors actor (length cell.tasks) now (before None) apart in
     let script : (actor_at (set actors actor now) (length cell.tasks)).events ≡ (actor_at actors (length cell.tasks)).events = ap (λ (a : Actor). a.events) stays in
@@ -192,7 +192,7 @@ script_counts cell history actors changes changed actor request answer count tel
     ap (λ (k : ℕ). (actor_at (set actors actor now) k).events) (sym may.script) ∙ ap (λ (a : Actor). a.events) (get_or-set_same actors actor now (before None) within) in
     let was : (actor_at actors (length cell.tasks)).events ≡ (actor_at actors actor).events = ap (λ (k : ℕ). (actor_at actors k).events) (sym may.script) in
     let kept : now.end ≡ (actor_at actors actor).end =
-    ap (λ (r : Request). option_or (actor_at actors actor).end (fate_told r)) may.next ∙ or_none (actor_at actors actor).end in
+    ap (λ (r : Request). option_or (actor_at actors actor).end (fate_of r)) may.next ∙ or_none (actor_at actors actor).end in
     record {
       script_on = ap (λ (k : ℕ). (actor_at (set actors actor now) k).end) (sym may.script) ∙ ap (λ (a : Actor). a.end) (get_or-set_same actors actor now (before None) within)
           ∙ kept ∙ ap (λ (k : ℕ). (actor_at actors k).end) may.script ∙ on;
@@ -252,7 +252,7 @@ Keeps-more cell history boards steps e keeps now can =
     actor_within (inr script) = omega (arith, script.script)
 
 -- no more than one event for each step of the run, each task and each step of the input script, which tells no fate
-few_ends : (actors : List Actor) (tasks : ℕ) → length actors ≡ tasks + 1 → (actor_at actors tasks).end ≡ None → ends_told actors ≤ tasks
+few_ends : (actors : List Actor) (tasks : ℕ) → length actors ≡ tasks + 1 → (actor_at actors tasks).end ≡ None → fates_count actors ≤ tasks
 few_ends actors tasks count on =
     let told : Actor = record (before None) { end = Some fates.Done } in
     let none : one_if (is_some (actor_at actors tasks).end) ≡ 0 = ap (λ (end : Option Fate). one_if (is_some end)) on in

@@ -21,7 +21,7 @@ use Rattle.cell_meaning.proofs.Lists.{written_keeps}
 use Rattle.cell_core.specs.Actors.{actor_at}
 use Rattle.cell_core.specs.Boards.{BoardData, asked_on}
 use Rattle.cell_core.specs.Keeping.{Keeps}
-use Rattle.cell_core.specs.Reading.{all_told, all_stand, can_go_on, fates_of, standing}
+use Rattle.cell_core.specs.Reading.{all_have_fates, all_stand, can_go_on, fates_of, standing}
 use Rattle.cell_core.specs.Ready.{CanCount}
 use Rattle.cell_core.specs.Soundness.{IsServed}
 use Rattle.cell_core.specs.Answering.{IsAnswerOn}
@@ -32,8 +32,8 @@ use Rattle.cell_core.proofs.Ready.{all_answered, actor_there, filter_short}
 next : (n : ℕ) → n + 1 ≡ suc n
 next n = omega arith
 
-pub told_more : (n : ℕ) (actors : List Actor) → all_told (n + 1) actors ≡ (all_told n actors && is_some (actor_at actors n).end)
-told_more n actors = ap (λ (k : ℕ). all_told k actors) (next n)
+pub more_have_fates : (n : ℕ) (actors : List Actor) → all_have_fates (n + 1) actors ≡ (all_have_fates n actors && is_some (actor_at actors n).end)
+more_have_fates n actors = ap (λ (k : ℕ). all_have_fates k actors) (next n)
 
 pub stand_more : (n : ℕ) (boards : BoardData) → all_stand (n + 1) boards
     ≡ (all_stand n boards && (is_some (actor_at boards.actors n).end || ((actor_at boards.actors n).held && not (can_go_on boards n))))

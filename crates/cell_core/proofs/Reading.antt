@@ -20,7 +20,7 @@ use Rattle.cell_meaning.specs.Stored.{signals_after}
 use Rattle.cell_core.specs.Actors.{actor_at}
 use Rattle.cell_core.specs.Boards.{BoardData}
 use Rattle.cell_core.specs.Keeping.{Keeps}
-use Rattle.cell_core.specs.Reading.{all_told, can_go_on, all_stand, is_passed, standing, fates_of}
+use Rattle.cell_core.specs.Reading.{all_have_fates, can_go_on, all_stand, is_passed, standing, fates_of}
 use Rattle.cell_core.specs.Ready.{CanPass}
 use Rattle.cell_core.specs.Answering.{made_by_others}
 use Rattle.cell_core.proofs.Answering.{others_made}
@@ -30,7 +30,7 @@ pub ended_is : (cell : CellData) (history : List Event) (boards : BoardData) (st
 ended_is cell history boards steps number keeps within = ap (λ (told : Option Fate). is_some told) (keeps.actors number within).end
 
 pub all_ended_is : (cell : CellData) (history : List Event) (boards : BoardData) (steps tasks : ℕ) → Keeps cell history boards steps → tasks ≤ length cell.tasks
-    → all_told tasks boards.actors ≡ all_ended tasks history
+    → all_have_fates tasks boards.actors ≡ all_ended tasks history
 all_ended_is cell history boards steps zero keeps within = refl
 all_ended_is cell history boards steps (suc tasks) keeps within =
     ap (λ (b : Bool). b && is_some (actor_at boards.actors tasks).end) (all_ended_is cell history boards steps tasks keeps (omega arith))

@@ -2,7 +2,7 @@
 use Rattle.std.specs.Prelude.{ℕ, ◌+◌, Bool, false, List, Option, None, option_map, slice_index_or, if◌then◌else◌}
 use Rattle.std.specs.Option.{option_or}
 use Rattle.rapid_num.specs.declared.joints.Joints.{Joints}
-use Rattle.rapid_model.specs.Own.{fate_told, is_hold, is_leave, is_trap}
+use Rattle.rapid_model.specs.Own.{fate_of, is_hold, is_leave, is_trap}
 use Rattle.rapid_model.specs.declared.answer.Answer.{Answer}
 use Rattle.rapid_model.specs.declared.request.Request.{Request}
 use Rattle.cell_meaning.specs.Motion.{moved, is_given}
@@ -21,7 +21,7 @@ before arm = record { arm = arm; end = None; held = false; seen = 0; given = 0; 
 abbrev pub actor_with : Actor → Bool → Request → Answer → Actor
 actor_with actor changes request answer = record {
   arm = option_map (λ position. moved position request answer) actor.arm;
-  end = option_or actor.end (fate_told request);
+  end = option_or actor.end (fate_of request);
   held = is_hold request;
   seen = seen_with actor.seen request;
   given = actor.given + one_if (is_given request answer);

@@ -35,8 +35,8 @@ AreOfCell cell boards =
     (map (λ row. row.sort) boards.store ≡ map (λ row. row.sort) cell.pers) × (map (λ row. row.len) boards.store ≡ map (λ row. row.len) cell.pers)
 
 -- how many actors have told their fates
-abbrev pub ends_told : List Actor → ℕ
-ends_told actors = count_by (λ actor. is_some actor.end) actors
+abbrev pub fates_count : List Actor → ℕ
+fates_count actors = count_by (λ actor. is_some actor.end) actors
 
 -- each board tells what the history tells; each event is counted, or an input, or ended its task
 pub record Keeps (cell : CellData) (history : List Event) (boards : BoardData) (steps : ℕ) : Type 0 where
@@ -57,7 +57,7 @@ pub record Keeps (cell : CellData) (history : List Event) (boards : BoardData) (
   pub within : boards.counted ≤ steps
   pub script_on : (actor_at boards.actors (length cell.tasks)).end ≡ None
   pub inputs_within : (actor_at boards.actors (length cell.tasks)).events ≤ length cell.inputs
-  pub events : length history ≡ boards.counted + ends_told boards.actors + (actor_at boards.actors (length cell.tasks)).events
+  pub events : length history ≡ boards.counted + fates_count boards.actors + (actor_at boards.actors (length cell.tasks)).events
 
 -- room for every event of a run, and for a fate of each task, none of which is told yet
 pub record HasRoom (cell : CellData) (event_room fate_room : ℕ) : Type 0 where

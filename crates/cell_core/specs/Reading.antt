@@ -13,9 +13,9 @@ use Rattle.cell_core.specs.Answering.{made_by_others}
 use Rattle.cell_core.specs.declared.actor.Actor.{Actor}
 
 -- each of so many tasks, from 0, has told its fate
-abbrev pub all_told : ℕ → List Actor → Bool
-all_told zero actors = true
-all_told (suc tasks) actors = all_told tasks actors && is_some (actor_at actors tasks).end
+abbrev pub all_have_fates : ℕ → List Actor → Bool
+all_have_fates zero actors = true
+all_have_fates (suc tasks) actors = all_have_fates tasks actors && is_some (actor_at actors tasks).end
 
 -- others made changes since the task was held last, or a trap is to run
 abbrev pub can_go_on : BoardData → ℕ → Bool

@@ -1,6 +1,6 @@
 ghost use Rattle.std.specs.Prelude.{◌≡◌, ◌+◌, ◌<◌, ◌^◌, option_map};
 ghost use Rattle.std.specs.Option.{option_or};
-ghost use Rattle.rapid_model.specs.Own.{fate_told, is_hold, is_leave, is_trap};
+ghost use Rattle.rapid_model.specs.Own.{fate_of, is_hold, is_leave, is_trap};
 ghost use Rattle.cell_meaning.specs.Motion.{is_given, moved};
 ghost use Rattle.cell_meaning.specs.Rising.{seen_with};
 ghost use Rattle.cell_core.specs.Actors.{actor_with, before, one_if};
@@ -79,7 +79,7 @@ fn go_on(arm: &mut Option<Joints>, request: &Request, answer: &Answer)
 }
 
 fn end_after(end: Option<Fate>, request: &Request) -> Option<Fate>
-    ensures { result ≡ option_or end (fate_told request.now) }
+    ensures { result ≡ option_or end (fate_of request.now) }
 {
     match (end, request) {
         (None, Request::End { fate }) => Some(*fate),

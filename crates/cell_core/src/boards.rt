@@ -5,7 +5,7 @@ ghost use Rattle.cell_meaning.specs.Counted.{is_counted};
 ghost use Rattle.cell_meaning.specs.Stored.{value_at};
 ghost use Rattle.cell_core.specs.Actors.{actor_at};
 ghost use Rattle.cell_core.specs.Boards.{boards_of, boards_with, elements_at, tallied};
-ghost use Rattle.cell_core.specs.Reading.{all_stand, all_told, can_go_on, is_passed};
+ghost use Rattle.cell_core.specs.Reading.{all_stand, all_have_fates, can_go_on, is_passed};
 ghost use Rattle.cell_core.specs.Ready.{CanAnswer, CanCount, CanPass, HasPart};
 ghost use Rattle.cell_core.specs.Answering.{Answers, IsAnswerOn, made_by_others};
 
@@ -200,19 +200,19 @@ impl Boards {
     }
 
     /// Whether each of so many tasks has told its fate.
-    #[tactic(auto, using(crate::proofs::Looks::told_more))]
-    pub(crate) fn all_told(&self, tasks: u32) -> bool
+    #[tactic(auto, using(crate::proofs::Looks::more_have_fates))]
+    pub(crate) fn all_have_fates(&self, tasks: u32) -> bool
         requires { tasks ≤ length self.now.actors }
-        ensures { result ≡ all_told tasks self.now.actors }
+        ensures { result ≡ all_have_fates tasks self.now.actors }
     {
         let mut all = true;
         for task in 0..tasks {
-            all = both(all, self.has_told(task));
+            all = both(all, self.has_fate(task));
         }
         all
     }
 
-    fn has_told(&self, task: u32) -> bool
+    fn has_fate(&self, task: u32) -> bool
         requires { task < length self.now.actors }
         ensures { result ≡ is_some (actor_at self.now.actors task).end }
     {

@@ -31,7 +31,7 @@ pub(crate) fn allows(cell: &Cell, row: &TaskRow, trapped: bool, request: &Reques
         Request::ZoneFree { .. } => row.arm.is_some(),
         Request::Arrive { meeting, tasks } => may_meet(cell, *meeting, *tasks),
         Request::Input { .. } => false,
-        Request::End { fate } => may_be_told(*fate),
+        Request::End { fate } => may_be_fate(*fate),
         _ => true,
     }
 }
@@ -108,7 +108,7 @@ fn may_meet(cell: &Cell, meeting: u32, tasks: u16) -> bool
     (meeting as usize) < cell.meetings().len() && u32::from(tasks) < 2_u32.pow(count)
 }
 
-fn may_be_told(fate: Fate) -> bool
+fn may_be_fate(fate: Fate) -> bool
     ensures { result ≡ may_tell fate }
 {
     match fate {

@@ -222,7 +222,7 @@ impl Core {
     pub fn all_ended(&self) -> bool
         ensures { result ≡ all_ended (length self.now.cell.tasks) self.now.history }
     {
-        self.boards.all_told(self.tasks)
+        self.boards.all_have_fates(self.tasks)
     }
 
     /// Whether a task has not ended, and no steps are left.

@@ -3,7 +3,7 @@ use Rattle.std.proofs.Common.{◌≡◌, ℕ, ◌<◌, true, false, List, [], �
 use Rattle.std.specs.Prelude.{◌↔◌, IsSome, IsSomeAnd, is_some}
 use Rattle.std.proofs.lemmas.Bool.{false≢true}
 use Rattle.rapid_model.specs.CellData.{CellData}
-use Rattle.rapid_model.specs.Own.{part_of, answers_of, fate_told, has_ended}
+use Rattle.rapid_model.specs.Own.{part_of, answers_of, fate_of, has_ended}
 use Rattle.rapid_model.specs.declared.answer.Answer.{Answer}
 use Rattle.rapid_model.specs.declared.event.Event.{Event}
 use Rattle.rapid_model.specs.declared.request.Request.{Request}
@@ -13,7 +13,7 @@ use Rattle.cell_meaning.specs.Counted.{can_be_served}
 use Rattle.cell_meaning.specs.Histories.{Follows, IsLegal}
 use Rattle.cell_meaning.specs.Turns.{TakesTurn}
 use Rattle.cell_meaning.proofs.MoreEvents.{part_of-own}
-use Rattle.cell_core.proofs.Growing.{none_told}
+use Rattle.cell_core.proofs.Growing.{no_fate}
 use Rattle.cell_crew.specs.Crew.{RunsProgram}
 use Rattle.cell_crew.specs.UnderWay.{UnderWay}
 use Rattle.cell_crew.specs.Turned.{event_of, CannotFollow, CameOf}
@@ -81,15 +81,15 @@ module _ {M P : Type 0} (program : M → P) (fits : P → List Answer → Type 0
 
   -- whether it has ended with that event
   ends_it : (asks : Asking) (cell : CellData) (task : ℕ) (m : M) (history after : List Event) (request : Request) (answer : Answer) → AtTurn asks cell task m history request
-      → after ≡ history ++ event_of task request answer ∷ [] → has_ended (part_of task after) ≡ is_some (fate_told request)
+      → after ≡ history ++ event_of task request answer ∷ [] → has_ended (part_of task after) ≡ is_some (fate_of request)
   ends_it asks cell task m history after request answer at is =
       ap (λ (es : List Event). has_ended es) (own_more task history after request answer is) ∙ ended_more (part_of task history) (event_of task request answer) at.going
 
   -- where it has not, its End was not due
   pub goes_on_it : (asks : Asking) (cell : CellData) (task : ℕ) (m : M) (history after : List Event) (request : Request) (answer : Answer) → AtTurn asks cell task m history request
-      → after ≡ history ++ event_of task request answer ∷ [] → has_ended (part_of task after) ≡ false → IsSomeAnd (due m) (λ r. fate_told r ≡ None)
+      → after ≡ history ++ event_of task request answer ∷ [] → has_ended (part_of task after) ≡ false → IsSomeAnd (due m) (λ r. fate_of r ≡ None)
   goes_on_it asks cell task m history after request answer at is going =
-      subst (λ (o : Option Request). IsSomeAnd o (λ r. fate_told r ≡ None)) (sym at.is_due) (none_told (fate_told request) (sym (ends_it asks cell task m history after request answer at is) ∙ going))
+      subst (λ (o : Option Request). IsSomeAnd o (λ r. fate_of r ≡ None)) (sym at.is_due) (no_fate (fate_of request) (sym (ends_it asks cell task m history after request answer at is) ∙ going))
 
   -- where it has, its machine is under way as it is
   pub way_ends : (asks : Asking) (cell : CellData) (task : ℕ) (m : M) (history after : List Event) (request : Request) (answer : Answer) → AtTurn asks cell task m history request

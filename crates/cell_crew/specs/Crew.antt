@@ -2,7 +2,7 @@
 use Rattle.std.specs.Prelude.{◌≡◌, ◌↔◌, ℕ, List, length, map, filter, Some, slice_get, is_none}
 use Rattle.std.specs.List.{AllByRecursion}
 use Rattle.rapid_model.specs.CellData.{CellData}
-use Rattle.rapid_model.specs.Own.{part_of, answers_of, fate_told}
+use Rattle.rapid_model.specs.Own.{part_of, answers_of, fate_of}
 use Rattle.rapid_model.specs.declared.answer.Answer.{Answer}
 use Rattle.rapid_model.specs.declared.event.Event.{Event}
 use Rattle.rapid_model.specs.declared.request.Request.{Request}
@@ -26,7 +26,7 @@ pub record RunPrograms {P : Type 0} (fits : P → List Answer → Type 0) (progr
 
 -- the answers that a task got, but that to its End
 abbrev pub answers_before_end : List Event → List Answer
-answers_before_end mine = map (λ e. e.answer) (filter (λ e. is_none (fate_told e.request)) mine)
+answers_before_end mine = map (λ e. e.answer) (filter (λ e. is_none (fate_of e.request)) mine)
 
 -- each machine stands for its task's answers in the history, the answer to its End left out
 pub record Stand {M : Type 0} (stands_for : M → List Answer → Type 0) (machines : List M) (history : List Event) : Type 0 where

@@ -9,7 +9,7 @@ use Rattle.std.proofs.lemmas.List.Elements.{filter-append}
 use Rattle.std.proofs.lemmas.List.Sums.{fold-append, sum_by-append}
 use Rattle.rapid_num.specs.declared.joints.Joints.{Joints}
 use Rattle.rapid_model.specs.CellData.{CellData}
-use Rattle.rapid_model.specs.Own.{part_of, fate_told, end_of}
+use Rattle.rapid_model.specs.Own.{part_of, fate_of, end_of}
 use Rattle.rapid_model.specs.declared.event.Event.{Event}
 use Rattle.rapid_model.specs.declared.fate.Fate.{Fate}
 use Rattle.sync_tasks.specs.Meetings.{before_all as no_stands}
@@ -48,10 +48,10 @@ option_or-assoc None b c = refl
 option_or-assoc (Some x) b c = refl
 
 -- the first fate told stays
-pub end_of-more : (es : List Event) (e : Event) → end_of (es ++ e ∷ []) ≡ option_or (end_of es) (fate_told e.request)
-end_of-more [] e = option_or-None (fate_told e.request)
+pub end_of-more : (es : List Event) (e : Event) → end_of (es ++ e ∷ []) ≡ option_or (end_of es) (fate_of e.request)
+end_of-more [] e = option_or-None (fate_of e.request)
 end_of-more (f ∷ es) e =
-    ap (λ (told : Option Fate). option_or (fate_told f.request) told) (end_of-more es e) ∙ option_or-assoc (fate_told f.request) (end_of es) (fate_told e.request)
+    ap (λ (told : Option Fate). option_or (fate_of f.request) told) (end_of-more es e) ∙ option_or-assoc (fate_of f.request) (end_of es) (fate_of e.request)
 
 pub arm_along-more : (position : Joints) (es : List Event) (e : Event) → arm_along position (es ++ e ∷ []) ≡ moved (arm_along position es) e.request e.answer
 arm_along-more position [] e = refl

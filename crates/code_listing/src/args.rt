@@ -35,7 +35,7 @@ pub(crate) fn push_args(op: &Op, line: &mut ArrayString<400>)
         Op::Binary(operator) => push_word(operator_name(*operator), line),
         Op::Unary(operator) => push_word(unary_name(*operator), line),
         Op::Func(function) => push_word(function_name(*function), line),
-        Op::Turn(number, place) | Op::Step(number, place) => push_two(*number, *place, line),
+        Op::Turn(number, pc) | Op::Step(number, pc) => push_two(*number, *pc, line),
         Op::Order(on, single) => push_order(*on, *single, line),
         Op::Irq(irq) => push_word(irq_name(*irq), line),
         Op::Shape(inside, home) => push_truths(*inside, *home, line),
@@ -98,12 +98,12 @@ fn push_number(number: u32, line: &mut ArrayString<400>)
 }
 
 /// Appends two numbers, each after a space.
-fn push_two(number: u32, place: u32, line: &mut ArrayString<400>)
+fn push_two(number: u32, pc: u32, line: &mut ArrayString<400>)
     requires room { length line.old.bytes + 100 ≤ 400 }
-    ensures { line.new.bytes ≡ line.old.bytes ++ (number_word number ++ number_word place) }
+    ensures { line.new.bytes ≡ line.old.bytes ++ (number_word number ++ number_word pc) }
 {
     push_number(number, line);
-    push_number(place, line);
+    push_number(pc, line);
 }
 
 /// Appends two truths, each after a space.

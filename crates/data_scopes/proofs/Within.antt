@@ -106,26 +106,26 @@ module _ (n : Counts) where
       within_task (after_item c item) items _ le
       (mean_if (IsWithin n) _ _ (is_local item) all (mean_declare (IsWithin n) (item_name item).text (item_meant c item) scope (within_more _ n (item_meant c item) grows (within_item c item)) all))
 
-  within_param : (place : ℕ) (mode : Mode) → IsWithin n (param_meant place mode)
-  within_param place modes.Value = tt
-  within_param place modes.Inout = tt
-  within_param place modes.Var = tt
-  within_param place modes.Pers = tt
+  within_param : (index : ℕ) (mode : Mode) → IsWithin n (param_meant index mode)
+  within_param index modes.Value = tt
+  within_param index modes.Inout = tt
+  within_param index modes.Var = tt
+  within_param index modes.Pers = tt
 
-  within_params : (place : ℕ) (ps : List PlainParam) (scope : Scope) → Mean (IsWithin n) scope → Mean (IsWithin n) (declare_params place ps scope)
-  within_params place [] scope all = all
-  within_params place (p ∷ ps) scope all =
-      within_params (place + 1) ps _ (mean_declare (IsWithin n) p.name.text (param_meant place p.mode) scope (within_param place p.mode) all)
+  within_params : (index : ℕ) (ps : List PlainParam) (scope : Scope) → Mean (IsWithin n) scope → Mean (IsWithin n) (declare_params index ps scope)
+  within_params index [] scope all = all
+  within_params index (p ∷ ps) scope all =
+      within_params (index + 1) ps _ (mean_declare (IsWithin n) p.name.text (param_meant index p.mode) scope (within_param index p.mode) all)
 
-  within_local : (place consts : ℕ) (b : Bool) → consts + (if b then 1 else 0) ≤ n.consts → IsWithin n (if b then meants.Const consts else meants.Local place)
-  within_local place consts true le = omega arith
-  within_local place consts false le = tt
+  within_local : (index consts : ℕ) (b : Bool) → consts + (if b then 1 else 0) ≤ n.consts → IsWithin n (if b then meants.Const consts else meants.Local index)
+  within_local index consts true le = omega arith
+  within_local index consts false le = tt
 
-  within_locals : (place consts : ℕ) (ds : List PlainDatum) (scope : Scope) → consts + scalar_consts ds ≤ n.consts → Mean (IsWithin n) scope → Mean (IsWithin n) (declare_locals place consts ds scope)
-  within_locals place consts [] scope le all = all
-  within_locals place consts (d ∷ ds) scope le all =
-      within_locals (place + 1) (consts + (if is_scalar_const d then 1 else 0)) ds _ (omega arith)
-      (mean_declare (IsWithin n) d.name.text (local_meant place consts d) scope (within_local place consts (is_scalar_const d) (omega arith)) all)
+  within_locals : (index consts : ℕ) (ds : List PlainDatum) (scope : Scope) → consts + scalar_consts ds ≤ n.consts → Mean (IsWithin n) scope → Mean (IsWithin n) (declare_locals index consts ds scope)
+  within_locals index consts [] scope le all = all
+  within_locals index consts (d ∷ ds) scope le all =
+      within_locals (index + 1) (consts + (if is_scalar_const d then 1 else 0)) ds _ (omega arith)
+      (mean_declare (IsWithin n) d.name.text (local_meant index consts d) scope (within_local index consts (is_scalar_const d) (omega arith)) all)
 
   within_scope : (c : Counts) (item : PlainItem) → Fits (after_item c item) n → AllMean (IsWithin n) (item_scopes c item)
   within_scope c (Datum local task d at) le = tt

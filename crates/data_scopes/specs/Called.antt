@@ -26,25 +26,25 @@ params_of rows routine = params_in (slice_get rows.routines routine)
 abbrev pub value_row : ParamRow → DatumRow
 value_row param = record { sort = param.sort; array = false; since = None }
 
--- the places of a routine are its parameters and then its data
-abbrev pub place_row : RoutineRow → ℕ → Option DatumRow
-place_row row place =
-    if nat_lt place (length row.params) then option_map value_row (slice_get row.params place)
-    else slice_get row.locals (place - length row.params)
+-- the datum at an index among the parameters and then the data of a routine
+abbrev pub own_row : RoutineRow → ℕ → Option DatumRow
+own_row row index =
+    if nat_lt index (length row.params) then option_map value_row (slice_get row.params index)
+    else slice_get row.locals (index - length row.params)
 
--- the datum at a place of a routine
+-- the same of the routine of a number
 abbrev pub local_of : Rows → Option ℕ → ℕ → Option DatumRow
-local_of rows routine place = option_and_then (λ r. option_and_then (λ row. place_row row place) (slice_get rows.routines r)) routine
+local_of rows routine index = option_and_then (λ r. option_and_then (λ row. own_row row index) (slice_get rows.routines r)) routine
 
--- the parameter at a place of a routine
+-- the parameter at an index of a routine
 abbrev pub param_of : Rows → Option ℕ → ℕ → Option ParamRow
-param_of rows routine place = option_and_then (λ r. slice_get (params_of rows r) place) routine
+param_of rows routine index = option_and_then (λ r. slice_get (params_of rows r) index) routine
 
 -- how many parameters and data a routine has
-abbrev pub places_in : Option RoutineRow → ℕ
-places_in None = 0
-places_in (Some row) = length row.params + length row.locals
+abbrev pub data_count_in : Option RoutineRow → ℕ
+data_count_in None = 0
+data_count_in (Some row) = length row.params + length row.locals
 
-abbrev pub places_of : Rows → Option ℕ → ℕ
-places_of rows None = 0
-places_of rows (Some routine) = places_in (slice_get rows.routines routine)
+abbrev pub data_count_of : Rows → Option ℕ → ℕ
+data_count_of rows None = 0
+data_count_of rows (Some routine) = data_count_in (slice_get rows.routines routine)

@@ -74,34 +74,34 @@ takes_sort modes.Inout sort = true
 takes_sort modes.Var sort = true
 takes_sort modes.Pers sort = true
 
--- a parameter at this place of a routine
+-- a parameter at this index of a routine
 abbrev pub param_rules : Tables → ℕ → ℕ → ℕ → PlainParam → Checked (Unit {0})
-param_rules tables number routine place p =
+param_rules tables number routine index p =
     let spot = spot_of number (Some routine) p.sort in
     sort_at tables spot p.sort >>= (λ sort.
     must (takes_sort p.mode sort) (at_spot spot TypeClash) >>= (λ _.
-    must (is_own (param_meant place p.mode) (meant_in p.name.text (list_at tables.inner routine))) (at_spot (spot_of number (Some routine) p.name) NameTwice)))
+    must (is_own (param_meant index p.mode) (meant_in p.name.text (list_at tables.inner routine))) (at_spot (spot_of number (Some routine) p.name) NameTwice)))
 
 abbrev pub params_rules : Tables → ℕ → ℕ → ℕ → List PlainParam → Checked (Unit {0})
-params_rules tables number routine place [] = Ok tt
-params_rules tables number routine place (p ∷ ps) =
-    param_rules tables number routine place p >>= (λ _. params_rules tables number routine (place + 1) ps)
+params_rules tables number routine index [] = Ok tt
+params_rules tables number routine index (p ∷ ps) =
+    param_rules tables number routine index p >>= (λ _. params_rules tables number routine (index + 1) ps)
 
 -- where the parameters are faultless, their number
 abbrev pub counted : List PlainParam → Checked (Unit {0}) → Checked ℕ
 counted params checked = checked >>= (λ _. Ok (length params))
 
--- a datum of a routine at this place, with so many CONSTs before
+-- a datum of a routine at this index, with so many CONSTs before
 abbrev pub local_rules : Tables → ℕ → ℕ → ℕ → ℕ → PlainDatum → Checked (Unit {0})
-local_rules tables number routine place consts d =
+local_rules tables number routine index consts d =
     datum_sort tables number (Some routine) d >>= (λ _.
-    must (is_own (local_meant place consts d) (meant_in d.name.text (list_at tables.inner routine))) (at_spot (spot_of number (Some routine) d.name) NameTwice))
+    must (is_own (local_meant index consts d) (meant_in d.name.text (list_at tables.inner routine))) (at_spot (spot_of number (Some routine) d.name) NameTwice))
 
 abbrev pub locals_rules : Tables → ℕ → ℕ → ℕ → ℕ → List PlainDatum → Checked (Unit {0})
-locals_rules tables number routine place consts [] = Ok tt
-locals_rules tables number routine place consts (d ∷ ds) =
-    local_rules tables number routine place consts d >>= (λ _.
-    locals_rules tables number routine (place + 1) (consts + (if is_scalar_const d then 1 else 0)) ds)
+locals_rules tables number routine index consts [] = Ok tt
+locals_rules tables number routine index consts (d ∷ ds) =
+    local_rules tables number routine index consts d >>= (λ _.
+    locals_rules tables number routine (index + 1) (consts + (if is_scalar_const d then 1 else 0)) ds)
 
 -- the type of a function's result, which has values
 abbrev pub result_rules : Tables → ℕ → ℕ → Option PlainName → Checked (Unit {0})

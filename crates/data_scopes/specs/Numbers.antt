@@ -73,24 +73,24 @@ after_items c (item ∷ items) = after_items (after_item c item) items
 
 -- a by-value parameter is a variable of the routine, any other a reference
 abbrev pub param_meant : ℕ → Mode → Meant
-param_meant place modes.Value = meants.Local place
-param_meant place modes.Inout = meants.Ref place
-param_meant place modes.Var = meants.Ref place
-param_meant place modes.Pers = meants.Ref place
+param_meant index modes.Value = meants.Local index
+param_meant index modes.Inout = meants.Ref index
+param_meant index modes.Var = meants.Ref index
+param_meant index modes.Pers = meants.Ref index
 
--- the parameters, the first of which has this place
+-- the parameters, the first of which has this index
 abbrev pub declare_params : ℕ → List PlainParam → Scope → Scope
-declare_params place [] scope = scope
-declare_params place (p ∷ ps) scope = declare_params (place + 1) ps (declare p.name.text (param_meant place p.mode) scope)
+declare_params index [] scope = scope
+declare_params index (p ∷ ps) scope = declare_params (index + 1) ps (declare p.name.text (param_meant index p.mode) scope)
 
--- what a datum of a routine means, at this place among its parameters and data, with so many CONSTs before
+-- what a datum of a routine means, at this index among its parameters and data, with so many CONSTs before
 abbrev pub local_meant : ℕ → ℕ → PlainDatum → Meant
-local_meant place consts d = if is_scalar_const d then meants.Const consts else meants.Local place
+local_meant index consts d = if is_scalar_const d then meants.Const consts else meants.Local index
 
 abbrev pub declare_locals : ℕ → ℕ → List PlainDatum → Scope → Scope
-declare_locals place consts [] scope = scope
-declare_locals place consts (d ∷ ds) scope =
-    declare_locals (place + 1) (consts + (if is_scalar_const d then 1 else 0)) ds (declare d.name.text (local_meant place consts d) scope)
+declare_locals index consts [] scope = scope
+declare_locals index consts (d ∷ ds) scope =
+    declare_locals (index + 1) (consts + (if is_scalar_const d then 1 else 0)) ds (declare d.name.text (local_meant index consts d) scope)
 
 -- the parameters and data of a routine
 abbrev pub routine_scope : Counts → PlainRoutine → Scope

@@ -26,15 +26,15 @@ fn declare_params(params: &[RawParam<'_>], scope: &mut NameTable<Meant>) -> Resu
     ensures count { IfOk result (λ n. n ≡ length params.now) }
     ensures err { IfErr result (λ e. e ≡ Memory) }
 {
-    let mut place = 0;
+    let mut index = 0;
     for param in params {
-        scope.enter(param.name.text, param_meant(place, param.mode))?;
-        place = number_after(place)?;
+        scope.enter(param.name.text, param_meant(index, param.mode))?;
+        index = number_after(index)?;
     }
-    Ok(place)
+    Ok(index)
 }
 
-/// Declares the data of a routine, the first of which has this place, with so many CONSTs before.
+/// Declares the data of a routine, the first of which has this index, with so many CONSTs before.
 fn declare_locals(
     first: u32,
     before: u32,
@@ -44,11 +44,11 @@ fn declare_locals(
     ensures ok { OnOk result (scope.new ≡ Numbers.declare_locals first before (map view_datum locals.now) scope.old) }
     ensures err { IfErr result (λ e. e ≡ Memory) }
 {
-    let mut place = first;
+    let mut index = first;
     let mut consts = before;
     for datum in locals {
-        scope.enter(datum.name.text, local_meant(place, consts, datum))?;
-        place = number_after(place)?;
+        scope.enter(datum.name.text, local_meant(index, consts, datum))?;
+        index = number_after(index)?;
         consts = after_local(consts, datum)?;
     }
     Ok(())
@@ -64,8 +64,8 @@ fn routine_scope(
     ensures err { IfErr result (λ e. e ≡ Memory) }
 {
     let mut scope = NameTable::new(alloc);
-    let place = declare_params(&routine.params, &mut scope)?;
-    declare_locals(place, counts.consts, &routine.locals, &mut scope)?;
+    let index = declare_params(&routine.params, &mut scope)?;
+    declare_locals(index, counts.consts, &routine.locals, &mut scope)?;
     Ok(scope)
 }
 

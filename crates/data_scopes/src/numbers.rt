@@ -158,24 +158,24 @@ pub(crate) fn after_items(counts: Counts, items: &[RawItem<'_>]) -> Result<Count
     Ok(after)
 }
 
-/// What a parameter at this place means: a variable of the routine, or a reference.
-pub(crate) fn param_meant(place: u32, mode: Mode) -> Meant
-    ensures { result ≡ Numbers.param_meant place mode }
+/// What a parameter at this index means: a variable of the routine, or a reference.
+pub(crate) fn param_meant(index: u32, mode: Mode) -> Meant
+    ensures { result ≡ Numbers.param_meant index mode }
 {
     match mode {
-        Mode::Value => Meant::Local(place),
-        Mode::Inout => Meant::Ref(place),
-        Mode::Var => Meant::Ref(place),
-        Mode::Pers => Meant::Ref(place),
+        Mode::Value => Meant::Local(index),
+        Mode::Inout => Meant::Ref(index),
+        Mode::Var => Meant::Ref(index),
+        Mode::Pers => Meant::Ref(index),
     }
 }
 
-/// What a datum of a routine means, at this place among its parameters and data, with so many CONSTs before.
-pub(crate) fn local_meant(place: u32, consts: u32, datum: &RawDatum<'_>) -> Meant
-    ensures { result ≡ Numbers.local_meant place consts (view_datum datum.now) }
+/// What a datum of a routine means, at this index among its parameters and data, with so many CONSTs before.
+pub(crate) fn local_meant(index: u32, consts: u32, datum: &RawDatum<'_>) -> Meant
+    ensures { result ≡ Numbers.local_meant index consts (view_datum datum.now) }
 {
     if is_scalar_const(datum) {
         return Meant::Const(consts);
     }
-    Meant::Local(place)
+    Meant::Local(index)
 }

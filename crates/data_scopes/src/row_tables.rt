@@ -1,5 +1,5 @@
 ghost use Rattle.std.specs.Prelude.{◌≡◌, length, slice_get};
-ghost use Rattle.data_scopes.specs.Called.{kind_of, local_of, param_of, params_of, place_row, places_in, places_of, result_of, value_row};
+ghost use Rattle.data_scopes.specs.Called.{kind_of, local_of, param_of, params_of, own_row, data_count_in, data_count_of, result_of, value_row};
 
 use crate::data_row::{DatumRow, ParamRow};
 use crate::routine_entry::RoutineEntry;
@@ -67,33 +67,33 @@ impl RowTables {
         }
     }
 
-    /// The datum at a place of a routine, among its parameters and then its data.
-    pub(crate) fn local(&self, routine: Option<u32>, place: u32) -> Option<DatumRow>
-        ensures { result ≡ local_of self.now routine place }
+    /// The datum at an index of a routine, among its parameters and then its data.
+    pub(crate) fn local(&self, routine: Option<u32>, index: u32) -> Option<DatumRow>
+        ensures { result ≡ local_of self.now routine index }
     {
         let entry = self.routines.get(routine? as usize)?;
-        place_row(entry, place as usize)
+        own_row(entry, index as usize)
     }
 
-    /// The parameter at a place of a routine.
-    pub(crate) fn param(&self, routine: Option<u32>, place: u32) -> Option<ParamRow>
-        ensures { result ≡ param_of self.now routine place }
+    /// The parameter at an index of a routine.
+    pub(crate) fn param(&self, routine: Option<u32>, index: u32) -> Option<ParamRow>
+        ensures { result ≡ param_of self.now routine index }
     {
-        self.params(routine?).get(place as usize).copied()
+        self.params(routine?).get(index as usize).copied()
     }
 
     /// How many parameters and data a routine has.
-    pub(crate) fn places(&self, routine: Option<u32>) -> usize
-        ensures { result ≡ places_of self.now routine }
+    pub(crate) fn data_count(&self, routine: Option<u32>) -> usize
+        ensures { result ≡ data_count_of self.now routine }
     {
         match routine {
-            Some(number) => self.places_in(number),
+            Some(number) => self.data_count_in(number),
             None => 0,
         }
     }
 
-    fn places_in(&self, routine: u32) -> usize
-        ensures { result ≡ places_in (slice_get self.now.routines routine) }
+    fn data_count_in(&self, routine: u32) -> usize
+        ensures { result ≡ data_count_in (slice_get self.now.routines routine) }
     {
         match self.routines.get(routine as usize) {
             Some(entry) => entry.params.len() + entry.locals.len(),
@@ -102,13 +102,13 @@ impl RowTables {
     }
 }
 
-/// The datum at a place, among the parameters and then the data.
-fn place_row(entry: &RoutineEntry, place: usize) -> Option<DatumRow>
-    ensures { result ≡ place_row entry.now place }
+/// The datum at an index, among the parameters and then the data.
+fn own_row(entry: &RoutineEntry, index: usize) -> Option<DatumRow>
+    ensures { result ≡ own_row entry.now index }
 {
-    match entry.params.get(place) {
+    match entry.params.get(index) {
         Some(param) => Some(value_row(*param)),
-        None => entry.locals.get(place - entry.params.len()).copied(),
+        None => entry.locals.get(index - entry.params.len()).copied(),
     }
 }
 

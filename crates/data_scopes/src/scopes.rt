@@ -1,7 +1,7 @@
 ghost use Rattle.std.specs.Prelude.{◌≡◌, ◌<◌, map, length, slice_get, replicate, IfSome, IsTrue, ℕ};
 ghost use Rattle.raw_trees.specs.Views.{view_module};
 ghost use Rattle.data_scopes.specs.Naming.{names_of};
-ghost use Rattle.data_scopes.specs.Called.{kind_of, local_of, param_of, params_of, places_of, result_of};
+ghost use Rattle.data_scopes.specs.Called.{kind_of, local_of, param_of, params_of, data_count_of, result_of};
 ghost use Rattle.data_scopes.specs.Rows.{outputs_of};
 ghost use Rattle.rule_checks.specs.TypeChecks.{Gives};
 ghost use Rattle.data_scopes.specs.Kept.{with_kept};
@@ -131,25 +131,25 @@ impl Scopes {
         self.rows.constant(number)
     }
 
-    /// The datum at a place of a routine, among its parameters and then its data; a parameter as if it were one by value.
-    pub fn local(&self, routine: Option<u32>, place: u32) -> Option<DatumRow>
-        ensures { result ≡ local_of self.now.rows routine place }
+    /// The datum at an index of a routine, among its parameters and then its data; a parameter as if it were one by value.
+    pub fn local(&self, routine: Option<u32>, index: u32) -> Option<DatumRow>
+        ensures { result ≡ local_of self.now.rows routine index }
     {
-        self.rows.local(routine, place)
+        self.rows.local(routine, index)
     }
 
-    /// The parameter at a place of a routine.
-    pub fn param(&self, routine: Option<u32>, place: u32) -> Option<ParamRow>
-        ensures { result ≡ param_of self.now.rows routine place }
+    /// The parameter at an index of a routine.
+    pub fn param(&self, routine: Option<u32>, index: u32) -> Option<ParamRow>
+        ensures { result ≡ param_of self.now.rows routine index }
     {
-        self.rows.param(routine, place)
+        self.rows.param(routine, index)
     }
 
     /// How many parameters and data a routine has.
-    pub fn places(&self, routine: Option<u32>) -> usize
-        ensures { result ≡ places_of self.now.rows routine }
+    pub fn data_count(&self, routine: Option<u32>) -> usize
+        ensures { result ≡ data_count_of self.now.rows routine }
     {
-        self.rows.places(routine)
+        self.rows.data_count(routine)
     }
 
     /// Whether a routine is a procedure, a function or a trap.

@@ -47,21 +47,21 @@ fn takes_sort(mode: Mode, sort: Sort) -> bool
     }
 }
 
-/// A parameter at this place of a routine.
+/// A parameter at this index of a routine.
 fn param_rules(
     tables: &NameTables,
     number: u32,
     routine: u32,
-    place: u32,
+    index: u32,
     param: &RawParam<'_>,
 ) -> Result<(), TypeFault>
-    ensures { Gives (λ u. u) result (Declarations.param_rules tables.now number routine place (view_param param.now)) }
+    ensures { Gives (λ u. u) result (Declarations.param_rules tables.now number routine index (view_param param.now)) }
 {
     let spot = spot_of(number, Some(routine), &param.sort);
     let sort = sort_at(tables, spot, &param.sort)?;
     must(takes_sort(param.mode, sort), spot, TypeRule::TypeClash)?;
     let meant = tables.inner(routine, param.name.text);
-    let holds = is_own(param_meant(place, param.mode), meant);
+    let holds = is_own(param_meant(index, param.mode), meant);
     must(
         holds,
         spot_of(number, Some(routine), &param.name),
@@ -78,28 +78,28 @@ fn params_rules(
 ) -> Result<u32, TypeFault>
     ensures { Gives (λ n. n) result (Declarations.counted (map view_param params.now) (Declarations.params_rules tables.now number routine 0 (map view_param params.now))) }
 {
-    let mut place = 0;
+    let mut index = 0;
     for param in params {
-        param_rules(tables, number, routine, place, param)?;
-        place = number_after(place)?;
+        param_rules(tables, number, routine, index, param)?;
+        index = number_after(index)?;
     }
-    Ok(place)
+    Ok(index)
 }
 
-/// A datum of a routine at this place, with so many CONSTs before.
+/// A datum of a routine at this index, with so many CONSTs before.
 fn local_rules(
     tables: &NameTables,
     number: u32,
     routine: u32,
-    place: u32,
+    index: u32,
     consts: u32,
     datum: &RawDatum<'_>,
 ) -> Result<(), TypeFault>
-    ensures { Gives (λ u. u) result (Declarations.local_rules tables.now number routine place consts (view_datum datum.now)) }
+    ensures { Gives (λ u. u) result (Declarations.local_rules tables.now number routine index consts (view_datum datum.now)) }
 {
     datum_sort(tables, number, Some(routine), datum)?;
     let meant = tables.inner(routine, datum.name.text);
-    let holds = is_own(local_meant(place, consts, datum), meant);
+    let holds = is_own(local_meant(index, consts, datum), meant);
     must(
         holds,
         spot_of(number, Some(routine), &datum.name),
@@ -107,7 +107,7 @@ fn local_rules(
     )
 }
 
-/// The data of a routine, the first of which has this place, with so many CONSTs before.
+/// The data of a routine, the first of which has this index, with so many CONSTs before.
 fn locals_rules(
     tables: &NameTables,
     number: u32,
@@ -118,11 +118,11 @@ fn locals_rules(
 ) -> Result<(), TypeFault>
     ensures { Gives (λ u. u) result (Declarations.locals_rules tables.now number routine first before (map view_datum locals.now)) }
 {
-    let mut place = first;
+    let mut index = first;
     let mut consts = before;
     for datum in locals {
-        local_rules(tables, number, routine, place, consts, datum)?;
-        place = number_after(place)?;
+        local_rules(tables, number, routine, index, consts, datum)?;
+        index = number_after(index)?;
         consts = after_local(consts, datum)?;
     }
     Ok(())
@@ -160,12 +160,12 @@ fn routine_rules(
     result_rules(tables, number, counts.routines, &routine.result)?;
     let spot = spot_of(number, None, &routine.name);
     item_name_rules(tables, spot, routine.local, own, &routine.name)?;
-    let place = params_rules(tables, number, counts.routines, &routine.params)?;
+    let index = params_rules(tables, number, counts.routines, &routine.params)?;
     locals_rules(
         tables,
         number,
         counts.routines,
-        place,
+        index,
         counts.consts,
         &routine.locals,
     )

@@ -1,6 +1,6 @@
 pub mod Ahead
 pub mod Answered
-pub mod Told
+pub mod Known
 pub mod Taking
 pub mod Operands
 pub mod Precedence

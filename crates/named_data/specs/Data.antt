@@ -23,7 +23,7 @@ use Rattle.rule_checks.specs.declared.rule.TypeRule.TheVariants.{NoName, NotThis
 use Rattle.data_scopes.specs.declared.meant.Meant.{Meant}
 use Rattle.data_scopes.specs.declared.meant.Meant.TheVariants as meants
 use Rattle.rule_checks.specs.declared.spot.Spot.{Spot}
-use Rattle.data_scopes.specs.Called.{local_of, param_of, places_of}
+use Rattle.data_scopes.specs.Called.{local_of, param_of, data_count_of}
 use Rattle.rule_checks.specs.Checks.{◌>>=◌, must, found_or}
 use Rattle.rule_checks.specs.TypeChecks.{Checked}
 use Rattle.data_scopes.specs.Scopes.{meaning}
@@ -67,8 +67,8 @@ access_by modes.Pers = accesses.Pers
 access_by modes.Inout = accesses.Either
 
 abbrev pub parameter : Site → ℕ → ℕ → Option ParamRow → Checked NamedDatum
-parameter site at place None = fail site at NoName
-parameter site at place (Some row) = Ok (record { source = sources.Place (roots.Ref place) (access_by row.mode); sort = row.sort; array = false })
+parameter site at index None = fail site at NoName
+parameter site at index (Some row) = Ok (record { source = sources.Place (roots.Ref index) (access_by row.mode); sort = row.sort; array = false })
 
 -- a CONST that is no array, by the value that is kept of it
 abbrev pub constant : Site → ℕ → Option DatumRow → Option (Option Value) → Checked NamedDatum
@@ -78,10 +78,10 @@ constant site at (Some row) (Some (Some value)) =
     Ok (record { source = sources.Value value; sort = row.sort; array = false }))
 constant site at (Some row) _ = fail site at ConstOrder
 
--- the variable of a FOR has a place behind the parameters and data of its routine
+-- the variable of a FOR has an index behind the parameters and data of its routine
 abbrev pub counter : Site → ℕ → NamedDatum
 counter site number = record {
-  source = sources.Place (roots.Local (places_of site.names.rows site.spot.routine + number)) accesses.Fixed;
+  source = sources.Place (roots.Local (data_count_of site.names.rows site.spot.routine + number)) accesses.Fixed;
   sort = sorts.Num;
   array = false;
 }
@@ -98,8 +98,8 @@ predefined site at name = with_value site at (predefined_datum name)
 abbrev pub datum_meant : Site → ℕ → Option Meant → Checked NamedDatum
 datum_meant site at None = fail site at NoName
 datum_meant site at (Some (meants.Slot number)) = stored site at (roots.Slot number) (slice_get site.names.rows.slots number)
-datum_meant site at (Some (meants.Local place)) = stored site at (roots.Local place) (local_of site.names.rows site.spot.routine place)
-datum_meant site at (Some (meants.Ref place)) = parameter site at place (param_of site.names.rows site.spot.routine place)
+datum_meant site at (Some (meants.Local index)) = stored site at (roots.Local index) (local_of site.names.rows site.spot.routine index)
+datum_meant site at (Some (meants.Ref index)) = parameter site at index (param_of site.names.rows site.spot.routine index)
 datum_meant site at (Some (meants.Pers number)) = persistent site at number (slice_get site.names.rows.pers number)
 datum_meant site at (Some (meants.Const number)) = constant site at (slice_get site.names.rows.consts number) (slice_get site.names.kept number)
 datum_meant site at (Some (meants.For number)) = Ok (counter site number)

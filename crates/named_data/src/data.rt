@@ -29,15 +29,15 @@ fn datum_meant(site: &Site<'_>, at: usize, meant: Option<Meant>) -> Result<Named
     };
     match meant {
         Meant::Slot(number) => stored(site, at, TreeRoot::Slot(number), scopes.slot(number)),
-        Meant::Local(place) => {
+        Meant::Local(index) => {
             stored(
                 site,
                 at,
-                TreeRoot::Local(place),
-                scopes.local(routine, place),
+                TreeRoot::Local(index),
+                scopes.local(routine, index),
             )
         }
-        Meant::Ref(place) => parameter(site, at, place, scopes.param(routine, place)),
+        Meant::Ref(index) => parameter(site, at, index, scopes.param(routine, index)),
         Meant::Pers(number) => persistent(site, at, number, scopes.pers(number)),
         Meant::Const(number) => constant(site, at, scopes.constant(number), scopes.kept(number)),
         Meant::For(number) => counter(site, number),

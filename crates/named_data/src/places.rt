@@ -57,19 +57,19 @@ pub(crate) fn persistent(
     })
 }
 
-/// What the reference parameter at a place of the routine stands for.
+/// What the reference parameter at an index of the routine stands for.
 pub(crate) fn parameter(
     site: &Site<'_>,
     at: usize,
-    place: u32,
+    index: u32,
     row: Option<ParamRow>,
 ) -> Result<NamedDatum, TypeFault>
-    ensures { Gives (λ d. d) result (Data.parameter (view_site site.now) at place row) }
+    ensures { Gives (λ d. d) result (Data.parameter (view_site site.now) at index row) }
 {
     let Some(row) = row else {
         return Err(fault(site, at, TypeRule::NoName));
     };
-    let root = TreeRoot::Ref(place);
+    let root = TreeRoot::Ref(index);
     let access = access_by(row.mode);
     Ok(NamedDatum {
         source: Source::Place { root, access },
@@ -78,18 +78,18 @@ pub(crate) fn parameter(
     })
 }
 
-/// The variable of the routine's FOR of this number, whose place is behind the routine's parameters and data (RAPID Kernel,
+/// The variable of the routine's FOR of this number, whose index is behind the routine's parameters and data (RAPID Kernel,
 /// FOR statement). Its error is want of memory.
 pub(crate) fn counter(site: &Site<'_>, number: u32) -> Result<NamedDatum, TypeFault>
     ensures { Gives (λ d. d) result (Ok (Data.counter (view_site site.now) number)) }
 {
-    let Ok(places) = u32::try_from(site.scopes.places(site.spot.routine)) else {
+    let Ok(count) = u32::try_from(site.scopes.data_count(site.spot.routine)) else {
         return Err(TypeFault::Memory);
     };
-    let Some(place) = places.checked_add(number) else {
+    let Some(index) = count.checked_add(number) else {
         return Err(TypeFault::Memory);
     };
-    let root = TreeRoot::Local(place);
+    let root = TreeRoot::Local(index);
     let access = Access::Fixed;
     Ok(NamedDatum {
         source: Source::Place { root, access },

@@ -4,8 +4,8 @@ use Rattle.std.proofs.Common.{ℕ, Err}
 use Rattle.rapid_forms.specs.Forms.{Form}
 use Rattle.rapid_forms.specs.Reading.{Reader}
 use Rattle.rapid_forms.proofs.Spelled.{reads_answer, gives_parses, one_holds, parsed_once, parsed_faulty, parsed_deep, faulty_once, faulty_deep, deep_once}
-use Rattle.expr_parser.proofs.Told.{Known, spelled_once}
-use Rattle.expr_parser.proofs.Told.{found as found_there}
+use Rattle.expr_parser.proofs.Known.{Known, spelled_once}
+use Rattle.expr_parser.proofs.Known.{found as found_there}
 use Rattle.parse_laws.specs.Answered.{HasOneAnswer, TellsAnswer}
 
 module _ {A : Type 0} (F : ℕ → Form A) (read : ℕ → Reader A) (known : (n : ℕ) → Known F n (read n)) where

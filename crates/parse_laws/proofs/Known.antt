@@ -6,7 +6,7 @@ use Rattle.expr_parser.specs.Grammar.{args, none_or, parts}
 use Rattle.expr_parser.specs.Reads.{arg_signs, expr_of_read, expr_read, exprs_read, inside_read, parts_read}
 use Rattle.expr_parser.proofs.Ahead.{args_ll, args_up, expr_ll, exprs_ll, exprs_up, inside_above, inside_ll, parts_ll, parts_up}
 use Rattle.expr_parser.proofs.Answered.{args_reads, expr_above, exprs_reads, inside_reads, parts_reads}
-use Rattle.expr_parser.proofs.Told.{Known}
+use Rattle.expr_parser.proofs.Known.{Known}
 use Rattle.parse_laws.specs.Forms.{exprs_within, index_within}
 
 pub exprs_known : (n : ℕ) → Known exprs_within n (exprs_read (expr_of_read (inside_read n)))

@@ -68,8 +68,8 @@ impl Persistent {
         ensures { IsPut self.old self.new path.now value }
     {
         let element = self.element(path.index).copy();
-        let place = place_of(path.index);
-        self.values[place] = with_part(element, path.part, value).unwrap();
+        let offset = offset_of(path.index);
+        self.values[offset] = with_part(element, path.part, value).unwrap();
     }
 
     /// Gives the part that the path names, which is a bool, the value TRUE, and tells whether it was FALSE. The element is
@@ -101,12 +101,12 @@ impl Persistent {
         ensures same { result.now ≡ element_of self.now index }
         ensures sort { IsTrue (has_sort self.now.sort result.now) }
     {
-        &self.values[place_of(index)]
+        &self.values[offset_of(index)]
     }
 }
 
-/// The place of an element among the values.
-fn place_of(index: u16) -> usize
+/// The offset of an element among the values.
+fn offset_of(index: u16) -> usize
     ensures { result ≡ index - 1 }
 {
     usize::from(index.saturating_sub(1))

@@ -18,14 +18,14 @@ abbrev pub answers_of : ℕ → List Event → List Answer
 answers_of actor history = map (λ e. e.answer) (part_of actor history)
 
 -- the fate that a request tells
-abbrev pub fate_told : Request → Option Fate
-fate_told (End fate) = Some fate
-fate_told _ = None
+abbrev pub fate_of : Request → Option Fate
+fate_of (End fate) = Some fate
+fate_of _ = None
 
 -- the fate that the first End of some events tells
 abbrev pub end_of : List Event → Option Fate
 end_of [] = None
-end_of (e ∷ es) = option_or (fate_told e.request) (end_of es)
+end_of (e ∷ es) = option_or (fate_of e.request) (end_of es)
 
 abbrev pub has_ended : List Event → Bool
 has_ended mine = is_some (end_of mine)

@@ -27,16 +27,16 @@ low_point : (xs ys : List ℕ) → AreDigits xs → AreDigits ys → AreLow (xs 
 low_point [] ys h k = (omega arith, low_digits ys k)
 low_point (x ∷ xs) ys h k = (h.0.1, low_point xs ys h.1 k)
 
-no_letter_place : (xs : List ℕ) → AreLow xs → position_or_len is_exponent_letter xs ≡ length xs
-no_letter_place [] h = refl
-no_letter_place (x ∷ xs) h =
+no_letter_index : (xs : List ℕ) → AreLow xs → position_or_len is_exponent_letter xs ≡ length xs
+no_letter_index [] h = refl
+no_letter_index (x ∷ xs) h =
     let small : x ≤ 57 = h.0 in
     let first : is_exponent_letter x ≡ false = grind (arith, nat_tests) in
-    let rest = no_letter_place xs h.1 in
+    let rest = no_letter_index xs h.1 in
     rw first (omega arith)
 
 no_letter : (xs : List ℕ) → AreLow xs → ◌≡◌ {A = Option ℕ} None (position is_exponent_letter xs)
-no_letter xs h = let at = no_letter_place xs h in grind (arith, nat_tests)
+no_letter xs h = let at = no_letter_index xs h in grind (arith, nat_tests)
 
 low_base : (b : ℕ) → b ≤ 57 → base_of b ≡ None
 low_base b h = grind (arith, nat_tests)

@@ -8,14 +8,14 @@ use crate::digits::{read_digits, read_onto};
 use crate::scale::scale;
 
 /// The place of the first point.
-fn point_place(text: &[u8]) -> Option<usize>
+fn point_index(text: &[u8]) -> Option<usize>
     ensures { result ≡ position is_point text.now }
 {
     text.iter().position(|byte| *byte == b'.')
 }
 
 /// The place of the first exponent letter.
-fn letter_place(text: &[u8]) -> Option<usize>
+fn letter_index(text: &[u8]) -> Option<usize>
     ensures { result ≡ position is_exponent_letter text.now }
 {
     text.iter().position(|byte| *byte == b'E' || *byte == b'e')
@@ -27,7 +27,7 @@ fn cut_at_point(text: &[u8]) -> (&[u8], &[u8])
     ensures after { result.1.now ≡ after_first is_point text.now }
     ensures no_longer { length result.0.now + length result.1.now ≤ length text.now }
 {
-    match point_place(text) {
+    match point_index(text) {
         Some(at) => (&text[..at], &text[at + 1..]),
         None => (text, &[]),
     }
@@ -93,7 +93,7 @@ pub(crate) fn read_decimal(text: &[u8]) -> Option<u64>
     requires short { length text.now ≤ 30 }
     ensures { result ≡ within (decimal_thousandths text.now) }
 {
-    match letter_place(text) {
+    match letter_index(text) {
         Some(at) => {
             let exponent = read_exponent(&text[at + 1..])?;
             read_scaled(&text[..at], exponent)

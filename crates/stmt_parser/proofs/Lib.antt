@@ -1,5 +1,5 @@
 pub mod Ahead
 pub mod Answered
-pub mod Told
+pub mod Known
 pub mod Lists
 pub mod Begins

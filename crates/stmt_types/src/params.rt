@@ -13,11 +13,11 @@ use rule_checks::TypeFault;
 use std::alloc::Global;
 use typed_trees::Param;
 
-/// The row of the parameter at this place.
-fn row_at(rows: &[ParamRow], place: usize) -> Option<ParamRow>
-    ensures { result ≡ slice_get rows.now place }
+/// The row of the parameter at this index.
+fn row_at(rows: &[ParamRow], index: usize) -> Option<ParamRow>
+    ensures { result ≡ slice_get rows.now index }
 {
-    rows.get(place).copied()
+    rows.get(index).copied()
 }
 
 /// Behind these parameters one more, by its name and its row.
@@ -47,8 +47,8 @@ pub(crate) fn typed_params(
     ensures { Gives (λ v. map view_param v.items) result (Ok (Task.typed_params (map view_raw params.now) rows.now)) }
 {
     let mut typed = Vec::new(alloc);
-    for (place, param) in params.iter().enumerate() {
-        let Some(row) = row_at(rows, place) else {
+    for (index, param) in params.iter().enumerate() {
+        let Some(row) = row_at(rows, index) else {
             return Ok(typed);
         };
         typed = with_param(typed, param, row)?;

@@ -1,5 +1,5 @@
 ghost use Rattle.std.specs.Prelude.{◌≡◌, ◌↔◌, [], ◌∷◌, ◌++◌, List, Option, Some, IsSome, IsSomeAnd, None};
-ghost use Rattle.rapid_model.specs.Own.{fate_told};
+ghost use Rattle.rapid_model.specs.Own.{fate_of};
 ghost use Rattle.rapid_model.specs.declared.answer.Answer.{Answer};
 ghost use Rattle.rapid_model.specs.declared.request.Request.{Request};
 
@@ -38,7 +38,7 @@ pub trait TaskMachine {
     /// Goes on with an answer to the request that is due, which it fits, and asks the next, which is due then. After an End there
     /// is none.
     fn next(&mut self, answer: Answer)
-        requires goes_on { IsSomeAnd (due self.old) (λ request. fate_told request ≡ None) }
+        requires goes_on { IsSomeAnd (due self.old) (λ request. fate_of request ≡ None) }
         requires fitting { (answers : List Answer) × stands_for self.old answers × fits (program self.old) (answers ++ answer ∷ []) }
         ensures program { program self.new ≡ program self.old }
         ensures due { IsSome (due self.new) }

@@ -24,11 +24,11 @@ look_asks code c d owner there =
     subst (λ (own : Own). Alike code (looks (here_of code c)) d (effect (here_of code c) (dones.Ask Look pendings.Looked)) (record d { place = Some own.at })) (own_is code c.pc owner there)
     (record { same = λ left. refl })
 
--- a wait that is not ready holds with what its own Look told
+-- a wait that is not ready holds with what its own Look confirmed
 pub wait_holds : (code : CodeData) (s0 s : Seen) (to seen : ℕ) → s ≡ with_stack s.conf.stack s0 → seen ≡ seen_in s.data'.frames
     → Alike code (holds (here_of code s0.conf) to s.conf.stack) s0.data' (effect (here_of code s.conf) (dones.Ask (Hold seen) (pendings.Held to))) s.data'
 unfolding performed after
-wait_holds code s0 s to seen same told =
-    let first : seen ≡ seen_in s0.data'.frames = told ∙ ap (λ (t : Seen). seen_in t.data'.frames) same in
+wait_holds code s0 s to seen same confirmed =
+    let first : seen ≡ seen_in s0.data'.frames = confirmed ∙ ap (λ (t : Seen). seen_in t.data'.frames) same in
     subst (λ (t : Seen). Alike code (holds (here_of code s0.conf) to s.conf.stack) s0.data' (effect (here_of code t.conf) (dones.Ask (Hold seen) (pendings.Held to))) t.data') (sym same)
     (rw first (record { same = λ left. refl }))

@@ -102,9 +102,9 @@ store_own code h d e root part new put own is = put_then code (λ m. does h h.co
 
 -- a value is written to a persistent by a request
 pub writes_value : (h : Here) (pers index : ℕ) (part : PartName) (new : Datum) (v : Value) → as_value new ≡ Some v
-    → does h h.conf.stack (store_at (roots.Pers pers index) part new) ≡ came h (Some (dones.Ask (WriteP pers (path_of index part) v) pendings.Told))
+    → does h h.conf.stack (store_at (roots.Pers pers index) part new) ≡ came h (Some (dones.Ask (WriteP pers (path_of index part) v) pendings.Confirmed))
 unfolding after
-writes_value h pers index part (datums.Plain w) v e = let same : w ≡ v = cc in ap (λ u. came h (Some (dones.Ask (WriteP pers (path_of index part) u) pendings.Told))) same
+writes_value h pers index part (datums.Plain w) v e = let same : w ≡ v = cc in ap (λ u. came h (Some (dones.Ask (WriteP pers (path_of index part) u) pendings.Confirmed))) same
 writes_value h pers index part (datums.Mark n) v e = cc
 writes_value h pers index part (datums.Shape s) v e = cc
 writes_value h pers index part (datums.Place p) v e = cc

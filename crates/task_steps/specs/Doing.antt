@@ -44,7 +44,7 @@ here_of code c = record { code = code; own = own_at code c.pc; conf = c }
 abbrev pub answered : Here → Pending → Answer → Doing Conf
 answered h pendings.Looked a = looked h a
 answered h pendings.Read a = pushes h h.conf.stack (λ x. x) (when_read a)
-answered h pendings.Told a = does h h.conf.stack (when_ok a)
+answered h pendings.Confirmed a = does h h.conf.stack (when_ok a)
 answered h pendings.Tested a = pushes h h.conf.stack as_truth (when_tested a)
 answered h pendings.Sensed a = pushes h h.conf.stack (λ bit. Plain (of_bit bit)) (when_bit a)
 answered h pendings.Written a = does h h.conf.stack (when_written a)

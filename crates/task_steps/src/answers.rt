@@ -30,8 +30,8 @@ pub(crate) fn read(answer: Answer) -> Option<Done>
     }
 }
 
-/// It was told.
-pub(crate) fn told(answer: Answer) -> Option<Done>
+/// It was confirmed.
+pub(crate) fn confirmed(answer: Answer) -> Option<Done>
     ensures { (h : Here) → does h h.conf.stack (when_ok answer) ≡ came h result }
 {
     match answer {

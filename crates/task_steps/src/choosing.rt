@@ -8,7 +8,7 @@ ghost use Rattle.task_steps.specs.Alike.{with_stack};
 ghost use Rattle.task_steps.specs.Doing.{came, here_of};
 
 use crate::done::Done;
-use crate::requests::told;
+use crate::requests::confirmed;
 use crate::task::Task;
 use rapid_model::Request;
 use stack_code::{IrqOp, OrderOn, TailKind, UnaryOp, ZoneOp};
@@ -45,8 +45,8 @@ impl Task {
             IrqOp::Sleep => self.sleep(),
             IrqOp::Watch => self.watch(),
             IrqOp::Delete => self.delete(),
-            IrqOp::Disable => told(Request::Disable),
-            IrqOp::Enable => told(Request::Enable),
+            IrqOp::Disable => confirmed(Request::Disable),
+            IrqOp::Enable => confirmed(Request::Enable),
         }
     }
 

@@ -10,7 +10,7 @@ pub enum Pending {
     /// Pushes the value that was read.
     Read,
     /// Goes on.
-    Told,
+    Confirmed,
     /// Pushes whether a bool was FALSE.
     Tested,
     /// Pushes a signal's value.

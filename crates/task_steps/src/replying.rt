@@ -51,7 +51,7 @@ impl Task {
         match then {
             Pending::Looked => self.looked(loaded, answer),
             Pending::Read => answers::read(answer),
-            Pending::Told => answers::told(answer),
+            Pending::Confirmed => answers::confirmed(answer),
             Pending::Tested => answers::tested(answer),
             Pending::Sensed => answers::sensed(answer),
             Pending::Written => answers::written(answer),

@@ -133,10 +133,10 @@ pub(crate) fn known(request: Request) -> Option<Done>
 }
 
 /// Tells.
-pub(crate) fn told(request: Request) -> Option<Done>
+pub(crate) fn confirmed(request: Request) -> Option<Done>
     ensures { (h : Here) → does h h.conf.stack (tells request) ≡ came h result }
 {
-    ask(request, Pending::Told)
+    ask(request, Pending::Confirmed)
 }
 
 /// Asks of a zone.
@@ -180,7 +180,7 @@ pub(crate) fn said(text: Value) -> Option<Done>
     ensures { (h : Here) → does h h.conf.stack (after (text_in text) (λ it. tells (asked.Say it tails.None)) Raises) ≡ came h result }
 {
     let text = text_of(text)?;
-    told(Request::Say {
+    confirmed(Request::Say {
         text,
         tail: Tail::None,
     })
@@ -192,7 +192,7 @@ pub(crate) fn said_num(text: Value, number: &Value) -> Option<Done>
 {
     let text = text_of(text)?;
     let tail = Tail::Num(num_of(number)?);
-    told(Request::Say { text, tail })
+    confirmed(Request::Say { text, tail })
 }
 
 /// Tells the operator a text with a bool behind it.
@@ -201,5 +201,5 @@ pub(crate) fn said_truth(text: Value, truth: &Value) -> Option<Done>
 {
     let text = text_of(text)?;
     let tail = Tail::Bool(truth_of(truth)?);
-    told(Request::Say { text, tail })
+    confirmed(Request::Say { text, tail })
 }

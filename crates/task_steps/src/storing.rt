@@ -63,7 +63,7 @@ fn written(pers: u32, index: u16, part: PartName, new: &Held) -> Option<Done>
                 path: Path { index, part },
                 value: value.copy(),
             },
-            then: Pending::Told,
+            then: Pending::Confirmed,
         }),
         None => None,
     }

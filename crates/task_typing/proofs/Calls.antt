@@ -22,10 +22,10 @@ use Rattle.task_typing.proofs.Runs.{Keeps}
 use Rattle.task_typing.proofs.Safe.{Safe, scene_of}
 use Rattle.task_typing.proofs.Scene.{AreErrors, Facts, Ghost, IsEnd, IsFlow, IsPart, IsResult, IsResultBy, around_of, frames_in, is_in_part, rules_of}
 use Rattle.task_typing.proofs.Statements.{rest_safe, stmt_safe, turn_safe}
-use Rattle.task_typing.proofs.Told.{Told, calm}
+use Rattle.task_typing.proofs.OwnState.{OwnState, calm}
 
 -- ends as a call does
-abbrev Ending : Setting → Ghost → Part → Doing Flow → Told → Data → Type 0
+abbrev Ending : Setting → Ghost → Part → Doing Flow → OwnState → Data → Type 0
 Ending c g p m t d = Meets (rules_of c) (λ flow e. IsEnd c g p flow × IsState c.tree g.trapped (frames_in g p) e) (λ n e. IsState c.tree g.trapped (frames_in g p) e) m t d
 
 no_part : (handler : Option TypedStmts) → is_in_part (errors_of handler) ≡ false

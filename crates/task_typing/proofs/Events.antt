@@ -7,7 +7,7 @@ use Rattle.std.proofs.lemmas.Bool.{and_parts, eq-eqb, eqb-true, ne_eqb, not-true
 use Rattle.std.proofs.lemmas.List.Folds.{list_any-append}
 use Rattle.std.proofs.lemmas.List.Sums.{sum_by_push}
 use Rattle.rapid_model.specs.Fits.{Fitting, fits_request}
-use Rattle.rapid_model.specs.Own.{connects_with, end_of, fate_told, has_connected, has_ended, is_leave, is_trap, is_trapped}
+use Rattle.rapid_model.specs.Own.{connects_with, end_of, fate_of, has_connected, has_ended, is_leave, is_trap, is_trapped}
 use Rattle.rapid_model.specs.declared.answer.Answer.{Answer}
 use Rattle.rapid_model.specs.declared.answer.Answer.TheVariants as answers
 use Rattle.rapid_model.specs.declared.event.Event.{Event}
@@ -19,15 +19,15 @@ use Rattle.rapid_meaning.specs.Answering.{fitting_of, is_trap_row}
 use Rattle.rapid_meaning.specs.Data.{Data}
 use Rattle.task_typing.specs.Asked.{IsAsked}
 use Rattle.task_typing.specs.Setting.{Setting}
-use Rattle.task_typing.proofs.Told.{trapped_after}
+use Rattle.task_typing.proofs.OwnState.{trapped_after}
 
 ended_or : (told : Option Fate) (first last : Option Fate) → (is_some first ≡ false → is_some last ≡ false) → is_some (option_or told first) ≡ false → is_some (option_or told last) ≡ false
 ended_or None first last more e = more e
 ended_or (Some fate) first last more e = absurd cc
 
-pub going_last : (mine : List Event) (e : Event) → fate_told e.request ≡ None → has_ended mine ≡ false → has_ended (mine ++ e ∷ []) ≡ false
+pub going_last : (mine : List Event) (e : Event) → fate_of e.request ≡ None → has_ended mine ≡ false → has_ended (mine ++ e ∷ []) ≡ false
 going_last [] e told going = ap (λ (o : Option Fate). is_some (option_or o None)) told
-going_last (x ∷ more) e told going = ended_or (fate_told x.request) (end_of more) (end_of (more ++ e ∷ [])) (going_last more e told) going
+going_last (x ∷ more) e told going = ended_or (fate_of x.request) (end_of more) (end_of (more ++ e ∷ [])) (going_last more e told) going
 
 -- as many traps were left as begun, but for one that is under way
 abbrev pub IsBalanced : List Event → Bool → Type 0

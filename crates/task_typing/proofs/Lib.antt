@@ -1,4 +1,4 @@
-pub mod Told
+pub mod OwnState
 pub mod Meets
 pub mod Runs
 pub mod Steps

@@ -31,7 +31,7 @@ use Rattle.task_typing.proofs.Places.{IsThere}
 use Rattle.task_typing.proofs.Safe.{Answered, Anything, Safe, safe_any, safe_asks, safe_done, safe_gives, safe_or, safe_reads, safe_then, safe_writes}
 use Rattle.task_typing.proofs.Meets.{Meets}
 use Rattle.task_typing.proofs.Scene.{InScene, Scene, rules_of}
-use Rattle.task_typing.proofs.Told.{calm}
+use Rattle.task_typing.proofs.OwnState.{calm}
 
 -- what is asked of a persistent's part
 fits_inner : (whole : Sort) (part : PartName) (sort : Sort) (v : Value) → part_sort whole part ≡ Some sort → fits_part whole part v ≡ has_sort sort v

@@ -22,10 +22,10 @@ use Rattle.task_typing.proofs.Meets.{Meets}
 use Rattle.task_typing.proofs.Rows.{all_at}
 use Rattle.task_typing.proofs.Safe.{Anything, Safe, safe_change, safe_fault, safe_then, scene_of}
 use Rattle.task_typing.proofs.Scene.{Facts, Ghost, IsEnd, IsPart, frames_in, rules_of}
-use Rattle.task_typing.proofs.Told.{Told, calm, calm_itself, told_after}
+use Rattle.task_typing.proofs.OwnState.{OwnState, calm, calm_itself, own_state_after}
 
 -- goes on as a part does
-abbrev Goes : Setting → Ghost → Part → Doing Flow → Told → Data → Type 0
+abbrev Goes : Setting → Ghost → Part → Doing Flow → OwnState → Data → Type 0
 Goes c g again m t d = Meets (rules_of c) (λ flow e. IsEnd c g again flow × IsState c.tree g.trapped (frames_in g again) e) (λ n e. IsState c.tree g.trapped (frames_in g again) e) m t d
 
 again_goes : (c : Setting) (g : Ghost) (again : Part) (d : Data) → IsPart c g again → IsState c.tree g.trapped (frames_in g again) d → Goes c g again (goes_to again) (calm d) d
@@ -34,7 +34,7 @@ again_goes c g again d part is = (calm_itself d, g, (part, is), λ flow e ends. 
 -- a trap is left
 left_answered : (c : Setting) (g : Ghost) (again : Part) (e : Data) (a : Answer) → IsPart c g again → g.trapped ≡ false → IsState c.tree true (frames_in g again) e
     → IsTrue (fits_request (fitting_of c.tree e.trapped) requests.Leave a)
-    → Goes c g again (after (when_ok a) (λ _. change (λ d. record d { trapped = false }) >> goes_to again) Raises) (told_after (calm e) requests.Leave a) e
+    → Goes c g again (after (when_ok a) (λ _. change (λ d. record d { trapped = false }) >> goes_to again) Raises) (own_state_after (calm e) requests.Leave a) e
 unfolding after
 left_answered c g again e answers.Ok part free is fits =
     again_goes c g again (record e { trapped = false }) part (record { slots = is.slots; frames_are = is.frames_are; in_trap = sym free })
@@ -87,7 +87,7 @@ seen_frames tree (cells ∷ frames) [] seen are = are
 seen_frames tree (cells ∷ frames) (f ∷ fs) seen are = are
 
 looked_goes : (c : Setting) (facts : Facts c) (g : Ghost) (again : Part) (go : Doing Flow) (a : Answer) (d : Data) → IsPart c g again → Safe (scene_of c facts g again) (IsEnd c g again) go
-    → IsState c.tree g.trapped (frames_in g again) d → IsTrue (fits_request (fitting_of c.tree d.trapped) requests.Look a) → Goes c g again (looked again go a) (told_after (calm d) requests.Look a) d
+    → IsState c.tree g.trapped (frames_in g again) d → IsTrue (fits_request (fitting_of c.tree d.trapped) requests.Look a) → Goes c g again (looked again go a) (own_state_after (calm d) requests.Look a) d
 looked_goes c facts g again go (answers.Go seen) d part safe is fits =
     safe_then (scene_of c facts g again) Anything (IsEnd c g again) (change (λ e. record e { frames = with_seen seen e.frames })) (λ _. go)
     (safe_change (scene_of c facts g again) (λ e. record e { frames = with_seen seen e.frames })
@@ -111,14 +111,14 @@ look_safe c facts g again w byte go part safe =
 -- a wait holds and rises
 risen_answered : (c : Setting) (g : Ghost) (again : Part) (d : Data) (a : Answer) → IsPart c g again → IsState c.tree g.trapped (frames_in g again) d
     → IsTrue (fits_request (fitting_of c.tree d.trapped) requests.Rise a)
-    → Goes c g again (after (when_ok a) (λ _. goes_to again) Raises) (told_after (record { held = true; trapped = d.trapped }) requests.Rise a) d
+    → Goes c g again (after (when_ok a) (λ _. goes_to again) Raises) (own_state_after (record { held = true; trapped = d.trapped }) requests.Rise a) d
 unfolding after
 risen_answered c g again d answers.Ok part is fits = again_goes c g again d part is
 risen_answered c g again d a part is fits = absurd cc
 
 held_answered : (c : Setting) (g : Ghost) (again : Part) (d : Data) (seen : ℕ) (a : Answer) → IsPart c g again → IsState c.tree g.trapped (frames_in g again) d
     → IsTrue (fits_request (fitting_of c.tree d.trapped) (requests.Hold seen) a)
-    → Goes c g again (after (when_ok a) (λ _. tells requests.Rise >> goes_to again) Raises) (told_after (calm d) (requests.Hold seen) a) d
+    → Goes c g again (after (when_ok a) (λ _. tells requests.Rise >> goes_to again) Raises) (own_state_after (calm d) (requests.Hold seen) a) d
 unfolding after
 held_answered c g again d seen answers.Ok part is fits = (
   record { rises = refl; same = refl; asked = record { asked = tt; trapped = g.trapped; frames = frames_in g again; state = is } },

@@ -4,7 +4,7 @@ use Rattle.std.specs.Prelude.{⊤}
 use Rattle.std.proofs.lemmas.List.{append-nil}
 use Rattle.rapid_model.specs.CellData.{CellData}
 use Rattle.rapid_model.specs.Fits.{fits_request}
-use Rattle.rapid_model.specs.Own.{fate_told, has_ended, is_held, is_rise, is_trapped}
+use Rattle.rapid_model.specs.Own.{fate_of, has_ended, is_held, is_rise, is_trapped}
 use Rattle.rapid_model.specs.Requests.{goes_with, suits_actor, suits_task}
 use Rattle.rapid_model.specs.declared.answer.Answer.{Answer}
 use Rattle.rapid_model.specs.declared.event.Event.{Event}
@@ -29,7 +29,7 @@ use Rattle.task_typing.proofs.Meets.{Due}
 use Rattle.task_typing.proofs.Scene.{rules_of}
 use Rattle.task_typing.proofs.Steps.{Behind, Follows, Stands}
 use Rattle.task_typing.proofs.Suits.{suits}
-use Rattle.task_typing.proofs.Told.{Told, calm, told_after}
+use Rattle.task_typing.proofs.OwnState.{OwnState, calm, own_state_after}
 use Rattle.task_typing.proofs.Whole.{ComesTo, asked, first_stands, next_follows, state_comes}
 
 -- ---- a task that is well typed and numbered
@@ -90,17 +90,17 @@ pub record Tells (tree : TypedTree) (answers : List Answer) (mine : List Event) 
   pub going : has_ended mine ≡ false
   pub traps : AreTraps tree mine
 
-abbrev pub StandsSo : Task → Told → Outcome ⊤ → Type 0
+abbrev pub StandsSo : Task → OwnState → Outcome ⊤ → Type 0
 StandsSo t told o = Stands (rules_of (setting_of t)) (λ (v : ⊤) d. ⊥) (λ n d. ⊥) told o
 
 -- what stands so asks
-pub record IsDueSo (t : Task) (told : Told) (o : Outcome ⊤) : Type 0 where
+pub record IsDueSo (t : Task) (told : OwnState) (o : Outcome ⊤) : Type 0 where
   pub request : Request
   pub standing : Data
   pub is : o ≡ Asking request standing
   pub due : Due (rules_of (setting_of t)) told standing request
 
-due_of : (t : Task) (told : Told) (answers : List Answer) (o : Outcome ⊤) → state_after t.tree answers ≡ o → StandsSo t told o → IsDueSo t told o
+due_of : (t : Task) (told : OwnState) (answers : List Answer) (o : Outcome ⊤) → state_after t.tree answers ≡ o → StandsSo t told o → IsDueSo t told o
 due_of t told answers (Asking request d) e stands = record { request = request; standing = d; is = refl; due = stands }
 due_of t told answers (Gave v d left) e stands = absurd stands.2
 due_of t told answers (Raised n d left) e stands = absurd stands.2
@@ -109,11 +109,11 @@ due_of t told answers Misfits e stands = absurd stands
 due_of t told answers Unfit e stands = absurd stands
 due_of t told answers NoFuel e stands = absurd (enough t.tree answers e)
 
-pub due_after : (t : Task) (told : Told) (answers : List Answer) → StandsSo t told (state_after t.tree answers) → IsDueSo t told (state_after t.tree answers)
+pub due_after : (t : Task) (told : OwnState) (answers : List Answer) → StandsSo t told (state_after t.tree answers) → IsDueSo t told (state_after t.tree answers)
 due_after t told answers stands = due_of t told answers (state_after t.tree answers) refl stands
 
-pub first_told : (t : Task) → Tells t.tree [] []
-first_told t =
+pub first_own_state : (t : Task) → Tells t.tree [] []
+first_own_state t =
     let first : IsDueSo t (calm (initial t.tree)) (state_after t.tree []) =
     due_after t (calm (initial t.tree)) [] (first_stands t.signals t.arm t.cell t.number t.tree t.typed t.numbered) in
     record {
@@ -132,7 +132,7 @@ event_now t before mine tells a = record { actor = t.number; request = tells.req
 
 pub behind_next : (t : Task) (before : List Answer) (a : Answer) (mine : List Event) (tells : Tells t.tree before mine)
     → IsTrue (fits_request (fitting_of t.tree tells.standing.trapped) tells.request a)
-    → Behind (rules_of (setting_of t)) (λ (v : ⊤) d. ⊥) (λ n d. ⊥) (fate_told tells.request) (told_after (calm tells.standing) tells.request a) tells.standing
+    → Behind (rules_of (setting_of t)) (λ (v : ⊤) d. ⊥) (λ n d. ⊥) (fate_of tells.request) (own_state_after (calm tells.standing) tells.request a) tells.standing
     (state_after t.tree (before ++ a ∷ []))
 behind_next t before a mine tells fits =
     let follows : Follows (rules_of (setting_of t)) (λ (v : ⊤) x. ⊥) (λ n x. ⊥) a (Asking tells.request tells.standing) (state_after t.tree (before ++ a ∷ [])) =
@@ -140,10 +140,10 @@ behind_next t before a mine tells fits =
     (next_follows t.signals t.arm t.cell t.number t.tree before a t.typed t.numbered) in
     follows fits
 
-pub told_next : (t : Task) (before : List Answer) (a : Answer) (mine : List Event) (tells : Tells t.tree before mine)
-    → IsTrue (fits_request (fitting_of t.tree tells.standing.trapped) tells.request a) → fate_told tells.request ≡ None
-    → IsDueSo t (told_after (calm tells.standing) tells.request a) (state_after t.tree (before ++ a ∷ [])) → Tells t.tree (before ++ a ∷ []) (mine ++ event_now t before mine tells a ∷ [])
-told_next t before a mine tells fits untold next =
+pub own_state_next : (t : Task) (before : List Answer) (a : Answer) (mine : List Event) (tells : Tells t.tree before mine)
+    → IsTrue (fits_request (fitting_of t.tree tells.standing.trapped) tells.request a) → fate_of tells.request ≡ None
+    → IsDueSo t (own_state_after (calm tells.standing) tells.request a) (state_after t.tree (before ++ a ∷ [])) → Tells t.tree (before ++ a ∷ []) (mine ++ event_now t before mine tells a ∷ [])
+own_state_next t before a mine tells fits untold next =
     let d : Data = tells.standing in
     let e : Event = event_now t before mine tells a in
     let may : IsAsked (setting_of t) d tells.request = asked t.signals t.arm t.cell t.number t.tree before tells.request d t.typed t.numbered tells.asking in
@@ -158,7 +158,7 @@ told_next t before a mine tells fits untold next =
     }
 
 -- behind a request that has a fate the task has ended
-behind_last : (t : Task) (told : Told) (fate : Option Fate) (d : Data) (o : Outcome ⊤) → IsAsking o → Behind (rules_of (setting_of t)) (λ (v : ⊤) x. ⊥) (λ n x. ⊥) fate told d o
+behind_last : (t : Task) (told : OwnState) (fate : Option Fate) (d : Data) (o : Outcome ⊤) → IsAsking o → Behind (rules_of (setting_of t)) (λ (v : ⊤) x. ⊥) (λ n x. ⊥) fate told d o
     → (fate ≡ None) × StandsSo t told o
 behind_last t told None d o later behind = (refl, behind)
 behind_last t told (Some fate) d o later behind = let over : Ended d ≡ Asking later.request later.standing = sym behind ∙ later.is in absurd cc
@@ -167,32 +167,32 @@ pub asks_it : (tree : TypedTree) (answers : List Answer) (request : Request) (d 
 unfolding asked_after
 asks_it tree answers request d e = ap next_of e
 
-next_told : (t : Task) (before : List Answer) (a : Answer) (mine : List Event) → Tells t.tree before mine → IsAsking (state_after t.tree (before ++ a ∷ []))
+next_own_state : (t : Task) (before : List Answer) (a : Answer) (mine : List Event) → Tells t.tree before mine → IsAsking (state_after t.tree (before ++ a ∷ []))
     → Tells t.tree (before ++ a ∷ []) (mine ++ event_of t.number (asked_after t.tree before) a)
-next_told t before a mine tells later =
+next_own_state t before a mine tells later =
     let request : Request = tells.request in
     let d : Data = tells.standing in
-    let told : Told = told_after (calm d) request a in
+    let told : OwnState = own_state_after (calm d) request a in
     let fits : IsTrue (fits_request (fitting_of t.tree d.trapped) request a) =
     fits_last t before a request d (fits_request (fitting_of t.tree d.trapped) request a) tells.asking refl later in
-    let last : (fate_told request ≡ None) × StandsSo t told (state_after t.tree (before ++ a ∷ [])) =
-    behind_last t told (fate_told request) d (state_after t.tree (before ++ a ∷ [])) later (behind_next t before a mine tells fits) in
+    let last : (fate_of request ≡ None) × StandsSo t told (state_after t.tree (before ++ a ∷ [])) =
+    behind_last t told (fate_of request) d (state_after t.tree (before ++ a ∷ [])) later (behind_next t before a mine tells fits) in
     subst (λ (next : Next). Tells t.tree (before ++ a ∷ []) (mine ++ event_of t.number next a)) (sym (asks_it t.tree before request d tells.asking))
-    (told_next t before a mine tells fits last.0 (due_after t told (before ++ a ∷ []) last.1))
+    (own_state_next t before a mine tells fits last.0 (due_after t told (before ++ a ∷ []) last.1))
 
-all_told : (t : Task) (left before : List Answer) (mine : List Event) → Tells t.tree before mine → IsAsking (state_after t.tree (before ++ left))
+all_own : (t : Task) (left before : List Answer) (mine : List Event) → Tells t.tree before mine → IsAsking (state_after t.tree (before ++ left))
     → Tells t.tree (before ++ left) (mine ++ events_behind t.number t.tree before left)
-all_told t [] before mine tells later = subst (λ (x : List Answer). Tells t.tree x (mine ++ [])) (sym (append-nil before)) (subst (λ (x : List Event). Tells t.tree before x) (sym (append-nil mine)) tells)
-all_told t (a ∷ left) before mine tells later =
+all_own t [] before mine tells later = subst (λ (x : List Answer). Tells t.tree x (mine ++ [])) (sym (append-nil before)) (subst (λ (x : List Event). Tells t.tree before x) (sym (append-nil mine)) tells)
+all_own t (a ∷ left) before mine tells later =
     let one : List Event = event_of t.number (asked_after t.tree before) a in
     let over : IsAsking (state_after t.tree ((before ++ a ∷ []) ++ left)) = subst (λ (x : List Answer). IsAsking (state_after t.tree x)) (sym (append_assoc before (a ∷ []) left)) later in
     let told : Tells t.tree ((before ++ a ∷ []) ++ left) ((mine ++ one) ++ events_behind t.number t.tree (before ++ a ∷ []) left) =
-    all_told t left (before ++ a ∷ []) (mine ++ one) (next_told t before a mine tells (asked_within t left (before ++ a ∷ []) over)) over in
+    all_own t left (before ++ a ∷ []) (mine ++ one) (next_own_state t before a mine tells (asked_within t left (before ++ a ∷ []) over)) over in
     subst (λ (x : List Answer). Tells t.tree x (mine ++ (one ++ events_behind t.number t.tree (before ++ a ∷ []) left))) (append_assoc before (a ∷ []) left)
     (subst (λ (x : List Event). Tells t.tree ((before ++ a ∷ []) ++ left) x) (append_assoc mine one (events_behind t.number t.tree (before ++ a ∷ []) left)) told)
 
-pub own_told : (t : Task) (answers : List Answer) → IsAsking (state_after t.tree answers) → Tells t.tree answers (own_events t.number t.tree answers)
-own_told t answers later = all_told t answers [] [] (first_told t) later
+pub asks_as_tree : (t : Task) (answers : List Answer) → IsAsking (state_after t.tree answers) → Tells t.tree answers (own_events t.number t.tree answers)
+asks_as_tree t answers later = all_own t answers [] [] (first_own_state t) later
 
 -- ---- what may be asked
 
@@ -222,7 +222,7 @@ may_be_asked cell number row tree answers request there typed numbered asking =
     let t : Task = record { signals = length cell.signals; arm = is_some row.arm; cell = cell; number = number; tree = tree; typed = typed; numbered = numbered } in
     let mine : List Event = own_events number tree answers in
     let now : (d : Data) × (state_after tree answers ≡ Asking request d) = is_asking tree answers request asking in
-    let tells : Tells tree answers mine = own_told t answers (record { request = request; standing = now.0; is = now.1 }) in
+    let tells : Tells tree answers mine = asks_as_tree t answers (record { request = request; standing = now.0; is = now.1 }) in
     let same : (tells.request ≡ request) × (tells.standing ≡ now.0) = same_asked (state_after tree answers) tells.request request tells.standing now.0 tells.asking now.1 in
     let trapped : is_trapped mine ≡ now.0.trapped =
     told_trapped mine tells.standing.trapped tells.balanced ∙ ap (λ (d : Data). d.trapped) same.1 in

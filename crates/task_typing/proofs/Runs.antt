@@ -12,7 +12,7 @@ use Rattle.rapid_meaning.specs.Doings.{Doing, Gives, Raises, Asks, Ends, Misfit,
 use Rattle.rapid_meaning.specs.Flows.{Part}
 use Rattle.rapid_meaning.specs.Runs.{deep}
 use Rattle.task_typing.proofs.Meets.{Rules, Meets}
-use Rattle.task_typing.proofs.Told.{Told, calm, told_after}
+use Rattle.task_typing.proofs.OwnState.{OwnState, calm, own_state_after}
 
 -- it is no misfit, and what it comes to is as said
 abbrev pub Comes : {A : Type 0} → (rules : Rules) → (A → Data → Type 0) → (ℕ → Data → Type 0) → Outcome A → Type 0
@@ -50,14 +50,14 @@ comes_ending rules P E by fate d [] asked = asked
 comes_ending {A} rules P E by fate d (a ∷ left) asked = comes_when {A = A} rules P E (fits_request (by d.trapped) (End fate) a) (Ended d) (λ fits. (fate, asked))
 
 pub performed_comes : {A : Type 0} (rules : Rules) (run : Run) → RunComes rules run → (P : A → Data → Type 0) (E : ℕ → Data → Type 0)
-    (m : Doing A) (t : Told) (d : Data) (left : List Answer) → Meets rules P E m t d → Comes rules P E (performed (fitting_of rules.tree) run m d left)
+    (m : Doing A) (t : OwnState) (d : Data) (left : List Answer) → Meets rules P E m t d → Comes rules P E (performed (fitting_of rules.tree) run m d left)
 unfolding performed
 performed_comes rules run good P E (Gives v) t d left m = m.1
 performed_comes rules run good P E (Raises n) t d left m = m.1
 performed_comes rules run good P E (Asks request k) t d [] m = m.0.asked
 performed_comes rules run good P E (Asks request k) t d (a ∷ left) m =
     comes_when rules P E (fits_request (fitting_of rules.tree d.trapped) request a) (performed (fitting_of rules.tree) run (k a) d left)
-    (λ fits. performed_comes rules run good P E (k a) (told_after t request a) d left (m.2 a fits))
+    (λ fits. performed_comes rules run good P E (k a) (own_state_after t request a) d left (m.2 a fits))
 performed_comes rules run good P E (Ends fate) t d left m = comes_ending rules P E (fitting_of rules.tree) fate d left m.asked
 performed_comes rules run good P E Misfit t d left m = m
 performed_comes rules run good P E (Reads k) t d left m = performed_comes rules run good P E (k d) t d left m

@@ -2,7 +2,7 @@
 use Rattle.std.proofs.Common.{◌≡◌, refl, sym, ap, ◌∙◌, subst, ℕ, Bool, true, false, Option, Some, None, if◌then◌else◌, IsTrue}
 use Rattle.std.specs.Prelude.{⊤}
 use Rattle.rapid_model.specs.Fits.{fits_request}
-use Rattle.rapid_model.specs.Own.{fate_told, is_hold, is_leave, is_rise, is_trap}
+use Rattle.rapid_model.specs.Own.{fate_of, is_hold, is_leave, is_rise, is_trap}
 use Rattle.rapid_model.specs.Requests.{may_tell}
 use Rattle.rapid_model.specs.declared.answer.Answer.{Answer}
 use Rattle.rapid_model.specs.declared.fate.Fate.{Fate}
@@ -16,7 +16,7 @@ use Rattle.task_typing.specs.Asked.{IsAsked}
 use Rattle.task_typing.specs.Setting.{Setting}
 use Rattle.task_typing.proofs.Meets.{Meets, meets_after}
 use Rattle.task_typing.proofs.Scene.{Facts, Ghost, InScene, IsEnd, IsPart, Scene, frames_in, rules_of}
-use Rattle.task_typing.proofs.Told.{Told, calm, calm_itself, told_after}
+use Rattle.task_typing.proofs.OwnState.{OwnState, calm, calm_itself, own_state_after}
 
 abbrev pub Safe : {A : Type 0} → Scene → (A → Type 0) → Doing A → Type 0
 Safe s P m = (d : Data) → InScene s d → Meets (rules_of s.c) (λ v e. P v × InScene s e) (λ n e. InScene s e) m (calm d) d
@@ -54,12 +54,12 @@ safe_then s P Q m f safe sf = safe_after s P Q m f Raises safe sf (safe_raises s
 pub safe_reads : {A : Type 0} (s : Scene) (P : A → Type 0) (k : Data → Doing A) → ((d : Data) → InScene s d → Safe s P (k d)) → Safe s P (Reads k)
 safe_reads s P k safe d is = safe d is d is
 
-pub same_told : (s : Scene) (d e : Data) → InScene s d → InScene s e → calm e ≡ calm d
-same_told s d e id ie = ap (λ (b : Bool). let t : Told = record { held = false; trapped = b } in t) (ie.in_trap ∙ sym id.in_trap)
+pub same_own_state : (s : Scene) (d e : Data) → InScene s d → InScene s e → calm e ≡ calm d
+same_own_state s d e id ie = ap (λ (b : Bool). let t : OwnState = record { held = false; trapped = b } in t) (ie.in_trap ∙ sym id.in_trap)
 
 pub safe_writes : {A : Type 0} (s : Scene) (P : A → Type 0) (m : Doing A) (d e : Data) → InScene s d → InScene s e → Safe s P m
     → Meets (rules_of s.c) (λ v x. P v × InScene s x) (λ n x. InScene s x) m (calm d) e
-safe_writes s P m d e id ie safe = subst (λ (t : Told). Meets (rules_of s.c) (λ v x. P v × InScene s x) (λ n x. InScene s x) m t e) (same_told s d e id ie) (safe e ie)
+safe_writes s P m d e id ie safe = subst (λ (t : OwnState). Meets (rules_of s.c) (λ v x. P v × InScene s x) (λ n x. InScene s x) m t e) (same_own_state s d e id ie) (safe e ie)
 
 pub safe_change : (s : Scene) (to : Data → Data) → ((d : Data) → InScene s d → InScene s (to d)) → Safe s Anything (change to)
 safe_change s to keeps d is = safe_writes s Anything done d (to d) is (keeps d is) (safe_done s)
@@ -69,12 +69,12 @@ pub record IsQuiet (request : Request) : Type 0 where
   pub no_rise : is_rise request ≡ false
   pub no_hold : is_hold request ≡ false
   pub no_leave : is_leave request ≡ false
-  pub no_end : fate_told request ≡ None
+  pub no_end : fate_of request ≡ None
 
-quiet_told : (request : Request) (a : Answer) (d : Data) → IsQuiet request → is_trap a ≡ false → calm d ≡ told_after (calm d) request a
-quiet_told request a d quiet untrapped =
-    ap (λ (b : Bool). let t : Told = record { held = b; trapped = d.trapped } in t) (sym quiet.no_hold)
-    ∙ ap (λ (b : Bool). let t : Told = record { held = is_hold request; trapped = b } in t)
+quiet_own_state : (request : Request) (a : Answer) (d : Data) → IsQuiet request → is_trap a ≡ false → calm d ≡ own_state_after (calm d) request a
+quiet_own_state request a d quiet untrapped =
+    ap (λ (b : Bool). let t : OwnState = record { held = b; trapped = d.trapped } in t) (sym quiet.no_hold)
+    ∙ ap (λ (b : Bool). let t : OwnState = record { held = is_hold request; trapped = b } in t)
     (ap (λ (b : Bool). if b then false else d.trapped) (sym quiet.no_leave) ∙ ap (λ (b : Bool). if b then true else if is_leave request then false else d.trapped) (sym untrapped))
 
 -- each answer that fits is no trap, and goes on well
@@ -87,7 +87,7 @@ safe_asks s P request k quiet asked answered d is = (
   record { rises = quiet.no_rise; same = refl; asked = record { asked = asked d; trapped = s.trapped; frames = s.frames; state = is } },
   quiet.no_end,
   λ a fits.
-      subst (λ (t : Told). Meets (rules_of s.c) (λ v x. P v × InScene s x) (λ n x. InScene s x) (k a) t d) (quiet_told request a d quiet (answered d.trapped a fits).0)
+      subst (λ (t : OwnState). Meets (rules_of s.c) (λ v x. P v × InScene s x) (λ n x. InScene s x) (k a) t d) (quiet_own_state request a d quiet (answered d.trapped a fits).0)
       ((answered d.trapped a fits).1 d is),
 )
 

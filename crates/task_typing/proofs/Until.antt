@@ -6,7 +6,7 @@ use Rattle.std.proofs.lemmas.Bool.{and_from, and_parts}
 use Rattle.std.proofs.lemmas.List.{append-nil, map-append}
 use Rattle.rapid_model.specs.CellData.{CellData}
 use Rattle.rapid_model.specs.Fits.{fits_pers, fits_request, fitting_in}
-use Rattle.rapid_model.specs.Own.{end_of, fate_told, has_connected, has_ended, is_trapped}
+use Rattle.rapid_model.specs.Own.{end_of, fate_of, has_connected, has_ended, is_trapped}
 use Rattle.rapid_model.specs.declared.answer.Answer.{Answer}
 use Rattle.rapid_model.specs.declared.answer.Answer.TheVariants as answers
 use Rattle.rapid_model.specs.declared.event.Event.{Event}
@@ -24,10 +24,10 @@ use Rattle.task_typing.specs.OwnEvents.{AreFit, AreOwn}
 use Rattle.task_typing.specs.States.{IsPers}
 use Rattle.task_typing.specs.WellTyped.{WellTyped}
 use Rattle.task_typing.proofs.Events.{AreTraps, told_trapped}
-use Rattle.task_typing.proofs.Own.{Task, Tells, asks_it, behind_next, due_after, event_now, first_told, setting_of, told_next}
+use Rattle.task_typing.proofs.Own.{Task, Tells, asks_it, behind_next, due_after, event_now, first_own_state, setting_of, own_state_next}
 use Rattle.task_typing.proofs.Scene.{rules_of}
 use Rattle.task_typing.proofs.Steps.{Behind}
-use Rattle.task_typing.proofs.Told.{calm, told_after}
+use Rattle.task_typing.proofs.OwnState.{calm, own_state_after}
 use Rattle.task_typing.proofs.Whole.{asked, facts_of}
 
 -- ---- what fits by the cell fits by the tree
@@ -67,21 +67,21 @@ ended_or : (told : Option Fate) (last : Option Fate) → is_some last ≡ true �
 ended_or None last e = e
 ended_or (Some fate) last e = refl
 
-ended_last : (mine : List Event) (e : Event) (fate : Fate) → fate_told e.request ≡ Some fate → has_ended (mine ++ e ∷ []) ≡ true
+ended_last : (mine : List Event) (e : Event) (fate : Fate) → fate_of e.request ≡ Some fate → has_ended (mine ++ e ∷ []) ≡ true
 ended_last [] e fate told = ap (λ (o : Option Fate). is_some (option_or o None)) told
-ended_last (x ∷ more) e fate told = ended_or (fate_told x.request) (end_of (more ++ e ∷ [])) (ended_last more e fate told)
+ended_last (x ∷ more) e fate told = ended_or (fate_of x.request) (end_of (more ++ e ∷ [])) (ended_last more e fate told)
 
 one_more : (first : List Event) (e : Event) → answers_in first ++ e.answer ∷ [] ≡ answers_in (first ++ e ∷ [])
 one_more first e = sym (map-append (λ (x : Event). x.answer) first (e ∷ []))
 
 next_stood : (t : Task) (first : List Event) (tells : Tells t.tree (answers_in first) first) (a : Answer) (fate : Option Fate)
-    → IsTrue (fits_request (fitting_of t.tree tells.standing.trapped) tells.request a) → fate_told tells.request ≡ fate
-    → Behind (rules_of (setting_of t)) (λ (v : ⊤) d. ⊥) (λ n d. ⊥) fate (told_after (calm tells.standing) tells.request a) tells.standing (state_after t.tree (answers_in first ++ a ∷ []))
+    → IsTrue (fits_request (fitting_of t.tree tells.standing.trapped) tells.request a) → fate_of tells.request ≡ fate
+    → Behind (rules_of (setting_of t)) (λ (v : ⊤) d. ⊥) (λ n d. ⊥) fate (own_state_after (calm tells.standing) tells.request a) tells.standing (state_after t.tree (answers_in first ++ a ∷ []))
     → Stood t (first ++ event_now t (answers_in first) first tells a ∷ [])
 next_stood t first tells a None fits told behind =
     let e : Event = event_now t (answers_in first) first tells a in
     inl (subst (λ (x : List Answer). Tells t.tree x (first ++ e ∷ [])) (one_more first e)
-    (told_next t (answers_in first) a first tells fits told (due_after t (told_after (calm tells.standing) tells.request a) (answers_in first ++ a ∷ []) behind)))
+    (own_state_next t (answers_in first) a first tells fits told (due_after t (own_state_after (calm tells.standing) tells.request a) (answers_in first ++ a ∷ []) behind)))
 next_stood t first tells a (Some fate) fits told behind =
     let e : Event = event_now t (answers_in first) first tells a in
     inr (tells.standing, subst (λ (x : List Answer). state_after t.tree x ≡ Ended tells.standing) (one_more first e) behind, ended_last first e fate told)
@@ -104,7 +104,7 @@ stood_more t mine first left e cut own fit tells =
     let it : event_now t (answers_in first) first tells e.answer ≡ e =
     ap₂ (λ (actor : ℕ) (r : Request). let x : Event = record { actor = actor; request = r; answer = e.answer } in x) (sym (own.its first left e cut)) same in
     subst (λ (x : Event). Stood t (first ++ x ∷ [])) it
-    (next_stood t first tells e.answer (fate_told tells.request) fits refl (behind_next t (answers_in first) e.answer first tells fits))
+    (next_stood t first tells e.answer (fate_of tells.request) fits refl (behind_next t (answers_in first) e.answer first tells fits))
 
 no_more : (t : Task) (answers : List Answer) (d : Data) (request : Request) → state_after t.tree answers ≡ Ended d → asked_after t.tree answers ≡ asks request → ⊥
 unfolding asked_after
@@ -119,7 +119,7 @@ along t mine (e ∷ left) first cut own fit stood = ⊎_elim
     stood
 
 stood_at : (t : Task) (mine : List Event) → AreOwn t.number t.tree mine → AreFit t.cell mine → Stood t mine
-stood_at t mine own fit = along t mine mine [] refl own fit (inl (first_told t))
+stood_at t mine own fit = along t mine mine [] refl own fit (inl (first_own_state t))
 
 -- the events before one are the task's own, and fit
 further : (mine first left before after : List Event) (e x : Event) → mine ≡ first ++ e ∷ left → first ≡ before ++ x ∷ after → mine ≡ before ++ x ∷ (after ++ e ∷ left)

@@ -33,7 +33,7 @@ use Rattle.task_typing.proofs.Rows.{all_at}
 use Rattle.task_typing.proofs.Runs.{Comes, Keeps, deep_comes, performed_comes}
 use Rattle.task_typing.proofs.Scene.{Facts, IsDue, rules_of}
 use Rattle.task_typing.proofs.Steps.{Follows, Stands, deep_follows, deep_stands, performed_follows, performed_stands}
-use Rattle.task_typing.proofs.Told.{calm, calm_itself}
+use Rattle.task_typing.proofs.OwnState.{calm, calm_itself}
 
 -- all rows with a number have one type
 abbrev OneSort : List ℕ → List TypedPers → ℕ → Sort → Type 0

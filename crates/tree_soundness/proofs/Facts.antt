@@ -23,7 +23,7 @@ use Rattle.data_scopes.specs.declared.data_row.DatumRow.{DatumRow}
 use Rattle.data_scopes.specs.declared.data_row.ParamRow.{ParamRow}
 use Rattle.data_scopes.specs.declared.meant.Meant.{Meant}
 use Rattle.data_scopes.specs.declared.meant.Meant.TheVariants as meants
-use Rattle.data_scopes.specs.Called.{kind_of, local_of, param_of, params_in, place_row, places_in, places_of, value_row}
+use Rattle.data_scopes.specs.Called.{kind_of, local_of, param_of, params_in, own_row, data_count_in, data_count_of, value_row}
 use Rattle.data_scopes.specs.Meetings.{is_meeting, meetings_before}
 use Rattle.data_scopes.specs.Scopes.{Names, RoutineRow, Rows, meaning}
 use Rattle.named_data.specs.declared.named.NamedDatum.{NamedDatum}
@@ -77,7 +77,7 @@ fine predefineds.V5 = refl
 fine _ = refl
 
 -- the first places of a routine are its parameters
-place_first : (row : RoutineRow) (k : ℕ) (p : ParamRow) → slice_get row.params k ≡ Some p → place_row row k ≡ Some (value_row p)
+place_first : (row : RoutineRow) (k : ℕ) (p : ParamRow) → slice_get row.params k ≡ Some p → own_row row k ≡ Some (value_row p)
 place_first row k p is =
     let within : nat_lt k (length row.params) ≡ true = lt-ltb k (length row.params) (slice_get_within row.params k p is) in
     ap (λ (b : Bool). if b then option_map value_row (slice_get row.params k) else slice_get row.locals (k - length row.params)) within ∙ ap (option_map value_row) is
@@ -118,16 +118,16 @@ module _ (modules : List PlainModule) (signals : List SignalRow) (c : Setting) (
       }
 
   module _ (t : TypedRoutine) (a : Around t) where
-    place_is : (place : ℕ) (row : DatumRow) → local_of other.rows spot.routine place ≡ Some row → place_row a.row place ≡ Some row
+    place_is : (place : ℕ) (row : DatumRow) → local_of other.rows spot.routine place ≡ Some row → own_row a.row place ≡ Some row
     place_is place row e =
-        sym (ap (λ (rs : Rows). local_of rs spot.routine place) like.rows ∙ ap (λ (o : Option ℕ). local_of names.rows o place) a.inside ∙ ap (option_and_then (λ x. place_row x place)) a.has_row) ∙ e
+        sym (ap (λ (rs : Rows). local_of rs spot.routine place) like.rows ∙ ap (λ (o : Option ℕ). local_of names.rows o place) a.inside ∙ ap (option_and_then (λ x. own_row x place)) a.has_row) ∙ e
 
     param_is : (place : ℕ) (row : ParamRow) → param_of other.rows spot.routine place ≡ Some row → slice_get a.row.params place ≡ Some row
     param_is place row e =
         sym (ap (λ (rs : Rows). param_of rs spot.routine place) like.rows ∙ ap (λ (o : Option ℕ). param_of names.rows o place) a.inside ∙ ap (λ (o : Option RoutineRow). slice_get (params_in o) place) a.has_row) ∙ e
 
     -- a parameter by value
-    value_at : (place : ℕ) (row : DatumRow) (p : TypedParam) → place_row a.row place ≡ Some row → slice_get t.params place ≡ Some p → kind_in p ≡ Owns p.sort None → IsAt (roots.Local place) row.sort row.array
+    value_at : (place : ℕ) (row : DatumRow) (p : TypedParam) → own_row a.row place ≡ Some row → slice_get t.params place ≡ Some p → kind_in p ≡ Owns p.sort None → IsAt (roots.Local place) row.sort row.array
     value_at place row p e is kind =
         let o = origin ParamAlike a.row.params t.params place p a.alike.params is in
         let same : value_row o.x ≡ row = same_Some (value_row o.x) row (sym (place_first a.row place o.x o.is) ∙ e) in
@@ -137,7 +137,7 @@ module _ (modules : List PlainModule) (signals : List SignalRow) (c : Setting) (
           ap (λ x. x.array) same,
         )
 
-    datum_at : (place k : ℕ) (row : DatumRow) (l : TypedLocal) → place_row a.row place ≡ Some row → place ≡ length t.params + k → slice_get t.locals k ≡ Some l → IsAt (roots.Local place) row.sort row.array
+    datum_at : (place k : ℕ) (row : DatumRow) (l : TypedLocal) → own_row a.row place ≡ Some row → place ≡ length t.params + k → slice_get t.locals k ≡ Some l → IsAt (roots.Local place) row.sort row.array
     datum_at place k row l e behind is =
         let o = origin LocalAlike a.row.locals t.locals k l a.alike.locals is in
         let long = each_length ParamAlike a.row.params t.params a.alike.params in
@@ -154,14 +154,14 @@ module _ (modules : List PlainModule) (signals : List SignalRow) (c : Setting) (
         let sort : p.sort ≡ row.sort = o.such.1 ∙ ap (λ x. x.sort) same in
         (None, (ap (λ (ks : List Kind). slice_get ks place) a.kinds_are ∙ param_kind t place p is ∙ ap Some kind ∙ ap (λ (x : Sort). Some (Refers x)) sort, refl), refl)
 
-    pub loop_at : (k : ℕ) → k < t.loops → slice_get kinds (places_of other.rows spot.routine + k) ≡ Some Counts
+    pub loop_at : (k : ℕ) → k < t.loops → slice_get kinds (data_count_of other.rows spot.routine + k) ≡ Some Counts
     loop_at k few =
         let params = each_length ParamAlike a.row.params t.params a.alike.params in
         let rows = each_length LocalAlike a.row.locals t.locals a.alike.locals in
-        let many : places_of other.rows spot.routine ≡ length a.row.params + length a.row.locals =
-        ap (λ (rs : Rows). places_of rs spot.routine) like.rows ∙ ap (places_of names.rows) a.inside ∙ ap places_in a.has_row in
-        ap (λ (ks : List Kind). slice_get ks (places_of other.rows spot.routine + k)) a.kinds_are
-        ∙ loop_kind t k (places_of other.rows spot.routine + k) (omega (arith, many, params, rows)) few
+        let many : data_count_of other.rows spot.routine ≡ length a.row.params + length a.row.locals =
+        ap (λ (rs : Rows). data_count_of rs spot.routine) like.rows ∙ ap (data_count_of names.rows) a.inside ∙ ap data_count_in a.has_row in
+        ap (λ (ks : List Kind). slice_get ks (data_count_of other.rows spot.routine + k)) a.kinds_are
+        ∙ loop_kind t k (data_count_of other.rows spot.routine + k) (omega (arith, many, params, rows)) few
 
   -- what has a place of its own
   stored_holds : (root : TreeRoot) (row : Option DatumRow) (d : NamedDatum) → ((r : DatumRow) → row ≡ Some r → IsAt root r.sort r.array) → IsStored here root row d → Holds c kinds d.source d.sort d.array

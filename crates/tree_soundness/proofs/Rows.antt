@@ -10,7 +10,7 @@ use Rattle.typed_trees.specs.Plain.{TypedLocal, TypedPers, TypedSlot}
 use Rattle.constant_meaning.specs.Constants.{Elements}
 use Rattle.data_scopes.specs.declared.data_row.DatumRow.{DatumRow}
 use Rattle.data_scopes.specs.declared.data_row.ParamRow.{ParamRow}
-use Rattle.data_scopes.specs.Called.{local_of, place_row, value_row}
+use Rattle.data_scopes.specs.Called.{local_of, own_row, value_row}
 use Rattle.data_scopes.specs.Numbers.{is_const, is_pers, is_scalar_const}
 use Rattle.data_scopes.specs.Rows.{scalar_rows, since_of, with_routine, rows_by}
 use Rattle.data_scopes.specs.Scopes.{Names, RoutineRow, Rows, Tables}
@@ -126,7 +126,7 @@ initial_alike names number routine known sort d i (has, is_len, are_values) = le
 sort_there : (rows all : List DatumRow) (row : DatumRow) (n : ℕ) → IsFront (rows ++ row ∷ []) all → n ≡ length rows → sort_in (slice_get all n) ≡ row.sort
 sort_there rows all row n front e = ap sort_in (ap (slice_get all) e ∙ front (length rows) row (get_last rows row))
 
-pub place_behind : (row : RoutineRow) (k n : ℕ) → n ≡ length row.params + k → place_row row n ≡ slice_get row.locals k
+pub place_behind : (row : RoutineRow) (k n : ℕ) → n ≡ length row.params + k → own_row row n ≡ slice_get row.locals k
 place_behind row k n e =
     let le : length row.params ≤ n = omega (arith, e) in
     let past : nat_lt n (length row.params) ≡ false = le-ltb n (length row.params) le in
@@ -226,7 +226,7 @@ module _ (tables : Tables) (names : Names) (K : Progress → Type 0) (L : List (
         let sort : Sort = sort_in (local_of n.names.rows (Some routine) (length n.known)) in
         let found : local_of n.names.rows (Some routine) (length n.known) ≡ Some f =
         ap (λ (r : Rows). local_of r (Some routine) (length n.known)) h.like.rows
-        ∙ ap (option_and_then (λ x. place_row x (length n.known))) there
+        ∙ ap (option_and_then (λ x. own_row x (length n.known))) there
         ∙ place_behind row (length before) (length n.known) h.places
         ∙ ap (λ (ls : List DatumRow). slice_get ls (length before)) are
         ∙ between before later f in

@@ -18,7 +18,7 @@ use Rattle.expr_types.specs.Arguments.{is_held}
 use Rattle.expr_types.specs.Calls.{routine_signature, taking}
 use Rattle.expr_types.specs.Typing.{sort_of}
 use Rattle.body_types.specs.Bodies as bodies
-use Rattle.body_types.specs.Bodies.{Body, counter_place, into, into_loop, place_sort, site}
+use Rattle.body_types.specs.Bodies.{Body, counter_index, into, into_loop, place_sort, site}
 use Rattle.typing_rules.specs.Expressions.{IsExpr as IsTypedExpr}
 use Rattle.typing_rules.specs.Statements.{AreBranches, AreCaseValues as AreTypedValues, AreChoices, AreStmts as AreTypedStmts, IsCalled, IsConnect, IsNamed, IsOtherwise, IsPlaceOf, IsRaise, IsReturn, IsReturnedValue, IsStep as IsTypedStep, IsStmt as IsTypedStmt, IsTarget}
 use Rattle.typing_rules.proofs.StatementLaws.{stmts_law}
@@ -70,7 +70,7 @@ return_alone body s at routines.Trap t is = (is, tt)
 
 -- names stand for what the tree has at each statement of a routine's body, of these kinds and with so many FORs
 module _ (c : Setting) (kinds : List Kind) (body : Body) (loops : ℕ) (suits : (around : bodies.Around) (at : ℕ) → Suits c kinds (site body around at))
-    (counts : (n : ℕ) → n < loops → slice_get kinds (counter_place body n) ≡ Some Counts) where
+    (counts : (n : ℕ) → n < loops → slice_get kinds (counter_index body n) ≡ Some Counts) where
   -- what is around a statement there, in these lists
   abbrev pub inside : Bool → List TypedStmts → Around
   inside handler lists = record { places = kinds; kind = body.kind; result = result_of body.names.rows body.routine; handler = handler; lists = lists }
@@ -165,7 +165,7 @@ module _ (c : Setting) (kinds : List Kind) (body : Body) (loops : ℕ) (suits : 
         let lands : Lands (owned lists) (trees.IfOne at u v) = subst (Lands (owned lists)) is land in
         subst (IsStmt c (inside around.handler lists)) (sym is) (typed_expr around at test sorts.Bool u is_test, stmt_right simple around next v past lists one few lands)
     stmt_right (For at name first last step list) around next t past lists (f, l, u, ts, is_first, is_last, is_step, are, is) few land =
-        let lands : Lands (owned lists) (trees.For at (counter_place body next) f l u ts) = subst (Lands (owned lists)) is land in
+        let lands : Lands (owned lists) (trees.For at (counter_index body next) f l u ts) = subst (Lands (owned lists)) is land in
         let grows = stmts_grow body list (into_loop around next list) (next + 1) ts past are in
         subst (IsStmt c (inside around.handler lists)) (sym is) (
           counts next (omega (arith, grows, few)),

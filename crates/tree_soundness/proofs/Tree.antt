@@ -203,7 +203,7 @@ module _ (modules : List PlainModule) (tasks : List (List ℕ)) (signals : List 
     here : (around : bodies.Around) (at : ℕ) → Suits c kinds (bodies.site body around at)
     here around at = suits modules signals c names facts p.names shape.like valued.kept (bodies.site body around at).spot
 
-    counts : (n : ℕ) → n < t.loops → slice_get kinds (bodies.counter_place body n) ≡ Some Counts
+    counts : (n : ℕ) → n < t.loops → slice_get kinds (bodies.counter_index body n) ≡ Some Counts
     counts n few =
         let o = origin RoutineAlike names.rows.routines tree.routines k t facts.routines there in
         loop_at modules signals c names facts p.names shape.like valued.kept (bodies.site body (outside false) 0).spot t

@@ -14,7 +14,7 @@ use Rattle.named_data.specs.declared.wanted.Wanted.TheVariants.{Is, Fits}
 use Rattle.named_data.specs.Data.{named}
 use Rattle.named_data.specs.Rules.{Site, at_byte}
 use Rattle.expr_types.specs.Typing.{typed, sort_of}
-use Rattle.body_types.specs.Bodies.{Body, Around, Typed, site, into, into_loop, target, place_sort, assigned, called, returned, raised, connected, bounds, counter_place, case_values, then_next, stmt, stmts, branches, choices, otherwise}
+use Rattle.body_types.specs.Bodies.{Body, Around, Typed, site, into, into_loop, target, place_sort, assigned, called, returned, raised, connected, bounds, counter_index, case_values, then_next, stmt, stmts, branches, choices, otherwise}
 use Rattle.body_types.specs.Labels.{label_number, is_first, is_visible}
 use Rattle.typing_rules.specs.Expressions.{IsExpr}
 use Rattle.typing_rules.proofs.Steps.{in_words, done, then, where_it_holds}
@@ -49,12 +49,12 @@ where_ruled s holds at rule tree next r =
 
 for_law : {AreInside : Typed TypedStmts → Type 0} (body : Body) (s : Site) (at : ℕ) (first last : PlainExpr) (step : Option PlainExpr) (list : Checked (Typed TypedStmts)) (next : ℕ) (r : Typed TypedStmt)
     → ((l : Typed TypedStmts) → (list ≡ Ok l) ↔ AreInside l)
-    → ((bounds s first last step >>= (λ b. list >>= (λ l. Ok (record { tree = Plain.For at (counter_place body next) b.first b.last b.step l.tree; next = l.next })))) ≡ Ok r)
+    → ((bounds s first last step >>= (λ b. list >>= (λ l. Ok (record { tree = Plain.For at (counter_index body next) b.first b.last b.step l.tree; next = l.next })))) ≡ Ok r)
     ↔ ((f : TypedExpr) × (l : TypedExpr) × (u : Option TypedExpr) × (ts : TypedStmts) × IsExpr s first (Is sorts.Num) f × IsExpr s last (Is sorts.Num) l × IsStep s step u
-    × AreInside (record { tree = ts; next = r.next }) × (r.tree ≡ Plain.For at (counter_place body next) f l u ts))
+    × AreInside (record { tree = ts; next = r.next }) × (r.tree ≡ Plain.For at (counter_index body next) f l u ts))
 for_law body s at first last step list next r law =
     in_words
-    (headed (bounds s first last step) list (λ b ts. Plain.For at (counter_place body next) b.first b.last b.step ts) r (bounds_law s first last step) law)
+    (headed (bounds s first last step) list (λ b ts. Plain.For at (counter_index body next) b.first b.last b.step ts) r (bounds_law s first last step) law)
     (λ (b, ts, (is_first, is_last, is_step), are, is). (b.first, b.last, b.step, ts, is_first, is_last, is_step, are, is))
     (λ (f, l, u, ts, is_first, is_last, is_step, are, is). (record { first = f; last = l; step = u }, ts, (is_first, is_last, is_step), are, is))
 

@@ -24,7 +24,7 @@ use Rattle.typing_rules.specs.Names.{IsPlace}
 use Rattle.typing_rules.specs.Calls.{Stands, IsCall}
 use Rattle.typing_rules.specs.Expressions.{IsExpr, IsIndex, AreArguments}
 use Rattle.body_types.specs.Labels.{label_number, is_first, is_visible}
-use Rattle.body_types.specs.Bodies.{Body, Around, site, into, into_loop, counter_place, place_sort, is_signal, name_of}
+use Rattle.body_types.specs.Bodies.{Body, Around, site, into, into_loop, counter_index, place_sort, is_signal, name_of}
 
 -- a part of what the place names
 abbrev pub IsNamed : Site → PlainPlace → NamedPart → Type 0
@@ -108,7 +108,7 @@ unfoldable mutual
   IsStmt body (For at name first last step list) around next t past =
       (f : TypedExpr) × (l : TypedExpr) × (u : Option TypedExpr) × (ts : TypedStmts) × IsExpr (site body around at) first (Is sorts.Num) f
       × IsExpr (site body around at) last (Is sorts.Num) l × IsStep (site body around at) step u
-      × AreStmts body list (into_loop around next list) (next + 1) ts past × (t ≡ Plain.For at (counter_place body next) f l u ts)
+      × AreStmts body list (into_loop around next list) (next + 1) ts past × (t ≡ Plain.For at (counter_index body next) f l u ts)
   IsStmt body (While at test list) around next t past =
       (u : TypedExpr) × (ts : TypedStmts) × IsExpr (site body around at) test (Is sorts.Bool) u
       × AreStmts body list (into around list) next ts past × (t ≡ Plain.While at u ts)

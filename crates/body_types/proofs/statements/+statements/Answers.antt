@@ -16,7 +16,7 @@ use Rattle.rule_checks.specs.TypeChecks.{Checked}
 use Rattle.named_data.specs.declared.wanted.Wanted.TheVariants.{Is, Fits}
 use Rattle.named_data.specs.Views.{view_site}
 use Rattle.expr_types.specs.Typing.{typed, sort_of}
-use Rattle.body_types.specs.Bodies.{Bounds, Typed, bounds, branches, case_values, choices, counter_place, otherwise, stmt, stmts, with_next}
+use Rattle.body_types.specs.Bodies.{Bounds, Typed, bounds, branches, case_values, choices, counter_index, otherwise, stmt, stmts, with_next}
 use Rattle.body_types.specs.Parts.{cases_in, else_in}
 use Rattle.body_types.specs.Views.{view_around, view_body, view_bounds, view_typed_arms, view_typed_cases, view_typed_else, view_typed_list, view_typed_one}
 use Rattle.expr_types.proofs.Loops.{behind, stops, then_more}
@@ -256,7 +256,7 @@ stmt-returns-in_ok-tree-in-For t c =
     ∙ ap (λ n. inside body (record around { within = Some next }) list n >>= as_for body s.at next b) behind_number
     ∙ ap (λ a. inside body a list c.in_ok-number_after-in-For.field-0 >>= as_for body s.at next b) (sym c.in_loop.ensures) in
     let typed_list = c.in_ok-list-in-For.list in
-    let place : counter_place body next ≡ c.in_ok-local-in-For.local = cc c.in_ok-local-in-For.ensures in
+    let place : counter_index body next ≡ c.in_ok-local-in-For.local = cc c.in_ok-local-in-For.ensures in
     found ∙ ap (λ (r : Checked (Typed Plain.TypedStmts)). r >>= as_for body s.at next b) c.in_ok-list-in-For.ensures
     ∙ ap (λ p. Ok (with_next typed_list.next (Plain.For s.at p b.first b.last b.step (stmts_of (view_list typed_list.list))))) place
     ∙ ap (λ tree. Ok (with_next typed_list.next tree)) (sym c.in_ok-tree-in-For.ensures) ∙ ap Ok (sym c.with_next-in-For.ensures)

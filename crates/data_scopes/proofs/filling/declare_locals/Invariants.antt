@@ -5,4 +5,4 @@ use Rattle.data_scopes.proofs.filling.declare_locals.Given as goal
 
 abbrev pub invariant-loop-datum : goal.invariant-loop-datum
 invariant-loop-datum l =
-    declare_locals l.place l.consts (map view_datum (drop l.datum-index l.locals)) l.scope ≡ declare_locals l.fn.first l.fn.before (map view_datum l.locals) l.initial.scope
+    declare_locals l.index l.consts (map view_datum (drop l.datum-index l.locals)) l.scope ≡ declare_locals l.fn.first l.fn.before (map view_datum l.locals) l.initial.scope

@@ -5,5 +5,5 @@ use Rattle.data_scopes.proofs.walking.locals_rules.Given as goal
 
 abbrev pub invariant-loop-datum : goal.invariant-loop-datum
 invariant-loop-datum l =
-    locals_rules l.tables l.number l.routine l.place l.consts (map view_datum (drop l.datum-index l.locals))
+    locals_rules l.tables l.number l.routine l.index l.consts (map view_datum (drop l.datum-index l.locals))
     ≡ locals_rules l.tables l.number l.routine l.fn.first l.fn.before (map view_datum l.locals)

@@ -5,5 +5,5 @@ use Rattle.data_scopes.proofs.walking.params_rules.Given as goal
 
 abbrev pub invariant-loop-param : goal.invariant-loop-param
 invariant-loop-param l =
-    (l.place ≡ l.param-index)
-    × (params_rules l.tables l.number l.routine l.place (map view_param (drop l.param-index l.params)) ≡ params_rules l.tables l.number l.routine 0 (map view_param l.params))
+    (l.index ≡ l.param-index)
+    × (params_rules l.tables l.number l.routine l.index (map view_param (drop l.param-index l.params)) ≡ params_rules l.tables l.number l.routine 0 (map view_param l.params))

@@ -1,4 +1,4 @@
-use Rattle.expr_parser.proofs.Told.{expr_known, spelled_once}
+use Rattle.expr_parser.proofs.Known.{expr_known, spelled_once}
 use Rattle.expr_parser.proofs.Precedence.{not_of_both_spelled}
 use Rattle.expr_parser.proofs.laws.not_covers_and.Goals as goal
 

@@ -2,7 +2,7 @@ use Rattle.rapid_forms.proofs.Spelled.{reads_answer, one_holds, parsed_once, par
 use Rattle.expr_parser.specs.Reads.{expr_read}
 use Rattle.expr_parser.proofs.Ahead.{expr_ll}
 use Rattle.expr_parser.proofs.Answered.{expr_reads, expr_above}
-use Rattle.expr_parser.proofs.Told.{expr_known, spelled_once}
+use Rattle.expr_parser.proofs.Known.{expr_known, spelled_once}
 use Rattle.expr_parser.proofs.laws.one_answer.Goals as goal
 
 pub returns : goal.returns

@@ -1,6 +1,6 @@
 use Rattle.std.proofs.lemmas.Result.{err_from_is_err_and}
 use Rattle.raw_trees.specs.Views.{view_expr}
-use Rattle.expr_parser.proofs.Told.{found, refused, expr_known}
+use Rattle.expr_parser.proofs.Known.{found, refused, expr_known}
 use Rattle.expr_parser.proofs.parse.parse_expr.Goals as goal
 
 pub returns-in_err-tree : goal.returns-in_err-tree

@@ -1,9 +1,9 @@
 use Rattle.rapid_forms.proofs.Spelled.{reads_answer, one_holds, parsed_once, parsed_faulty, parsed_deep, faulty_once, faulty_deep, deep_once}
-use Rattle.expr_parser.proofs.Told.{spelled_once}
+use Rattle.expr_parser.proofs.Known.{spelled_once}
 use Rattle.stmt_parser.specs.Reads.{items_read}
 use Rattle.stmt_parser.proofs.Ahead.{items_ll}
 use Rattle.stmt_parser.proofs.Answered.{items_reads, items_above}
-use Rattle.stmt_parser.proofs.Told.{items_known}
+use Rattle.stmt_parser.proofs.Known.{items_known}
 use Rattle.stmt_parser.proofs.laws.one_list.Goals as goal
 
 pub returns : goal.returns

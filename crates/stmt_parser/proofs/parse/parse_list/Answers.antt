@@ -1,7 +1,7 @@
 use Rattle.std.proofs.lemmas.Result.{err_from_is_err_and}
 use Rattle.raw_trees.specs.Views.{view_list}
-use Rattle.expr_parser.proofs.Told.{found, refused}
-use Rattle.stmt_parser.proofs.Told.{items_known}
+use Rattle.expr_parser.proofs.Known.{found, refused}
+use Rattle.stmt_parser.proofs.Known.{items_known}
 use Rattle.stmt_parser.proofs.parse.parse_list.Goals as goal
 
 pub returns-in_err-list : goal.returns-in_err-list

@@ -8,11 +8,11 @@ use Rattle.stmt_types.proofs.params.typed_params.Goals as goal
 
 pub returns-in_default : goal.returns-in_default
 returns-in_default c =
-    let none : slice_get c.args.rows.now c.loop-place.place ≡ None = sym c.row_at.ensures ∙ c.in_default.is in
-    ap Ok (sym c.loop-place.invariant ∙ ap (λ more. map view_param c.loop-place.typed.items ++ more) (no_rows_left (map view_raw (drop c.loop-place.place c.args.params.now)) c.args.rows.now c.loop-place.place none) ∙ append-nil _)
+    let none : slice_get c.args.rows.now c.loop-index.index ≡ None = sym c.row_at.ensures ∙ c.in_default.is in
+    ap Ok (sym c.loop-index.invariant ∙ ap (λ more. map view_param c.loop-index.typed.items ++ more) (no_rows_left (map view_raw (drop c.loop-index.index c.args.params.now)) c.args.rows.now c.loop-index.index none) ∙ append-nil _)
 
-pub loop-place-preserved : goal.loop-place-preserved
-loop-place-preserved c =
-    let here : slice_get c.args.rows.now c.loop-place.place ≡ Some c.in-Some.row = sym c.row_at.ensures ∙ c.in-Some.is in
-    one_more_param (map view_param c.loop-place.typed.items) (map view_param c.in_ok-typed.typed.items) c.args.params.now c.args.rows.now c.loop-place.place _ c.in-Some.row c.loop-place-test.true here (ok_same _ _ c.in_ok-typed.ensures)
-    ∙ c.loop-place.invariant
+pub loop-index-preserved : goal.loop-index-preserved
+loop-index-preserved c =
+    let here : slice_get c.args.rows.now c.loop-index.index ≡ Some c.in-Some.row = sym c.row_at.ensures ∙ c.in-Some.is in
+    one_more_param (map view_param c.loop-index.typed.items) (map view_param c.in_ok-typed.typed.items) c.args.params.now c.args.rows.now c.loop-index.index _ c.in-Some.row c.loop-index-test.true here (ok_same _ _ c.in_ok-typed.ensures)
+    ∙ c.loop-index.invariant

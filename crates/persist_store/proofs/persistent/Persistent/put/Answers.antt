@@ -17,4 +17,4 @@ invariant_of-self c =
     ap (λ e. put_part e part c.args.value) (sym (c.copy-element.ensures ∙ c.element.ensures.same)) ∙ sym c.with_part.ensures ∙ c.unwrap.ensures
     in
     let stands = subst (λ (r : PersData). put_part (element_of r index) part c.args.value ≡ Some c.unwrap.result) (sym c.self.view_is) put in
-    rw c.place_of-place.ensures (kept_put row index part c.args.value c.unwrap.result c.self.invariant there fits stands)
+    rw c.offset_of-offset.ensures (kept_put row index part c.args.value c.unwrap.result c.self.invariant there fits stands)

@@ -15,5 +15,5 @@ returns-clause-turns c = λ code.
     let h = here_of code s.conf in
     let on : on_truth s.conf.stack (λ b rest. if b then to_next h rest else holds h c.args.to rest) ≡ holds h c.args.to t.conf.stack =
     rw c.if-ready.false at (c.in_ok-ready.ensures.on (λ b rest. if b then to_next h rest else holds h c.args.to rest)) in
-    let told : c.seen-seen.result ≡ seen_in t.data'.frames = c.seen-seen.ensures ∙ ap (λ (u : Seen). seen_in u.data'.frames) c.self.view_is in
-    alike_then code _ _ _ _ _ _ (alike_is code _ _ s.data' on) (wait_holds code s t c.args.to c.seen-seen.result c.in_ok-ready.ensures.rest told)
+    let confirmed : c.seen-seen.result ≡ seen_in t.data'.frames = c.seen-seen.ensures ∙ ap (λ (u : Seen). seen_in u.data'.frames) c.self.view_is in
+    alike_then code _ _ _ _ _ _ (alike_is code _ _ s.data' on) (wait_holds code s t c.args.to c.seen-seen.result c.in_ok-ready.ensures.rest confirmed)

@@ -1,4 +1,4 @@
-//! Places of the variables of FORs.
+//! Indices of the variables of FORs.
 
 ghost use Rattle.std.specs.Prelude.{Ok};
 ghost use Rattle.rule_checks.specs.TypeChecks.{Gives};
@@ -8,17 +8,17 @@ ghost use Rattle.body_types.specs.Views.{view_body};
 use crate::body::Body;
 use rule_checks::TypeFault;
 
-/// The place of the variable of the FOR of this number, behind the parameters and data of its routine. Its error is want of
+/// The index of the variable of the FOR of this number, behind the parameters and data of its routine. Its error is want of
 /// memory, also for a number past 32 bits.
-pub(crate) fn counter_place(body: &Body<'_, '_>, number: u32) -> Result<u32, TypeFault>
-    ensures { Gives (λ n. n) result (Ok (Bodies.counter_place (view_body body.now) number)) }
+pub(crate) fn counter_index(body: &Body<'_, '_>, number: u32) -> Result<u32, TypeFault>
+    ensures { Gives (λ n. n) result (Ok (Bodies.counter_index (view_body body.now) number)) }
 {
-    let before = body.scopes.places(Some(body.routine));
+    let before = body.scopes.data_count(Some(body.routine));
     let Ok(first) = u32::try_from(before) else {
         return Err(TypeFault::Memory);
     };
     match first.checked_add(number) {
-        Some(place) => Ok(place),
+        Some(index) => Ok(index),
         None => Err(TypeFault::Memory),
     }
 }

@@ -1,6 +1,6 @@
 -- What the functions of statements give, as their callers are told it.
 use Rattle.std.proofs.Common.{ℕ}
-use Rattle.expr_parser.proofs.Told.{Known}
+use Rattle.expr_parser.proofs.Known.{Known}
 use Rattle.stmt_parser.specs.Grammar.{items}
 use Rattle.stmt_parser.specs.Reads.{items_read}
 use Rattle.stmt_parser.proofs.Ahead.{items_ll}
