@@ -11,7 +11,7 @@ use Rattle.controller.specs.declared.report.Report.{Report}
 use Rattle.controller.specs.Answered.{AnswersAccepted, ListsOrMemory, RunsOrMemory}
 use Rattle.controller.specs.Files.{IsDoneFault, IsLoadFault}
 use Rattle.controller.specs.Printed.{Sunk}
-use Rattle.controller.specs.Words.{refused_word}
+use Rattle.controller.specs.Words.{refused_place}
 
 fault_is : (old new : ℕ) (refused other : Refused) (told : Option Refused) → IsLoadFault old new refused → told ≡ Some refused → told ≡ Some other → IsLoadFault old new other
 fault_is old new refused other told fault is same =
@@ -19,10 +19,10 @@ fault_is old new refused other told fault is same =
     let equal : refused ≡ other = cc in
     subst (λ (r : Refused). IsLoadFault old new r) equal fault
 
-pub no_words : (words : List (List ℕ)) (old new : ℕ) (refused : Refused) (told : Option Refused) → refused_word words ≡ None → IsLoadFault old new refused → told ≡ Some refused
-    → (index : ℕ) → (told ≡ Some (Words index)) ↔ (refused_word words ≡ Some index)
-no_words words old new refused told taken fault is = λ index.
-    (λ same. absurd (fault_is old new refused (Words index) told fault is same), λ same. absurd (let no : None ≡ Some index = sym taken ∙ same in cc))
+pub no_words : (words : List (List ℕ)) (old new : ℕ) (refused : Refused) (told : Option Refused) → refused_place words ≡ None → IsLoadFault old new refused → told ≡ Some refused
+    → (place : ℕ) → (told ≡ Some (Words place)) ↔ (refused_place words ≡ Some place)
+no_words words old new refused told taken fault is = λ place.
+    (λ same. absurd (fault_is old new refused (Words place) told fault is same), λ same. absurd (let no : None ≡ Some place = sym taken ∙ same in cc))
 
 pub read_counted : (start old new : ℕ) (refused : Refused) (told : Option Refused) → start ≤ old → old ≤ new → IsLoadFault old new refused → told ≡ Some refused
     → (file : ℕ) → told ≡ Some (Read file) → Rose start new

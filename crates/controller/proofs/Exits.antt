@@ -14,7 +14,7 @@ use Rattle.controller.specs.declared.command.Action.TheVariants as actions
 use Rattle.controller.specs.declared.report.Report.{Report}
 use Rattle.controller.specs.declared.refused.Refused.{Refused}
 use Rattle.controller.specs.declared.refused.Refused.TheVariants.{Words, Memory}
-use Rattle.controller.specs.Words.{refused_word, plain_words, first_action, script_name}
+use Rattle.controller.specs.Words.{refused_place, plain_words, first_action, script_name}
 use Rattle.controller.specs.Files.{Reads, told_reads, text_of}
 use Rattle.controller.specs.Loaded.{names_in_turn, file_names, bytes_of, reads_of, IsScriptIn, TextsDecide}
 use Rattle.controller.specs.Accepted.{Verdict, refuses, accepts, runs, lists, Accepted, ReadModule, script_limit, file_text, ModulesOf, checked, ActionDecides, CheckedDecides, ModulesDecide, FileDecides, WordsDecide}
@@ -36,12 +36,12 @@ words_answered words None gave report out err from (inr a) = inr (a.0, (gave, a.
 words_answered words (Some files) gave report out err from (inr a) = inr (a.0, subst (λ (g : Reads). Accepted words g a.0) (sym from) a.1, a.2)
 
 -- the words are refused
-pub words_refused : (words : List (List ℕ)) (told : Option Told) (index : ℕ) (report : Report) (out err : Sunk) → refused_word words ≡ Some index
-    → IsRefused [] (Words index) report out err → AnswersWords words told report out err
-words_refused words told index report out err at r =
+pub words_refused : (words : List (List ℕ)) (told : Option Told) (place : ℕ) (report : Report) (out err : Sunk) → refused_place words ≡ Some place
+    → IsRefused [] (Words place) report out err → AnswersWords words told report out err
+words_refused words told place report out err at r =
     words_answered words told (some_reads told) report out err (are_from told) (inr (
-      refuses [] (Words index),
-      record { decides = subst (λ (o : Option ℕ). WordsDecide (some_reads told) words o (refuses [] (Words index))) (sym at) refl },
+      refuses [] (Words place),
+      record { decides = subst (λ (o : Option ℕ). WordsDecide (some_reads told) words o (refuses [] (Words place))) (sym at) refl },
       r,
     ))
   where
@@ -55,7 +55,7 @@ words_refused words told index report out err at r =
     are_from (Some files) = refl
 
 -- what the words come to, from what the script's file comes to
-words_decide : (words : List (List ℕ)) (gave : Reads) (name : List ℕ) (read : Result (List ℕ) Refused) (verdict : Verdict) → refused_word words ≡ None → name ≡ script_name words
+words_decide : (words : List (List ℕ)) (gave : Reads) (name : List ℕ) (read : Result (List ℕ) Refused) (verdict : Verdict) → refused_place words ≡ None → name ≡ script_name words
     → file_text gave 0 script_limit name ≡ read → FileDecides (first_action (plain_words words)) gave name read verdict → Accepted words gave verdict
 words_decide words gave name read verdict taken is same d = record {
   decides =
@@ -64,7 +64,7 @@ words_decide words gave name read verdict taken is same d = record {
       (subst (λ (r : Result (List ℕ) Refused). FileDecides (first_action (plain_words words)) gave name r verdict) (sym same) d));
 }
 
-script_refused_in : (words : List (List ℕ)) (gave : Reads) (name : List ℕ) (refused : Refused) (report : Report) (out err : Sunk) → refused_word words ≡ None → name ≡ script_name words
+script_refused_in : (words : List (List ℕ)) (gave : Reads) (name : List ℕ) (refused : Refused) (report : Report) (out err : Sunk) → refused_place words ≡ None → name ≡ script_name words
     → IsRefused (name ∷ []) refused report out err → IsScriptIn (file_text gave 0 script_limit name) (Err refused) → AnswersSome (Accepted words gave) report out err
 script_refused_in words gave name refused report out err taken is r (inl memory) = inl (out_of_memory (name ∷ []) refused report out err memory r)
 script_refused_in words gave name refused report out err taken is r (inr (inl read)) =
@@ -77,7 +77,7 @@ script_refused_in words gave name refused report out err taken is r (inr (inr ru
     )
 
 -- the script is refused
-pub script_refused : (words : List (List ℕ)) (told : Option Told) (name : List ℕ) (refused : Refused) (report : Report) (out err : Sunk) → refused_word words ≡ None → name ≡ script_name words
+pub script_refused : (words : List (List ℕ)) (told : Option Told) (name : List ℕ) (refused : Refused) (report : Report) (out err : Sunk) → refused_place words ≡ None → name ≡ script_name words
     → IsRefused (name ∷ []) refused report out err → IfSome told (λ files. IsScriptIn (text_of 0 script_limit (found files name)) (Err refused))
     → (gave : Option (List ℕ)) × IsScriptIn (text_of 0 script_limit gave) (Err refused) → AnswersWords words told report out err
 script_refused words told name refused report out err taken is r here some =
@@ -86,7 +86,7 @@ script_refused words told name refused report out err taken is r here some =
 
 -- the words, the script and its modules, as they are read
 pub record IsRead (words : List (List ℕ)) (name : List ℕ) (script : ScriptData) (ms : List (Bor (List ℕ))) : Type 0 where
-  pub taken : refused_word words ≡ None
+  pub taken : refused_place words ≡ None
   pub name_is : name ≡ script_name words
   pub named : names_in_turn ms ≡ module_names script.tasks
 

@@ -11,7 +11,7 @@ use Rattle.module_parser.specs.Modules.{ModuleText}
 use Rattle.controller.specs.declared.command.Action.{Action}
 use Rattle.controller.specs.declared.command.Action.TheVariants as actions
 use Rattle.controller.specs.declared.refused.Refused.{Refused}
-use Rattle.controller.specs.Words.{refused_word, plain_words, first_action, script_name}
+use Rattle.controller.specs.Words.{refused_place, plain_words, first_action, script_name}
 use Rattle.controller.specs.Files.{Reads}
 use Rattle.controller.specs.Accepted.{ReadModule, Verdict, Accepted, script_limit, module_limit, file_text, fault_refusal, ModuleOf, ModuleIn, ModulesOf, checked, ActionDecides, CheckedDecides, ModulesDecide, names_of, ScriptDecides, FileDecides, WordsDecide}
 
@@ -116,10 +116,10 @@ file_decides_one one action gave name (Ok text) v w p q =
     let same : p.0 ≡ q.0 = script_one text p.0 q.0 p.1 q.1 in
     script_decides_one one action gave name q.0 v w (subst (λ (s : Read ScriptData). ScriptDecides action gave name s v) same p.2) q.2
 
-words_decide_one : OneText → (gave : Reads) (words : List (List ℕ)) (index : Option ℕ) (v w : Verdict) → WordsDecide gave words index v → WordsDecide gave words index w → v ≡ w
-words_decide_one one gave words (Some index) v w p q = p ∙ sym q
+words_decide_one : OneText → (gave : Reads) (words : List (List ℕ)) (place : Option ℕ) (v w : Verdict) → WordsDecide gave words place v → WordsDecide gave words place w → v ≡ w
+words_decide_one one gave words (Some place) v w p q = p ∙ sym q
 words_decide_one one gave words None v w p q =
     file_decides_one one (first_action (plain_words words)) gave (script_name words) (file_text gave 0 script_limit (script_name words)) v w p q
 
 pub verdict_one : OneText → (words : List (List ℕ)) (gave : Reads) (v w : Verdict) → Accepted words gave v → Accepted words gave w → v ≡ w
-verdict_one one words gave v w a b = words_decide_one one gave words (refused_word words) v w a.decides b.decides
+verdict_one one words gave v w a b = words_decide_one one gave words (refused_place words) v w a.decides b.decides

@@ -9,9 +9,9 @@ use Rattle.controller.specs.declared.refused.Refused.{Refused}
 use Rattle.controller.specs.declared.refused.Refused.TheVariants.{Words, Script, Module, Read, TooLong}
 use Rattle.controller.specs.Refusals.{refusal_text, key_words, place_words, module_rule_name}
 
-pub words_pieces : (name middle : List ℕ) (index : ℕ) (r : Refused) → r ≡ Words index → middle ≡ decimal index
+pub words_pieces : (name middle : List ℕ) (place : ℕ) (r : Refused) → r ≡ Words place → middle ≡ decimal place
     → refusal_text name r ≡ codes "rapid_cell: words " ++ (middle ++ codes "\n")
-words_pieces name middle index r is m = rw (is, m) refl
+words_pieces name middle place r is m = rw (is, m) refl
 
 abbrev four : List ℕ → List ℕ → List ℕ → List ℕ → List ℕ
 four a b c d = a ++ (b ++ (c ++ d))

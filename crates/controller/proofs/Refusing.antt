@@ -12,13 +12,13 @@ use Rattle.controller.specs.declared.command.Action.TheVariants as actions
 use Rattle.controller.specs.declared.refused.Refused.{Refused}
 use Rattle.controller.specs.declared.refused.Refused.TheVariants as refusals
 use Rattle.controller.specs.Files.{Reads, text_of}
-use Rattle.controller.specs.Words.{refused_word, plain_words, first_action, script_name}
+use Rattle.controller.specs.Words.{refused_place, plain_words, first_action, script_name}
 use Rattle.controller.specs.Accepted.{Verdict, refuses, accepts, runs, lists, Accepted, ReadModule, script_limit, module_limit, file_text, fault_refusal, ModuleIn, ModulesOf, checked, ActionDecides, CheckedDecides, ModulesDecide, names_of, ScriptDecides, FileDecides, WordsDecide}
 use Rattle.controller.proofs.Checking.{checks_refuse}
 
 -- the words, a file, the script or a module is refused
 abbrev pub IsOfInput : Refused → Type 0
-IsOfInput (refusals.Words index) = Unit {0}
+IsOfInput (refusals.Words place) = Unit {0}
 IsOfInput (refusals.Script key rule) = Unit {0}
 IsOfInput (refusals.Module file place rule) = Unit {0}
 IsOfInput (refusals.Read file) = Unit {0}
@@ -88,10 +88,10 @@ of_file : (action : Option Action) (gave : Reads) (name : List ℕ) (read : Resu
 of_file action gave name (Err refused) verdict of d = is_refused (name ∷ []) refused verdict of d
 of_file action gave name (Ok text) verdict of d = of_script action gave name d.0 verdict d.2
 
-of_words : (gave : Reads) (words : List (List ℕ)) (index : Option ℕ) (verdict : Verdict) → WordsDecide gave words index verdict → RefusesInput verdict
-of_words gave words (Some index) verdict d = is_refused [] (refusals.Words index) verdict tt d
+of_words : (gave : Reads) (words : List (List ℕ)) (place : Option ℕ) (verdict : Verdict) → WordsDecide gave words place verdict → RefusesInput verdict
+of_words gave words (Some place) verdict d = is_refused [] (refusals.Words place) verdict tt d
 of_words gave words None verdict d =
     of_file (first_action (plain_words words)) gave (script_name words) (file_text gave 0 script_limit (script_name words)) verdict (of_text 0 script_limit (gave 0 (script_name words))) d
 
 pub refuses_input : (words : List (List ℕ)) (gave : Reads) (names : List (List ℕ)) (refused : Refused) → Accepted words gave (refuses names refused) → IsOfInput refused
-refuses_input words gave names refused a = of_words gave words (refused_word words) (refuses names refused) a.decides
+refuses_input words gave names refused a = of_words gave words (refused_place words) (refuses names refused) a.decides

@@ -28,7 +28,7 @@ abbrev pub Stops : ℕ → ℕ → Refused → Option (List ℕ) → Type 0
 Stops file limit refused gave = (refused ≡ refusals.Memory) ⊎ (text_of file limit gave ≡ Err refused)
 
 pub unread_gave : (file limit : ℕ) (refused : Refused) → IsUnread file refused → (gave : Option (List ℕ)) × Stops file limit refused gave
-unread_gave file limit (refusals.Words index) is = absurd is
+unread_gave file limit (refusals.Words place) is = absurd is
 unread_gave file limit (refusals.Script key rule) is = absurd is
 unread_gave file limit (refusals.Module other place rule) is = absurd is
 unread_gave file limit (refusals.Read other) is = (None, inr (ap (λ (n : ℕ). Err (refusals.Read n)) (sym is)))

@@ -26,7 +26,7 @@ use Rattle.controller.specs.declared.refused.Refused.TheVariants.{Words, Script,
 use Rattle.controller.specs.declared.refused.ModuleRule.{ModuleRule}
 use Rattle.controller.specs.declared.refused.ModuleRule.TheVariants.{Lex, Syntax, «Type»}
 use Rattle.controller.specs.Files.{Reads, text_of}
-use Rattle.controller.specs.Words.{refused_word, script_name, plain_words, first_action}
+use Rattle.controller.specs.Words.{refused_place, script_name, plain_words, first_action}
 
 -- the most bytes of a script and of a module
 abbrev pub script_limit : ℕ
@@ -171,10 +171,10 @@ FileDecides action gave name (Ok text) verdict =
     (script : Read ScriptData) × ScriptOf text script × ScriptDecides action gave name script verdict
 
 abbrev pub WordsDecide : Reads → List (List ℕ) → Option ℕ → Verdict → Type 0
-WordsDecide gave words (Some index) verdict = verdict ≡ refuses [] (Words index)
+WordsDecide gave words (Some place) verdict = verdict ≡ refuses [] (Words place)
 WordsDecide gave words None verdict =
     FileDecides (first_action (plain_words words)) gave (script_name words) (file_text gave 0 script_limit (script_name words)) verdict
 
 -- what the words and the files come to, of which the reads gave these
 pub record Accepted (words : List (List ℕ)) (gave : Reads) (verdict : Verdict) : Type 0 where
-  pub decides : WordsDecide gave words (refused_word words) verdict
+  pub decides : WordsDecide gave words (refused_place words) verdict

@@ -21,7 +21,7 @@ text_of file limit (Some bytes) = if nat_le (length bytes) limit then Ok bytes e
 
 -- why loading was refused: not for the words, nor for a write; and a read failed only where a fault was counted
 abbrev pub IsLoadFault : ℕ → ℕ → Refused → Type 0
-IsLoadFault old new (Words index) = ⊥
+IsLoadFault old new (Words place) = ⊥
 IsLoadFault old new (Script key rule) = Unit {0}
 IsLoadFault old new (Module file place rule) = Unit {0}
 IsLoadFault old new (Read file) = Rose old new
@@ -31,7 +31,7 @@ IsLoadFault old new (TooLong file) = Unit {0}
 
 -- why the file of this number is not read: it cannot be, it is too long, or memory is refused
 abbrev pub IsUnread : ℕ → Refused → Type 0
-IsUnread file (Words index) = ⊥
+IsUnread file (Words place) = ⊥
 IsUnread file (Script key rule) = ⊥
 IsUnread file (Module other place rule) = ⊥
 IsUnread file (Read other) = other ≡ file
@@ -41,7 +41,7 @@ IsUnread file (TooLong other) = other ≡ file
 
 -- what an action is refused for: not for the words, nor for a read; and a write failed only where a fault was counted
 abbrev pub IsDoneFault : ℕ → ℕ → Refused → Type 0
-IsDoneFault old new (Words index) = ⊥
+IsDoneFault old new (Words place) = ⊥
 IsDoneFault old new (Script key rule) = Unit {0}
 IsDoneFault old new (Module file place rule) = Unit {0}
 IsDoneFault old new (Read file) = ⊥

@@ -12,7 +12,7 @@ use Rattle.rule_checks.specs.Names.{type_rule_name}
 use Rattle.rapid_forms.specs.Names.{syntax_rule_name}
 
 abbrev pub status_of : Refused → ℕ
-status_of (Words index) = 2
+status_of (Words place) = 2
 status_of (Script key rule) = 3
 status_of (Module file place rule) = 4
 status_of (Read file) = 5
@@ -39,7 +39,7 @@ name_at names file = unwrap_or (slice_get names file) []
 
 -- the number of the file that a refusal speaks of
 abbrev pub file_of : Refused → Option ℕ
-file_of (Words index) = None
+file_of (Words place) = None
 file_of (Script key rule) = None
 file_of (Module file place rule) = Some file
 file_of (Read file) = Some file
@@ -49,7 +49,7 @@ file_of (TooLong file) = Some file
 
 -- the words behind `rapid_cell: `, with the name of the file that they speak of
 abbrev pub refusal_words : List ℕ → Refused → List ℕ
-refusal_words name (Words index) = codes "words " ++ decimal index
+refusal_words name (Words place) = codes "words " ++ decimal place
 refusal_words name (Script key rule) = codes "script " ++ (key_words key ++ (32 ∷ rule_name rule))
 refusal_words name (Module file place rule) = codes "module " ++ (name ++ (32 ∷ place_words place ++ (32 ∷ module_rule_name rule)))
 refusal_words name (Read file) = codes "read " ++ name

@@ -20,10 +20,10 @@ is_wrong_option word = begins_with_minus word && not (is_history word)
 abbrev pub is_plain : List ℕ → Bool
 is_plain word = not (is_history word)
 
--- the indexes of the words of which a test holds, the first word having this index
-abbrev pub indexes : (List ℕ → Bool) → ℕ → List (List ℕ) → List ℕ
-indexes test from [] = []
-indexes test from (word ∷ words) = if test word then from ∷ indexes test (from + 1) words else indexes test (from + 1) words
+-- the places of the words of which a test holds, the first word having this place
+abbrev pub places : (List ℕ → Bool) → ℕ → List (List ℕ) → List ℕ
+places test from [] = []
+places test from (word ∷ words) = if test word then from ∷ places test (from + 1) words else places test (from + 1) words
 
 abbrev pub action_of : List ℕ → Option Action
 action_of word =
@@ -40,20 +40,20 @@ abbrev pub first_action : List (List ℕ) → Option Action
 first_action [] = None
 first_action (action ∷ rest) = action_of action
 
--- the index of the action, where there is one that is not known
+-- the place of the action, where there is one that is not known
 abbrev pub unknown_action : List (List ℕ) → Option ℕ
-unknown_action words = if is_some (first_action (plain_words words)) then None else slice_get (indexes is_plain 0 words) 0
+unknown_action words = if is_some (first_action (plain_words words)) then None else slice_get (places is_plain 0 words) 0
 
 -- the number of all words, where the action or the script's name is missing
 abbrev pub missing_word : List (List ℕ) → Option ℕ
 missing_word words = if nat_lt (length (plain_words words)) 2 then Some (length words) else None
 
--- the index of the word that is refused, from 0, by the first cause that there is: an option that is none; a second
+-- the place of the word that is refused, from 0, by the first cause that there is: an option that is none; a second
 -- `--history`; an unknown action; a missing word; a word too many
-abbrev pub refused_word : List (List ℕ) → Option ℕ
-refused_word words =
-    option_or (position is_wrong_option words) (option_or (slice_get (indexes is_history 0 words) 1)
-    (option_or (unknown_action words) (option_or (missing_word words) (slice_get (indexes is_plain 0 words) 2))))
+abbrev pub refused_place : List (List ℕ) → Option ℕ
+refused_place words =
+    option_or (position is_wrong_option words) (option_or (slice_get (places is_history 0 words) 1)
+    (option_or (unknown_action words) (option_or (missing_word words) (slice_get (places is_plain 0 words) 2))))
 
 -- the second one of some words
 abbrev pub second_word : List (List ℕ) → List ℕ

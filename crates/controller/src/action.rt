@@ -2,7 +2,7 @@ ghost use Rattle.std.specs.Prelude.{◌≡◌, ℕ, ◌↔◌, List, Some, IfSom
 ghost use Rattle.outside.specs.Count.{Rose};
 ghost use Rattle.controller.specs.Files.{IsDoneFault};
 ghost use Rattle.controller.specs.Loaded.{file_names, made_of, reads_in, ArePaired, AreSpelled, HasScript};
-ghost use Rattle.controller.specs.Words.{refused_word};
+ghost use Rattle.controller.specs.Words.{refused_place};
 ghost use Rattle.controller.specs.Printed.{sunk};
 ghost use Rattle.controller.specs.Answered.{AnswersWords, AnswersReads, AnswersMade, word_bytes};
 
@@ -39,14 +39,14 @@ pub fn quiet<S: Shelf, O: Sink, E: Sink>(
     // The report answers what the words and the files come to.
     ensures answers { AnswersWords (word_bytes words.now) (S.told shelf.old) result (sunk O.told O.calls O.faults out.old out.new) (sunk E.told E.calls E.faults err.old err.new) }
     // Words are refused just where they are wrong, whatever the shelf tells.
-    ensures words { (index : ℕ) → (result.refused ≡ Some (Refused.Words index)) ↔ (refused_word (word_bytes words.now) ≡ Some index) }
+    ensures words { (place : ℕ) → (result.refused ≡ Some (Refused.Words place)) ↔ (refused_place (word_bytes words.now) ≡ Some place) }
     // A read fails only where the shelf counted a fault, and a write only where the first sink did.
     ensures read { (file : ℕ) → result.refused ≡ Some (Refused.Read file) → Rose (S.faults shelf.old) (S.faults shelf.new) }
     ensures write { result.refused ≡ Some Refused.Write → Rose (O.faults out.old) (O.faults out.new) }
 {
     let command = match read_words(words) {
         Ok(command) => command,
-        Err(index) => return refuse(alloc, err, "", Refused::Words { index }),
+        Err(place) => return refuse(alloc, err, "", Refused::Words { place }),
     };
     let script = match load_script(alloc, shelf, command.script) {
         Ok(script) => script,

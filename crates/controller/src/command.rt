@@ -1,5 +1,5 @@
 ghost use Rattle.std.specs.Prelude.{◌≡◌, IfOk, IfErr, Some, None, position, filter, slice_get, option_map, codes, bytes_eq};
-ghost use Rattle.controller.specs.Words.{begins_with_minus, is_history, is_wrong_option, indexes, plain_words, first_action, action_of, refused_word, script_name};
+ghost use Rattle.controller.specs.Words.{begins_with_minus, is_history, is_wrong_option, places, plain_words, first_action, action_of, refused_place, script_name};
 ghost use Rattle.controller.specs.Picked.{is_kind};
 ghost use Rattle.controller.specs.Answered.{word_bytes};
 
@@ -21,24 +21,24 @@ pub(crate) struct Command<'a> {
     pub script: &'a str,
 }
 
-/// What the command words ask for, or the index of the word that is refused, from 0. Takes no memory.
+/// What the command words ask for, or the place of the word that is refused, from 0. Takes no memory.
 pub(crate) fn read_words<'a>(words: &[&'a str]) -> Result<Command<'a>, usize>
-    ensures taken { IfOk result (λ _. refused_word (word_bytes words.now) ≡ None) }
+    ensures taken { IfOk result (λ _. refused_place (word_bytes words.now) ≡ None) }
     ensures action { IfOk result (λ command. first_action (plain_words (word_bytes words.now)) ≡ Some command.action) }
     ensures name { IfOk result (λ command. command.script.now ≡ script_name (word_bytes words.now)) }
-    ensures refused { IfErr result (λ index. refused_word (word_bytes words.now) ≡ Some index) }
+    ensures refused { IfErr result (λ place. refused_place (word_bytes words.now) ≡ Some place) }
 {
-    if let Some(index) = option_index(words) {
-        return Err(index);
+    if let Some(place) = option_place(words) {
+        return Err(place);
     }
-    if let Some((index, _)) = nth_word(words, true, 1) {
-        return Err(index);
+    if let Some((place, _)) = nth_word(words, true, 1) {
+        return Err(place);
     }
-    let Some((index, word)) = nth_word(words, false, 0) else {
+    let Some((place, word)) = nth_word(words, false, 0) else {
         return Err(words.len());
     };
     let Some(action) = action_of(word) else {
-        return Err(index);
+        return Err(place);
     };
     let Some((_, script)) = nth_word(words, false, 1) else {
         return Err(words.len());
@@ -49,16 +49,16 @@ pub(crate) fn read_words<'a>(words: &[&'a str]) -> Result<Command<'a>, usize>
     }
 }
 
-/// The index of the first word that looks like an option and is none.
-fn option_index(words: &[&str]) -> Option<usize>
+/// The place of the first word that looks like an option and is none.
+fn option_place(words: &[&str]) -> Option<usize>
     ensures { result ≡ position is_wrong_option (word_bytes words.now) }
 {
     words.iter().position(|word| is_wrong_option(word))
 }
 
-/// The word of this number, from 0, and its index: among those that are `--history`, or among the others.
+/// The word of this number, from 0, and its place: among those that are `--history`, or among the others.
 fn nth_word<'a>(words: &[&'a str], histories: bool, number: usize) -> Option<(usize, &'a str)>
-    ensures index { option_map (λ found. found.0) result ≡ slice_get (indexes (is_kind histories) 0 (word_bytes words.now)) number }
+    ensures place { option_map (λ found. found.0) result ≡ slice_get (places (is_kind histories) 0 (word_bytes words.now)) number }
     ensures word { option_map (λ found. found.1.now) result ≡ slice_get (filter (is_kind histories) (word_bytes words.now)) number }
 {
     let mut left = number;

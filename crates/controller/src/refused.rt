@@ -42,9 +42,9 @@ impl ModuleRule {
 /// script, the modules follow from 1.
 #[derive(Debug, Drop)]
 pub enum Refused {
-    /// The command word of this index, from 0, is wrong or missing.
+    /// The command word at this place, from 0, is wrong or missing.
     Words {
-        index: usize,
+        place: usize,
     },
     /// The script breaks a rule at a key; the empty key is the script as a whole.
     Script {
@@ -131,9 +131,9 @@ fn write_refusal<E: Sink>(err: &mut E, name: &str, refused: &Refused) -> Result<
     ensures { WritesPieces (refusal_text name.now refused.now) result (sunk E.told E.calls E.faults err.old err.new) }
 {
     match refused {
-        Refused::Words { index } => {
+        Refused::Words { place } => {
             let mut digits = ArrayString::<20>::new();
-            push_count(*index, &mut digits);
+            push_count(*place, &mut digits);
             let text = digits.as_str().as_bytes();
             write_three(err, b"rapid_cell: words ", text, b"\n")
         }

@@ -10,7 +10,7 @@ use Rattle.controller.proofs.action.quiet.Goals as goal
 
 pub returns-in-Err-clause-answers : goal.returns-in-Err-clause-answers
 returns-in-Err-clause-answers g c =
-    words_refused _ _ c.in-Err.index _ _ _ c.in-Err.ensures.refused (record {
+    words_refused _ _ c.in-Err.place _ _ _ c.in-Err.ensures.refused (record {
       refused_is = c.refuse.ensures.refused;
       status = c.refuse.ensures.status;
       history = c.refuse.ensures.history;

@@ -8,8 +8,8 @@ use Rattle.controller.proofs.refused.write_refusal.Goals as goal
 pub returns-in-Words : goal.returns-in-Words
 returns-in-Words g c =
     in_pieces _ _ _ _ _ _
-    (words_pieces c.args.name.now _ c.in-Words.index c.args.refused.now c.in-Words.is
-    (c.as_bytes-text.ensures.value ∙ c.as_str.ensures.value ∙ c.push_count.ensures.text ∙ ap (λ b. b ++ decimal c.in-Words.index) c.new-digits.ensures))
+    (words_pieces c.args.name.now _ c.in-Words.place c.args.refused.now c.in-Words.is
+    (c.as_bytes-text.ensures.value ∙ c.as_str.ensures.value ∙ c.push_count.ensures.text ∙ ap (λ b. b ++ decimal c.in-Words.place) c.new-digits.ensures))
     c.write_three.ensures
 
 pub returns-in-Script : goal.returns-in-Script

@@ -3,7 +3,7 @@ use Rattle.std.proofs.lemmas.Iterator.{YieldsList-from_slice}
 use Rattle.std.proofs.lemmas.Iterator.Search.{position_from_yields_List}
 use Rattle.controller.specs.Words.{is_wrong_option}
 use Rattle.controller.proofs.Options.{position-map}
-use Rattle.controller.proofs.command.option_index.Goals as goal
+use Rattle.controller.proofs.command.option_place.Goals as goal
 
 pub returns : goal.returns
 returns c =
