@@ -25,7 +25,7 @@ use Rattle.rapid_meaning.specs.Interrupts.{connect, number_at}
 use Rattle.rapid_meaning.specs.Layouts.{local_start}
 use Rattle.rapid_meaning.specs.Lists.{behind, ended, items, jumped, rest}
 use Rattle.rapid_meaning.specs.Looks.{look}
-use Rattle.rapid_meaning.specs.Loops.{bounds, counted, counter, counter_index, counts_on, direction, has_passed, set_counter, turn_due}
+use Rattle.rapid_meaning.specs.Loops.{bounds, counted, counter, counter_place, counts_on, direction, has_passed, set_counter, turn_due}
 use Rattle.rapid_meaning.specs.Places.{own_place, read_value, write_value}
 use Rattle.rapid_meaning.specs.Statements.{again_behind, and_then, assign, byte_of, call, chosen, connects, done_or_held, follows, goes_on, inner, inner_or_not, is_among, raised, selected, stmt, turn, turned}
 use Rattle.rapid_meaning.specs.Values.{applied, num_in, truth_in}
@@ -164,19 +164,19 @@ selected_safe i around sort v (MoreCases es list more) other same compared h are
     (λ _. selected_safe i around sort v more other same compared h are.2 is))
 
 -- the three data of a FOR
-counter_place_safe : (i : Inside) (local which : ℕ) → slice_get (kinds_of i.routine) local ≡ Some Counts → which < 3 → Safe (scene i) (λ q. IsThere (scene i) q sorts.Num) (counter_index i.routine local which)
+counter_place_safe : (i : Inside) (local which : ℕ) → slice_get (kinds_of i.routine) local ≡ Some Counts → which < 3 → Safe (scene i) (λ q. IsThere (scene i) q sorts.Num) (counter_place i.routine local which)
 counter_place_safe i local which e few =
     safe_reads (scene i) (λ q. IsThere (scene i) q sorts.Num) (λ d. doings.or_misfit (own_place (local_start i.routine local + which) d.frames))
     (own_safe i (λ q. IsThere (scene i) q sorts.Num) (local_start i.routine local + which) (row_cell i local which Counts sorts.Num e (at_repeated 3 which (Holds sorts.Num) few) few))
 
 counter_safe : (i : Inside) (local which : ℕ) → slice_get (kinds_of i.routine) local ≡ Some Counts → which < 3 → Safe (scene i) Anything (counter i.routine local which)
 counter_safe i local which e few =
-    safe_then (scene i) (λ q. IsThere (scene i) q sorts.Num) Anything (counter_index i.routine local which) (λ p. read_value p >>= num_in) (counter_place_safe i local which e few)
+    safe_then (scene i) (λ q. IsThere (scene i) q sorts.Num) Anything (counter_place i.routine local which) (λ p. read_value p >>= num_in) (counter_place_safe i local which e few)
     (λ q at. safe_then (scene i) (HasSort sorts.Num) Anything (read_value q) num_in (read_safe (scene i) q sorts.Num refl at) (λ v h. num_safe (scene i) v h))
 
 set_safe : (i : Inside) (local which : ℕ) (n : ℤ) → slice_get (kinds_of i.routine) local ≡ Some Counts → which < 3 → Safe (scene i) Anything (set_counter i.routine local which n)
 set_safe i local which n e few =
-    safe_then (scene i) (λ q. IsThere (scene i) q sorts.Num) Anything (counter_index i.routine local which) (λ p. write_value p (values.Num n)) (counter_place_safe i local which e few)
+    safe_then (scene i) (λ q. IsThere (scene i) q sorts.Num) Anything (counter_place i.routine local which) (λ p. write_value p (values.Num n)) (counter_place_safe i local which e few)
     (λ q at. store_safe (scene i) q sorts.Num (datums.Plain (values.Num n)) at refl)
 
 -- a num is stored in one of them
@@ -203,21 +203,21 @@ found_safe i local r e at_r =
 bounds_safe : (i : Inside) (local : ℕ) (first last : TypedExpr) (step : Option TypedExpr) → slice_get (kinds_of i.routine) local ≡ Some Counts → IsExpr i.c (kinds_of i.routine) first sorts.Num
     → IsExpr i.c (kinds_of i.routine) last sorts.Num → IsStep i.c (kinds_of i.routine) step → Safe (scene i) Anything (bounds i.c.tree i.routine local first last step)
 bounds_safe i local first last (Some step) e ifirst ilast istep =
-    safe_then (scene i) (λ p. IsThere (scene i) p sorts.Num) Anything (counter_index i.routine local 0) _ (counter_place_safe i local 0 e (omega arith))
+    safe_then (scene i) (λ p. IsThere (scene i) p sorts.Num) Anything (counter_place i.routine local 0) _ (counter_place_safe i local 0 e (omega arith))
     (λ p at_p. safe_then (scene i) Anything Anything (num i.c.tree i.routine first) _ (num_expr i first ifirst)
-    (λ from _. safe_then (scene i) (λ q. IsThere (scene i) q sorts.Num) Anything (counter_index i.routine local 1) _ (counter_place_safe i local 1 e (omega arith))
+    (λ from _. safe_then (scene i) (λ q. IsThere (scene i) q sorts.Num) Anything (counter_place i.routine local 1) _ (counter_place_safe i local 1 e (omega arith))
     (λ q at_q. safe_then (scene i) Anything Anything (num i.c.tree i.routine last) _ (num_expr i last ilast)
-    (λ to _. safe_then (scene i) (λ r. IsThere (scene i) r sorts.Num) Anything (counter_index i.routine local 2) _ (counter_place_safe i local 2 e (omega arith))
+    (λ to _. safe_then (scene i) (λ r. IsThere (scene i) r sorts.Num) Anything (counter_place i.routine local 2) _ (counter_place_safe i local 2 e (omega arith))
     (λ r at_r. safe_then (scene i) Anything Anything (num i.c.tree i.routine step) _ (num_expr i step istep)
     (λ by _. stored_safe i p q r from to by at_p at_q at_r))))))
 bounds_safe i local first last None e ifirst ilast istep =
-    safe_then (scene i) (λ p. IsThere (scene i) p sorts.Num) Anything (counter_index i.routine local 0) _ (counter_place_safe i local 0 e (omega arith))
+    safe_then (scene i) (λ p. IsThere (scene i) p sorts.Num) Anything (counter_place i.routine local 0) _ (counter_place_safe i local 0 e (omega arith))
     (λ p at_p. safe_then (scene i) Anything Anything (num i.c.tree i.routine first) _ (num_expr i first ifirst)
-    (λ from _. safe_then (scene i) (λ q. IsThere (scene i) q sorts.Num) Anything (counter_index i.routine local 1) _ (counter_place_safe i local 1 e (omega arith))
+    (λ from _. safe_then (scene i) (λ q. IsThere (scene i) q sorts.Num) Anything (counter_place i.routine local 1) _ (counter_place_safe i local 1 e (omega arith))
     (λ q at_q. safe_then (scene i) Anything Anything (num i.c.tree i.routine last) _ (num_expr i last ilast)
     (λ to _. safe_then (scene i) Anything Anything (write_value q (values.Num to)) _ (write_safe i q to at_q)
     (λ _ _. safe_then (scene i) Anything Anything (write_value p (values.Num from)) _ (write_safe i p from at_p)
-    (λ _ _. safe_then (scene i) (λ r. IsThere (scene i) r sorts.Num) Anything (counter_index i.routine local 2) _ (counter_place_safe i local 2 e (omega arith))
+    (λ _ _. safe_then (scene i) (λ r. IsThere (scene i) r sorts.Num) Anything (counter_place i.routine local 2) _ (counter_place_safe i local 2 e (omega arith))
     (λ r at_r. found_safe i local r e at_r)))))))
 
 -- the next turn of a FOR
