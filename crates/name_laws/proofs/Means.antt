@@ -86,10 +86,10 @@ module _ (modules : List PlainModule) (signals : List SignalRow) (arm : Bool) (t
         is_row = found.such;
       })
 
-  place_row : (first : ℕ) (inside : Inside modules signals tree spot name) (meant : Meant) → PlaceEntry first inside.r (str_to_ascii_lowercase name) meant → Q meant
-  place_row first inside meant (inl e) =
+  own_row : (first : ℕ) (inside : Inside modules signals tree spot name) (meant : Meant) → PlaceEntry first inside.r (str_to_ascii_lowercase name) meant → Q meant
+  own_row first inside meant (inl e) =
       subst Q (sym e.means) (param_by_mode e.index e.p.mode (param_row inside e.index e.p e.is_param e.named))
-  place_row first inside meant (inr e) =
+  own_row first inside meant (inr e) =
       subst Q (sym e.means) (local_row inside e.index e.consts e.d e.is_datum e.named (is_scalar_const e.d) refl)
 
   -- the routine in which the spot stands
@@ -110,7 +110,7 @@ module _ (modules : List PlainModule) (signals : List SignalRow) (arm : Bool) (t
       sources_such modules signals spot name A checked.all (λ number c item h. h.0) Q
       (record {
         items = item_row;
-        places = λ number c r h is meant entry. place_row c.consts (around number c r h is) meant entry;
+        places = λ number c r h is meant entry. own_row c.consts (around number c r h is) meant entry;
         loops = loop_row;
         script = λ k row there named. record { row = row; has_row = there; named = named };
       })

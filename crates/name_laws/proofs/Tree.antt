@@ -10,7 +10,7 @@ use Rattle.rule_checks.specs.declared.rule.TypeRule.TheVariants.{DataRange}
 use Rattle.rule_checks.proofs.Steps.{behind, ok_same}
 use Rattle.data_scopes.specs.declared.data_row.DatumRow.{DatumRow}
 use Rattle.data_scopes.specs.declared.data_row.ParamRow.{ParamRow}
-use Rattle.data_scopes.specs.Called.{local_of, params_in, place_row, value_row}
+use Rattle.data_scopes.specs.Called.{local_of, params_in, own_row, value_row}
 use Rattle.data_scopes.specs.Declarations.{spot_of, modules_rules}
 use Rattle.data_scopes.specs.Naming.{names_of}
 use Rattle.data_scopes.specs.Numbers.{Tally, is_pers, is_scalar_const, no_counts, tables_of}
@@ -42,7 +42,7 @@ list_there (x ∷ xs) zero list is = cc
 list_there (x ∷ xs) (suc k) list is = list_there xs k list is
 
 -- behind the parameters are the data
-place_found : (row : RoutineRow) (n index : ℕ) → n ≡ length row.params → place_row row (n + index) ≡ slice_get row.locals index
+place_found : (row : RoutineRow) (n index : ℕ) → n ≡ length row.params → own_row row (n + index) ≡ slice_get row.locals index
 place_found row n index as_many =
     let le : length row.params ≤ n + index = omega (arith, as_many) in
     let past : nat_lt (n + index) (length row.params) ≡ false = le-ltb (n + index) (length row.params) le in
@@ -60,7 +60,7 @@ module _ (tables : Tables) (number around : ℕ) where
   module _ (rows : Rows) (row : RoutineRow) (n : ℕ) (found : slice_get rows.routines around ≡ Some row) (as_many : n ≡ length row.params) where
     pub local_sort : (index : ℕ) (d : DatumRow) → slice_get row.locals index ≡ Some d → sort_in (local_of rows (Some around) (n + index)) ≡ d.sort
     local_sort index d is =
-        ap (λ o. sort_in (option_and_then (λ r. place_row r (n + index)) o)) found
+        ap (λ o. sort_in (option_and_then (λ r. own_row r (n + index)) o)) found
         ∙ ap sort_in (place_found row n index as_many ∙ is)
 
     locals_rows : (index : ℕ) (ds : List PlainDatum) (found_rows : List DatumRow) (ts : List TypedLocal) → Rest row.locals index found_rows →
