@@ -207,7 +207,7 @@ fn declarations_by_number(rt: HostRuntime) -> Result<(), Fail> {
     assert_eq!(rt; scopes.routine_params(0), params.as_slice());
     assert_eq!(rt; scopes.param(Some(0), 1), Some(params[1]));
     assert_eq!(rt; scopes.param(None, 0), None);
-    assert_eq!(rt; scopes.places(Some(0)), 4);
+    assert_eq!(rt; scopes.data_count(Some(0)), 4);
     assert_eq!(rt; scopes.routine_kind(0), Some(RoutineKind::Func));
     assert_eq!(rt; scopes.routine_kind(1), None);
     assert_eq!(rt; scopes.routine_result(0), Some(Sort::ExtJoint));
