@@ -32,12 +32,12 @@ use Rattle.world_zones.specs.Zones.{arm_at, zone_at, set_answer, is_temporary}
 use Rattle.cell_meaning.specs.Answers.{IsAnswer, IsMoveAnswer, look_of, value_of, position_of, number_of, order_of, known_of, zone_number_of, temporary_of}
 use Rattle.cell_meaning.specs.Changes.{changes_by_others}
 use Rattle.cell_meaning.specs.Interrupts.{interrupts_of}
-use Rattle.cell_meaning.specs.MayAsk.{is_served, may_ask}
+use Rattle.cell_meaning.specs.MayAsk.{is_offered, may_ask}
 use Rattle.cell_meaning.specs.Meetings.{is_met}
 use Rattle.cell_meaning.specs.Premises.{AllAnswered, StartsFull}
 use Rattle.cell_meaning.specs.Stored.{persistent_after, value_at}
 use Rattle.cell_meaning.specs.Zones.{zones_after}
-use Rattle.cell_meaning.proofs.Asked.{TaskMay, ScriptMay, who_may, asked_served}
+use Rattle.cell_meaning.proofs.Asked.{TaskMay, ScriptMay, who_may, asked_offered}
 use Rattle.cell_meaning.proofs.InterruptsKept.{first_is_due, free_number, tasks_kept}
 use Rattle.cell_meaning.proofs.TaskKept.{KeptTask, one_if, has_place}
 use Rattle.cell_meaning.proofs.Positions.{arm_well}
@@ -133,7 +133,7 @@ record Known (cell : CellData) (history : List Event) (actor : ℕ) (request : R
   full : StartsFull cell
   asked : AllAnswered cell history
   may : TaskMay cell actor (part_of actor history) request
-  served : IsTrue (is_served request)
+  offered : IsTrue (is_offered request)
 
 task_fits : (cell : CellData) (history : List Event) (actor : ℕ) (request : Request) (answer : Answer) → Known cell history actor request → IsAnswer cell history actor request answer
     → Fits cell (part_of actor history) request answer
@@ -162,7 +162,7 @@ task_fits cell history actor (requests.Delete number) answer known is =
 task_fits cell history actor (requests.ZoneSet old temporary shape) answer known is =
     subst (λ (a : Answer). Fits cell (part_of actor history) (requests.ZoneSet old temporary shape) a) (sym is)
     (zone_fits cell history (part_of actor history) actor old (requests.ZoneSet old temporary shape) (set_answer (arm_at (zones_after cell history) actor) old) refl refl refl (λ n within. within))
-task_fits cell history actor (requests.ZoneTie old temporary shape signal value) answer known is = absurd (false≢true known.served)
+task_fits cell history actor (requests.ZoneTie old temporary shape signal value) answer known is = absurd (false≢true known.offered)
 task_fits cell history actor (requests.ZoneOn zone) answer known is =
     subst (λ (a : Answer). Fits cell (part_of actor history) (requests.ZoneOn zone) a) (sym is) (temporary_fits cell (part_of actor history) (requests.ZoneOn zone) (is_temporary (zone_at (arm_at (zones_after cell history) actor) zone)) refl refl)
 task_fits cell history actor (requests.ZoneOff zone) answer known is =
@@ -186,5 +186,5 @@ answer_fits cell history actor request answer limits full asked may is = by (who
   where
     by : TaskMay cell actor (part_of actor history) request ⊎ ScriptMay cell actor (part_of actor history) request → Fits cell (part_of actor history) request answer
     by (inl task) =
-        task_fits cell history actor request answer (record { limits = limits; full = full; asked = asked; may = task; served = asked_served cell actor (part_of actor history) request may }) is
+        task_fits cell history actor request answer (record { limits = limits; full = full; asked = asked; may = task; offered = asked_offered cell actor (part_of actor history) request may }) is
     by (inr script) = script_fits cell history actor (length (part_of actor history)) request answer script.next is
