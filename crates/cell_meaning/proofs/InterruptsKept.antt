@@ -22,7 +22,7 @@ use Rattle.trap_dispatch.specs.declared.order.Order.{Order}
 use Rattle.trap_dispatch.specs.Firing.{connected_at}
 use Rattle.trap_dispatch.specs.Tasks.{TaskData, before_all, with_number, fresh, with_order, with_sleep, ordered, slept, deleted, least_free, connect_answer, look_answer, in_first_trap, after_changes, trap_of}
 use Rattle.trap_dispatch.specs.Traps.{task_at, with_task}
-use Rattle.trap_dispatch.proofs.Places.{position_from-below}
+use Rattle.trap_dispatch.proofs.Positions.{position_from-below}
 use Rattle.world_zones.specs.declared.zone_fault.ZoneFault.{ZoneFault}
 use Rattle.world_zones.specs.declared.zone_fault.ZoneFault.TheVariants as zone_faults
 use Rattle.world_zones.specs.Zones.{arm_at, zone_at, set_answer, is_temporary}

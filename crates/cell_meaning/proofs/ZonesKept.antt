@@ -9,7 +9,7 @@ use Rattle.rapid_model.specs.declared.answer.Answer.TheVariants as answers
 use Rattle.rapid_model.specs.declared.event.Event.{Event}
 use Rattle.rapid_model.specs.declared.request.Request.{Request}
 use Rattle.rapid_model.specs.declared.request.Request.TheVariants as requests
-use Rattle.trap_dispatch.proofs.Places.{position_from-below}
+use Rattle.trap_dispatch.proofs.Positions.{position_from-below}
 use Rattle.world_zones.specs.declared.own_zone.OwnZone.{OwnZone}
 use Rattle.world_zones.specs.declared.zone_fault.ZoneFault.TheVariants as zone_faults
 use Rattle.world_zones.specs.Zones.{ZonesData, no_zones, arm_at, with_arm, zone_at, with_zone, given, switched, least_free, set_answer}
