@@ -34,7 +34,7 @@ use Rattle.accepted_runs.proofs.Trees.{tree_there}
 pub asks_one : (trees : List TypedTree) → AsksOne (tree_asks trees)
 asks_one trees = record { one = λ actor answers r r' p q. one_request.one trees actor answers r r' p q }
 
--- the cell has the request that a well typed task asks
+-- the cell offers what a well typed task asks
 offered : (c : Setting) (d : Data) (request : Request) → IsAsked c d request → is_offered request ≡ true
 offered c d (requests.ZoneTie old temporary shape signal value) may = absurd may
 offered c d request may = refl

@@ -10,7 +10,7 @@ ghost use Rattle.cell_meaning.specs.MayAsk.{is_offered};
 use crate::paths::{fits_part, has_path, is_bool_part};
 use rapid_model::{Cell, Fate, Path, PersCell, Request, TaskRow, Value, Watched};
 
-/// Whether the cell has the request, and it suits a task of this row, in a trap or not.
+/// Whether the cell offers the request, and it suits a task of this row, in a trap or not.
 pub(crate) fn allows(cell: &Cell, row: &TaskRow, trapped: bool, request: &Request) -> bool
     ensures { (mine : List Event) → trapped ≡ is_trapped mine → result ≡ (is_offered request.now && suits_task cell.now row.now mine request.now) }
 {

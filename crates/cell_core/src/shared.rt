@@ -143,7 +143,7 @@ impl Core {
     }
 
     /// Whether the actor may ask this now: the input script its next step alone; a task that has not ended whatever suits the
-    /// cell and the task as it stands (held, in a trap, with an arm or without), but no ZoneTie, which no cell has, and no
+    /// cell and the task as it stands (held, in a trap, with an arm or without), but no ZoneTie, which no cell offers, and no
     /// Input.
     pub fn fits(&self, actor: u32, request: &Request) -> bool
         ensures { result ≡ may_ask self.now.cell actor (part_of actor self.now.history) request.now }

@@ -59,6 +59,6 @@ pub who_may : (cell : CellData) (actor : ℕ) (mine : List Event) (request : Req
 who_may cell actor mine request may =
     who cell actor mine request (slice_get cell.tasks actor) refl (and_parts (is_offered request) (suits_by cell actor mine request (slice_get cell.tasks actor)) may).1
 
--- what is asked is served
+-- what may be asked is offered
 pub asked_offered : (cell : CellData) (actor : ℕ) (mine : List Event) (request : Request) → IsTrue (may_ask cell actor mine request) → IsTrue (is_offered request)
 asked_offered cell actor mine request may = (and_parts (is_offered request) (suits_by cell actor mine request (slice_get cell.tasks actor)) may).0

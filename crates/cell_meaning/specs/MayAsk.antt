@@ -1,4 +1,4 @@
--- Who may ask what of a cell, of the requests that it has.
+-- Who may ask what of a cell, of the requests that it offers.
 use Rattle.std.specs.Prelude.{ℕ, Bool, true, false, ◌&&◌, List}
 use Rattle.rapid_model.specs.CellData.{CellData}
 use Rattle.rapid_model.specs.Requests.{suits_actor}
@@ -6,7 +6,7 @@ use Rattle.rapid_model.specs.declared.event.Event.{Event}
 use Rattle.rapid_model.specs.declared.request.Request.{Request}
 use Rattle.rapid_model.specs.declared.request.Request.TheVariants.{ZoneTie}
 
--- a cell has every request, but for an output tied to a zone
+-- a cell offers every request, but for an output tied to a zone
 abbrev pub is_offered : Request → Bool
 is_offered (ZoneTie old temporary shape signal value) = false
 is_offered _ = true
