@@ -16,7 +16,7 @@ use Rattle.rapid_model.specs.declared.value.Value.TheVariants as values
 use Rattle.named_data.specs.Wants.{same_sort}
 use Rattle.typed_trees.specs.Plain.{TypedPers}
 use Rattle.typed_trees.specs.Sound.{fits, is_sound}
-use Rattle.cell_assembly.specs.Cells.{PersInfo, new_pers, with_declared, same_len, has_sort, with_given}
+use Rattle.cell_assembly.specs.Cells.{PersInfo, new_pers, with_declared, same_len, is_script_value, with_given}
 use Rattle.cell_assembly.specs.Made.{start_of, declared_values, over, pers_cell}
 
 -- a value of the type for each element
@@ -97,14 +97,14 @@ declared_sound tasks p row alike sound is =
       given = is.given;
     }
 
-value_of_sort : (sort : Sort) (value : Value) → has_sort sort value ≡ true → is_value_of sort value ≡ true
+value_of_sort : (sort : Sort) (value : Value) → is_script_value sort value ≡ true → is_value_of sort value ≡ true
 value_of_sort sorts.Num (values.Num n) e = refl
 value_of_sort sorts.Bool (values.Bool b) e = refl
 value_of_sort sorts.Text (values.Text t) e = refl
 value_of_sort _ _ e = cc
 
 -- a value that the script gives
-pub given_sound : (tasks : ℕ) (p : PersInfo) (index : ℕ) (value : Value) → has_sort p.sort value ≡ true → IsSoundInfo tasks p → IsSoundInfo tasks (with_given p index value)
+pub given_sound : (tasks : ℕ) (p : PersInfo) (index : ℕ) (value : Value) → is_script_value p.sort value ≡ true → IsSoundInfo tasks p → IsSoundInfo tasks (with_given p index value)
 given_sound tasks p index value suits is =
     record {
       owner = is.owner;

@@ -14,9 +14,9 @@ use crate::persistents::Persistents;
 use itoa::Buffer;
 use rapid_model::{PersValue, ScriptRule, Sort, Text, Value, width};
 
-/// Whether a script's value is of the type.
-fn has_sort(sort: Sort, value: &Value) -> bool
-    ensures { result ≡ Cells.has_sort sort value.now }
+/// Whether a script may give the value to what has the type.
+fn is_script_value(sort: Sort, value: &Value) -> bool
+    ensures { result ≡ Cells.is_script_value sort value.now }
 {
     match (sort, value) {
         (Sort::Num, Value::Num(_)) => true,
@@ -101,9 +101,9 @@ fn with_given(info: &mut PersInfo, index: usize, value: Value)
 
 /// Whether a value of the script is of a persistent's type, and for an element where the persistent is an array.
 fn suits(info: &PersInfo, row: &PersValue) -> bool
-    ensures { result ≡ (Cells.has_sort info.now.sort row.now.value && Cells.fits_index info.now.len row.now.index) }
+    ensures { result ≡ (Cells.is_script_value info.now.sort row.now.value && Cells.fits_index info.now.len row.now.index) }
 {
-    has_sort(info.sort, &row.value) && fits_index(info.len, row.index)
+    is_script_value(info.sort, &row.value) && fits_index(info.len, row.index)
 }
 
 /// A value of the script for the persistent of this number.

@@ -39,7 +39,7 @@ part_of-other actor history e other =
     filter-append (λ f. f.actor == actor) history (e ∷ []) ∙ ap (λ (b : Bool). part_of actor history ++ kept_if e b) (ne_eqb e.actor actor other)
     ∙ append-nil (part_of actor history)
 
-option_or-None : {A : Type 0} (told : Option A) → option_or told None ≡ told
+option_or-None : {A : Type 0} (first : Option A) → option_or first None ≡ first
 option_or-None None = refl
 option_or-None (Some x) = refl
 
@@ -47,11 +47,11 @@ option_or-assoc : {A : Type 0} (a b c : Option A) → option_or a (option_or b c
 option_or-assoc None b c = refl
 option_or-assoc (Some x) b c = refl
 
--- the first fate told stays
+-- the first fate stays
 pub end_of-more : (es : List Event) (e : Event) → end_of (es ++ e ∷ []) ≡ option_or (end_of es) (fate_of e.request)
 end_of-more [] e = option_or-None (fate_of e.request)
 end_of-more (f ∷ es) e =
-    ap (λ (told : Option Fate). option_or (fate_of f.request) told) (end_of-more es e) ∙ option_or-assoc (fate_of f.request) (end_of es) (fate_of e.request)
+    ap (λ (later : Option Fate). option_or (fate_of f.request) later) (end_of-more es e) ∙ option_or-assoc (fate_of f.request) (end_of es) (fate_of e.request)
 
 pub arm_along-more : (position : Joints) (es : List Event) (e : Event) → arm_along position (es ++ e ∷ []) ≡ moved (arm_along position es) e.request e.answer
 arm_along-more position [] e = refl

@@ -8,7 +8,7 @@ use Rattle.rapid_model.specs.Names.{is_name}
 use Rattle.rapid_model.specs.Limits.{is_within}
 use Rattle.rapid_model.specs.declared.script_rule.ScriptRule.TheVariants.{NoKey, Kind, UnknownKey, Range, Name, NoSuch, Pair}
 use Rattle.rule_checks.specs.Checks.{◌>>=◌, ◌>>◌, must, found_or}
-use Rattle.cell_script.specs.Break.{Read, key_in, element_of, at_key}
+use Rattle.cell_script.specs.Break.{Read, key_in, element_key, at_key}
 
 -- a table of the script, and where it stands
 pub record Keys : Type 0 where
@@ -99,10 +99,10 @@ abbrev pub rows_at : List ℕ → ℕ → ℕ → Data → Read (List Data)
 rows_at key low high d =
     found_or (as_array d) (at_key key Kind) >>= (λ items. must (is_within low high (length (items_list items))) (at_key key Range) >> Ok (items_list items))
 
--- the table of the element of this number
+-- the table of the element at this index
 abbrev pub table_at : List ℕ → ℕ → Data → Read Keys
-table_at key number d =
-    found_or (as_table d) (at_key (element_of key number) Kind) >>= (λ members. Ok (record { path = element_of key number; members = members }))
+table_at key index d =
+    found_or (as_table d) (at_key (element_key key index) Kind) >>= (λ members. Ok (record { path = element_key key index; members = members }))
 
 -- the rows of an array in turn, each with those before it
 abbrev pub each_row : {A : Type 0} → (List A → Data → Read A) → List A → List Data → Read (List A)

@@ -13,23 +13,23 @@ ghost use Rattle.parse_laws.specs.Forms.{exprs_within, index_within};
 /// one; tokens spell one list at most, however deep; and `exprs` of expr_parser gives that answer.
 pub fn exprs_have_one_answer()
     ensures one { HasOneAnswer exprs_within }
-    ensures told { TellsAnswer exprs_within (λ n. exprs_read (expr_of_read (inside_read n))) view_exprs }
+    ensures gives { TellsAnswer exprs_within (λ n. exprs_read (expr_of_read (inside_read n))) view_exprs }
 {}
 
 /// An index in braces: the same of `index` of expr_parser.
 pub fn index_has_one_answer()
     ensures one { HasOneAnswer index_within }
-    ensures told { TellsAnswer index_within (λ n. (inside_read n).index) view_expr }
+    ensures gives { TellsAnswer index_within (λ n. (inside_read n).index) view_expr }
 {}
 
 /// What stands behind a name in a place, an index and components, or none: the same of `place_parts` of expr_parser.
 pub fn parts_have_one_answer()
     ensures one { HasOneAnswer parts }
-    ensures told { TellsAnswer parts (λ n. parts_read (inside_read n)) view_parts }
+    ensures gives { TellsAnswer parts (λ n. parts_read (inside_read n)) view_parts }
 {}
 
 /// Arguments, or none: the same of `args_if_any` of expr_parser.
 pub fn args_have_one_answer()
     ensures one { HasOneAnswer args }
-    ensures told { TellsAnswer args (λ n. made_read none_or (optional_read arg_signs (inside_read n).args)) view_args }
+    ensures gives { TellsAnswer args (λ n. made_read none_or (optional_read arg_signs (inside_read n).args)) view_args }
 {}
