@@ -1,7 +1,8 @@
 ghost use Rattle.std.specs.Prelude.{◌≡◌, ◌≤◌, ◌<◌, ◌++◌, [], ◌∷◌, ◌↔◌, length, IsTrue, if◌then◌else◌};
-ghost use Rattle.rapid_model.specs.Printable.{IsPrintable, ArePrintable, takes};
+ghost use Rattle.rapid_model.specs.Printable.{ArePrintable, takes};
 
 use arrayvec::ArrayVec;
+use rapid_num::is_printable;
 use std::marker::Model;
 
 /// A text of at most `ROOM` bytes, each from 20 to 7E hexadecimal. Contracts see it as the list of its bytes.
@@ -39,7 +40,7 @@ impl<const ROOM: usize> Printable<ROOM> {
         ensures taken { result ≡ takes ROOM self.old byte }
         ensures pushed { self.new ≡ (if result then self.old ++ byte ∷ [] else self.old) }
     {
-        if !(32..=126).contains(&byte) {
+        if !is_printable(byte) {
             return false;
         }
         self.characters.try_push(byte).is_ok()
