@@ -1,4 +1,6 @@
-ghost use Rattle.std.specs.Prelude.{◌≡◌, ◌≤◌, ◌<◌, ◌++◌, [], ◌∷◌, ◌↔◌, length, IsTrue, if◌then◌else◌};
+ghost use Rattle.std.specs.Prelude.{◌≡◌, ◌+◌, ◌≤◌, ◌<◌, ◌++◌, [], ◌∷◌, ◌↔◌, length, IsTrue, if◌then◌else◌};
+ghost use Rattle.std.specs.List.{list_all};
+ghost use Rattle.rapid_num.specs.Characters.{is_printable};
 ghost use Rattle.rapid_model.specs.Printable.{ArePrintable, takes};
 
 use arrayvec::ArrayVec;
@@ -71,3 +73,14 @@ pub type Text = Printable<80>;
 
 /// A name of at most 32 bytes.
 pub type NameText = Printable<32>;
+
+/// Appends printable bytes, for which there is room.
+pub fn show(text: &mut Text, bytes: &[u8])
+    requires room { length text.old + length bytes.now ≤ 80 }
+    requires printable { IsTrue (list_all is_printable bytes.now) }
+    ensures { text.new ≡ text.old ++ bytes.now }
+{
+    for byte in bytes {
+        text.push(*byte);
+    }
+}
