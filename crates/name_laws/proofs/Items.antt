@@ -68,7 +68,7 @@ Done Counted Grows c In s t = Counted c t × Grows s t × In t
 
 -- the step of an item
 abbrev pub Stepped : {S : Type 0} → (Tally → S → Type 0) → (S → S → Type 0) → (S → Fact) → ℕ → Tally → PlainItem → S → S → Type 0
-Stepped Counted Grows B number c item = Done Counted Grows (after_item c item) (λ t. B t number c item)
+Stepped Counted Grows B number c item s t = Done Counted Grows (after_item c item) (λ u. B u number c item) s t
 
 -- a walk over the items of modules that ends at the first broken rule: what its steps make stays
 pub record IsWalk (S : Type 0) (step : ℕ → PlainItem → S → Checked S) (fold : ℕ → List PlainItem → S → Checked S) (walk : ℕ → List PlainModule → S → Checked S)
