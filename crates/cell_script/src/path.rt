@@ -70,9 +70,5 @@ fn show(text: &mut Text, bytes: &[u8])
 fn shown_byte(byte: u8) -> u8
     ensures { result ≡ shown_byte byte }
 {
-    if is_printable(byte) {
-        byte
-    } else {
-        b'?'
-    }
+    if is_printable(byte) { byte } else { b'?' }
 }
