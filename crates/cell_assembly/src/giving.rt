@@ -1,8 +1,6 @@
 //! What the script says of persistents.
 
-ghost use Rattle.std.specs.Prelude.{◌≡◌, ◌+◌, ◌≤◌, ◌++◌, ◌&&◌, IsTrue, length, map, slice_get};
-ghost use Rattle.std.specs.List.{list_all};
-ghost use Rattle.rapid_num.specs.Characters.{is_printable};
+ghost use Rattle.std.specs.Prelude.{◌≡◌, ◌&&◌, slice_get};
 ghost use Rattle.cell_assembly.specs.declared.cell_fault.CellFault.TheVariants.{Script};
 ghost use Rattle.cell_assembly.specs.Cells;
 ghost use Rattle.cell_assembly.specs.Parts.{view_infos};
@@ -12,7 +10,7 @@ use crate::cell_fault::CellFault;
 use crate::pers_info::PersInfo;
 use crate::persistents::Persistents;
 use itoa::Buffer;
-use rapid_model::{PersValue, ScriptRule, Sort, Text, Value, width};
+use rapid_model::{PersValue, ScriptRule, Sort, Text, Value, show, width};
 
 /// Whether a script may give the value to what has the type.
 fn is_script_value(sort: Sort, value: &Value) -> bool
@@ -44,17 +42,6 @@ fn element(index: Option<u16>) -> usize
     match index {
         Some(index) => index.saturating_sub(1) as usize,
         None => 0,
-    }
-}
-
-/// Appends bytes, for which there is room.
-fn show(text: &mut Text, bytes: &[u8])
-    requires room { length text.old + length bytes.now ≤ 80 }
-    requires printable { IsTrue (list_all is_printable bytes.now) }
-    ensures { text.new ≡ text.old ++ bytes.now }
-{
-    for byte in bytes {
-        text.push(*byte);
     }
 }
 

@@ -9,7 +9,7 @@ use Rattle.std.proofs.lemmas.Option.{slice_get-get_or, slice_get_within, get_or_
 use Rattle.rapid_num.specs.declared.joints.Joints.{Joints}
 use Rattle.rapid_model.specs.CellData.{CellData}
 use Rattle.rapid_model.specs.Limits.{holds_where_there, has_arm, is_input, is_input_signal, is_within, is_zone, is_zone_shape}
-use Rattle.rapid_model.specs.Names.{is_name}
+use Rattle.rapid_model.specs.Names.{is_short_name}
 use Rattle.rapid_model.specs.Own.{part_of, is_trap, is_leave}
 use Rattle.rapid_model.specs.Paths.{fits_part, has_element, has_path, part_sort}
 use Rattle.rapid_model.specs.Requests.{is_bool, of_pers}
@@ -81,7 +81,7 @@ zone_signals cell [] all k d lt = absurd (omega arith)
 zone_signals cell (row ∷ rows) all zero d lt =
     let arms : List (Option Joints) = map (λ (row : TaskRow). row.arm) cell.tasks in
     let here = (and_parts (is_zone cell.signals arms row) (list_all (is_zone cell.signals arms) rows) all).0 in
-    ltb-true row.signal (length cell.signals) (and_parts (is_name row.name && has_arm arms row.task && is_zone_shape row.shape) (nat_lt row.signal (length cell.signals)) here).1
+    ltb-true row.signal (length cell.signals) (and_parts (is_short_name row.name && has_arm arms row.task && is_zone_shape row.shape) (nat_lt row.signal (length cell.signals)) here).1
 zone_signals cell (row ∷ rows) all (suc k) d lt =
     let arms : List (Option Joints) = map (λ (row : TaskRow). row.arm) cell.tasks in
     zone_signals cell rows (and_parts (is_zone cell.signals arms row) (list_all (is_zone cell.signals arms) rows) all).1 k d (omega arith)

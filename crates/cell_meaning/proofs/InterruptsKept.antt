@@ -37,7 +37,7 @@ use Rattle.cell_meaning.specs.Zones.{zones_after}
 use Rattle.cell_meaning.proofs.Asked.{TaskMay, ScriptMay, who_may}
 use Rattle.cell_meaning.proofs.TaskKept.{KeptTask, one_if, has_entry, kept_same, kept_written, kept_deleted, kept_fired, still_named, just_named}
 use Rattle.cell_meaning.proofs.Lists.{from_front}
-use Rattle.cell_meaning.proofs.MoreEvents.{count_more, part_of-own, part_of-other, interrupts_after-more}
+use Rattle.cell_meaning.proofs.MoreEvents.{event, count_more, part_of-own, part_of-other, interrupts_after-more}
 
 -- a trap that is to run is that of the first number that waits, and none is under way
 pub record FirstDue (t : TaskData) (number trap : ℕ) : Type 0 where
@@ -149,9 +149,6 @@ asked_own tasks actor requests.Disable answers.Ok = refl
 asked_own tasks actor requests.Enable answers.Ok = refl
 asked_own tasks actor requests.Leave answers.Ok = refl
 asked_own tasks actor _ _ = sym (set-get_or tasks actor before_all)
-
-abbrev event : ℕ → Request → Answer → Event
-event actor request answer = record { actor = actor; request = request; answer = answer }
 
 -- each request leaves the interrupts of its task in order
 look_kept : (mine : List Event) (t : TaskData) (actor seen : ℕ) (due : Due) → look_answer t ≡ due → KeptTask mine t

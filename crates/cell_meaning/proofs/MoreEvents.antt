@@ -10,8 +10,10 @@ use Rattle.std.proofs.lemmas.List.Sums.{fold-append, sum_by-append}
 use Rattle.rapid_num.specs.declared.joints.Joints.{Joints}
 use Rattle.rapid_model.specs.CellData.{CellData}
 use Rattle.rapid_model.specs.Own.{part_of, fate_of, end_of}
+use Rattle.rapid_model.specs.declared.answer.Answer.{Answer}
 use Rattle.rapid_model.specs.declared.event.Event.{Event}
 use Rattle.rapid_model.specs.declared.fate.Fate.{Fate}
+use Rattle.rapid_model.specs.declared.request.Request.{Request}
 use Rattle.sync_tasks.specs.Meetings.{before_all as no_stands}
 use Rattle.trap_dispatch.specs.Tasks.{TaskData, before_all as no_interrupts}
 use Rattle.world_zones.specs.Zones.{before_all as no_own_zones}
@@ -23,6 +25,10 @@ use Rattle.cell_meaning.specs.Motion.{moved, arm_along, arm_after, is_given, set
 use Rattle.cell_meaning.specs.Rising.{seen_with, seen_after}
 use Rattle.cell_meaning.specs.Stored.{signals_with, signals_after, persistents_with, persistents_after}
 use Rattle.cell_meaning.specs.Zones.{zones_with, zones_after}
+
+-- an event by its parts
+abbrev pub event : ℕ → Request → Answer → Event
+event actor request answer = record { actor = actor; request = request; answer = answer }
 
 -- the event where it passes
 abbrev kept_if : Event → Bool → List Event

@@ -5,7 +5,7 @@ use Rattle.std.proofs.lemmas.Bool.{and_parts, and_from, both_ways, leb-true, leb
 use Rattle.std.proofs.lemmas.List.{append_assoc, append-nil, length-set}
 use Rattle.std.proofs.lemmas.Option.{slice_get_within}
 use Rattle.rapid_model.specs.Limits.{is_within, holds_where_there}
-use Rattle.rapid_model.specs.Names.{is_name}
+use Rattle.rapid_model.specs.Names.{is_short_name}
 use Rattle.rapid_model.specs.ScriptData.{is_given_value, is_pers_value}
 use Rattle.rapid_model.specs.Sorts.{width}
 use Rattle.rapid_model.specs.declared.pers_value.PersValue.{PersValue}
@@ -336,8 +336,8 @@ module _ (ds : List Declared) (ks : List ℕ) (count : ℕ) (numbered : AreNumbe
 
   from_one : (row : PersValue) → is_pers_value row ≡ true → FromOne row.index
   from_one row is =
-      let (front, _) = and_parts (is_name row.name && holds_where_there (is_within 1 1_000) row.index) (is_given_value row.value) is in
-      let (_, index) = and_parts (is_name row.name) (holds_where_there (is_within 1 1_000) row.index) front in
+      let (front, _) = and_parts (is_short_name row.name && holds_where_there (is_within 1 1_000) row.index) (is_given_value row.value) is in
+      let (_, index) = and_parts (is_short_name row.name) (holds_where_there (is_within 1 1_000) row.index) front in
       one_there row.index index
     where
       one_there : (index : Option ℕ) → holds_where_there (is_within 1 1_000) index ≡ true → FromOne index

@@ -4,7 +4,7 @@ use Rattle.std.specs.List.{list_any}
 use Rattle.std.specs.Str.{str_eq_ignore_ascii_case}
 use Rattle.toml.specs.Data.{Data, Items, no_items, item, Members, no_members, member, get_member, as_str, as_integer, as_array, as_table}
 use Rattle.rapid_lexer.specs.Words.{is_reserved}
-use Rattle.rapid_model.specs.Names.{is_name}
+use Rattle.rapid_model.specs.Names.{is_short_name}
 use Rattle.rapid_model.specs.Limits.{is_within}
 use Rattle.rapid_model.specs.declared.script_rule.ScriptRule.TheVariants.{NoKey, Kind, UnknownKey, Range, Name, NoSuch, Pair}
 use Rattle.rule_checks.specs.Checks.{◌>>=◌, ◌>>◌, must, found_or}
@@ -75,7 +75,7 @@ word_at key first second d =
 
 -- a name: its form (RAPID Kernel, identifiers), and no reserved word
 abbrev pub name_at : List ℕ → Data → Read (List ℕ)
-name_at key d = text_at key d >>= (λ text. must (is_name text && not (is_reserved text)) (at_key key Name) >> Ok text)
+name_at key d = text_at key d >>= (λ text. must (is_short_name text && not (is_reserved text)) (at_key key Name) >> Ok text)
 
 -- the number of the name that a text refers to, letters of either case being the same
 abbrev pub number_at : List ℕ → List (List ℕ) → Data → Read ℕ

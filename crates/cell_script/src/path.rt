@@ -6,6 +6,7 @@ ghost use Rattle.cell_script.specs.Gives.{path_of};
 
 use itoa::Buffer;
 use rapid_model::Text;
+use rapid_num::is_printable;
 
 /// Where a table stands: it is the script, or the element at this index of an array of the script.
 #[derive(Clone, Copy)]
@@ -69,9 +70,5 @@ fn show(text: &mut Text, bytes: &[u8])
 fn shown_byte(byte: u8) -> u8
     ensures { result ≡ shown_byte byte }
 {
-    if (32..=126).contains(&byte) {
-        byte
-    } else {
-        b'?'
-    }
+    if is_printable(byte) { byte } else { b'?' }
 }

@@ -14,8 +14,8 @@ ghost use Rattle.task_steps.specs.Doing.{here_of};
 
 use crate::done::Done;
 use crate::pushing::place_pushed;
-use crate::shown::num_of;
 use crate::task::Task;
+use function_values::num_of;
 use rapid_model::{Fate, Fault, Value};
 use rapid_operators::whole_index;
 use typed_trees::{Lvalue, Root};
