@@ -13,7 +13,7 @@ use Rattle.typed_trees.specs.Plain.{TypedTree}
 use Rattle.cell_assembly.specs.Made.{MadeCell}
 use Rattle.cell_meaning.specs.Asking.{with_inputs}
 use Rattle.cell_meaning.specs.Histories.{IsLegal}
-use Rattle.cell_meaning.specs.MayAsk.{is_served, may_ask}
+use Rattle.cell_meaning.specs.MayAsk.{is_offered, may_ask}
 use Rattle.cell_meaning.specs.Premises.{AsksOne, TasksAskWell}
 use Rattle.rapid_meaning.specs.Answering.{Asking}
 use Rattle.rapid_meaning.specs.Asking.{tree_asks}
@@ -34,10 +34,10 @@ use Rattle.accepted_runs.proofs.Trees.{tree_there}
 pub asks_one : (trees : List TypedTree) → AsksOne (tree_asks trees)
 asks_one trees = record { one = λ actor answers r r' p q. one_request.one trees actor answers r r' p q }
 
--- the cell serves what a well typed task asks
-served : (c : Setting) (d : Data) (request : Request) → IsAsked c d request → is_served request ≡ true
-served c d (requests.ZoneTie old temporary shape signal value) may = absurd may
-served c d request may = refl
+-- the cell offers what a well typed task asks
+offered : (c : Setting) (d : Data) (request : Request) → IsAsked c d request → is_offered request ≡ true
+offered c d (requests.ZoneTie old temporary shape signal value) may = absurd may
+offered c d request may = refl
 
 -- what a task asks after its own events
 may_next : (script : ScriptData) (made : MadeCell) (task : ℕ) (tree : TypedTree) (mine : List Event) (request : Request) → IsAccepted script made → slice_get made.trees task ≡ Some tree
@@ -49,7 +49,7 @@ may_next script made task tree mine request accepted there own due =
     let now : (d : Data) × (state_after tree answers ≡ Asking request d) = is_asking tree answers request due in
     let may : IsAsked c now.0 request = asked (length made.cell.signals) (is_some h.row.arm) made.cell task tree answers request now.0 h.typed h.numbered now.1 in
     let suits : IsTrue (suits_actor made.cell task (own_events task tree answers) request) = may_be_asked made.cell task h.row tree answers request h.there h.typed h.numbered due in
-    and_from (is_served request) (suits_actor made.cell task mine request) (served c now.0 request may)
+    and_from (is_offered request) (suits_actor made.cell task mine request) (offered c now.0 request may)
     (subst (λ (events : List Event). IsTrue (suits_actor made.cell task events request)) (sym (are_own task tree mine own)) suits)
 
 may : (script : ScriptData) (made : MadeCell) (history : List Event) (task : ℕ) (request : Request) → IsAccepted script made → task < length made.cell.tasks

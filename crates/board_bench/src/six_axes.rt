@@ -6,8 +6,8 @@ use rapid_num::{Bound, Joints, Num, Shape};
 pub(crate) fn position(angles: [i32; 6]) -> Joints {
     let absent = Num::new(9_000_000_000_000).unwrap();
     let mut axis = [absent; 12];
-    for place in 0..6 {
-        axis[place] = number(angles[place]);
+    for index in 0..6 {
+        axis[index] = number(angles[index]);
     }
     Joints { axis }
 }
@@ -15,8 +15,8 @@ pub(crate) fn position(angles: [i32; 6]) -> Joints {
 /// Inside these bounds of the axes, in thousandths of a degree.
 pub(crate) fn zone(bounds: [(i32, i32); 6]) -> Shape {
     let mut of_axes = [None; 12];
-    for place in 0..6 {
-        of_axes[place] = Some(bound(bounds[place]));
+    for index in 0..6 {
+        of_axes[index] = Some(bound(bounds[index]));
     }
     Shape {
         inside: true,

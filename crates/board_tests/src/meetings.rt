@@ -31,12 +31,12 @@ static ARRIVALS: [(u32, bool, bool); 10] = [
 #[test]
 fn two_meetings(rt: HostRuntime) -> Result<(), Fail> {
     let mut tasks = ThreeTasks::new(rt.alloc())?;
-    for (place, (task, met, fresh)) in ARRIVALS.iter().enumerate() {
+    for (index, (task, met, fresh)) in ARRIVALS.iter().enumerate() {
         let arrived = Arrived {
             met: *met,
             fresh: *fresh,
         };
-        assert_eq!(rt; tasks.arrive(*task), Some(arrived), "arrival {place}");
+        assert_eq!(rt; tasks.arrive(*task), Some(arrived), "arrival {index}");
     }
     Ok(())
 }

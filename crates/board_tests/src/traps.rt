@@ -106,8 +106,8 @@ fn all_done(task: &mut OneTask, steps: &[Step]) -> bool {
 #[test]
 fn interrupts(rt: HostRuntime) -> Result<(), Fail> {
     let mut task = OneTask::new(rt.alloc())?;
-    for (place, step) in STEPS.iter().enumerate() {
-        assert!(rt; task.does(*step), "step {place}");
+    for (index, step) in STEPS.iter().enumerate() {
+        assert!(rt; task.does(*step), "step {index}");
     }
     Ok(())
 }

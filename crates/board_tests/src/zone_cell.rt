@@ -4,7 +4,7 @@ ghost use Rattle.std.specs.Prelude.{◌≡◌, ◌<◌, ◌≤◌, ◌*◌, [], 
 ghost use Rattle.rapid_num.specs.Reach.{is_position};
 ghost use Rattle.rapid_model.specs.CellData.{starts_well};
 ghost use Rattle.rapid_model.specs.Limits.{is_zone_shape};
-ghost use Rattle.rapid_model.specs.Names.{is_name};
+ghost use Rattle.rapid_model.specs.Names.{is_short_name};
 
 use crate::cell::{name, signal};
 use rapid_model::{Cell, Sequence, TaskRow, ZoneRow};
@@ -52,7 +52,7 @@ fn task(letter: u8) -> TaskRow
 }
 
 fn zone(task: u32, shape: Shape, signal: u32, value: bool) -> ZoneRow
-    ensures name { IsTrue (is_name result.name) }
+    ensures name { IsTrue (is_short_name result.name) }
     ensures task { result.task ≡ task }
     ensures shape { result.shape ≡ shape }
     ensures signal { result.signal ≡ signal }

@@ -111,9 +111,9 @@ static OF_THE_CELL: [ZoneStep; 12] = [
 
 /// How many steps come to what is wanted, before the first that does not.
 fn steps_done(arms: &mut TwoArms, steps: &[ZoneStep]) -> usize {
-    for (place, step) in steps.iter().enumerate() {
+    for (index, step) in steps.iter().enumerate() {
         if !arms.does(*step) {
-            return place;
+            return index;
         }
     }
     steps.len()

@@ -8,17 +8,17 @@ use Rattle.rapid_model.specs.declared.signal_row.SignalRow.{SignalRow}
 use Rattle.rapid_model.specs.declared.task_row.TaskRow.{TaskRow}
 use Rattle.rapid_model.specs.CellData.{CellData, IsCell, starts_well, is_pers_cell}
 use Rattle.rapid_model.specs.Limits.{is_within, is_start, is_signal, is_zone, is_input}
-use Rattle.rapid_model.specs.Names.{is_name, differ}
+use Rattle.rapid_model.specs.Names.{is_short_name, differ}
 use Rattle.rapid_model.specs.ScriptData.{ScriptData, IsScript, is_file_name, is_task, row_of}
 
 starts : (tasks : List ScriptTask) → list_all is_task tasks ≡ true → list_all starts_well (map row_of tasks) ≡ true
 starts [] e = refl
 starts (task ∷ tasks) e =
     let (here, more) = and_parts (is_task task) (list_all is_task tasks) e in
-    let (front, start) = and_parts ((is_name task.name && is_within 1 16 (length task.modules)) && list_all is_file_name task.modules) (is_start task.arm) here in
-    let (named, _) = and_parts (is_name task.name && is_within 1 16 (length task.modules)) (list_all is_file_name task.modules) front in
-    let (name, _) = and_parts (is_name task.name) (is_within 1 16 (length task.modules)) named in
-    and_from (starts_well (row_of task)) (list_all starts_well (map row_of tasks)) (and_from (is_name task.name) (is_start task.arm) name start) (starts tasks more)
+    let (front, start) = and_parts ((is_short_name task.name && is_within 1 16 (length task.modules)) && list_all is_file_name task.modules) (is_start task.arm) here in
+    let (named, _) = and_parts (is_short_name task.name && is_within 1 16 (length task.modules)) (list_all is_file_name task.modules) front in
+    let (name, _) = and_parts (is_short_name task.name) (is_within 1 16 (length task.modules)) named in
+    and_from (starts_well (row_of task)) (list_all starts_well (map row_of tasks)) (and_from (is_short_name task.name) (is_start task.arm) name start) (starts tasks more)
 
 -- what a row has of its task
 same_parts : {A : Type 0} (part : TaskRow → A) (tasks : List ScriptTask) → map part (map row_of tasks) ≡ map (λ task. part (row_of task)) tasks

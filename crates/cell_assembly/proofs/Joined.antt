@@ -55,14 +55,14 @@ must_holds true b next e = refl
 must_holds false b next e = cc
 
 pub given_there : (infos : List PersInfo) (number k : ℕ) (row : PersValue) (old new : PersInfo) → k < length infos → old ≡ get_or infos k old
-    → Cells.has_sort old.sort row.value && Cells.fits_index old.len row.index ≡ true → Cells.element row.index + 1 ≤ width old.len
+    → Cells.is_script_value old.sort row.value && Cells.fits_index old.len row.index ≡ true → Cells.element row.index + 1 ≤ width old.len
     → Cells.is_given (slice_get old.given.items (Cells.element row.index)) ≡ false → view_info new ≡ Cells.with_given (view_info old) (Cells.element row.index) row.value
     → Cells.give_to (map view_info infos) number row k (slice_get (map view_info infos) k) ≡ Ok (map view_info (set infos k new))
 given_there infos number k row old new within is suits in_range not_given given =
     let ps = map view_info infos in
     let index = Cells.element row.index in
     ap (Cells.give_to ps number row k) (info_there infos k old within is)
-    ∙ must_holds (Cells.has_sort old.sort row.value && Cells.fits_index old.len row.index) (Cells.at_value number Kind) _ suits
+    ∙ must_holds (Cells.is_script_value old.sort row.value && Cells.fits_index old.len row.index) (Cells.at_value number Kind) _ suits
     ∙ must_holds (nat_le (index + 1) (width old.len)) (Cells.at_value number Range) _ (le-leb (index + 1) (width old.len) in_range)
     ∙ must_holds (not (Cells.is_given (slice_get old.given.items index))) (Cells.at_value number Twice) _ (ap not not_given)
     ∙ ap (λ p. let made : Making (List Cells.PersInfo) = Ok (set ps k p) in made) (sym given)

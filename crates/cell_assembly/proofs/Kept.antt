@@ -10,7 +10,7 @@ use Rattle.name_tables.specs.Names.{NameList, Finds}
 use Rattle.rapid_model.specs.Sorts.{width}
 use Rattle.rapid_model.specs.declared.pers_value.PersValue.{PersValue}
 use Rattle.rapid_model.specs.declared.script_rule.ScriptRule.TheVariants.{Kind, Range, Twice}
-use Rattle.cell_assembly.specs.Cells.{PersInfo, is_global, global_number, has_sort, fits_index, element, is_given, with_given, at_value, give_to, give_global}
+use Rattle.cell_assembly.specs.Cells.{PersInfo, is_global, global_number, is_script_value, fits_index, element, is_given, with_given, at_value, give_to, give_global}
 use Rattle.rule_checks.proofs.Keeps.{Keeps-must}
 
 same_number : (name : List ℕ) (ps : List PersInfo) (k : ℕ) (old new : PersInfo) → slice_get ps k ≡ Some old → is_global name new ≡ is_global name old → global_number name (set ps k new) ≡ global_number name ps
@@ -31,7 +31,7 @@ give_to_keeps name ps number row k None at = tt
 give_to_keeps name ps number row k (Some p) at =
     let index = element row.index in
     let Same : List PersInfo → Type 0 = λ qs. global_number name qs ≡ global_number name ps in
-    Keeps-must Same (has_sort p.sort row.value && fits_index p.len row.index) (at_value number Kind) _ (λ suits.
+    Keeps-must Same (is_script_value p.sort row.value && fits_index p.len row.index) (at_value number Kind) _ (λ suits.
     Keeps-must Same (nat_le (index + 1) (width p.len)) (at_value number Range) _ (λ there.
     Keeps-must Same (not (is_given (slice_get p.given index))) (at_value number Twice) _ (λ not_given.
     number_kept name ps k p (with_given p index row.value) at refl refl)))

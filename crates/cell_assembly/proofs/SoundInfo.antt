@@ -8,7 +8,7 @@ use Rattle.std.proofs.lemmas.List.Elements.{All-set, All-replicate}
 use Rattle.std.proofs.lemmas.List.Sums.{AllPass-from_list_all, list_all-from_AllPass}
 use Rattle.rapid_model.specs.CellData.{is_pers_cell}
 use Rattle.rapid_model.specs.Limits.{is_within, holds_where_there}
-use Rattle.rapid_model.specs.Sorts.{has_values, is_value_of, width}
+use Rattle.rapid_model.specs.Sorts.{has_values, is_value_of, are_values_of, width}
 use Rattle.rapid_model.specs.declared.sort.Sort.{Sort}
 use Rattle.rapid_model.specs.declared.sort.Sort.TheVariants as sorts
 use Rattle.rapid_model.specs.declared.value.Value.{Value}
@@ -16,19 +16,15 @@ use Rattle.rapid_model.specs.declared.value.Value.TheVariants as values
 use Rattle.named_data.specs.Wants.{same_sort}
 use Rattle.typed_trees.specs.Plain.{TypedPers}
 use Rattle.typed_trees.specs.Sound.{fits, is_sound}
-use Rattle.cell_assembly.specs.Cells.{PersInfo, new_pers, with_declared, same_len, has_sort, with_given}
+use Rattle.cell_assembly.specs.Cells.{PersInfo, new_pers, with_declared, same_len, is_script_value, with_given}
 use Rattle.cell_assembly.specs.Made.{start_of, declared_values, over, pers_cell}
-
--- a value of the type for each element
-abbrev pub are_right : Sort → Option ℕ → List Value → Bool
-are_right sort len vs = length vs == width len && list_all (is_value_of sort) vs
 
 -- with so many tasks
 pub record IsSoundInfo (tasks : ℕ) (p : PersInfo) : Type 0 where
   pub owner : holds_where_there (λ task. nat_lt task tasks) p.owner ≡ true
   pub valued : has_values p.sort ≡ true
   pub len : holds_where_there (is_within 1 1_000) p.len ≡ true
-  pub declared : holds_where_there (are_right p.sort p.len) p.declared ≡ true
+  pub declared : holds_where_there (are_values_of p.sort p.len) p.declared ≡ true
   pub as_many : length p.given ≡ width p.len
   pub given : list_all (holds_where_there (is_value_of p.sort)) p.given ≡ true
 
@@ -77,10 +73,10 @@ either_declared test (Some vs) more here there = here
 either_declared test None more here there = there
 
 -- what fits a declaration fits a persistent of its type and its length
-right_there : (sort other : Sort) (len long : Option ℕ) (first : Option (List Value)) → sort ≡ other → len ≡ long → holds_where_there (are_right other long) first ≡ true
-    → holds_where_there (are_right sort len) first ≡ true
+right_there : (sort other : Sort) (len long : Option ℕ) (first : Option (List Value)) → sort ≡ other → len ≡ long → holds_where_there (are_values_of other long) first ≡ true
+    → holds_where_there (are_values_of sort len) first ≡ true
 right_there sort other len long first same alike right =
-    ap (λ s. holds_where_there (are_right s len) first) same ∙ ap (λ l. holds_where_there (are_right other l) first) alike ∙ right
+    ap (λ s. holds_where_there (are_values_of s len) first) same ∙ ap (λ l. holds_where_there (are_values_of other l) first) alike ∙ right
 
 -- one more declaration, with its type and its length
 pub declared_sound : (tasks : ℕ) (p : PersInfo) (row : TypedPers) → same_sort p.sort row.sort && same_len p.len row.len ≡ true → is_sound row ≡ true → IsSoundInfo tasks p → IsSoundInfo tasks (with_declared p row)
@@ -92,19 +88,19 @@ declared_sound tasks p row alike sound is =
       owner = is.owner;
       valued = is.valued;
       len = is.len;
-      declared = either_declared (are_right p.sort p.len) p.declared row.first is.declared right;
+      declared = either_declared (are_values_of p.sort p.len) p.declared row.first is.declared right;
       as_many = is.as_many;
       given = is.given;
     }
 
-value_of_sort : (sort : Sort) (value : Value) → has_sort sort value ≡ true → is_value_of sort value ≡ true
+value_of_sort : (sort : Sort) (value : Value) → is_script_value sort value ≡ true → is_value_of sort value ≡ true
 value_of_sort sorts.Num (values.Num n) e = refl
 value_of_sort sorts.Bool (values.Bool b) e = refl
 value_of_sort sorts.Text (values.Text t) e = refl
 value_of_sort _ _ e = cc
 
 -- a value that the script gives
-pub given_sound : (tasks : ℕ) (p : PersInfo) (index : ℕ) (value : Value) → has_sort p.sort value ≡ true → IsSoundInfo tasks p → IsSoundInfo tasks (with_given p index value)
+pub given_sound : (tasks : ℕ) (p : PersInfo) (index : ℕ) (value : Value) → is_script_value p.sort value ≡ true → IsSoundInfo tasks p → IsSoundInfo tasks (with_given p index value)
 given_sound tasks p index value suits is =
     record {
       owner = is.owner;
@@ -126,8 +122,8 @@ start_is_right sorts.JointTarget e = refl
 start_is_right sorts.SpeedData e = refl
 start_is_right _ e = cc
 
-declared_are_right : (p : PersInfo) (declared : Option (List Value)) → has_values p.sort ≡ true → holds_where_there (are_right p.sort p.len) declared ≡ true
-    → are_right p.sort p.len (declared_values (record p { declared = declared })) ≡ true
+declared_are_right : (p : PersInfo) (declared : Option (List Value)) → has_values p.sort ≡ true → holds_where_there (are_values_of p.sort p.len) declared ≡ true
+    → are_values_of p.sort p.len (declared_values (record p { declared = declared })) ≡ true
 declared_are_right p (Some vs) valued right = right
 declared_are_right p None valued right =
     and_from (length (replicate (width p.len) (start_of p.sort)) == width p.len) (list_all (is_value_of p.sort) (replicate (width p.len) (start_of p.sort)))

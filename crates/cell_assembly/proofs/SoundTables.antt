@@ -17,7 +17,7 @@ use Rattle.named_data.specs.Wants.{same_sort}
 use Rattle.typed_trees.specs.Plain.{TypedPers, TypedTree}
 use Rattle.typed_trees.specs.Sound.{is_sound, has_sound_pers}
 use Rattle.rule_checks.specs.Checks.{◌>>=◌}
-use Rattle.cell_assembly.specs.Cells.{PersInfo, Numbered, PersTables, CellTables, MeetingTables, new_pers, added, joined, join, global_pers, one_pers, all_pers, with_list, trees_pers, global_number, same_len, has_sort, fits_index, element, is_given, with_declared, with_given, at_value, give_to, give_global, give, give_all, meet_all, meetings_with, trees_meetings, tables, cell_tables, Clash}
+use Rattle.cell_assembly.specs.Cells.{PersInfo, Numbered, PersTables, CellTables, MeetingTables, new_pers, added, joined, join, global_pers, one_pers, all_pers, with_list, trees_pers, global_number, same_len, is_script_value, fits_index, element, is_given, with_declared, with_given, at_value, give_to, give_global, give, give_all, meet_all, meetings_with, trees_meetings, tables, cell_tables, Clash}
 use Rattle.cell_assembly.specs.Made.{pers_cell}
 use Rattle.rule_checks.proofs.Keeps.{Keeps-then, Keeps-must}
 use Rattle.cell_assembly.proofs.Holds.{either_holds}
@@ -76,11 +76,11 @@ give_to_sound : (tasks : ℕ) (ps : List PersInfo) (number : ℕ) (row : PersVal
 give_to_sound tasks ps number row k None all at = tt
 give_to_sound tasks ps number row k (Some p) all at =
     let index = element row.index in
-    Keeps-must (AreSound tasks) (has_sort p.sort row.value && fits_index p.len row.index) (at_value number Kind) _ (λ suits.
+    Keeps-must (AreSound tasks) (is_script_value p.sort row.value && fits_index p.len row.index) (at_value number Kind) _ (λ suits.
     Keeps-must (AreSound tasks) (nat_le (index + 1) (width p.len)) (at_value number Range) _ (λ there.
     Keeps-must (AreSound tasks) (not (is_given (slice_get p.given index))) (at_value number Twice) _ (λ not_given.
     All-set (IsSoundInfo tasks) ps k (with_given p index row.value)
-    (given_sound tasks p index row.value (and_parts (has_sort p.sort row.value) (fits_index p.len row.index) suits).0 (one_there tasks ps k p at all)) all)))
+    (given_sound tasks p index row.value (and_parts (is_script_value p.sort row.value) (fits_index p.len row.index) suits).0 (one_there tasks ps k p at all)) all)))
 
 give_global_sound : (tasks : ℕ) (ps : List PersInfo) (number : ℕ) (row : PersValue) (k : Option ℕ) → AreSound tasks ps → IfOk (give_global ps number row k) (AreSound tasks)
 give_global_sound tasks ps number row None all = tt

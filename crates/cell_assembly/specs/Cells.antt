@@ -13,7 +13,7 @@ use Rattle.rapid_model.specs.declared.value.Value.TheVariants as values
 use Rattle.rapid_model.specs.Sorts.{width}
 use Rattle.typed_trees.specs.Plain.{TypedPers, TypedTree}
 use Rattle.rule_checks.specs.Checks.{◌>>=◌, ◌>>◌, must}
-use Rattle.cell_script.specs.Break.{element_of}
+use Rattle.cell_script.specs.Break.{element_key}
 use Rattle.named_data.specs.Wants.{same_sort}
 
 -- why no cell is made: two declarations of one persistent differ, the later one being here; or a rule of the script is broken at
@@ -113,12 +113,12 @@ trees_pers t task [] = Ok t
 trees_pers t task (tree ∷ trees) =
     all_pers (record { pers = t.pers; numbers = [] }) task tree.pers >>= (λ n. trees_pers (with_list t n) (task + 1) trees)
 
--- a script's value is of this type
-abbrev pub has_sort : Sort → Value → Bool
-has_sort sorts.Num (values.Num n) = true
-has_sort sorts.Bool (values.Bool b) = true
-has_sort sorts.Text (values.Text t) = true
-has_sort _ _ = false
+-- a value that a script may give to what has this type
+abbrev pub is_script_value : Sort → Value → Bool
+is_script_value sorts.Num (values.Num n) = true
+is_script_value sorts.Bool (values.Bool b) = true
+is_script_value sorts.Text (values.Text t) = true
+is_script_value _ _ = false
 
 -- an element of an array, or what is no array
 abbrev pub fits_index : Option ℕ → Option ℕ → Bool
@@ -130,7 +130,7 @@ element None = 0
 element (Some index) = index - 1
 
 abbrev pub key_of : ℕ → List ℕ
-key_of number = element_of (codes "pers") number
+key_of number = element_key (codes "pers") number
 
 -- a rule that the value of this number breaks
 abbrev pub at_value : ℕ → ScriptRule → CellBreak
@@ -154,7 +154,7 @@ with_given p index value = record {
 abbrev pub give_to : List PersInfo → ℕ → PersValue → ℕ → Option PersInfo → Making (List PersInfo)
 give_to ps number row k None = Err (at_value number NoSuch)
 give_to ps number row k (Some p) =
-    must (has_sort p.sort row.value && fits_index p.len row.index) (at_value number Kind)
+    must (is_script_value p.sort row.value && fits_index p.len row.index) (at_value number Kind)
     >> (must (nat_le (element row.index + 1) (width p.len)) (at_value number Range)
     >> (must (not (is_given (slice_get p.given (element row.index)))) (at_value number Twice)
     >> Ok (set ps k (with_given p (element row.index) row.value))))

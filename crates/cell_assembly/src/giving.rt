@@ -1,8 +1,6 @@
 //! What the script says of persistents.
 
-ghost use Rattle.std.specs.Prelude.{◌≡◌, ◌+◌, ◌≤◌, ◌++◌, ◌&&◌, IsTrue, length, map, slice_get};
-ghost use Rattle.std.specs.List.{list_all};
-ghost use Rattle.rapid_num.specs.Characters.{is_printable};
+ghost use Rattle.std.specs.Prelude.{◌≡◌, ◌&&◌, slice_get};
 ghost use Rattle.cell_assembly.specs.declared.cell_fault.CellFault.TheVariants.{Script};
 ghost use Rattle.cell_assembly.specs.Cells;
 ghost use Rattle.cell_assembly.specs.Parts.{view_infos};
@@ -12,11 +10,11 @@ use crate::cell_fault::CellFault;
 use crate::pers_info::PersInfo;
 use crate::persistents::Persistents;
 use itoa::Buffer;
-use rapid_model::{PersValue, ScriptRule, Sort, Text, Value, width};
+use rapid_model::{PersValue, ScriptRule, Sort, Text, Value, show, width};
 
-/// Whether a script's value is of the type.
-fn has_sort(sort: Sort, value: &Value) -> bool
-    ensures { result ≡ Cells.has_sort sort value.now }
+/// Whether a script may give the value to what has the type.
+fn is_script_value(sort: Sort, value: &Value) -> bool
+    ensures { result ≡ Cells.is_script_value sort value.now }
 {
     match (sort, value) {
         (Sort::Num, Value::Num(_)) => true,
@@ -44,17 +42,6 @@ fn element(index: Option<u16>) -> usize
     match index {
         Some(index) => index.saturating_sub(1) as usize,
         None => 0,
-    }
-}
-
-/// Appends bytes, for which there is room.
-fn show(text: &mut Text, bytes: &[u8])
-    requires room { length text.old + length bytes.now ≤ 80 }
-    requires printable { IsTrue (list_all is_printable bytes.now) }
-    ensures { text.new ≡ text.old ++ bytes.now }
-{
-    for byte in bytes {
-        text.push(*byte);
     }
 }
 
@@ -101,9 +88,9 @@ fn with_given(info: &mut PersInfo, index: usize, value: Value)
 
 /// Whether a value of the script is of a persistent's type, and for an element where the persistent is an array.
 fn suits(info: &PersInfo, row: &PersValue) -> bool
-    ensures { result ≡ (Cells.has_sort info.now.sort row.now.value && Cells.fits_index info.now.len row.now.index) }
+    ensures { result ≡ (Cells.is_script_value info.now.sort row.now.value && Cells.fits_index info.now.len row.now.index) }
 {
-    has_sort(info.sort, &row.value) && fits_index(info.len, row.index)
+    is_script_value(info.sort, &row.value) && fits_index(info.len, row.index)
 }
 
 /// A value of the script for the persistent of this number.

@@ -11,7 +11,8 @@ use Rattle.rapid_model.specs.declared.request.Request.TheVariants as requests
 use Rattle.rapid_model.specs.declared.value.Value.TheVariants as values
 use Rattle.rapid_model.specs.declared.watched.Watched.TheVariants as watched
 use Rattle.rapid_model.specs.declared.zone_name.ZoneName.TheVariants as zones
-use Rattle.cell_meaning.proofs.ExampleCell.{joints_at, cell, event, second, cleared, written, went}
+use Rattle.cell_meaning.proofs.ExampleCell.{joints_at, cell, second, cleared, written, went}
+use Rattle.cell_meaning.proofs.MoreEvents.{event}
 use Rattle.cell_core.specs.Boards.{BoardData, boards_of, boards_with, change_on}
 use Rattle.cell_core.specs.Reading.{can_go_on, is_passed, standing, fates_of}
 use Rattle.cell_core.specs.Answering.{answer_on}

@@ -9,7 +9,7 @@ use Rattle.std.proofs.lemmas.Option.{slice_get-get_or, slice_get_within, get_or_
 use Rattle.rapid_num.specs.declared.joints.Joints.{Joints}
 use Rattle.rapid_model.specs.CellData.{CellData}
 use Rattle.rapid_model.specs.Limits.{holds_where_there, has_arm, is_input, is_input_signal, is_within, is_zone, is_zone_shape}
-use Rattle.rapid_model.specs.Names.{is_name}
+use Rattle.rapid_model.specs.Names.{is_short_name}
 use Rattle.rapid_model.specs.Own.{part_of, is_trap, is_leave}
 use Rattle.rapid_model.specs.Paths.{fits_part, has_element, has_path, part_sort}
 use Rattle.rapid_model.specs.Requests.{is_bool, of_pers}
@@ -35,13 +35,13 @@ use Rattle.trap_dispatch.specs.Tasks.{TaskData, before_all}
 use Rattle.trap_dispatch.specs.Traps.{task_at}
 use Rattle.world_zones.specs.declared.cell_zone.CellZone.{CellZone}
 use Rattle.world_zones.specs.Zones.{ZonesData, no_zones, zone_of}
-use Rattle.cell_meaning.specs.MayAsk.{is_served, may_ask}
+use Rattle.cell_meaning.specs.MayAsk.{is_offered, may_ask}
 use Rattle.cell_meaning.specs.Motion.{is_given}
 use Rattle.cell_meaning.specs.Meetings.{stands_with, stands_after}
 use Rattle.cell_meaning.specs.Premises.{AllAnswered}
 use Rattle.cell_meaning.specs.Stored.{persistent_after}
 use Rattle.cell_meaning.specs.Zones.{zones_with, zones_after}
-use Rattle.cell_meaning.proofs.Asked.{TaskMay, ScriptMay, who_may, asked_served}
+use Rattle.cell_meaning.proofs.Asked.{TaskMay, ScriptMay, who_may, asked_offered}
 use Rattle.cell_meaning.proofs.InterruptsKept.{tasks_kept}
 use Rattle.cell_meaning.proofs.Lists.{from_front, written_keeps}
 use Rattle.cell_meaning.proofs.MoreChanges.{length-signals_after}
@@ -81,7 +81,7 @@ zone_signals cell [] all k d lt = absurd (omega arith)
 zone_signals cell (row ∷ rows) all zero d lt =
     let arms : List (Option Joints) = map (λ (row : TaskRow). row.arm) cell.tasks in
     let here = (and_parts (is_zone cell.signals arms row) (list_all (is_zone cell.signals arms) rows) all).0 in
-    ltb-true row.signal (length cell.signals) (and_parts (is_name row.name && has_arm arms row.task && is_zone_shape row.shape) (nat_lt row.signal (length cell.signals)) here).1
+    ltb-true row.signal (length cell.signals) (and_parts (is_short_name row.name && has_arm arms row.task && is_zone_shape row.shape) (nat_lt row.signal (length cell.signals)) here).1
 zone_signals cell (row ∷ rows) all (suc k) d lt =
     let arms : List (Option Joints) = map (λ (row : TaskRow). row.arm) cell.tasks in
     zone_signals cell rows (and_parts (is_zone cell.signals arms row) (list_all (is_zone cell.signals arms) rows) all).1 k d (omega arith)
@@ -184,7 +184,7 @@ known cell history boards steps actor keeps within = record {
   signals = ap length keeps.signals ∙ length-signals_after cell history;
 }
 
-task_ready : (cell : CellData) (history : List Event) (boards : BoardData) (steps actor : ℕ) (request : Request) → Keeps cell history boards steps → TaskMay cell actor (part_of actor history) request → IsTrue (is_served request)
+task_ready : (cell : CellData) (history : List Event) (boards : BoardData) (steps actor : ℕ) (request : Request) → Keeps cell history boards steps → TaskMay cell actor (part_of actor history) request → IsTrue (is_offered request)
     → Known cell history boards actor → CanAnswer cell boards actor request
 task_ready cell history boards steps actor requests.Look keeps may served know = (know.trap, know.actor_there)
 task_ready cell history boards steps actor (requests.ReadP pers path) keeps may served know =
@@ -309,7 +309,7 @@ pub ready : (cell : CellData) (history : List Event) (boards : BoardData) (steps
 ready cell history boards steps actor request keeps may = by (who_may cell actor (part_of actor history) request may)
   where
     by : TaskMay cell actor (part_of actor history) request ⊎ ScriptMay cell actor (part_of actor history) request → CanAnswer cell boards actor request
-    by (inl task) = task_ready cell history boards steps actor request keeps task (asked_served cell actor (part_of actor history) request may) (known cell history boards steps actor keeps task.within)
+    by (inl task) = task_ready cell history boards steps actor request keeps task (asked_offered cell actor (part_of actor history) request may) (known cell history boards steps actor keeps task.within)
     by (inr script) = script_ready cell history boards steps actor request keeps script
 
 -- an actor that may ask something is there

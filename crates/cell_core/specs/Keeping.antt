@@ -34,7 +34,7 @@ abbrev pub AreOfCell : CellData → BoardData → Type 0
 AreOfCell cell boards =
     (map (λ row. row.sort) boards.store ≡ map (λ row. row.sort) cell.pers) × (map (λ row. row.len) boards.store ≡ map (λ row. row.len) cell.pers)
 
--- how many actors have told their fates
+-- how many actors have ended
 abbrev pub fates_count : List Actor → ℕ
 fates_count actors = count_by (λ actor. is_some actor.end) actors
 
@@ -59,7 +59,7 @@ pub record Keeps (cell : CellData) (history : List Event) (boards : BoardData) (
   pub inputs_within : (actor_at boards.actors (length cell.tasks)).events ≤ length cell.inputs
   pub events : length history ≡ boards.counted + fates_count boards.actors + (actor_at boards.actors (length cell.tasks)).events
 
--- room for every event of a run, and for a fate of each task, none of which is told yet
+-- room for every event of a run, and for a fate of each task, none of which is there yet
 pub record HasRoom (cell : CellData) (event_room fate_room : ℕ) : Type 0 where
   pub events : cell.steps + length cell.tasks + length cell.inputs ≤ event_room
   pub fates : length cell.tasks ≤ fate_room

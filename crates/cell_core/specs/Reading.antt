@@ -12,7 +12,7 @@ use Rattle.cell_core.specs.Boards.{BoardData}
 use Rattle.cell_core.specs.Answering.{made_by_others}
 use Rattle.cell_core.specs.declared.actor.Actor.{Actor}
 
--- each of so many tasks, from 0, has told its fate
+-- each of so many tasks, from 0, has ended
 abbrev pub all_have_fates : ℕ → List Actor → Bool
 all_have_fates zero actors = true
 all_have_fates (suc tasks) actors = all_have_fates tasks actors && is_some (actor_at actors tasks).end
@@ -21,7 +21,7 @@ all_have_fates (suc tasks) actors = all_have_fates tasks actors && is_some (acto
 abbrev pub can_go_on : BoardData → ℕ → Bool
 can_go_on boards task = nat_lt (actor_at boards.actors task).seen (made_by_others boards task) || is_due (look_answer (task_at boards.traps task))
 
--- each of so many tasks, from 0, has told its fate, or is held and cannot go on
+-- each of so many tasks, from 0, has ended, or is held and cannot go on
 abbrev pub all_stand : ℕ → BoardData → Bool
 all_stand zero boards = true
 all_stand (suc tasks) boards =
@@ -34,7 +34,7 @@ is_passed boards row =
     && holds_where_there (λ g. nat_le g.1 (actor_at boards.actors g.0).given) row.given
     && holds_where_there (λ count. nat_le count boards.counted) row.after
 
--- how a task stands that told this, where the steps are spent or not
+-- how a task with this end stands, where the steps are spent or not
 abbrev pub standing : Bool → Option Fate → Fate
 standing spent (Some fate) = fate
 standing spent None = if spent then Cut else Held

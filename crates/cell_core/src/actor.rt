@@ -9,8 +9,8 @@ ghost use Rattle.cell_core.specs.Ready.{IsFew};
 use rapid_model::{Answer, Fate, Request};
 use rapid_num::Joints;
 
-/// What an actor's own events have come to: where its arm is, the fate that it told, whether its last event is a Hold, how
-/// many changes it had seen at its last Hold, how many setpoints its arm was given, how many traps it began and left, how
+/// What an actor's own events have come to: where its arm is, the fate that it ended with, whether its last event is a Hold,
+/// how many changes it had seen at its last Hold, how many setpoints its arm was given, how many traps it began and left, how
 /// many events it has, and how many of them changed something that tasks wait for.
 #[derive(Clone, Copy, Debug)]
 pub(crate) struct Actor {

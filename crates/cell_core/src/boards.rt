@@ -13,7 +13,7 @@ use crate::actor::{Actor, one_more};
 use crate::change::Change;
 use crate::inputs::feed;
 use crate::meetings::arrive;
-use crate::motion::{go, place};
+use crate::motion::{go, position_of};
 use crate::outcome::Outcome;
 use crate::starting::actors_of;
 use crate::values::{read, set_signal, test_set, value_of, write};
@@ -105,7 +105,7 @@ impl Boards {
                 *signal,
                 *value,
             )),
-            Request::Position => unchanged(place(&self.actors[actor as usize].arm)),
+            Request::Position => unchanged(position_of(&self.actors[actor as usize].arm)),
             Request::Setpoint { to } => {
                 let arm = &self.actors[actor as usize].arm;
                 unchanged(go(&self.zones, &self.signals, actor, arm, to))
@@ -199,7 +199,7 @@ impl Boards {
         read(&self.store, pers, path)
     }
 
-    /// Whether each of so many tasks has told its fate.
+    /// Whether each of so many tasks has ended.
     #[tactic(auto, using(crate::proofs::Looks::more_have_fates))]
     pub(crate) fn all_have_fates(&self, tasks: u32) -> bool
         requires { tasks ≤ length self.now.actors }
@@ -237,7 +237,7 @@ impl Boards {
             .saturating_sub(self.actors[actor as usize].made)
     }
 
-    /// Whether each of so many tasks has told its fate, or is held and cannot go on.
+    /// Whether each of so many tasks has ended, or is held and cannot go on.
     #[tactic(auto, using(crate::proofs::Looks::stand_more))]
     pub(crate) fn all_stand(&self, tasks: u32) -> bool
         requires actors { tasks ≤ length self.now.actors }
@@ -251,7 +251,7 @@ impl Boards {
         all
     }
 
-    /// Whether the task has told its fate, or is held and cannot go on.
+    /// Whether the task has ended, or is held and cannot go on.
     fn stands(&self, task: u32) -> bool
         requires actor { task < length self.now.actors }
         requires trap { task < length self.now.traps }

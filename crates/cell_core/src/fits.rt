@@ -5,14 +5,14 @@ ghost use Rattle.rapid_model.specs.Own.{is_rise, is_trapped};
 ghost use Rattle.rapid_model.specs.Requests.{can_watch, goes_with, has_signal, may_tell, of_pers, suits_inputs, suits_task, is_bool};
 ghost use Rattle.rapid_model.specs.Paths.{fits_part as fits_the_part, has_path as has_the_path, part_sort};
 ghost use Rattle.rapid_model.specs.declared.event.Event.{Event};
-ghost use Rattle.cell_meaning.specs.MayAsk.{is_served};
+ghost use Rattle.cell_meaning.specs.MayAsk.{is_offered};
 
 use crate::paths::{fits_part, has_path, is_bool_part};
 use rapid_model::{Cell, Fate, Path, PersCell, Request, TaskRow, Value, Watched};
 
-/// Whether the cell serves the request, and it suits a task of this row, in a trap or not.
+/// Whether the cell offers the request, and it suits a task of this row, in a trap or not.
 pub(crate) fn allows(cell: &Cell, row: &TaskRow, trapped: bool, request: &Request) -> bool
-    ensures { (mine : List Event) → trapped ≡ is_trapped mine → result ≡ (is_served request.now && suits_task cell.now row.now mine request.now) }
+    ensures { (mine : List Event) → trapped ≡ is_trapped mine → result ≡ (is_offered request.now && suits_task cell.now row.now mine request.now) }
 {
     match request {
         Request::ReadP { pers, path } => may_read(cell, *pers, path),

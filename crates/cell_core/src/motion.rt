@@ -10,7 +10,7 @@ use signal_board::Signals;
 use world_zones::Zones;
 
 /// Where the arm is.
-pub(crate) fn place(arm: &Option<Joints>) -> Answer
+pub(crate) fn position_of(arm: &Option<Joints>) -> Answer
     ensures { result ≡ position_of arm.now }
 {
     match arm {

@@ -143,7 +143,7 @@ impl Core {
     }
 
     /// Whether the actor may ask this now: the input script its next step alone; a task that has not ended whatever suits the
-    /// cell and the task as it stands (held, in a trap, with an arm or without), but no ZoneTie, which no cell serves, and no
+    /// cell and the task as it stands (held, in a trap, with an arm or without), but no ZoneTie, which no cell offers, and no
     /// Input.
     pub fn fits(&self, actor: u32, request: &Request) -> bool
         ensures { result ≡ may_ask self.now.cell actor (part_of actor self.now.history) request.now }
@@ -247,7 +247,7 @@ impl Core {
         self.boards.all_stand(self.tasks)
     }
 
-    /// How a task stands: the fate that it told, else cut where the steps are spent, else held.
+    /// How a task stands: the fate that it ended with, else cut where the steps are spent, else held.
     pub fn fate(&self, task: u32) -> Fate
         requires { task < length self.now.cell.tasks }
         ensures { result ≡ fate_after self.now.cell self.now.history task }
@@ -321,10 +321,10 @@ fn all_so(passed: bool, over: bool, left: bool) -> bool
     passed && !over && left
 }
 
-fn standing(spent: bool, told: Option<Fate>) -> Fate
-    ensures { result ≡ standing spent told }
+fn standing(spent: bool, end: Option<Fate>) -> Fate
+    ensures { result ≡ standing spent end }
 {
-    match told {
+    match end {
         Some(fate) => fate,
         None if spent => Fate::Cut,
         None => Fate::Held,

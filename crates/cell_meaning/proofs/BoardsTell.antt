@@ -9,7 +9,7 @@ use Rattle.rapid_model.specs.declared.path.Path.{Path}
 use Rattle.rapid_model.specs.declared.value.Value.{Value}
 use Rattle.rapid_model.specs.declared.value.Value.TheVariants as values
 use Rattle.rapid_values.specs.Values.{part_of}
-use Rattle.persist_store.specs.Stores.{PersData, element_of as kept_element}
+use Rattle.persist_store.specs.Stores.{PersData, element_of}
 use Rattle.sync_tasks.specs.Meetings.{MeetingsData, Meets, stand_at, arrivals, is_listed, come}
 use Rattle.cell_meaning.specs.Meetings.{meets}
 use Rattle.cell_meaning.specs.Stored.{value_at}
@@ -60,6 +60,6 @@ meets_decides m task meeting tasks = (there, back)
         (λ listed. lt-ltb (stand_at m task meeting).passed (arrivals (stand_at (come m task meeting) k meeting)) (each.all k (omega arith) listed)))
 
 -- the part of an element of a persistent that a path names
-pub kept_value : (row : PersData) (path : Path) (value : Value) → path.index - 1 < length row.values → part_of (kept_element row path.index) path.part ≡ Some value → value_at row.values path ≡ Some value
+pub kept_value : (row : PersData) (path : Path) (value : Value) → path.index - 1 < length row.values → part_of (element_of row path.index) path.part ≡ Some value → value_at row.values path ≡ Some value
 kept_value row path value within is =
     ap (λ (o : Option Value). option_and_then (λ v. part_of v path.part) o) (slice_get-get_or row.values (path.index - 1) (values.Bool false) within) ∙ is

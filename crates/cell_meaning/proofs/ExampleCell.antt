@@ -1,19 +1,18 @@
 -- The cell of the worked examples: two tasks whose arms are at 0, an input and an output, a num that is kept, a meeting, and
 -- one step of an input script.
-use Rattle.std.proofs.Common.{ℕ, true, false, [], ◌∷◌, ◌++◌, Some, None, replicate}
+use Rattle.std.proofs.Common.{true, false, [], ◌∷◌, ◌++◌, Some, None, replicate}
 use Rattle.std.specs.Prelude.{ℤ, pos, codes}
 use Rattle.rapid_num.specs.Reach.{absent_axes}
 use Rattle.rapid_num.specs.declared.joints.Joints.{Joints}
 use Rattle.rapid_model.specs.CellData.{CellData}
-use Rattle.rapid_model.specs.declared.answer.Answer.{Answer}
 use Rattle.rapid_model.specs.declared.answer.Answer.TheVariants as answers
 use Rattle.rapid_model.specs.declared.event.Event.{Event}
 use Rattle.rapid_model.specs.declared.part_name.PartName.TheVariants as parts
 use Rattle.rapid_model.specs.declared.path.Path.{Path}
-use Rattle.rapid_model.specs.declared.request.Request.{Request}
 use Rattle.rapid_model.specs.declared.request.Request.TheVariants as requests
 use Rattle.rapid_model.specs.declared.sort.Sort.TheVariants as sorts
 use Rattle.rapid_model.specs.declared.value.Value.TheVariants as values
+use Rattle.cell_meaning.proofs.MoreEvents.{event}
 
 -- axis 1 at this angle, the other five at 0
 abbrev pub joints_at : ℤ → Joints
@@ -29,9 +28,6 @@ cell = record {
   zones = [];
   inputs = record { signal = 0; value = true; when = None; given = None; after = None } ∷ [];
 }
-
-abbrev pub event : ℕ → Request → Answer → Event
-event actor request answer = record { actor = actor; request = request; answer = answer }
 
 abbrev pub second : Path
 second = record { index = 2; part = parts.Whole }

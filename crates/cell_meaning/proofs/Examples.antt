@@ -13,7 +13,8 @@ use Rattle.cell_meaning.specs.Changes.{changes_of, is_change, changes_by_others}
 use Rattle.cell_meaning.specs.Counted.{counted}
 use Rattle.cell_meaning.specs.Fates.{is_spent, fates_after}
 use Rattle.cell_meaning.specs.Stored.{signal_after, persistent_after}
-use Rattle.cell_meaning.proofs.ExampleCell.{joints_at, cell, event, second, cleared, written, went}
+use Rattle.cell_meaning.proofs.ExampleCell.{joints_at, cell, second, cleared, written, went}
+use Rattle.cell_meaning.proofs.MoreEvents.{event}
 
 signal_written : signal_after cell (cleared ∷ []) 1 ≡ false
 signal_written = refl

@@ -32,14 +32,14 @@ use Rattle.world_zones.specs.Zones.{arm_at, zone_at, set_answer, is_temporary}
 use Rattle.cell_meaning.specs.Answers.{IsAnswer, IsMoveAnswer, look_of, value_of, position_of, number_of, order_of, known_of, zone_number_of, temporary_of}
 use Rattle.cell_meaning.specs.Changes.{changes_by_others}
 use Rattle.cell_meaning.specs.Interrupts.{interrupts_of}
-use Rattle.cell_meaning.specs.MayAsk.{is_served, may_ask}
+use Rattle.cell_meaning.specs.MayAsk.{is_offered, may_ask}
 use Rattle.cell_meaning.specs.Meetings.{is_met}
 use Rattle.cell_meaning.specs.Premises.{AllAnswered, StartsFull}
 use Rattle.cell_meaning.specs.Stored.{persistent_after, value_at}
 use Rattle.cell_meaning.specs.Zones.{zones_after}
-use Rattle.cell_meaning.proofs.Asked.{TaskMay, ScriptMay, who_may, asked_served}
+use Rattle.cell_meaning.proofs.Asked.{TaskMay, ScriptMay, who_may, asked_offered}
 use Rattle.cell_meaning.proofs.InterruptsKept.{first_is_due, free_number, tasks_kept}
-use Rattle.cell_meaning.proofs.TaskKept.{KeptTask, one_if, has_place}
+use Rattle.cell_meaning.proofs.TaskKept.{KeptTask, one_if, has_entry}
 use Rattle.cell_meaning.proofs.Positions.{arm_well}
 use Rattle.cell_meaning.proofs.ValuesKept.{test_of, value_there, values_kept}
 use Rattle.cell_meaning.proofs.ZonesKept.{free_zone, zones_kept}
@@ -61,9 +61,9 @@ first_fits mine t number trap is kept =
     let free : not (is_trapped mine) ≡ true = ap (λ (b : Bool). not (not b)) (eq-eqb (count_by (λ e. is_trap e.answer) mine) (count_by (λ e. is_leave e.request) mine) even) in
     and_from (has_connected mine trap) (not (is_trapped mine)) (named (connected_at t.numbers number) refl connected first.its) free
   where
-    named : (place : Option Connected) → connected_at t.numbers number ≡ place → is_some place ≡ true → trap ≡ trap_of (connected_at t.numbers number) → has_connected mine trap ≡ true
+    named : (entry : Option Connected) → connected_at t.numbers number ≡ entry → is_some entry ≡ true → trap ≡ trap_of (connected_at t.numbers number) → has_connected mine trap ≡ true
     named None at h its = absurd (false≢true h)
-    named (Some c) at h its = ap (has_connected mine) (its ∙ ap trap_of at) ∙ kept.traps (number - 1) c (has_place t.numbers number c at).there
+    named (Some c) at h its = ap (has_connected mine) (its ∙ ap trap_of at) ∙ kept.traps (number - 1) c (has_entry t.numbers number c at).there
 
 look_fits : (cell : CellData) (mine : List Event) (t : TaskData) (seen : ℕ) (due : Due) → look_answer t ≡ due → KeptTask mine t → Fits cell mine requests.Look (look_of due seen)
 look_fits cell mine t seen dues.None is kept = refl
@@ -75,9 +75,9 @@ within_so low high n from to = and_from (nat_le low n) (nat_le n high) (le-leb l
 
 number_fits : (cell : CellData) (mine : List Event) (t : TaskData) (old trap : ℕ) (result : Result ℕ ConnectFault) → connect_answer t old ≡ result → length t.numbers ≡ 64
     → Fits cell mine (requests.Connect old trap) (number_of result)
-number_fits cell mine t old trap (Ok number) is places = let bounds = free_number t old number places is in within_so 1 64 number bounds.0 bounds.1
-number_fits cell mine t old trap (Err connect_faults.Already) is places = refl
-number_fits cell mine t old trap (Err connect_faults.NoMore) is places = refl
+number_fits cell mine t old trap (Ok number) is entries = let bounds = free_number t old number entries is in within_so 1 64 number bounds.0 bounds.1
+number_fits cell mine t old trap (Err connect_faults.Already) is entries = refl
+number_fits cell mine t old trap (Err connect_faults.NoMore) is entries = refl
 
 -- a value of the persistent that the path names
 value_fits : (cell : CellData) (history : List Event) (pers : ℕ) (path : Path) (mine : List Event) → IsCell cell → StartsFull cell → AllAnswered cell history
@@ -91,8 +91,8 @@ value_fits cell history pers path mine limits full asked suits = by (slice_get c
         let found = value_there row (persistent_after cell history pers) path (values_kept cell history limits full asked pers row at) path_there in
         subst (λ (a : Answer). Fits cell mine (requests.ReadP pers path) a) (sym (ap value_of found.there)) (ap (λ (o : Option PersCell). fits_pers (option_map (λ (r : PersCell). r.sort) o) path.part found.value) at ∙ found.fits)
 
-order_fits : (cell : CellData) (mine : List Event) (request : Request) (place : Option Connected) → Fits cell mine request answers.Unknown → Fits cell mine request answers.Already → Fits cell mine request answers.Ok
-    → Fits cell mine request (order_of place)
+order_fits : (cell : CellData) (mine : List Event) (request : Request) (entry : Option Connected) → Fits cell mine request answers.Unknown → Fits cell mine request answers.Already → Fits cell mine request answers.Ok
+    → Fits cell mine request (order_of entry)
 order_fits cell mine request None unknown already ok = unknown
 order_fits cell mine request (Some c) unknown already ok = by (is_some c.order)
   where
@@ -100,7 +100,7 @@ order_fits cell mine request (Some c) unknown already ok = by (is_some c.order)
     by true = already
     by false = ok
 
-known_fits : (cell : CellData) (mine : List Event) (request : Request) (place : Option Connected) → Fits cell mine request answers.Unknown → Fits cell mine request answers.Ok → Fits cell mine request (known_of place)
+known_fits : (cell : CellData) (mine : List Event) (request : Request) (entry : Option Connected) → Fits cell mine request answers.Unknown → Fits cell mine request answers.Ok → Fits cell mine request (known_of entry)
 known_fits cell mine request None unknown ok = unknown
 known_fits cell mine request (Some c) unknown ok = ok
 
@@ -133,7 +133,7 @@ record Known (cell : CellData) (history : List Event) (actor : ℕ) (request : R
   full : StartsFull cell
   asked : AllAnswered cell history
   may : TaskMay cell actor (part_of actor history) request
-  served : IsTrue (is_served request)
+  offered : IsTrue (is_offered request)
 
 task_fits : (cell : CellData) (history : List Event) (actor : ℕ) (request : Request) (answer : Answer) → Known cell history actor request → IsAnswer cell history actor request answer
     → Fits cell (part_of actor history) request answer
@@ -162,7 +162,7 @@ task_fits cell history actor (requests.Delete number) answer known is =
 task_fits cell history actor (requests.ZoneSet old temporary shape) answer known is =
     subst (λ (a : Answer). Fits cell (part_of actor history) (requests.ZoneSet old temporary shape) a) (sym is)
     (zone_fits cell history (part_of actor history) actor old (requests.ZoneSet old temporary shape) (set_answer (arm_at (zones_after cell history) actor) old) refl refl refl (λ n within. within))
-task_fits cell history actor (requests.ZoneTie old temporary shape signal value) answer known is = absurd (false≢true known.served)
+task_fits cell history actor (requests.ZoneTie old temporary shape signal value) answer known is = absurd (false≢true known.offered)
 task_fits cell history actor (requests.ZoneOn zone) answer known is =
     subst (λ (a : Answer). Fits cell (part_of actor history) (requests.ZoneOn zone) a) (sym is) (temporary_fits cell (part_of actor history) (requests.ZoneOn zone) (is_temporary (zone_at (arm_at (zones_after cell history) actor) zone)) refl refl)
 task_fits cell history actor (requests.ZoneOff zone) answer known is =
@@ -186,5 +186,5 @@ answer_fits cell history actor request answer limits full asked may is = by (who
   where
     by : TaskMay cell actor (part_of actor history) request ⊎ ScriptMay cell actor (part_of actor history) request → Fits cell (part_of actor history) request answer
     by (inl task) =
-        task_fits cell history actor request answer (record { limits = limits; full = full; asked = asked; may = task; served = asked_served cell actor (part_of actor history) request may }) is
+        task_fits cell history actor request answer (record { limits = limits; full = full; asked = asked; may = task; offered = asked_offered cell actor (part_of actor history) request may }) is
     by (inr script) = script_fits cell history actor (length (part_of actor history)) request answer script.next is

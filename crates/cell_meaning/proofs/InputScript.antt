@@ -12,7 +12,7 @@ use Rattle.rapid_model.specs.declared.request.Request.{Request}
 use Rattle.rapid_model.specs.declared.request.Request.TheVariants as requests
 use Rattle.rapid_model.specs.declared.task_row.TaskRow.{TaskRow}
 use Rattle.cell_meaning.specs.Asking.{Asking, with_inputs}
-use Rattle.cell_meaning.specs.MayAsk.{is_served, may_ask}
+use Rattle.cell_meaning.specs.MayAsk.{is_offered, may_ask}
 use Rattle.cell_meaning.specs.Premises.{OnlyActorsAsk, AsksOne, AsksWhatItMay, AsksUntilItsEnd, AsksInputs, TasksAskWell, AskTheSame}
 use Rattle.cell_meaning.proofs.Asked.{suits_by}
 
@@ -39,7 +39,7 @@ inputs_asked asks cell = record { next = λ answers left. inr (record { script =
 script_may : (cell : CellData) (mine : List Event) → length mine < length cell.inputs → IsTrue (may_ask cell (length cell.tasks) mine (requests.Input (length mine)))
 script_may cell mine left =
     let none : slice_get cell.tasks (length cell.tasks) ≡ None = slice_get_past cell.tasks (length cell.tasks) (omega arith) in
-    ap (λ (row : Option TaskRow). is_served (requests.Input (length mine)) && suits_by cell (length cell.tasks) mine (requests.Input (length mine)) row) none
+    ap (λ (row : Option TaskRow). is_offered (requests.Input (length mine)) && suits_by cell (length cell.tasks) mine (requests.Input (length mine)) row) none
     ∙ all_three (length cell.tasks == length cell.tasks) (length mine == length mine) (nat_lt (length mine) (length cell.inputs))
     (eq-eqb (length cell.tasks) (length cell.tasks) refl) (eq-eqb (length mine) (length mine) refl) (lt-ltb (length mine) (length cell.inputs) left)
   where

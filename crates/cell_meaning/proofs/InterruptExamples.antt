@@ -7,7 +7,8 @@ use Rattle.rapid_model.specs.declared.request.Request.{Request}
 use Rattle.rapid_model.specs.declared.request.Request.TheVariants as requests
 use Rattle.rapid_model.specs.declared.watched.Watched.TheVariants as watched
 use Rattle.cell_meaning.specs.Answers.{answer_after}
-use Rattle.cell_meaning.proofs.ExampleCell.{cell, event, cleared, written}
+use Rattle.cell_meaning.proofs.ExampleCell.{cell, cleared, written}
+use Rattle.cell_meaning.proofs.MoreEvents.{event}
 
 -- what the cell answers to task A
 abbrev to_a : List Event → Request → Answer

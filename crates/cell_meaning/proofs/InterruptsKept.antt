@@ -22,7 +22,7 @@ use Rattle.trap_dispatch.specs.declared.order.Order.{Order}
 use Rattle.trap_dispatch.specs.Firing.{connected_at}
 use Rattle.trap_dispatch.specs.Tasks.{TaskData, before_all, with_number, fresh, with_order, with_sleep, ordered, slept, deleted, least_free, connect_answer, look_answer, in_first_trap, after_changes, trap_of}
 use Rattle.trap_dispatch.specs.Traps.{task_at, with_task}
-use Rattle.trap_dispatch.proofs.Places.{position_from-below}
+use Rattle.trap_dispatch.proofs.Positions.{position_from-below}
 use Rattle.world_zones.specs.declared.zone_fault.ZoneFault.{ZoneFault}
 use Rattle.world_zones.specs.declared.zone_fault.ZoneFault.TheVariants as zone_faults
 use Rattle.world_zones.specs.Zones.{arm_at, zone_at, set_answer, is_temporary}
@@ -35,9 +35,9 @@ use Rattle.cell_meaning.specs.Premises.{AllAnswered}
 use Rattle.cell_meaning.specs.Stored.{persistent_after, value_at}
 use Rattle.cell_meaning.specs.Zones.{zones_after}
 use Rattle.cell_meaning.proofs.Asked.{TaskMay, ScriptMay, who_may}
-use Rattle.cell_meaning.proofs.TaskKept.{KeptTask, one_if, has_place, kept_same, kept_written, kept_deleted, kept_fired, still_named, just_named}
+use Rattle.cell_meaning.proofs.TaskKept.{KeptTask, one_if, has_entry, kept_same, kept_written, kept_deleted, kept_fired, still_named, just_named}
 use Rattle.cell_meaning.proofs.Lists.{from_front}
-use Rattle.cell_meaning.proofs.MoreEvents.{count_more, part_of-own, part_of-other, interrupts_after-more}
+use Rattle.cell_meaning.proofs.MoreEvents.{event, count_more, part_of-own, part_of-other, interrupts_after-more}
 
 -- a trap that is to run is that of the first number that waits, and none is under way
 pub record FirstDue (t : TaskData) (number trap : ℕ) : Type 0 where
@@ -150,9 +150,6 @@ asked_own tasks actor requests.Enable answers.Ok = refl
 asked_own tasks actor requests.Leave answers.Ok = refl
 asked_own tasks actor _ _ = sym (set-get_or tasks actor before_all)
 
-abbrev event : ℕ → Request → Answer → Event
-event actor request answer = record { actor = actor; request = request; answer = answer }
-
 -- each request leaves the interrupts of its task in order
 look_kept : (mine : List Event) (t : TaskData) (actor seen : ℕ) (due : Due) → look_answer t ≡ due → KeptTask mine t
     → KeptTask (mine ++ event actor requests.Look (look_of due seen) ∷ []) (own_with t requests.Look (look_of due seen))
@@ -178,7 +175,7 @@ look_kept mine t actor seen (dues.Trap number trap) is kept =
 
 -- the least free number is one of the 64
 pub free_number : (t : TaskData) (old number : ℕ) → length t.numbers ≡ 64 → connect_answer t old ≡ Ok number → (1 ≤ number) × (number ≤ 64)
-free_number t old number places is = by (is_some (connected_at t.numbers old)) is
+free_number t old number entries is = by (is_some (connected_at t.numbers old)) is
   where
     least : (index : Option ℕ) → IfSome index (λ p. p < 64) → least_free index ≡ Ok number → (1 ≤ number) × (number ≤ 64)
     least None below e = cc
@@ -186,7 +183,7 @@ free_number t old number places is = by (is_some (connected_at t.numbers old)) i
 
     by : (b : Bool) → (if b then Err connect_faults.Already else least_free (position_from is_none 0 t.numbers)) ≡ Ok number → (1 ≤ number) × (number ≤ 64)
     by true e = cc
-    by false e = least (position_from is_none 0 t.numbers) (position_from-below is_none 0 64 t.numbers (omega (arith, places))) e
+    by false e = least (position_from is_none 0 t.numbers) (position_from-below is_none 0 64 t.numbers (omega (arith, entries))) e
 
 connect_kept : (mine : List Event) (t : TaskData) (actor old trap : ℕ) (result : Result ℕ ConnectFault) → connect_answer t old ≡ result → KeptTask mine t
     → KeptTask (mine ++ event actor (requests.Connect old trap) (number_of result) ∷ []) (own_with t (requests.Connect old trap) (number_of result))
@@ -202,13 +199,13 @@ connect_kept mine t actor old trap (Err connect_faults.NoMore) is kept = kept_sa
 changed_kept : (mine : List Event) (t : TaskData) (e : Event) (number : ℕ) (c new : Connected) → KeptTask mine t → is_trap e.answer ≡ false → is_leave e.request ≡ false
     → connected_at t.numbers number ≡ Some c → new.trap ≡ c.trap → KeptTask (mine ++ e ∷ []) (with_number t number (Some new))
 changed_kept mine t e number c new kept no_trap no_leave at same =
-    let place = has_place t.numbers number c at in
-    kept_written (mine ++ e ∷ []) t number new (kept_same mine t e kept no_trap no_leave) place.within
-    (ap (has_connected (mine ++ e ∷ [])) same ∙ still_named mine e c.trap (kept.traps (number - 1) c place.there))
+    let entry = has_entry t.numbers number c at in
+    kept_written (mine ++ e ∷ []) t number new (kept_same mine t e kept no_trap no_leave) entry.within
+    (ap (has_connected (mine ++ e ∷ [])) same ∙ still_named mine e c.trap (kept.traps (number - 1) c entry.there))
 
-order_kept : (mine : List Event) (t : TaskData) (actor number : ℕ) (request : Request) (order : Order) (place : Option Connected) → connected_at t.numbers number ≡ place
+order_kept : (mine : List Event) (t : TaskData) (actor number : ℕ) (request : Request) (order : Order) (entry : Option Connected) → connected_at t.numbers number ≡ entry
     → is_leave request ≡ false → KeptTask mine t → ((answer : Answer) → own_with t request answer ≡ own_with t (requests.Order number order.on order.single) answer)
-    → KeptTask (mine ++ event actor request (order_of place) ∷ []) (own_with t request (order_of place))
+    → KeptTask (mine ++ event actor request (order_of entry) ∷ []) (own_with t request (order_of entry))
 order_kept mine t actor number request order None at no_leave kept same =
     subst (λ (u : TaskData). KeptTask (mine ++ event actor request answers.Unknown ∷ []) u) (sym (same answers.Unknown)) (kept_same mine t (event actor request answers.Unknown) kept refl no_leave)
 order_kept mine t actor number request order (Some c) at no_leave kept same = by (is_some c.order)
@@ -221,9 +218,9 @@ order_kept mine t actor number request order (Some c) at no_leave kept same = by
         subst (λ (u : TaskData). KeptTask (mine ++ event actor request answers.Ok ∷ []) u) (sym is)
         (changed_kept mine t (event actor request answers.Ok) number c (record c { order = Some order }) kept refl no_leave at refl)
 
-sleep_kept : (mine : List Event) (t : TaskData) (actor number : ℕ) (request : Request) (asleep : Bool) (place : Option Connected) → connected_at t.numbers number ≡ place → is_leave request ≡ false → KeptTask mine t
+sleep_kept : (mine : List Event) (t : TaskData) (actor number : ℕ) (request : Request) (asleep : Bool) (entry : Option Connected) → connected_at t.numbers number ≡ entry → is_leave request ≡ false → KeptTask mine t
     → own_with t request answers.Unknown ≡ t → own_with t request answers.Ok ≡ slept t number asleep
-    → KeptTask (mine ++ event actor request (known_of place) ∷ []) (own_with t request (known_of place))
+    → KeptTask (mine ++ event actor request (known_of entry) ∷ []) (own_with t request (known_of entry))
 sleep_kept mine t actor number request asleep None at no_leave kept same is =
     subst (λ (u : TaskData). KeptTask (mine ++ event actor request answers.Unknown ∷ []) u) (sym same) (kept_same mine t (event actor request answers.Unknown) kept refl no_leave)
 sleep_kept mine t actor number request asleep (Some c) at no_leave kept same is =
@@ -231,12 +228,12 @@ sleep_kept mine t actor number request asleep (Some c) at no_leave kept same is 
     subst (λ (u : TaskData). KeptTask (mine ++ event actor request answers.Ok ∷ []) u) (sym new)
     (changed_kept mine t (event actor request answers.Ok) number c (record c { asleep = asleep }) kept refl no_leave at refl)
 
-delete_kept : (mine : List Event) (t : TaskData) (actor number : ℕ) (place : Option Connected) → connected_at t.numbers number ≡ place → KeptTask mine t
-    → KeptTask (mine ++ event actor (requests.Delete number) (known_of place) ∷ []) (own_with t (requests.Delete number) (known_of place))
+delete_kept : (mine : List Event) (t : TaskData) (actor number : ℕ) (entry : Option Connected) → connected_at t.numbers number ≡ entry → KeptTask mine t
+    → KeptTask (mine ++ event actor (requests.Delete number) (known_of entry) ∷ []) (own_with t (requests.Delete number) (known_of entry))
 delete_kept mine t actor number None at kept = kept_same mine t (event actor (requests.Delete number) answers.Unknown) kept refl refl
 delete_kept mine t actor number (Some c) at kept =
     let e = event actor (requests.Delete number) answers.Ok in
-    kept_deleted (mine ++ e ∷ []) t number (kept_same mine t e kept refl refl) (has_place t.numbers number c at).some
+    kept_deleted (mine ++ e ∷ []) t number (kept_same mine t e kept refl refl) (has_entry t.numbers number c at).some
 
 -- a task leaves a trap only while one is under way
 leave_kept : (mine : List Event) (t : TaskData) (actor : ℕ) → is_trapped mine ≡ true → KeptTask mine t

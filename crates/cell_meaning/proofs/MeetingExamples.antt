@@ -7,7 +7,8 @@ use Rattle.rapid_model.specs.declared.request.Request.TheVariants as requests
 use Rattle.cell_meaning.specs.Answers.{answer_after}
 use Rattle.cell_meaning.specs.Changes.{is_change}
 use Rattle.cell_meaning.specs.Meetings.{is_waiting}
-use Rattle.cell_meaning.proofs.ExampleCell.{cell, event}
+use Rattle.cell_meaning.proofs.ExampleCell.{cell}
+use Rattle.cell_meaning.proofs.MoreEvents.{event}
 
 -- an arrival at the meeting of both tasks, answered so
 abbrev arrival : ℕ → Answer → Event

@@ -10,8 +10,10 @@ use Rattle.std.proofs.lemmas.List.Sums.{fold-append, sum_by-append}
 use Rattle.rapid_num.specs.declared.joints.Joints.{Joints}
 use Rattle.rapid_model.specs.CellData.{CellData}
 use Rattle.rapid_model.specs.Own.{part_of, fate_of, end_of}
+use Rattle.rapid_model.specs.declared.answer.Answer.{Answer}
 use Rattle.rapid_model.specs.declared.event.Event.{Event}
 use Rattle.rapid_model.specs.declared.fate.Fate.{Fate}
+use Rattle.rapid_model.specs.declared.request.Request.{Request}
 use Rattle.sync_tasks.specs.Meetings.{before_all as no_stands}
 use Rattle.trap_dispatch.specs.Tasks.{TaskData, before_all as no_interrupts}
 use Rattle.world_zones.specs.Zones.{before_all as no_own_zones}
@@ -23,6 +25,10 @@ use Rattle.cell_meaning.specs.Motion.{moved, arm_along, arm_after, is_given, set
 use Rattle.cell_meaning.specs.Rising.{seen_with, seen_after}
 use Rattle.cell_meaning.specs.Stored.{signals_with, signals_after, persistents_with, persistents_after}
 use Rattle.cell_meaning.specs.Zones.{zones_with, zones_after}
+
+-- an event by its parts
+abbrev pub event : ℕ → Request → Answer → Event
+event actor request answer = record { actor = actor; request = request; answer = answer }
 
 -- the event where it passes
 abbrev kept_if : Event → Bool → List Event
@@ -39,7 +45,7 @@ part_of-other actor history e other =
     filter-append (λ f. f.actor == actor) history (e ∷ []) ∙ ap (λ (b : Bool). part_of actor history ++ kept_if e b) (ne_eqb e.actor actor other)
     ∙ append-nil (part_of actor history)
 
-option_or-None : {A : Type 0} (told : Option A) → option_or told None ≡ told
+option_or-None : {A : Type 0} (first : Option A) → option_or first None ≡ first
 option_or-None None = refl
 option_or-None (Some x) = refl
 
@@ -47,11 +53,11 @@ option_or-assoc : {A : Type 0} (a b c : Option A) → option_or a (option_or b c
 option_or-assoc None b c = refl
 option_or-assoc (Some x) b c = refl
 
--- the first fate told stays
+-- the first fate stays
 pub end_of-more : (es : List Event) (e : Event) → end_of (es ++ e ∷ []) ≡ option_or (end_of es) (fate_of e.request)
 end_of-more [] e = option_or-None (fate_of e.request)
 end_of-more (f ∷ es) e =
-    ap (λ (told : Option Fate). option_or (fate_of f.request) told) (end_of-more es e) ∙ option_or-assoc (fate_of f.request) (end_of es) (fate_of e.request)
+    ap (λ (later : Option Fate). option_or (fate_of f.request) later) (end_of-more es e) ∙ option_or-assoc (fate_of f.request) (end_of es) (fate_of e.request)
 
 pub arm_along-more : (position : Joints) (es : List Event) (e : Event) → arm_along position (es ++ e ∷ []) ≡ moved (arm_along position es) e.request e.answer
 arm_along-more position [] e = refl

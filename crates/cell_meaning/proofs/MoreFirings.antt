@@ -19,7 +19,7 @@ on_none : (order : Option Order) → is_on [] order ≡ false
 on_none None = refl
 on_none (Some order) = refl
 
-fires_none : (place : Option Connected) → fires [] place ≡ false
+fires_none : (entry : Option Connected) → fires [] entry ≡ false
 fires_none None = refl
 fires_none (Some c) = and_right (not c.asleep) (is_on [] c.order) (on_none c.order)
 
@@ -29,7 +29,7 @@ none_fired numbers (n ∷ range) =
     ap (λ (b : Bool). cond b (n ∷ filter (λ number. fires [] (connected_at numbers number)) range) (filter (λ number. fires [] (connected_at numbers number)) range)) (fires_none (connected_at numbers n))
     ∙ none_fired numbers range
 
-stays : (place : Option Connected) → after_firing [] place ≡ place
+stays : (entry : Option Connected) → after_firing [] entry ≡ entry
 stays None = refl
 stays (Some c) = by (fires [] (Some c)) (fires_none (Some c))
   where
@@ -39,7 +39,7 @@ stays (Some c) = by (fires [] (Some c)) (fires_none (Some c))
 
 all_stay : (numbers : List (Option Connected)) → map (after_firing []) numbers ≡ numbers
 all_stay [] = refl
-all_stay (place ∷ numbers) = ap (λ (p : Option Connected). p ∷ map (after_firing []) numbers) (stays place) ∙ ap (λ (ps : List (Option Connected)). place ∷ ps) (all_stay numbers)
+all_stay (entry ∷ numbers) = ap (λ (p : Option Connected). p ∷ map (after_firing []) numbers) (stays entry) ∙ ap (λ (ps : List (Option Connected)). entry ∷ ps) (all_stay numbers)
 
 no_flood : (flood : Bool) (n : ℕ) → n ≤ 1_024 → (flood || nat_lt 1_024 n) ≡ flood
 no_flood true n few = refl

@@ -34,10 +34,10 @@ end_inside zero b named =
 end_inside (suc axis) b named = absurd (none_named 11 axis b named)
 
 -- the arm has no zone of its own
-nowhere : (count place : ℕ) → own_shape (get_or (replicate count None) place None) ≡ None
-nowhere zero place = refl
+nowhere : (count index : ℕ) → own_shape (get_or (replicate count None) index None) ≡ None
+nowhere zero index = refl
 nowhere (suc count) zero = refl
-nowhere (suc count) (suc place) = nowhere count place
+nowhere (suc count) (suc index) = nowhere count index
 
 no_own : (number : ℕ) → own_shape (zone_at no_zones number) ≡ None
 no_own number = by (number == 0)

@@ -27,19 +27,19 @@ use Rattle.cell_meaning.proofs.MoreChanges.{same_but_one, value_same}
 use Rattle.cell_meaning.proofs.ValuesKept.{row_with, part_written}
 
 -- a num put where it is changes nothing
-num_back : (nums : List ℤ) (place : ℕ) (old : Value) → num_at nums place ≡ Some old → with_num nums place old ≡ Some nums
-num_back nums place old is = by (slice_get nums place) refl is
+num_back : (nums : List ℤ) (index : ℕ) (old : Value) → num_at nums index ≡ Some old → with_num nums index old ≡ Some nums
+num_back nums index old is = by (slice_get nums index) refl is
   where
-    by : (num : Option ℤ) → slice_get nums place ≡ num → option_map values.Num num ≡ Some old → with_num nums place old ≡ Some nums
+    by : (num : Option ℤ) → slice_get nums index ≡ num → option_map values.Num num ≡ Some old → with_num nums index old ≡ Some nums
     by None at e = cc
     by (Some n) at e =
         let same_num : old ≡ values.Num n = cc in
-        num_written nums place old n same_num (slice_get_within nums place n at)
-        ∙ ap (λ (ns : List ℤ). Some ns) (ap (λ (x : ℤ). set nums place x) (sym (get_or_from_slice_get nums place n n at)) ∙ set-get_or nums place n)
+        num_written nums index old n same_num (slice_get_within nums index n at)
+        ∙ ap (λ (ns : List ℤ). Some ns) (ap (λ (x : ℤ). set nums index x) (sym (get_or_from_slice_get nums index n n at)) ∙ set-get_or nums index n)
 
-high_back : (low : Bool) (axes : List ℤ) (place : ℕ) (old : Value) → (if low then None else num_at axes place) ≡ Some old → (if low then None else option_map values.Ext (with_num axes place old)) ≡ Some (values.Ext axes)
-high_back true axes place old is = cc
-high_back false axes place old is = ap (λ (ns : Option (List ℤ)). option_map values.Ext ns) (num_back axes place old is)
+high_back : (low : Bool) (axes : List ℤ) (index : ℕ) (old : Value) → (if low then None else num_at axes index) ≡ Some old → (if low then None else option_map values.Ext (with_num axes index old)) ≡ Some (values.Ext axes)
+high_back true axes index old is = cc
+high_back false axes index old is = ap (λ (ns : Option (List ℤ)). option_map values.Ext ns) (num_back axes index old is)
 
 -- nor does a part
 put_back : (v : Value) (part : PartName) (old : Value) → part_of v part ≡ Some old → put_part v part old ≡ Some v

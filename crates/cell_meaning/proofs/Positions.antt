@@ -8,7 +8,7 @@ use Rattle.rapid_num.specs.declared.joints.Joints.{Joints}
 use Rattle.rapid_num.specs.Reach.{is_position}
 use Rattle.rapid_model.specs.CellData.{CellData, IsCell, starts_well}
 use Rattle.rapid_model.specs.Limits.{is_start}
-use Rattle.rapid_model.specs.Names.{is_name}
+use Rattle.rapid_model.specs.Names.{is_short_name}
 use Rattle.rapid_model.specs.Own.{part_of}
 use Rattle.rapid_model.specs.Requests.{suits_task}
 use Rattle.rapid_model.specs.declared.answer.Answer.{Answer}
@@ -62,7 +62,7 @@ starts_at [] k row h e = absurd (let no_row : ⊥ = cc in no_row)
 starts_at (r ∷ rows) zero row h e =
     let same : r ≡ row = cc in
     let P : TaskRow → Type 0 = λ s. is_start s.arm ≡ true in
-    subst P same (and_parts (is_name r.name) (is_start r.arm) (and_parts (starts_well r) (list_all starts_well rows) h).0).1
+    subst P same (and_parts (is_short_name r.name) (is_start r.arm) (and_parts (starts_well r) (list_all starts_well rows) h).0).1
 starts_at (r ∷ rows) (suc k) row h e = starts_at rows k row (and_parts (starts_well r) (list_all starts_well rows) h).1 e
 
 -- where an arm is that starts so

@@ -1,4 +1,4 @@
--- What the interrupts of a task keep along a history: there are as many places as a task has and the queue has its room, what
+-- What the interrupts of a task keep along a history: there are as many entries as a task has and the queue has its room, what
 -- waits is connected, with traps that the task named, and a trap is under way where one more was begun than left.
 use Rattle.std.proofs.Common.{◌≡◌, ℕ, zero, suc, ◌+◌, ◌-◌, ◌<◌, ◌≤◌, Bool, true, false, not, cond, List, [], ◌∷◌, ◌++◌, length, get_or, Option, None, Some, refl, sym, ◌∙◌, ap, subst, arith}
 use Rattle.std.specs.Prelude.{◌||◌, ◌==◌, count_by, if◌then◌else◌}
@@ -21,30 +21,30 @@ use Rattle.cell_meaning.proofs.MoreEvents.{count_more}
 abbrev pub one_if : Bool → ℕ
 one_if b = cond b 1 0
 
--- what a place has is connected with a trap that the task named
+-- what an entry has is connected with a trap that the task named
 abbrev pub HasItsTrap : List Event → Option Connected → Type 0
-HasItsTrap mine place = (c : Connected) → place ≡ Some c → has_connected mine c.trap ≡ true
+HasItsTrap mine entry = (c : Connected) → entry ≡ Some c → has_connected mine c.trap ≡ true
 
 pub record KeptTask (mine : List Event) (t : TaskData) : Type 0 where
   pub sound : IsTask t.numbers t.queue
   pub traps : (k : ℕ) → HasItsTrap mine (get_or t.numbers k None)
   pub begun : count_by (λ e. is_trap e.answer) mine ≡ count_by (λ e. is_leave e.request) mine + one_if t.in_trap
 
--- a place that has something is there
+-- an entry that has something is there
 some_within : (numbers : List (Option Connected)) (k : ℕ) (c : Connected) → get_or numbers k None ≡ Some c → k < length numbers
 some_within [] k c is = cc
 some_within (x ∷ xs) zero c is = omega arith
 some_within (x ∷ xs) (suc k) c is = let later = some_within xs k c is in omega arith
 
--- a number that is connected has a place
-pub record HasPlace (numbers : List (Option Connected)) (number : ℕ) (c : Connected) : Type 0 where
+-- a number that is connected has an entry
+pub record HasEntry (numbers : List (Option Connected)) (number : ℕ) (c : Connected) : Type 0 where
   pub some : 1 ≤ number
   pub within : number - 1 < length numbers
   pub there : get_or numbers (number - 1) None ≡ Some c
 
-pub has_place : (numbers : List (Option Connected)) (number : ℕ) (c : Connected) → connected_at numbers number ≡ Some c → HasPlace numbers number c
-has_place numbers zero c is = cc
-has_place numbers (suc k) c is =
+pub has_entry : (numbers : List (Option Connected)) (number : ℕ) (c : Connected) → connected_at numbers number ≡ Some c → HasEntry numbers number c
+has_entry numbers zero c is = cc
+has_entry numbers (suc k) c is =
     let at : get_or numbers k None ≡ Some c = sym (connected_at-next numbers k) ∙ is in
     let pred : suc k - 1 ≡ k = omega arith in
     record { some = omega arith; within = omega (arith, some_within numbers k c at); there = subst (λ (j : ℕ). get_or numbers j None ≡ Some c) (sym pred) at }
@@ -77,7 +77,7 @@ kept_same mine t e kept no_trap no_leave = record {
       omega (arith, begun, left, kept.begun);
 }
 
--- a place gets another interrupt, of a trap that the task named
+-- an entry gets another interrupt, of a trap that the task named
 pub kept_written : (mine : List Event) (t : TaskData) (number : ℕ) (c : Connected) → KeptTask mine t → number - 1 < length t.numbers → has_connected mine c.trap ≡ true
     → KeptTask mine (with_number t number (Some c))
 kept_written mine t number c kept within named = record {
@@ -102,8 +102,8 @@ kept_deleted mine t number kept some = record {
   begun = kept.begun;
 }
 
--- a firing leaves each place with its trap
-fired_trap : (changes : List Watched) (place : Option Connected) (c : Connected) → after_firing changes place ≡ Some c → (old : Connected) × (place ≡ Some old) × (old.trap ≡ c.trap)
+-- a firing leaves each entry with its trap
+fired_trap : (changes : List Watched) (entry : Option Connected) (c : Connected) → after_firing changes entry ≡ Some c → (old : Connected) × (entry ≡ Some old) × (old.trap ≡ c.trap)
 fired_trap changes None c is = let no : ⊥ = cc in absurd no
 fired_trap changes (Some old) c is = (old, refl, either (fires changes (Some old)) is)
   where

@@ -27,11 +27,11 @@ use Rattle.rapid_model.specs.declared.value.Value.{Value}
 use Rattle.rapid_model.specs.declared.value.Value.TheVariants as values
 use Rattle.rapid_model.proofs.FullValues.{all_have_sort}
 use Rattle.rapid_values.specs.Values.{part_of as value_part, put_part}
-use Rattle.persist_store.specs.Stores.{PersData, IsKept, element_of as kept_element, first_row}
+use Rattle.persist_store.specs.Stores.{PersData, IsKept, element_of, first_row}
 use Rattle.persist_store.proofs.Elements.{kept_put, within_width, holds_at}
 use Rattle.persist_store.proofs.PartsFit.{fits_some, put_fits, part_there}
 use Rattle.cell_meaning.specs.Premises.{AllAnswered, StartsFull}
-use Rattle.cell_meaning.specs.Stored.{element_of, part_put, with_part, put_at, persistents_with, persistents_after, persistent_after, value_at}
+use Rattle.cell_meaning.specs.Stored.{element_index, part_put, with_part, put_at, persistents_with, persistents_after, persistent_after, value_at}
 use Rattle.cell_meaning.proofs.Asked.{TaskMay, ScriptMay, who_may}
 use Rattle.cell_meaning.proofs.Lists.{from_front, written_keeps}
 use Rattle.cell_meaning.proofs.MoreEvents.{persistents_after-more}
@@ -71,8 +71,8 @@ pers_there cell pers row test at holds = sym (ap (test_of test) at) ∙ holds
 -- an element that a path names is there, and has the type
 record HasElement (row : PersCell) (elements : List Value) (path : Path) : Type 0 where
   value : Value
-  there : slice_get elements (element_of path) ≡ Some value
-  same : kept_element (row_with row elements) path.index ≡ value
+  there : slice_get elements (element_index path) ≡ Some value
+  same : element_of (row_with row elements) path.index ≡ value
   typed : IsTrue (has_sort row.sort value)
 
 element_there : (row : PersCell) (elements : List Value) (path : Path) → IsKept (row_with row elements) → has_element row.len path.index ≡ true → HasElement row elements path
@@ -90,8 +90,8 @@ element_there row elements path kept there =
 pub record IsWritten (row : PersCell) (elements : List Value) (path : Path) (new : Value) : Type 0 where
   pub old : Value
   pub within : path.index - 1 < length elements
-  pub same : kept_element (row_with row elements) path.index ≡ old
-  pub there : slice_get elements (element_of path) ≡ Some old
+  pub same : element_of (row_with row elements) path.index ≡ old
+  pub there : slice_get elements (element_index path) ≡ Some old
   pub typed : IsTrue (has_sort row.sort old)
   pub written : Value
   pub put : put_part old path.part new ≡ Some written
@@ -115,7 +115,7 @@ part_written row elements path new kept path_there fits =
       written = w;
       put = is;
       made =
-          ap (λ (o : Option Value). part_put elements path new o) element.there ∙ ap (λ (o : Option Value). set elements (element_of path) (unwrap_or o element.value)) is;
+          ap (λ (o : Option Value). part_put elements path new o) element.there ∙ ap (λ (o : Option Value). set elements (element_index path) (unwrap_or o element.value)) is;
     }
 
 -- and keeps the persistent
@@ -124,7 +124,7 @@ put_kept : (row : PersCell) (elements : List Value) (path : Path) (new : Value) 
 put_kept row elements path new kept path_there fits =
     let there = (and_parts (has_element row.len path.index) (is_some (part_sort row.sort path.part)) path_there).0 in
     let part = part_written row elements path new kept path_there fits in
-    let put : put_part (kept_element (row_with row elements) path.index) path.part new ≡ Some part.written = ap (λ (v : Value). put_part v path.part new) part.same ∙ part.put in
+    let put : put_part (element_of (row_with row elements) path.index) path.part new ≡ Some part.written = ap (λ (v : Value). put_part v path.part new) part.same ∙ part.put in
     subst (λ (vs : List Value). IsKept (row_with row vs)) (sym part.made) (kept_put (row_with row elements) path.index path.part new part.written kept there fits put)
 
 fits_bool : (sort : Sort) (part : PartName) → is_bool (part_sort sort part) ≡ true → fits_part sort part (values.Bool true) ≡ true

@@ -7,7 +7,8 @@ use Rattle.rapid_model.specs.declared.fate.Fate.TheVariants as fates
 use Rattle.rapid_model.specs.declared.request.Request.TheVariants as requests
 use Rattle.cell_meaning.specs.Answers.{is_enabled}
 use Rattle.cell_meaning.specs.Stalled.{is_stalled}
-use Rattle.cell_meaning.proofs.ExampleCell.{cell, event, cleared, went}
+use Rattle.cell_meaning.proofs.ExampleCell.{cell, cleared, went}
+use Rattle.cell_meaning.proofs.MoreEvents.{event}
 
 -- task A waits, and has seen no change
 abbrev held : Event

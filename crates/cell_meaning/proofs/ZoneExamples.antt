@@ -11,7 +11,8 @@ use Rattle.world_zones.specs.Touched.{supervised}
 use Rattle.cell_meaning.specs.Answers.{answer_after}
 use Rattle.cell_meaning.specs.Stored.{signals_after}
 use Rattle.cell_meaning.specs.Zones.{zones_after}
-use Rattle.cell_meaning.proofs.ExampleCell.{cell, event}
+use Rattle.cell_meaning.proofs.ExampleCell.{cell}
+use Rattle.cell_meaning.proofs.MoreEvents.{event}
 
 abbrev to_a : List Event → Request → Answer
 to_a history request = answer_after cell history 0 request

@@ -1,4 +1,4 @@
--- Each arm has places for ten zones, and the least free number is one of them.
+-- Each arm has entries for ten zones, and the least free number is one of them.
 use Rattle.std.proofs.Common.{◌≡◌, ℕ, zero, suc, ◌+◌, ◌-◌, ◌≤◌, ◌<◌, Bool, true, false, List, length, get_or, replicate, Option, None, Some, is_some, refl, sym, ◌∙◌, subst, arith, IfSome}
 use Rattle.std.specs.Prelude.{is_none, Ok, Err, if◌then◌else◌}
 use Rattle.std.specs.List.{position_from}
@@ -9,7 +9,7 @@ use Rattle.rapid_model.specs.declared.answer.Answer.TheVariants as answers
 use Rattle.rapid_model.specs.declared.event.Event.{Event}
 use Rattle.rapid_model.specs.declared.request.Request.{Request}
 use Rattle.rapid_model.specs.declared.request.Request.TheVariants as requests
-use Rattle.trap_dispatch.proofs.Places.{position_from-below}
+use Rattle.trap_dispatch.proofs.Positions.{position_from-below}
 use Rattle.world_zones.specs.declared.own_zone.OwnZone.{OwnZone}
 use Rattle.world_zones.specs.declared.zone_fault.ZoneFault.TheVariants as zone_faults
 use Rattle.world_zones.specs.Zones.{ZonesData, no_zones, arm_at, with_arm, zone_at, with_zone, given, switched, least_free, set_answer}
@@ -47,7 +47,7 @@ zones_kept cell history =
 
 -- the least free number is one of the ten
 pub free_zone : (zones : List (Option OwnZone)) (old number : ℕ) → length zones ≡ 10 → set_answer zones old ≡ Ok number → (1 ≤ number) × (number ≤ 10)
-free_zone zones old number places is = by (is_some (zone_at zones old)) is
+free_zone zones old number entries is = by (is_some (zone_at zones old)) is
   where
     least : (index : Option ℕ) → IfSome index (λ p. p < 10) → least_free index ≡ Ok number → (1 ≤ number) × (number ≤ 10)
     least None below e = cc
@@ -55,4 +55,4 @@ free_zone zones old number places is = by (is_some (zone_at zones old)) is
 
     by : (b : Bool) → (if b then Err zone_faults.ZoneUsed else least_free (position_from is_none 0 zones)) ≡ Ok number → (1 ≤ number) × (number ≤ 10)
     by true e = cc
-    by false e = least (position_from is_none 0 zones) (position_from-below is_none 0 10 zones (omega (arith, places))) e
+    by false e = least (position_from is_none 0 zones) (position_from-below is_none 0 10 zones (omega (arith, entries))) e

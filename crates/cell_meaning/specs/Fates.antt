@@ -16,13 +16,13 @@ all_ended (suc tasks) history = all_ended tasks history && has_ended (part_of ta
 abbrev pub is_spent : CellData → List Event → Bool
 is_spent cell history = not (all_ended (length cell.tasks) history) && nat_le cell.steps (counted history)
 
--- how a task stands after a whole history: the fate that it told, else cut where the steps are spent, else held
+-- how a task stands after a whole history: the fate that it ended with, else cut where the steps are spent, else held
 abbrev pub fate_after : CellData → List Event → ℕ → Fate
-fate_after cell history task = told_or (end_of (part_of task history))
+fate_after cell history task = or_standing (end_of (part_of task history))
   where
-    told_or : Option Fate → Fate
-    told_or (Some fate) = fate
-    told_or None = if is_spent cell history then Cut else Held
+    or_standing : Option Fate → Fate
+    or_standing (Some fate) = fate
+    or_standing None = if is_spent cell history then Cut else Held
 
 -- the fates of the first so many tasks
 abbrev pub fates_after : CellData → List Event → ℕ → List Fate

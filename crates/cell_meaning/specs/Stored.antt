@@ -31,17 +31,17 @@ signals_after cell history = fold (λ signals e. signals_with cell signals e.req
 abbrev pub signal_after : CellData → List Event → ℕ → Bool
 signal_after cell history signal = slice_index_or (signals_after cell history) signal false
 
--- the element that a path names, from 0: what is no array has one
-abbrev pub element_of : Path → ℕ
-element_of path = path.index - 1
+-- the index of the element that a path names: what is no array has one
+abbrev pub element_index : Path → ℕ
+element_index path = path.index - 1
 
 abbrev pub part_put : List Value → Path → Value → Option Value → List Value
 part_put elements path new None = elements
-part_put elements path new (Some old) = slice_set elements (element_of path) (unwrap_or (put_part old path.part new) old)
+part_put elements path new (Some old) = slice_set elements (element_index path) (unwrap_or (put_part old path.part new) old)
 
 -- the elements of a persistent with this value put in at a path
 abbrev pub with_part : List Value → Path → Value → List Value
-with_part elements path new = part_put elements path new (slice_get elements (element_of path))
+with_part elements path new = part_put elements path new (slice_get elements (element_index path))
 
 abbrev pub put_at : List (List Value) → ℕ → Path → Value → List (List Value)
 put_at rows pers path new = slice_set rows pers (with_part (slice_index_or rows pers []) path new)
@@ -61,4 +61,4 @@ persistent_after cell history pers = slice_index_or (persistents_after cell hist
 
 -- the part of a persistent that a path names, of these elements
 abbrev pub value_at : List Value → Path → Option Value
-value_at elements path = option_and_then (λ value. part_of value path.part) (slice_get elements (element_of path))
+value_at elements path = option_and_then (λ value. part_of value path.part) (slice_get elements (element_index path))

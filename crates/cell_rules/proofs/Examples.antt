@@ -10,7 +10,7 @@ use Rattle.rapid_model.specs.declared.sort.Sort.TheVariants as sorts
 use Rattle.rapid_model.specs.declared.value.Value.{Value}
 use Rattle.rapid_model.specs.declared.value.Value.TheVariants as values
 use Rattle.typed_trees.specs.Plain.{TypedPers, TypedTree}
-use Rattle.cell_script.specs.Break.{element_of}
+use Rattle.cell_script.specs.Break.{element_key}
 use Rattle.cell_assembly.specs.Cells.{Clash, InScript, Making}
 use Rattle.cell_assembly.specs.Made.{MadeCell}
 use Rattle.cell_rules.specs.Cell.{IsCellOf}
@@ -97,14 +97,14 @@ pub example_clash : IsRefused (script (gives (codes "seen") None (values.Bool tr
 example_clash = (refused_right (script (gives (codes "seen") None (values.Bool true) ∷ [])) (first_task [] [] ∷ second_task 3 None [] [] ∷ []) refl refl (Clash 1 0 40)).0 refl
 
 -- values of the script that break a rule: of no global persistent, of another type, of no element, and a second one of one element
-pub example_no_such : IsRefused (script (gives (codes "seen") None (values.Bool true) ∷ [])) tasks (InScript (element_of (codes "pers") 0) NoSuch)
-example_no_such = (refused_right (script (gives (codes "seen") None (values.Bool true) ∷ [])) tasks refl refl (InScript (element_of (codes "pers") 0) NoSuch)).0 refl
+pub example_no_such : IsRefused (script (gives (codes "seen") None (values.Bool true) ∷ [])) tasks (InScript (element_key (codes "pers") 0) NoSuch)
+example_no_such = (refused_right (script (gives (codes "seen") None (values.Bool true) ∷ [])) tasks refl refl (InScript (element_key (codes "pers") 0) NoSuch)).0 refl
 
-pub example_kind : IsRefused (script (gives (codes "parts") (Some 3) (values.Bool true) ∷ [])) tasks (InScript (element_of (codes "pers") 0) Kind)
-example_kind = (refused_right (script (gives (codes "parts") (Some 3) (values.Bool true) ∷ [])) tasks refl refl (InScript (element_of (codes "pers") 0) Kind)).0 refl
+pub example_kind : IsRefused (script (gives (codes "parts") (Some 3) (values.Bool true) ∷ [])) tasks (InScript (element_key (codes "pers") 0) Kind)
+example_kind = (refused_right (script (gives (codes "parts") (Some 3) (values.Bool true) ∷ [])) tasks refl refl (InScript (element_key (codes "pers") 0) Kind)).0 refl
 
-pub example_range : IsRefused (script (gives (codes "parts") (Some 3) (num 0) ∷ [])) tasks (InScript (element_of (codes "pers") 0) Range)
-example_range = (refused_right (script (gives (codes "parts") (Some 3) (num 0) ∷ [])) tasks refl refl (InScript (element_of (codes "pers") 0) Range)).0 refl
+pub example_range : IsRefused (script (gives (codes "parts") (Some 3) (num 0) ∷ [])) tasks (InScript (element_key (codes "pers") 0) Range)
+example_range = (refused_right (script (gives (codes "parts") (Some 3) (num 0) ∷ [])) tasks refl refl (InScript (element_key (codes "pers") 0) Range)).0 refl
 
-pub example_twice : IsRefused (script (gives (codes "parts") (Some 2) (num 0) ∷ gives (codes "PARTS") (Some 2) (num 0) ∷ [])) tasks (InScript (element_of (codes "pers") 1) Twice)
-example_twice = (refused_right (script (gives (codes "parts") (Some 2) (num 0) ∷ gives (codes "PARTS") (Some 2) (num 0) ∷ [])) tasks refl refl (InScript (element_of (codes "pers") 1) Twice)).0 refl
+pub example_twice : IsRefused (script (gives (codes "parts") (Some 2) (num 0) ∷ gives (codes "PARTS") (Some 2) (num 0) ∷ [])) tasks (InScript (element_key (codes "pers") 1) Twice)
+example_twice = (refused_right (script (gives (codes "parts") (Some 2) (num 0) ∷ gives (codes "PARTS") (Some 2) (num 0) ∷ [])) tasks refl refl (InScript (element_key (codes "pers") 1) Twice)).0 refl

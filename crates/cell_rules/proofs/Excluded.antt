@@ -6,7 +6,7 @@ use Rattle.rapid_model.specs.declared.pers_value.PersValue.{PersValue}
 use Rattle.rapid_model.specs.declared.script_rule.ScriptRule.{ScriptRule}
 use Rattle.rapid_model.specs.declared.script_rule.ScriptRule.TheVariants.{NoSuch, Kind, Range, Twice}
 use Rattle.typed_trees.specs.Plain.{TypedPers}
-use Rattle.cell_script.specs.Break.{element_of}
+use Rattle.cell_script.specs.Break.{element_key}
 use Rattle.cell_assembly.specs.Cells.{CellBreak, Clash, InScript}
 use Rattle.cell_rules.specs.Declared.{Declared, AreAlikeBefore}
 use Rattle.cell_rules.specs.Given.{Breaks, Finds, IsInside, IsRight, Suits}
@@ -78,7 +78,7 @@ module _ (ds : List Declared) (given : List PersValue) where
       elim (cases_order a.number b.number) [
         | inl equal ↦
             let same : a.value ≡ b.value = same_there (slice_get given a.number) a.value b.value a.there (ap (slice_get given) equal ∙ b.there) in
-            let keys : key ≡ key' = a.is_key ∙ ap (element_of (codes "pers")) equal ∙ sym b.is_key in
+            let keys : key ≡ key' = a.is_key ∙ ap (element_key (codes "pers")) equal ∙ sym b.is_key in
             let here = subst (λ n. Breaks ds given n a.value rule') (sym equal) (subst (λ v. Breaks ds given b.number v rule') (sym same) b.breaks) in
             let rules : rule ≡ rule' = same_rule a.alike a.number a.value rule rule' a.breaks here in
             λ i. InScript (keys i) (rules i)

@@ -5,7 +5,7 @@ use Rattle.std.proofs.lemmas.Bool.{and_parts, and_from, both_ways, leb-true, leb
 use Rattle.std.proofs.lemmas.List.{append_assoc, append-nil, length-set}
 use Rattle.std.proofs.lemmas.Option.{slice_get_within}
 use Rattle.rapid_model.specs.Limits.{is_within, holds_where_there}
-use Rattle.rapid_model.specs.Names.{is_name}
+use Rattle.rapid_model.specs.Names.{is_short_name}
 use Rattle.rapid_model.specs.ScriptData.{is_given_value, is_pers_value}
 use Rattle.rapid_model.specs.Sorts.{width}
 use Rattle.rapid_model.specs.declared.pers_value.PersValue.{PersValue}
@@ -16,7 +16,7 @@ use Rattle.rapid_model.specs.declared.sort.Sort.TheVariants as sorts
 use Rattle.rapid_model.specs.declared.value.Value.{Value}
 use Rattle.rapid_model.specs.declared.value.Value.TheVariants as values
 use Rattle.rapid_model.proofs.Lists.{there_is}
-use Rattle.cell_assembly.specs.Cells.{PersInfo, has_sort, fits_index, element, is_given, with_given, at_value, key_of, is_global, global_number, give_to, give_global, give, give_all}
+use Rattle.cell_assembly.specs.Cells.{PersInfo, is_script_value, fits_index, element, is_given, with_given, at_value, key_of, is_global, global_number, give_to, give_global, give, give_all}
 use Rattle.cell_rules.specs.Declared.{Declared, AreOne, AreAlikeBefore}
 use Rattle.cell_rules.specs.First.{IsIndexOf, IsGiven, IsNotGiven}
 use Rattle.cell_rules.specs.Given.{given_sort, AreForOne, Breaks, Finds, IsFor, IsInside, IsRight, Suits}
@@ -28,16 +28,16 @@ use Rattle.cell_rules.proofs.Lists.{same_there, in_front, at_end, front_there, e
 use Rattle.cell_rules.proofs.Outcomes.{Outcome, followed, ruled}
 
 -- the type of a value
-sort_given : (sort : Sort) (value : Value) → has_sort sort value ≡ true → given_sort value ≡ Some sort
+sort_given : (sort : Sort) (value : Value) → is_script_value sort value ≡ true → given_sort value ≡ Some sort
 sort_given sorts.Num (values.Num n) e = refl
 sort_given sorts.Bool (values.Bool b) e = refl
 sort_given sorts.Text (values.Text t) e = refl
 sort_given _ _ e = absurd (cc e)
 
-given_has : (sort : Sort) (value : Value) → given_sort value ≡ Some sort → has_sort sort value ≡ true
-given_has sort (values.Num n) e = let same : sorts.Num ≡ sort = cc e in subst (λ s. has_sort s (values.Num n) ≡ true) same refl
-given_has sort (values.Bool b) e = let same : sorts.Bool ≡ sort = cc e in subst (λ s. has_sort s (values.Bool b) ≡ true) same refl
-given_has sort (values.Text t) e = let same : sorts.Text ≡ sort = cc e in subst (λ s. has_sort s (values.Text t) ≡ true) same refl
+given_has : (sort : Sort) (value : Value) → given_sort value ≡ Some sort → is_script_value sort value ≡ true
+given_has sort (values.Num n) e = let same : sorts.Num ≡ sort = cc e in subst (λ s. is_script_value s (values.Num n) ≡ true) same refl
+given_has sort (values.Bool b) e = let same : sorts.Bool ≡ sort = cc e in subst (λ s. is_script_value s (values.Bool b) ≡ true) same refl
+given_has sort (values.Text t) e = let same : sorts.Text ≡ sort = cc e in subst (λ s. is_script_value s (values.Text t) ≡ true) same refl
 given_has sort (values.Rob axes) e = absurd (cc e)
 given_has sort (values.Ext axes) e = absurd (cc e)
 given_has sort (values.Target joints) e = absurd (cc e)
@@ -141,18 +141,18 @@ module _ (ds : List Declared) (ks : List ℕ) (count : ℕ) (numbered : AreNumbe
       len_is : p.len ≡ (are.infos k p at).d.row.len
       len_is = let i = are.infos k p at in i.len i.is_first.index i.d i.is_first.has_number
 
-      suits_from : has_sort p.sort row.value && fits_index p.len row.index ≡ true → Suits row (are.infos k p at).d.row
+      suits_from : is_script_value p.sort row.value && fits_index p.len row.index ≡ true → Suits row (are.infos k p at).d.row
       suits_from e =
-          let (sort, index) = and_parts (has_sort p.sort row.value) (fits_index p.len row.index) e in
+          let (sort, index) = and_parts (is_script_value p.sort row.value) (fits_index p.len row.index) e in
           record { sort = sort_given p.sort row.value sort ∙ ap Some sort_is; index = index_fits p.len row.index index ∙ ap is_some len_is }
 
-      from_suits : Suits row (are.infos k p at).d.row → has_sort p.sort row.value && fits_index p.len row.index ≡ true
+      from_suits : Suits row (are.infos k p at).d.row → is_script_value p.sort row.value && fits_index p.len row.index ≡ true
       from_suits suits =
-          and_from (has_sort p.sort row.value) (fits_index p.len row.index) (given_has p.sort row.value (suits.sort ∙ ap Some (sym sort_is)))
+          and_from (is_script_value p.sort row.value) (fits_index p.len row.index) (given_has p.sort row.value (suits.sort ∙ ap Some (sym sort_is)))
           (fits_from p.len row.index (suits.index ∙ ap is_some (sym len_is)))
 
-      other_kind : has_sort p.sort row.value && fits_index p.len row.index ≡ false → Breaks ds whole (length done) row Kind
-      other_kind e = record { row = (are.infos k p at).d.row; finds = found; other = λ suits. both_ways (has_sort p.sort row.value && fits_index p.len row.index) e (from_suits suits) }
+      other_kind : is_script_value p.sort row.value && fits_index p.len row.index ≡ false → Breaks ds whole (length done) row Kind
+      other_kind e = record { row = (are.infos k p at).d.row; finds = found; other = λ suits. both_ways (is_script_value p.sort row.value && fits_index p.len row.index) e (from_suits suits) }
 
       module _ (suits : Suits row (are.infos k p at).d.row) where
         index_is : is_some row.index ≡ is_some p.len
@@ -320,7 +320,7 @@ module _ (ds : List Declared) (ks : List ℕ) (count : ℕ) (numbered : AreNumbe
         let same : p ≡ q = same_there (slice_get ps k) p q at at_q in
         let q_global = subst (λ r. is_global row.name r ≡ true) same global in
         let next = set ps k (with_given q (element row.index) row.value) in
-        ruled (AreGiven (done ++ row ∷ [])) (IsRefusal ds whole) (has_sort q.sort row.value && fits_index q.len row.index) (at_value (length done) Kind) _ (λ e. broken Kind (other_kind k q at_q q_global e)) (λ suiting.
+        ruled (AreGiven (done ++ row ∷ [])) (IsRefusal ds whole) (is_script_value q.sort row.value && fits_index q.len row.index) (at_value (length done) Kind) _ (λ e. broken Kind (other_kind k q at_q q_global e)) (λ suiting.
         ruled (AreGiven (done ++ row ∷ [])) (IsRefusal ds whole) (nat_le (element row.index + 1) (width q.len)) (at_value (length done) Range) _
         (λ e. broken Range (outside k q at_q q_global (suits_from k q at_q q_global suiting) e)) (λ few.
         ruled (AreGiven (done ++ row ∷ [])) (IsRefusal ds whole) (not (is_given (slice_get q.given (element row.index)))) (at_value (length done) Twice) (Ok next)
@@ -336,8 +336,8 @@ module _ (ds : List Declared) (ks : List ℕ) (count : ℕ) (numbered : AreNumbe
 
   from_one : (row : PersValue) → is_pers_value row ≡ true → FromOne row.index
   from_one row is =
-      let (front, _) = and_parts (is_name row.name && holds_where_there (is_within 1 1_000) row.index) (is_given_value row.value) is in
-      let (_, index) = and_parts (is_name row.name) (holds_where_there (is_within 1 1_000) row.index) front in
+      let (front, _) = and_parts (is_short_name row.name && holds_where_there (is_within 1 1_000) row.index) (is_given_value row.value) is in
+      let (_, index) = and_parts (is_short_name row.name) (holds_where_there (is_within 1 1_000) row.index) front in
       one_there row.index index
     where
       one_there : (index : Option ℕ) → holds_where_there (is_within 1 1_000) index ≡ true → FromOne index

@@ -4,7 +4,7 @@ use Rattle.rapid_model.specs.ScriptData.{ScriptData}
 use Rattle.rapid_model.specs.declared.pers_value.PersValue.{PersValue}
 use Rattle.rapid_model.specs.declared.script_rule.ScriptRule.{ScriptRule}
 use Rattle.typed_trees.specs.Plain.{TypedTree}
-use Rattle.cell_script.specs.Break.{element_of}
+use Rattle.cell_script.specs.Break.{element_key}
 use Rattle.cell_assembly.specs.Cells.{CellBreak, Clash, InScript}
 use Rattle.cell_rules.specs.Declared.{AreAlike, AreAlikeBefore, AreOne, Declared, declared_by}
 use Rattle.cell_rules.specs.Given.{Breaks, IsRight}
@@ -32,7 +32,7 @@ pub record IsBroken (declared : List Declared) (given : List PersValue) (key : L
   pub number : ℕ
   pub value : PersValue
   pub there : slice_get given number ≡ Some value
-  pub is_key : key ≡ element_of (codes "pers") number
+  pub is_key : key ≡ element_key (codes "pers") number
   pub breaks : Breaks declared given number value rule
   pub right_before : (before : ℕ) (other : PersValue) → before < number → slice_get given before ≡ Some other → IsRight declared given before other
 

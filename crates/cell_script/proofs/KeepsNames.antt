@@ -10,7 +10,7 @@ use Rattle.std.proofs.lemmas.Slice.Eq.{bytes_eq-Decides}
 use Rattle.toml.specs.Data.{Data}
 use Rattle.rapid_lexer.specs.Words.{is_reserved}
 use Rattle.rapid_builtins.specs.Names.{is_predefined}
-use Rattle.rapid_model.specs.Names.{is_name, is_among, differ}
+use Rattle.rapid_model.specs.Names.{is_short_name, is_among, differ}
 use Rattle.rapid_model.specs.declared.script_rule.ScriptRule.TheVariants.{Name, Twice, NoSuch}
 use Rattle.rule_checks.specs.Checks.{◌>>◌, must, found_or}
 use Rattle.cell_script.specs.Break.{at_key}
@@ -19,15 +19,15 @@ use Rattle.cell_script.specs.Rows.{signal_name_at, task_name_at}
 use Rattle.rule_checks.proofs.Keeps.{Keeps, Keeps-then, Keeps-any, Keeps-must, Keeps-found}
 
 abbrev pub IsName : List ℕ → Type 0
-IsName name = is_name name ≡ true
+IsName name = is_short_name name ≡ true
 
 abbrev pub IsNew : List (List ℕ) → List ℕ → Type 0
 IsNew others name = is_among name others ≡ false
 
 pub name_keeps : (key : List ℕ) (d : Data) → Keeps IsName (name_at key d)
 name_keeps key d =
-    Keeps-any IsName (text_at key d) (λ text. must (is_name text && not (is_reserved text)) (at_key key Name) >> Ok text) (λ text.
-    Keeps-must IsName (is_name text && not (is_reserved text)) (at_key key Name) (Ok text) (λ e. (and_parts (is_name text) (not (is_reserved text)) e).0))
+    Keeps-any IsName (text_at key d) (λ text. must (is_short_name text && not (is_reserved text)) (at_key key Name) >> Ok text) (λ text.
+    Keeps-must IsName (is_short_name text && not (is_reserved text)) (at_key key Name) (Ok text) (λ e. (and_parts (is_short_name text) (not (is_reserved text)) e).0))
 
 pub signal_name_keeps : (key : List ℕ) (others : List (List ℕ)) (d : Data) → Keeps (λ name. IsName name × IsNew others name) (signal_name_at key others d)
 signal_name_keeps key others d =

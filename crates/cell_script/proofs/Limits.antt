@@ -8,7 +8,7 @@ use Rattle.toml.specs.Data.{Data, as_str, as_integer, as_bool}
 use Rattle.rapid_num.specs.Reach.{is_in_reach, are_absent, absent_axes, is_position}
 use Rattle.rapid_num.specs.declared.joints.Joints.{Joints}
 use Rattle.rapid_model.specs.Limits.{is_within, holds_where_there, is_start, is_signal}
-use Rattle.rapid_model.specs.Names.{is_name}
+use Rattle.rapid_model.specs.Names.{is_short_name}
 use Rattle.rapid_model.specs.ScriptData.{is_file_name, is_task, is_given_value, is_pers_value}
 use Rattle.rapid_model.specs.declared.pers_value.PersValue.{PersValue}
 use Rattle.rapid_model.specs.declared.script_rule.ScriptRule.TheVariants.{Kind, Range}
@@ -90,8 +90,8 @@ task_keeps before d =
     (start_keeps (at keys (codes "arm")) (value_of keys (codes "arm"))) (λ arm start.
     let parts = and_parts (is_within 1 16 (length modules)) (list_all is_file_name modules) files in
     Keeps-only Q keys (codes "name" ∷ codes "modules" ∷ codes "arm" ∷ []) (Ok (record { name = name; modules = modules; arm = arm })) (
-      and_from ((is_name name && is_within 1 16 (length modules)) && list_all is_file_name modules) (is_start arm)
-          (and_from (is_name name && is_within 1 16 (length modules)) (list_all is_file_name modules) (and_from (is_name name) (is_within 1 16 (length modules)) is.0 parts.0) parts.1) start,
+      and_from ((is_short_name name && is_within 1 16 (length modules)) && list_all is_file_name modules) (is_start arm)
+          (and_from (is_short_name name && is_within 1 16 (length modules)) (list_all is_file_name modules) (and_from (is_short_name name) (is_within 1 16 (length modules)) is.0 parts.0) parts.1) start,
       is.1,
     )))))
 
@@ -136,4 +136,4 @@ pers_keeps before d =
     Keeps-then (IsAt is_given_value) Q (given_value keys (value_of keys (codes "num")) (value_of keys (codes "bool")) (value_of keys (codes "text"))) _
     (given_keeps keys (value_of keys (codes "num")) (value_of keys (codes "bool")) (value_of keys (codes "text"))) (λ value given.
     Keeps-only Q keys (codes "name" ∷ codes "index" ∷ codes "num" ∷ codes "bool" ∷ codes "text" ∷ []) (Ok (record { name = name; index = index; value = value }))
-    (and_from (is_name name && holds_where_there (is_within 1 1_000) index) (is_given_value value) (and_from (is_name name) (holds_where_there (is_within 1 1_000) index) form within) given)))))
+    (and_from (is_short_name name && holds_where_there (is_within 1 1_000) index) (is_given_value value) (and_from (is_short_name name) (holds_where_there (is_within 1 1_000) index) form within) given)))))

@@ -8,7 +8,7 @@ use Rattle.toml.specs.Data.{Data, as_integer}
 use Rattle.rapid_num.specs.Reach.{is_in_reach}
 use Rattle.rapid_num.specs.declared.shape.Bound.{Bound}
 use Rattle.rapid_model.specs.Limits.{holds_where_there, is_bounded, is_zone_shape, has_arm, is_zone}
-use Rattle.rapid_model.specs.Names.{is_name}
+use Rattle.rapid_model.specs.Names.{is_short_name}
 use Rattle.rapid_model.specs.declared.script_rule.ScriptRule.TheVariants.{NoSuch, Range}
 use Rattle.rapid_model.specs.declared.script_task.ScriptTask.{ScriptTask}
 use Rattle.rapid_model.specs.declared.signal_row.SignalRow.{SignalRow}
@@ -138,6 +138,6 @@ zone_keeps signals tasks before d =
     Keeps-any Q (needed keys (codes "value") >>= bit_at (at keys (codes "value"))) _ (λ value.
     Keeps-only Q keys (codes "name" ∷ codes "task" ∷ codes "kind" ∷ codes "axes" ∷ codes "low" ∷ codes "high" ∷ codes "signal" ∷ codes "value" ∷ [])
     (Ok (record { name = name; task = task; shape = shape_of inside axes lows highs; signal = signal; value = value }))
-    (and_from ((is_name name && has_arm arms task) && is_zone_shape (shape_of inside axes lows highs)) (nat_lt signal (length signals))
-    (and_from (is_name name && has_arm arms task) (is_zone_shape (shape_of inside axes lows highs)) (and_from (is_name name) (has_arm arms task) form armed)
+    (and_from ((is_short_name name && has_arm arms task) && is_zone_shape (shape_of inside axes lows highs)) (nat_lt signal (length signals))
+    (and_from (is_short_name name && has_arm arms task) (is_zone_shape (shape_of inside axes lows highs)) (and_from (is_short_name name) (has_arm arms task) form armed)
     (shape_keeps inside axes lows highs are low high)) of))))))))))

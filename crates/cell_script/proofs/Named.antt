@@ -5,7 +5,7 @@ use Rattle.std.proofs.lemmas.List.{length-map}
 use Rattle.std.specs.Str.{str_eq_ignore_ascii_case}
 use Rattle.toml.specs.Data.{Data}
 use Rattle.rapid_lexer.specs.Words.{is_reserved}
-use Rattle.rapid_model.specs.Names.{is_name, is_among}
+use Rattle.rapid_model.specs.Names.{is_short_name, is_among}
 use Rattle.rapid_model.specs.declared.script_rule.ScriptRule.TheVariants.{Name, NoSuch, Twice}
 use Rattle.rule_checks.specs.Checks.{◌>>◌, must, found_or}
 use Rattle.cell_script.specs.Break.{at_key}
@@ -18,7 +18,7 @@ list_any-map test f [] = refl
 list_any-map test f (x ∷ xs) = ap (λ more. test (f x) || more) (list_any-map test f xs)
 
 -- a name by its form, and by the words
-pub name_of_form : (key : List ℕ) (d : Data) (text bytes : List ℕ) (form word : Bool) → text_at key d ≡ Ok text → bytes ≡ text → form ≡ is_name bytes → word ≡ is_reserved bytes
+pub name_of_form : (key : List ℕ) (d : Data) (text bytes : List ℕ) (form word : Bool) → text_at key d ≡ Ok text → bytes ≡ text → form ≡ is_short_name bytes → word ≡ is_reserved bytes
     → name_at key d ≡ (must (form && not word) (at_key key Name) >> Ok bytes)
 name_of_form key d text bytes form word read same is_form is_word = rw (read, is_form, is_word, same) refl
 

@@ -4,7 +4,7 @@ use Rattle.std.proofs.lemmas.Bool.{cases_lt, lt-ltb, le-ltb}
 use Rattle.std.proofs.lemmas.List.{map-append, take-append-le, take_all, length-take-le, length-append, take_more}
 use Rattle.rapid_num.specs.Characters.{is_printable}
 use Rattle.rapid_model.specs.Printable.{takes}
-use Rattle.cell_script.specs.Break.{shown, shown_byte, element_of, key_in}
+use Rattle.cell_script.specs.Break.{shown, shown_byte, element_key, key_in}
 
 pub take_one : (n : ℕ) (xs : List ℕ) (y : ℕ) → take n (xs ++ y ∷ []) ≡ (if nat_lt (length (take n xs)) n then take n xs ++ y ∷ [] else take n xs)
 take_one n xs y =
@@ -37,6 +37,6 @@ shown_next front bytes text i d taken now lt before took is =
     let all : front ++ take (i + 1) bytes ≡ (front ++ take i bytes) ++ b ∷ [] = ap (λ t. front ++ t) (take_more bytes i d lt) ∙ sym (append_assoc front (take i bytes) (b ∷ [])) in
     is ∙ rw (took, before) (sym (ap shown all ∙ shown_more (front ++ take i bytes) b))
 
-pub in_element : (path key : List ℕ) (number : ℕ) → key_in (element_of path number) key ≡ element_of path number ++ (46 ∷ key)
-in_element [] key number = refl
-in_element (b ∷ bs) key number = refl
+pub in_element : (path key : List ℕ) (index : ℕ) → key_in (element_key path index) key ≡ element_key path index ++ (46 ∷ key)
+in_element [] key index = refl
+in_element (b ∷ bs) key index = refl

@@ -15,9 +15,9 @@ abbrev pub key_in : List ℕ → List ℕ → List ℕ
 key_in [] key = key
 key_in (b ∷ bs) key = (b ∷ bs) ++ (46 ∷ key)
 
--- the element of this number, from 0, of the array at a key: `task[0]`
-abbrev pub element_of : List ℕ → ℕ → List ℕ
-element_of key number = key ++ (91 ∷ decimal number ++ (93 ∷ []))
+-- the key of the element at this index of the array at a key: `task[0]`
+abbrev pub element_key : List ℕ → ℕ → List ℕ
+element_key key index = key ++ (91 ∷ decimal index ++ (93 ∷ []))
 
 abbrev pub shown_byte : ℕ → ℕ
 shown_byte b = if is_printable b then b else 63

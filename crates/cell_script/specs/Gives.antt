@@ -7,7 +7,7 @@ use Rattle.cell_script.specs.declared.fault.ScriptFault.TheVariants.{Rule, Memor
 use Rattle.cell_script.specs.declared.keys.TableKeys.{TableKeys}
 use Rattle.cell_script.specs.declared.path.Path.{Path}
 use Rattle.cell_script.specs.declared.path.Path.TheVariants.{Script, Element}
-use Rattle.cell_script.specs.Break.{ScriptBreak, Read, element_of}
+use Rattle.cell_script.specs.Break.{ScriptBreak, Read, element_key}
 use Rattle.cell_script.specs.Keys.{Keys}
 
 -- the rule that a fault says to be broken; want of memory says none
@@ -24,7 +24,7 @@ Gives view result read = words.Gives broken_rule view result read
 -- where a table stands
 abbrev pub path_of : Path → List ℕ
 path_of Script = []
-path_of (Element array number) = element_of array.now number
+path_of (Element array index) = element_key array.now index
 
 -- a table, and where it stands
 abbrev pub view_keys : TableKeys → Keys

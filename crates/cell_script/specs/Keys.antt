@@ -4,11 +4,11 @@ use Rattle.std.specs.List.{list_any}
 use Rattle.std.specs.Str.{str_eq_ignore_ascii_case}
 use Rattle.toml.specs.Data.{Data, Items, no_items, item, Members, no_members, member, get_member, as_str, as_integer, as_array, as_table}
 use Rattle.rapid_lexer.specs.Words.{is_reserved}
-use Rattle.rapid_model.specs.Names.{is_name}
+use Rattle.rapid_model.specs.Names.{is_short_name}
 use Rattle.rapid_model.specs.Limits.{is_within}
 use Rattle.rapid_model.specs.declared.script_rule.ScriptRule.TheVariants.{NoKey, Kind, UnknownKey, Range, Name, NoSuch, Pair}
 use Rattle.rule_checks.specs.Checks.{◌>>=◌, ◌>>◌, must, found_or}
-use Rattle.cell_script.specs.Break.{Read, key_in, element_of, at_key}
+use Rattle.cell_script.specs.Break.{Read, key_in, element_key, at_key}
 
 -- a table of the script, and where it stands
 pub record Keys : Type 0 where
@@ -75,7 +75,7 @@ word_at key first second d =
 
 -- a name: its form (RAPID Kernel, identifiers), and no reserved word
 abbrev pub name_at : List ℕ → Data → Read (List ℕ)
-name_at key d = text_at key d >>= (λ text. must (is_name text && not (is_reserved text)) (at_key key Name) >> Ok text)
+name_at key d = text_at key d >>= (λ text. must (is_short_name text && not (is_reserved text)) (at_key key Name) >> Ok text)
 
 -- the number of the name that a text refers to, letters of either case being the same
 abbrev pub number_at : List ℕ → List (List ℕ) → Data → Read ℕ
@@ -99,10 +99,10 @@ abbrev pub rows_at : List ℕ → ℕ → ℕ → Data → Read (List Data)
 rows_at key low high d =
     found_or (as_array d) (at_key key Kind) >>= (λ items. must (is_within low high (length (items_list items))) (at_key key Range) >> Ok (items_list items))
 
--- the table of the element of this number
+-- the table of the element at this index
 abbrev pub table_at : List ℕ → ℕ → Data → Read Keys
-table_at key number d =
-    found_or (as_table d) (at_key (element_of key number) Kind) >>= (λ members. Ok (record { path = element_of key number; members = members }))
+table_at key index d =
+    found_or (as_table d) (at_key (element_key key index) Kind) >>= (λ members. Ok (record { path = element_key key index; members = members }))
 
 -- the rows of an array in turn, each with those before it
 abbrev pub each_row : {A : Type 0} → (List A → Data → Read A) → List A → List Data → Read (List A)

@@ -76,21 +76,21 @@ fn is_known(known: &[&str], key: &str) -> bool
     known.iter().any(|word| key == *word)
 }
 
-/// The table of the element of this number, from 0, of an array of the script.
+/// The table of the element at this index of an array of the script.
 pub(crate) fn table_at<'a>(
     array: &'static str,
-    number: usize,
+    index: usize,
     value: &'a Value,
 ) -> Result<TableKeys<'a>, ScriptFault>
-    ensures { Gives view_keys result (table_at array.now number (view value.now)) }
+    ensures { Gives view_keys result (table_at array.now index (view value.now)) }
 {
     match value.as_table() {
         Some(table) => Ok(TableKeys {
-            path: Path::Element { array, number },
+            path: Path::Element { array, index },
             table,
         }),
         None => Err(ScriptFault::Rule {
-            key: shown_element(array, number),
+            key: shown_element(array, index),
             rule: ScriptRule::Kind,
         }),
     }

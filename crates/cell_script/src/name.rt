@@ -5,7 +5,7 @@ ghost use Rattle.std.specs.List.{list_all, list_any};
 ghost use Rattle.std.specs.Str.{str_eq_ignore_ascii_case};
 ghost use Rattle.toml.specs.View.{view};
 ghost use Rattle.rapid_num.specs.Characters.{is_name_byte};
-ghost use Rattle.rapid_model.specs.Names.{is_name};
+ghost use Rattle.rapid_model.specs.Names.{is_short_name};
 ghost use Rattle.cell_script.specs.Keys.{at, name_at};
 ghost use Rattle.cell_script.specs.Gives.{Gives, view_keys};
 
@@ -26,7 +26,7 @@ pub(crate) fn name_at(
 {
     let text = text_at(keys, key, value)?;
     let bytes = text.as_bytes();
-    if !is_name(bytes) {
+    if !is_short_name(bytes) {
         return Err(keys.broken(key, ScriptRule::Name));
     }
     if is_reserved(bytes) {
@@ -36,7 +36,7 @@ pub(crate) fn name_at(
 }
 
 fn copy_name(bytes: &[u8]) -> NameText
-    requires { IsTrue (is_name bytes.now) }
+    requires { IsTrue (is_short_name bytes.now) }
     ensures { result ≡ bytes.now }
 {
     let mut name = NameText::new();
@@ -46,9 +46,9 @@ fn copy_name(bytes: &[u8]) -> NameText
     name
 }
 
-/// The form of a name (RAPID Kernel, identifiers): a letter, then letters, digits and underscores, at most 32 in all.
-fn is_name(bytes: &[u8]) -> bool
-    ensures { result ≡ is_name bytes.now }
+/// Whether bytes are a name (RAPID Kernel, identifiers): a letter, then letters, digits and underscores, at most 32 in all.
+fn is_short_name(bytes: &[u8]) -> bool
+    ensures { result ≡ is_short_name bytes.now }
 {
     match bytes {
         [] => false,

@@ -1,17 +1,18 @@
 //! How a broken rule names a key.
 
 ghost use Rattle.std.specs.Prelude.{◌≡◌, List, ℕ, ◌++◌};
-ghost use Rattle.cell_script.specs.Break.{key_in, element_of, shown, shown_byte};
+ghost use Rattle.cell_script.specs.Break.{element_key, key_in, shown, shown_byte};
 ghost use Rattle.cell_script.specs.Gives.{path_of};
 
 use itoa::Buffer;
 use rapid_model::Text;
+use rapid_num::is_printable;
 
-/// Where a table stands: it is the script, or the element of this number, from 0, of an array of the script.
+/// Where a table stands: it is the script, or the element at this index of an array of the script.
 #[derive(Clone, Copy)]
 pub(crate) enum Path {
     Script,
-    Element { array: &'static str, number: usize },
+    Element { array: &'static str, index: usize },
 }
 
 impl Path {
@@ -21,7 +22,7 @@ impl Path {
     {
         match self {
             Path::Script => Text::new(),
-            Path::Element { array, number } => shown_element(array, *number),
+            Path::Element { array, index } => shown_element(array, *index),
         }
     }
 
@@ -44,15 +45,15 @@ impl Path {
     }
 }
 
-/// The element of this number of an array.
-pub(crate) fn shown_element(array: &str, number: usize) -> Text
-    ensures { result ≡ shown (element_of array.now number) }
+/// The key of the element at this index of an array.
+pub(crate) fn shown_element(array: &str, index: usize) -> Text
+    ensures { result ≡ shown (element_key array.now index) }
 {
     let mut text = Text::new();
     let mut buffer = Buffer::new();
     show(&mut text, array.as_bytes());
     show(&mut text, b"[");
-    show(&mut text, buffer.format(number).as_bytes());
+    show(&mut text, buffer.format(index).as_bytes());
     show(&mut text, b"]");
     text
 }
@@ -69,9 +70,5 @@ fn show(text: &mut Text, bytes: &[u8])
 fn shown_byte(byte: u8) -> u8
     ensures { result ≡ shown_byte byte }
 {
-    if (32..=126).contains(&byte) {
-        byte
-    } else {
-        b'?'
-    }
+    if is_printable(byte) { byte } else { b'?' }
 }

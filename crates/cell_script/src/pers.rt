@@ -15,7 +15,7 @@ use crate::list::rows_at;
 use crate::name::name_at;
 use crate::plain::{text_at, whole_at};
 use rapid_model::{PersValue, ScriptRule, Text, Value as Given};
-use rapid_num::{Num, read_literal};
+use rapid_num::{Num, is_printable, read_literal};
 use std::alloc::Global;
 use toml::Value;
 
@@ -125,7 +125,7 @@ fn text_value_at(keys: &TableKeys<'_>, key: &str, value: &Value) -> Result<Given
 fn are_printable(bytes: &[u8]) -> bool
     ensures { result ≡ list_all is_printable bytes.now }
 {
-    bytes.iter().all(|byte| (32..=126).contains(byte))
+    bytes.iter().all(|byte| is_printable(*byte))
 }
 
 fn copy_text(bytes: &[u8]) -> Text

@@ -18,7 +18,7 @@ use Rattle.typed_trees.specs.declared.datum.Root.TheVariants as roots
 use Rattle.rapid_meaning.specs.Data.{Data}
 use Rattle.rapid_meaning.specs.Doings.{Gives, or_misfit, when_ok}
 use Rattle.rapid_meaning.specs.Functions.{of_value, of_values, read_signal, when_at, when_bit}
-use Rattle.rapid_meaning.specs.Places.{at_element, element_of, element_or_fault, element_root, indexed, load, load_from, part_at, read_value, set_unless, store, store_at, test_and_set, test_at, there_in, when_read, when_tested, writes_at}
+use Rattle.rapid_meaning.specs.Places.{at_element, element_or_fault, element_root, indexed, load, load_from, part_at, place_of_element, read_value, set_unless, store, store_at, test_and_set, test_at, there_in, when_read, when_tested, writes_at}
 use Rattle.rapid_meaning.specs.Values.{applied, num_in, opposite, text_in, truth_in, value_in, with_sign}
 use Rattle.code_simulation.proofs.Same.{NoPart, no_part_then}
 
@@ -99,7 +99,7 @@ pub part_alone : (part : PartName) (p : Lvalue) → NoPart (part_at part p)
 part_alone part p = or_misfit_alone _
 
 there_alone : (p : Lvalue) (number : ℕ) → NoPart (at_element p number)
-there_alone p number = λ d. or_misfit_alone (there_in d (element_of p number) (element_root p.root number))
+there_alone p number = λ d. or_misfit_alone (there_in d (place_of_element p number) (element_root p.root number))
 
 element_alone : (p : Lvalue) (number : Option ℕ) → NoPart (element_or_fault p number)
 element_alone p None = tt

@@ -28,7 +28,7 @@ use Rattle.rapid_meaning.specs.Doings.{Doing, Gives, Raises, Asks, Ends, Misfit,
 use Rattle.rapid_meaning.specs.Expressions.{lent_length, place}
 use Rattle.rapid_meaning.specs.Layouts.{length_at, local_start, slot_start}
 use Rattle.rapid_meaning.specs.Meetings.{arrive, task_or_fault, task_set, tasks_in, with_task, with_tasks}
-use Rattle.rapid_meaning.specs.Places.{at_element, at_root, element_of, element_root, kept_place, load, load_from, own_place, part_at, part_in, read_value, rooted, there_in, when_read}
+use Rattle.rapid_meaning.specs.Places.{at_element, at_root, element_root, kept_place, load, load_from, own_place, part_at, part_in, place_of_element, read_value, rooted, there_in, when_read}
 use Rattle.rapid_meaning.specs.Values.{text_in, value_in, whole}
 use Rattle.rapid_meaning.proofs.Follows.{after_after}
 use Rattle.stack_code.specs.CodeRuns.{exec}
@@ -236,7 +236,7 @@ moved_op : (s : Spot) (a b : ℕ) (op : Op) → a ≡ b → OpAt s a op → OpAt
 moved_op s a b op e there = subst (λ (x : ℕ). OpAt s x op) e there
 
 silent_element : (p : Lvalue) (number : ℕ) → Silent (at_element p number)
-silent_element p number = λ d. silent_option (there_in d (element_of p number) (element_root p.root number))
+silent_element p number = λ d. silent_option (there_in d (place_of_element p number) (element_root p.root number))
 
 -- the place of an element
 element_place : {B : Type 0} (s : Spot) (d : Data) (pc : ℕ) (stack : List Datum) (root : TreeRoot) (sort : Sort) (p : Lvalue) (len number : ℕ) (ps : List Placed) (k : Lvalue → Doing B) (next : B → Doing Conf)

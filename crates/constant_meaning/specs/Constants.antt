@@ -21,7 +21,7 @@ use Rattle.constant_meaning.specs.declared.arrays.Arrays.{Arrays}
 use Rattle.constant_meaning.specs.declared.outcome.Outcome.{Outcome}
 use Rattle.constant_meaning.specs.declared.outcome.Outcome.TheVariants as outcomes
 
--- the elements of constant arrays, by the number of their slot or their place in the routine
+-- the elements of constant arrays, by the number of their slot or their index in the routine
 pub record Elements : Type 0 where
   pub slots : List (Option (List Value))
   pub locals : List (Option (List Value))

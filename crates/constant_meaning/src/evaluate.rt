@@ -18,7 +18,7 @@ use typed_trees::{Expr, ExprForm, TreePlace};
 
 /// What an expression comes to whose value is known before the run (RAPID Kernel, constant expressions): parts from the left
 /// to the right, and the right operand of AND and OR only where the left one does not decide. Brackets are read as a record;
-/// of an array's brackets, ask for each element.
+/// of an array's brackets each element is evaluated alone.
 #[cycle(constants)]
 #[tactic(auto, unfolding(crate::specs::Constants::constant_value))]
 pub fn constant_value(arrays: &Arrays<'_>, expr: &Expr) -> Outcome

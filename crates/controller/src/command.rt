@@ -56,12 +56,12 @@ fn option_place(words: &[&str]) -> Option<usize>
     words.iter().position(|word| is_wrong_option(word))
 }
 
-/// The word of this number, from 0, and its place: among those that are `--history`, or among the others.
-fn nth_word<'a>(words: &[&'a str], histories: bool, number: usize) -> Option<(usize, &'a str)>
-    ensures place { option_map (λ found. found.0) result ≡ slice_get (places (is_kind histories) 0 (word_bytes words.now)) number }
-    ensures word { option_map (λ found. found.1.now) result ≡ slice_get (filter (is_kind histories) (word_bytes words.now)) number }
+/// The word at this index, and its place: among those that are `--history`, or among the others.
+fn nth_word<'a>(words: &[&'a str], histories: bool, index: usize) -> Option<(usize, &'a str)>
+    ensures place { option_map (λ found. found.0) result ≡ slice_get (places (is_kind histories) 0 (word_bytes words.now)) index }
+    ensures word { option_map (λ found. found.1.now) result ≡ slice_get (filter (is_kind histories) (word_bytes words.now)) index }
 {
-    let mut left = number;
+    let mut left = index;
     for (at, word) in words.iter().enumerate() {
         if is_kind(histories, word) {
             if left == 0 {

@@ -80,11 +80,11 @@ loop_named (suc steps) key loops (Some number) = named_or key number (slice_get 
 abbrev pub loop_rows : List (Vec Loop Global) → List (List Loop)
 loop_rows lists = map (λ rows. rows.items) lists
 
--- the list of this number, or the empty one
+-- the list at this index, or the empty one
 abbrev pub list_at : {A : Type 0} → List (List A) → ℕ → List A
-list_at [] number = []
+list_at [] index = []
 list_at (xs ∷ more) zero = xs
-list_at (xs ∷ more) (suc number) = list_at more number
+list_at (xs ∷ more) (suc index) = list_at more index
 
 -- in a routine: the variables of the FORs around, then its parameters and data
 abbrev pub meant_in_routine : Tables → List ℕ → Option ℕ → Option ℕ → Option Meant

@@ -4,9 +4,7 @@ ghost use Rattle.std.specs.Prelude.{◌≡◌};
 ghost use Rattle.raw_trees.specs.Views.{view_datum, view_name};
 ghost use Rattle.data_scopes.specs.Declarations;
 ghost use Rattle.data_scopes.specs.Scopes.{meant_in};
-ghost use Rattle.rule_checks.specs.Checks.{must};
-ghost use Rattle.rule_checks.specs.TypeChecks.{Gives, at_spot};
-ghost use Rattle.rule_checks.specs.declared.fault.TypeFault.TheVariants.{Rule};
+ghost use Rattle.rule_checks.specs.TypeChecks.{Gives};
 
 use crate::meant::Meant;
 use crate::numbers::{is_const, is_pers};
@@ -15,28 +13,7 @@ use crate::sorts::sort_of;
 use crate::tables::NameTables;
 use rapid_model::{Sort, has_values};
 use raw_trees::{RawDatum, RawName};
-use rule_checks::{Spot, TypeFault, TypeRule};
-
-/// The rule holds, or it is broken at the spot.
-pub(crate) fn must(holds: bool, spot: Spot, rule: TypeRule) -> Result<(), TypeFault>
-    ensures { Gives (λ u. u) result (must holds (at_spot spot rule)) }
-{
-    if holds {
-        return Ok(());
-    }
-    Err(broken(spot, rule))
-}
-
-/// The rule is broken at the spot.
-fn broken(spot: Spot, rule: TypeRule) -> TypeFault
-    ensures { result ≡ Rule spot.«module» spot.at rule }
-{
-    TypeFault::Rule {
-        module: spot.module,
-        at: spot.at,
-        rule,
-    }
-}
+use rule_checks::{Spot, TypeFault, TypeRule, broken, must};
 
 /// A name in a module, and in a routine of it.
 pub(crate) fn spot_of(number: u32, routine: Option<u32>, name: &RawName<'_>) -> Spot

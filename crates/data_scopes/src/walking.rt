@@ -8,7 +8,7 @@ ghost use Rattle.data_scopes.specs.Declarations;
 ghost use Rattle.data_scopes.specs.Numbers.{no_counts};
 ghost use Rattle.rule_checks.specs.TypeChecks.{Gives};
 
-use crate::checking::{datum_sort, item_name_rules, must, sort_at, spot_of};
+use crate::checking::{datum_sort, item_name_rules, sort_at, spot_of};
 use crate::counts::Counts;
 use crate::meant::Meant;
 use crate::numbers::{
@@ -18,7 +18,7 @@ use crate::own::is_own;
 use crate::tables::NameTables;
 use rapid_model::{Sort, has_values};
 use raw_trees::{Mode, RawDatum, RawItem, RawModule, RawName, RawParam, RawRoutine};
-use rule_checks::{TypeFault, TypeRule};
+use rule_checks::{TypeFault, TypeRule, must};
 
 /// A datum of a module.
 fn datum_rules(

@@ -1,10 +1,10 @@
 -- What checking of data takes is sound: lengths are within bounds, values are of their types, and so are the persistents.
-use Rattle.std.proofs.Common.{◌≡◌, ℕ, ℤ, zero, suc, ◌+◌, Bool, true, false, ◌&&◌, ◌||◌, ◌==◌, nat_le, List, [], ◌∷◌, length, Option, Some, None, slice_get, Ok, refl, sym, ap, subst, ◌∙◌, if◌then◌else◌}
+use Rattle.std.proofs.Common.{◌≡◌, ℕ, ℤ, zero, suc, ◌+◌, Bool, true, false, ◌||◌, ◌==◌, nat_le, List, [], ◌∷◌, length, Option, Some, None, slice_get, Ok, refl, sym, ap, subst, ◌∙◌, if◌then◌else◌}
 use Rattle.std.specs.List.{list_all}
 use Rattle.std.proofs.lemmas.Bool.{and_from, and_parts, le-leb}
 use Rattle.raw_trees.specs.Plain.{PlainDatum, PlainExpr, PlainItem, PlainModule, Datum, Routine}
 use Rattle.rapid_model.specs.Limits.{is_within, holds_where_there}
-use Rattle.rapid_model.specs.Sorts.{has_values, is_value_of, width}
+use Rattle.rapid_model.specs.Sorts.{has_values, is_value_of, are_values_of}
 use Rattle.rapid_model.specs.declared.signal_row.SignalRow.{SignalRow}
 use Rattle.rapid_model.specs.declared.sort.Sort.{Sort}
 use Rattle.rapid_model.specs.declared.sort.Sort.TheVariants as sorts
@@ -40,10 +40,6 @@ use Rattle.decl_types.proofs.Elements.{found, held_if}
 abbrev is_short : ℕ → Bool
 is_short len = is_within 1 1_000 len
 
--- a value of the type for each element
-abbrev are_fit : Sort → Option ℕ → List Value → Bool
-are_fit sort len vs = length vs == width len && list_all (is_value_of sort) vs
-
 number_short : (v : ℤ) (len : ℕ) → element_number longest_array v ≡ Some len → is_short len ≡ true
 number_short v len is =
     let within = element_within longest_array v len is in
@@ -72,14 +68,14 @@ len_short names number routine known (Some e) len is =
     behind (holds_where_there is_short len ≡ true) len (length_at s known e) _ is (λ n found_it done.
     subst (λ l. holds_where_there is_short l ≡ true) (ok_same (Some n) len done) (length_short s known e n found_it))
 
-single_fits : (s : Site) (known : Elements) (sort : Sort) (e : PlainExpr) (vs : List Value) → single_value s known sort e ≡ Ok vs → are_fit sort None vs ≡ true
+single_fits : (s : Site) (known : Elements) (sort : Sort) (e : PlainExpr) (vs : List Value) → single_value s known sort e ≡ Ok vs → are_values_of sort None vs ≡ true
 single_fits s known sort e vs is =
-    let P : Type 0 = are_fit sort None vs ≡ true in
+    let P : Type 0 = are_values_of sort None vs ≡ true in
     let at : ℕ = begin_of e in
     behind P vs (typed s e (Is sort)) _ is (λ t typed_to rest.
     behind P vs (must (is_constant known t) (at_byte s at NotConst)) _ rest (λ u constant more.
     behind P vs (value_or_fault s at sort (constant_value known t)) _ more (λ v comes_to done.
-    subst (λ l. are_fit sort None l ≡ true) (ok_same (v ∷ []) vs done) (and_from (is_value_of sort v) true (found s at sort v (constant_value known t) comes_to).fits refl))))
+    subst (λ l. are_values_of sort None l ≡ true) (ok_same (v ∷ []) vs done) (and_from (is_value_of sort v) true (found s at sort v (constant_value known t) comes_to).fits refl))))
 
 values_fit : (s : Site) (at : ℕ) (sort : Sort) (outcome : Outcomes) (vs : List Value) → values_or_fault s at sort outcome ≡ Ok vs → list_all (is_value_of sort) vs ≡ true
 values_fit s at sort (all ws) vs is =
@@ -87,16 +83,16 @@ values_fit s at sort (all ws) vs is =
     subst (λ l. list_all (is_value_of sort) l ≡ true) both.0 both.1
 values_fit s at sort (stops other) vs is = absurd cc
 
-array_fits : (s : Site) (known : Elements) (sort : Sort) (len : ℕ) (e : PlainExpr) (vs : List Value) → array_values s known sort len e ≡ Ok vs → are_fit sort (Some len) vs ≡ true
+array_fits : (s : Site) (known : Elements) (sort : Sort) (len : ℕ) (e : PlainExpr) (vs : List Value) → array_values s known sort len e ≡ Ok vs → are_values_of sort (Some len) vs ≡ true
 array_fits s known sort len e vs is =
-    let P : Type 0 = are_fit sort (Some len) vs ≡ true in
+    let P : Type 0 = are_values_of sort (Some len) vs ≡ true in
     let at : ℕ = begin_of e in
     behind P vs (brackets s sort e) _ is (λ b bracketed rest.
     behind P vs (must (b.at == at || how_many b.elements == len) (at_byte s b.at DimRange)) _ rest (λ u fits others.
     behind P vs (must (are_constant known b.elements) (at_byte s at NotConst)) _ others (λ w constant more.
     behind P vs (values_or_fault s at sort (constant_values known b.elements)) _ more (λ ws come_to counted.
     let both = held_if s b.at DimRange (length ws == len) ws vs counted in
-    subst (λ l. are_fit sort (Some len) l ≡ true) both.0
+    subst (λ l. are_values_of sort (Some len) l ≡ true) both.0
     (and_from (length ws == len) (list_all (is_value_of sort) ws) both.1 (values_fit s at sort (constant_values known b.elements) ws come_to))))))
 
 -- no value is given where the type has none
@@ -104,22 +100,22 @@ where_valued : (P : Type 0) (has : Bool) (given : Checked (List Value)) (s : Sit
 where_valued P true given s e vs is next = next is
 where_valued P false given s e vs is next = behind P vs (typed s e Nothing) _ is (λ t typed_to failed. absurd cc)
 
-given_fit : (s : Site) (known : Elements) (sort : Sort) (len : Option ℕ) (e : PlainExpr) (vs : List Value) → initial_values s known sort len e ≡ Ok vs → are_fit sort len vs ≡ true
-given_fit s known sort None e vs is = where_valued (are_fit sort None vs ≡ true) (has_values sort) (single_value s known sort e) s e vs is (single_fits s known sort e vs)
-given_fit s known sort (Some len) e vs is = where_valued (are_fit sort (Some len) vs ≡ true) (has_values sort) (array_values s known sort len e) s e vs is (array_fits s known sort len e vs)
+given_fit : (s : Site) (known : Elements) (sort : Sort) (len : Option ℕ) (e : PlainExpr) (vs : List Value) → initial_values s known sort len e ≡ Ok vs → are_values_of sort len vs ≡ true
+given_fit s known sort None e vs is = where_valued (are_values_of sort None vs ≡ true) (has_values sort) (single_value s known sort e) s e vs is (single_fits s known sort e vs)
+given_fit s known sort (Some len) e vs is = where_valued (are_values_of sort (Some len) vs ≡ true) (has_values sort) (array_values s known sort len e) s e vs is (array_fits s known sort len e vs)
 
 where_given_fit : (names : Names) (number : ℕ) (routine : Option ℕ) (known : Elements) (sort : Sort) (len : Option ℕ) (e : Option PlainExpr) (vs : Option (List Value))
-    → values_at names number routine known sort len e ≡ Ok vs → holds_where_there (are_fit sort len) vs ≡ true
-where_given_fit names number routine known sort len None vs is = subst (λ l. holds_where_there (are_fit sort len) l ≡ true) (ok_same None vs is) refl
+    → values_at names number routine known sort len e ≡ Ok vs → holds_where_there (are_values_of sort len) vs ≡ true
+where_given_fit names number routine known sort len None vs is = subst (λ l. holds_where_there (are_values_of sort len) l ≡ true) (ok_same None vs is) refl
 where_given_fit names number routine known sort len (Some e) vs is =
     let s : Site = site_of names number routine e in
-    behind (holds_where_there (are_fit sort len) vs ≡ true) vs (initial_values s known sort len e) _ is (λ ws given done.
-    subst (λ l. holds_where_there (are_fit sort len) l ≡ true) (ok_same (Some ws) vs done) (given_fit s known sort len e ws given))
+    behind (holds_where_there (are_values_of sort len) vs ≡ true) vs (initial_values s known sort len e) _ is (λ ws given done.
+    subst (λ l. holds_where_there (are_values_of sort len) l ≡ true) (ok_same (Some ws) vs done) (given_fit s known sort len e ws given))
 
 -- the length of a datum, and the values that its declaration gives
 pub record IsSoundInitial (sort : Sort) (i : Initial) : Type 0 where
   pub short : holds_where_there is_short i.len ≡ true
-  pub fit : holds_where_there (are_fit sort i.len) i.values ≡ true
+  pub fit : holds_where_there (are_values_of sort i.len) i.values ≡ true
 
 pub initial_sound : (names : Names) (number : ℕ) (routine : Option ℕ) (known : Elements) (sort : Sort) (d : PlainDatum) (i : Initial) → initial names number routine known sort d ≡ Ok i → IsSoundInitial sort i
 initial_sound names number routine known sort d i is =

@@ -85,7 +85,7 @@ values_or_fault site at sort (all vs) = must (list_all (is_value_of sort) vs) (a
 values_or_fault site at sort (stops other) = fail site at ConstFault
 
 -- The initial value of an array of this length. Brackets in parentheses are a part of it: their number of elements is looked
--- at before it is asked whether the whole is constant.
+-- at first, and then whether the whole is constant.
 abbrev pub array_values : Site → Elements → Sort → ℕ → PlainExpr → Checked (List Value)
 array_values site known sort len e =
     brackets site sort e >>= (λ b.

@@ -3,4 +3,3 @@ pub mod Answered
 pub mod Known
 pub mod Taking
 pub mod Operands
-pub mod Precedence

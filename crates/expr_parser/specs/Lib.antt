@@ -2,4 +2,3 @@ pub mod Operators
 pub mod Grammar
 pub mod Parts
 pub mod Reads
-pub mod Precedence

@@ -13,7 +13,7 @@ mod primary;
 
 pub use args::args_if_any;
 pub use chains::expr;
-pub use laws::{not_covers_and, one_answer};
+pub use laws::one_answer;
 pub use levels::{exprs, index};
 pub use parse::parse_expr;
 pub use primary::{name, place_parts};

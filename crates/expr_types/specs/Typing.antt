@@ -17,7 +17,7 @@ use Rattle.rule_checks.specs.TypeChecks.{Checked}
 use Rattle.expr_types.specs.declared.callee.Callee.{Callee}
 use Rattle.expr_types.specs.declared.callee.Callee.TheVariants as callees
 use Rattle.expr_types.specs.declared.want.Want.{Want}
-use Rattle.expr_types.specs.declared.want.Want.TheVariants as asked
+use Rattle.expr_types.specs.declared.want.Want.TheVariants as wants
 use Rattle.named_data.specs.declared.wanted.Wanted.{Wanted}
 use Rattle.named_data.specs.declared.wanted.Wanted.TheVariants.{Any, Is, Same, Meeting}
 use Rattle.named_data.specs.Rules.{Site, fail, at_byte}
@@ -143,10 +143,10 @@ unfoldable mutual
   one_argument site (Optional name NotHeld at) t = plain_option site t at (option_named name.text t.options)
   one_argument site (Optional name (Held e) at) t = valued_option site t at (option_named name.text t.options) e (typed site e) (index_in site e)
 
--- what is asked of a whole expression
+-- what is wanted of a whole expression
 abbrev pub wanted : Want → Wanted
-wanted asked.Any = Any
-wanted (asked.Is sort) = Is sort
+wanted wants.Any = Any
+wanted (wants.Is sort) = Is sort
 
 -- the arguments of a call that begins at this byte, and its rules
 abbrev pub call_arguments : Site → ℕ → PlainArgs → Signature → Checked TypedArgs

@@ -1,4 +1,4 @@
-//! What statements and declarations ask of their expressions, places and calls.
+//! What statements and declarations want of their expressions, places and calls.
 
 ghost use Rattle.std.specs.Prelude.{◌≡◌, map, true};
 ghost use Rattle.raw_trees.specs.Plain.{Place, args_of as raw_args_of};
@@ -44,7 +44,7 @@ pub fn check_expr(
     typed(&site, raw, wanted(want))
 }
 
-/// What is asked of a whole expression.
+/// What is wanted of a whole expression.
 fn wanted(want: Want) -> Wanted
     ensures { result ≡ Typing.wanted want }
 {

@@ -40,7 +40,7 @@ pub fn value_of_two(function: Function, first: &Value, second: &Value) -> Option
 fn abs(value: &Value) -> Option<Value>
     ensures { of_value functions.Abs value.now ≡ or_misfit result }
 {
-    match number_in(value) {
+    match num_of(value) {
         Some(n) => Some(Value::Num(size(n))),
         None => None,
     }
@@ -49,7 +49,7 @@ fn abs(value: &Value) -> Option<Value>
 fn trunc(value: &Value) -> Option<Value>
     ensures { of_value functions.Trunc value.now ≡ or_misfit result }
 {
-    match number_in(value) {
+    match num_of(value) {
         Some(n) => Some(Value::Num(truncated(n))),
         None => None,
     }
@@ -67,7 +67,7 @@ fn str_len(value: &Value) -> Option<Value>
 fn num_to_str(first: &Value, second: &Value) -> Option<Value>
     ensures { of_values functions.NumToStr first.now second.now ≡ or_misfit result }
 {
-    match number_in(first) {
+    match num_of(first) {
         Some(n) => with_decimals(n, second),
         None => None,
     }
@@ -77,14 +77,14 @@ fn num_to_str(first: &Value, second: &Value) -> Option<Value>
 fn with_decimals(n: Num, count: &Value) -> Option<Value>
     ensures { of_values functions.NumToStr (values.Num n) count.now ≡ or_misfit result }
 {
-    match number_in(count) {
+    match num_of(count) {
         Some(count) => Some(Value::Text(num_text(n, decimals(count)))),
         None => None,
     }
 }
 
 /// The num that a value is, if it is one.
-fn number_in(value: &Value) -> Option<Num>
+pub fn num_of(value: &Value) -> Option<Num>
     ensures { num_in value.now ≡ or_misfit result }
 {
     match value {

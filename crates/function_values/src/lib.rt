@@ -4,4 +4,4 @@
 mod functions;
 mod num_text;
 
-pub use functions::{value_of, value_of_two};
+pub use functions::{num_of, value_of, value_of_two};

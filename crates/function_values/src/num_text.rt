@@ -1,14 +1,11 @@
 //! Nums as texts with so many decimals.
 
 ghost use Rattle.std.specs.Prelude.{◌≡◌, ◌+◌, ◌-◌, ◌^◌, ◌<◌, ◌≤◌, nat_abs, [], ◌∷◌, ◌++◌, decimal, length};
-ghost use Rattle.std.specs.List.{list_all};
-ghost use Rattle.std.specs.Prelude.{IsTrue};
 ghost use Rattle.rapid_num.specs.Arithmetic.{rounded};
-ghost use Rattle.rapid_num.specs.Characters.{is_printable};
 ghost use Rattle.rapid_meaning.specs.Functions;
 
 use itoa::Buffer;
-use rapid_model::Text;
+use rapid_model::{Text, show};
 use rapid_num::Num;
 
 /// A num with so many decimals, 0 to 3, rounded half away from zero.
@@ -89,17 +86,6 @@ fn show_whole(whole: u64, text: &mut Text)
 {
     let mut buffer = Buffer::new();
     show(text, buffer.format(whole).as_bytes());
-}
-
-/// Appends bytes, for which there is room.
-fn show(text: &mut Text, bytes: &[u8])
-    requires room { length text.old + length bytes.now ≤ 80 }
-    requires printable { IsTrue (list_all is_printable bytes.now) }
-    ensures { text.new ≡ text.old ++ bytes.now }
-{
-    for byte in bytes {
-        text.push(*byte);
-    }
 }
 
 /// The point before decimals.

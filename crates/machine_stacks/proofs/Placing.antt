@@ -74,7 +74,7 @@ read_either : (t : Bool) (values : List Datum) (at : ℕ) (f : Frame) (o : Optio
 read_either true values at f o p q here there = here
 read_either false values at f o p q here there = there
 
--- what a frame holds at a place stands there in the list
+-- what a frame holds at an index stands there in the list
 pub read : (values : List Datum) (marks : List Mark) (frame at : ℕ)
     → IsCut (length values) (bases_of marks) → option_and_then (λ (f : Frame). slice_get f.values at) (frame_at (frames_in values marks) frame) ≡ option_and_then (slice_get values) (index_in (length values) marks frame at)
 unfolding frame_at index_in
@@ -142,7 +142,7 @@ frames_of_parts : (values : List Datum) (mark : Mark) (marks : List Mark) (own :
     → drop mark.base values ≡ own → frames_in (take mark.base values) marks ≡ below → frames_in values (mark ∷ marks) ≡ record { values = own; seen = mark.seen } ∷ below
 frames_of_parts values mark marks own below e d = rw (e, d) refl
 
--- a datum written at the place of a frame's value is what that frame holds there, and nothing else changes
+-- a datum written at the index of a frame's value is what that frame holds there, and nothing else changes
 pub write : (values : List Datum) (marks : List Mark) (frame at : ℕ) (new : Datum) → IsCut (length values) (bases_of marks)
     → frames_in (written (index_in (length values) marks frame at) new values) marks ≡ put_in_frame (frames_in values marks) frame at new (frame_at (frames_in values marks) frame)
 unfolding frame_at index_in

@@ -21,7 +21,7 @@ alike run = replicate run.count run.datum
 pub in_full-cons : (run : FirstRun) (runs : List FirstRun) → in_full (run ∷ runs) ≡ replicate run.count run.datum ++ in_full runs
 in_full-cons run runs = flat_map-cons alike run runs
 
--- values from a place on are those from its run on
+-- values from a start on are those from its run on
 pub values_from-run : (firsts : List FirstRun) (start : RunStart) (count : ℕ) → values_from firsts start count ≡ take count (drop start.skip (in_full (drop start.run firsts)))
 values_from-run firsts start count =
     let before : List Datum = in_full (take start.run firsts) in
@@ -87,7 +87,7 @@ same_default [] i d e h = absurd (omega arith)
 same_default (run ∷ runs) zero d e h = refl
 same_default (run ∷ runs) (suc i) d e h = same_default runs i d e (omega arith)
 
--- a place in the next run
+-- a start in the next run
 pub next_run : (firsts : List FirstRun) (run skip : ℕ) (d : FirstRun) → run < length firsts → (get_or firsts run d).count ≤ skip
     → index_of firsts (record { run = run + 1; skip = skip - (get_or firsts run d).count }) ≡ index_of firsts (record { run = run; skip = skip })
 next_run firsts run skip d h k =

@@ -27,14 +27,14 @@ pub length-stacked : (items : List Datum) (bases : List ℕ) → length (stacked
 length-stacked items [] = refl
 length-stacked items (base ∷ bases) = ap (λ n. suc n) (length-stacked (take base items) bases)
 
--- what lies behind a base, up to a place and from there on
+-- what lies behind a base, up to an index and from there on
 split_behind : (items : List Datum) (base at : ℕ) → base ≤ at → at ≤ length items → drop base items ≡ drop base (take at items) ++ drop at items
 split_behind items base at h k =
     let len : length (take at items) ≡ at = length-take-le at items k in
     let below : base ≤ length (take at items) = omega arith in
     ap (drop base) (sym (take-append-drop at items)) ∙ drop-append-le base (take at items) (drop at items) below
 
--- the part from the place on is what is taken from the top
+-- the part from the index on is what is taken from the top
 pub top_taken : (items : List Datum) (base at count : ℕ) → base ≤ at → at + count ≡ length items → take count (reverse (drop base items)) ≡ reverse (drop at items)
 top_taken items base at count h k =
     let len : length (reverse (drop at items)) ≡ count = let a : length (reverse (drop at items)) ≡ length items - at = length-reverse (drop at items) ∙ length-drop at items in omega arith in

@@ -10,7 +10,7 @@ pub record OperandStack : Type 0 where
   pub room : ℕ
   pub depth : ℕ
 
--- the operands of routines, where those of each begin at these places
+-- the operands of routines, where those of each begin at these indexes
 abbrev pub stacked : List Datum → List ℕ → List (List Datum)
 stacked items [] = []
 stacked items (base ∷ bases) = reverse (drop base items) ∷ stacked (take base items) bases

@@ -7,7 +7,7 @@ use crate::run_start::RunStart;
 use stack_code::FirstRun;
 use typed_trees::Datum;
 
-/// Appends copies of so many first values from a place on, or of all from there on where they are fewer. Takes no memory, and
+/// Appends copies of so many first values from a start on, or of all from there on where they are fewer. Takes no memory, and
 /// a time in proportion to their number.
 pub fn append_firsts(values: &mut Vec<Held>, firsts: &[FirstRun], start: RunStart, count: usize)
     requires room { vec_len values.old + length (values_from firsts.now start count) ≤ vec_capacity values.old }

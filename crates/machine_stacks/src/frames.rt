@@ -63,7 +63,7 @@ impl Frames {
     }
 
     /// A routine begins. Its frame has so many operands from the top as its parameters, in the order in which they were pushed,
-    /// and behind them copies of so many first values from a place on. Takes no memory, and a time in proportion to the values.
+    /// and behind them copies of so many first values from a start on. Takes no memory, and a time in proportion to the values.
     pub fn enter(
         &mut self,
         operands: &mut Operands,
@@ -93,7 +93,7 @@ impl Frames {
         }
     }
 
-    /// How many changes by others the last Look of the innermost frame told; 0 without a frame.
+    /// How many changes by others the last Look of the innermost frame found; 0 without a frame.
     pub fn seen(&self) -> u32
         ensures { result ≡ seen_in self.now.frames }
     {
@@ -103,7 +103,7 @@ impl Frames {
         }
     }
 
-    /// A Look of the innermost frame told so many changes by others.
+    /// A Look of the innermost frame found so many changes by others.
     pub fn set_seen(&mut self, seen: u32)
         ensures { self.new ≡ record self.old { frames = with_seen seen self.old.frames } }
     {
@@ -113,7 +113,7 @@ impl Frames {
         }
     }
 
-    /// A value of a frame, by the number of frames below it and the place of the value in it, from 0; none where the frame has
+    /// A value of a frame, by the number of frames below it and the index of the value in it; none where the frame has
     /// none there.
     pub fn get(&self, frame: usize, at: usize) -> Option<&Held>
         ensures { option_copied result ≡ option_and_then (λ f. slice_get f.values at) (frame_at self.now.frames frame) }
@@ -122,7 +122,7 @@ impl Frames {
         value_at(&self.values, index)
     }
 
-    /// Puts a value in the place of another of a frame, by the number of frames below it and the place in it, from 0. Where the
+    /// Puts a value in place of another of a frame, by the number of frames below it and the index in it. Where the
     /// frame has none there nothing changes.
     pub fn put(&mut self, frame: usize, at: usize, datum: Held)
         ensures { self.new ≡ record self.old { frames = put_in_frame self.old.frames frame at datum (frame_at self.old.frames frame) } }
@@ -131,7 +131,7 @@ impl Frames {
         write_at(&mut self.values, index, datum);
     }
 
-    /// Puts a num in the place of a value of a frame, by the number of frames below it and the place in it, from 0. Where the
+    /// Puts a num in place of a value of a frame, by the number of frames below it and the index in it. Where the
     /// frame has none there nothing changes; where it has a num there, no more than the num is written.
     pub fn put_num(&mut self, frame: usize, at: usize, number: Num)
         ensures { self.new ≡ record self.old { frames = put_in_frame self.old.frames frame at (Plain (values.Num number)) (frame_at self.old.frames frame) } }

@@ -11,7 +11,7 @@ use crate::mark::Mark;
 use rapid_num::Num;
 use std::mem;
 
-/// Where a value of a frame stands among so many values of all frames, by the number of frames below it and the place in it;
+/// Where a value of a frame stands among so many values of all frames, by the number of frames below it and the index in it;
 /// none where the frame has none there.
 pub fn index_at(values: usize, marks: &[Mark], frame: usize, at: usize) -> Option<usize>
     requires { IsCut values (bases_of (reverse marks.now)) }

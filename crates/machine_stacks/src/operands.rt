@@ -96,7 +96,7 @@ impl Operands {
         self.items.truncate(self.items.len() - 1);
     }
 
-    /// Puts a value in the place of the operand on top. Where both are nums, no more than the num is written. Takes no memory.
+    /// Puts a value in place of the operand on top. Where both are nums, no more than the num is written. Takes no memory.
     pub fn set_top_value(&mut self, value: Value)
         requires some { self.old.top ≢ [] }
         ensures { self.new ≡ record self.old { top = Plain value ∷ drop 1 self.old.top } }
@@ -105,7 +105,7 @@ impl Operands {
         self.items[last].set_value(value);
     }
 
-    /// Puts a num in the place of the operand on top. Where that is a num, no more than the num is written.
+    /// Puts a num in place of the operand on top. Where that is a num, no more than the num is written.
     pub fn set_top_num(&mut self, number: Num)
         requires some { self.old.top ≢ [] }
         ensures { self.new ≡ record self.old { top = Plain (values.Num number) ∷ drop 1 self.old.top } }

@@ -1,5 +1,5 @@
-/// A place among first values that are kept in runs: the number of a run, and how many of its values lie before the place.
-/// Both count from 0. 16 bytes.
+/// Where to begin among first values that are kept in runs: the index of a run, and how many of its values lie before. 16
+/// bytes.
 #[derive(Clone, Copy, Debug, PartialEq, Eq)]
 pub struct RunStart {
     pub run: usize,

@@ -5,13 +5,13 @@ use Rattle.typed_trees.specs.Plain.{TypedLocal, TypedRoutine}
 use Rattle.rule_checks.proofs.Steps.{behind, ok_same}
 use Rattle.data_scopes.specs.Called.{params_of, result_of}
 use Rattle.data_scopes.specs.Loops.{loops_in, loops_in_else, loops_in_routine}
-use Rattle.data_scopes.specs.Numbers.{Tally, is_pers, is_scalar_const, after_item}
+use Rattle.data_scopes.specs.Numbers.{Tally, is_pers, is_scalar_const}
 use Rattle.data_scopes.specs.Scopes.{Names, list_at}
 use Rattle.data_scopes.proofs.Counted.{get_last}
 use Rattle.body_types.specs.Bodies.{outside, stmts, into}
 use Rattle.stmt_types.specs.Task.{handler_of, body_of, typed_params, typed_routine, item_bodies, items_bodies, bodies}
 use Rattle.name_laws.proofs.Counters.{stmts_next, handler_next, routine_next}
-use Rattle.name_laws.proofs.Items.{Fact, IsWalk, IsFront, front_more}
+use Rattle.name_laws.proofs.Items.{Fact, IsWalk, IsFront, Stepped, front_more}
 use Rattle.name_laws.proofs.Seen.{no_routine}
 
 module _ (names : Names) (locals : List (List TypedLocal)) where
@@ -60,16 +60,13 @@ module _ (names : Names) (locals : List (List TypedLocal)) where
   row_later rs ts number c (Datum local task d at) g h = tt
   row_later rs ts number c (Routine r) g h = record { row = h.row; is = g c.routines h.row h.is; head = h.head }
 
-  abbrev Done : ℕ → Tally → PlainItem → List TypedRoutine → List TypedRoutine → Type 0
-  Done number c item rs ts = AreCounted (after_item c item) ts × IsFront rs ts × RowIn ts number c item
-
-  item_done : (number : ℕ) (c : Tally) (item : PlainItem) (rs ts : List TypedRoutine) → AreCounted c rs → item_bodies names locals number item rs ≡ Ok ts → Done number c item rs ts
+  item_done : (number : ℕ) (c : Tally) (item : PlainItem) (rs ts : List TypedRoutine) → AreCounted c rs → item_bodies names locals number item rs ≡ Ok ts → Stepped AreCounted IsFront RowIn number c item rs ts
   item_done number c (Datum local task d at) rs ts h e =
-      subst (Done number c (Datum local task d at) rs) (ok_same rs ts e) (no_routine c (is_scalar_const d) (is_pers d.kind) ∙ h, λ k x is. is, tt)
+      subst (Stepped AreCounted IsFront RowIn number c (Datum local task d at) rs) (ok_same rs ts e) (no_routine c (is_scalar_const d) (is_pers d.kind) ∙ h, λ k x is. is, tt)
   item_done number c (Routine r) rs ts h e =
-      behind (Done number c (Routine r) rs ts) ts (typed_routine names locals number (length rs) r) _ e (λ t is done.
+      behind (Stepped AreCounted IsFront RowIn number c (Routine r) rs ts) ts (typed_routine names locals number (length rs) r) _ e (λ t is done.
       let there : slice_get (rs ++ t ∷ []) c.routines ≡ Some t = ap (slice_get (rs ++ t ∷ [])) h ∙ get_last rs t in
-      subst (Done number c (Routine r) rs) (ok_same _ ts done) (
+      subst (Stepped AreCounted IsFront RowIn number c (Routine r) rs) (ok_same _ ts done) (
         omega (arith, h, length-append rs (t ∷ [])),
         front_more rs t,
         record { row = t; is = there; head = subst (λ n. IsHead number n r t) (sym h) (head_typed number (length rs) r t is) },

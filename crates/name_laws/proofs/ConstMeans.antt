@@ -129,7 +129,7 @@ module _ (modules : List PlainModule) (signals : List SignalRow) (tree : TypedTr
   const_is : AllModules Known 0 no_counts modules → (k : ℕ) → meaning tables spot name ≡ Some (meants.Const k) → k < length p.names.kept → IsConst modules signals tree p.names spot name k
   const_is all k means =
       sources_such modules signals spot name Known all (λ number c item h. h.in_tree.0) Q
-      (record { items = item_const; places = place_const; loops = λ number c r h is k loop there named. tt; script = λ k row there named. tt })
+      (record { items = item_const; places = place_const; loops = λ number c r h is k loop there named nearer stands. tt; script = λ k row there named. tt })
       (record { instructions = λ i. tt; functions = λ f. tt; predefined = λ q. tt }) (meants.Const k) means
 
 all_none : {A : Type 0} (n j : ℕ) (value : Option A) → slice_get (replicate n None) j ≡ Some value → value ≡ None

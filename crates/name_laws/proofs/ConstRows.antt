@@ -6,7 +6,7 @@ use Rattle.rule_checks.proofs.Steps.{behind, ok_same}
 use Rattle.data_scopes.specs.declared.data_row.DatumRow.{DatumRow}
 use Rattle.data_scopes.specs.declared.data_row.Since.{Since}
 use Rattle.data_scopes.specs.Declarations.{spot_of, sort_at}
-use Rattle.data_scopes.specs.Numbers.{Tally, is_const, is_pers, is_scalar_const, scalar_consts, after_item}
+use Rattle.data_scopes.specs.Numbers.{Tally, is_const, is_pers, is_scalar_const, scalar_consts}
 use Rattle.data_scopes.specs.Rows.{datum_row, item_rows, items_rows, local_rows, modules_rows, param_rows, result_row, routine_row, scalar_rows, since_of, value_at, rows_by}
 use Rattle.data_scopes.specs.Scopes.{Tables, RoutineRow, Rows}
 use Rattle.data_scopes.proofs.Within.{after_by}
@@ -14,7 +14,7 @@ use Rattle.data_scopes.proofs.Counted.{get_last}
 use Rattle.name_laws.specs.Constants.{IsConstRow}
 use Rattle.name_laws.specs.Declared.{AreEach, IsType}
 use Rattle.name_laws.proofs.Declarations.{type_found}
-use Rattle.name_laws.proofs.Items.{Fact, IsFront, IsWalk, front_more, stays, front_append}
+use Rattle.name_laws.proofs.Items.{Fact, IsFront, IsWalk, Stepped, front_more, stays, front_append}
 
 -- how many CONSTs that are no arrays stand before a place
 abbrev pub consts_before : ℕ → List PlainDatum → ℕ
@@ -167,9 +167,6 @@ module _ (tables : Tables) where
   row_later rows more number c (Datum local task d at) g h = datum_later rows more number c d (is_scalar_const d) g h
   row_later rows more number c (Routine r) g h = λ index d is scalar. let l = h index d is scalar in record { row = l.row; is = g (c.consts + consts_before index r.locals) l.row l.is; is_row = l.is_row }
 
-  abbrev Stepped : ℕ → Tally → PlainItem → Rows → Rows → Type 0
-  Stepped number c item rows got = AreCounted (after_item c item) got × Grow rows got × RowIn got number c item
-
   datum_stepped : (number : ℕ) (c : Tally) (d : PlainDatum) (rows : Rows) (row : DatumRow) (scalar pers : Bool) → is_scalar_const d ≡ scalar → AreCounted c rows → IsFull tables number None d row
       → AreCounted (after_by c scalar pers) (rows_by rows scalar pers row) × Grow rows (rows_by rows scalar pers row) × DatumIn (rows_by rows scalar pers row) number c d scalar
   datum_stepped number c d rows row true pers is h typed = (
@@ -185,15 +182,15 @@ module _ (tables : Tables) where
   behind_front (x ∷ xs) ys zero k is = absurd (omega (arith, is))
   behind_front (x ∷ xs) ys (suc n) k is = let e : suc n + k ≡ suc (n + k) = omega arith in ap (slice_get (x ∷ (xs ++ ys))) e ∙ behind_front xs ys n k (omega (arith, is))
 
-  item_stepped : (number : ℕ) (c : Tally) (item : PlainItem) (rows got : Rows) → AreCounted c rows → item_rows tables number item rows ≡ Ok got → Stepped number c item rows got
+  item_stepped : (number : ℕ) (c : Tally) (item : PlainItem) (rows got : Rows) → AreCounted c rows → item_rows tables number item rows ≡ Ok got → Stepped AreCounted Grow RowIn number c item rows got
   item_stepped number c (Datum local task d at) rows got h e =
-      behind (Stepped number c (Datum local task d at) rows got) got (datum_row tables number None d) _ e (λ row is done.
-      subst (Stepped number c (Datum local task d at) rows) (ok_same _ _ done)
+      behind (Stepped AreCounted Grow RowIn number c (Datum local task d at) rows got) got (datum_row tables number None d) _ e (λ row is done.
+      subst (Stepped AreCounted Grow RowIn number c (Datum local task d at) rows) (ok_same _ _ done)
       (datum_stepped number c d rows row (is_scalar_const d) (is_pers d.kind) refl h (full number None d row is)))
   item_stepped number c (Routine r) rows got h e =
-      behind (Stepped number c (Routine r) rows got) got (routine_row tables number (length rows.routines) r) _ e (λ row is done.
+      behind (Stepped AreCounted Grow RowIn number c (Routine r) rows got) got (routine_row tables number (length rows.routines) r) _ e (λ row is done.
       let each = subst (λ n. AreEach (IsFull tables number (Some n)) r.locals row.locals) (sym h.routines) (routine_full number (length rows.routines) r row is) in
-      subst (Stepped number c (Routine r) rows) (ok_same _ _ done) (
+      subst (Stepped AreCounted Grow RowIn number c (Routine r) rows) (ok_same _ _ done) (
         record {
           consts = omega (arith, h.consts, length-append rows.consts (scalar_rows row.locals), as_many_consts number c.routines r.locals row.locals each);
           routines = omega (arith, h.routines, length-append rows.routines (row ∷ []));

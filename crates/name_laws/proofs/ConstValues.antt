@@ -24,7 +24,7 @@ use Rattle.decl_types.specs.Data.{Inner, Progress, data_of, entered, item, items
 use Rattle.name_laws.specs.Constants.{HasItsValue}
 use Rattle.name_laws.proofs.ConstRows.{consts_before}
 use Rattle.name_laws.proofs.Data.{datum_by, local_by}
-use Rattle.name_laws.proofs.Items.{Fact, IsWalk}
+use Rattle.name_laws.proofs.Items.{Done, Fact, IsWalk}
 
 put_elsewhere : {A : Type 0} (xs : List A) (k : ℕ) (y : A) (j : ℕ) → (j ≡ k → ⊥) → slice_get (set xs k y) j ≡ slice_get xs j
 put_elsewhere [] k y j other = refl
@@ -279,13 +279,10 @@ module _ (rows : Rows) where
         (omega (arith, h.few, before_all r.locals k d is scalar)) g (h.values k d is scalar (omega (arith, within, g.long)));
   }
 
-  abbrev Done : Tally → (Progress → Type 0) → Progress → Progress → Type 0
-  Done c In p q = AreCounted c q × Grow p q × In q
-
   datum_done : (number : ℕ) (c : Tally) (own : Bool) (d : PlainDatum) (p q : Progress) (scalar pers : Bool) → is_scalar_const d ≡ scalar → AreCounted c p → datum_by rows number own d p scalar pers ≡ Ok q
-      → Done (after_by c scalar pers) (λ q. DatumIn q number c d scalar) p q
+      → Done AreCounted Grow (after_by c scalar pers) (λ q. DatumIn q number c d scalar) p q
   datum_done number c own d p q true pers scalar h e =
-      let Is : Progress → Type 0 = Done (after_by c true pers) (λ q. DatumIn q number c d true) p in
+      let Is : Progress → Type 0 = Done AreCounted Grow (after_by c true pers) (λ q. DatumIn q number c d true) p in
       let sort = sort_in (slice_get p.names.rows.consts p.consts) in
       let is_sort : sort ≡ sort_in (slice_get rows.consts c.consts) = ap (λ r. sort_in (slice_get r.consts p.consts)) h.knows.same ∙ ap (λ k. sort_in (slice_get rows.consts k)) (sym h.consts) in
       behind (Is q) q (initial p.names number None (of_modules p) sort d) _ e (λ i is done.
@@ -301,19 +298,19 @@ module _ (rows : Rows) where
         ),
       ))
   datum_done number c own d p q false true scalar h e =
-      let Is : Progress → Type 0 = Done (after_by c false true) (λ q. DatumIn q number c d false) p in
+      let Is : Progress → Type 0 = Done AreCounted Grow (after_by c false true) (λ q. DatumIn q number c d false) p in
       let sort = sort_in (slice_get p.names.rows.pers (length p.pers)) in
       behind (Is q) q (initial p.names number None (of_modules p) sort d) _ e (λ i is done.
       subst Is (ok_same (with_pers p number own d sort i) q done) (record { consts = h.consts; routines = h.routines; knows = h.knows }, grows_same p.names p.consts, tt))
   datum_done number c own d p q false false scalar h e =
-      let Is : Progress → Type 0 = Done (after_by c false false) (λ q. DatumIn q number c d false) p in
+      let Is : Progress → Type 0 = Done AreCounted Grow (after_by c false false) (λ q. DatumIn q number c d false) p in
       let sort = sort_in (slice_get p.names.rows.slots (length p.slots)) in
       behind (Is q) q (initial p.names number None (of_modules p) sort d) _ e (λ i is done.
       subst Is (ok_same (with_slot p d sort i) q done) (record { consts = h.consts; routines = h.routines; knows = h.knows }, grows_same p.names p.consts, tt))
 
-  routine_done : (number : ℕ) (c : Tally) (r : PlainRoutine) (p q : Progress) → AreCounted c p → routine number r p ≡ Ok q → Done (after_item c (Routine r)) (λ q. RoutineIn q number c r) p q
+  routine_done : (number : ℕ) (c : Tally) (r : PlainRoutine) (p q : Progress) → AreCounted c p → routine number r p ≡ Ok q → Done AreCounted Grow (after_item c (Routine r)) (λ q. RoutineIn q number c r) p q
   routine_done number c r p q h e =
-      let Is : Progress → Type 0 = Done (after_item c (Routine r)) (λ q. RoutineIn q number c r) p in
+      let Is : Progress → Type 0 = Done AreCounted Grow (after_item c (Routine r)) (λ q. RoutineIn q number c r) p in
       behind (Is q) q (locals number (length p.locals) p.known r.locals (entered p r.params)) _ e (λ n is done.
       let all = locals_kept number (length p.locals) (length r.params) p.known r.locals (entered p r.params) n (length-replicate (length r.params) None) h.knows is in
       subst Is (ok_same (left p n) q done) (

@@ -18,7 +18,7 @@ use Rattle.decl_types.specs.Data.{Progress, Inner, sort_in, keeping, with_const,
 use Rattle.decl_types.specs.Parts.{slot_row, pers_row}
 use Rattle.decl_types.proofs.Sound.{kept_rows}
 use Rattle.name_laws.proofs.Meetings.{AreAlike, alike_more}
-use Rattle.name_laws.proofs.Items.{Fact, IsWalk, IsFront, front_more, stays}
+use Rattle.name_laws.proofs.Items.{Done, Fact, IsWalk, IsFront, front_more, stays}
 
 -- an array has a length, and nothing else has one
 module _ (names : Names) (number : ℕ) (around : Option ℕ) (known : Elements) where
@@ -147,9 +147,6 @@ module _ (rows : Rows) where
   row_later p q number c (Datum local task d at) g h = datum_later p q number c (local || task) d (is_scalar_const d) (is_pers d.kind) g h
   row_later p q number c (Routine r) g h = record { ts = h.ts; is = g.locals c.routines h.ts h.is; each = h.each }
 
-  abbrev Done : Tally → (Progress → Type 0) → Progress → Progress → Type 0
-  Done c In p q = AreCounted c q × Grow p q × In q
-
   abbrev pub datum_by : ℕ → Bool → PlainDatum → Progress → Bool → Bool → Checked Progress
   datum_by number own d p scalar pers =
       if scalar then datum_const number d p
@@ -157,9 +154,9 @@ module _ (rows : Rows) where
       else datum_slot number d p
 
   datum_done : (number : ℕ) (c : Tally) (own : Bool) (d : PlainDatum) (p q : Progress) (scalar pers : Bool) → AreCounted c p → datum_by number own d p scalar pers ≡ Ok q →
-      Done (after_by c scalar pers) (λ q. DatumIn q number c own d scalar pers) p q
+      Done AreCounted Grow (after_by c scalar pers) (λ q. DatumIn q number c own d scalar pers) p q
   datum_done number c own d p q true pers h e =
-      let Is : Progress → Type 0 = Done (after_by c true pers) (λ q. DatumIn q number c own d true pers) p in
+      let Is : Progress → Type 0 = Done AreCounted Grow (after_by c true pers) (λ q. DatumIn q number c own d true pers) p in
       behind (Is q) q (initial p.names number None (of_modules p) (sort_in (slice_get p.names.rows.consts p.consts)) d) _ e (λ i is done.
       subst Is (ok_same (with_const p i) q done) (
         record { slots = h.slots; pers = h.pers; routines = h.routines; same = kept_rows p.names p.consts i.values ∙ h.same; alike = h.alike },
@@ -167,7 +164,7 @@ module _ (rows : Rows) where
         tt,
       ))
   datum_done number c own d p q false true h e =
-      let Is : Progress → Type 0 = Done (after_by c false true) (λ q. DatumIn q number c own d false true) p in
+      let Is : Progress → Type 0 = Done AreCounted Grow (after_by c false true) (λ q. DatumIn q number c own d false true) p in
       let sort = sort_in (slice_get p.names.rows.pers (length p.pers)) in
       behind (Is q) q (initial p.names number None (of_modules p) sort d) _ e (λ i is done.
       let row = pers_row number own d sort i in
@@ -180,7 +177,7 @@ module _ (rows : Rows) where
         record { i = i; is = there ∙ ap Some named; array = initial_len p.names number None (of_modules p) sort d i is },
       ))
   datum_done number c own d p q false false h e =
-      let Is : Progress → Type 0 = Done (after_by c false false) (λ q. DatumIn q number c own d false false) p in
+      let Is : Progress → Type 0 = Done AreCounted Grow (after_by c false false) (λ q. DatumIn q number c own d false false) p in
       let sort = sort_in (slice_get p.names.rows.slots (length p.slots)) in
       behind (Is q) q (initial p.names number None (of_modules p) sort d) _ e (λ i is done.
       let row = slot_row d sort i in
@@ -193,9 +190,9 @@ module _ (rows : Rows) where
         record { i = i; is = there ∙ ap Some named; array = initial_len p.names number None (of_modules p) sort d i is },
       ))
 
-  routine_done : (number : ℕ) (c : Tally) (r : PlainRoutine) (p q : Progress) → AreCounted c p → routine number r p ≡ Ok q → Done (after_item c (Routine r)) (λ q. LocalsIn q c r) p q
+  routine_done : (number : ℕ) (c : Tally) (r : PlainRoutine) (p q : Progress) → AreCounted c p → routine number r p ≡ Ok q → Done AreCounted Grow (after_item c (Routine r)) (λ q. LocalsIn q c r) p q
   routine_done number c r p q h e =
-      let Is : Progress → Type 0 = Done (after_item c (Routine r)) (λ q. LocalsIn q c r) p in
+      let Is : Progress → Type 0 = Done AreCounted Grow (after_item c (Routine r)) (λ q. LocalsIn q c r) p in
       behind (Is q) q (locals number (length p.locals) p.known r.locals (entered p r.params)) _ e (λ n is done.
       let all = locals_done number (length p.locals) (length r.params) p.known r.locals (entered p r.params) n h.same (length-replicate (length r.params) None) is in
       let there : slice_get (p.locals ++ n.rows ∷ []) c.routines ≡ Some n.rows = ap (slice_get (p.locals ++ n.rows ∷ [])) h.routines ∙ get_last p.locals n.rows in

@@ -11,13 +11,13 @@ use Rattle.rule_checks.proofs.Steps.{behind, ok_same}
 use Rattle.data_scopes.specs.declared.data_row.DatumRow.{DatumRow}
 use Rattle.data_scopes.specs.declared.data_row.ParamRow.{ParamRow}
 use Rattle.data_scopes.specs.Declarations.{spot_of, sort_at, type_of}
-use Rattle.data_scopes.specs.Numbers.{Tally, is_pers, is_scalar_const, after_item}
+use Rattle.data_scopes.specs.Numbers.{Tally, is_pers, is_scalar_const}
 use Rattle.data_scopes.specs.Rows.{datum_row, param_row, param_rows, local_rows, result_row, routine_row, item_rows, items_rows, modules_rows, rows_by}
 use Rattle.data_scopes.specs.Scopes.{Tables, RoutineRow, Rows, meaning}
 use Rattle.data_scopes.proofs.Within.{after_by}
 use Rattle.data_scopes.proofs.Counted.{get_last}
 use Rattle.name_laws.specs.Declared.{IsType, IsResultType, AreEach}
-use Rattle.name_laws.proofs.Items.{Fact, IsWalk, IsFront, front_more, stays}
+use Rattle.name_laws.proofs.Items.{Fact, IsWalk, Stepped, IsFront, front_more, stays}
 
 -- what is there
 found_some : {A : Type 0} (o : Option A) (b : TypeBreak) (x : A) → found_or o b ≡ Ok x → o ≡ Some x
@@ -149,17 +149,14 @@ module _ (tables : Tables) where
     (row, ap (slice_get (rows.slots ++ row ∷ [])) h.slots ∙ get_last rows.slots row, typed),
   )
 
-  abbrev Stepped : ℕ → Tally → PlainItem → Rows → Rows → Type 0
-  Stepped number c item rows got = AreCounted (after_item c item) got × Grow rows got × RowIn got number c item
-
-  item_stepped : (number : ℕ) (c : Tally) (item : PlainItem) (rows got : Rows) → AreCounted c rows → item_rows tables number item rows ≡ Ok got → Stepped number c item rows got
+  item_stepped : (number : ℕ) (c : Tally) (item : PlainItem) (rows got : Rows) → AreCounted c rows → item_rows tables number item rows ≡ Ok got → Stepped AreCounted Grow RowIn number c item rows got
   item_stepped number c (Datum local task d at) rows got h e =
-      behind (Stepped number c (Datum local task d at) rows got) got (datum_row tables number None d) _ e (λ row is done.
-      subst (Stepped number c (Datum local task d at) rows) (ok_same _ _ done)
+      behind (Stepped AreCounted Grow RowIn number c (Datum local task d at) rows got) got (datum_row tables number None d) _ e (λ row is done.
+      subst (Stepped AreCounted Grow RowIn number c (Datum local task d at) rows) (ok_same _ _ done)
       (datum_stepped number c d rows row (is_scalar_const d) (is_pers d.kind) h (datum_typed number None d row is)))
   item_stepped number c (Routine r) rows got h e =
-      behind (Stepped number c (Routine r) rows got) got (routine_row tables number (length rows.routines) r) _ e (λ row is done.
-      subst (Stepped number c (Routine r) rows) (ok_same _ _ done) (
+      behind (Stepped AreCounted Grow RowIn number c (Routine r) rows got) got (routine_row tables number (length rows.routines) r) _ e (λ row is done.
+      subst (Stepped AreCounted Grow RowIn number c (Routine r) rows) (ok_same _ _ done) (
         record { slots = h.slots; pers = h.pers; routines = omega (arith, h.routines, length-append rows.routines (row ∷ [])) },
         record { slots = stays rows.slots; pers = stays rows.pers; routines = front_more rows.routines row },
         (

@@ -62,6 +62,14 @@ module _ (modules : List PlainModule) where
     modules_stand (number + 1) (after_items c m.items) ms (rest_more modules number m ms rest),
   )
 
+-- what a step makes of what it began with: there is as much as is counted, what was there stays, and this holds of it
+abbrev pub Done : {S : Type 0} → (Tally → S → Type 0) → (S → S → Type 0) → Tally → (S → Type 0) → S → S → Type 0
+Done Counted Grows c In s t = Counted c t × Grows s t × In t
+
+-- the step of an item
+abbrev pub Stepped : {S : Type 0} → (Tally → S → Type 0) → (S → S → Type 0) → (S → Fact) → ℕ → Tally → PlainItem → S → S → Type 0
+Stepped Counted Grows B number c item s t = Done Counted Grows (after_item c item) (λ u. B u number c item) s t
+
 -- a walk over the items of modules that ends at the first broken rule: what its steps make stays
 pub record IsWalk (S : Type 0) (step : ℕ → PlainItem → S → Checked S) (fold : ℕ → List PlainItem → S → Checked S) (walk : ℕ → List PlainModule → S → Checked S)
     (Counted : Tally → S → Type 0) (Grows : S → S → Type 0) (B : S → Fact) : Type 0 where
@@ -72,7 +80,7 @@ pub record IsWalk (S : Type 0) (step : ℕ → PlainItem → S → Checked S) (f
   pub same : (s : S) → Grows s s
   pub then : (s t u : S) → Grows s t → Grows t u → Grows s u
   pub later : (s t : S) (number : ℕ) (c : Tally) (item : PlainItem) → Grows s t → B s number c item → B t number c item
-  pub one : (number : ℕ) (c : Tally) (item : PlainItem) (s t : S) → Counted c s → step number item s ≡ Ok t → Counted (after_item c item) t × Grows s t × B t number c item
+  pub one : (number : ℕ) (c : Tally) (item : PlainItem) (s t : S) → Counted c s → step number item s ≡ Ok t → Stepped Counted Grows B number c item s t
 
 module _ (S : Type 0) (step : ℕ → PlainItem → S → Checked S) (fold : ℕ → List PlainItem → S → Checked S) (walk : ℕ → List PlainModule → S → Checked S)
     (Counted : Tally → S → Type 0) (Grows : S → S → Type 0) (B : S → Fact) (w : IsWalk S step fold walk Counted Grows B) where

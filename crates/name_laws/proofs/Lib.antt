@@ -15,3 +15,4 @@ pub mod ConstRows
 pub mod ConstValues
 pub mod Sources
 pub mod ConstMeans
+pub mod Examples

@@ -16,7 +16,7 @@ use Rattle.data_scopes.specs.Numbers.{Tally, is_pers, is_scalar_const, item_mean
 use Rattle.data_scopes.specs.Scopes.{Loop, Tables, meaning}
 use Rattle.name_laws.specs.Declared.{IsSeen, AreEach}
 use Rattle.name_laws.specs.Rows.{IsParamRow, IsLocalRow}
-use Rattle.name_laws.specs.Meant.{HasItsRow, Inside, is_by_value}
+use Rattle.name_laws.specs.Meant.{HasItsRow, Inside, StandsInFor, is_by_value}
 use Rattle.name_laws.specs.Meant as specs
 use Rattle.name_laws.proofs.Seen.{PlaceEntry}
 use Rattle.name_laws.proofs.Sources.{sources_such}
@@ -96,12 +96,14 @@ module _ (modules : List PlainModule) (signals : List SignalRow) (arm : Bool) (t
   abbrev around : (number : ℕ) (c : Tally) (r : PlainRoutine) → A number c (Routine r) → spot.routine ≡ Some c.routines → Inside modules signals tree spot name
   around number c r h is = record { routine = c.routines; number = number; r = r; row = h.1.row; is_inside = is; stands = h.0; has_row = h.1.has_row; is_row = h.1.is_row }
 
-  loop_row : (number : ℕ) (c : Tally) (r : PlainRoutine) → A number c (Routine r) → spot.routine ≡ Some c.routines → (k : ℕ) (loop : Loop) → slice_get (loops_in_routine r) k ≡ Some loop → str_to_ascii_lowercase name ≡ loop.name → Q (meants.For k)
-  loop_row number c r h is k loop there named = record {
+  loop_row : (number : ℕ) (c : Tally) (r : PlainRoutine) → A number c (Routine r) → spot.routine ≡ Some c.routines → (k : ℕ) (loop : Loop) → slice_get (loops_in_routine r) k ≡ Some loop → str_to_ascii_lowercase name ≡ loop.name → (nearer : List ℕ) → StandsInFor (loops_in_routine r) (str_to_ascii_lowercase name) k spot.within nearer → Q (meants.For k)
+  loop_row number c r h is k loop there named nearer stands = record {
     inside = around number c r h is;
     loop = loop;
+    nearer = nearer;
     is_loop = there;
     named = named;
+    stands = stands;
     has_place = subst (λ n. k < n) (sym h.1.is_row.loops) (slice_get_within (loops_in_routine r) k loop there);
   }
 

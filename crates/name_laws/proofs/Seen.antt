@@ -1,5 +1,5 @@
 -- Each entry of the scopes of a task's modules is that of a declaration, of which this is true where it stands.
-use Rattle.std.proofs.Common.{◌≡◌, ◌⊎◌, inl, inr, ℕ, zero, suc, ◌+◌, Bool, true, false, List, [], ◌∷◌, ◌++◌, length, Option, Some, None, slice_get, refl, ap, subst, if◌then◌else◌, bytes_eq, arith}
+use Rattle.std.proofs.Common.{◌≡◌, ◌≢◌, ◌⊎◌, inl, inr, ℕ, zero, suc, ◌+◌, Bool, true, false, List, [], ◌∷◌, ◌++◌, length, Option, Some, None, slice_get, refl, sym, ap, subst, ◌∙◌, if◌then◌else◌, bytes_eq, true≢false, arith}
 use Rattle.std.specs.Str.{str_to_ascii_lowercase}
 use Rattle.std.proofs.lemmas.Slice.Eq.{bytes_eq-Decides}
 use Rattle.raw_trees.specs.Plain.{PlainDatum, PlainParam, PlainRoutine, PlainItem, PlainModule, Datum, Routine}
@@ -10,6 +10,7 @@ use Rattle.data_scopes.specs.Loops.{loops_in_routine}
 use Rattle.data_scopes.specs.Numbers.{Tally, is_pers, is_scalar_const, is_local, item_name, item_meant, after_datum, after_item, after_items, param_meant, declare_params, local_meant, declare_locals, routine_scope, own_items, task_items, routine_scopes, task_scope, own_scopes, inner_scopes, items_loops, all_loops, signal_scope, no_counts}
 use Rattle.data_scopes.specs.Scopes.{Scope, Loop, declare, list_at, loop_named, named_or}
 use Rattle.data_scopes.proofs.Within.{after_by}
+use Rattle.name_laws.specs.Meant.{StandsInFor}
 use Rattle.name_laws.proofs.ConstRows.{before_more, consts_before}
 use Rattle.name_laws.proofs.Entries.{Holds, EachHolds, holds_declare}
 use Rattle.name_laws.proofs.Items.{Fact, AllItems, AllModules, Rest, rest_all, rest_first, rest_more}
@@ -188,23 +189,29 @@ module _ (A : Fact) where
       let e : 0 + routine ≡ routine = omega arith in
       subst (λ n. RoutineLoops n (list_at (all_loops modules) routine)) e (loops_at 0 routine (all_loops modules) index loop (all_loops_entered 0 no_counts modules h) is)
 
--- a FOR whose variable has the name
-pub record LoopFound (key : List ℕ) (loops : List Loop) (k : ℕ) : Type 0 where
+-- the nearest FOR of the variable, from this one outward
+pub record LoopFound (key : List ℕ) (loops : List Loop) (k : ℕ) (innermost : Option ℕ) : Type 0 where
   pub loop : Loop
+  pub nearer : List ℕ
   pub is : slice_get loops k ≡ Some loop
   pub named : key ≡ loop.name
+  pub stands : StandsInFor loops key k innermost nearer
 
 module _ (key : List ℕ) (loops : List Loop) (k : ℕ) where
-  found_by_name : (n : ℕ) (loop : Loop) (rest : Option ℕ) (b : Bool) → bytes_eq key loop.name ≡ b → slice_get loops n ≡ Some loop → (if b then Some n else rest) ≡ Some k → (rest ≡ Some k → LoopFound key loops k) → LoopFound key loops k
+  found_by_name : (n : ℕ) (loop : Loop) (rest : Option ℕ) (b : Bool) → bytes_eq key loop.name ≡ b → slice_get loops n ≡ Some loop → (if b then Some n else rest) ≡ Some k → (rest ≡ Some k → LoopFound key loops k loop.outer)
+      → LoopFound key loops k (Some n)
   found_by_name n loop rest true same is e later =
-      let here : n ≡ k = cc in record { loop = loop; is = subst (λ m. slice_get loops m ≡ Some loop) here is; named = (bytes_eq-Decides key loop.name).0 same }
-  found_by_name n loop rest false same is e later = later e
+      let here : n ≡ k = cc in record { loop = loop; nearer = []; is = subst (λ m. slice_get loops m ≡ Some loop) here is; named = (bytes_eq-Decides key loop.name).0 same; stands = e }
+  found_by_name n loop rest false differ is e later =
+      let f = later e in
+      let other : key ≢ loop.name = λ named. true≢false (sym ((bytes_eq-Decides key loop.name).1 named) ∙ differ) in
+      record { loop = f.loop; nearer = n ∷ f.nearer; is = f.is; named = f.named; stands = (refl, loop, is, other, f.stands) }
 
-  found_further : (n : ℕ) (o : Option Loop) (further : Option ℕ → Option ℕ) → slice_get loops n ≡ o → named_or key n o further ≡ Some k → ((at : Option ℕ) → further at ≡ Some k → LoopFound key loops k) → LoopFound key loops k
+  found_further : (n : ℕ) (o : Option Loop) (further : Option ℕ → Option ℕ) → slice_get loops n ≡ o → named_or key n o further ≡ Some k → ((at : Option ℕ) → further at ≡ Some k → LoopFound key loops k at) → LoopFound key loops k (Some n)
   found_further n None further is e later = absurd (cc)
   found_further n (Some loop) further is e later = found_by_name n loop (further loop.outer) (bytes_eq key loop.name) refl is e (later loop.outer)
 
-  pub loop_found : (steps : ℕ) (at : Option ℕ) → loop_named steps key loops at ≡ Some k → LoopFound key loops k
+  pub loop_found : (steps : ℕ) (at : Option ℕ) → loop_named steps key loops at ≡ Some k → LoopFound key loops k at
   loop_found zero at e = absurd (cc)
   loop_found (suc steps) None e = absurd (cc)
   loop_found (suc steps) (Some n) e = found_further n (slice_get loops n) (loop_named steps key loops) refl e (loop_found steps)

@@ -11,6 +11,7 @@ use Rattle.data_scopes.specs.Loops.{loops_in_routine}
 use Rattle.data_scopes.specs.Numbers.{Tally, item_meant, no_counts, tables_of, own_scopes, inner_scopes, task_scope, signal_scope}
 use Rattle.data_scopes.specs.Scopes.{Loop, Tables, list_at, meant_in, meaning}
 use Rattle.name_laws.specs.Declared.{IsSeen, StandsIn}
+use Rattle.name_laws.specs.Meant.{StandsInFor}
 use Rattle.name_laws.proofs.Entries.{Counter, Holds, IsElsewhere, found_there, holds_at, meaning_such, raised}
 use Rattle.name_laws.proofs.Items.{AllModules, Fact, rest_all}
 use Rattle.name_laws.proofs.Seen.{InnerEntry, ItemEntry, PlaceEntry, SignalEntry, TaskEntry, inner_scopes_entered, loop_found, loops_there, own_scopes_entered, signals_entered, task_scope_entered}
@@ -23,7 +24,7 @@ module _ (modules : List PlainModule) (signals : List SignalRow) (spot : Spot) (
   pub record AreSuch : Type 0 where
     pub items : (number : ℕ) (c : Tally) (item : PlainItem) → A number c item → IsSeen modules spot name number item → Q (item_meant c item)
     pub places : (number : ℕ) (c : Tally) (r : PlainRoutine) → A number c (Routine r) → spot.routine ≡ Some c.routines → (meant : Meant) → PlaceEntry c.consts r (str_to_ascii_lowercase name) meant → Q meant
-    pub loops : (number : ℕ) (c : Tally) (r : PlainRoutine) → A number c (Routine r) → spot.routine ≡ Some c.routines → (k : ℕ) (loop : Loop) → slice_get (loops_in_routine r) k ≡ Some loop → str_to_ascii_lowercase name ≡ loop.name → Q (meants.For k)
+    pub loops : (number : ℕ) (c : Tally) (r : PlainRoutine) → A number c (Routine r) → spot.routine ≡ Some c.routines → (k : ℕ) (loop : Loop) → slice_get (loops_in_routine r) k ≡ Some loop → str_to_ascii_lowercase name ≡ loop.name → (nearer : List ℕ) → StandsInFor (loops_in_routine r) (str_to_ascii_lowercase name) k spot.within nearer → Q (meants.For k)
     pub script : (k : ℕ) (row : SignalRow) → slice_get signals k ≡ Some row → IsOneName name row.name → Q (meants.Signal k)
 
   module _ (are : AreSuch) where
@@ -41,7 +42,8 @@ module _ (modules : List PlainModule) (signals : List SignalRow) (spot : Spot) (
         let found = loop_found (str_to_ascii_lowercase name) loops k (length loops) spot.within e in
         let here = loops_there A modules all routine k found.loop found.is in
         let there : slice_get (loops_in_routine here.r) k ≡ Some found.loop = subst (λ ls. slice_get ls k ≡ Some found.loop) here.are found.is in
-        are.loops here.number here.c here.r here.holds (is ∙ ap Some (sym here.is_it)) k found.loop there found.named
+        let stands = subst (λ ls. StandsInFor ls (str_to_ascii_lowercase name) k spot.within found.nearer) here.are found.stands in
+        are.loops here.number here.c here.r here.holds (is ∙ ap Some (sym here.is_it)) k found.loop there found.named found.nearer stands
 
     inner_rows : (routine : ℕ) → spot.routine ≡ Some routine → IfSome (meant_in name (list_at (inner_scopes no_counts modules) routine)) Q
     inner_rows routine is =

@@ -1,5 +1,5 @@
 -- Which row each number has that a name means at a spot of a task's modules.
-use Rattle.std.specs.Prelude.{◌≡◌, ◌⊎◌, ℕ, ◌+◌, ◌<◌, ◌||◌, Bool, true, false, List, length, Some, slice_get}
+use Rattle.std.specs.Prelude.{◌≡◌, ◌≢◌, ◌⊎◌, ℕ, ◌+◌, ◌<◌, ◌||◌, Bool, true, false, List, [], ◌∷◌, length, Option, Some, slice_get}
 use Rattle.std.specs.Str.{str_to_ascii_lowercase}
 use Rattle.raw_trees.specs.Plain.{PlainDatum, PlainParam, PlainRoutine, PlainModule, Datum, Routine}
 use Rattle.raw_trees.specs.declared.raw_routine.Mode.{Mode}
@@ -22,6 +22,13 @@ is_by_value modes.Value = true
 is_by_value modes.Inout = false
 is_by_value modes.Var = false
 is_by_value modes.Pers = false
+
+-- A spot stands in FOR k of a routine, and nearer in these FORs, none of which has the variable: the first of them is the innermost
+-- one around the spot, each stands in the list of the next, and the last in that of FOR k. With none nearer FOR k is the innermost.
+abbrev pub StandsInFor : List Loop → List ℕ → ℕ → Option ℕ → List ℕ → Type 0
+StandsInFor loops variable k innermost [] = innermost ≡ Some k
+StandsInFor loops variable k innermost (n ∷ nearer) =
+    (innermost ≡ Some n) × (loop : Loop) × (slice_get loops n ≡ Some loop) × (variable ≢ loop.name) × StandsInFor loops variable k loop.outer nearer
 
 module _ (modules : List PlainModule) (signals : List SignalRow) (tree : TypedTree) (spot : Spot) (name : List ℕ) where
   -- a VAR or an array CONST that is seen, and its row
@@ -92,12 +99,14 @@ module _ (modules : List PlainModule) (signals : List SignalRow) (tree : TypedTr
     pub has_row : slice_get inside.row.locals index ≡ Some row
     pub is_row : IsLocalRow (tables_of modules signals) inside.number inside.routine d row
 
-  -- a FOR of the routine around, by its variable; the routine has a place for it
+  -- the nearest FOR of this variable that the spot stands in, of those of the routine around; the routine has a place for it
   pub record IsCounter (k : ℕ) : Type 0 where
     pub inside : Inside
     pub loop : Loop
+    pub nearer : List ℕ
     pub is_loop : slice_get (loops_in_routine inside.r) k ≡ Some loop
     pub named : str_to_ascii_lowercase name ≡ loop.name
+    pub stands : StandsInFor (loops_in_routine inside.r) (str_to_ascii_lowercase name) k spot.within nearer
     pub has_place : k < inside.row.loops
 
   -- a signal of the script

@@ -24,6 +24,7 @@ ghost use Rattle.name_laws.specs.Meetings.{IsMeeting};
 
 /// Where a name means a VAR, a PERS, a routine, a parameter or a datum of a routine, the variable of a FOR, or a signal, its
 /// number has a row in the typed tree of the task's modules, and it is the row of a declaration of that name that is seen there.
+/// A FOR is the nearest one of that variable in which the spot stands, and the row of its routine has a place for it.
 pub fn numbers_have_their_rows()
     ensures { (modules : List PlainModule) (tasks : List (List ℕ)) (signals : List SignalRow) (arm : Bool) (tree : TypedTree) → task_of modules tasks signals arm ≡ Ok tree → (spot : Spot) (name : List ℕ) (meant : Meant) → meaning (tables_of modules signals) spot name ≡ Some meant → HasItsRow modules signals tree spot name meant }
 {}

@@ -7,7 +7,7 @@ ghost use Rattle.named_data.specs.Rules.{at_byte};
 ghost use Rattle.named_data.specs.Views.{view_site};
 
 use crate::site::Site;
-use rule_checks::{TypeFault, TypeRule};
+use rule_checks::{Spot, TypeFault, TypeRule};
 
 /// The fault that a rule is broken at this byte.
 pub fn fault(site: &Site<'_>, at: usize, rule: TypeRule) -> TypeFault
@@ -24,8 +24,6 @@ pub fn fault(site: &Site<'_>, at: usize, rule: TypeRule) -> TypeFault
 pub fn must(site: &Site<'_>, holds: bool, at: usize, rule: TypeRule) -> Result<(), TypeFault>
     ensures { Gives (λ u. u) result (must holds (at_byte (view_site site.now) at rule)) }
 {
-    if holds {
-        return Ok(());
-    }
-    Err(fault(site, at, rule))
+    let spot = Spot { at, ..site.spot };
+    rule_checks::must(holds, spot, rule)
 }

@@ -1,7 +1,7 @@
 use rapid_model::Sort;
 use raw_trees::Operator;
 
-/// What the place of an expression asks of it.
+/// What the place of an expression wants of it.
 #[derive(Clone, Copy, Debug, PartialEq, Eq)]
 pub enum Wanted {
     /// A value of any type; brackets have none there.

@@ -1,4 +1,4 @@
-//! What the place of an expression asks of its type.
+//! What the place of an expression wants of its type.
 
 ghost use Rattle.std.specs.Prelude.{◌≡◌, length};
 ghost use Rattle.rapid_model.specs.Sorts.{is_compared};

@@ -23,6 +23,3 @@ pub use shelf::Shelf;
 pub use shelf_fault::ShelfFault;
 pub use sink::Sink;
 pub use stream_sink::StreamSink;
-
-#[cfg(test)]
-mod tests;

@@ -1,5 +1,5 @@
 -- Where a reader answers for a form within each number of levels, and one token of looking ahead is enough for that, each
--- list of tokens has one answer, and who reads so is told it.
+-- list of tokens has one answer, and who reads so is given it.
 use Rattle.std.proofs.Common.{ℕ, Err}
 use Rattle.rapid_forms.specs.Forms.{Form}
 use Rattle.rapid_forms.specs.Reading.{Reader}

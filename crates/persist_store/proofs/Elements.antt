@@ -36,7 +36,7 @@ within_width values (Some n) index count there =
     let to = leb-true index n parts.1 in
     omega (arith, count, from, to)
 
--- the place of an element that is there
+-- the index of an element that is there
 within : (row : PersData) (index : ℕ) → IsKept row → IsTrue (has_element row.len index) → index - 1 < length row.values
 within row index kept there = within_width row.values row.len index kept.count there
 

@@ -20,7 +20,7 @@ use Rattle.rapid_values.proofs.Changed.{some_same, put_full}
 abbrev pub IsOf : Sort → Option Value → Type 0
 IsOf sort o = IsSomeAnd o (λ w. IsTrue (has_sort sort w))
 
--- a num at a place that the list has
+-- a num at an index that the list has
 num_there : (nums : List ℤ) (i : ℕ) → i < length nums → IsOf sorts.Num (num_at nums i)
 num_there nums i lt = subst (λ o. IsOf sorts.Num (option_map values.Num o)) (sym (slice_get-get_or nums i (pos 0) lt)) refl
 
@@ -110,7 +110,7 @@ fitting sort p value fits = at (part_sort sort p) refl
 abbrev IsLike : Sort → Option Value → Type 0
 IsLike sort o = IsSomeAnd o (λ w. IsTrue (is_value_of sort w))
 
--- a num written at a place that the list has
+-- a num written at an index that the list has
 written : (sort : Sort) (make : List ℤ → Value) (nums : List ℤ) (i : ℕ) (new : Value) → ((ns : List ℤ) → IsTrue (is_value_of sort (make ns))) → i < length nums → IsTrue (has_sort sorts.Num new)
     → IsLike sort (option_map make (with_num nums i new))
 written sort make nums i (values.Num n) made lt fits = rw (lt-ltb i (length nums) lt) (made _)

@@ -1,12 +1,13 @@
 -- The definitions on examples worked by hand.
 use Rattle.std.proofs.Common.{◌≡◌, true, false, [], ◌∷◌, ◌++◌, Some, Ok, Err, refl, lit<}
 use Rattle.std.specs.Prelude.{codes, is_some}
+use Rattle.rapid_num.specs.Characters.{is_name}
 use Rattle.rapid_num.specs.Literal.{spelled_thousandths}
 use Rattle.rapid_lexer.specs.declared.kind.Kind.TheVariants.{Word, Number, Quoted, Mark}
 use Rattle.rapid_lexer.specs.declared.mark.Mark.TheVariants.{LessEqual, NotEqual}
 use Rattle.rapid_lexer.specs.declared.word.Word.TheVariants.{Else, If}
 use Rattle.rapid_lexer.specs.declared.fault.LexRule.TheVariants.{OpenString}
-use Rattle.rapid_lexer.specs.Words.{is_name, IsWord}
+use Rattle.rapid_lexer.specs.Words.{IsWord}
 use Rattle.rapid_lexer.specs.Strings.{is_character, IsString}
 use Rattle.rapid_lexer.specs.Gaps.{is_gap_within, front_of}
 use Rattle.rapid_lexer.specs.Tokens.{IsToken}

@@ -13,8 +13,7 @@ use Rattle.rapid_lexer.specs.declared.mark.Mark.{Mark as OneMark}
 use Rattle.rapid_lexer.specs.declared.mark.Mark.TheVariants as marks
 use Rattle.rapid_lexer.specs.declared.state.State.{State}
 use Rattle.rapid_lexer.specs.declared.state.State.TheVariants.{Start, InName, Zero, Whole, Dot, Inside, Colon, Less, Greater, Single, Dead}
-use Rattle.rapid_num.specs.Characters.{is_digit, is_letter, is_name_byte}
-use Rattle.rapid_lexer.specs.Words.{is_name}
+use Rattle.rapid_num.specs.Characters.{is_digit, is_letter, is_name, is_name_byte}
 use Rattle.rapid_lexer.specs.Strings.{IsString}
 use Rattle.rapid_lexer.specs.Marks.{mark_text}
 use Rattle.rapid_lexer.specs.Scanning.{singles, mark_in, single_of, where_single, after_start, step, kind_at, accepted, where_so}

@@ -1,10 +1,11 @@
 -- Tokens, and how they tile a text.
 use Rattle.std.specs.Prelude.{◌≡◌, ℕ, ◌+◌, ◌≤◌, true, List, [], ◌∷◌, ◌++◌, length, take, drop, map, IsSome, Ok}
+use Rattle.rapid_num.specs.Characters.{is_name}
 use Rattle.rapid_num.specs.Literal.{spelled_thousandths, literal_value}
 use Rattle.rapid_lexer.specs.declared.kind.Kind.{Kind}
 use Rattle.rapid_lexer.specs.declared.kind.Kind.TheVariants.{Name, Word, Number, Quoted, Mark}
 use Rattle.rapid_lexer.specs.declared.token.Token.{Token}
-use Rattle.rapid_lexer.specs.Words.{is_name, IsWord, IsReserved}
+use Rattle.rapid_lexer.specs.Words.{IsWord, IsReserved}
 use Rattle.rapid_lexer.specs.Marks.{mark_text}
 use Rattle.rapid_lexer.specs.Strings.{IsString}
 use Rattle.rapid_lexer.specs.Gaps.{IsGap, front_of}

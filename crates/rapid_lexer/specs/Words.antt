@@ -1,16 +1,10 @@
--- Names, and the reserved words among them (RAPID Kernel, lexical elements).
-use Rattle.std.specs.Prelude.{ℕ, Bool, false, ◌&&◌, if◌then◌else◌, List, [], ◌∷◌, Option, None, Some, is_some, codes, map}
-use Rattle.std.specs.List.{list_all, Contains}
+-- The reserved words (RAPID Kernel, lexical elements).
+use Rattle.std.specs.Prelude.{ℕ, Bool, if◌then◌else◌, List, [], ◌∷◌, Option, None, Some, is_some, codes, map}
+use Rattle.std.specs.List.{Contains}
 use Rattle.std.specs.Str.{bytes_eq}
 use Rattle.rapid_lexer.specs.declared.word.Word.{Word}
 use Rattle.rapid_lexer.specs.declared.word.Word.TheVariants.{Alias, And, Backward, Case, Connect, Const, Default, Div, Do, Else, ElseIf, EndFor, EndFunc, EndIf, EndModule, EndProc, EndRecord, EndTest, EndTrap, EndWhile, Error, Exit, False, For, From, Func, Goto, If, Inout, Local, Mod, Module, NoStepIn, Not, NoView, Or, Pers, Proc, Raise, ReadOnly, Record, Retry, Return, Step, SysModule, Task, Test, Then, To, Trap, True, TryNext, Undo, Var, ViewOnly, While, With, Xor}
-use Rattle.rapid_num.specs.Characters.{is_letter, is_name_byte}
 use Rattle.rapid_lexer.specs.Bytes.{upper}
-
--- a letter, then letters, digits and _
-abbrev pub is_name : List ℕ → Bool
-is_name [] = false
-is_name (b ∷ bs) = is_letter b && list_all is_name_byte bs
 
 -- each reserved word, in capitals
 abbrev pub words : List (List ℕ × Word)

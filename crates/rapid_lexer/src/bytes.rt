@@ -2,13 +2,13 @@
 
 ghost use Rattle.std.specs.Prelude.{◌≡◌};
 ghost use Rattle.rapid_num.specs.Literal.{is_exponent_letter};
-ghost use Rattle.rapid_num.specs.Characters.{is_digit, is_letter, is_name_byte, is_printable};
+ghost use Rattle.rapid_num.specs.Characters.{is_digit, is_letter, is_name_byte};
 ghost use Rattle.rapid_lexer.specs.Bytes.{is_blank, is_hex, upper};
 ghost use Rattle.rapid_lexer.specs.Scanning.{single_of};
 ghost use Rattle.rapid_lexer.specs.Strings.{is_code};
 
 use crate::mark::Mark;
-use rapid_num::digit_value;
+use rapid_num::{digit_value, is_printable};
 
 pub(crate) fn is_digit(byte: u8) -> bool
     ensures { result ≡ is_digit byte }
@@ -44,14 +44,6 @@ pub(crate) fn is_blank(byte: u8) -> bool
     ensures { result ≡ is_blank byte }
 {
     byte == 9 || byte == 10 || byte == 12 || byte == 13 || byte == 32
-}
-
-/// Whether a byte is one that a string may hold as it stands and that an escape may name: 20 to 7E hexadecimal (RAPID
-/// Kernel, lexical elements).
-pub fn is_printable(byte: u8) -> bool
-    ensures { result ≡ is_printable byte }
-{
-    byte >= 32 && byte <= 126
 }
 
 /// Whether a byte is a hexadecimal digit, its letter in either case.

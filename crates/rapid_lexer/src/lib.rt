@@ -18,7 +18,7 @@ mod tokens;
 mod word;
 mod words;
 
-pub use bytes::{is_hex, is_letter, is_name_byte, is_printable};
+pub use bytes::{is_hex, is_letter, is_name_byte};
 pub use fault::{LexFault, LexRule, TokensFault};
 pub use kind::Kind;
 pub use laws::one_reading;

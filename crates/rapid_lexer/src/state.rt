@@ -18,11 +18,11 @@ ghost use Rattle.rapid_lexer.specs.Scanning.{
 ghost use Rattle.rapid_lexer.specs.declared.state.State.TheVariants.{Dead};
 
 use crate::bytes::{
-    is_code, is_digit, is_exponent_letter, is_hex, is_letter, is_name_byte, is_printable, single_of,
+    is_code, is_digit, is_exponent_letter, is_hex, is_letter, is_name_byte, single_of,
 };
 use crate::kind::Kind;
 use crate::mark::Mark;
-use rapid_num::digit_value;
+use rapid_num::{digit_value, is_printable};
 
 #[derive(Clone, Copy, Debug, PartialEq, Eq)]
 pub(crate) enum State {

@@ -3,8 +3,9 @@
 ghost use Rattle.std.specs.Prelude.{◌≡◌, ◌≤◌, ◌<◌, ◌+◌, ◌^◌, IfSome, length, drop};
 ghost use Rattle.rapid_lexer.specs.Reading.{broken, character_len, characters_len, doubled_len, escape_len, stopped};
 
-use crate::bytes::{is_code, is_printable};
+use crate::bytes::is_code;
 use crate::fault::{LexFault, LexRule};
+use rapid_num::is_printable;
 
 fn doubled_len(bytes: &[u8]) -> usize
     ensures same { result ≡ doubled_len bytes.now }

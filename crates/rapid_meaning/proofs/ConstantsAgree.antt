@@ -31,7 +31,7 @@ use Rattle.rapid_meaning.specs.Data.{Data, Frame, datum_at}
 use Rattle.rapid_meaning.specs.Doings.{Doing, Gives, Raises, after, or_misfit}
 use Rattle.rapid_meaning.specs.Expressions.{along, expr, exprs, place}
 use Rattle.rapid_meaning.specs.Layouts.{length_at, local_start, slot_start}
-use Rattle.rapid_meaning.specs.Places.{at_element, at_root, element_of, element_or_fault, element_root, indexed, load_from, own_place, part_at, part_in, read_value, rooted, there_in}
+use Rattle.rapid_meaning.specs.Places.{at_element, at_root, element_or_fault, element_root, indexed, load_from, own_place, part_at, part_in, place_of_element, read_value, rooted, there_in}
 use Rattle.rapid_meaning.specs.Values as meaning
 use Rattle.rapid_meaning.proofs.Composing.{Comes, comes_after}
 
@@ -257,17 +257,17 @@ there_comes d p (roots.Slot slot) x is = ap (option_map (λ (held : Datum). p)) 
 there_comes d p (roots.Frame frame at) x is = ap (option_map (λ (held : Datum). p)) is
 there_comes d p (roots.Pers pers index) x is = refl
 
-at_element_comes : (d : Data) (p : Lvalue) (number : ℕ) (x : Datum) → datum_at (element_root p.root number) d ≡ Some x → Comes (at_element p number) d (element_of p number)
+at_element_comes : (d : Data) (p : Lvalue) (number : ℕ) (x : Datum) → datum_at (element_root p.root number) d ≡ Some x → Comes (at_element p number) d (place_of_element p number)
 unfolding performed
 at_element_comes d p number x is = λ by run left.
-    or_misfit_comes d (there_in d (element_of p number) (element_root p.root number)) (element_of p number) (there_comes d (element_of p number) (element_root p.root number) x is) by run left
+    or_misfit_comes d (there_in d (place_of_element p number) (element_root p.root number)) (place_of_element p number) (there_comes d (place_of_element p number) (element_root p.root number) x is) by run left
 
 indexed_comes : (d : Data) (len : Option ℕ) (p : Lvalue) (count number : ℕ) (n : ℤ) (x : Datum) → len ≡ Some count → element_number count n ≡ Some number
-    → datum_at (element_root p.root number) d ≡ Some x → Comes (indexed len p (values.Num n)) d (element_of p number)
+    → datum_at (element_root p.root number) d ≡ Some x → Comes (indexed len p (values.Num n)) d (place_of_element p number)
 unfolding after
 indexed_comes d len p count number n x is within there =
-    subst (λ (l : Option ℕ). Comes (indexed l p (values.Num n)) d (element_of p number)) (sym is)
-    (subst (λ (l : Option ℕ). Comes (element_or_fault p l) d (element_of p number)) (sym within) (at_element_comes d p number x there))
+    subst (λ (l : Option ℕ). Comes (indexed l p (values.Num n)) d (place_of_element p number)) (sym is)
+    (subst (λ (l : Option ℕ). Comes (element_or_fault p l) d (place_of_element p number)) (sym within) (at_element_comes d p number x there))
 
 element_comes : (tree : TypedTree) (routine : TypedRoutine) (known : Elements) (d : Data) → HoldsArrays tree routine known d → (root : TreeRoot) (index : TypedExpr) (part : PartName)
     (kind : Sort) (v : Value) (e : IsElement (array_of known root) part (constant_value known index) v) → Comes (expr tree routine index) d (values.Num e.n)
@@ -279,7 +279,7 @@ element_comes tree routine known d held root index part kind v e comes =
     (comes_after (rooted tree routine root) (λ q. after (expr tree routine index) (λ w. after (indexed (length_at tree routine root) q w) (λ x. part_at part x) Raises) Raises) Raises
     d (at_root r.start) p r.comes
     (comes_after (expr tree routine index) (λ w. after (indexed (length_at tree routine root) (at_root r.start) w) (λ x. part_at part x) Raises) Raises d (values.Num e.n) p comes
-    (comes_after (indexed (length_at tree routine root) (at_root r.start) (values.Num e.n)) (λ x. part_at part x) Raises d (element_of (at_root r.start) e.number) p
+    (comes_after (indexed (length_at tree routine root) (at_root r.start) (values.Num e.n)) (λ x. part_at part x) Raises d (place_of_element (at_root r.start) e.number) p
     (indexed_comes d (length_at tree routine root) (at_root r.start) (length e.elements) e.number e.n (datums.Plain e.element) (held.lengths root e.elements e.known) e.within
     (r.holds e.number e.element e.there))
     (gives d p))))

@@ -12,7 +12,7 @@ pub record At : Type 0 where
   pub «module» : ℕ
   pub byte : ℕ
 
--- the data of a routine under way, and how many changes by others the last Look of its statements told
+-- the data of a routine under way, and how many changes by others the last Look of its statements found
 pub record Frame : Type 0 where
   pub values : List Datum
   pub seen : ℕ
@@ -58,7 +58,7 @@ put_at (roots.Slot slot) new d = record d { slots = slice_set d.slots slot new }
 put_at (roots.Frame frame at) new d = record d { frames = put_in_frame d.frames frame at new (frame_at d.frames frame) }
 put_at (roots.Pers pers index) new d = d
 
--- a Look of the innermost frame told so many changes
+-- a Look of the innermost frame found so many changes
 abbrev pub with_seen : ℕ → List Frame → List Frame
 with_seen seen [] = []
 with_seen seen (frame ∷ below) = record frame { seen = seen } ∷ below

@@ -38,6 +38,6 @@ look w byte again go = do
   change (λ d. record d { place = place_of w byte })
   Asks Look (looked again go)
 
--- a wait that is not ready holds with the number that its own Look told, rises, and begins with its Look again
+-- a wait that is not ready holds with the number that its own Look found, rises, and begins with its Look again
 abbrev pub hold : Part → Doing Flow
 hold again = Reads (λ d. tells (Hold (seen_in d.frames)) >> (tells Rise >> goes_to again))

@@ -55,8 +55,9 @@ element_root (roots.Slot slot) number = roots.Slot (slot + (number - 1))
 element_root (roots.Frame frame at) number = roots.Frame frame (at + (number - 1))
 element_root (roots.Pers pers index) number = roots.Pers pers number
 
-abbrev pub element_of : Lvalue → ℕ → Lvalue
-element_of place number = record place { root = element_root place.root number }
+-- the place of the element, from 1, of the array that begins at a place
+abbrev pub place_of_element : Lvalue → ℕ → Lvalue
+place_of_element place number = record place { root = element_root place.root number }
 
 -- a place that is among these data; persistents are the cell's
 abbrev pub there_in : Data → Lvalue → Root → Option Lvalue
@@ -65,7 +66,7 @@ there_in d place root = option_map (λ held. place) (datum_at root d)
 
 -- the place of an element that is there
 abbrev pub at_element : Lvalue → ℕ → Doing Lvalue
-at_element place number = Reads (λ d. or_misfit (there_in d (element_of place number) (element_root place.root number)))
+at_element place number = Reads (λ d. or_misfit (there_in d (place_of_element place number) (element_root place.root number)))
 
 -- an index that is not whole, or outside the array, is a fault
 abbrev pub element_or_fault : Lvalue → Option ℕ → Doing Lvalue

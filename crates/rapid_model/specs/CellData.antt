@@ -7,7 +7,7 @@ use Rattle.rapid_model.specs.declared.signal_row.SignalRow.{SignalRow}
 use Rattle.rapid_model.specs.declared.task_row.TaskRow.{TaskRow}
 use Rattle.rapid_model.specs.declared.zone_row.ZoneRow.{ZoneRow}
 use Rattle.rapid_model.specs.Limits.{is_within, holds_where_there, is_start, is_signal, is_zone, is_input}
-use Rattle.rapid_model.specs.Names.{is_name, differ}
+use Rattle.rapid_model.specs.Names.{is_short_name, differ}
 use Rattle.rapid_model.specs.Sorts.{is_value_of, width}
 
 pub record CellData : Type 0 where
@@ -21,7 +21,7 @@ pub record CellData : Type 0 where
 
 -- a task has a name, and its arm, where there is one, starts at a position
 abbrev pub starts_well : TaskRow → Bool
-starts_well row = is_name row.name && is_start row.arm
+starts_well row = is_short_name row.name && is_start row.arm
 
 -- A persistent belongs to one of so many tasks, or to none. It has a first value of its type, or as many as its length says.
 abbrev pub is_pers_cell : ℕ → PersCell → Bool

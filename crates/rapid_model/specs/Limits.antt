@@ -8,7 +8,7 @@ use Rattle.rapid_num.specs.declared.shape.Shape.{Shape}
 use Rattle.rapid_model.specs.declared.input_row.InputRow.{InputRow}
 use Rattle.rapid_model.specs.declared.signal_row.SignalRow.{SignalRow}
 use Rattle.rapid_model.specs.declared.zone_row.ZoneRow.{ZoneRow}
-use Rattle.rapid_model.specs.Names.{is_name}
+use Rattle.rapid_model.specs.Names.{is_short_name}
 
 abbrev pub is_within : ℕ → ℕ → ℕ → Bool
 is_within low high n = nat_le low n && nat_le n high
@@ -23,7 +23,7 @@ abbrev pub is_start : Option Joints → Bool
 is_start arm = holds_where_there is_position arm
 
 abbrev pub is_signal : SignalRow → Bool
-is_signal row = is_name row.name
+is_signal row = is_short_name row.name
 
 -- the bounds of an axis are within 720 degrees, the low one below the high one
 abbrev pub is_bounded : Bound → Bool
@@ -51,7 +51,7 @@ is_input_signal signals number = is_input_row (slice_get signals number)
     is_input_row (Some row) = not row.output
 
 abbrev pub is_zone : List SignalRow → List (Option Joints) → ZoneRow → Bool
-is_zone signals arms row = is_name row.name && has_arm arms row.task && is_zone_shape row.shape && nat_lt row.signal (length signals)
+is_zone signals arms row = is_short_name row.name && has_arm arms row.task && is_zone_shape row.shape && nat_lt row.signal (length signals)
 
 -- with so many tasks
 abbrev pub is_input : List SignalRow → ℕ → InputRow → Bool

@@ -1,15 +1,15 @@
--- Names (RAPID Kernel, identifiers), and their form: a letter, then letters, digits and underscores, at most 32 in all.
-use Rattle.std.specs.Prelude.{◌≡◌, ℕ, Bool, true, false, not, ◌&&◌, nat_le, List, [], ◌∷◌, length}
-use Rattle.std.specs.List.{list_all, list_any}
+-- Names (RAPID Kernel, identifiers).
+use Rattle.std.specs.Prelude.{◌≡◌, ℕ, Bool, true, not, ◌&&◌, nat_le, List, [], ◌∷◌, length}
+use Rattle.std.specs.List.{list_any}
 use Rattle.std.specs.Str.{str_eq_ignore_ascii_case, str_to_ascii_lowercase}
-use Rattle.rapid_num.specs.Characters.{is_letter, is_name_byte}
+use Rattle.rapid_num.specs.Characters.{is_name}
 
 abbrev pub longest_name : ℕ
 longest_name = 32
 
-abbrev pub is_name : List ℕ → Bool
-is_name [] = false
-is_name (b ∷ bs) = is_letter b && list_all is_name_byte bs && nat_le (length (b ∷ bs)) longest_name
+-- a name that is not too long
+abbrev pub is_short_name : List ℕ → Bool
+is_short_name text = is_name text && nat_le (length text) longest_name
 
 -- two names are one, letters of either case being the same
 abbrev pub IsOneName : List ℕ → List ℕ → Type 0

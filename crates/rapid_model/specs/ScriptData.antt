@@ -10,7 +10,7 @@ use Rattle.rapid_model.specs.declared.value.Value.{Value}
 use Rattle.rapid_model.specs.declared.value.Value.TheVariants as values
 use Rattle.rapid_model.specs.declared.zone_row.ZoneRow.{ZoneRow}
 use Rattle.rapid_model.specs.Limits.{is_within, holds_where_there, is_start, is_signal, is_zone, is_input}
-use Rattle.rapid_model.specs.Names.{is_name, differ}
+use Rattle.rapid_model.specs.Names.{is_short_name, differ}
 
 pub record ScriptData : Type 0 where
   pub steps : ℕ
@@ -26,7 +26,7 @@ is_file_name name = is_within 1 255 (length name)
 
 -- a task has a name and 1 to 16 modules, and its arm, where there is one, starts at a position
 abbrev pub is_task : ScriptTask → Bool
-is_task task = is_name task.name && is_within 1 16 (length task.modules) && list_all is_file_name task.modules && is_start task.arm
+is_task task = is_short_name task.name && is_within 1 16 (length task.modules) && list_all is_file_name task.modules && is_start task.arm
 
 -- a script gives nums, truths and texts alone
 abbrev pub is_given_value : Value → Bool
@@ -39,7 +39,7 @@ is_given_value (values.Target joints) = false
 is_given_value (values.Speed parts) = false
 
 abbrev pub is_pers_value : PersValue → Bool
-is_pers_value row = is_name row.name && holds_where_there (is_within 1 1_000) row.index && is_given_value row.value
+is_pers_value row = is_short_name row.name && holds_where_there (is_within 1 1_000) row.index && is_given_value row.value
 
 -- the limits that every script keeps
 pub record IsScript (script : ScriptData) : Type 0 where

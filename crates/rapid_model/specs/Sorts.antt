@@ -1,5 +1,6 @@
 -- The values of the types of data.
-use Rattle.std.specs.Prelude.{ℕ, Bool, true, false, Option, Some, None}
+use Rattle.std.specs.Prelude.{ℕ, Bool, true, false, ◌&&◌, ◌==◌, List, length, Option, Some, None}
+use Rattle.std.specs.List.{list_all}
 use Rattle.rapid_model.specs.declared.sort.Sort.{Sort}
 use Rattle.rapid_model.specs.declared.sort.Sort.TheVariants as sorts
 use Rattle.rapid_model.specs.declared.value.Value.{Value}
@@ -41,3 +42,7 @@ is_value_of _ _ = false
 abbrev pub width : Option ℕ → ℕ
 width None = 1
 width (Some n) = n
+
+-- a value of the type for each element
+abbrev pub are_values_of : Sort → Option ℕ → List Value → Bool
+are_values_of sort len vs = length vs == width len && list_all (is_value_of sort) vs

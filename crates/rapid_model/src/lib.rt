@@ -44,7 +44,7 @@ pub use path::Path;
 pub use pers_cell::PersCell;
 pub use pers_value::PersValue;
 pub use predefined::Predefined;
-pub use printable::{NameText, Printable, Text};
+pub use printable::{NameText, Printable, Text, show};
 pub use request::Request;
 pub use script::Script;
 pub use script_rule::ScriptRule;

@@ -1,7 +1,10 @@
-ghost use Rattle.std.specs.Prelude.{◌≡◌, ◌≤◌, ◌<◌, ◌++◌, [], ◌∷◌, ◌↔◌, length, IsTrue, if◌then◌else◌};
-ghost use Rattle.rapid_model.specs.Printable.{IsPrintable, ArePrintable, takes};
+ghost use Rattle.std.specs.Prelude.{◌≡◌, ◌+◌, ◌≤◌, ◌<◌, ◌++◌, [], ◌∷◌, ◌↔◌, length, IsTrue, if◌then◌else◌};
+ghost use Rattle.std.specs.List.{list_all};
+ghost use Rattle.rapid_num.specs.Characters.{is_printable};
+ghost use Rattle.rapid_model.specs.Printable.{ArePrintable, takes};
 
 use arrayvec::ArrayVec;
+use rapid_num::is_printable;
 use std::marker::Model;
 
 /// A text of at most `ROOM` bytes, each from 20 to 7E hexadecimal. Contracts see it as the list of its bytes.
@@ -39,7 +42,7 @@ impl<const ROOM: usize> Printable<ROOM> {
         ensures taken { result ≡ takes ROOM self.old byte }
         ensures pushed { self.new ≡ (if result then self.old ++ byte ∷ [] else self.old) }
     {
-        if !(32..=126).contains(&byte) {
+        if !is_printable(byte) {
             return false;
         }
         self.characters.try_push(byte).is_ok()
@@ -70,3 +73,14 @@ pub type Text = Printable<80>;
 
 /// A name of at most 32 bytes.
 pub type NameText = Printable<32>;
+
+/// Appends printable bytes, for which there is room.
+pub fn show(text: &mut Text, bytes: &[u8])
+    requires room { length text.old + length bytes.now ≤ 80 }
+    requires printable { IsTrue (list_all is_printable bytes.now) }
+    ensures { text.new ≡ text.old ++ bytes.now }
+{
+    for byte in bytes {
+        text.push(*byte);
+    }
+}

@@ -106,7 +106,7 @@ pub enum Request {
         meeting: u32,
         tasks: u16,
     },
-    /// Waits for a change by another actor; `seen` is how many of them the statement's own Look told.
+    /// Waits for a change by another actor; `seen` is how many of them the statement's own Look found.
     Hold {
         seen: u32,
     },

@@ -24,13 +24,6 @@ impl<T> Sequence<T> {
         Sequence { items }
     }
 
-    /// The values as a `Vec`. Takes no memory.
-    pub fn into_vec(self) -> Vec<T>
-        ensures { result.items ≡ self }
-    {
-        self.items
-    }
-
     /// How many there are.
     pub fn len(&self) -> usize
         ensures { result ≡ length self.now }

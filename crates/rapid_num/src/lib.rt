@@ -1,7 +1,9 @@
-//! Numbers of RAPID as whole thousandths, and the joints, bounds and shapes that are made of them.
+//! Numbers of RAPID as whole thousandths, and the joints, bounds and shapes that are made of them; and which characters are
+//! printable.
 #![tactic(auto)]
 
 mod arithmetic;
+mod characters;
 mod decimal;
 mod digits;
 mod joints;
@@ -12,6 +14,7 @@ mod scale;
 mod shape;
 mod write;
 
+pub use characters::is_printable;
 pub use digits::digit_value;
 pub use joints::Joints;
 pub use literal::{BadLiteral, read_literal};

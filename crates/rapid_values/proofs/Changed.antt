@@ -15,15 +15,15 @@ use Rattle.rapid_values.specs.Values.{num_at, part_of, put_part, with_axes, with
 pub some_same : {A : Type 0} {x y : A} → Some x ≡ Some y → x ≡ y
 some_same {x = x} is = ap (λ o. unwrap_or o x) is
 
--- another place of a list is as it was
-other_place : (xs : List ℤ) (i j : ℕ) (n : ℤ) → (i ≡ j → ⊥) → slice_get (slice_set xs i n) j ≡ slice_get xs j
-other_place [] i j n ne = refl
-other_place (x ∷ xs) zero zero n ne = absurd (ne refl)
-other_place (x ∷ xs) zero (suc j) n ne = refl
-other_place (x ∷ xs) (suc i) zero n ne = refl
-other_place (x ∷ xs) (suc i) (suc j) n ne = other_place xs i j n (λ e. ne (ap suc e))
+-- what stands at another index of a list is as it was
+other_index : (xs : List ℤ) (i j : ℕ) (n : ℤ) → (i ≡ j → ⊥) → slice_get (slice_set xs i n) j ≡ slice_get xs j
+other_index [] i j n ne = refl
+other_index (x ∷ xs) zero zero n ne = absurd (ne refl)
+other_index (x ∷ xs) zero (suc j) n ne = refl
+other_index (x ∷ xs) (suc i) zero n ne = refl
+other_index (x ∷ xs) (suc i) (suc j) n ne = other_index xs i j n (λ e. ne (ap suc e))
 
--- a list with a num written is the list that was, set at a place that it has
+-- a list with a num written is the list that was, set at an index that it has
 written : (nums : List ℤ) (i : ℕ) (new : Value) (ns : List ℤ) → with_num nums i new ≡ Some ns → (n : ℤ) × (new ≡ values.Num n) × (i < length nums) × (ns ≡ slice_set nums i n)
 written nums i (values.Num n) ns is =
     let at : (within : Bool) → nat_lt i (length nums) ≡ within → (if within then Some (take i nums ++ n ∷ drop (i + 1) nums) else None) ≡ Some ns → (m : ℤ) × (values.Num n ≡ values.Num m) × (i < length nums) × (ns ≡ slice_set nums i m) =
@@ -48,7 +48,7 @@ num_there nums i new ns is =
 num_other : (nums : List ℤ) (i j : ℕ) (new : Value) (ns : List ℤ) → (i ≡ j → ⊥) → with_num nums i new ≡ Some ns → num_at ns j ≡ num_at nums j
 num_other nums i j new ns ne is =
     let w = written nums i new ns is in
-    ap (λ l. num_at l j) w.3 ∙ ap (option_map values.Num) (other_place nums i j w.0 ne)
+    ap (λ l. num_at l j) w.3 ∙ ap (option_map values.Num) (other_index nums i j w.0 ne)
 
 num_length : (nums : List ℤ) (i : ℕ) (new : Value) (ns : List ℤ) → with_num nums i new ≡ Some ns → length ns ≡ length nums
 num_length nums i new ns is =

@@ -8,7 +8,7 @@ use Rattle.rapid_model.specs.declared.value.Value.{Value}
 use Rattle.rapid_model.specs.declared.value.Value.TheVariants as values
 use Rattle.rapid_values.specs.Values.{nums_of, so_many, with_num}
 
--- a num that was written at a place that the list has
+-- a num that was written at an index that the list has
 pub num_written : (nums : List ℤ) (i : ℕ) (value : Value) (n : ℤ) → value ≡ values.Num n → i < length nums → with_num nums i value ≡ Some (slice_set nums i n)
 num_written nums i value n is lt = rw (is, lt-ltb i (length nums) lt, set_split nums i n lt, add-one i) refl
 

@@ -14,7 +14,7 @@ use Rattle.rapid_model.specs.Lengths.{is_full}
 use Rattle.rapid_values.specs.Values.{made_of, num_at, nums_of, part_of, so_many, with_axes}
 use Rattle.rapid_values.proofs.Changed.{mapped, some_same}
 
--- each num is that of the value at its place
+-- each num is that of the value at its index
 same_nums : (vs : List Value) (ns : List ℤ) → nums_of vs ≡ Some ns → (i : ℕ) → num_at ns i ≡ slice_get vs i
 same_nums [] ns is i = ap (λ ns. num_at ns i) (sym (some_same is))
 same_nums (values.Num n ∷ vs) ns is zero =
@@ -34,7 +34,7 @@ nums_made count make (Some ns) v is =
     in
     (ns, refl, at (nat_eq (length ns) count) is)
 
--- each component of a list is the part that stands in its place
+-- each component of a list is the part that stands at its index
 abbrev Stands : Value → (ℕ → Option Value) → List Component → Type 0
 Stands v at [] = Unit {0}
 Stands v at (c ∷ cs) = (part_of v c.part ≡ at 0) × Stands v (λ k. at (suc k)) cs
@@ -69,30 +69,30 @@ made_stands _ vs v full made = absurd (none-some _ made)
 pub parts_made : (sort : Sort) (vs : List Value) (v : Value) (i : ℕ) (c : Component) → list_all is_full vs ≡ true → made_of sort vs ≡ Some v → slice_get (components sort) i ≡ Some c → part_of v c.part ≡ slice_get vs i
 parts_made sort vs v i c full made is = stands_there v (slice_get vs) (components sort) i c (made_stands sort vs v full made) is
 
-taken_place : (xs : List ℤ) (n j : ℕ) → j < n → slice_get (take n xs) j ≡ slice_get xs j
-taken_place [] zero j lt = absurd (omega arith)
-taken_place [] (suc n) j lt = refl
-taken_place (x ∷ xs) zero j lt = absurd (omega arith)
-taken_place (x ∷ xs) (suc n) zero lt = refl
-taken_place (x ∷ xs) (suc n) (suc j) lt = taken_place xs n j (omega arith)
+taken_index : (xs : List ℤ) (n j : ℕ) → j < n → slice_get (take n xs) j ≡ slice_get xs j
+taken_index [] zero j lt = absurd (omega arith)
+taken_index [] (suc n) j lt = refl
+taken_index (x ∷ xs) zero j lt = absurd (omega arith)
+taken_index (x ∷ xs) (suc n) zero lt = refl
+taken_index (x ∷ xs) (suc n) (suc j) lt = taken_index xs n j (omega arith)
 
-left_place : (xs : List ℤ) (n j : ℕ) → n ≤ j → slice_get (drop n xs) (j - n) ≡ slice_get xs j
-left_place xs zero j le = ap (slice_get xs) (omega arith)
-left_place [] (suc n) j le = refl
-left_place (x ∷ xs) (suc n) zero le = absurd (omega arith)
-left_place (x ∷ xs) (suc n) (suc j) le =
+left_index : (xs : List ℤ) (n j : ℕ) → n ≤ j → slice_get (drop n xs) (j - n) ≡ slice_get xs j
+left_index xs zero j le = ap (slice_get xs) (omega arith)
+left_index [] (suc n) j le = refl
+left_index (x ∷ xs) (suc n) zero le = absurd (omega arith)
+left_index (x ∷ xs) (suc n) (suc j) le =
     let same : suc j - suc n ≡ j - n = omega arith in
-    ap (slice_get (drop n xs)) same ∙ left_place xs n j (omega arith)
+    ap (slice_get (drop n xs)) same ∙ left_index xs n j (omega arith)
 
-high_place : (axes : List ℤ) (j : ℕ) → 6 ≤ j → (if nat_lt j 6 then None else num_at (drop 6 axes) (j - 6)) ≡ num_at axes j
-high_place axes j le = rw (le-ltb j 6 le) (ap (option_map values.Num) (left_place axes 6 j le))
+high_index : (axes : List ℤ) (j : ℕ) → 6 ≤ j → (if nat_lt j 6 then None else num_at (drop 6 axes) (j - 6)) ≡ num_at axes j
+high_index axes j le = rw (le-ltb j 6 le) (ap (option_map values.Num) (left_index axes 6 j le))
 
 pub arm_axes : (v arm : Value) (j : ℕ) → j < 6 → part_of v parts.Robax ≡ Some arm → part_of arm (parts.Axis j) ≡ part_of v (parts.Axis j)
 arm_axes (values.Target joints) arm j lt is =
-    ap (λ x. part_of x (parts.Axis j)) (sym (some_same is)) ∙ ap (option_map values.Num) (taken_place joints.axis 6 j lt)
+    ap (λ x. part_of x (parts.Axis j)) (sym (some_same is)) ∙ ap (option_map values.Num) (taken_index joints.axis 6 j lt)
 arm_axes _ arm j lt is = absurd (none-some _ is)
 
 pub external_axes : (v external : Value) (j : ℕ) → 6 ≤ j → part_of v parts.Extax ≡ Some external → part_of external (parts.Axis j) ≡ part_of v (parts.Axis j)
 external_axes (values.Target joints) external j le is =
-    ap (λ x. part_of x (parts.Axis j)) (sym (some_same is)) ∙ high_place joints.axis j le
+    ap (λ x. part_of x (parts.Axis j)) (sym (some_same is)) ∙ high_index joints.axis j le
 external_axes _ external j le is = absurd (none-some _ is)

@@ -22,7 +22,7 @@ start_value _ = None
 
 -- a num of a list
 abbrev pub num_at : List ℤ → ℕ → Option Value
-num_at nums number = option_map values.Num (slice_get nums number)
+num_at nums index = option_map values.Num (slice_get nums index)
 
 -- the part of a value; axes are numbered from 0 over both joints, those of an extjoint from 6
 abbrev pub part_of : Value → PartName → Option Value
@@ -36,10 +36,10 @@ part_of (values.Speed nums) (parts.SpeedPart number) = num_at nums number
 part_of (values.Text text) parts.Taskname = Some (values.Text text)
 part_of _ _ = None
 
--- the list with another num at a place that it has
+-- the list with another num at an index that it has
 abbrev pub with_num : List ℤ → ℕ → Value → Option (List ℤ)
-with_num nums number (values.Num n) = if nat_lt number (length nums) then Some (take number nums ++ n ∷ drop (number + 1) nums) else None
-with_num nums number _ = None
+with_num nums index (values.Num n) = if nat_lt index (length nums) then Some (take index nums ++ n ∷ drop (index + 1) nums) else None
+with_num nums index _ = None
 
 abbrev pub with_axes : List ℤ → Value
 with_axes axes = values.Target (record { axis = axes })

@@ -37,20 +37,20 @@ pub(crate) fn joined(rob: &[Num], ext: &[Num]) -> Joints
 }
 
 /// A num of a list, from 0; None exactly behind its end.
-pub(crate) fn num_at(nums: &[Num], number: usize) -> Option<Value>
-    ensures { result ≡ num_at nums.now number }
+pub(crate) fn num_at(nums: &[Num], index: usize) -> Option<Value>
+    ensures { result ≡ num_at nums.now index }
 {
-    let num = nums.get(number)?;
+    let num = nums.get(index)?;
     Some(Value::Num(*num))
 }
 
-/// Puts a num at a place of a list, from 0. No exactly where the list has no such place or the value is no num.
-pub(crate) fn put_num(nums: &mut [Num], number: usize, new: &Value) -> bool
-    ensures { with_num nums.old number new.now ≡ (if result then Some nums.new else None) }
+/// Puts a num at an index of a list. No exactly where the list has no such index or the value is no num.
+pub(crate) fn put_num(nums: &mut [Num], index: usize, new: &Value) -> bool
+    ensures { with_num nums.old index new.now ≡ (if result then Some nums.new else None) }
 {
     match new {
-        Value::Num(num) if number < nums.len() => {
-            nums[number] = *num;
+        Value::Num(num) if index < nums.len() => {
+            nums[index] = *num;
             true
         }
         _ => false,

@@ -63,8 +63,8 @@ fn with_axis(value: Value, number: u8, new: Value) -> Option<Value>
             put_num(&mut axes, usize::from(number), &new).then_some(Value::Rob(axes))
         }
         Value::Ext(mut axes) => {
-            let place = number.checked_sub(6)?;
-            put_num(&mut axes, usize::from(place), &new).then_some(Value::Ext(axes))
+            let index = number.checked_sub(6)?;
+            put_num(&mut axes, usize::from(index), &new).then_some(Value::Ext(axes))
         }
         _ => None,
     }

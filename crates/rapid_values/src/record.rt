@@ -40,11 +40,11 @@ fn fill(nums: &mut [Num], parts: &[Value]) -> bool
     if parts.len() != nums.len() {
         return false;
     }
-    for (place, part) in parts.iter().enumerate() {
+    for (index, part) in parts.iter().enumerate() {
         let Value::Num(num) = part else {
             return false;
         };
-        nums[place] = *num;
+        nums[index] = *num;
     }
     true
 }

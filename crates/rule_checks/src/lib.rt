@@ -1,10 +1,12 @@
 //! What ends at the first broken rule: the words in which such checks are defined, and the rules of names and types.
 #![tactic(auto)]
 
+mod check;
 mod fault;
 mod rule;
 mod spot;
 
+pub use check::{broken, must};
 pub use fault::TypeFault;
 pub use rule::TypeRule;
 pub use spot::Spot;

@@ -1,4 +1,4 @@
-//! Cores, lines and whole cells by hand, with what they answer and print. It holds only tests.
+//! Shelves and sinks, cores, lines and whole cells by hand, with what they answer and print. It holds only tests.
 #![tactic(auto)]
 
 #[cfg(test)]
@@ -7,6 +7,8 @@ mod bounds;
 mod cells;
 #[cfg(test)]
 mod cores;
+#[cfg(test)]
+mod devices;
 #[cfg(test)]
 mod events;
 #[cfg(test)]

@@ -46,9 +46,9 @@ impl Signals {
         ensures changed { result ≡ (if slice_index_or self.old signal false then not value else value) }
         ensures set { self.new ≡ slice_set self.old signal value }
     {
-        let place = &mut self.values[signal as usize];
-        let changed = *place != value;
-        *place = value;
+        let slot = &mut self.values[signal as usize];
+        let changed = *slot != value;
+        *slot = value;
         changed
     }
 }

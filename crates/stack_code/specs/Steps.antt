@@ -116,7 +116,7 @@ abbrev pub stepped : Here → ℕ → ℕ → Option ℤ → Doing Conf
 stepped h k a None = past_turn h (slice_get h.code.ops a)
 stepped h k a (Some n) = set_counter_at k n >> jumps h a h.conf.stack
 
--- a wait that is not ready holds with the number that its own Look told, and rises
+-- a wait that is not ready holds with the number that its own Look found, and rises
 abbrev pub holds : Here → ℕ → List Datum → Doing Conf
 holds h to stack = Reads (λ d. tells (Hold (seen_in d.frames)) >> (tells Rise >> jumps h to stack))
 

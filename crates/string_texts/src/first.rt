@@ -5,8 +5,8 @@ ghost use Rattle.rapid_num.specs.Literal.{digit_value};
 ghost use Rattle.rapid_lexer.specs.Strings.{is_code};
 ghost use Rattle.string_texts.specs.Reading.{doubled, escaped, first_of};
 
-use rapid_lexer::{is_hex, is_printable};
-use rapid_num::digit_value;
+use rapid_lexer::is_hex;
+use rapid_num::{digit_value, is_printable};
 
 /// What a second quote spells with the one that stands before these bytes, and the length of both.
 fn doubled(bytes: &[u8]) -> Option<(u8, usize)>

@@ -24,7 +24,7 @@ look_asks code c d owner there =
     subst (λ (own : Own). Alike code (looks (here_of code c)) d (effect (here_of code c) (dones.Ask Look pendings.Looked)) (record d { place = Some own.at })) (own_is code c.pc owner there)
     (record { same = λ left. refl })
 
--- a wait that is not ready holds with what its own Look confirmed
+-- a wait that is not ready holds with what its own Look found
 pub wait_holds : (code : CodeData) (s0 s : Seen) (to seen : ℕ) → s ≡ with_stack s.conf.stack s0 → seen ≡ seen_in s.data'.frames
     → Alike code (holds (here_of code s0.conf) to s.conf.stack) s0.data' (effect (here_of code s.conf) (dones.Ask (Hold seen) (pendings.Held to))) s.data'
 unfolding performed after

@@ -11,8 +11,9 @@ ghost use Rattle.task_steps.specs.Doing.{came, gone, here_of};
 ghost use Rattle.task_steps.specs.Seen.{Seen};
 
 use crate::done::Done;
-use crate::shown::{num_of, truth_of};
+use crate::shown::truth_of;
 use crate::way::Way;
+use function_values::num_of;
 use rapid_model::{Fate, Fault, Value};
 
 /// A leading minus.

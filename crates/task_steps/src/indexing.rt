@@ -5,7 +5,7 @@ ghost use Rattle.std.specs.Prelude.{◌≡◌, ◌+◌, ◌≤◌, Some, slice_g
 ghost use Rattle.std.specs.Option.{option_and_then, option_map};
 ghost use Rattle.typed_trees.specs.declared.datum.Datum.TheVariants.{Place};
 ghost use Rattle.rapid_meaning.specs.Data.{frame_at};
-ghost use Rattle.rapid_meaning.specs.Places.{at_element, element_of, element_root, indexed, there_in};
+ghost use Rattle.rapid_meaning.specs.Places.{at_element, element_root, indexed, place_of_element, there_in};
 ghost use Rattle.stack_code.specs.CodeData.{CodeData};
 ghost use Rattle.stack_code.specs.Steps.{act, pushes};
 ghost use Rattle.stack_code.specs.declared.op.Op.TheVariants as ops;
@@ -14,8 +14,8 @@ ghost use Rattle.task_steps.specs.Doing.{here_of};
 
 use crate::done::Done;
 use crate::pushing::place_pushed;
-use crate::shown::num_of;
 use crate::task::Task;
+use function_values::num_of;
 use rapid_model::{Fate, Fault, Value};
 use rapid_operators::whole_index;
 use typed_trees::{Lvalue, Root};
@@ -47,7 +47,7 @@ impl Task {
     /// own; persistents are the cell's.
     fn element(&self, place: Lvalue, number: u16) -> Option<Lvalue>
         requires { 1 ≤ number }
-        ensures { result ≡ there_in self.now.data' (element_of place number) (element_root place.root number) }
+        ensures { result ≡ there_in self.now.data' (place_of_element place number) (element_root place.root number) }
     {
         let part = place.part;
         match place.root {

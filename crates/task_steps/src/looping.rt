@@ -13,9 +13,9 @@ ghost use Rattle.task_steps.specs.Alike.{Alike, Goes};
 ghost use Rattle.task_steps.specs.Doing.{gone, here_of};
 ghost use Rattle.task_steps.specs.Seen.{Seen};
 
-use crate::shown::num_of;
 use crate::task::Task;
 use crate::way::Way;
+use function_values::num_of;
 use live_code::Code;
 use machine_stacks::Held;
 use rapid_num::Num;

@@ -2,21 +2,12 @@
 
 ghost use Rattle.std.specs.Prelude.{◌≡◌};
 ghost use Rattle.rapid_meaning.specs.Doings.{or_misfit};
-ghost use Rattle.rapid_meaning.specs.Values.{bit_in, num_in, target_in, text_in, tool_speed_in, truth_in};
+ghost use Rattle.rapid_meaning.specs.Values.{bit_in, target_in, text_in, tool_speed_in, truth_in};
 ghost use Rattle.task_steps.specs.Alike.{tested};
 
+use function_values::num_of;
 use rapid_model::{Fault, Text, Value};
 use rapid_num::{Joints, Num};
-
-/// A num.
-pub(crate) fn num_of(value: &Value) -> Option<Num>
-    ensures { num_in value.now ≡ or_misfit result }
-{
-    match value {
-        Value::Num(number) => Some(*number),
-        _ => None,
-    }
-}
 
 /// A bool.
 pub(crate) fn truth_of(value: &Value) -> Option<bool>

@@ -16,8 +16,9 @@ ghost use Rattle.task_steps.specs.Doing.{came, here_of};
 use crate::done::Done;
 use crate::pending::Pending;
 use crate::pushing::whole;
-use crate::shown::{num_of, text_of};
+use crate::shown::text_of;
 use crate::task::Task;
+use function_values::num_of;
 use live_code::Code;
 use rapid_model::{Fate, Fault, NameText, Request, Text, Value};
 

@@ -24,7 +24,7 @@ use Rattle.typed_trees.specs.declared.expr.TreeRoot.TheVariants as tree_roots
 use Rattle.rapid_meaning.specs.Data.{Data, Frame, datum_at}
 use Rattle.rapid_meaning.specs.Doings.{Reads, or_misfit}
 use Rattle.rapid_meaning.specs.Layouts.{length_at, local_start, slot_start}
-use Rattle.rapid_meaning.specs.Places.{at_element, at_root, element_of, element_or_fault, element_root, indexed, kept_place, own_place, part_at, part_within, place_in, rooted, there_in}
+use Rattle.rapid_meaning.specs.Places.{at_element, at_root, element_or_fault, element_root, indexed, kept_place, own_place, part_at, part_within, place_in, place_of_element, rooted, there_in}
 use Rattle.rapid_meaning.specs.Values.{num_in}
 use Rattle.task_typing.specs.Expressions.{IsOwn, IsRoot}
 use Rattle.task_typing.specs.Kinds.{Cell, Holds, Lends, Kind, Owns, Refers, Counts, cells_of, kinds_of, local_cells}
@@ -57,7 +57,7 @@ IsThere s q sort = IsLvalue s.c.tree s.frames q sort
 -- a datum of this type, or an array of this length with elements of it
 abbrev pub IsRooted : Scene → Lvalue → Sort → Option ℕ → Type 0
 IsRooted s q sort None = IsThere s q sort
-IsRooted s q sort (Some len) = (number : ℕ) → 1 ≤ number → number ≤ len → IsThere s (element_of q number) sort
+IsRooted s q sort (Some len) = (number : ℕ) → 1 ≤ number → number ≤ len → IsThere s (place_of_element q number) sort
 
 own_there : (tree : TypedTree) (cells : List Cell) (below : List (List Cell)) (fs : List Frame) (at : ℕ) → AreFrames tree (cells ∷ below) fs
     → own_place at fs ≡ Some (at_root (roots.Frame (length below) at))
@@ -212,8 +212,8 @@ there_safe s q (roots.Frame k at) whole sort is there =
 there_safe s q (roots.Pers pers index) whole sort is there =
     safe_reads s (λ r. IsThere s r sort) (λ d. or_misfit (there_in d q (roots.Pers pers index))) (λ d state. safe_gives s (λ r. IsThere s r sort) q there)
 
-pub at_element_safe : (s : Scene) (q : Lvalue) (sort : Sort) (k : ℕ) → IsThere s (element_of q k) sort → Safe s (λ r. IsThere s r sort) (at_element q k)
-at_element_safe s q sort k is = there_safe s (element_of q k) (element_root q.root k) is.0 sort is.1 is
+pub at_element_safe : (s : Scene) (q : Lvalue) (sort : Sort) (k : ℕ) → IsThere s (place_of_element q k) sort → Safe s (λ r. IsThere s r sort) (at_element q k)
+at_element_safe s q sort k is = there_safe s (place_of_element q k) (element_root q.root k) is.0 sort is.1 is
 
 element_safe : (s : Scene) (q : Lvalue) (sort : Sort) (len : ℕ) (o : Option ℕ) → IsRooted s q sort (Some len) → ((k : ℕ) → o ≡ Some k → (1 ≤ k) × (k ≤ len))
     → Safe s (λ r. IsThere s r sort) (element_or_fault q o)

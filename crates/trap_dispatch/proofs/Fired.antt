@@ -18,7 +18,7 @@ connected_at-next numbers index =
     let same : suc index - 1 ≡ index = omega arith in
     rw (eqb-suc-zero index, same) refl
 
--- one place more, whose number is among those that fire or not
+-- one entry more, whose number is among those that fire or not
 pub fired_more : (changes : List Watched) (numbers : List (Option Connected)) (n : ℕ) →
     filter (λ number. fires changes (connected_at numbers number)) (range_with_len 1 (n + 1))
     ≡ filter (λ number. fires changes (connected_at numbers number)) (range_with_len 1 n) ++ cond (fires changes (slice_index_or numbers n None)) ((n + 1) ∷ []) []

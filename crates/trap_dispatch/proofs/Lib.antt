@@ -1,6 +1,6 @@
 pub mod Fired
 mod Mapped
-pub mod Places
+pub mod Positions
 pub mod Queued
 mod Room
 mod Tests

@@ -27,7 +27,7 @@ abbrev pub fires : List Watched → Option Connected → Bool
 fires changes None = false
 fires changes (Some c) = not c.asleep && is_on changes c.order
 
--- the numbers that fire, ascending, of as many numbers from 1 on as there are places
+-- the numbers that fire, ascending, of as many numbers from 1 on as there are entries
 abbrev pub fired_numbers : List Watched → List (Option Connected) → List ℕ
 fired_numbers changes numbers = filter (λ number. fires changes (connected_at numbers number)) (range_with_len 1 (length numbers))
 

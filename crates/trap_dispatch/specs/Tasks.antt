@@ -10,7 +10,7 @@ use Rattle.trap_dispatch.specs.declared.due.Due.TheVariants as dues
 use Rattle.trap_dispatch.specs.declared.order.Order.{Order}
 use Rattle.trap_dispatch.specs.Firing.{connected_at, fired_numbers, after_firing}
 
--- place n - 1 is that of the number n, where nothing is while it is free; the queue has the numbers that wait for their traps
+-- index n - 1 is that of the number n, where nothing is while it is free; the queue has the numbers that wait for their traps
 pub record TaskData : Type 0 where
   pub numbers : List (Option Connected)
   pub queue : List ℕ
@@ -18,7 +18,7 @@ pub record TaskData : Type 0 where
   pub disabled : Bool
   pub in_trap : Bool
 
--- there are 64 places and room for 1,024 firings, and each number that waits is connected
+-- there are 64 numbers and room for 1,024 firings, and each number that waits is connected
 pub record IsTask (numbers : List (Option Connected)) (queue : List ℕ) : Type 0 where
   pub count : length numbers ≡ 64
   pub room : length queue ≤ 1_024
@@ -37,7 +37,7 @@ least_free (Some index) = Ok (index + 1)
 abbrev pub connect_answer : TaskData → ℕ → Result ℕ ConnectFault
 connect_answer t old = if is_some (connected_at t.numbers old) then Err connect_faults.Already else least_free (position_from is_none 0 t.numbers)
 
--- the same with another place of a number
+-- the same with another interrupt of a number, or none
 abbrev pub with_number : TaskData → ℕ → Option Connected → TaskData
 with_number t number connected = record t { numbers = slice_set t.numbers (number - 1) connected }
 
@@ -83,7 +83,7 @@ abbrev pub first_due : TaskData → List ℕ → Due
 first_due t [] = dues.None
 first_due t (number ∷ _) = dues.Trap number (trap_of (connected_at t.numbers number))
 
--- whether a trap is to run: a marked flood is told before all else
+-- whether a trap is to run: a marked flood comes before all else
 abbrev pub look_answer : TaskData → Due
 look_answer t = if t.flood then dues.Flood else if t.in_trap || t.disabled then dues.None else first_due t t.queue
 

@@ -20,8 +20,8 @@ use std::marker::Model;
 /// How many firings may wait for their traps.
 const ROOM: usize = 1024;
 
-/// The interrupts of one task. Contracts see its 64 places, place n - 1 for the number n, the numbers that wait, and whether the
-/// queue was flooded, interrupts are disabled, and the task is in a trap.
+/// The interrupts of one task. Contracts see its 64 entries, index n - 1 for the number n, the numbers that wait, and whether
+/// the queue was flooded, interrupts are disabled, and the task is in a trap.
 #[derive(Drop)]
 pub(crate) struct TaskTraps {
     numbers: [Option<Connected>; 64],

@@ -14,7 +14,7 @@ use rapid_num::Memory;
 use std::alloc::{AllocError, Global};
 use std::marker::Model;
 
-/// The interrupts of each task of a cell. Contracts see, for each task, its 64 places, the numbers that wait, and whether the
+/// The interrupts of each task of a cell. Contracts see, for each task, its 64 entries, the numbers that wait, and whether the
 /// queue was flooded, interrupts are disabled, and the task is in a trap. A call changes what its task has, and no other task's.
 /// No call but `new` takes memory (RAPID Instructions: CONNECT, ISignalDI, ISignalDO, IPers, ISleep, IWatch, IDelete, IDisable,
 /// IEnable).

@@ -12,7 +12,7 @@ use Rattle.rule_checks.proofs.Steps.{behind, ok_same}
 use Rattle.data_scopes.proofs.Keeping.{set_same}
 use Rattle.data_scopes.proofs.Counted.{get_last}
 use Rattle.named_data.specs.Wants.{same_sort}
-use Rattle.cell_assembly.specs.Cells.{Making, Numbered, PersInfo, PersTables, added, all_pers, at_value, element, fits_index, global_number, global_pers, has_sort, is_given, join, joined, new_pers, one_pers, same_len, give, give_all, give_global, give_to, trees_pers, with_declared, with_list, with_given}
+use Rattle.cell_assembly.specs.Cells.{Making, Numbered, PersInfo, PersTables, added, all_pers, at_value, element, fits_index, global_number, global_pers, is_script_value, is_given, join, joined, new_pers, one_pers, same_len, give, give_all, give_global, give_to, trees_pers, with_declared, with_list, with_given}
 use Rattle.cell_assembly.proofs.SoundInfo.{same_len_is, same_sort_is}
 use Rattle.name_laws.specs.Declared.{AreEach}
 use Rattle.name_laws.proofs.Items.{front_append}
@@ -164,7 +164,7 @@ give_keeps ps qs number row k None there e = absurd cc
 give_keeps ps qs number row k (Some p) there e =
     let index = element row.index in
     let P : Type 0 = (k : ℕ) (p : PersInfo) → slice_get ps k ≡ Some p → IsKept qs k p in
-    behind P qs (must (has_sort p.sort row.value && fits_index p.len row.index) (at_value number Kind)) _ e (λ u suits rest.
+    behind P qs (must (is_script_value p.sort row.value && fits_index p.len row.index) (at_value number Kind)) _ e (λ u suits rest.
     behind P qs (must (nat_le (index + 1) (width p.len)) (at_value number Range)) _ rest (λ v within more.
     behind P qs (must (not (is_given (slice_get p.given index))) (at_value number Twice)) _ more (λ w not_given done.
     subst (Keeps ps) (ok_same (set ps k (with_given p index row.value)) qs done) (keeps_set ps k p (with_given p index row.value) there refl refl))))

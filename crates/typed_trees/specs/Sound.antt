@@ -1,14 +1,14 @@
 -- Persistents of a tree whose declarations are sound.
-use Rattle.std.specs.Prelude.{Bool, ◌&&◌, ◌==◌, List, length}
+use Rattle.std.specs.Prelude.{Bool, ◌&&◌, List}
 use Rattle.std.specs.List.{list_all}
 use Rattle.rapid_model.specs.Limits.{is_within, holds_where_there}
-use Rattle.rapid_model.specs.Sorts.{has_values, is_value_of, width}
+use Rattle.rapid_model.specs.Sorts.{has_values, are_values_of}
 use Rattle.rapid_model.specs.declared.value.Value.{Value}
 use Rattle.typed_trees.specs.Plain.{TypedPers, TypedTree}
 
 -- a value of the type for each element
 abbrev pub fits : TypedPers → List Value → Bool
-fits row values = length values == width row.len && list_all (is_value_of row.sort) values
+fits row values = are_values_of row.sort row.len values
 
 -- a persistent has a type with values, and up to 1000 elements; where its declaration gives values, they fit
 abbrev pub is_sound : TypedPers → Bool

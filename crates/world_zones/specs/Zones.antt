@@ -10,7 +10,7 @@ use Rattle.world_zones.specs.declared.own_zone.OwnZone.{OwnZone}
 use Rattle.world_zones.specs.declared.zone_fault.ZoneFault.{ZoneFault}
 use Rattle.world_zones.specs.declared.zone_fault.ZoneFault.TheVariants as zone_faults
 
--- the zones of each task's arm, place n - 1 for the number n, and those of the cell in script order
+-- the zones of each task's arm, index n - 1 for the number n, and those of the cell in script order
 pub record ZonesData : Type 0 where
   pub arms : List (List (Option OwnZone))
   pub cell : List CellZone
@@ -30,7 +30,7 @@ before_all cell = record { arms = replicate (length cell.tasks) no_zones; cell =
 abbrev pub zone_at : List (Option OwnZone) → ℕ → Option OwnZone
 zone_at zones number = if number == 0 then None else slice_index_or zones (number - 1) None
 
--- the same with another place of a number
+-- the same with another zone of a number, or none
 abbrev pub with_zone : List (Option OwnZone) → ℕ → Option OwnZone → List (Option OwnZone)
 with_zone zones number zone = slice_set zones (number - 1) zone
 

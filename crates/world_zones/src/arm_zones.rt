@@ -9,7 +9,7 @@ use crate::zone_fault::ZoneFault;
 use rapid_num::{Joints, Shape};
 use std::marker::Model;
 
-/// The zones of one arm. Contracts see its ten places, place n - 1 for the number n.
+/// The zones of one arm. Contracts see its ten entries, index n - 1 for the number n.
 #[derive(Debug, Drop)]
 pub(crate) struct ArmZones {
     zones: [Option<OwnZone>; 10],

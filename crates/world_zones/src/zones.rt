@@ -14,9 +14,9 @@ use rapid_num::{Joints, Memory, Shape};
 use std::alloc::{AllocError, Global};
 use std::marker::Model;
 
-/// The zones of a cell. Contracts see those of each task's arm, ten places a task, and those of the cell in script order. A call
-/// changes the zones of its task's arm, and no other's. No call but `new` takes memory (RAPID Instructions: WZLimSup, WZDisable,
-/// WZEnable, WZFree).
+/// The zones of a cell. Contracts see those of each task's arm, ten entries a task, and those of the cell in script order. A
+/// call changes the zones of its task's arm, and no other's. No call but `new` takes memory (RAPID Instructions: WZLimSup,
+/// WZDisable, WZEnable, WZFree).
 #[derive(Debug, Drop)]
 pub struct Zones {
     arms: Vec<ArmZones>,

@@ -11,10 +11,10 @@ pub returns-then-is_reserved : goal.returns-then-is_reserved
 returns-then-is_reserved c =
     let key = at (view_keys c.args.keys.now) c.args.key.now in
     Fails-broken _ key Name _ c.broken-then-is_reserved.ensures
-    (name_of_form key (view c.args.value.now) _ _ true true c.in_ok-text.ensures c.as_bytes-bytes.ensures.value (sym c.if-not-is_name.false ∙ c.is_name.ensures) (sym c.if-is_reserved.true ∙ c.is_reserved.ensures))
+    (name_of_form key (view c.args.value.now) _ _ true true c.in_ok-text.ensures c.as_bytes-bytes.ensures.value (sym c.if-not-is_short_name.false ∙ c.is_short_name.ensures) (sym c.if-is_reserved.true ∙ c.is_reserved.ensures))
 
 pub returns : goal.returns
 returns c =
     let key = at (view_keys c.args.keys.now) c.args.key.now in
-    name_of_form key (view c.args.value.now) _ _ true false c.in_ok-text.ensures c.as_bytes-bytes.ensures.value (sym c.if-not-is_name.false ∙ c.is_name.ensures) (sym c.if-is_reserved.false ∙ c.is_reserved.ensures)
+    name_of_form key (view c.args.value.now) _ _ true false c.in_ok-text.ensures c.as_bytes-bytes.ensures.value (sym c.if-not-is_short_name.false ∙ c.is_short_name.ensures) (sym c.if-is_reserved.false ∙ c.is_reserved.ensures)
     ∙ ap Ok (sym c.copy_name.ensures)

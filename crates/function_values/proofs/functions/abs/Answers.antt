@@ -8,7 +8,7 @@ use Rattle.function_values.proofs.Come.{given, lacks}
 use Rattle.function_values.proofs.functions.abs.Goals as goal
 
 pub returns-in-Some : goal.returns-in-Some
-returns-in-Some c = given (num_in c.args.value.now) c.in-Some.n (λ n. Gives (values.Num (pos (nat_abs n)))) (c.number_in.ensures ∙ ap or_misfit c.in-Some.is) ∙ ap (λ z. Gives (values.Num z)) (sym c.size.ensures)
+returns-in-Some c = given (num_in c.args.value.now) c.in-Some.n (λ n. Gives (values.Num (pos (nat_abs n)))) (c.num_of.ensures ∙ ap or_misfit c.in-Some.is) ∙ ap (λ z. Gives (values.Num z)) (sym c.size.ensures)
 
 pub returns-in-None : goal.returns-in-None
-returns-in-None c = lacks (num_in c.args.value.now) (λ n. Gives (values.Num (pos (nat_abs n)))) (c.number_in.ensures ∙ ap or_misfit c.in-None.is)
+returns-in-None c = lacks (num_in c.args.value.now) (λ n. Gives (values.Num (pos (nat_abs n)))) (c.num_of.ensures ∙ ap or_misfit c.in-None.is)

@@ -8,7 +8,7 @@ use Rattle.function_values.proofs.Come.{given, lacks}
 use Rattle.function_values.proofs.functions.num_to_str.Goals as goal
 
 pub returns-in-Some : goal.returns-in-Some
-returns-in-Some c = given (num_in c.args.first.now) c.in-Some.n (λ n. num_in c.args.second.now >>= λ k. Gives (values.Text (num_text n (decimals_of k)))) (c.number_in.ensures ∙ ap or_misfit c.in-Some.is) ∙ sym (given (num_in (values.Num c.in-Some.n)) c.in-Some.n (λ (m : ℤ). num_in c.args.second.now >>= λ k. Gives (values.Text (num_text m (decimals_of k)))) refl) ∙ c.with_decimals.ensures
+returns-in-Some c = given (num_in c.args.first.now) c.in-Some.n (λ n. num_in c.args.second.now >>= λ k. Gives (values.Text (num_text n (decimals_of k)))) (c.num_of.ensures ∙ ap or_misfit c.in-Some.is) ∙ sym (given (num_in (values.Num c.in-Some.n)) c.in-Some.n (λ (m : ℤ). num_in c.args.second.now >>= λ k. Gives (values.Text (num_text m (decimals_of k)))) refl) ∙ c.with_decimals.ensures
 
 pub returns-in-None : goal.returns-in-None
-returns-in-None c = lacks (num_in c.args.first.now) (λ n. num_in c.args.second.now >>= λ k. Gives (values.Text (num_text n (decimals_of k)))) (c.number_in.ensures ∙ ap or_misfit c.in-None.is)
+returns-in-None c = lacks (num_in c.args.first.now) (λ n. num_in c.args.second.now >>= λ k. Gives (values.Text (num_text n (decimals_of k)))) (c.num_of.ensures ∙ ap or_misfit c.in-None.is)

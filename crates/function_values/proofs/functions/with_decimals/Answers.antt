@@ -8,7 +8,7 @@ use Rattle.function_values.proofs.Come.{given, lacks}
 use Rattle.function_values.proofs.functions.with_decimals.Goals as goal
 
 pub returns-in-Some : goal.returns-in-Some
-returns-in-Some c = given (num_in (values.Num c.args.n)) c.args.n (λ (m : ℤ). num_in c.args.count.now >>= λ k. Gives (values.Text (num_text m (decimals_of k)))) refl ∙ given (num_in c.args.count.now) c.in-Some.count (λ k. Gives (values.Text (num_text c.args.n (decimals_of k)))) (c.number_in.ensures ∙ ap or_misfit c.in-Some.is) ∙ ap (λ t. Gives (values.Text t)) (sym (c.num_text.ensures ∙ ap (num_text c.args.n) c.decimals.ensures))
+returns-in-Some c = given (num_in (values.Num c.args.n)) c.args.n (λ (m : ℤ). num_in c.args.count.now >>= λ k. Gives (values.Text (num_text m (decimals_of k)))) refl ∙ given (num_in c.args.count.now) c.in-Some.count (λ k. Gives (values.Text (num_text c.args.n (decimals_of k)))) (c.num_of.ensures ∙ ap or_misfit c.in-Some.is) ∙ ap (λ t. Gives (values.Text t)) (sym (c.num_text.ensures ∙ ap (num_text c.args.n) c.decimals.ensures))
 
 pub returns-in-None : goal.returns-in-None
-returns-in-None c = given (num_in (values.Num c.args.n)) c.args.n (λ (m : ℤ). num_in c.args.count.now >>= λ k. Gives (values.Text (num_text m (decimals_of k)))) refl ∙ lacks (num_in c.args.count.now) (λ k. Gives (values.Text (num_text c.args.n (decimals_of k)))) (c.number_in.ensures ∙ ap or_misfit c.in-None.is)
+returns-in-None c = given (num_in (values.Num c.args.n)) c.args.n (λ (m : ℤ). num_in c.args.count.now >>= λ k. Gives (values.Text (num_text m (decimals_of k)))) refl ∙ lacks (num_in c.args.count.now) (λ k. Gives (values.Text (num_text c.args.n (decimals_of k)))) (c.num_of.ensures ∙ ap or_misfit c.in-None.is)

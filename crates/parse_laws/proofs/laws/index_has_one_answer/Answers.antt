@@ -4,4 +4,4 @@ use Rattle.parse_laws.proofs.Known.{index_known}
 use Rattle.parse_laws.proofs.laws.index_has_one_answer.Goals as goal
 
 pub returns : goal.returns
-returns c = record { one = one_answer _ _ index_known; told = tells_answer _ _ index_known view_expr }
+returns c = record { one = one_answer _ _ index_known; gives = tells_answer _ _ index_known view_expr }

@@ -4,4 +4,4 @@ use Rattle.parse_laws.proofs.Known.{parts_known}
 use Rattle.parse_laws.proofs.laws.parts_have_one_answer.Goals as goal
 
 pub returns : goal.returns
-returns c = record { one = one_answer _ _ parts_known; told = tells_answer _ _ parts_known view_parts }
+returns c = record { one = one_answer _ _ parts_known; gives = tells_answer _ _ parts_known view_parts }

@@ -2,7 +2,7 @@ use Rattle.std.proofs.Common.{◌<◌, Option, IfSome, is_none, sym, subst, ◌�
 use Rattle.std.proofs.lemmas.Iterator.{YieldsList-from_slice}
 use Rattle.std.proofs.lemmas.Iterator.Adapters.{position_from-zero}
 use Rattle.std.proofs.lemmas.Iterator.Search.{position_from_yields_List}
-use Rattle.trap_dispatch.proofs.Places.{position_from-below}
+use Rattle.trap_dispatch.proofs.Positions.{position_from-below}
 use Rattle.trap_dispatch.proofs.connected.free_index.Goals as goal
 
 pub returns-clause-there : goal.returns-clause-there

@@ -2,7 +2,9 @@ ghost use Rattle.std.specs.Prelude.{◌≡◌, [], IfSome, option_map};
 ghost use Rattle.outside.specs.Told.{found, after_reads};
 ghost use Rattle.outside.specs.Reads.{Follows};
 
-use super::*;
+use outside::{
+    Call, Failed, FileShelf, MemoryShelf, MemorySink, Shelf, ShelfFault, Sink, StreamSink,
+};
 use std::alloc::{AllocError, Global};
 use std::fs;
 use std::test::Fail;

@@ -7,7 +7,7 @@ use Rattle.rapid_forms.specs.Reading.{then_read, one_read, seq_read, either_read
 use Rattle.rapid_forms.proofs.Right.{Right}
 use Rattle.expr_parser.specs.Operators.{operator_of}
 use Rattle.expr_parser.specs.Grammar.{expr}
-use Rattle.expr_parser.specs.Precedence.{not_a_and_b, not_of_both}
+use Rattle.parse_laws.specs.Precedence.{not_a_and_b, not_of_both}
 use Rattle.expr_parser.specs.Reads.{name_read, parts_read, named_read, primary_read, step_read, chain_read, term_read, signed_read, sum_read, relation_read, land_read, negated_read, expr_of_read, expr_read}
 use Rattle.expr_parser.proofs.Answered.{expr_reads}
 

@@ -1,4 +1,4 @@
--- The first place that passes a test.
+-- The index of the first element that passes a test.
 use Rattle.std.proofs.Common.{◌≡◌, ℕ, ◌+◌, ◌<◌, Bool, true, false, cond, List, [], ◌∷◌, length, Some, IfSome, arith}
 use Rattle.std.specs.List.{position_from}
 

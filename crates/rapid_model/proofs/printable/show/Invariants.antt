@@ -1,5 +1,5 @@
 use Rattle.std.proofs.Common.{◌≡◌, ◌++◌, take}
-use Rattle.function_values.proofs.num_text.show.Given as goal
+use Rattle.rapid_model.proofs.printable.show.Given as goal
 
 abbrev pub invariant-loop-byte : goal.invariant-loop-byte
 invariant-loop-byte l = l.text ≡ l.initial.text ++ take l.byte-index l.bytes

@@ -1,6 +1,6 @@
 use Rattle.expr_parser.proofs.Known.{expr_known, spelled_once}
-use Rattle.expr_parser.proofs.Precedence.{not_of_both_spelled}
-use Rattle.expr_parser.proofs.laws.not_covers_and.Goals as goal
+use Rattle.parse_laws.proofs.Precedence.{not_of_both_spelled}
+use Rattle.parse_laws.proofs.laws.not_covers_and.Goals as goal
 
 pub returns : goal.returns
 returns c = record {
