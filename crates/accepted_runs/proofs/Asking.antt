@@ -28,7 +28,7 @@ use Rattle.task_typing.proofs.Until.{asks_on}
 use Rattle.task_typing.proofs.Whole.{asked}
 use Rattle.tree_soundness.specs.Accepted.{IsAccepted}
 use Rattle.tree_soundness.proofs.Accepted.{accepted_right}
-use Rattle.accepted_runs.proofs.Parts.{asks_by, due_by, fit_part, own_part}
+use Rattle.accepted_runs.proofs.Parts.{asks_by, due_by, own_part, tree_fit, tree_own}
 use Rattle.accepted_runs.proofs.Trees.{tree_there}
 
 pub asks_one : (trees : List TypedTree) → AsksOne (tree_asks trees)
@@ -40,7 +40,7 @@ offered c d (requests.ZoneTie old temporary shape signal value) may = absurd may
 offered c d request may = refl
 
 -- what a task asks after its own events
-may_next : (script : ScriptData) (made : MadeCell) (task : ℕ) (tree : TypedTree) (mine : List Event) (request : Request) → IsAccepted script made → slice_get made.trees task ≡ Some tree
+pub may_next : (script : ScriptData) (made : MadeCell) (task : ℕ) (tree : TypedTree) (mine : List Event) (request : Request) → IsAccepted script made → slice_get made.trees task ≡ Some tree
     → AreOwn task tree mine → asked_after tree (map (λ (e : Event). e.answer) mine) ≡ asks request → IsTrue (may_ask made.cell task mine request)
 may_next script made task tree mine request accepted there own due =
     let h = accepted_right script made task tree accepted there in
@@ -57,7 +57,8 @@ may : (script : ScriptData) (made : MadeCell) (history : List Event) (task : ℕ
     → IsTrue (may_ask made.cell task (part_of task history) request)
 may script made history task request accepted within legal asking =
     let t = tree_there script made task accepted within in
-    may_next script made task t.0 (part_of task history) request accepted t.1 (own_part made.trees made.cell history task t.0 within t.1 legal)
+    may_next script made task t.0 (part_of task history) request accepted t.1
+    (tree_own made.cell task t.0 (part_of task history) (own_part made.trees made.cell history task t.0 within t.1 legal))
     (due_by made.trees task t.0 (answers_of task history) request t.1 asking)
 
 goes_on : (script : ScriptData) (made : MadeCell) (history : List Event) (task : ℕ) → IsAccepted script made → task < length made.cell.tasks
@@ -66,9 +67,10 @@ goes_on : (script : ScriptData) (made : MadeCell) (history : List Event) (task :
 goes_on script made history task accepted within legal going =
     let t = tree_there script made task accepted within in
     let h = accepted_right script made task t.0 accepted t.1 in
+    let mine : List Event = part_of task history in
+    let course = own_part made.trees made.cell history task t.0 within t.1 legal in
     let next : (request : Request) × (asked_after t.0 (answers_of task history) ≡ asks request) =
-    asks_on (length made.cell.signals) (is_some h.row.arm) made.cell task t.0 (part_of task history) h.typed h.numbered (own_part made.trees made.cell history task t.0 within t.1 legal)
-    (fit_part made.trees made.cell history task t.0 within t.1 legal) going in
+    asks_on (length made.cell.signals) (is_some h.row.arm) made.cell task t.0 mine h.typed h.numbered (tree_own made.cell task t.0 mine course) (tree_fit made.cell task t.0 mine course) going in
     (next.0, asks_by made.trees task t.0 (answers_of task history) next.0 t.1 next.1)
 
 pub ask_well : (script : ScriptData) (made : MadeCell) → IsAccepted script made → TasksAskWell (tree_asks made.trees) made.cell

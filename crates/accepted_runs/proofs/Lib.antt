@@ -1,5 +1,5 @@
-pub mod Cuts
 pub mod Parts
 pub mod Trees
 pub mod Asking
 pub mod Programs
+pub mod Courses

@@ -1,7 +1,5 @@
--- The tasks of an accepted cell run the compiled code of their trees.
-use Rattle.std.proofs.Common.{◌≡◌, ◌∙◌, subst, ℕ, ◌+◌, ◌<◌, List, length, map, is_some, Some, slice_get}
-use Rattle.std.proofs.lemmas.Option.{slice_get_within}
-use Rattle.rapid_model.specs.Own.{part_of, answers_of}
+-- The tasks of an accepted cell ask as the compiled code of their trees.
+use Rattle.std.proofs.Common.{◌≡◌, ◌∙◌, subst, ℕ, ◌+◌, List, map, Some, slice_get}
 use Rattle.rapid_model.specs.ScriptData.{ScriptData}
 use Rattle.rapid_model.specs.declared.answer.Answer.{Answer}
 use Rattle.rapid_model.specs.declared.request.Request.{Request}
@@ -13,7 +11,6 @@ use Rattle.rapid_meaning.specs.Asking.{tree_asks}
 use Rattle.rapid_meaning.specs.Data.{Data}
 use Rattle.rapid_meaning.specs.Runs.{FitsSteps, asks, asked_after, state_after}
 use Rattle.task_typing.proofs.Own.{asks_it, is_asking}
-use Rattle.task_typing.proofs.Until.{fits_steps}
 use Rattle.stack_code.specs.CodeData.{CodeData}
 use Rattle.stack_code.specs.CodeRuns.{code_after}
 use Rattle.stack_code.specs.Compiled.{compiled}
@@ -21,11 +18,10 @@ use Rattle.live_code.specs.Asking.{CodeAsks}
 use Rattle.live_code.specs.Live.{CodeFits}
 use Rattle.code_liveness.specs.Asking.{AsksAs}
 use Rattle.code_liveness.proofs.Lives.{asks_as}
-use Rattle.cell_crew.specs.Crew.{RunPrograms, RunsProgram}
+use Rattle.cell_crew.specs.Crew.{AskAsPrograms, AsksAsProgram}
 use Rattle.tree_soundness.specs.Accepted.{IsAccepted}
-use Rattle.tree_soundness.proofs.Accepted.{accepted_right}
 use Rattle.accepted_code.proofs.Checking.{checked_is}
-use Rattle.accepted_runs.proofs.Parts.{asks_by, due_by, fit_part, own_part}
+use Rattle.accepted_runs.proofs.Parts.{asks_by, due_by}
 
 -- code asks what its tree asks
 
@@ -36,23 +32,18 @@ code_asks tree code answers request same fits due =
     let by : (k : ℕ) × ((more : ℕ) → code_after code (k + more) answers ≡ state_after tree answers) = same.stands answers fits in
     record { standing = now.0; by = record { operations = by.0; asked = λ more. by.1 more ∙ now.1 } }
 
-tree_due : (tree : TypedTree) (code : CodeData) (answers : List Answer) (request : Request) → AsksAs tree code → FitsSteps tree answers → CodeAsks code answers request
+pub tree_due : (tree : TypedTree) (code : CodeData) (answers : List Answer) (request : Request) → AsksAs tree code → FitsSteps tree answers → CodeAsks code answers request
     → asked_after tree answers ≡ asks request
 tree_due tree code answers request same fits asking =
     asks_it tree answers request asking.standing (same.asks answers (asking.by.operations + 0) request asking.standing fits (asking.by.asked 0))
 
--- the program of a tree
+-- a task asks as the code of its tree
 
-run_code : (script : ScriptData) (made : MadeCell) (task : ℕ) (tree : TypedTree) → IsAccepted script made → slice_get made.trees task ≡ Some tree
-    → RunsProgram CodeFits CodeAsks (tree_asks made.trees) made.cell task (compiled tree)
-run_code script made task tree accepted there =
-    let h = accepted_right script made task tree accepted there in
+asks_as_code : (script : ScriptData) (made : MadeCell) (task : ℕ) (tree : TypedTree) → IsAccepted script made → slice_get made.trees task ≡ Some tree
+    → AsksAsProgram CodeFits CodeAsks (tree_asks made.trees) task (compiled tree)
+asks_as_code script made task tree accepted there =
     let same : AsksAs tree (compiled tree) = asks_as tree (checked_is script made task tree accepted there) in
-    let within : task < length made.cell.tasks = slice_get_within made.cell.tasks task h.row h.there in
     record {
-      fit = λ history legal. (same.fits (answers_of task history)).1
-          (fits_steps (length made.cell.signals) (is_some h.row.arm) made.cell task tree (part_of task history) h.typed h.numbered (own_part made.trees made.cell history task tree within there legal)
-          (fit_part made.trees made.cell history task tree within there legal));
       same = λ answers request fits.
           let steps : FitsSteps tree answers = (same.fits answers).0 fits in (
             λ asking. code_asks tree (compiled tree) answers request same steps (due_by made.trees task tree answers request there asking),
@@ -60,9 +51,9 @@ run_code script made task tree accepted there =
           );
     }
 
-pub run_programs : (script : ScriptData) (made : MadeCell) → IsAccepted script made → RunPrograms CodeFits CodeAsks (tree_asks made.trees) made.cell (map compiled made.trees)
-run_programs script made accepted = record {
+pub ask_as_code : (script : ScriptData) (made : MadeCell) → IsAccepted script made → AskAsPrograms CodeFits CodeAsks (tree_asks made.trees) (map compiled made.trees)
+ask_as_code script made accepted = record {
   each = λ task program is.
       let of = made_there compiled made.trees task program is in
-      subst (λ (code : CodeData). RunsProgram CodeFits CodeAsks (tree_asks made.trees) made.cell task code) of.2 (run_code script made task of.0 accepted of.1);
+      subst (λ (code : CodeData). AsksAsProgram CodeFits CodeAsks (tree_asks made.trees) task code) of.2 (asks_as_code script made task of.0 accepted of.1);
 }

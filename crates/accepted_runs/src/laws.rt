@@ -7,7 +7,8 @@ ghost use Rattle.rapid_meaning.specs.Asking.{tree_asks};
 ghost use Rattle.stack_code.specs.Compiled.{compiled};
 ghost use Rattle.live_code.specs.Asking.{CodeAsks};
 ghost use Rattle.live_code.specs.Live.{CodeFits};
-ghost use Rattle.cell_crew.specs.Crew.{RunPrograms};
+ghost use Rattle.cell_crew.specs.Courses.{SuitTasks};
+ghost use Rattle.cell_crew.specs.Crew.{AskAsPrograms};
 ghost use Rattle.tree_soundness.specs.Accepted.{IsAccepted};
 
 /// A law: after given answers a task asks one request at most.
@@ -21,8 +22,15 @@ pub fn accepted_tasks_ask_well()
     ensures { (script : ScriptData) (made : MadeCell) → IsAccepted script made → TasksAskWell (tree_asks made.trees) made.cell }
 {}
 
-/// A law: each task of an accepted cell runs the compiled code of its tree: the answers that it gets in a legal history fit the code,
-/// and after answers that fit, the code asks what the tree asks, and nothing else.
-pub fn accepted_tasks_run_their_code()
-    ensures { (script : ScriptData) (made : MadeCell) → IsAccepted script made → RunPrograms CodeFits CodeAsks (tree_asks made.trees) made.cell (map compiled made.trees) }
+/// A law: after answers that fit the compiled code of its tree, each task of an accepted cell asks what its code asks, and nothing
+/// else.
+pub fn accepted_tasks_ask_as_their_code()
+    ensures { (script : ScriptData) (made : MadeCell) → IsAccepted script made → AskAsPrograms CodeFits CodeAsks (tree_asks made.trees) (map compiled made.trees) }
+{}
+
+/// A law: the compiled code of each task of an accepted cell suits its task by the task's own events alone, whatever the other tasks
+/// and the input script do: where each request is one that the code asks after the answers before it, and each answer fits its
+/// request, the answers fit the code, and the task may ask what the code asks next.
+pub fn accepted_code_suits_its_task()
+    ensures { (script : ScriptData) (made : MadeCell) → IsAccepted script made → SuitTasks CodeFits CodeAsks made.cell (map compiled made.trees) }
 {}

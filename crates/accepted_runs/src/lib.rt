@@ -1,6 +1,10 @@
-//! Laws of the tasks of an accepted cell: they ask as the laws on histories take it, and their compiled code asks what they do.
+//! Laws of the tasks of an accepted cell: they ask as the laws on histories take it, and their compiled code asks what they
+//! do, and suits them.
 #![tactic(auto)]
 
 mod laws;
 
-pub use laws::{accepted_tasks_ask_well, accepted_tasks_run_their_code, tasks_ask_one_request};
+pub use laws::{
+    accepted_code_suits_its_task, accepted_tasks_ask_as_their_code, accepted_tasks_ask_well,
+    tasks_ask_one_request,
+};

@@ -4,6 +4,7 @@ pub mod Changing
 pub mod AtStart
 pub mod Opening
 pub mod Growing
+pub mod Going
 pub mod Ready
 pub mod Reading
 pub mod Looks

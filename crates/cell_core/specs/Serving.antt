@@ -32,8 +32,11 @@ IfAnswered (Answered answer) P = P answer
 IfAnswered Spent P = Unit {0}
 IfAnswered NotYet P = Unit {0}
 
+abbrev pub event_of : ℕ → Request → Answer → Event
+event_of actor request answer = record { actor = actor; request = request; answer = answer }
+
 -- an answered request is the next event; else nothing has changed
 abbrev pub history_with : List Event → ℕ → Request → Served → List Event
-history_with history actor request (Answered answer) = history ++ record { actor = actor; request = request; answer = answer } ∷ []
+history_with history actor request (Answered answer) = history ++ event_of actor request answer ∷ []
 history_with history actor request Spent = history
 history_with history actor request NotYet = history

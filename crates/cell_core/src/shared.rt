@@ -1,4 +1,4 @@
-ghost use Rattle.std.specs.Prelude.{◌≡◌, ◌≤◌, ◌<◌, ◌+◌, ◌++◌, ◌&&◌, not, [], ◌∷◌, length, nat_lt, IfOk, IfErr, IsTrue, Some, slice_get};
+ghost use Rattle.std.specs.Prelude.{◌≡◌, ◌≤◌, ◌<◌, ◌+◌, ◌++◌, ◌&&◌, false, not, [], ◌∷◌, length, nat_le, IfOk, IfErr, IsTrue, Some, slice_get};
 ghost use Rattle.rapid_model.specs.Fits.{fits_request, fitting_in};
 ghost use Rattle.rapid_model.specs.Own.{has_ended, is_held, part_of};
 ghost use Rattle.rapid_model.specs.Requests.{of_pers};
@@ -13,7 +13,7 @@ ghost use Rattle.std.specs.Vec.{vec_capacity};
 ghost use Rattle.cell_meaning.specs.Stalled.{all_rest, is_stalled};
 ghost use Rattle.cell_meaning.specs.Stored.{persistent_after, value_at};
 ghost use Rattle.cell_core.specs.Reading.{fates_of, standing};
-ghost use Rattle.cell_core.specs.Serving.{IfAnswered, Serves, history_with};
+ghost use Rattle.cell_core.specs.Serving.{IfAnswered, Serves, event_of, history_with};
 ghost use Rattle.cell_core.specs.Soundness.{IsSound};
 
 use crate::boards::{Boards, is_counted};
@@ -125,7 +125,7 @@ impl Core {
         requires enabled { IsTrue (is_enabled self.old.cell self.old.history actor request) }
         ensures cell { self.new.cell ≡ self.old.cell }
         ensures answered { IsAnswer self.old.cell self.old.history actor request result }
-        ensures history { self.new.history ≡ self.old.history ++ record { actor = actor; request = request; answer = result } ∷ [] }
+        ensures history { self.new.history ≡ self.old.history ++ event_of actor request result ∷ [] }
         ensures fits { IsTrue (fits_request (fitting_in self.old.cell (part_of actor self.old.history)) request result) }
     {
         let index = self.events.len();
@@ -174,20 +174,26 @@ impl Core {
     pub fn can_feed(&self) -> bool
         ensures { result ≡ is_open self.now.cell self.now.history (inputs_done self.now.cell self.now.history) }
     {
-        let script = self.boards.actor(self.tasks);
-        let done = script.events;
+        let done = self.inputs_done();
         match self.cell.inputs().as_slice().get(done as usize) {
             Some(row) => self.lets_pass(row),
             None => false,
         }
     }
 
-    /// Whether a step of the input script is left.
-    pub fn input_left(&self) -> bool
-        ensures { result ≡ nat_lt (inputs_done self.now.cell self.now.history) (length self.now.cell.inputs) }
+    /// How many steps of the input script were done.
+    pub fn inputs_done(&self) -> u32
+        ensures { result ≡ inputs_done self.now.cell self.now.history }
     {
-        let script = self.boards.actor(self.tasks);
-        (script.events as usize) < self.cell.inputs().as_slice().len()
+        self.boards.actor(self.tasks).events
+    }
+
+    /// Whether each step of the input script was done.
+    pub fn all_inputs_done(&self) -> bool
+        ensures { result ≡ nat_le (length self.now.cell.inputs) (inputs_done self.now.cell self.now.history) }
+    {
+        let done = self.inputs_done();
+        self.cell.inputs().as_slice().len() <= done as usize
     }
 
     /// Whether the next step of the input script, which is there, is open: its gate holds, a task has not ended, and steps of
@@ -202,10 +208,11 @@ impl Core {
         all_so(passed, over, counted < self.steps)
     }
 
-    /// Whether the task's last event is a Hold.
+    /// Whether the task's last event is a Hold. A task that has ended asks no more, so it is not held.
     pub fn held(&self, task: u32) -> bool
         requires { task < length self.now.cell.tasks }
-        ensures { result ≡ is_held (part_of task self.now.history) }
+        ensures same { result ≡ is_held (part_of task self.now.history) }
+        ensures going { IsTrue result → has_ended (part_of task self.now.history) ≡ false }
     {
         self.boards.actor(task).held
     }
@@ -279,6 +286,14 @@ impl Core {
         ensures { slice_get self.now.history k ≡ Some result.now }
     {
         &self.events[k as usize]
+    }
+
+    /// How many tasks there are.
+    pub fn task_count(&self) -> u32
+        ensures same { result ≡ length self.now.cell.tasks }
+        ensures few { result ≤ 8 }
+    {
+        self.tasks
     }
 
     /// The cell.

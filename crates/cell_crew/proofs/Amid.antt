@@ -1,5 +1,5 @@
 -- A machine amid a run: what an event of its own task makes of it.
-use Rattle.std.proofs.Common.{◌≡◌, true, false, cond, List, [], ◌∷◌, ◌++◌, map, Option, Some, None, refl, ap, sym, ◌∙◌, subst}
+use Rattle.std.proofs.Common.{◌≡◌, true, false, cond, List, [], ◌∷◌, ◌++◌, Option, Some, None, refl, ap, sym, ◌∙◌, subst}
 use Rattle.std.specs.Prelude.{IsSome, is_some, is_none, filter}
 use Rattle.std.specs.Option.{option_or}
 use Rattle.std.proofs.lemmas.Bool.{false≢true}
@@ -12,12 +12,9 @@ use Rattle.rapid_model.specs.declared.fate.Fate.{Fate}
 use Rattle.rapid_model.specs.declared.request.Request.{Request}
 use Rattle.cell_meaning.proofs.MoreEvents.{end_of-more}
 use Rattle.cell_core.proofs.Growing.{no_fate}
+use Rattle.cell_crew.specs.Courses.{answers_in}
 use Rattle.cell_crew.specs.Crew.{answers_before_end}
 use Rattle.cell_crew.specs.UnderWay.{UnderWay}
-
--- the answers of some events
-abbrev pub answers_in : List Event → List Answer
-answers_in mine = map (λ e. e.answer) mine
 
 answers_in-append : (mine later : List Event) → answers_in (mine ++ later) ≡ answers_in mine ++ answers_in later
 answers_in-append mine later = map-append (λ e. e.answer) mine later

@@ -44,7 +44,8 @@ turn_others asks cell actor other before after (inl s) apart =
     ap (λ (h : List Event). part_of other h) s.added ∙ part_of-other other before s.event (λ own. apart (sym s.by ∙ own))
 turn_others asks cell actor other before after (inr r) apart = ap (λ (h : List Event). part_of other h) r.same
 
-all_at : {A : Type 0} (Q : A → Type 0) (xs : List A) (j : ℕ) (x : A) → AllByRecursion Q xs → slice_get xs j ≡ Some x → Q x
+-- what holds of all elements holds of the one at a place
+pub all_at : {A : Type 0} (Q : A → Type 0) (xs : List A) (j : ℕ) (x : A) → AllByRecursion Q xs → slice_get xs j ≡ Some x → Q x
 all_at Q [] j x all at = cc
 all_at Q (y ∷ xs) zero x all at = let is : y ≡ x = cc in subst (λ z. Q z) is all.0
 all_at Q (y ∷ xs) (suc j) x all at = all_at Q xs j x all.1 at

@@ -6,9 +6,9 @@ use Rattle.rapid_model.specs.declared.event.Event.{Event}
 use Rattle.rapid_model.specs.declared.fate.Fate.TheVariants as fates
 use Rattle.rapid_model.specs.declared.request.Request.{Request}
 use Rattle.rapid_model.specs.declared.request.Request.TheVariants.{Look, End}
+use Rattle.cell_core.specs.Serving.{event_of}
 use Rattle.cell_crew.specs.Crew.{answers_before_end}
 use Rattle.cell_crew.specs.UnderWay.{UnderWay}
-use Rattle.cell_crew.specs.Turned.{event_of}
 
 looked : Event
 looked = event_of 0 Look (answers.Go 0)

@@ -10,12 +10,12 @@ use Rattle.rapid_model.specs.declared.event.Event.{Event}
 use Rattle.rapid_model.specs.declared.request.Request.{Request}
 use Rattle.cell_meaning.specs.Asking.{Asking, with_inputs}
 use Rattle.cell_meaning.specs.Histories.{IsLegal}
-use Rattle.cell_meaning.specs.Inputs.{inputs_done}
 use Rattle.cell_meaning.specs.Turns.{TakesTurn, TakeTurns, IsRound, AfterRounds}
 use Rattle.cell_meaning.proofs.ByTurns.{legal_none, turn_same, turn_grows, turns_grow, turns_same}
-use Rattle.cell_crew.specs.Crew.{RunsProgram, RunPrograms}
+use Rattle.cell_crew.specs.Courses.{SuitsTask, SuitTasks}
+use Rattle.cell_crew.specs.Crew.{AsksAsProgram, AskAsPrograms}
 use Rattle.cell_crew.specs.UnderWay.{UnderWay, AreUnderWay}
-use Rattle.cell_crew.proofs.Crews.{map_set, map_at, turn_others, under_way_turn, under_way_other}
+use Rattle.cell_crew.proofs.Crews.{map_set, map_at, under_way_turn, under_way_other}
 
 no_turns : (asks : Asking) (cell : CellData) (history : List Event) → TakeTurns asks cell 0 0 history history
 unfolding TakeTurns
@@ -47,19 +47,6 @@ round_same asks cell before between after turns turn short =
     let first : length before ≤ length between = turns_grow asks cell 0 (length cell.tasks) before between turns in
     let last : length between ≤ length after = turn_grows asks cell (length cell.tasks) between after turn in
     turn_same asks cell (length cell.tasks) between after turn (omega (arith, first)) ∙ turns_same asks cell 0 (length cell.tasks) before between turns (omega (arith, last))
-
--- turns leave the events of the actors after theirs as they are
-turns_others : (asks : Asking) (cell : CellData) (actor left other : ℕ) (before after : List Event) → TakeTurns asks cell actor left before after → actor + left ≤ other → part_of other after ≡ part_of other before
-unfolding TakeTurns
-turns_others asks cell actor zero other before after same past = ap (λ (h : List Event). part_of other h) same
-turns_others asks cell actor (suc left) other before after t past =
-    turns_others asks cell (actor + 1) left other t.0 after t.2 (omega (arith, past)) ∙ turn_others asks cell actor other before t.0 t.1 (λ same. omega (arith, past, same))
-
--- the turns of the tasks do no step of the input script
-pub still_fed : (asks : Asking) (first cell : CellData) (before after : List Event) (done : ℕ) → cell ≡ first → TakeTurns asks first 0 (length first.tasks) before after → done ≡ inputs_done first before
-    → done ≡ inputs_done cell after
-still_fed asks first cell before after done same turns fed =
-    fed ∙ ap length (sym (turns_others asks first 0 (length first.tasks) (length first.tasks) before after turns (omega arith))) ∙ ap (λ (c : CellData). inputs_done c after) (sym same)
 
 pub no_longer : (n m a b : ℕ) → n ≡ a → m ≡ b → nat_lt n m ≡ false → b ≤ a
 no_longer n m a b p q no_more = omega (arith, ltb-false n m no_more)
@@ -99,10 +86,15 @@ module _ {M P : Type 0} (program : M → P) (stands_for : M → List Answer → 
   program_at : (start machines : List M) (k : ℕ) (m : M) → map program machines ≡ map program start → slice_get machines k ≡ Some m → slice_get (map program start) k ≡ Some (program m)
   program_at start machines k m same at = ap (λ (ps : List P). slice_get ps k) (sym same) ∙ map_at program machines k m at
 
-  pub runs_at : (fits : P → List Answer → Type 0) (program_asks : P → List Answer → Request → Type 0) (asks : Asking) (start machines : List M) (first cell : CellData) (before history : List Event) (k : ℕ) (m : M)
-      → RunPrograms fits program_asks asks first (map program start) → HaveTurned asks start machines first cell before history k → slice_get machines k ≡ Some m → RunsProgram fits program_asks asks cell k (program m)
-  runs_at fits program_asks asks start machines first cell before history k m runs turned at =
-      subst (λ (c : CellData). RunsProgram fits program_asks asks c k (program m)) (sym turned.same_cell) (runs.each k (program m) (program_at start machines k m turned.programs at))
+  -- the task asks as the program of its machine, which suits it
+  pub asks_at : (fits : P → List Answer → Type 0) (program_asks : P → List Answer → Request → Type 0) (asks : Asking) (start machines : List M) (first cell : CellData) (before history : List Event) (k : ℕ) (m : M)
+      → AskAsPrograms fits program_asks asks (map program start) → HaveTurned asks start machines first cell before history k → slice_get machines k ≡ Some m → AsksAsProgram fits program_asks asks k (program m)
+  asks_at fits program_asks asks start machines first cell before history k m ask turned at = ask.each k (program m) (program_at start machines k m turned.programs at)
+
+  pub suits_at : (fits : P → List Answer → Type 0) (program_asks : P → List Answer → Request → Type 0) (asks : Asking) (start machines : List M) (first cell : CellData) (before history : List Event) (k : ℕ) (m : M)
+      → SuitTasks fits program_asks first (map program start) → HaveTurned asks start machines first cell before history k → slice_get machines k ≡ Some m → SuitsTask fits program_asks cell k (program m)
+  suits_at fits program_asks asks start machines first cell before history k m suit turned at =
+      subst (λ (c : CellData). SuitsTask fits program_asks c k (program m)) (sym turned.same_cell) (suit.each k (program m) (program_at start machines k m turned.programs at))
 
   pub more_turned : (asks : Asking) (start machines : List M) (first cell later_cell : CellData) (before history after : List Event) (k : ℕ) (m later : M)
       → HaveTurned asks start machines first cell before history k
@@ -127,34 +119,31 @@ module _ {M P : Type 0} (program : M → P) (stands_for : M → List Answer → 
       sym (length-map machines program) ∙ ap length programs ∙ length-map start program ∙ one_each ∙ ap (λ (c : CellData). length c.tasks) (sym same) in
       under_way_other stands_for due (with_inputs asks cell) cell machines (length cell.tasks) before after (omega (arith, count)) ways turn
 
-  -- a crew after some rounds, when so many steps of the input script were done
-  pub record AmidRounds (asks : Asking) (start machines : List M) (first cell : CellData) (history : List Event) (done : ℕ) : Type 0 where
+  -- a crew after some rounds
+  pub record AmidRounds (asks : Asking) (start machines : List M) (first cell : CellData) (history : List Event) : Type 0 where
     pub same_cell : cell ≡ first
     pub programs : map program machines ≡ map program start
     pub legal : IsLegal (with_inputs asks first) first history
     pub ways : AreUnderWay stands_for due machines history
-    pub fed : done ≡ inputs_done first history
     pub past : AreRounds (with_inputs asks first) first history
 
-  pub before_rounds : (asks : Asking) (start machines : List M) (cell : CellData) (history : List Event) (done : ℕ) → map program machines ≡ map program start → AreUnderWay stands_for due machines [] → history ≡ []
-      → done ≡ 0 → AmidRounds asks start machines cell cell history done
-  before_rounds asks start machines cell history done programs ways none zero_done = record {
+  pub before_rounds : (asks : Asking) (start machines : List M) (cell : CellData) (history : List Event) → map program machines ≡ map program start → AreUnderWay stands_for due machines [] → history ≡ []
+      → AmidRounds asks start machines cell cell history
+  before_rounds asks start machines cell history programs ways none = record {
     same_cell = refl;
     programs = programs;
     legal = subst (λ (h : List Event). IsLegal (with_inputs asks cell) cell h) (sym none) (legal_none (with_inputs asks cell) cell);
     ways = subst (λ (h : List Event). AreUnderWay stands_for due machines h) (sym none) ways;
-    fed = zero_done ∙ ap (λ (h : List Event). inputs_done cell h) (sym none);
     past = no_rounds (with_inputs asks cell) cell history none;
   }
 
-  pub one_more_round : (asks : Asking) (start machines later : List M) (first cell later_cell : CellData) (history after : List Event) (done more : ℕ) → AmidRounds asks start machines first cell history done
-      → later_cell ≡ cell → map program later ≡ map program machines → IsLegal (with_inputs asks cell) cell after → AreUnderWay stands_for due later after → more ≡ inputs_done cell after
-      → IsRound (with_inputs asks cell) cell history after → AmidRounds asks start later first later_cell after more
-  one_more_round asks start machines later first cell later_cell history after done more amid same programs legal ways fed round = record {
+  pub one_more_round : (asks : Asking) (start machines later : List M) (first cell later_cell : CellData) (history after : List Event) → AmidRounds asks start machines first cell history
+      → later_cell ≡ cell → map program later ≡ map program machines → IsLegal (with_inputs asks cell) cell after → AreUnderWay stands_for due later after
+      → IsRound (with_inputs asks cell) cell history after → AmidRounds asks start later first later_cell after
+  one_more_round asks start machines later first cell later_cell history after amid same programs legal ways round = record {
     same_cell = same ∙ amid.same_cell;
     programs = programs ∙ amid.programs;
     legal = subst (λ (c : CellData). IsLegal (with_inputs asks c) c after) amid.same_cell legal;
     ways = ways;
-    fed = fed ∙ ap (λ (c : CellData). inputs_done c after) amid.same_cell;
     past = rounds_more (with_inputs asks first) first history after amid.past (subst (λ (c : CellData). IsRound (with_inputs asks c) c history after) amid.same_cell round);
   }

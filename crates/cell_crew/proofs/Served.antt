@@ -9,8 +9,7 @@ use Rattle.rapid_model.specs.declared.request.Request.{Request}
 use Rattle.cell_meaning.specs.Asking.{Asking}
 use Rattle.cell_meaning.specs.Histories.{Follows, is_fit, IsLegal}
 use Rattle.rapid_model.proofs.Cuts.{cut_more}
-use Rattle.cell_core.specs.Serving.{IsAnswered}
-use Rattle.cell_crew.specs.Turned.{event_of}
+use Rattle.cell_core.specs.Serving.{IsAnswered, event_of}
 
 -- with one more event that follows, whose answer fits
 legal_more : (asks : Asking) (cell : CellData) (history : List Event) (e : Event) → IsLegal asks cell history → Follows asks cell history e → IsTrue (is_fit cell history e) → IsLegal asks cell (history ++ e ∷ [])

@@ -13,11 +13,14 @@ use Rattle.cell_meaning.specs.Counted.{can_be_served}
 use Rattle.cell_meaning.specs.Histories.{Follows, IsLegal}
 use Rattle.cell_meaning.specs.Turns.{TakesTurn}
 use Rattle.cell_meaning.proofs.MoreEvents.{part_of-own}
+use Rattle.cell_core.specs.Serving.{event_of}
 use Rattle.cell_core.proofs.Growing.{no_fate}
-use Rattle.cell_crew.specs.Crew.{RunsProgram}
+use Rattle.cell_crew.specs.Courses.{SuitsTask, answers_in}
+use Rattle.cell_crew.specs.Crew.{AsksAsProgram}
 use Rattle.cell_crew.specs.UnderWay.{UnderWay}
-use Rattle.cell_crew.specs.Turned.{event_of, CannotFollow, CameOf}
-use Rattle.cell_crew.proofs.Amid.{answers_in, answers_in-more, ended_more, stood, way_ended, way_on}
+use Rattle.cell_crew.specs.Turned.{CannotFollow, CameOf}
+use Rattle.cell_crew.proofs.Amid.{answers_in-more, ended_more, stood, way_ended, way_on}
+use Rattle.cell_crew.proofs.Courses.{own_fit}
 
 pub own_more : (task : ℕ) (history after : List Event) (request : Request) (answer : Answer) → after ≡ history ++ event_of task request answer ∷ []
     → part_of task after ≡ part_of task history ++ event_of task request answer ∷ []
@@ -31,12 +34,16 @@ cannot_follow asks cell history e actor request (inl unserved) by is follows =
 cannot_follow asks cell history e actor request (inr waits) by is follows =
     false≢true (sym waits ∙ ap (λ (r : Request). is_enabled cell history actor r) (sym is) ∙ ap (λ (a : ℕ). is_enabled cell history a e.request) (sym by) ∙ follows.enabled)
 
+-- an answer that came is a turn of the actor
+pub answered_turn : (asks : Asking) (cell : CellData) (actor : ℕ) (history after : List Event) (request : Request) (answer : Answer) → CameOf asks cell history actor request after (Some answer)
+    → TakesTurn asks cell actor history after
+answered_turn asks cell actor history after request answer came = inl (record { event = event_of actor request answer; by = refl; follows = came.0; added = came.1 })
+
 -- what comes of asking the one request that an actor asks is its turn
 pub came_turn : (asks : Asking) (cell : CellData) (actor : ℕ) (history after : List Event) (request : Request) (answer : Option Answer)
     → ((other : Request) → asks actor (answers_of actor history) other → other ≡ request)
     → CameOf asks cell history actor request after answer → TakesTurn asks cell actor history after
-came_turn asks cell actor history after request (Some answer) one came =
-    inl (record { event = event_of actor request answer; by = refl; follows = came.0; added = came.1 })
+came_turn asks cell actor history after request (Some answer) one came = answered_turn asks cell actor history after request answer came
 came_turn asks cell actor history after request None one came =
     inr (record {
       none = λ e by follows. cannot_follow asks cell history e actor request came.0 by (one e.request (subst (λ (a : ℕ). asks a (answers_of a history) e.request) by follows.asked)) follows;
@@ -48,17 +55,23 @@ module _ {M P : Type 0} (program : M → P) (fits : P → List Answer → Type 0
   pub record AtTurn (asks : Asking) (cell : CellData) (task : ℕ) (m : M) (history : List Event) (request : Request) : Type 0 where
     pub asks_due : (x : M) (answers : List Answer) (r other : Request) → stands_for x answers → due x ≡ Some r → program_asks (program x) answers other ↔ (other ≡ r)
     pub within : task < length cell.tasks
-    pub runs : RunsProgram fits program_asks asks cell task (program m)
+    pub asks_as : AsksAsProgram fits program_asks asks task (program m)
+    pub suits : SuitsTask fits program_asks cell task (program m)
     pub legal : IsLegal (with_inputs asks cell) cell history
     pub way : UnderWay stands_for due m (part_of task history)
     pub going : has_ended (part_of task history) ≡ false
     pub is_due : due m ≡ Some request
 
+  -- what the task was answered fits its program
+  fit_after : (asks : Asking) (cell : CellData) (task : ℕ) (m : M) (history after : List Event) (request : Request) → AtTurn asks cell task m history request → IsLegal (with_inputs asks cell) cell after
+      → fits (program m) (answers_of task after)
+  fit_after asks cell task m history after request at legal = own_fit program_asks cell task (program m) fits asks at.within at.asks_as at.suits.fit after legal
+
   -- the program asks just what is due
   asks_just : (asks : Asking) (cell : CellData) (task : ℕ) (m : M) (history : List Event) (request : Request) → AtTurn asks cell task m history request
       → (other : Request) → asks task (answers_of task history) other ↔ (other ≡ request)
   asks_just asks cell task m history request at other =
-      let same = at.runs.same (answers_of task history) other (at.runs.fit history at.legal) in
+      let same = at.asks_as.same (answers_of task history) other (fit_after asks cell task m history history request at at.legal) in
       let just = at.asks_due m (answers_of task history) request other (stood stands_for due m (part_of task history) at.way at.going) at.is_due in
       (λ asked. just.0 (same.0 asked), λ is. same.1 (just.1 is))
 
@@ -77,7 +90,7 @@ module _ {M P : Type 0} (program : M → P) (fits : P → List Answer → Type 0
   fits_it asks cell task m history after request answer at legal is =
       let all : answers_of task after ≡ answers_of task history ++ answer ∷ [] =
       ap answers_in (own_more task history after request answer is) ∙ answers_in-more (part_of task history) (event_of task request answer) in
-      (answers_of task history, stood stands_for due m (part_of task history) at.way at.going, subst (λ (xs : List Answer). fits (program m) xs) all (at.runs.fit after legal))
+      (answers_of task history, stood stands_for due m (part_of task history) at.way at.going, subst (λ (xs : List Answer). fits (program m) xs) all (fit_after asks cell task m history after request at legal))
 
   -- whether it has ended with that event
   ends_it : (asks : Asking) (cell : CellData) (task : ℕ) (m : M) (history after : List Event) (request : Request) (answer : Answer) → AtTurn asks cell task m history request

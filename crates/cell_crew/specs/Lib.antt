@@ -1,3 +1,4 @@
 pub mod Crew
 pub mod UnderWay
 pub mod Turned
+pub mod Courses

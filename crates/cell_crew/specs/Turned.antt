@@ -8,9 +8,7 @@ use Rattle.cell_meaning.specs.Answers.{is_enabled}
 use Rattle.cell_meaning.specs.Asking.{Asking}
 use Rattle.cell_meaning.specs.Counted.{can_be_served}
 use Rattle.cell_meaning.specs.Histories.{Follows}
-
-abbrev pub event_of : ℕ → Request → Answer → Event
-event_of actor request answer = record { actor = actor; request = request; answer = answer }
+use Rattle.cell_core.specs.Serving.{event_of}
 
 -- the request cannot be served after the history, or it is not enabled
 abbrev pub CannotFollow : CellData → List Event → ℕ → Request → Type 0

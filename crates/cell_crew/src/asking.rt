@@ -13,8 +13,8 @@ use cell_meaning::Askers;
 use rapid_model::{Answer, Request};
 use task_programs::TaskMachine;
 
-/// Has each machine ask its first request.
-pub(crate) fn ask_first<M: TaskMachine>(machines: &mut [M])
+/// Has each machine, which has asked nothing, ask its first request.
+pub fn ask_first<M: TaskMachine>(machines: &mut [M])
     requires { AllByRecursion M.is_fresh machines.old }
     ensures programs { map M.program machines.new ≡ map M.program machines.old }
     ensures under_way { AreUnderWay M.stands_for M.due machines.new [] }

@@ -7,5 +7,6 @@ mod round;
 mod script;
 mod turn;
 
+pub use asking::ask_first;
 pub use ran::Ran;
 pub use round::run_round;

@@ -1,28 +1,29 @@
 ghost use Rattle.std.specs.Prelude.{◌≡◌, ◌<◌, ◌≤◌, ◌+◌, [], length, map, IsTrue, IsFalse};
 ghost use Rattle.cell_meaning.specs.Asking.{with_inputs};
 ghost use Rattle.cell_meaning.specs.Histories.{IsLegal};
-ghost use Rattle.cell_meaning.specs.Inputs.{inputs_done};
 ghost use Rattle.cell_meaning.specs.Premises.{AsksWhatItMay};
 ghost use Rattle.cell_meaning.specs.Turns.{TakeTurns, IsRound, IsByTurns};
-ghost use Rattle.cell_crew.specs.Crew.{IsCrew, RunPrograms, Stand};
+ghost use Rattle.cell_crew.specs.Courses.{SuitTasks};
+ghost use Rattle.cell_crew.specs.Crew.{AskAsPrograms, IsCrew, Stand};
 ghost use Rattle.cell_crew.specs.UnderWay.{AreUnderWay};
 
 use crate::asking::ask_first;
 use crate::ran::Ran;
 use crate::script::feed;
-use crate::turn::{task_count, turn};
+use crate::turn::turn;
 use cell_core::Core;
 use cell_meaning::Askers;
 use task_programs::TaskMachine;
 
 /// Lets the tasks take turns in script order, and after them the input script, one event a turn, until a whole round adds none
 /// (`IsByTurns` of cell_meaning). What has ended, is not enabled, or has no steps left adds none. The core has no events yet, and
-/// there is a machine for each task, which has asked nothing. Takes no memory.
+/// there is a machine for each task, which has asked nothing: the task asks as the machine's program, which suits it. Takes no
+/// memory.
 pub fn run_round<A: Askers, M: TaskMachine>(mut core: Core, mut machines: Vec<M>) -> Ran<M>
     requires no_events { core.history ≡ [] }
     requires crew { IsCrew M.is_fresh machines.items core.cell }
-    requires programs { RunPrograms M.fits M.asks A.asks core.cell (map M.program machines.items) }
-    requires may { AsksWhatItMay (with_inputs A.asks core.cell) core.cell }
+    requires programs { AskAsPrograms M.fits M.asks A.asks (map M.program machines.items) }
+    requires suit { SuitTasks M.fits M.asks core.cell (map M.program machines.items) }
     ensures cell { result.core.cell ≡ core.cell }
     ensures programs { map M.program result.machines.items ≡ map M.program machines.items }
     ensures by_turns { IsByTurns (with_inputs A.asks core.cell) core.cell result.core.history }
@@ -36,7 +37,8 @@ pub fn run_round<A: Askers, M: TaskMachine>(mut core: Core, mut machines: Vec<M>
 fn run<A: Askers, M: TaskMachine>(core: &mut Core, machines: &mut [M])
     requires no_events { core.old.history ≡ [] }
     requires crew { IsCrew M.is_fresh machines.old core.old.cell }
-    requires programs { RunPrograms M.fits M.asks A.asks core.old.cell (map M.program machines.old) }
+    requires programs { AskAsPrograms M.fits M.asks A.asks (map M.program machines.old) }
+    requires suit { SuitTasks M.fits M.asks core.old.cell (map M.program machines.old) }
     requires may { AsksWhatItMay (with_inputs A.asks core.old.cell) core.old.cell }
     ensures cell { core.new.cell ≡ core.old.cell }
     ensures programs { map M.program machines.new ≡ map M.program machines.old }
@@ -44,23 +46,21 @@ fn run<A: Askers, M: TaskMachine>(core: &mut Core, machines: &mut [M])
     ensures stand { Stand M.stands_for machines.new core.new.history }
 {
     ask_first(machines);
-    let mut done = 0;
-    'rounds: while round::<A, M>(core, machines, &mut done) {}
+    'rounds: while round::<A, M>(core, machines) {}
 }
 
-// A turn of each task in order and then of the input script, of which so many steps were done; and whether any added an event.
-fn round<A: Askers, M: TaskMachine>(core: &mut Core, machines: &mut [M], done: &mut u32) -> bool
+// A turn of each task in order and then of the input script; and whether any added an event.
+fn round<A: Askers, M: TaskMachine>(core: &mut Core, machines: &mut [M]) -> bool
     requires one_each { length machines.old ≡ length core.old.cell.tasks }
-    requires programs { RunPrograms M.fits M.asks A.asks core.old.cell (map M.program machines.old) }
+    requires programs { AskAsPrograms M.fits M.asks A.asks (map M.program machines.old) }
+    requires suit { SuitTasks M.fits M.asks core.old.cell (map M.program machines.old) }
     requires may { AsksWhatItMay (with_inputs A.asks core.old.cell) core.old.cell }
     requires legal { IsLegal (with_inputs A.asks core.old.cell) core.old.cell core.old.history }
     requires under_way { AreUnderWay M.stands_for M.due machines.old core.old.history }
-    requires done { done.old ≡ inputs_done core.old.cell core.old.history }
     ensures cell { core.new.cell ≡ core.old.cell }
     ensures programs { map M.program machines.new ≡ map M.program machines.old }
     ensures legal { IsLegal (with_inputs A.asks core.old.cell) core.old.cell core.new.history }
     ensures under_way { AreUnderWay M.stands_for M.due machines.new core.new.history }
-    ensures done { done.new ≡ inputs_done core.old.cell core.new.history }
     ensures round { IsRound (with_inputs A.asks core.old.cell) core.old.cell core.old.history core.new.history }
     ensures longer { IsTrue result → length core.old.history < length core.new.history }
     ensures same { IsFalse result → core.new.history ≡ core.old.history }
@@ -68,14 +68,15 @@ fn round<A: Askers, M: TaskMachine>(core: &mut Core, machines: &mut [M], done: &
 {
     let before = core.len();
     turns::<A, M>(core, machines);
-    *done = feed::<A>(core, *done);
+    feed::<A>(core);
     core.len() > before
 }
 
 // A turn of each task in order.
 fn turns<A: Askers, M: TaskMachine>(core: &mut Core, machines: &mut [M])
     requires one_each { length machines.old ≡ length core.old.cell.tasks }
-    requires programs { RunPrograms M.fits M.asks A.asks core.old.cell (map M.program machines.old) }
+    requires programs { AskAsPrograms M.fits M.asks A.asks (map M.program machines.old) }
+    requires suit { SuitTasks M.fits M.asks core.old.cell (map M.program machines.old) }
     requires may { AsksWhatItMay (with_inputs A.asks core.old.cell) core.old.cell }
     requires legal { IsLegal (with_inputs A.asks core.old.cell) core.old.cell core.old.history }
     requires under_way { AreUnderWay M.stands_for M.due machines.old core.old.history }
@@ -85,7 +86,7 @@ fn turns<A: Askers, M: TaskMachine>(core: &mut Core, machines: &mut [M])
     ensures under_way { AreUnderWay M.stands_for M.due machines.new core.new.history }
     ensures turns { TakeTurns (with_inputs A.asks core.old.cell) core.old.cell 0 (length core.old.cell.tasks) core.old.history core.new.history }
 {
-    for task in 0..task_count(core) {
+    for task in 0..core.task_count() {
         turn::<A, M>(core, &mut machines[task as usize], task);
     }
 }

@@ -1,11 +1,12 @@
 //! The turn of a task.
-ghost use Rattle.std.specs.Prelude.{◌≡◌, ◌<◌, length, IsTrue};
+ghost use Rattle.std.specs.Prelude.{◌≡◌, ◌<◌, length};
 ghost use Rattle.rapid_model.specs.Own.{part_of};
 ghost use Rattle.cell_meaning.specs.Asking.{with_inputs};
 ghost use Rattle.cell_meaning.specs.Histories.{IsLegal};
 ghost use Rattle.cell_meaning.specs.Premises.{AsksWhatItMay};
 ghost use Rattle.cell_meaning.specs.Turns.{TakesTurn};
-ghost use Rattle.cell_crew.specs.Crew.{RunsProgram};
+ghost use Rattle.cell_crew.specs.Courses.{SuitsTask};
+ghost use Rattle.cell_crew.specs.Crew.{AsksAsProgram};
 ghost use Rattle.cell_crew.specs.UnderWay.{UnderWay};
 
 use crate::asking::ask;
@@ -16,7 +17,8 @@ use task_programs::TaskMachine;
 /// The turn of a task, by its number from 0 in script order: it adds its event where it can.
 pub(crate) fn turn<A: Askers, M: TaskMachine>(core: &mut Core, machine: &mut M, task: u32)
     requires task { task < length core.old.cell.tasks }
-    requires program { RunsProgram M.fits M.asks A.asks core.old.cell task (M.program machine.old) }
+    requires program { AsksAsProgram M.fits M.asks A.asks task (M.program machine.old) }
+    requires suits { SuitsTask M.fits M.asks core.old.cell task (M.program machine.old) }
     requires may { AsksWhatItMay (with_inputs A.asks core.old.cell) core.old.cell }
     requires legal { IsLegal (with_inputs A.asks core.old.cell) core.old.cell core.old.history }
     requires under_way { UnderWay M.stands_for M.due machine.old (part_of task core.old.history) }
@@ -35,14 +37,4 @@ pub(crate) fn turn<A: Askers, M: TaskMachine>(core: &mut Core, machine: &mut M, 
             machine.next(answer);
         }
     }
-}
-
-/// How many tasks there are.
-pub(crate) fn task_count(core: &Core) -> u32
-    ensures { result ≡ length core.now.cell.tasks }
-{
-    let cell = core.cell();
-    // A cell is within its limits.
-    prove!(cell.steps() > 0);
-    cell.tasks().len() as u32
 }

@@ -16,7 +16,7 @@ use Rattle.cell_meaning.specs.Premises.{AsksUntilItsEnd}
 use Rattle.cell_meaning.proofs.OneAnswer.{some_answer}
 
 -- where a task has not ended, not all have
-one_going : (tasks task : ℕ) (history : List Event) → task < tasks → has_ended (part_of task history) ≡ false → all_ended tasks history ≡ false
+pub one_going : (tasks task : ℕ) (history : List Event) → task < tasks → has_ended (part_of task history) ≡ false → all_ended tasks history ≡ false
 one_going zero task history lt going = absurd (omega arith)
 one_going (suc tasks) task history lt going = elim (cases_eq task tasks) [
   | inl same ↦ both_false (all_ended tasks history) (has_ended (part_of tasks history)) (ap (λ (k : ℕ). has_ended (part_of k history)) (sym same) ∙ going)
@@ -32,7 +32,8 @@ not_served : (is_counted : Bool) (n steps : ℕ) → (not is_counted || nat_lt n
 not_served false n steps h = absurd (false≢true (sym h))
 not_served true n steps h = le-leb steps n (omega (arith, ltb-false n steps h))
 
-spent_so : (cell : CellData) (history : List Event) (task : ℕ) (request : Request) → task < length cell.tasks → has_ended (part_of task history) ≡ false
+-- a task that has not ended is not served only where the steps are spent
+pub spent_so : (cell : CellData) (history : List Event) (task : ℕ) (request : Request) → task < length cell.tasks → has_ended (part_of task history) ≡ false
     → can_be_served cell history request ≡ false → IsTrue (is_spent cell history)
 spent_so cell history task request lt going unserved =
     ap (λ (b : Bool). not b && nat_le cell.steps (counted history)) (one_going (length cell.tasks) task history lt going)

@@ -12,6 +12,7 @@ use Rattle.rapid_model.specs.declared.request.Request.{Request}
 use Rattle.rapid_model.specs.declared.request.Request.TheVariants as requests
 use Rattle.rapid_model.specs.declared.task_row.TaskRow.{TaskRow}
 use Rattle.cell_meaning.specs.Asking.{Asking, with_inputs}
+use Rattle.cell_meaning.specs.Histories.{IsLegal}
 use Rattle.cell_meaning.specs.MayAsk.{is_offered, may_ask}
 use Rattle.cell_meaning.specs.Premises.{OnlyActorsAsk, AsksOne, AsksWhatItMay, AsksUntilItsEnd, AsksInputs, TasksAskWell, AskTheSame}
 use Rattle.cell_meaning.proofs.Asked.{suits_by}
@@ -36,7 +37,7 @@ pub inputs_asked : (asks : Asking) (cell : CellData) → AsksInputs (with_inputs
 inputs_asked asks cell = record { next = λ answers left. inr (record { script = refl; left = left; next = refl }) }
 
 -- the input script may ask its next step
-script_may : (cell : CellData) (mine : List Event) → length mine < length cell.inputs → IsTrue (may_ask cell (length cell.tasks) mine (requests.Input (length mine)))
+pub script_may : (cell : CellData) (mine : List Event) → length mine < length cell.inputs → IsTrue (may_ask cell (length cell.tasks) mine (requests.Input (length mine)))
 script_may cell mine left =
     let none : slice_get cell.tasks (length cell.tasks) ≡ None = slice_get_past cell.tasks (length cell.tasks) (omega arith) in
     ap (λ (row : Option TaskRow). is_offered (requests.Input (length mine)) && suits_by cell (length cell.tasks) mine (requests.Input (length mine)) row) none
@@ -46,8 +47,11 @@ script_may cell mine left =
     all_three : (a b c : Bool) → a ≡ true → b ≡ true → c ≡ true → (true && (a && (b && c))) ≡ true
     all_three a b c p q r = rw (p, q, r) refl
 
-pub asks_what_it_may : (asks : Asking) (cell : CellData) → TasksAskWell asks cell → AsksWhatItMay (with_inputs asks cell) cell
-asks_what_it_may asks cell well = record { may = λ history actor request legal asked. by history actor request (λ task asks_it. well.may history actor request task legal asks_it) asked }
+-- what the tasks and the input script ask they may, where the tasks may ask what they do
+pub may_with_inputs : (asks : Asking) (cell : CellData)
+    → ((history : List Event) (task : ℕ) (request : Request) → task < length cell.tasks → IsLegal (with_inputs asks cell) cell history → asks task (answers_of task history) request → IsTrue (may_ask cell task (part_of task history) request))
+    → AsksWhatItMay (with_inputs asks cell) cell
+may_with_inputs asks cell tasks_may = record { may = λ history actor request legal asked. by history actor request (λ task asks_it. tasks_may history actor request task legal asks_it) asked }
   where
     by : (history : List Event) (actor : ℕ) (request : Request) → (actor < length cell.tasks → asks actor (answers_of actor history) request → IsTrue (may_ask cell actor (part_of actor history) request))
         → with_inputs asks cell actor (answers_of actor history) request → IsTrue (may_ask cell actor (part_of actor history) request)
@@ -59,6 +63,9 @@ asks_what_it_may asks cell well = record { may = λ history actor request legal 
         let may = script_may cell (part_of actor history) (omega (arith, count, left)) in
         subst (λ (r : Request). IsTrue (may_ask cell actor (part_of actor history) r)) (sym next)
         (subst (λ (k : ℕ). IsTrue (may_ask cell k (part_of actor history) (requests.Input (length (part_of actor history))))) (sym script.script) may)
+
+pub asks_what_it_may : (asks : Asking) (cell : CellData) → TasksAskWell asks cell → AsksWhatItMay (with_inputs asks cell) cell
+asks_what_it_may asks cell well = may_with_inputs asks cell (λ history task request within legal asked. well.may history task request within legal asked)
 
 pub asks_until_its_end : (asks : Asking) (cell : CellData) → TasksAskWell asks cell → AsksUntilItsEnd (with_inputs asks cell) cell
 asks_until_its_end asks cell well = record {

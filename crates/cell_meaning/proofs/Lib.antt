@@ -1,4 +1,5 @@
 pub mod Lists
+pub mod FilterCuts
 pub mod MoreEvents
 pub mod Asked
 pub mod OneAnswer

@@ -28,7 +28,7 @@ use Rattle.rule_checks.specs.declared.rule.TypeRule.TheVariants.{PersType}
 use Rattle.controller.specs.declared.modules.Modules.{Modules}
 use Rattle.controller.specs.Accepted.{ReadModule, place_at, read_text, read_file, rule_refusal, or_refused, names_in, typed_task, typed_tasks, modules_before, cell_or_refused, checked}
 use Rattle.controller.proofs.TreesInTurn.{with_tree, then_trees, cell_from}
-use Rattle.controller.specs.Files.{IsDoneFault}
+use Rattle.controller.specs.Files.{IsLoadFault}
 use Rattle.controller.specs.Loaded.{reads_in, ArePaired, IsRuleRefusal}
 use Rattle.controller.proofs.Lists.{drop-element}
 use Rattle.controller.proofs.ModuleFiles.{task_modules, first_of_all, rest_of_all}
@@ -183,8 +183,8 @@ module _ (P : Refused → Type 0) (of_script : (key : List ℕ) (rule : ScriptRu
 
 -- what the check is refused for
 pub checks_told : (old new : ℕ) (script : ScriptData) (reads : List ReadModule) (told : Option Refused) (refused : Refused) → (refused ≡ Memory) ⊎ (checked script reads ≡ Err refused) → told ≡ Some refused
-    → IfSome told (IsDoneFault old new)
-checks_told old new script reads told refused (inl memory) is = subst (λ (o : Option Refused). IfSome o (IsDoneFault old new)) (sym (is ∙ ap Some memory)) tt
+    → IfSome told (IsLoadFault old new)
+checks_told old new script reads told refused (inl memory) is = subst (λ (o : Option Refused). IfSome o (IsLoadFault old new)) (sym (is ∙ ap Some memory)) tt
 checks_told old new script reads told refused (inr found) is =
-    subst (λ (o : Option Refused). IfSome o (IsDoneFault old new)) (sym is)
-    (subst (λ (r : Result MadeCell Refused). IfErr r (IsDoneFault old new)) found (checks_refuse (IsDoneFault old new) (λ key rule. tt) (λ file place rule. tt) script reads))
+    subst (λ (o : Option Refused). IfSome o (IsLoadFault old new)) (sym is)
+    (subst (λ (r : Result MadeCell Refused). IfErr r (IsLoadFault old new)) found (checks_refuse (IsLoadFault old new) (λ key rule. tt) (λ file place rule. tt) script reads))

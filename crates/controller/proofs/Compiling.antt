@@ -6,6 +6,7 @@ use Rattle.std.specs.Option.{option_map}
 use Rattle.std.proofs.lemmas.List.{get_or-map, length-map, map-append, take_all}
 use Rattle.std.proofs.lemmas.List.Elements.{All-cons, All-get_or, All-nil}
 use Rattle.std.proofs.lemmas.Option.{slice_get-map}
+use Rattle.rapid_model.specs.CellData.{CellData}
 use Rattle.typed_trees.specs.Plain.{TypedTree}
 use Rattle.typed_trees.specs.Views.{view_tree}
 use Rattle.typed_trees.specs.declared.tree.Tree.{Tree}
@@ -19,7 +20,7 @@ use Rattle.accepted_code.proofs.Checking.{checked_is}
 use Rattle.task_machine.specs.MachineData.{MachineData}
 use Rattle.task_steps.specs.declared.phase.Phase.TheVariants as phases
 use Rattle.controller.specs.Answered.{AreCodesOf}
-use Rattle.controller.specs.Loaded.{HasScript}
+use Rattle.controller.specs.Loaded.{HasScript, made_with}
 use Rattle.controller.proofs.Lists.{take-element}
 
 -- the trees of an accepted cell are checked
@@ -33,6 +34,10 @@ checked_at made k tree has at = checked_is has.script made k tree has.accepted a
 
 pub all_checked : (made : MadeCell) → HasScript made → All IsChecked made.trees
 all_checked made has = all_from made.trees (λ k tree at. checked_at made k tree has at)
+
+-- the same of its trees as a slice
+pub seen_script : (cell : CellData) (trees seen : List Tree) → seen ≡ trees → HasScript (made_with cell trees) → HasScript (made_with cell seen)
+seen_script cell trees seen same has = subst (λ (ts : List Tree). HasScript (made_with cell ts)) (sym same) has
 
 -- one of them
 pub tree_checked : (trees : List Tree) (k : ℕ) (tree : Tree) → k < length trees → tree ≡ get_or trees k tree → All IsChecked (map view_tree trees) → IsChecked (view_tree tree)

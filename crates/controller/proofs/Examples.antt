@@ -1,10 +1,25 @@
 -- The definitions on examples worked by hand.
-use Rattle.std.proofs.Common.{◌≡◌, ℕ, List, [], ◌∷◌, refl, arith}
-use Rattle.std.specs.Prelude.{codes, Some, None}
+use Rattle.std.proofs.Common.{◌≡◌, ℕ, List, [], ◌∷◌, true, false, refl, arith}
+use Rattle.std.specs.Prelude.{codes, pos, Some, None}
+use Rattle.std.specs.Fmt.{digits}
 use Rattle.outside.specs.Told.{Told}
 use Rattle.outside.specs.declared.call.Call.{Call}
+use Rattle.rapid_model.specs.CellData.{CellData}
+use Rattle.rapid_model.specs.declared.answer.Answer.TheVariants as answers
+use Rattle.rapid_model.specs.declared.event.Event.{Event}
+use Rattle.rapid_model.specs.declared.fate.Fate.TheVariants as fates
+use Rattle.rapid_model.specs.declared.request.Request.TheVariants as requests
+use Rattle.rapid_model.specs.declared.sort.Sort.TheVariants as sorts
+use Rattle.rapid_model.specs.declared.value.Value.TheVariants as values
+use Rattle.rapid_model.specs.declared.zone_name.ZoneName.TheVariants.{Own}
+use Rattle.cell_meaning.proofs.ExampleCell.{joints_at}
+use Rattle.controller.specs.declared.command.Action.TheVariants as actions
 use Rattle.controller.specs.declared.refused.Refused.TheVariants.{Words, Read}
+use Rattle.controller.specs.declared.shown.Shown.TheVariants as shows
+use Rattle.controller.specs.LoadFiles.{load_reads}
+use Rattle.controller.specs.Output.{output_of, whole_path}
 use Rattle.controller.specs.Files.{Reads, told_reads}
+use Rattle.controller.specs.Words.{asked, is_run, refused_place}
 use Rattle.controller.specs.Accepted.{refuses, Accepted}
 use Rattle.controller.specs.Sends.{Leaves, Sends, SendsLines, SendsSome}
 
@@ -92,3 +107,102 @@ script_not_read = record { decides = refl }
 -- the script's name is missing
 no_name : (gave : Reads) → Accepted (codes "check" ∷ []) gave (refuses [] (Words 1))
 no_name gave = record { decides = refl }
+
+-- words that ask for `run`, refused or not, and others
+run_cell : is_run (codes "run" ∷ codes "c" ∷ []) ≡ true
+run_cell = refl
+
+run_later : is_run (codes "--history" ∷ codes "run" ∷ []) ≡ true
+run_later = refl
+
+run_as_name : is_run (codes "round" ∷ codes "run" ∷ []) ≡ false
+run_as_name = refl
+
+no_words : is_run [] ≡ false
+no_words = refl
+
+-- the history before or behind the other words; it changes no load
+whole_round : asked (codes "--history" ∷ codes "round" ∷ codes "c" ∷ []) ≡ Some (actions.Round true)
+whole_round = refl
+
+whole_run : asked (codes "run" ∷ codes "c" ∷ codes "--history" ∷ []) ≡ Some (actions.Run true)
+whole_run = refl
+
+short_round : asked (codes "round" ∷ codes "c" ∷ []) ≡ Some (actions.Round false)
+short_round = refl
+
+load_two : asked (codes "load" ∷ codes "--history" ∷ codes "2" ∷ []) ≡ Some (actions.Load 2)
+unfolding digits
+load_two = refl
+
+load_most : asked (codes "load" ∷ codes "1000" ∷ []) ≡ Some (actions.Load 1000)
+unfolding digits
+load_most = refl
+
+-- words behind `load` that are no such number
+load_none : refused_place (codes "load" ∷ codes "0" ∷ []) ≡ Some 1
+unfolding digits
+load_none = refl
+
+load_past : refused_place (codes "load" ∷ codes "1001" ∷ []) ≡ Some 1
+unfolding digits
+load_past = refl
+
+load_zero_first : refused_place (codes "--history" ∷ codes "load" ∷ codes "02" ∷ []) ≡ Some 2
+unfolding digits
+load_zero_first = refl
+
+load_without : refused_place (codes "load" ∷ []) ≡ Some 1
+load_without = refl
+
+-- a word too many comes first
+load_too_many : refused_place (codes "load" ∷ codes "0" ∷ codes "1" ∷ []) ≡ Some 2
+load_too_many = refl
+
+-- the second module of the load cell, and a name that no module has
+second_module : load_reads 1 2 (codes "l2.mod") ≡ Some (codes "MODULE Load\nPERS num total := 0;\nVAR jointtarget j := [[0,0,0,0,0,0],[9E9,9E9,9E9,9E9,9E9,9E9]];\nPROC main()\nFOR i FROM 1 TO 1 DO\nj.robax.rax_1 := (i * 37 + 2 * 11) MOD 90;\nMoveAbsJ j\\NoEOffs, v1000, fine, tool0;\ntotal := total + 1;\nENDFOR\nENDPROC\nENDMODULE\n")
+unfolding digits
+second_module = refl
+
+no_module : load_reads 1 1 (codes "cell.mod") ≡ Some []
+unfolding digits
+no_module = refl
+
+-- a task with an arm, and a num that is kept
+small_cell : CellData
+small_cell = record {
+  steps = 4;
+  tasks = record { name = codes "A"; arm = Some (joints_at (pos 0)) } ∷ [];
+  signals = [];
+  pers = record { name = codes "total"; owner = None; sort = sorts.Num; len = None; first = values.Num (pos 0) ∷ [] } ∷ [];
+  meetings = [];
+  zones = [];
+  inputs = [];
+}
+
+-- one setpoint is given and one is not, and the num is written twice
+small_history : List Event
+small_history =
+    record { actor = 0; request = requests.Setpoint (joints_at (pos 1_000)); answer = answers.Given }
+    ∷ record { actor = 0; request = requests.WriteP 0 whole_path (values.Num (pos 1_500)); answer = answers.Ok }
+    ∷ record { actor = 0; request = requests.WriteP 0 whole_path (values.Num (pos 2_500)); answer = answers.Ok }
+    ∷ record { actor = 0; request = requests.Setpoint (joints_at (pos 2_000)); answer = answers.Stopped (Own 1) }
+    ∷ []
+
+in_short : output_of (shows.Events false) small_cell small_history (fates.Done ∷ []) ≡ codes "S A 1.000 0.000 0.000 0.000 0.000 0.000\nE A Done\n"
+unfolding digits small_cell small_history
+in_short = refl
+
+in_full : output_of (shows.Events true) small_cell small_history (fates.Done ∷ [])
+    ≡ codes "H A Setpoint 1 0 0 0 0 0 > Given\nH A WriteP P0 1.5 > Ok\nH A WriteP P0 2.5 > Ok\nH A Setpoint 2 0 0 0 0 0 > Stopped Own 1\nE A Done\n"
+unfolding digits small_cell small_history
+in_full = refl
+
+in_sum : output_of shows.Summary small_cell small_history (fates.Done ∷ []) ≡ codes "L events 4\nL setpoints 1\nL total 2.5\nE A Done\n"
+unfolding digits small_cell small_history
+in_sum = refl
+
+-- where nothing is kept there is no total
+nothing_kept : output_of shows.Summary (record small_cell { pers = [] }) [] (fates.Cut ∷ []) ≡ codes "L events 0\nL setpoints 0\nL total \nE A Cut\n"
+unfolding digits small_cell
+nothing_kept = refl

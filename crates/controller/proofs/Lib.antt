@@ -2,10 +2,13 @@ mod Examples
 pub mod Options
 pub mod Lists
 pub mod Picking
+pub mod ParsedMoves
+pub mod Choosing
 pub mod ModuleFiles
 pub mod Untold
 pub mod GivenReads
 pub mod Loads
+pub mod LoadTexts
 pub mod ReadModules
 pub mod Parsing
 pub mod TreesInTurn

@@ -8,7 +8,7 @@ use Rattle.std.specs.declared.alloc.Global.{Global}
 use Rattle.outside.specs.Told.{Told, found, after_reads}
 use Rattle.rapid_model.specs.declared.script_rule.ScriptRule.{ScriptRule}
 use Rattle.rapid_model.specs.ScriptData.{ScriptData}
-use Rattle.cell_script.specs.ScriptOf.{ScriptOf, FaultOf}
+use Rattle.cell_script.specs.ScriptOf.{FaultOf}
 use Rattle.cell_script.specs.declared.fault.ScriptFault.{ScriptFault}
 use Rattle.cell_script.specs.declared.fault.ScriptFault.TheVariants.{Rule}
 use Rattle.controller.specs.Accepted.{ReadModule, script_limit, module_limit, file_text, ModuleIn, ModulesOf}
@@ -19,37 +19,35 @@ use Rattle.controller.specs.declared.refused.Refused.TheVariants as refusals
 use Rattle.controller.proofs.Lists.{drop-at, drop-past}
 use Rattle.controller.proofs.Untold.{Stops, unread_gave, text_within}
 
--- a text that was read whole, and breaks a rule
-IsScriptIn-Script : (read : Result (List ℕ) Refused) (text source : List ℕ) (fault : ScriptFault) (key : List ℕ) (rule : ScriptRule) → read ≡ Ok text → source ≡ text → FaultOf source fault → fault ≡ Rule key rule
-    → IsScriptIn read (Err (refusals.Script key rule))
-IsScriptIn-Script read text source fault key rule whole same of_source is =
-    let broken : FaultOf source (Rule key rule) = subst (λ (f : ScriptFault). FaultOf source f) is of_source in
-    inr (inr (source, record { key = key; rule = rule }, whole ∙ ap Ok (sym same), broken, refl))
+-- a text that breaks a rule
+pub script_breaks : (text : List ℕ) (fault : ScriptFault) (key : List ℕ) (rule : ScriptRule) → FaultOf text fault → fault ≡ Rule key rule → IsScriptIn (Ok text) (Err (refusals.Script key rule))
+script_breaks text fault key rule of_text is =
+    let broken : FaultOf text (Rule key rule) = subst (λ (f : ScriptFault). FaultOf text f) is of_text in
+    inr (inr (text, record { key = key; rule = rule }, refl, broken, refl))
+
+-- the script of a text that was read whole
+pub script_in : (read : Result (List ℕ) Refused) (text source : List ℕ) (result : Result ScriptData Refused) → read ≡ Ok text → source ≡ text → IsScriptIn (Ok source) result → IsScriptIn read result
+script_in read text source result whole same is = subst (λ (r : Result (List ℕ) Refused). IsScriptIn r result) (sym (whole ∙ ap Ok (sym same))) is
 
 -- the same of the first file, where the shelf may tell its files
-pub script_is_refused : (told : Option Told) (name text source : List ℕ) (fault : ScriptFault) (key : List ℕ) (rule : ScriptRule) → IfSome told (λ t. text_of 0 script_limit (found t name) ≡ Ok text) → source ≡ text
-    → FaultOf source fault → fault ≡ Rule key rule → IfSome told (λ t. IsScriptIn (text_of 0 script_limit (found t name)) (Err (refusals.Script key rule)))
-script_is_refused told name text source fault key rule whole same of_source is =
-    IfSome_then told {P = λ t. text_of 0 script_limit (found t name) ≡ Ok text} {Q = λ t. IsScriptIn (text_of 0 script_limit (found t name)) (Err (refusals.Script key rule))} whole
-    (λ t read. IsScriptIn-Script (text_of 0 script_limit (found t name)) text source fault key rule read same of_source is)
+pub script_read : (told : Option Told) (name text source : List ℕ) (result : Result ScriptData Refused) → IfSome told (λ t. text_of 0 script_limit (found t name) ≡ Ok text) → source ≡ text
+    → IsScriptIn (Ok source) result → IfSome told (λ t. IsScriptIn (text_of 0 script_limit (found t name)) result)
+script_read told name text source result whole same is =
+    IfSome_then told {P = λ t. text_of 0 script_limit (found t name) ≡ Ok text} {Q = λ t. IsScriptIn (text_of 0 script_limit (found t name)) result} whole
+    (λ t read. script_in (text_of 0 script_limit (found t name)) text source result read same is)
 
--- the same of what some read gave, whatever the shelf tells: the file is not read, it breaks a rule, or it is a script
+-- and of what some read gave, whatever the shelf tells
+pub script_gave : (text source : List ℕ) (result : Result ScriptData Refused) → length text ≤ script_limit → source ≡ text → IsScriptIn (Ok source) result
+    → (gave : Option (List ℕ)) × IsScriptIn (text_of 0 script_limit gave) result
+script_gave text source result within same is = (Some text, script_in (text_of 0 script_limit (Some text)) text source result (text_within 0 script_limit text within) same is)
 
+-- the file is not read
 pub script_stops : (refused : Refused) → IsUnread 0 refused → (gave : Option (List ℕ)) × IsScriptIn (text_of 0 script_limit gave) (Err refused)
 script_stops refused is = let found = unread_gave 0 script_limit refused is in (found.0, stops found.0 found.1)
   where
     stops : (gave : Option (List ℕ)) → Stops 0 script_limit refused gave → IsScriptIn (text_of 0 script_limit gave) (Err refused)
     stops gave (inl memory) = inl memory
     stops gave (inr read) = inr (inl read)
-
-pub script_breaks : (text source : List ℕ) (fault : ScriptFault) (key : List ℕ) (rule : ScriptRule) → length text ≤ script_limit → source ≡ text → FaultOf source fault → fault ≡ Rule key rule
-    → (gave : Option (List ℕ)) × IsScriptIn (text_of 0 script_limit gave) (Err (refusals.Script key rule))
-script_breaks text source fault key rule within same of_source is =
-    (Some text, IsScriptIn-Script (text_of 0 script_limit (Some text)) text source fault key rule (text_within 0 script_limit text within) same of_source is)
-
-pub script_is_read : (text source : List ℕ) (script : ScriptData) → length text ≤ script_limit → source ≡ text → ScriptOf source (Ok script)
-    → (gave : Option (List ℕ)) × IsScriptIn (text_of 0 script_limit gave) (Ok script)
-script_is_read text source script within same of_source = (Some text, (source, text_within 0 script_limit text within ∙ ap Ok (sym same), of_source))
 
 -- amid the modules: the texts before this one are read, and so many reads are told
 pub record Loading (start now : Option Told) (old new : ℕ) (modules : List (Bor (List ℕ))) (k : ℕ) (texts : List (Vec ℕ Global)) : Type 0 where

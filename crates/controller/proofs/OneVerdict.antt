@@ -11,9 +11,9 @@ use Rattle.module_parser.specs.Modules.{ModuleText}
 use Rattle.controller.specs.declared.command.Action.{Action}
 use Rattle.controller.specs.declared.command.Action.TheVariants as actions
 use Rattle.controller.specs.declared.refused.Refused.{Refused}
-use Rattle.controller.specs.Words.{refused_place, plain_words, first_action, script_name}
+use Rattle.controller.specs.Words.{refused_place, script_name, asked}
 use Rattle.controller.specs.Files.{Reads}
-use Rattle.controller.specs.Accepted.{ReadModule, Verdict, Accepted, script_limit, module_limit, file_text, fault_refusal, ModuleOf, ModuleIn, ModulesOf, checked, ActionDecides, CheckedDecides, ModulesDecide, names_of, ScriptDecides, FileDecides, WordsDecide}
+use Rattle.controller.specs.Accepted.{ReadModule, Verdict, Accepted, script_limit, module_limit, file_text, reads_for, fault_refusal, ModuleOf, ModuleIn, ModulesOf, checked, ActionDecides, CheckedDecides, ModulesDecide, names_of, ScriptDecides, FileDecides, WordsDecide}
 
 -- a text comes to one module or one fault
 abbrev pub OneText : Type 0
@@ -91,8 +91,10 @@ modules_one one gave file (n ∷ ns) (Err x) (Err y) (inr p) (inr q) = modules_o
 -- what is accepted is done in one way
 action_one : (action : Option Action) (names : List (List ℕ)) (made : MadeCell) (v w : Verdict) → ActionDecides action names made v → ActionDecides action names made w → v ≡ w
 action_one (Some actions.Check) names made v w p q = p ∙ sym q
-action_one (Some actions.Round) names made v w p q = p ∙ sym q
+action_one (Some (actions.Round full)) names made v w p q = p ∙ sym q
+action_one (Some (actions.Run full)) names made v w p q = p ∙ sym q
 action_one (Some actions.List) names made v w p q = p ∙ sym q
+action_one (Some (actions.Load moves)) names made v w p q = p ∙ sym q
 action_one None names made v w p q = absurd p
 
 checked_one : (action : Option Action) (names : List (List ℕ)) (found : Result MadeCell Refused) (v w : Verdict) → CheckedDecides action names found v → CheckedDecides action names found w → v ≡ w
@@ -119,7 +121,8 @@ file_decides_one one action gave name (Ok text) v w p q =
 words_decide_one : OneText → (gave : Reads) (words : List (List ℕ)) (place : Option ℕ) (v w : Verdict) → WordsDecide gave words place v → WordsDecide gave words place w → v ≡ w
 words_decide_one one gave words (Some place) v w p q = p ∙ sym q
 words_decide_one one gave words None v w p q =
-    file_decides_one one (first_action (plain_words words)) gave (script_name words) (file_text gave 0 script_limit (script_name words)) v w p q
+    let read = reads_for (asked words) gave in
+    file_decides_one one (asked words) read (script_name words) (file_text read 0 script_limit (script_name words)) v w p q
 
 pub verdict_one : OneText → (words : List (List ℕ)) (gave : Reads) (v w : Verdict) → Accepted words gave v → Accepted words gave w → v ≡ w
 verdict_one one words gave v w a b = words_decide_one one gave words (refused_place words) v w a.decides b.decides

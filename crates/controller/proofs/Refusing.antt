@@ -12,8 +12,8 @@ use Rattle.controller.specs.declared.command.Action.TheVariants as actions
 use Rattle.controller.specs.declared.refused.Refused.{Refused}
 use Rattle.controller.specs.declared.refused.Refused.TheVariants as refusals
 use Rattle.controller.specs.Files.{Reads, text_of}
-use Rattle.controller.specs.Words.{refused_place, plain_words, first_action, script_name}
-use Rattle.controller.specs.Accepted.{Verdict, refuses, accepts, runs, lists, Accepted, ReadModule, script_limit, module_limit, file_text, fault_refusal, ModuleIn, ModulesOf, checked, ActionDecides, CheckedDecides, ModulesDecide, names_of, ScriptDecides, FileDecides, WordsDecide}
+use Rattle.controller.specs.Words.{refused_place, script_name, asked}
+use Rattle.controller.specs.Accepted.{Verdict, refuses, accepts, runs, runs_free, lists, Accepted, ReadModule, script_limit, module_limit, file_text, reads_for, fault_refusal, ModuleIn, ModulesOf, checked, ActionDecides, CheckedDecides, ModulesDecide, names_of, ScriptDecides, FileDecides, WordsDecide}
 use Rattle.controller.proofs.Checking.{checks_refuse}
 
 -- the words, a file, the script or a module is refused
@@ -30,7 +30,8 @@ IsOfInput (refusals.TooLong file) = Unit {0}
 abbrev RefusesInput : Verdict → Type 0
 RefusesInput (refuses names refused) = IsOfInput refused
 RefusesInput (accepts names) = Unit {0}
-RefusesInput (runs names cell trees) = Unit {0}
+RefusesInput (runs names shown cell trees) = Unit {0}
+RefusesInput (runs_free names shown cell trees) = Unit {0}
 RefusesInput (lists names cell trees) = Unit {0}
 
 is_refused : (names : List (List ℕ)) (refused : Refused) (verdict : Verdict) → IsOfInput refused → verdict ≡ refuses names refused → RefusesInput verdict
@@ -64,8 +65,10 @@ of_modules gave file (name ∷ names) refused (inr d) = of_modules gave (file + 
 
 of_action : (action : Option Action) (names : List (List ℕ)) (made : MadeCell) (verdict : Verdict) → ActionDecides action names made verdict → RefusesInput verdict
 of_action (Some actions.Check) names made verdict d = subst RefusesInput (sym d) tt
-of_action (Some actions.Round) names made verdict d = subst RefusesInput (sym d) tt
+of_action (Some (actions.Round full)) names made verdict d = subst RefusesInput (sym d) tt
+of_action (Some (actions.Run full)) names made verdict d = subst RefusesInput (sym d) tt
 of_action (Some actions.List) names made verdict d = subst RefusesInput (sym d) tt
+of_action (Some (actions.Load moves)) names made verdict d = subst RefusesInput (sym d) tt
 of_action None names made verdict d = absurd d
 
 of_checked : (action : Option Action) (names : List (List ℕ)) (found : Result MadeCell Refused) (verdict : Verdict) → IfErr found IsOfInput → CheckedDecides action names found verdict → RefusesInput verdict
@@ -91,7 +94,8 @@ of_file action gave name (Ok text) verdict of d = of_script action gave name d.0
 of_words : (gave : Reads) (words : List (List ℕ)) (place : Option ℕ) (verdict : Verdict) → WordsDecide gave words place verdict → RefusesInput verdict
 of_words gave words (Some place) verdict d = is_refused [] (refusals.Words place) verdict tt d
 of_words gave words None verdict d =
-    of_file (first_action (plain_words words)) gave (script_name words) (file_text gave 0 script_limit (script_name words)) verdict (of_text 0 script_limit (gave 0 (script_name words))) d
+    let read = reads_for (asked words) gave in
+    of_file (asked words) read (script_name words) (file_text read 0 script_limit (script_name words)) verdict (of_text 0 script_limit (read 0 (script_name words))) d
 
 pub refuses_input : (words : List (List ℕ)) (gave : Reads) (names : List (List ℕ)) (refused : Refused) → Accepted words gave (refuses names refused) → IsOfInput refused
 refuses_input words gave names refused a = of_words gave words (refused_place words) (refuses names refused) a.decides

@@ -1,5 +1,5 @@
 -- The tasks of a cell as a crew.
-use Rattle.std.proofs.Common.{◌≡◌, List, length, map, ap, sym, ◌∙◌, subst}
+use Rattle.std.proofs.Common.{◌≡◌, ◌+◌, List, length, map, ap, sym, ◌∙◌, subst}
 use Rattle.std.specs.List.{AllByRecursion}
 use Rattle.std.proofs.lemmas.List.{length-map}
 use Rattle.rapid_model.specs.CellData.{CellData}
@@ -12,9 +12,13 @@ use Rattle.stack_code.specs.Compiled.{compiled}
 use Rattle.live_code.specs.Asking.{CodeAsks}
 use Rattle.live_code.specs.Live.{CodeFits}
 use Rattle.cell_meaning.specs.Asking.{Asking, with_inputs}
-use Rattle.cell_meaning.specs.Premises.{AsksWhatItMay}
+use Rattle.cell_meaning.specs.Histories.{IsLegal, IsWhole}
 use Rattle.cell_meaning.specs.Turns.{IsByTurns}
-use Rattle.cell_crew.specs.Crew.{IsCrew, RunPrograms}
+use Rattle.cell_crew.specs.Courses.{SuitTasks}
+use Rattle.cell_crew.specs.Crew.{AskAsPrograms, IsCrew}
+use Rattle.cell_gate.specs.Calls.{fresh_passes}
+use Rattle.cell_gate.specs.GateData.{GateData}
+use Rattle.cell_gate.specs.PassData.{PassData}
 use Rattle.task_machine.specs.MachineData.{MachineData}
 use Rattle.controller.proofs.Compiling.{code_in, code_of, is_new}
 
@@ -28,16 +32,30 @@ crew_is cell here machines trees coded fresh one_each same = record {
   fresh = fresh;
 }
 
--- each runs the program of its task
-pub programs_run : (asks : Asking) (cell here : CellData) (machines : List MachineData) (trees : List TypedTree) → RunPrograms CodeFits CodeAsks asks cell (map compiled trees)
-    → code_in machines ≡ map compiled trees → here ≡ cell → RunPrograms CodeFits CodeAsks asks here (code_in machines)
-programs_run asks cell here machines trees run coded same =
-    subst (λ (programs : List CodeData). RunPrograms CodeFits CodeAsks asks here programs) (sym coded)
-    (subst (λ (c : CellData). RunPrograms CodeFits CodeAsks asks c (map compiled trees)) (sym same) run)
+-- each task asks as its program, and that suits it
 
--- the same in the cell of the core
-pub may_here : (asks : Asking) (cell here : CellData) → AsksWhatItMay (with_inputs asks cell) cell → here ≡ cell → AsksWhatItMay (with_inputs asks here) here
-may_here asks cell here may same = subst (λ (c : CellData). AsksWhatItMay (with_inputs asks c) c) (sym same) may
+pub programs_ask : (asks : Asking) (machines : List MachineData) (trees : List TypedTree) → AskAsPrograms CodeFits CodeAsks asks (map compiled trees) → code_in machines ≡ map compiled trees
+    → AskAsPrograms CodeFits CodeAsks asks (code_in machines)
+programs_ask asks machines trees ask coded = subst (λ (programs : List CodeData). AskAsPrograms CodeFits CodeAsks asks programs) (sym coded) ask
+
+pub programs_suit : (cell here : CellData) (machines : List MachineData) (trees : List TypedTree) → SuitTasks CodeFits CodeAsks cell (map compiled trees) → code_in machines ≡ map compiled trees → here ≡ cell
+    → SuitTasks CodeFits CodeAsks here (code_in machines)
+programs_suit cell here machines trees suit coded same =
+    subst (λ (programs : List CodeData). SuitTasks CodeFits CodeAsks here programs) (sym coded)
+    (subst (λ (c : CellData). SuitTasks CodeFits CodeAsks c (map compiled trees)) (sym same) suit)
+
+-- the history is one of the cell that the core was made of
 
 pub turns_there : (asks : Asking) (cell here : CellData) (history : List Event) → IsByTurns (with_inputs asks here) here history → here ≡ cell → IsByTurns (with_inputs asks cell) cell history
 turns_there asks cell here history run same = subst (λ (c : CellData). IsByTurns (with_inputs asks c) c history) same run
+
+pub legal_there : (asks : Asking) (cell here : CellData) (history : List Event) → IsLegal (with_inputs asks here) here history → here ≡ cell → IsLegal (with_inputs asks cell) cell history
+legal_there asks cell here history legal same = subst (λ (c : CellData). IsLegal (with_inputs asks c) c history) same legal
+
+pub whole_there : (asks : Asking) (cell here : CellData) (history : List Event) → IsWhole (with_inputs asks here) here history → here ≡ cell → IsWhole (with_inputs asks cell) cell history
+whole_there asks cell here history whole same = subst (λ (c : CellData). IsWhole (with_inputs asks c) c history) same whole
+
+-- the gate has a pass for each task, and the input script's
+pub passes_here : (gate : GateData) (cell : CellData) (passes : List PassData) → passes ≡ fresh_passes gate 0 (length cell.tasks + 1) → gate.cell ≡ cell
+    → passes ≡ fresh_passes gate 0 (length gate.cell.tasks + 1)
+passes_here gate cell passes fresh same = fresh ∙ ap (λ (c : CellData). fresh_passes gate 0 (length c.tasks + 1)) (sym same)

@@ -25,8 +25,11 @@ use Rattle.controller.specs.declared.refused.Refused.{Refused}
 use Rattle.controller.specs.declared.refused.Refused.TheVariants.{Words, Script, Module, Memory}
 use Rattle.controller.specs.declared.refused.ModuleRule.{ModuleRule}
 use Rattle.controller.specs.declared.refused.ModuleRule.TheVariants.{Lex, Syntax, «Type»}
+use Rattle.controller.specs.declared.shown.Shown.{Shown}
+use Rattle.controller.specs.declared.shown.Shown.TheVariants as shows
 use Rattle.controller.specs.Files.{Reads, text_of}
-use Rattle.controller.specs.Words.{refused_place, script_name, plain_words, first_action}
+use Rattle.controller.specs.LoadFiles.{load_reads}
+use Rattle.controller.specs.Words.{refused_place, script_name, asked}
 
 -- the most bytes of a script and of a module
 abbrev pub script_limit : ℕ
@@ -35,12 +38,14 @@ script_limit = 262_144
 abbrev pub module_limit : ℕ
 module_limit = 1_048_576
 
--- The refusal; or all is accepted, for `check`; or the cell and the trees, for a run or for their list. And the names of the files,
--- in the order in which they are read, as far as the script is known.
+-- The refusal; or all is accepted, for `check`; or the cell and the trees: for a run by turns or for one in which each task runs by
+-- itself, with what is printed of it, or for their list. And the names of the files, in the order in which they are read, as far as
+-- the script is known.
 pub data Verdict : Type 0 where
   refuses : List (List ℕ) → Refused → Verdict
   accepts : List (List ℕ) → Verdict
-  runs : List (List ℕ) → CellData → List TypedTree → Verdict
+  runs : List (List ℕ) → Shown → CellData → List TypedTree → Verdict
+  runs_free : List (List ℕ) → Shown → CellData → List TypedTree → Verdict
   lists : List (List ℕ) → CellData → List TypedTree → Verdict
 
 -- what the read of a file of this number comes to
@@ -142,8 +147,10 @@ checked script reads = typed_tasks script script.tasks reads >>= (λ trees. cell
 -- what the action comes to where all is accepted, with this cell and these trees; words without an action are refused
 abbrev pub ActionDecides : Option Action → List (List ℕ) → MadeCell → Verdict → Type 0
 ActionDecides (Some actions.Check) names made verdict = verdict ≡ accepts names
-ActionDecides (Some actions.Round) names made verdict = verdict ≡ runs names made.cell made.trees
+ActionDecides (Some (actions.Round full)) names made verdict = verdict ≡ runs names (shows.Events full) made.cell made.trees
+ActionDecides (Some (actions.Run full)) names made verdict = verdict ≡ runs_free names (shows.Events full) made.cell made.trees
 ActionDecides (Some actions.List) names made verdict = verdict ≡ lists names made.cell made.trees
+ActionDecides (Some (actions.Load moves)) names made verdict = verdict ≡ runs names shows.Summary made.cell made.trees
 ActionDecides None names made verdict = ⊥
 
 abbrev pub CheckedDecides : Option Action → List (List ℕ) → Result MadeCell Refused → Verdict → Type 0
@@ -170,10 +177,18 @@ FileDecides action gave name (Err refused) verdict = verdict ≡ refuses (name �
 FileDecides action gave name (Ok text) verdict =
     (script : Read ScriptData) × ScriptOf text script × ScriptDecides action gave name script verdict
 
+-- what the files of an action come to, where the reads give these, and the script's has this name
+abbrev pub FilesDecide : Option Action → Reads → List ℕ → Verdict → Type 0
+FilesDecide action gave name verdict = FileDecides action gave name (file_text gave 0 script_limit name) verdict
+
+-- what the reads of its files give: those of `load` are the texts of the load cell
+abbrev pub reads_for : Option Action → Reads → Reads
+reads_for (Some (actions.Load moves)) gave = load_reads moves
+reads_for _ gave = gave
+
 abbrev pub WordsDecide : Reads → List (List ℕ) → Option ℕ → Verdict → Type 0
 WordsDecide gave words (Some place) verdict = verdict ≡ refuses [] (Words place)
-WordsDecide gave words None verdict =
-    FileDecides (first_action (plain_words words)) gave (script_name words) (file_text gave 0 script_limit (script_name words)) verdict
+WordsDecide gave words None verdict = FilesDecide (asked words) (reads_for (asked words) gave) (script_name words) verdict
 
 -- what the words and the files come to, of which the reads gave these
 pub record Accepted (words : List (List ℕ)) (gave : Reads) (verdict : Verdict) : Type 0 where

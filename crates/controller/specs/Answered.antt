@@ -11,18 +11,19 @@ use Rattle.typed_trees.specs.Plain.{TypedTree}
 use Rattle.stack_code.specs.CodeData.{CodeData}
 use Rattle.code_liveness.specs.Asking.{AsksAs}
 use Rattle.cell_assembly.specs.Made.{MadeCell}
-use Rattle.history_text.specs.Lines.{lines_of, output_of}
 use Rattle.cell_listing.specs.Listing.{listing_of}
 use Rattle.controller.specs.declared.report.Report.{Report}
 use Rattle.controller.specs.declared.refused.Refused.{Refused}
 use Rattle.controller.specs.declared.refused.Refused.TheVariants.{Write, Memory}
 use Rattle.controller.specs.declared.command.Action.{Action}
+use Rattle.controller.specs.declared.shown.Shown.{Shown}
 use Rattle.controller.specs.Files.{Reads, told_reads}
-use Rattle.controller.specs.Accepted.{Verdict, refuses, accepts, runs, lists, Accepted, ReadModule, checked, ActionDecides, CheckedDecides}
+use Rattle.controller.specs.Accepted.{Verdict, refuses, accepts, runs, runs_free, lists, Accepted, ReadModule, checked, ActionDecides, CheckedDecides}
 use Rattle.controller.specs.Refusals.{status_of, refusal_line}
-use Rattle.controller.specs.Runs.{IsRun, run_status}
+use Rattle.controller.specs.Runs.{IsRun, IsRunByTurns, run_status}
+use Rattle.controller.specs.Output.{lines_of, output_of}
 use Rattle.controller.specs.Sends.{SendsLines, SendsSome}
-use Rattle.controller.specs.Printed.{Sunk, Gained, GainedPart, GainedCalls, GainedUnlessFaults}
+use Rattle.controller.specs.Printed.{Seen, Sunk, Gained, GainedPart, GainedCalls, GainedUnlessFaults}
 
 -- the sink gained these bytes
 abbrev pub Takes : List ℕ → Sunk → Type 0
@@ -31,6 +32,10 @@ Takes bytes sink = Gained bytes sink.old.bytes sink.new.bytes
 -- by calls of which this holds
 abbrev pub TakesBy : (List Call → Type 0) → Sunk → Type 0
 TakesBy P sink = GainedCalls P sink.old.calls sink.new.calls
+
+-- a sink that gained nothing
+abbrev pub untouched : Seen → Sunk
+untouched seen = record { old = seen; new = seen }
 
 -- the line on the second sink
 abbrev pub TakesLine : List ℕ → Sunk → Type 0
@@ -46,22 +51,22 @@ pub record IsRefused (names : List (List ℕ)) (refused : Refused) (report : Rep
   pub calls : Gained [] out.old.calls out.new.calls
   pub told : TakesLine (refusal_line names refused) err
 
--- run and printed whole: each line by one call of the first sink, and more only where a call took part of it
-pub record IsPrinted (cell : CellData) (trees : List TypedTree) (report : Report) (out err : Sunk) : Type 0 where
-  pub run : IsRun cell trees report
+-- run as this says, and printed whole: each line by one call of the first sink, and more only where a call took part of it
+pub record IsPrinted (Run : Report → Type 0) (shown : Shown) (cell : CellData) (report : Report) (out err : Sunk) : Type 0 where
+  pub run : Run report
   pub refused_is : report.refused ≡ None
   pub status : report.status ≡ run_status cell report.history.items
-  pub printed : Takes (output_of cell report.history.items report.fates.items) out
-  pub calls : TakesBy (SendsLines (lines_of cell report.history.items report.fates.items)) out
+  pub printed : Takes (output_of shown cell report.history.items report.fates.items) out
+  pub calls : TakesBy (SendsLines (lines_of shown cell report.history.items report.fates.items)) out
   pub told : Takes [] err
 
--- run, and printed in part, since a write failed
-pub record IsCutShort (names : List (List ℕ)) (cell : CellData) (trees : List TypedTree) (report : Report) (out err : Sunk) : Type 0 where
-  pub run : IsRun cell trees report
+-- run as this says, and printed in part, since a write failed
+pub record IsCutShort (Run : Report → Type 0) (names : List (List ℕ)) (shown : Shown) (cell : CellData) (report : Report) (out err : Sunk) : Type 0 where
+  pub run : Run report
   pub refused_is : report.refused ≡ Some Write
   pub status : report.status ≡ status_of Write
-  pub printed : GainedPart (output_of cell report.history.items report.fates.items) out.old.bytes out.new.bytes
-  pub calls : TakesBy (SendsSome (lines_of cell report.history.items report.fates.items)) out
+  pub printed : GainedPart (output_of shown cell report.history.items report.fates.items) out.old.bytes out.new.bytes
+  pub calls : TakesBy (SendsSome (lines_of shown cell report.history.items report.fates.items)) out
   pub told : TakesLine (refusal_line names Write) err
 
 -- the line that tells that all is accepted
@@ -122,10 +127,10 @@ pub record IsListedInPart (cell : CellData) (trees : List TypedTree) (report : R
 abbrev pub AnswersAccepted : Report → Sunk → Sunk → Type 0
 AnswersAccepted report out err = IsAccepted report out err ⊎ (IsAcceptedInPart report out err × Rose out.old.faults out.new.faults)
 
--- what a run is answered by; a write fails only where the first sink counted a fault
-abbrev pub AnswersRun : CellData → List TypedTree → Report → Sunk → Sunk → Type 0
-AnswersRun cell trees report out err =
-    IsPrinted cell trees report out err ⊎ (IsCutShort [] cell trees report out err × Rose out.old.faults out.new.faults)
+-- what a run of which this holds is answered by; a write fails only where the first sink counted a fault
+abbrev pub AnswersRun : (Report → Type 0) → Shown → CellData → Report → Sunk → Sunk → Type 0
+AnswersRun Run shown cell report out err =
+    IsPrinted Run shown cell report out err ⊎ (IsCutShort Run [] shown cell report out err × Rose out.old.faults out.new.faults)
 
 -- what a list is answered by; a write fails only where the first sink counted a fault
 abbrev pub AnswersList : CellData → List TypedTree → Report → Sunk → Sunk → Type 0
@@ -135,16 +140,19 @@ AnswersList cell trees report out err = IsListed cell trees report out err ⊎ (
 abbrev pub Answers : Verdict → Report → Sunk → Sunk → Type 0
 Answers (refuses names refused) report out err = IsRefused names refused report out err
 Answers (accepts names) report out err = IsAccepted report out err ⊎ IsAcceptedInPart report out err
-Answers (runs names cell trees) report out err = IsPrinted cell trees report out err ⊎ IsCutShort names cell trees report out err
+Answers (runs names shown cell trees) report out err =
+    IsPrinted (IsRunByTurns cell trees) shown cell report out err ⊎ IsCutShort (IsRunByTurns cell trees) names shown cell report out err
+Answers (runs_free names shown cell trees) report out err =
+    IsPrinted (IsRun cell trees) shown cell report out err ⊎ IsCutShort (IsRun cell trees) names shown cell report out err
 Answers (lists names cell trees) report out err = IsListed cell trees report out err ⊎ IsListedInPart cell trees report out err
 
 -- want of memory: before the first event, with nothing printed
 abbrev pub IsOutOfMemory : Report → Sunk → Sunk → Type 0
 IsOutOfMemory report out err = IsRefused [] Memory report out err
 
--- a run, want of memory aside
-abbrev pub RunsOrMemory : CellData → List TypedTree → Report → Sunk → Sunk → Type 0
-RunsOrMemory cell trees report out err = IsOutOfMemory report out err ⊎ AnswersRun cell trees report out err
+-- a run of which this holds, want of memory aside
+abbrev pub RunsOrMemory : (Report → Type 0) → Shown → CellData → Report → Sunk → Sunk → Type 0
+RunsOrMemory Run shown cell report out err = IsOutOfMemory report out err ⊎ AnswersRun Run shown cell report out err
 
 -- a list, want of memory aside
 abbrev pub ListsOrMemory : CellData → List TypedTree → Report → Sunk → Sunk → Type 0

@@ -2,10 +2,14 @@ pub mod Words
 pub mod Picked
 pub mod Refusals
 pub mod Files
+pub mod LoadFiles
 pub mod Accepted
 pub mod Loaded
 pub mod Runs
+pub mod Output
 pub mod Sends
 pub mod Printed
 pub mod Answered
+pub mod Asked
 pub mod Written
+pub mod EventsShown

@@ -48,14 +48,23 @@ pub record WaitsToRise (cell : CellData) (trees : List TypedTree) (history : Lis
   pub asks : tree_asks trees task (answers_of task history) Rise
   pub cannot : can_rise cell history task ≡ false
 
--- The history interleaves whole traces of the tasks' trees and of the input script, each answer being what one shared cell gives
--- at that point; it is the run by turns, the fates follow from it, and no arm passed through a zone that watched it. Where the
--- status is 8, each task that has not ended waits, and can not rise.
+-- the report has this history of the cell, and the fates that follow from it
+pub record TellsRun (cell : CellData) (history : List Event) (report : Report) : Type 0 where
+  pub history_is : report.history.items ≡ history
+  pub fates_is : report.fates.items ≡ fates_after cell history (length cell.tasks)
+
+-- What any run tells. The history interleaves whole traces of the tasks' trees and of the input script, each answer being what one
+-- shared cell gives at that point; the fates follow from it, and no arm passed through a zone that watched it. Where the status is
+-- 8, each task that has not ended waits, and can not rise.
 pub record IsRun (cell : CellData) (trees : List TypedTree) (report : Report) : Type 0 where
   pub legal : IsLegal (with_inputs (tree_asks trees) cell) cell report.history.items
   pub whole : IsWhole (with_inputs (tree_asks trees) cell) cell report.history.items
-  pub by_turns : IsByTurns (with_inputs (tree_asks trees) cell) cell report.history.items
   pub fates : report.fates.items ≡ fates_after cell report.history.items (length cell.tasks)
   pub clear : MissesZones cell report.history.items
   pub stalled : run_status cell report.history.items ≡ 8 → (task : ℕ) → task < length cell.tasks → has_ended (part_of task report.history.items) ≡ false
       → WaitsToRise cell trees report.history.items task
+
+-- What a run by turns tells: what any run tells, and that the history is the run by turns, which is one for the cell and the trees.
+pub record IsRunByTurns (cell : CellData) (trees : List TypedTree) (report : Report) : Type 0 where
+  pub run : IsRun cell trees report
+  pub by_turns : IsByTurns (with_inputs (tree_asks trees) cell) cell report.history.items

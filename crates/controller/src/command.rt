@@ -1,20 +1,36 @@
 ghost use Rattle.std.specs.Prelude.{◌≡◌, IfOk, IfErr, Some, None, position, filter, slice_get, option_map, codes, bytes_eq};
-ghost use Rattle.controller.specs.Words.{begins_with_minus, is_history, is_wrong_option, places, plain_words, first_action, action_of, refused_place, script_name};
+ghost use Rattle.controller.specs.Words.{begins_with_minus, is_history, is_wrong_option, places, verb_of, action_of, has_history, asked, is_run, refused_place, script_name};
 ghost use Rattle.controller.specs.Picked.{is_kind};
 ghost use Rattle.controller.specs.Answered.{word_bytes};
+
+use crate::moves::moves_of;
 
 /// What the command words ask for.
 #[derive(Clone, Copy, Debug, PartialEq, Eq)]
 pub enum Action {
     /// Tells whether the script and its modules are accepted.
     Check,
-    /// Runs the cell by turns on one thread.
-    Round,
+    /// Runs the cell by turns on one thread, and prints its run, in `full` with a line for each event.
+    Round { full: bool },
+    /// The same with each task on a thread of its own.
+    Run { full: bool },
     /// Prints the tables of the cell and each task's code.
     List,
+    /// Runs the load cell by turns, in which each arm moves so often, and prints a summary of the run.
+    Load { moves: u32 },
 }
 
-/// The action, and the name of the script's file.
+/// The word of an action.
+#[derive(Clone, Copy, Debug)]
+pub(crate) enum Verb {
+    Check,
+    Round,
+    Run,
+    List,
+    Load,
+}
+
+/// The action, and the name of the script's file; for `load` the word of the number stands in its place.
 #[derive(Clone, Copy, Debug)]
 pub(crate) struct Command<'a> {
     pub action: Action,
@@ -24,7 +40,7 @@ pub(crate) struct Command<'a> {
 /// What the command words ask for, or the place of the word that is refused, from 0. Takes no memory.
 pub(crate) fn read_words<'a>(words: &[&'a str]) -> Result<Command<'a>, usize>
     ensures taken { IfOk result (λ _. refused_place (word_bytes words.now) ≡ None) }
-    ensures action { IfOk result (λ command. first_action (plain_words (word_bytes words.now)) ≡ Some command.action) }
+    ensures action { IfOk result (λ command. asked (word_bytes words.now) ≡ Some command.action) }
     ensures name { IfOk result (λ command. command.script.now ≡ script_name (word_bytes words.now)) }
     ensures refused { IfErr result (λ place. refused_place (word_bytes words.now) ≡ Some place) }
 {
@@ -37,16 +53,39 @@ pub(crate) fn read_words<'a>(words: &[&'a str]) -> Result<Command<'a>, usize>
     let Some((place, word)) = nth_word(words, false, 0) else {
         return Err(words.len());
     };
-    let Some(action) = action_of(word) else {
+    let Some(verb) = verb_of(word) else {
         return Err(place);
     };
-    let Some((_, script)) = nth_word(words, false, 1) else {
+    let Some((at, second)) = nth_word(words, false, 1) else {
         return Err(words.len());
     };
-    match nth_word(words, false, 2) {
-        Some((more, _)) => Err(more),
-        None => Ok(Command { action, script }),
+    if let Some((more, _)) = nth_word(words, false, 2) {
+        return Err(more);
     }
+    match action_of(verb, has_history(words), second) {
+        Some(action) => Ok(Command {
+            action,
+            script: second,
+        }),
+        None => Err(at),
+    }
+}
+
+/// Whether the words ask for `run`, refused or not: it is the first of them that is not `--history`. Takes no memory.
+pub fn is_run(words: &[&str]) -> bool
+    ensures { result ≡ is_run (word_bytes words.now) }
+{
+    match nth_word(words, false, 0) {
+        Some((_, word)) => word == "run",
+        None => false,
+    }
+}
+
+/// Whether `--history` stands among the words.
+fn has_history(words: &[&str]) -> bool
+    ensures { result ≡ has_history (word_bytes words.now) }
+{
+    nth_word(words, true, 0).is_some()
 }
 
 /// The place of the first word that looks like an option and is none.
@@ -103,13 +142,28 @@ fn begins_with_minus(word: &str) -> bool
     word.starts_with('-')
 }
 
-fn action_of(word: &str) -> Option<Action>
-    ensures { result ≡ action_of word.now }
+fn verb_of(word: &str) -> Option<Verb>
+    ensures { result ≡ verb_of word.now }
 {
     match word {
-        "check" => Some(Action::Check),
-        "round" => Some(Action::Round),
-        "list" => Some(Action::List),
+        "check" => Some(Verb::Check),
+        "round" => Some(Verb::Round),
+        "run" => Some(Verb::Run),
+        "list" => Some(Verb::List),
+        "load" => Some(Verb::Load),
         _ => None,
+    }
+}
+
+/// The action, with its second word.
+fn action_of(verb: Verb, full: bool, second: &str) -> Option<Action>
+    ensures { result ≡ action_of verb full second.now }
+{
+    match verb {
+        Verb::Check => Some(Action::Check),
+        Verb::Round => Some(Action::Round { full }),
+        Verb::Run => Some(Action::Run { full }),
+        Verb::List => Some(Action::List),
+        Verb::Load => moves_of(second).map(|moves| Action::Load { moves }),
     }
 }

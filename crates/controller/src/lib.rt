@@ -1,23 +1,34 @@
 //! The controller: from command words and files to a run, its report and what is printed of it.
 #![tactic(auto)]
 
+mod accepted;
 mod action;
 mod check;
 mod code;
 mod command;
 mod files;
+mod free_run;
 mod laws;
 mod list;
+mod load_cell;
 mod modules;
+mod moves;
 mod print;
 mod print_list;
+mod print_summary;
 mod refused;
 mod report;
 mod run;
+mod shelf_cell;
+mod shown;
 mod texts;
+mod texts_cell;
+mod top;
 
 pub use action::quiet;
-pub use command::Action;
+pub use command::{Action, is_run};
+pub use free_run::free;
 pub use laws::{given_setpoints_miss_zones, verdict_is_one, verdicts_refuse_input};
 pub use refused::{ModuleRule, Refused};
 pub use report::Report;
+pub use top::controller;

@@ -1,52 +1,71 @@
 ghost use Rattle.std.specs.Prelude.{◌≡◌, ◌<◌, ◌≤◌, [], ◌∷◌, map, length, slice_get, Some};
 ghost use Rattle.rapid_model.specs.declared.event.Event.{Event};
 ghost use Rattle.cell_meaning.specs.Fates.{fates_after};
-ghost use Rattle.history_text.specs.Lines.{line_of, fate_line, fate_lines, lines_of};
+ghost use Rattle.history_text.specs.Lines.{fate_line, fate_lines};
+ghost use Rattle.controller.specs.Output.{lines_of};
+ghost use Rattle.controller.specs.EventsShown.{event_lines, shown_line};
 ghost use Rattle.controller.specs.Printed.{sunk};
 ghost use Rattle.controller.specs.Written.{Writes};
 
+use crate::print_summary::print_summary;
+use crate::shown::Shown;
 use arrayvec::ArrayString;
 use cell_core::Core;
-use history_text::{has_line, write_event, write_fate};
+use history_text::{Names, has_line, line_of, names_of, write_fate};
 use outside::{Failed, Sink};
 use rapid_model::{Event, Fate, NameText, TaskRow};
 
-/// Prints the lines of the history, and then how each task stands. Takes no memory.
-pub(crate) fn print_run<O: Sink>(out: &mut O, core: &Core) -> Result<(), Failed>
-    ensures { Writes (lines_of core.now.cell core.now.history (fates_after core.now.cell core.now.history (length core.now.cell.tasks))) result (sunk O.told O.calls O.faults out.old out.new) }
+/// Prints the lines of the events or their summary, and then how each task stands. Takes no memory.
+pub(crate) fn print_run<O: Sink>(out: &mut O, core: &Core, shown: Shown) -> Result<(), Failed>
+    ensures { Writes (lines_of shown core.now.cell core.now.history (fates_after core.now.cell core.now.history (length core.now.cell.tasks))) result (sunk O.told O.calls O.faults out.old out.new) }
 {
-    print_events(out, core)?;
+    print_shown(out, core, shown)?;
     print_fates(out, core)
 }
 
-/// Prints the lines of the events in order.
-fn print_events<O: Sink>(out: &mut O, core: &Core) -> Result<(), Failed>
-    ensures { Writes (map (line_of core.now.cell.tasks) core.now.history) result (sunk O.told O.calls O.faults out.old out.new) }
+/// Prints the lines of the events, or their summary.
+fn print_shown<O: Sink>(out: &mut O, core: &Core, shown: Shown) -> Result<(), Failed>
+    ensures { Writes (event_lines shown core.now.cell core.now.history) result (sunk O.told O.calls O.faults out.old out.new) }
+{
+    match shown {
+        Shown::Events { full } => print_events(out, core, full),
+        Shown::Summary => print_summary(out, core),
+    }
+}
+
+/// Prints the lines of the events in order, in `full` one for each event.
+fn print_events<O: Sink>(out: &mut O, core: &Core, full: bool) -> Result<(), Failed>
+    ensures { Writes (map (shown_line full core.now.cell.tasks) core.now.history) result (sunk O.told O.calls O.faults out.old out.new) }
 {
     for k in 0..core.len() {
-        print_event(out, core, k)?;
+        print_event(out, core, full, k)?;
     }
     Ok(())
 }
 
 /// Prints the line of event `k`, if it has one.
-fn print_event<O: Sink>(out: &mut O, core: &Core, k: u32) -> Result<(), Failed>
+fn print_event<O: Sink>(out: &mut O, core: &Core, full: bool, k: u32) -> Result<(), Failed>
     requires { k < length core.now.history }
-    ensures { (e : Event) → slice_get core.now.history k ≡ Some e → Writes (line_of core.now.cell.tasks e ∷ []) result (sunk O.told O.calls O.faults out.old out.new) }
+    ensures { (e : Event) → slice_get core.now.history k ≡ Some e → Writes (shown_line full core.now.cell.tasks e ∷ []) result (sunk O.told O.calls O.faults out.old out.new) }
 {
     let event = core.lend_event(k);
-    if !has_line(event) {
+    if !full && !has_line(event) {
         return Ok(());
     }
-    print_line(out, rows_of(core), event)
+    print_line(out, &names_of(core.cell()), full, event)
 }
 
 /// Prints the line of an event.
-fn print_line<O: Sink>(out: &mut O, tasks: &[TaskRow], event: &Event) -> Result<(), Failed>
-    ensures { Writes (line_of tasks.now event.now ∷ []) result (sunk O.told O.calls O.faults out.old out.new) }
+fn print_line<O: Sink>(
+    out: &mut O,
+    names: &Names<'_>,
+    full: bool,
+    event: &Event,
+) -> Result<(), Failed>
+    ensures { Writes (shown_line full names.now.tasks.now event.now ∷ []) result (sunk O.told O.calls O.faults out.old out.new) }
 {
     let mut line = ArrayString::new();
-    write_event(tasks, event, &mut line);
+    line_of(names, event, full, &mut line);
     write_all(out, line.as_str().as_bytes())
 }
 

@@ -12,9 +12,10 @@ use rapid_model::{Event, Fate};
 use std::alloc::Global;
 
 /// What became of a call: its status, the history of the run, how each task stands in script order, and the refusal, if
-/// there is one. Only `round` makes a history and fates, which are what it prints; a refusal other than `Write` leaves none.
+/// there is one. Only `round`, `run` and `load` make a history and fates, of which what they print tells; a refusal other than `Write`
+/// leaves none.
 ///
-/// Without a refusal the status is 0 for `check` and `list`. For `round` it is 0 where every task ended without a fault, 1 where
+/// Without a refusal the status is 0 for `check` and `list`. For a run it is 0 where every task ended without a fault, 1 where
 /// every task ended and one with a fault, 8 where no task that has not ended can go on, and 9 where the steps are spent.
 #[derive(Debug, Drop)]
 pub struct Report {

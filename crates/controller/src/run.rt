@@ -1,21 +1,20 @@
-ghost use Rattle.std.specs.Prelude.{◌≡◌, List, All, IfOk, map, length};
+ghost use Rattle.std.specs.Prelude.{◌≡◌, All, IfOk, map, length};
 ghost use Rattle.std.specs.List.{list_any, AllByRecursion};
 ghost use Rattle.rapid_model.specs.CellData.{IsCell};
-ghost use Rattle.typed_trees.specs.Plain.{TypedTree};
 ghost use Rattle.typed_trees.specs.Views.{view_tree};
-ghost use Rattle.rapid_meaning.specs.Asking.{tree_asks};
 ghost use Rattle.stack_code.specs.Compiled.{compiled};
 ghost use Rattle.live_code.specs.Asking.{CodeAsks};
 ghost use Rattle.live_code.specs.Live.{CodeFits};
 ghost use Rattle.code_liveness.specs.Checked.{IsChecked};
 ghost use Rattle.cell_meaning.specs.Asking.{with_inputs};
 ghost use Rattle.cell_meaning.specs.Fates.{fates_after};
-ghost use Rattle.cell_meaning.specs.Premises.{AsksWhatItMay, StartsFull, TasksAskWell};
+ghost use Rattle.cell_meaning.specs.Premises.{StartsFull};
 ghost use Rattle.cell_meaning.specs.Turns.{IsByTurns};
-ghost use Rattle.cell_crew.specs.Crew.{RunPrograms};
+ghost use Rattle.cell_crew.specs.Courses.{SuitTasks};
+ghost use Rattle.cell_crew.specs.Crew.{AskAsPrograms};
 ghost use Rattle.task_steps.specs.declared.phase.Phase.TheVariants as phases;
 ghost use Rattle.controller.specs.Loaded.{made_of, HasScript};
-ghost use Rattle.controller.specs.Runs.{is_fault, run_status};
+ghost use Rattle.controller.specs.Runs.{is_fault, run_status, IsRunByTurns, TellsRun};
 ghost use Rattle.controller.specs.Printed.{sunk};
 ghost use Rattle.controller.specs.Answered.{RunsOrMemory, AnswersRun};
 
@@ -24,7 +23,10 @@ use crate::code::compile_one;
 use crate::print::{print_run, rows_of};
 use crate::refused::{Refused, tell_refusal};
 use crate::report::{Report, refuse};
-use accepted_runs::{accepted_tasks_ask_well, accepted_tasks_run_their_code};
+use crate::shown::Shown;
+use accepted_runs::{
+    accepted_code_suits_its_task, accepted_tasks_ask_as_their_code, accepted_tasks_ask_well,
+};
 use cell_core::Core;
 use cell_crew::run_round;
 use cell_meaning::{Askers, starts_full};
@@ -35,21 +37,24 @@ use std::marker::Brand;
 use task_machine::Machine;
 use typed_trees::Tree;
 
-/// Runs the tasks of a cell that is accepted, and reports it.
+/// Runs the tasks of a cell that is accepted by turns, and reports it.
 pub(crate) fn run_cell<O: Sink, E: Sink>(
     alloc: Global,
     accepted: CheckedCell,
+    shown: Shown,
     out: &mut O,
     err: &mut E,
 ) -> Report
     requires { HasScript (made_of accepted) }
-    ensures { RunsOrMemory accepted.cell (map view_tree accepted.trees.items) result (sunk O.told O.calls O.faults out.old out.new) (sunk E.told E.calls E.faults err.old err.new) }
+    ensures { RunsOrMemory (IsRunByTurns accepted.cell (map view_tree accepted.trees.items)) shown accepted.cell result (sunk O.told O.calls O.faults out.old out.new) (sunk E.told E.calls E.faults err.old err.new) }
 {
     accepted_tasks_ask_well();
-    accepted_tasks_run_their_code();
+    accepted_tasks_ask_as_their_code();
+    accepted_code_suits_its_task();
     let CheckedCell { cell, trees } = accepted;
+    within_limits(&cell);
     match run_tasks::<Brand>(alloc, cell, trees.as_slice()) {
-        Ok(core) => report_run(core, out, err),
+        Ok(core) => report_run(core, shown, out, err),
         Err(_) => refuse(alloc, err, "", Refused::Memory),
     }
 }
@@ -58,8 +63,8 @@ pub(crate) fn run_cell<O: Sink, E: Sink>(
 fn run_tasks<A: Askers>(alloc: Global, cell: Cell, trees: &[Tree]) -> Result<Core, AllocError>
     requires one_each { length trees.now ≡ length cell.tasks }
     requires checked { All IsChecked (map view_tree trees.now) }
-    requires programs { RunPrograms CodeFits CodeAsks A.asks cell (map compiled (map view_tree trees.now)) }
-    requires may { AsksWhatItMay (with_inputs A.asks cell) cell }
+    requires programs { AskAsPrograms CodeFits CodeAsks A.asks (map compiled (map view_tree trees.now)) }
+    requires suit { SuitTasks CodeFits CodeAsks cell (map compiled (map view_tree trees.now)) }
     ensures cell { IfOk result (λ core. core.cell ≡ cell) }
     ensures by_turns { IfOk result (λ core. IsByTurns (with_inputs A.asks cell) cell core.history) }
 {
@@ -71,7 +76,7 @@ fn run_tasks<A: Askers>(alloc: Global, cell: Cell, trees: &[Tree]) -> Result<Cor
 }
 
 /// A machine for each task, whose trees these are.
-fn crew_of(alloc: Global, trees: &[Tree]) -> Result<Vec<Machine>, AllocError>
+pub(crate) fn crew_of(alloc: Global, trees: &[Tree]) -> Result<Vec<Machine>, AllocError>
     requires { All IsChecked (map view_tree trees.now) }
     ensures programs { IfOk result (λ machines. map (λ m. m.code) machines.items ≡ map compiled (map view_tree trees.now)) }
     ensures fresh { IfOk result (λ machines. AllByRecursion (λ m. m.phase ≡ phases.New) machines.items) }
@@ -97,13 +102,17 @@ fn machine_of(alloc: Global, tree: &Tree) -> Result<Machine, AllocError>
     }
 }
 
-/// Prints a run and reports it.
-fn report_run<O: Sink, E: Sink>(core: Core, out: &mut O, err: &mut E) -> Report
-    ensures { (trees : List TypedTree) → TasksAskWell (tree_asks trees) core.cell → IsByTurns (with_inputs (tree_asks trees) core.cell) core.cell core.history → AnswersRun core.cell trees result (sunk O.told O.calls O.faults out.old out.new) (sunk E.told E.calls E.faults err.old err.new) }
+/// Prints a run and reports it, however its tasks were run.
+pub(crate) fn report_run<O: Sink, E: Sink>(
+    core: Core,
+    shown: Shown,
+    out: &mut O,
+    err: &mut E,
+) -> Report
+    ensures { AnswersRun (TellsRun core.cell core.history) shown core.cell result (sunk O.told O.calls O.faults out.old out.new) (sunk E.told E.calls E.faults err.old err.new) }
 {
-    within_limits(core.cell());
     let status = status_of_run(&core);
-    match print_run(out, &core) {
+    match print_run(out, &core, shown) {
         Ok(()) => {
             let (history, fates) = core.into_report();
             Report {

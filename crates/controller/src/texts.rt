@@ -1,4 +1,4 @@
-ghost use Rattle.std.specs.Prelude.{◌≡◌, ℕ, ◌+◌, ◌≤◌, ◌<◌, ◌^◌, List, Option, None, Some, IfOk, IfErr, IfSome, option_map, length, All};
+ghost use Rattle.std.specs.Prelude.{◌≡◌, ℕ, ◌+◌, ◌≤◌, ◌<◌, ◌^◌, List, Option, None, Some, Ok, IfOk, IfErr, IfSome, option_map, length, All};
 ghost use Rattle.outside.specs.Told.{Told, found, after_reads};
 ghost use Rattle.controller.specs.Files.{text_of, told_reads, IsLoadFault, IsUnread, GivesText};
 ghost use Rattle.controller.specs.Loaded.{names_in_turn, bytes_of, IsScriptIn, IsWithin, AreTexts};
@@ -38,7 +38,15 @@ pub(crate) fn load_script<S: Shelf>(
     ensures read { (gave : Option (List ℕ)) × IsScriptIn (text_of 0 script_limit gave) result }
 {
     let text = read_file(alloc, shelf, 0, SCRIPT_LIMIT, name)?;
-    match read_script(alloc, text.as_slice()) {
+    script_of(alloc, text.as_slice())
+}
+
+/// The script that a text is.
+pub(crate) fn script_of(alloc: Global, text: &[u8]) -> Result<Script, Refused>
+    ensures script { IsScriptIn (Ok text.now) result }
+    ensures causes { (old new : ℕ) → IfErr result (IsLoadFault old new) }
+{
+    match read_script(alloc, text) {
         Ok(script) => Ok(script),
         Err(ScriptFault::Rule { key, rule }) => Err(Refused::Script { key, rule }),
         Err(ScriptFault::Memory) => Err(Refused::Memory),

@@ -1,11 +1,13 @@
 //! Runs the examples that lie beside it, and tells of each run whether the status and the lines are those that stand with the
-//! example. A line of the standard input names an action and an example.
+//! example; of `run` the status and how the tasks ended. A line of the standard input names an action and an example.
 #![tactic(auto)]
 
 use anyhow::Context;
-use controller::quiet;
-use outside::{FileShelf, MemorySink};
+use outside::{FileShelf, MemorySink, NoPace};
 use std::fs;
+use std::rt::Files;
+use std::sync::Wait;
+use std::thread::Threads;
 
 /// The most bytes that a run may print.
 const ROOM: usize = 65_536;
@@ -32,7 +34,11 @@ fn main(rt: HostRuntime) -> anyhow::Result<()> {
 }
 
 /// The status of an action on an example and what it prints, as they stand with examples.
-fn run(rt: &HostRuntime, action: &str, example: &str) -> anyhow::Result<Vec<u8>> {
+fn run<R: Files + AllocGlobal + Threads + Wait + Sync>(
+    rt: &R,
+    action: &str,
+    example: &str,
+) -> anyhow::Result<Vec<u8>> {
     let alloc = rt.alloc();
     let script = format!(in alloc; "{example}/cell.toml")?;
     let mut shelf = FileShelf::new(rt, script.as_str());
@@ -43,9 +49,14 @@ fn run(rt: &HostRuntime, action: &str, example: &str) -> anyhow::Result<Vec<u8>>
         .ok()
         .context("memory")?;
     let words = [action, script.as_str()];
-    let report = quiet(alloc, &words, &mut shelf, &mut out, &mut err);
+    let report = controller::controller(rt, alloc, &words, &mut shelf, &mut out, &mut err, &NoPace);
     let mut told = format!(in alloc; "status {}\n", report.status)?.into_bytes();
-    told.extend_from_slice(out.bytes())?;
+    for line in out.bytes().split_inclusive(|byte| *byte == b'\n') {
+        // The order of the other lines can be another one at each `run`.
+        if action != "run" || line.starts_with(b"E ") {
+            told.extend_from_slice(line)?;
+        }
+    }
     told.extend_from_slice(err.bytes())?;
     Ok(told)
 }

@@ -33,7 +33,7 @@ text : line_of tasks (asked (Say (codes "ready") tails.None) answers.Ok) ≡ cod
 unfolding digits tasks asked
 text = refl
 
--- -1.5 behind a text
+-- -1.5 after a text
 text_and_num : line_of tasks (asked (Say (codes "k=") (tails.Num (negsuc 1_499))) answers.Ok) ≡ codes "T A k=-1.5\n"
 unfolding digits tasks asked
 text_and_num = refl

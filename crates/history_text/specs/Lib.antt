@@ -1,1 +1,10 @@
 pub mod Lines
+pub mod EventWords
+pub mod EventLines
+pub mod Named
+pub mod InRange
+pub mod HistoryText
+pub mod Reading
+pub mod ValueReading
+pub mod EventReading
+pub mod NextLine

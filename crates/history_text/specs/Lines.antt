@@ -35,7 +35,7 @@ task_name tasks actor = named (slice_get tasks actor)
 abbrev pub setpoint_line : List ℕ → Joints → List ℕ
 setpoint_line name to = codes "S " ++ (name ++ (number_words (take 6 to.axis) ++ codes "\n"))
 
--- what stands behind a text for the operator: a num without needless digits, or a truth
+-- what stands after a text for the operator: a num without needless digits, or a truth
 abbrev pub tail_words : Tail → List ℕ
 tail_words tails.None = []
 tail_words (tails.Num n) = shortest_text n

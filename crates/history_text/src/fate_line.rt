@@ -18,7 +18,7 @@ pub fn write_fate(name: &NameText, fate: &Fate, line: &mut ArrayString<1200>)
 }
 
 /// Appends how a fate is written.
-fn push_fate(fate: Fate, line: &mut ArrayString<1200>)
+pub(crate) fn push_fate(fate: Fate, line: &mut ArrayString<1200>)
     requires room { length line.old.bytes + 64 ≤ 1200 }
     ensures text { line.new.bytes ≡ line.old.bytes ++ fate_words fate }
     ensures short { length line.new.bytes ≤ length line.old.bytes + 64 }
@@ -48,7 +48,8 @@ fn push_fault(fault: Fault, line: &mut ArrayString<1200>)
     }
 }
 
-fn name_of(fault: Fault) -> &'static str
+/// The name of a fault.
+pub(crate) fn name_of(fault: Fault) -> &'static str
     ensures name { result.now ≡ fault_name fault }
     ensures short { length result.now ≤ 16 }
 {

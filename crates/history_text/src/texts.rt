@@ -18,7 +18,7 @@ pub(crate) fn push_text(text: &Text, line: &mut ArrayString<1200>)
     line.push_str(str::from_utf8(text.bytes()).unwrap());
 }
 
-/// Appends what stands behind a text: a num without needless digits, or a truth.
+/// Appends what stands after a text: a num without needless digits, or a truth.
 pub(crate) fn push_tail(tail: &Tail, line: &mut ArrayString<1200>)
     requires room { length line.old.bytes + 15 ≤ 1200 }
     ensures text { line.new.bytes ≡ line.old.bytes ++ tail_words tail.now }

@@ -1,6 +1,6 @@
 //! Whole cells, with what is printed of them.
 
-use controller::{Report, quiet};
+use controller::{Report, is_run, quiet};
 use outside::{MemoryShelf, MemorySink};
 use rapid_model::Fate;
 use std::alloc::{AllocError, Global};
@@ -70,6 +70,17 @@ const ONE_MOVE_LINES: [&[u8]; 4] = [
     b"S A 0.833 0.000 0.000 0.000 0.000 0.000\n",
     b"S A 1.667 0.000 0.000 0.000 0.000 0.000\n",
     b"S A 2.500 0.000 0.000 0.000 0.000 0.000\n",
+    b"E A Done\n",
+];
+
+/// The whole history of the same.
+const ONE_MOVE_HISTORY: [&[u8]; 7] = [
+    b"H A Look > Go 0\n",
+    b"H A Position > 0 0 0 0 0 0\n",
+    b"H A Setpoint 0.833 0 0 0 0 0 > Given\n",
+    b"H A Setpoint 1.667 0 0 0 0 0 > Given\n",
+    b"H A Setpoint 2.5 0 0 0 0 0 > Given\n",
+    b"H A End Done > Ok\n",
     b"E A Done\n",
 ];
 
@@ -153,6 +164,9 @@ pub(crate) fn outcome_of(
     let mut err = MemorySink::new(alloc, 100, Vec::new(alloc))
         .ok()
         .ok_or("room")?;
+    if is_run(words) {
+        return Err("these words run on threads".into());
+    }
     let report = quiet(alloc, words, &mut shelf, &mut out, &mut err);
     Ok(Outcome { report, out, err })
 }
@@ -298,7 +312,7 @@ fn words(rt: HostRuntime) -> Result<(), Fail> {
     ];
     for given in &taken {
         let left = outcome_of(alloc, given, SCRIPT, [ONE_MOVE, b""], None)?;
-        printed(&rt, &left, 0, &ONE_MOVE_LINES, alloc)?;
+        printed(&rt, &left, 0, &ONE_MOVE_HISTORY, alloc)?;
     }
     let left = outcome_of(alloc, &["round", "none"], SCRIPT, [ONE_MOVE, b""], None)?;
     refused(&rt, &left, 5, b"rapid_cell: read none\n");

@@ -14,4 +14,6 @@ mod events;
 #[cfg(test)]
 mod lines;
 #[cfg(test)]
+mod loads;
+#[cfg(test)]
 mod many_inputs;

@@ -1,8 +1,5 @@
-use Rattle.cell_crew.proofs.Rounds.{still_fed, round_kept, way_fed, no_longer}
+use Rattle.cell_crew.proofs.Rounds.{round_kept, way_fed, no_longer}
 use Rattle.cell_crew.proofs.round.round.Goals as goal
-
-pub feed-requires-clause-done : goal.feed-requires-clause-done
-feed-requires-clause-done g c = still_fed _ c.args.core.now.cell c.turns.new.core.cell _ _ _ c.turns.ensures.cell c.turns.ensures.turns c.requires.done
 
 pub returns-clause-under_way : goal.returns-clause-under_way
 returns-clause-under_way g c =

@@ -5,7 +5,7 @@ use Rattle.cell_crew.proofs.round.run.Given as goal
 
 abbrev pub invariant-rounds : goal.invariant-rounds
 invariant-rounds g l =
-    AmidRounds g.M.TaskMachine.program g.M.TaskMachine.stands_for g.M.TaskMachine.due g.A.Askers.asks l.fn.machines l.machines l.fn.core.cell l.core.cell l.core.history l.done
+    AmidRounds g.M.TaskMachine.program g.M.TaskMachine.stands_for g.M.TaskMachine.due g.A.Askers.asks l.fn.machines l.machines l.fn.core.cell l.core.cell l.core.history
 
 -- each round but the last adds an event
 abbrev pub decreases-rounds : goal.decreases-rounds

@@ -1,8 +1,16 @@
--- The list of machines is that of the slice, which has as many.
-use Rattle.std.proofs.Common.{◌≡◌, length, drop, arith}
+use Rattle.std.proofs.Common.{◌≡◌, length, map, drop, ◌∙◌, arith}
+use Rattle.std.proofs.lemmas.List.{length-map}
 use Rattle.std.proofs.Math.Seq.{take-append_seam}
+use Rattle.cell_crew.proofs.Courses.{crew_asks_what_it_may}
 use Rattle.cell_crew.proofs.round.run_round.Goals as goal
 
+pub run-requires-clause-may : goal.run-requires-clause-may
+run-requires-clause-may g c =
+    let machines = c.args.machines.items in
+    crew_asks_what_it_may g.M.TaskMachine.fits g.M.TaskMachine.asks g.A.Askers.asks c.args.core.cell (map g.M.TaskMachine.program machines)
+    (length-map machines g.M.TaskMachine.program ∙ c.requires.crew.one_each) c.requires.programs c.requires.suit
+
+-- The list of machines is that of the slice, which has as many.
 pub returns-clause-stand : goal.returns-clause-stand
 returns-clause-stand g c =
     let ran = c.run.new.machines in

@@ -4,7 +4,7 @@ use Rattle.rapid_model.specs.CellData.{CellData}
 use Rattle.cell_meaning.specs.Asking.{with_inputs}
 use Rattle.cell_meaning.specs.Histories.{IsLegal}
 use Rattle.cell_meaning.specs.Premises.{AsksWhatItMay}
-use Rattle.cell_crew.proofs.Rounds.{none_turned, runs_at, more_turned}
+use Rattle.cell_crew.proofs.Rounds.{none_turned, asks_at, suits_at, more_turned}
 use Rattle.cell_crew.proofs.round.turns.Goals as goal
 
 pub loop-task-init : goal.loop-task-init
@@ -14,7 +14,12 @@ loop-task-init g c =
 pub turn-requires-clause-program : goal.turn-requires-clause-program
 turn-requires-clause-program g c =
     let at = slice_get-get_or c.loop-task.machines c.loop-task.task c.index-machines-task.result (omega arith) in
-    runs_at g.M.TaskMachine.program g.M.TaskMachine.stands_for g.M.TaskMachine.due g.M.TaskMachine.fits g.M.TaskMachine.asks g.A.Askers.asks _ _ _ _ _ _ _ _ c.requires.programs c.loop-task.invariant at
+    asks_at g.M.TaskMachine.program g.M.TaskMachine.stands_for g.M.TaskMachine.due g.M.TaskMachine.fits g.M.TaskMachine.asks g.A.Askers.asks _ _ _ _ _ _ _ _ c.requires.programs c.loop-task.invariant at
+
+pub turn-requires-clause-suits : goal.turn-requires-clause-suits
+turn-requires-clause-suits g c =
+    let at = slice_get-get_or c.loop-task.machines c.loop-task.task c.index-machines-task.result (omega arith) in
+    suits_at g.M.TaskMachine.program g.M.TaskMachine.stands_for g.M.TaskMachine.due g.M.TaskMachine.fits g.M.TaskMachine.asks g.A.Askers.asks _ _ _ _ _ _ _ _ c.requires.suit c.loop-task.invariant at
 
 pub turn-requires-clause-may : goal.turn-requires-clause-may
 turn-requires-clause-may g c = subst (λ (cell : CellData). AsksWhatItMay (with_inputs g.A.Askers.asks cell) cell) (sym c.loop-task.invariant.same_cell) c.requires.may

@@ -1,5 +1,5 @@
 use Rattle.std.proofs.Common.{sym, ◌∙◌}
-use Rattle.cell_crew.proofs.Turning.{AtTurn, came_turn, asks_it, asks_only, fits_it, goes_on_it, way_ends, way_goes_on}
+use Rattle.cell_crew.proofs.Turning.{AtTurn, answered_turn, came_turn, asks_it, asks_only, fits_it, goes_on_it, way_ends, way_goes_on}
 use Rattle.cell_crew.proofs.turn.turn.Given as given
 use Rattle.cell_crew.proofs.turn.turn.Goals.{After-last}
 use Rattle.cell_crew.proofs.turn.turn.Goals as goal
@@ -10,7 +10,8 @@ at_turn : (g : given.Over) (c : After-last g)
 at_turn g c = record {
   asks_due = g.met.M.TaskMachine.asks_due;
   within = c.requires.task;
-  runs = c.requires.program;
+  asks_as = c.requires.program;
+  suits = c.requires.suits;
   legal = c.requires.legal;
   way = c.requires.under_way;
   going = sym c.ended.ensures ∙ c.if-ended.false;
@@ -33,6 +34,12 @@ returns-then-not-ended-clause-under_way g c =
 pub returns-else-not-ended-clause-under_way : goal.returns-else-not-ended-clause-under_way
 returns-else-not-ended-clause-under_way g c =
     way_ends _ _ _ _ _ _ _ _ _ _ _ _ c.in-Some.answer (at_turn g (goal.at.returns-else-not-ended-clause-under_way g c).After-last) c.in-Some.ensures.came.1 (sym c.ended-in-Some.ensures ∙ c.if-not-ended.false)
+
+pub returns-then-not-ended-clause-turn : goal.returns-then-not-ended-clause-turn
+returns-then-not-ended-clause-turn g c = answered_turn _ _ _ _ _ c.last.result c.in-Some.answer c.in-Some.ensures.came
+
+pub returns-else-not-ended-clause-turn : goal.returns-else-not-ended-clause-turn
+returns-else-not-ended-clause-turn g c = answered_turn _ _ _ _ _ c.last.result c.in-Some.answer c.in-Some.ensures.came
 
 pub returns-in_default-clause-turn : goal.returns-in_default-clause-turn
 returns-in_default-clause-turn g c = came_turn _ _ _ _ _ _ _ (asks_only _ _ _ _ _ _ _ _ _ _ _ (at_turn g (goal.at.returns-in_default-clause-turn g c).After-last)) c.ask.ensures.came

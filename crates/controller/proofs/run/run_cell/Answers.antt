@@ -1,12 +1,9 @@
-use Rattle.std.proofs.Common.{List, ap, length, map, subst, sym, ◌∙◌}
+use Rattle.std.proofs.Common.{ap, length, map, sym, ◌∙◌}
 use Rattle.std.proofs.lemmas.List.{length-map}
 use Rattle.typed_trees.specs.Views.{view_tree}
-use Rattle.typed_trees.specs.declared.tree.Tree.{Tree}
-use Rattle.rapid_meaning.specs.Asking.{tree_asks}
-use Rattle.cell_meaning.proofs.InputScript.{asks_what_it_may}
-use Rattle.controller.specs.Loaded.{HasScript, made_with}
-use Rattle.controller.proofs.Compiling.{all_checked}
-use Rattle.controller.proofs.Reports.{run_answered}
+use Rattle.controller.specs.Loaded.{made_with}
+use Rattle.controller.proofs.Compiling.{all_checked, seen_script}
+use Rattle.controller.proofs.Reports.{turns_answered}
 use Rattle.controller.proofs.run.run_cell.Goals as goal
 
 pub run_tasks-requires-clause-one_each : goal.run_tasks-requires-clause-one_each
@@ -14,23 +11,23 @@ run_tasks-requires-clause-one_each g c = ap length c.as_slice.ensures.value ∙ 
 
 pub run_tasks-requires-clause-checked : goal.run_tasks-requires-clause-checked
 run_tasks-requires-clause-checked g c =
-    let has : HasScript (made_with c.args.accepted.cell c.as_slice.result.now) = subst (λ (ts : List Tree). HasScript (made_with c.args.accepted.cell ts)) (sym c.as_slice.ensures.value) c.requires in
+    let has = seen_script c.args.accepted.cell c.args.accepted.trees.items c.as_slice.result.now c.as_slice.ensures.value c.requires in
     all_checked (made_with c.args.accepted.cell c.as_slice.result.now) has
 
 pub run_tasks-requires-clause-programs : goal.run_tasks-requires-clause-programs
 run_tasks-requires-clause-programs g c =
-    let has : HasScript (made_with c.args.accepted.cell c.as_slice.result.now) = subst (λ (ts : List Tree). HasScript (made_with c.args.accepted.cell ts)) (sym c.as_slice.ensures.value) c.requires in
-    c.accepted_tasks_run_their_code.ensures has.script (made_with c.args.accepted.cell c.as_slice.result.now) has.accepted
+    let has = seen_script c.args.accepted.cell c.args.accepted.trees.items c.as_slice.result.now c.as_slice.ensures.value c.requires in
+    c.accepted_tasks_ask_as_their_code.ensures has.script (made_with c.args.accepted.cell c.as_slice.result.now) has.accepted
 
-pub run_tasks-requires-clause-may : goal.run_tasks-requires-clause-may
-run_tasks-requires-clause-may g c =
-    let has : HasScript (made_with c.args.accepted.cell c.as_slice.result.now) = subst (λ (ts : List Tree). HasScript (made_with c.args.accepted.cell ts)) (sym c.as_slice.ensures.value) c.requires in
-    asks_what_it_may (tree_asks (map view_tree c.as_slice.result.now)) c.args.accepted.cell (c.accepted_tasks_ask_well.ensures has.script (made_with c.args.accepted.cell c.as_slice.result.now) has.accepted)
+pub run_tasks-requires-clause-suit : goal.run_tasks-requires-clause-suit
+run_tasks-requires-clause-suit g c =
+    let has = seen_script c.args.accepted.cell c.args.accepted.trees.items c.as_slice.result.now c.as_slice.ensures.value c.requires in
+    c.accepted_code_suits_its_task.ensures has.script (made_with c.args.accepted.cell c.as_slice.result.now) has.accepted
 
 pub returns-in-Ok : goal.returns-in-Ok
 returns-in-Ok g c =
-    let has : HasScript (made_with c.args.accepted.cell c.as_slice.result.now) = subst (λ (ts : List Tree). HasScript (made_with c.args.accepted.cell ts)) (sym c.as_slice.ensures.value) c.requires in
-    run_answered c.args.accepted.cell c.in-Ok.core.cell (map view_tree c.args.accepted.trees.items) (map view_tree c.as_slice.result.now) c.in-Ok.core.history _ _ _ c.in-Ok.ensures.cell
-    (ap (map view_tree) c.as_slice.ensures.value)
+    let has = seen_script c.args.accepted.cell c.args.accepted.trees.items c.as_slice.result.now c.as_slice.ensures.value c.requires in
+    turns_answered c.args.shown c.args.accepted.cell c.in-Ok.core.cell (map view_tree c.args.accepted.trees.items) (map view_tree c.as_slice.result.now) c.in-Ok.core.history _ _ _ c.in-Ok.ensures.cell
+    (ap (map view_tree) c.as_slice.ensures.value) c.within_limits.ensures.limits c.within_limits.ensures.full
     (c.accepted_tasks_ask_well.ensures has.script (made_with c.args.accepted.cell c.as_slice.result.now) has.accepted)
     c.in-Ok.ensures.by_turns c.report_run.ensures

@@ -1,7 +1,7 @@
 use Rattle.std.proofs.Common.{ap, map}
 use Rattle.cell_core.specs.CoreData.{CoreData}
 use Rattle.typed_trees.specs.Views.{view_tree}
-use Rattle.controller.proofs.Running.{crew_is, may_here, programs_run, turns_there}
+use Rattle.controller.proofs.Running.{crew_is, programs_ask, programs_suit, turns_there}
 use Rattle.controller.proofs.run.run_tasks.Goals as goal
 
 pub run_round-requires-clause-no_events : goal.run_round-requires-clause-no_events
@@ -14,11 +14,12 @@ run_round-requires-clause-crew g c =
 
 pub run_round-requires-clause-programs : goal.run_round-requires-clause-programs
 run_round-requires-clause-programs g c =
-    programs_run g.A.Askers.asks c.args.cell c.in-Ok.core.cell c.in_ok-machines.machines.items (map view_tree c.args.trees.now) c.requires.programs c.in_ok-machines.ensures.programs
-    (ap (λ (x : CoreData). x.cell) c.in-Ok.ensures.ok)
+    programs_ask g.A.Askers.asks c.in_ok-machines.machines.items (map view_tree c.args.trees.now) c.requires.programs c.in_ok-machines.ensures.programs
 
-pub run_round-requires-clause-may : goal.run_round-requires-clause-may
-run_round-requires-clause-may g c = may_here g.A.Askers.asks c.args.cell c.in-Ok.core.cell c.requires.may (ap (λ (x : CoreData). x.cell) c.in-Ok.ensures.ok)
+pub run_round-requires-clause-suit : goal.run_round-requires-clause-suit
+run_round-requires-clause-suit g c =
+    programs_suit c.args.cell c.in-Ok.core.cell c.in_ok-machines.machines.items (map view_tree c.args.trees.now) c.requires.suit c.in_ok-machines.ensures.programs
+    (ap (λ (x : CoreData). x.cell) c.in-Ok.ensures.ok)
 
 pub returns-in-Ok-clause-by_turns : goal.returns-in-Ok-clause-by_turns
 returns-in-Ok-clause-by_turns g c =

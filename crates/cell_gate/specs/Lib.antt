@@ -1,0 +1,9 @@
+pub mod GateData
+pub mod PassData
+pub mod Views
+pub mod Rule
+pub mod Steps
+pub mod Causes
+pub mod Turn
+pub mod Hands
+pub mod Calls

@@ -1,0 +1,134 @@
+ghost use Rattle.std.specs.Prelude.{◌≡◌, ◌<◌, ◌≤◌, length, IsFalse, IsTrue};
+ghost use Rattle.rapid_model.specs.Own.{is_held};
+ghost use Rattle.cell_gate.specs.Calls.{MayAsk, IsSameHolder, ActedAs, RoseNow, RoseAs, FedNow};
+ghost use Rattle.cell_gate.specs.Causes.{may_wait};
+
+use crate::acted::Acted;
+use crate::asking::{try_act, try_feed, try_rise};
+use crate::fed::Fed;
+use crate::now::Now;
+use crate::pass::Pass;
+use crate::rose::Rose;
+use crate::rule::Turns;
+use crate::steps::wait_past;
+use crate::view::View;
+use atomic_table::Table;
+use cell_core::Core;
+use rapid_model::{Cell, Request};
+use std::alloc::Global;
+use std::marker::Model;
+use std::sync::Wait;
+
+/// A core that threads share, each by the passes that it has. Contracts see it as its cell, and which gate it is. A call with a
+/// pass waits for its turn. Then it asks the core: what all passes ask stands in one history, each call once.
+#[derive(Drop)]
+pub struct Gate {
+    pub(crate) table: Table<Option<Core>, View, Cell, Turns, Global>,
+    /// How many tasks the cell has.
+    pub(crate) tasks: u32,
+}
+
+impl Model for Gate {
+    ghost use Rattle.std.specs.Prelude.{◌≡◌, ◌≤◌, length};
+    ghost use Rattle.cell_gate.specs.GateData.{GateData};
+    ghost use Rattle.cell_gate.specs.Hands.{IsSized};
+
+    ghost Value = { GateData };
+
+    ghost view = { λ g. record { cell = g.table.shared.key; table = g.table.shared.table_id } };
+
+    ghost invariant = { λ g. IsSized g.table.shared.table_id × (g.tasks ≡ length g.table.shared.key.tasks) × (g.tasks ≤ 8) };
+}
+
+impl Gate {
+    /// How many tasks the cell has.
+    pub fn task_count(&self) -> u32
+        ensures same { result ≡ length self.now.cell.tasks }
+        ensures few { result ≤ 8 }
+    {
+        self.tasks
+    }
+
+    /// Asks what the pass's actor may ask, other than a Rise or an Input. Done comes with the answer of the core after the
+    /// history then, and the call is one more event of it; Spent comes exactly where the request would be counted and no steps
+    /// are left, and adds nothing.
+    pub fn act<R: Wait>(&self, rt: &R, pass: &mut Pass, request: Request) -> Acted
+        requires gate { pass.old.gate ≡ self.now }
+        requires may { MayAsk pass.old request }
+        requires plain { IsFalse (may_wait request) }
+        ensures same { IsSameHolder pass.old pass.new }
+        ensures acted { ActedAs pass.old request result pass.new }
+    {
+        let top = &self.table.shared;
+        let actor = pass.caller.actor;
+        let mut core = pass.caller.take(rt, top);
+        let acted = try_act(&mut core, actor, request);
+        let grew = acted.is_done();
+        pass.caller.settle(top, core, grew);
+        acted
+    }
+
+    /// Lets the pass's task, which is held, go on if it can now: Spent exactly where a task has not ended and no steps are left,
+    /// else Woken exactly where the task can rise, else Stalled exactly where the cell is stalled, else NotYet. Woken alone adds
+    /// an event, the Rise.
+    pub fn rise_now<R: Wait>(&self, rt: &R, pass: &mut Pass) -> Now
+        requires gate { pass.old.gate ≡ self.now }
+        requires task { pass.old.actor < length pass.old.gate.cell.tasks }
+        requires held { IsTrue (is_held pass.old.mine) }
+        ensures same { IsSameHolder pass.old pass.new }
+        ensures rose { RoseNow pass.old result pass.new }
+    {
+        let top = &self.table.shared;
+        let task = pass.caller.actor;
+        let mut core = pass.caller.take(rt, top);
+        let now = try_rise(&mut core, task);
+        let grew = now.is_woken();
+        pass.caller.settle(top, core, grew);
+        now
+    }
+
+    /// Waits until the pass's task, which is held, goes on, or nothing will wake it, or no steps are left: each as in `rise_now`.
+    pub fn rise<R: Wait>(&self, rt: &R, pass: &mut Pass) -> Rose
+        requires gate { pass.old.gate ≡ self.now }
+        requires task { pass.old.actor < length pass.old.gate.cell.tasks }
+        requires held { IsTrue (is_held pass.old.mine) }
+        ensures same { IsSameHolder pass.old pass.new }
+        ensures rose { RoseAs pass.old result pass.new }
+    {
+        for _ in rt.forever() {
+            match self.rise_now(rt, pass) {
+                Now::Woken => return Rose::Woken,
+                Now::Stalled => return Rose::Stalled,
+                Now::Spent => return Rose::Spent,
+                Now::NotYet => self.rest(rt, pass),
+            }
+        }
+        unreachable!()
+    }
+
+    /// Does the next step of the input script if it is open, by the script's pass: Over exactly where none is left, all tasks
+    /// ended, a task has not and no steps are left, or the cell is stalled; else Given exactly where the gate of the next step
+    /// holds, else NotYet. Given alone adds an event, the Input.
+    pub fn feed_now<R: Wait>(&self, rt: &R, pass: &mut Pass) -> Fed
+        requires gate { pass.old.gate ≡ self.now }
+        requires script { pass.old.actor ≡ length pass.old.gate.cell.tasks }
+        ensures same { IsSameHolder pass.old pass.new }
+        ensures fed { FedNow pass.old result pass.new }
+    {
+        let top = &self.table.shared;
+        let mut core = pass.caller.take(rt, top);
+        let fed = try_feed(&mut core);
+        let grew = fed.is_given();
+        pass.caller.settle(top, core, grew);
+        fed
+    }
+
+    /// Waits while the history is no longer than the pass last saw.
+    pub fn rest<R: Wait>(&self, rt: &R, pass: &mut Pass)
+        requires gate { pass.old.gate ≡ self.now }
+        ensures { pass.new ≡ pass.old }
+    {
+        let top = &self.table.shared;
+        wait_past(rt, top, &mut pass.caller.place, pass.caller.len);
+    }
+}

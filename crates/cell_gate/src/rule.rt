@@ -1,0 +1,91 @@
+//! The rule of the gate's table, and what each step on it tells its caller. The table has two words, the turn (0, or one more
+//! than the actor that has it) and the length of the history, and one slot, for the core.
+use crate::view::View;
+use atomic_table::{Join, Play, Seat, Shared, Split, TableRule};
+use cell_core::Core;
+use rapid_model::Cell;
+
+/// The table, as threads share it.
+pub(crate) type Top = Shared<Option<Core>, View, Cell, Turns>;
+
+/// A place at the table.
+pub(crate) type Place = Seat<Option<Core>, View>;
+
+/// What holds between any two steps.
+pub struct Turns;
+
+impl TableRule<Option<Core>, View, Cell> for Turns {
+    ghost use Rattle.cell_gate.specs.Rule.{Kept};
+    ghost use Rattle.cell_gate.specs.Views.{first_view};
+
+    ghost holds = { Kept };
+
+    ghost first = { first_view };
+}
+
+/// Takes the turn and the core, or finds the turn taken.
+pub(crate) struct Take;
+
+impl Play<Option<Core>, View> for Take {
+    ghost use Rattle.cell_gate.specs.Steps.{Takes};
+
+    ghost then = { λ step. Takes };
+}
+
+/// Counts the event that the core gained.
+pub(crate) struct Count;
+
+impl Play<Option<Core>, View> for Count {
+    ghost use Rattle.cell_gate.specs.Steps.{Counts};
+
+    ghost then = { λ step. Counts };
+}
+
+/// Gives the turn and the core.
+pub(crate) struct Give;
+
+impl Play<Option<Core>, View> for Give {
+    ghost use Rattle.cell_gate.specs.Steps.{Gives};
+
+    ghost then = { λ step. Gives };
+}
+
+/// Reads the count.
+pub(crate) struct Rest;
+
+impl Play<Option<Core>, View> for Rest {
+    ghost use Rattle.cell_gate.specs.Steps.{Stays};
+
+    ghost then = { λ step. Stays };
+}
+
+/// Takes the empty slot, before the core is there.
+pub(crate) struct Open;
+
+impl Play<Option<Core>, View> for Open {
+    ghost use Rattle.cell_gate.specs.Steps.{Opens};
+
+    ghost then = { λ step. Opens };
+}
+
+/// Makes the view of the next actor.
+pub(crate) struct Deal;
+
+impl Split<View> for Deal {
+    ghost use Rattle.cell_gate.specs.Views.{after_deal, dealt};
+
+    ghost left = { after_deal };
+
+    ghost right = { dealt };
+}
+
+/// Takes in the view of another pass.
+pub(crate) struct Gather;
+
+impl Join<View> for Gather {
+    ghost use Rattle.cell_gate.specs.Views.{after_gather, spent_view};
+
+    ghost both = { after_gather };
+
+    ghost spent = { spent_view };
+}

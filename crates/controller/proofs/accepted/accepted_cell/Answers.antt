@@ -1,0 +1,40 @@
+use Rattle.controller.specs.Answered.{word_bytes}
+use Rattle.controller.specs.Files.{IsLoadFault}
+use Rattle.controller.proofs.Causes.{no_words, no_write, read_counted}
+use Rattle.controller.proofs.Choosing.{asked_moves}
+use Rattle.controller.proofs.Exits.{words_refused}
+use Rattle.controller.proofs.Gains.{gained_none}
+use Rattle.controller.proofs.accepted.accepted_cell.Goals as goal
+
+pub returns-in-Err-clause-refused : goal.returns-in-Err-clause-refused
+returns-in-Err-clause-refused g c = λ held.
+    words_refused _ _ c.in-Err.place _ _ _ c.in-Err.ensures.refused (record {
+      refused_is = c.refuse.ensures.refused;
+      status = c.refuse.ensures.status;
+      history = c.refuse.ensures.history;
+      fates = c.refuse.ensures.fates;
+      printed = gained_none _;
+      calls = gained_none _;
+      told = c.refuse.ensures.told;
+    })
+
+pub commanded_cell-requires : goal.commanded_cell-requires
+commanded_cell-requires g c = asked_moves (word_bytes c.args.words.now) c.in-Ok.command.action c.in-Ok.ensures.action
+
+pub returns-in-Ok-commanded_cell-clause-asked : goal.returns-in-Ok-commanded_cell-clause-asked
+returns-in-Ok-commanded_cell-clause-asked g c =
+    c.in-Ok-commanded_cell.ensures.asked (word_bytes c.args.words.now) (record { taken = c.in-Ok.ensures.taken; asked_is = c.in-Ok.ensures.action; name_is = c.in-Ok.ensures.name })
+
+pub returns-in-Err-commanded_cell-clause-refused : goal.returns-in-Err-commanded_cell-clause-refused
+returns-in-Err-commanded_cell-clause-refused g c = λ held.
+    c.in-Err-commanded_cell.ensures.refused (word_bytes c.args.words.now) held (record { taken = c.in-Ok.ensures.taken; asked_is = c.in-Ok.ensures.action; name_is = c.in-Ok.ensures.name })
+
+pub returns-in-Err-commanded_cell-clause-words : goal.returns-in-Err-commanded_cell-clause-words
+returns-in-Err-commanded_cell-clause-words g c =
+    no_words (IsLoadFault (g.S.Shelf.faults c.args.shelf.now) (g.S.Shelf.faults c.commanded_cell.new.shelf)) (word_bytes c.args.words.now) _ (λ place never. never) c.in-Ok.ensures.taken c.in-Err-commanded_cell.ensures.causes
+
+pub returns-in-Err-commanded_cell-clause-read : goal.returns-in-Err-commanded_cell-clause-read
+returns-in-Err-commanded_cell-clause-read g c = read_counted (g.S.Shelf.faults c.args.shelf.now) (g.S.Shelf.faults c.commanded_cell.new.shelf) _ c.in-Err-commanded_cell.ensures.causes
+
+pub returns-in-Err-commanded_cell-clause-write : goal.returns-in-Err-commanded_cell-clause-write
+returns-in-Err-commanded_cell-clause-write g c = no_write (g.S.Shelf.faults c.args.shelf.now) (g.S.Shelf.faults c.commanded_cell.new.shelf) _ c.in-Err-commanded_cell.ensures.causes

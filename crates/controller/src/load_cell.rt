@@ -1,0 +1,86 @@
+ghost use Rattle.std.specs.Prelude.{◌≡◌, ℕ, List, Option, IfOk, IfErr, IfSome, map};
+ghost use Rattle.outside.specs.Told.{Told};
+ghost use Rattle.cell_load.specs.Views.{view_modules};
+ghost use Rattle.controller.specs.Files.{IsLoadFault};
+ghost use Rattle.controller.specs.LoadFiles.{module_named};
+ghost use Rattle.controller.specs.Loaded.{bytes_of, made_of, names_in_turn, HasScript};
+ghost use Rattle.controller.specs.Printed.{sunk, Seen};
+ghost use Rattle.controller.specs.Answered.{untouched, AnswersWords};
+ghost use Rattle.controller.specs.Asked.{AreFor, AreMoves, IsAsked};
+
+use crate::check::CheckedCell;
+use crate::command::{Action, Command};
+use crate::files::module_files;
+use crate::refused::Refused;
+use crate::report::{Report, refuse, refuse_file};
+use crate::texts::{Texts, script_of};
+use crate::texts_cell::texts_cell;
+use cell_load::make_load;
+use outside::Sink;
+use std::alloc::{AllocError, Global};
+
+/// The load cell of so many moves, of its own texts. Else the report of the refusal, whose line is told.
+pub(crate) fn load_cell<E: Sink>(
+    alloc: Global,
+    command: &Command<'_>,
+    moves: u32,
+    err: &mut E,
+) -> Result<CheckedCell, Report>
+    requires action { command.now.action ≡ Action.Load moves }
+    requires moves { AreMoves moves }
+    ensures refused { IfErr result (λ report. (words : List (List ℕ)) (told : Option Told) (held : Seen) → AreFor words command.now.action command.now.script.now → AnswersWords words told report (untouched held) (sunk E.told E.calls E.faults err.old err.new)) }
+    ensures causes { IfErr result (λ report. (old new : ℕ) → IfSome report.refused (IsLoadFault old new)) }
+    ensures asked { IfOk result (λ accepted. (words : List (List ℕ)) (told : Option Told) → AreFor words command.now.action command.now.script.now → IsAsked words told command.now.action (made_of accepted)) }
+    ensures script { IfOk result (λ accepted. HasScript (made_of accepted)) }
+    ensures untold { IfOk result (λ _. err.new ≡ err.old) }
+{
+    let load = match make_load(alloc, moves) {
+        Ok(load) => load,
+        Err(_) => return Err(refuse(alloc, err, "", Refused::Memory)),
+    };
+    let script = match script_of(alloc, load.script.as_slice()) {
+        Ok(script) => script,
+        Err(refused) => return Err(refuse_file(alloc, err, command.script, &[], refused)),
+    };
+    let names = match module_files(alloc, &script) {
+        Ok(names) => names,
+        Err(_) => return Err(refuse(alloc, err, "", Refused::Memory)),
+    };
+    let files = names.as_slice();
+    let texts = match own_texts(alloc, load.modules.as_slice(), files) {
+        Ok(texts) => Texts {
+            texts,
+            failed: None,
+        },
+        Err(_) => return Err(refuse(alloc, err, "", Refused::Memory)),
+    };
+    texts_cell(alloc, command, &script, files, texts, err)
+}
+
+/// The texts of the modules of these names, each in turn.
+fn own_texts(
+    alloc: Global,
+    modules: &[(String, Vec<u8>)],
+    names: &[&str],
+) -> Result<Vec<Vec<u8>>, AllocError>
+    ensures { IfOk result (λ texts. bytes_of texts.items ≡ map (module_named (view_modules modules.now)) (names_in_turn names.now)) }
+{
+    let mut texts = Vec::new(alloc);
+    for name in names {
+        let text = module_named(modules, name);
+        texts.push(Vec::from_slice(alloc, text)?)?;
+    }
+    Ok(texts)
+}
+
+/// The text of the module of this name; an empty one where no module has it.
+fn module_named<'a>(modules: &'a [(String, Vec<u8>)], name: &str) -> &'a [u8]
+    ensures { result.now ≡ module_named (view_modules modules.now) name.now }
+{
+    for (key, text) in modules {
+        if name == key.as_str() {
+            return text.as_slice();
+        }
+    }
+    b""
+}

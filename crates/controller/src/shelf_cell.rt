@@ -1,0 +1,44 @@
+ghost use Rattle.std.specs.Prelude.{◌≡◌, ◌≢◌, ℕ, List, IfOk, IfErr, IfSome};
+ghost use Rattle.controller.specs.Files.{IsLoadFault};
+ghost use Rattle.controller.specs.Loaded.{made_of, HasScript};
+ghost use Rattle.controller.specs.Printed.{sunk, Seen};
+ghost use Rattle.controller.specs.Answered.{untouched, AnswersWords};
+ghost use Rattle.controller.specs.Asked.{AreFor, IsAsked};
+
+use crate::check::CheckedCell;
+use crate::command::{Action, Command};
+use crate::files::module_files;
+use crate::refused::Refused;
+use crate::report::{Report, refuse, refuse_file};
+use crate::texts::{load_script, load_texts};
+use crate::texts_cell::texts_cell;
+use outside::{Shelf, Sink};
+use std::alloc::Global;
+
+/// The cell of the script in the file that a command names, and of the modules that it names. Else the report of the refusal,
+/// whose line is told.
+pub(crate) fn shelf_cell<S: Shelf, E: Sink>(
+    alloc: Global,
+    command: &Command<'_>,
+    shelf: &mut S,
+    err: &mut E,
+) -> Result<CheckedCell, Report>
+    requires { (moves : ℕ) → command.now.action ≢ Action.Load moves }
+    ensures refused { IfErr result (λ report. (words : List (List ℕ)) (held : Seen) → AreFor words command.now.action command.now.script.now → AnswersWords words (S.told shelf.old) report (untouched held) (sunk E.told E.calls E.faults err.old err.new)) }
+    ensures causes { IfErr result (λ report. IfSome report.refused (IsLoadFault (S.faults shelf.old) (S.faults shelf.new))) }
+    ensures asked { IfOk result (λ accepted. (words : List (List ℕ)) → AreFor words command.now.action command.now.script.now → IsAsked words (S.told shelf.old) command.now.action (made_of accepted)) }
+    ensures script { IfOk result (λ accepted. HasScript (made_of accepted)) }
+    ensures untold { IfOk result (λ _. err.new ≡ err.old) }
+{
+    let script = match load_script(alloc, shelf, command.script) {
+        Ok(script) => script,
+        Err(refused) => return Err(refuse_file(alloc, err, command.script, &[], refused)),
+    };
+    let names = match module_files(alloc, &script) {
+        Ok(names) => names,
+        Err(_) => return Err(refuse(alloc, err, "", Refused::Memory)),
+    };
+    let files = names.as_slice();
+    let texts = load_texts(alloc, shelf, files);
+    texts_cell(alloc, command, &script, files, texts, err)
+}

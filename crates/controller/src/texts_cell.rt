@@ -1,0 +1,80 @@
+ghost use Rattle.std.specs.Prelude.{◌≡◌, ◌<◌, ◌^◌, ℕ, List, Some, Ok, IfOk, IfErr, IfSome, All, length};
+ghost use Rattle.rapid_model.specs.ScriptData.{module_names};
+ghost use Rattle.outside.specs.Told.{Told};
+ghost use Rattle.std.specs.Prelude.{Option};
+ghost use Rattle.controller.specs.Accepted.{checked};
+ghost use Rattle.controller.specs.Files.{IsLoadFault};
+ghost use Rattle.controller.specs.Loaded.{bytes_of, file_names, made_of, names_in_turn, reads_in, ArePaired, AreSpelled, HasScript, IsWithin};
+ghost use Rattle.controller.specs.Printed.{sunk, Seen};
+ghost use Rattle.controller.specs.Answered.{untouched, AnswersReads, AnswersWords};
+ghost use Rattle.controller.specs.Asked.{GiveTexts, IsAsked};
+
+use crate::check::{CheckedCell, check_modules};
+use crate::command::Command;
+use crate::modules::{Modules, parse_texts};
+use crate::refused::Refused;
+use crate::report::{Report, refuse_file};
+use crate::texts::Texts;
+use outside::Sink;
+use rapid_model::Script;
+use std::alloc::Global;
+
+/// The cell of a script and of the texts of its modules, whose files have these names. Else the report of the refusal, whose line is
+/// told. The texts are let go by then.
+pub(crate) fn texts_cell<E: Sink>(
+    alloc: Global,
+    command: &Command<'_>,
+    script: &Script,
+    files: &[&str],
+    found: Texts,
+    err: &mut E,
+) -> Result<CheckedCell, Report>
+    requires named { names_in_turn files.now ≡ module_names script.now.tasks }
+    requires few { length found.texts.items < 2 ^ 31 }
+    requires within { All IsWithin found.texts.items }
+    // A refusal is the whole answer, with nothing on the first sink.
+    ensures refused { IfErr result (λ report. (words : List (List ℕ)) (told : Option Told) (held : Seen) → GiveTexts words told command.now.action command.now.script.now script.now (bytes_of found.texts.items) found.failed → AnswersWords words told report (untouched held) (sunk E.told E.calls E.faults err.old err.new)) }
+    ensures causes { IfErr result (λ report. (old new : ℕ) → IfSome found.failed (IsLoadFault old new) → IfSome report.refused (IsLoadFault old new)) }
+    // Else the action is to be done with this cell.
+    ensures asked { IfOk result (λ accepted. (words : List (List ℕ)) (told : Option Told) → GiveTexts words told command.now.action command.now.script.now script.now (bytes_of found.texts.items) found.failed → IsAsked words told command.now.action (made_of accepted)) }
+    ensures script { IfOk result (λ accepted. HasScript (made_of accepted)) }
+    ensures untold { IfOk result (λ _. err.new ≡ err.old) }
+{
+    let Texts { texts, failed } = found;
+    match parse_texts(alloc, texts.as_slice(), failed) {
+        Ok(trees) => {
+            let modules = Modules {
+                first: 1,
+                texts: texts.as_slice(),
+                trees: trees.as_slice(),
+            };
+            cell_of(alloc, command, script, files, &modules, err)
+        }
+        Err(refused) => Err(refuse_file(alloc, err, command.script, files, refused)),
+    }
+}
+
+/// The cell of a script whose modules are all read, unless they break a rule.
+fn cell_of<E: Sink>(
+    alloc: Global,
+    command: &Command<'_>,
+    script: &Script,
+    files: &[&str],
+    modules: &Modules<'_, '_>,
+    err: &mut E,
+) -> Result<CheckedCell, Report>
+    requires paired { ArePaired modules.now }
+    requires spelled { AreSpelled (reads_in modules.now) }
+    ensures refused { IfErr result (λ report. (held : Seen) → AnswersReads (Some command.now.action) (file_names command.now.script.now files.now) script.now (reads_in modules.now) report (untouched held) (sunk E.told E.calls E.faults err.old err.new)) }
+    ensures causes { IfErr result (λ report. (old new : ℕ) → IfSome report.refused (IsLoadFault old new)) }
+    ensures gives { IfOk result (λ accepted. checked script.now (reads_in modules.now) ≡ Ok (made_of accepted)) }
+    ensures script { IfOk result (λ accepted. HasScript (made_of accepted)) }
+    ensures untold { IfOk result (λ _. err.new ≡ err.old) }
+{
+    // A script is within its limits.
+    prove!(script.steps() > 0);
+    match check_modules(alloc, script, modules) {
+        Ok(accepted) => Ok(accepted),
+        Err(refused) => Err(refuse_file(alloc, err, command.script, files, refused)),
+    }
+}

@@ -1,0 +1,4 @@
+pub mod Amid
+pub mod Crews
+pub mod Started
+pub mod Runs

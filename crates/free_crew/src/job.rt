@@ -1,0 +1,10 @@
+use crate::standing::Standing;
+use cell_gate::Pass;
+
+/// A task amid a run.
+#[derive(Drop)]
+pub struct Job<M> {
+    pub machine: M,
+    pub pass: Pass,
+    pub standing: Standing,
+}

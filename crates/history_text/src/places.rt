@@ -1,0 +1,43 @@
+//! Places of an arm.
+
+ghost use Rattle.std.specs.Prelude.{◌≡◌, ◌+◌, ◌≤◌, ◌∷◌, ◌++◌, length};
+ghost use Rattle.rapid_num.specs.NumText.{shortest_text};
+ghost use Rattle.history_text.specs.EventWords.{axes_words, nums_words};
+
+use arrayvec::ArrayString;
+use rapid_num::{Joints, Num};
+use value_text::push_num;
+
+/// Appends axes 1 to 6, with spaces between.
+pub(crate) fn push_place(place: &Joints, line: &mut ArrayString<1200>)
+    requires room { length line.old.bytes + 96 ≤ 1200 }
+    ensures text { line.new.bytes ≡ line.old.bytes ++ axes_words place.now }
+    ensures short { length line.new.bytes ≤ length line.old.bytes + 96 }
+{
+    push_nums(&place.axis[..6], line);
+}
+
+/// Appends nums, with spaces between.
+fn push_nums(nums: &[Num], line: &mut ArrayString<1200>)
+    requires count { length nums.now ≤ 6 }
+    requires room { length line.old.bytes + 96 ≤ 1200 }
+    ensures text { line.new.bytes ≡ line.old.bytes ++ nums_words nums.now }
+    ensures short { length line.new.bytes ≤ length line.old.bytes + 96 }
+{
+    if let [first, more @ ..] = nums {
+        push_num(*first, line);
+        for number in more {
+            push_next(*number, line);
+        }
+    }
+}
+
+/// Appends a space and a num.
+fn push_next(number: Num, line: &mut ArrayString<1200>)
+    requires room { length line.old.bytes + 16 ≤ 1200 }
+    ensures text { line.new.bytes ≡ line.old.bytes ++ 32 ∷ shortest_text number }
+    ensures short { length line.new.bytes ≤ length line.old.bytes + 16 }
+{
+    line.push(' ');
+    push_num(number, line);
+}

@@ -1,0 +1,15 @@
+ghost use Rattle.std.specs.Prelude.{◌≡◌, []};
+ghost use Rattle.value_text.specs.ValueText.{value_text};
+
+use arrayvec::ArrayString;
+use rapid_model::Value;
+use value_text::push_value;
+
+/// Writes a value as RAPID writes it, without spaces: a num without needless digits, TRUE, FALSE, a text in quotes, in which a
+/// quote and a backslash stand twice, or a list in brackets. Takes no memory.
+pub fn value_words(value: &Value, line: &mut ArrayString<1200>)
+    requires empty { line.old.bytes ≡ [] }
+    ensures { line.new.bytes ≡ value_text value.now }
+{
+    push_value(value, line);
+}

@@ -1,0 +1,71 @@
+//! A cell of four tasks that write one persistent, run a thousand times.
+
+use crate::abreast::Abreast;
+use crate::outcome::{Outcome, outcome_of};
+use crate::replay::{is_legal_and_whole, tells_its_history};
+use outside::MemoryShelf;
+use std::alloc::{AllocError, Global};
+use std::sync::Wait;
+use std::test::Fail;
+use std::thread::Threads;
+
+const FOUR_TASKS: &[u8] =
+    b"version = 1\n[[task]]\nname = \"A\"\nmodules = [\"count.mod\"]\n[[task]]\nname = \"B\"\nmodules = [\"count.mod\"]\n[[task]]\nname = \"C\"\nmodules = [\"count.mod\"]\n[[task]]\nname = \"D\"\nmodules = [\"count.mod\"]\n";
+
+/// Each task counts one, waits until three are counted, and counts one again. A count is lost where another comes between its read
+/// and its write, so it hangs on the order of the events whether the tasks come to their ends.
+const COUNT: &[u8] =
+    b"MODULE Count\nPERS num count := 0;\nPROC main()\ncount := count + 1;\nWaitUntil count >= 3;\ncount := count + 1;\nENDPROC\nENDMODULE\n";
+
+fn four_task_files(alloc: Global) -> Result<MemoryShelf, AllocError> {
+    let mut files = Vec::new(alloc);
+    files.push((
+        String::from_str(alloc, "cell")?,
+        Vec::from_slice(alloc, FOUR_TASKS)?,
+    ))?;
+    files.push((
+        String::from_str(alloc, "count.mod")?,
+        Vec::from_slice(alloc, COUNT)?,
+    ))?;
+    Ok(MemoryShelf::new(files, Vec::new(alloc)))
+}
+
+fn outcome<R: AllocGlobal + Threads + Wait + Sync>(rt: &R, action: &str) -> Result<Outcome, Fail> {
+    let files = four_task_files(rt.alloc())?;
+    outcome_of(
+        rt,
+        rt.alloc(),
+        &[action, "cell"],
+        files,
+        None,
+        &Abreast::new(),
+    )
+}
+
+/// Whatever the order of a run is, its history is legal and whole, with each step of each task once and in order.
+#[test]
+fn a_thousand_runs(rt: HostRuntime) -> Result<(), Fail> {
+    for _ in 0..1000 {
+        let left = outcome(&rt, "run")?;
+        let history = left.report.history.as_slice();
+        assert!(rt; is_legal_and_whole(history, &[]), "{history:?}");
+        assert!(rt; tells_its_history(&left.report), "{history:?}");
+    }
+    Ok(())
+}
+
+/// The replay takes the history of a run by turns, and refuses it with an event lost or an event told twice.
+#[test]
+fn refused_histories(rt: HostRuntime) -> Result<(), Fail> {
+    let left = outcome(&rt, "round")?;
+    let history = left.report.history.as_slice();
+    assert!(rt; is_legal_and_whole(history, &[]));
+    assert!(rt; tells_its_history(&left.report));
+    for k in 0..history.len() {
+        let (before, rest) = history.split_at(k);
+        assert!(rt; !is_legal_and_whole(before, &rest[1..]));
+        assert!(rt; !is_legal_and_whole(&history[..k + 1], rest));
+        assert!(rt; !is_legal_and_whole(before, &[]));
+    }
+    Ok(())
+}

@@ -1,0 +1,17 @@
+//! Whole cells on threads, with what is left of them. It holds only tests.
+#![tactic(auto)]
+
+#[cfg(test)]
+mod abreast;
+#[cfg(test)]
+mod cells;
+#[cfg(test)]
+mod counting;
+#[cfg(test)]
+mod outcome;
+#[cfg(test)]
+mod replay;
+#[cfg(test)]
+mod together;
+#[cfg(test)]
+mod words;
