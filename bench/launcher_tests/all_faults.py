@@ -1,0 +1,90 @@
+"""`check --all` on five cells as they are written for ABB's controller: how many of the errors it shows, and no false one."""
+import re
+import shutil
+import tempfile
+from pathlib import Path
+
+from .common import ask, compare, options
+
+CELLS = Path(__file__).resolve().parent / "abb"
+# What part of the errors has to be shown at once.
+PART = 0.9
+
+
+def try_all_faults():
+    for folder in sorted(it for it in CELLS.iterdir() if it.is_dir()):
+        try_cell(folder)
+
+
+def try_cell(folder):
+    own, follows = lines_of(folder / "faults.txt")
+    status, out, err = ask(*options, "check", "--all", "--plain", folder / "cell.toml")
+    told = set(places_of(folder / "cell.toml", err))
+    false = sorted(told - own - follows)
+    missing = sorted(own - told)
+    print(f"{folder.name}: {len(own & told)} of {len(own)} errors at once, {len(false)} false ones", flush=True)
+    compare(f"{folder.name}: status and output", (status in (3, 4), out), (True, ""))
+    compare(f"{folder.name}: false ones", false, [])
+    compare(f"{folder.name}: part of the errors", (len(own & told) >= PART * len(own), missing), (True, missing))
+    first = ask(*options, "--plain", "check", folder / "cell.toml")
+    compare(f"{folder.name}: the first one is the program's", (first[0], first[2] in err), (status, True))
+
+
+def lines_of(file):
+    """The lines that have an error of their own, and those that follow from one, each with its file."""
+    found = {"": set(), "follows": set()}
+    for line in file.read_text().splitlines():
+        name, kind, lines = re.fullmatch(r"(\S+) (follows)? ?([\d ]+)", line).groups()
+        found[kind or ""].update((name, int(it)) for it in lines.split())
+    return found[""], found["follows"]
+
+
+def places_of(script, said):
+    """The lines of the errors that were shown: a missing `;` is shown at the first word of the next line."""
+    from launcher import texts, toml_places
+
+    text = script.read_bytes()
+    for line in said.splitlines():
+        module = re.fullmatch(r"rapid_cell: module (.+) (\d+):\d+ (\w+)", line)
+        key = re.fullmatch(r"rapid_cell: script (.+) \w+", line)
+        if module:
+            yield module[1], int(module[2])
+            if module[3] == "Syntax" and is_front(script.parent / module[1], line):
+                yield module[1], int(module[2]) - 1
+        elif key:
+            at = toml_places.place_of_key(text, key[1])
+            yield script.name, texts.place_of(text, at)["row"]
+        else:
+            yield line, 0
+
+
+def is_front(file, line):
+    """Whether a place is the first word of its line."""
+    row, column = map(int, re.search(r" (\d+):(\d+) ", line).groups())
+    return not file.read_text(encoding="utf-8").splitlines()[row - 1].encode()[: column - 1].strip()
+
+
+def try_shown():
+    """What is added to a cell's errors, and how the search ends."""
+    folder = CELLS / "welding"
+    status, out, err = ask(*options, "check", "--all", folder / "cell.toml")
+    compare("errors counted", "launcher: 25 errors; those after the first were found with the ones before left out of a copy" in err, True)
+    compare("each with its line", len(re.findall(r"^ +--> ", err, re.M)), 25)
+    with tempfile.TemporaryDirectory() as copy:
+        script = Path(copy, "cell.toml")
+        shutil.copytree(folder, Path(copy, "cell"))
+        script = Path(copy, "cell", "cell.toml")
+        module = script.with_name("Weld.mod")
+        text = module.read_bytes()
+        module.write_bytes(text.replace(b"    EXIT;\n  ENDPROC", b"    EXIT;\n", 1))
+        status, out, err = ask(*options, "check", "--all", script)
+        compare("a form without its end", (status, "Weld.mod is not checked after its last error" in err), (4, True))
+        module.write_bytes(b"MODULE Weld\n  PROC main()\n" + b"    MoveL p, v10, fine, tool0;\n" * 60 + b"  ENDPROC\nENDMODULE\n")
+        status, out, err = ask(*options, "check", "--all", "--plain", script)
+        compare("fifty errors at most", (status, len(err.splitlines())), (4, 50))
+        module.write_bytes(b"MODULE Weld\n  PROC main()\n    EXIT;\n  ENDPROC\nENDMODULE\n")
+        compare("no error", ask(*options, "check", "--all", "--plain", script), (0, "accepted\n", ""))
+        module.unlink()
+        status, out, err = ask(*options, "check", "--all", script)
+        compare("no module", (status, "there is no file" in err, "Weld.mod is not checked" in err), (5, True, True))
+    ask(*options, "check", "--all", "--history")

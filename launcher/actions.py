@@ -1,0 +1,83 @@
+"""The table of words: the actions of the program and of the launcher, and their options."""
+import difflib
+from dataclasses import dataclass
+from typing import Iterable, List, Optional
+
+
+@dataclass(frozen=True)
+class Action:
+    """A word that asks for something: what it takes, whether the program does it, and what it does, in lines of the help."""
+
+    name: str
+    takes: str
+    is_programs: bool
+    does: str
+
+
+@dataclass(frozen=True)
+class Option:
+    name: str
+    is_programs: bool
+    does: str
+
+
+ACTIONS = (
+    Action("check", "CELL", True, "reads the cell script CELL and its modules, and prints `accepted`"),
+    Action("round", "CELL", True, "checks the cell, runs it by turns, and prints its setpoints (S), its texts (T) and\nhow each task ended (E)"),
+    Action("run", "CELL", True, "the same with each task on a thread of its own: the lines can come in another order\neach time"),
+    Action("list", "CELL", True, "checks the cell, and prints its persistents (P), signals (D), meetings (G) and the\ncode of its tasks (C)"),
+    Action("load", "N", True, "runs a cell of four tasks that make N moves each, to measure the machine"),
+    Action("watch", "CELL", False, "checks again whenever a file of the cell changes; Ctrl-C ends it"),
+    Action("explain", "WORD", False, "a rule, a fault, a status, an error's number, or any word of RAPID: its cause, an\nexample, what to write instead"),
+    Action("build", "", False, "proves every crate of the program and builds it: an hour or more the first time"),
+    Action("lsp", "CELL", False, "a language server on standard input and output (docs/EDITORS.md)"),
+    Action("completion", "SHELL", False, "prints completions for bash or zsh: source <(./rapid_cell completion bash)"),
+    Action("version", "", False, "what this is: commit, kit, proved or not (-V, --version)"),
+    Action("help", "", False, "this page (-h, --help)"),
+)
+OPTIONS = (
+    Option("--history", True, "prints every event of a run as a line H"),
+    Option("--all", False, "with check: goes on after an error, and shows up to 50 errors at once"),
+    Option("--plain", False, "prints only the program's own lines"),
+    Option("--proved", False, "waits for the proof where the program is not built yet, instead of an unproved answer"),
+    Option("--unproved", False, "answers by the unproved program, even if the proved one is built"),
+)
+SHORT = """\
+./rapid_cell check CELL      checks a cell: try examples/first_move/cell.toml
+./rapid_cell round CELL      checks and runs it
+./rapid_cell explain WORD    explains a rule, a fault, a status or a word of RAPID
+./rapid_cell --help          lists all words
+"""
+# The column of what a word does.
+COLUMN = 36
+
+
+def help_page() -> str:
+    lines = ["rapid_cell checks and runs cells of robots programmed in RAPID.", ""]
+    for it in ACTIONS:
+        lines += help_lines(f"./rapid_cell {it.name} {it.takes}", it.does)
+    lines += ["", "Options, anywhere among the words:", ""]
+    for option in OPTIONS:
+        lines += help_lines(option.name, option.does)
+    lines += [
+        "",
+        "Until ./rapid_cell build has proved and built the program, cells are answered by an unproved one, made in a minute or two.",
+        "A first cell is examples/first_move/cell.toml. The pages are README.md, docs/CELL_SCRIPT.md and docs/LANGUAGE.md.",
+    ]
+    return "".join(f"{line}\n" for line in lines)
+
+
+def help_lines(words: str, does: str) -> List[str]:
+    first, *others = does.split("\n")
+    return [f"  {words:<{COLUMN}}{first}", *(f"  {'':<{COLUMN}}{it}" for it in others)]
+
+
+def is_programs_action(word: bytes) -> bool:
+    return any(it.is_programs and it.name.encode() == word for it in ACTIONS)
+
+
+def nearest(word: str, names: Iterable[str]) -> Optional[str]:
+    """The name that a word was perhaps meant to be."""
+    by_small = {it.lower(): it for it in names}
+    found = difflib.get_close_matches(word.lower(), by_small, 1, 0.6 if len(word) > 3 else 0.75)
+    return by_small[found[0]] if found else None

@@ -1,0 +1,99 @@
+"""Proves the crates and builds the program."""
+import os
+import re
+import shutil
+import subprocess
+import time
+from typing import Dict, Iterator, List, Optional, Sequence, Tuple
+
+from .places import CRATE, CRATES, PROGRAM, TOP
+from .say import NO_PROGRAM, put_err, say
+
+
+def crates_in_turn() -> List[str]:
+    """The crates that the program stands on, each after those below it, and the program."""
+    below: Dict[str, List[str]] = {}
+    for line in (TOP / "crates.txt").read_text(encoding="utf-8").splitlines():
+        name, _, names = line.partition("#")[0].partition(":")
+        below[name.strip()] = names.split()
+    order: List[str] = []
+
+    def put(name: str) -> None:
+        if name in below and name not in order:
+            for it in below[name]:
+                put(it)
+            order.append(name)
+
+    put(CRATE)
+    return order
+
+
+def has_kit() -> bool:
+    if shutil.which("rt"):
+        return True
+    say("there is no kit here (README.md names it): put the folder of its `rt` on the PATH and start this again")
+    return False
+
+
+def build() -> int:
+    """Proves each crate and builds the program, with a line for each. Gives the status: 0, or that there is no program."""
+    if not has_kit():
+        return NO_PROGRAM
+    crates = crates_in_turn()
+    say(f"{len(crates)} crates are to be proved; those that have not changed take a moment")
+    for k, name in enumerate(crates):
+        put_err(f"launcher: {name} ".encode())
+        start = time.monotonic()
+        said, is_done = prove(name)
+        put_err(f"{time.monotonic() - start:.0f} s, {len(crates) - k - 1} left\n".encode())
+        if not is_done:
+            put_err(said.encode())
+            say(f"{name} is not proved or not built: mend what stands above (README.md names the kit), then run ./rapid_cell build")
+            return NO_PROGRAM
+    PROGRAM.touch()
+    return 0
+
+
+def prove(name: str) -> Tuple[str, bool]:
+    """Proves and builds a crate over those below it. Gives what the kit said, and whether it is built."""
+    is_program = name == CRATE
+    # The kit builds a program only in order to run it, here without words, which the program refuses.
+    words = ["rt", "run"] if is_program else ["rt", "lib"]
+    try:
+        ran = subprocess.run(
+            words,
+            cwd=CRATES / name,
+            stdin=subprocess.DEVNULL,
+            stdout=subprocess.PIPE,
+            stderr=subprocess.STDOUT,
+            errors="replace",
+        )
+    except OSError as error:
+        return f"{error}\n", False
+    if is_program:
+        started = re.search(rf"^rt: running out/{CRATE}\b", ran.stdout, re.M)
+        return ran.stdout, bool(started) and PROGRAM.is_file()
+    return ran.stdout, ran.returncode == 0
+
+
+def newer_source() -> Optional[str]:
+    """A source that is newer than the proved program, if there is one, as a path from the top."""
+    built = PROGRAM.stat().st_mtime
+    newer = (file for file in sources() if os.stat(file).st_mtime > built)
+    return next((os.path.relpath(file, TOP) for file in newer), None)
+
+
+def say_where_stale() -> None:
+    newer = newer_source()
+    if newer:
+        say(f"the program is older than {newer}: ./rapid_cell build renews it")
+
+
+def sources(parts: Sequence[str] = ("src", "specs", "proofs")) -> Iterator[str]:
+    """The paths of what the program is made of: the list of crates, and the files of those that it stands on."""
+    yield f"{TOP}/crates.txt"
+    for name in crates_in_turn():
+        for part in parts:
+            for folder, folders, files in os.walk(f"{CRATES}/{name}/{part}"):
+                folders.sort()
+                yield from (f"{folder}/{it}" for it in sorted(files) if it.endswith((".rt", ".antt")))

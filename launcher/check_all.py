@@ -1,0 +1,50 @@
+"""`check --all CELL`: shows all errors of a cell at once."""
+from pathlib import Path
+from typing import List
+
+from . import faults, program, refusals, shown
+from .program import Program
+from .refusals import Kind
+from .say import is_coloured, put_err, put_out, say, show
+from .texts import read_cell
+
+# What stands below each error when it is shown alone.
+SEE = " see ./rapid_cell explain "
+
+
+def check_all(found: Program, words: List[bytes], script: Path, is_plain: bool) -> int:
+    """Checks a cell, and shows its errors in the order of its files. Gives the status of the first check."""
+    first = program.answer(found, words)
+    refusal = refusals.parse(first.err)
+    if refusal is None or refusal.kind not in (Kind.SCRIPT, Kind.MODULE, Kind.READ, Kind.LONG) or not script.is_file():
+        put_out(first.out.decode(errors="surrogateescape"))
+        put_err(first.err)
+        if refusal and not is_plain:
+            for line in shown.shown(refusal, words, is_coloured()):
+                show(line)
+        return first.status
+    told = faults.all_faults(found, read_cell(script))
+    for fault in told.faults:
+        put_err(refusals.line_of(fault.refusal))
+        if not is_plain:
+            for line in shown.of_cell(fault.refusal, script, {}, is_coloured(), fault.text):
+                if SEE not in line:
+                    show(line)
+    if not is_plain:
+        summarize(told)
+    return first.status
+
+
+def summarize(told: faults.Found) -> None:
+    """Says how many errors were found, and what was not checked."""
+    count = len(told.faults)
+    if count > 1:
+        say(f"{count} errors; those after the first were found with the ones before left out of a copy")
+    if count:
+        say("./rapid_cell explain RULE has the cause of a rule, and an example")
+    if told.unchecked:
+        say(f"{told.unchecked} more places use what is left out, and were not checked: check again once the errors are mended")
+    for it in told.ended:
+        say(it)
+    if told.is_cut:
+        say("there may be more: check again once these are mended")

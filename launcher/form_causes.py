@@ -1,0 +1,126 @@
+"""Why the tokens or the form of a module are refused, as far as the text around the place tells."""
+from typing import Dict, List, Optional, Tuple
+
+from . import grammar, manual
+from .own_cause import Own
+from .tokens import MARK, NAME, NUMBER, STRING, WORD, Token
+from .view import View
+
+KINDS = {NAME: "the name", WORD: "the word", NUMBER: "the number", STRING: "the string", MARK: "the mark"}
+# What ends a form that one of these words begins.
+ENDS = {"IF": "ENDIF", "FOR": "ENDFOR", "WHILE": "ENDWHILE", "TEST": "ENDTEST", "PROC": "ENDPROC", "FUNC": "ENDFUNC", "TRAP": "ENDTRAP"}
+
+
+def of(rule: str, seen: View) -> Optional[Own]:
+    if rule == "Syntax":
+        return of_syntax(seen)
+    if rule == "LeftOut":
+        return Own(f"{seen.word} is not supported", manual.notes_on(seen.word), True)
+    if rule == "BadByte":
+        return of_byte(seen)
+    if rule == "LongName":
+        return Own(f"this name has {len(seen.word)} characters, and 32 are the most")
+    return None
+
+
+def of_byte(seen: View) -> Own:
+    """A byte that begins nothing: shown as the character that it begins, where it does."""
+    data = seen.text[seen.at : seen.at + 4]
+    for length in (1, 2, 3, 4):
+        try:
+            character = data[:length].decode()
+        except UnicodeDecodeError:
+            continue
+        if character.isprintable():
+            return Own(f"{character!r} stands in comments alone", notes_on_byte(character))
+        break
+    return Own(f"the byte {data[0]:02X} stands in comments alone" if data else "")
+
+
+def notes_on_byte(character: str) -> List[str]:
+    if character == "%":
+        return manual.notes_on('%"name"%')
+    if character == "|":
+        return manual.notes_on("\\switch on | switch off")
+    return []
+
+
+# Forms
+
+
+def of_syntax(seen: View) -> Own:
+    first = first_of_routine(seen)
+    tokens = seen.tokens[first:]
+    expected = grammar.parse(tokens, "items" if first else "module", seen.k - first).expected
+    label = f"found {found(seen.token)}" if seen.token else "the text ends here"
+    if not expected:
+        return Own(label)
+    wanted = grammar.said_of(list(expected))
+    label = f"expected {joined(wanted)}, {label}" if len(wanted) <= 4 else label
+    notes = [] if len(wanted) <= 4 else [f"what may stand here: {', '.join(wanted)}"]
+    known = of_missing_form(seen, expected)
+    return Own(label, [*notes, *(known or of_missing_sign(seen, expected, first))], True)
+
+
+def first_of_routine(seen: View) -> int:
+    """The number of the token with which the last item before the place begins, as far as its first word tells: all before is well
+    formed, since the first token that is not is refused."""
+    for k in range(min(seen.k, len(seen.tokens)) - 1, 0, -1):
+        if seen.tokens[k].text in ("PROC", "FUNC", "TRAP"):
+            return k - 1 if seen.tokens[k - 1].text == "LOCAL" else k
+    return 0
+
+
+def found(token: Token) -> str:
+    return f"{KINDS[token.kind]} `{token.text}`"
+
+
+def joined(words: List[str]) -> str:
+    return words[0] if len(words) == 1 else f"{', '.join(words[:-1])} or {words[-1]}"
+
+
+def of_missing_sign(seen: View, expected: Dict[str, Tuple[grammar.Open, ...]], first: int) -> List[str]:
+    """The `;` that is missing in the line before, or the word that ends an open form."""
+    before = seen.tokens[seen.k - 1] if seen.k else None
+    here = seen.token.at if seen.token else len(seen.text)
+    if ";" in expected and before and seen.row(before.at) < seen.row(here):
+        return [f"`;` is perhaps missing at the end of line {seen.row(before.at)}, after `{before.text}`"]
+    notes = []
+    for end in ENDS.values():
+        if end in expected:
+            opened = seen.tokens[first + expected[end][-1].start]
+            begun = opener(seen, first + expected[end][-1].start)
+            if seen.token and seen.token.text in (*ENDS.values(), "ENDMODULE", "PROC", "FUNC", "TRAP", "ELSE", "ELSEIF", "CASE", "DEFAULT"):
+                notes.append(f"{end} is perhaps missing: {begun} of line {seen.row(opened.at)} is open here")
+    return notes
+
+
+def opener(seen: View, k: int) -> str:
+    """The word that begins an open form."""
+    token = seen.tokens[k]
+    return seen.tokens[k + 1].text if token.text == "LOCAL" and k + 1 < len(seen.tokens) else token.text
+
+
+def of_missing_form(seen: View, expected: Dict[str, Tuple[grammar.Open, ...]]) -> List[str]:
+    """A form of RAPID that is missing here, told by the tokens around the place."""
+    texts = [it.text for it in seen.tokens[max(seen.k - 6, 0) : seen.k]]
+    here = seen.token.text if seen.token else ""
+    before = texts[-1] if texts else ""
+    rules = [it.rule for it in next(iter(expected.values()))]
+    if here == "," and "{" in texts:
+        return manual.notes_on("arrays of two")
+    if here == "{" and "param" in rules or (here == "{" and before and ")" in expected):
+        return manual.notes_on("num a{*}")
+    if here == "\\" and "type" not in rules and before in ("(", ",") and ("params" in rules or ")" in expected) and "expr" not in rules:
+        return manual.notes_on("\\num x")
+    if here == "(" and before == "ERROR":
+        return manual.notes_on("ERROR (1, 2)")
+    if here in ("<", "*") and (grammar.starters("expr") <= set(expected) or "THEN" in expected or "ENDPROC" in expected):
+        return manual.notes_on("<EXP>")
+    if here == "NOT":
+        return ["NOT stands first in an expression alone: write `(NOT ...)` here"]
+    if here in ("+", "-") and "(" in expected and before in "* / DIV MOD + - = <> < > <= >=".split():
+        return manual.notes_on("a * -b")
+    if here in ("BACKWARD", "UNDO", "RECORD", "ALIAS"):
+        return manual.notes_on(here)
+    return []

@@ -1,0 +1,221 @@
+"""The unproved program: made by the kit from the sources without a proof, and kept with a checksum of the sources.
+
+The kit makes an unproved program only in order to run it once (`rt try`), and has no word that keeps it. So it is asked to check a
+cell whose script is a pipe: the program waits at the pipe, and meanwhile its file is copied from the folder in which the kit works.
+Where no such file is found, nothing is kept, and each unproved answer is made by a whole `rt try`, which takes a minute or more.
+"""
+import contextlib
+import fcntl
+import hashlib
+import os
+import re
+import shutil
+import signal
+import subprocess
+import tempfile
+import time
+from pathlib import Path
+from typing import Iterator, List, Optional, Sequence
+
+from . import build
+from .places import CRATE, CRATES, TOP
+from .say import NO_PROGRAM, put_err, say, write
+
+# How many programs are kept, the last ones that were made.
+MOST = 3
+# The mark that the kit gave no program to keep.
+NONE = ".none"
+
+
+def place() -> Path:
+    """Where the unproved program of the sources as they stand is kept."""
+    return folder() / f"unproved-{checksum()}"
+
+
+def folder() -> Path:
+    cache = os.environ.get("XDG_CACHE_HOME", "")
+    return Path(cache if os.path.isabs(cache) else os.path.expanduser("~/.cache"), "rapid_cell")
+
+
+def checksum() -> str:
+    """A checksum of all that the unproved program is made of."""
+    found = hashlib.sha256()
+    for file in build.sources(("src",)):
+        with open(file, "rb", buffering=0) as it:
+            text = it.read()
+        found.update(f"{file[len(str(TOP)):]}\0{len(text)}\0".encode())
+        found.update(text)
+    return found.hexdigest()[:32]
+
+
+def find() -> Optional[Path]:
+    """The unproved program that is kept for the sources as they stand, if there is one."""
+    file = place()
+    return file if file.is_file() else None
+
+
+def is_kept_by_kit() -> bool:
+    """Whether nothing has shown yet that the kit gives no program to keep."""
+    file = place()
+    return not file.with_name(file.name + NONE).exists()
+
+
+def make() -> Optional[Path]:
+    """Makes the unproved program and keeps it. None where the kit does not make it, or gives no program to keep."""
+    file = place()
+    with in_turn(file):
+        if file.is_file():
+            return file
+        say("the program is not built yet; an unproved one is made now, which takes a minute or two on a free machine, and is kept")
+        try:
+            made = is_made(file)
+        except OSError as error:
+            say(f"it cannot be kept: {error}")
+            return None
+    remove_old()
+    return file if made else None
+
+
+@contextlib.contextmanager
+def in_turn(file: Path) -> Iterator[None]:
+    """Waits while another launcher makes the same."""
+    try:
+        file.parent.mkdir(mode=0o700, parents=True, exist_ok=True)
+        lock = open(file.parent / "lock", "w")
+    except OSError:
+        # Nothing can be kept there; that is told where it is tried.
+        yield
+        return
+    with lock:
+        fcntl.flock(lock, fcntl.LOCK_EX)
+        yield
+
+
+def is_made(file: Path) -> bool:
+    """Makes the program and puts it to its place. Gives whether the kit let it be taken."""
+    with tempfile.TemporaryDirectory(prefix="rapid-cell-", dir=file.parent) as room:
+        copy, said = Path(room, "program"), Path(room, "said")
+        is_waiting = copied(copy, said, Path(room))
+        if copy.exists() and is_program(copy):
+            copy.touch()
+            copy.replace(file)
+            return True
+        if is_waiting:
+            file.with_name(file.name + NONE).touch()
+        else:
+            put_err(said.read_bytes())
+            say("the kit did not make the unproved program: what it says stands above")
+    return False
+
+
+def copied(copy: Path, said: Path, room: Path) -> bool:
+    """Starts the kit, and copies the program while it waits at its script. Gives whether it waited there. `copy` is written where
+    exactly one executable file was found, and `said` has what the kit said."""
+    pipe, work = room / "cell.toml", room / "work"
+    os.mkfifo(pipe)
+    work.mkdir()
+    words = ["rt", "try", "--steps", "1", "--", "check", str(pipe)]
+    with said.open("wb") as out:
+        kit = subprocess.Popen(
+            words,
+            cwd=CRATES / CRATE,
+            env={**os.environ, "TMPDIR": str(work)},
+            stdin=subprocess.DEVNULL,
+            stdout=out,
+            stderr=out,
+            start_new_session=True,
+        )
+        with stopped_at_end(kit):
+            end = reader_of(pipe, kit)
+            if end is None:
+                return False
+            found = [it for it in work.rglob("*") if it.is_file() and os.access(it, os.X_OK)]
+            if len(found) == 1:
+                shutil.copy2(found[0], copy)
+                copy.chmod(0o700)
+            os.close(end)
+    return True
+
+
+def reader_of(pipe: Path, kit: "subprocess.Popen[bytes]") -> Optional[int]:
+    """Waits until a program opens the pipe to read it. Gives the pipe's other end, or None where the kit ends before."""
+    while kit.poll() is None:
+        try:
+            return os.open(pipe, os.O_WRONLY | os.O_NONBLOCK)
+        except OSError:
+            time.sleep(0.05)
+    return None
+
+
+def is_program(file: Path) -> bool:
+    """Whether a file is the program: without words it says so, and ends with status 2."""
+    try:
+        ran = subprocess.run(
+            [file], stdin=subprocess.DEVNULL, stdout=subprocess.DEVNULL, stderr=subprocess.PIPE, timeout=60
+        )
+    except (OSError, subprocess.TimeoutExpired):
+        return False
+    return (ran.returncode, ran.stderr) == (2, b"rapid_cell: words 0\n")
+
+
+@contextlib.contextmanager
+def stopped_at_end(kit: "subprocess.Popen[bytes]") -> Iterator[None]:
+    """Ends the kit and what it started, whatever comes."""
+    try:
+        yield
+    finally:
+        for sent in (signal.SIGTERM, signal.SIGKILL):
+            with contextlib.suppress(ProcessLookupError):
+                os.killpg(kit.pid, sent)
+            with contextlib.suppress(subprocess.TimeoutExpired):
+                kit.wait(10)
+                break
+
+
+def remove_old() -> None:
+    """Removes all but the last programs that were made."""
+    kept = sorted(folder().glob("unproved-*"), key=lambda it: it.stat().st_mtime)
+    for file in kept[:-MOST]:
+        with contextlib.suppress(OSError):
+            file.unlink()
+
+
+# Without a program that is kept
+
+
+def try_once(words: Sequence[bytes]) -> int:
+    """Runs what the kit makes of the sources, prints what it says, and gives its status."""
+    say("the kit gives no program to keep, so this takes a minute or two each time")
+    at = [k for k, word in enumerate(words) if word != b"--history"][1]
+    given = words[at]
+    # The kit runs it in a folder of its own.
+    cell = given if words[0] == b"load" else os.path.abspath(given)
+    whole: List[bytes] = [*words[:at], cell, *words[at + 1 :]]
+    ran = subprocess.run(
+        [b"rt", b"try", b"--", *whole],
+        cwd=CRATES / CRATE,
+        stdin=subprocess.DEVNULL,
+        stdout=subprocess.PIPE,
+        stderr=subprocess.PIPE,
+    )
+    ended = re.search(rb"^run=ended status=(\d+) ", ran.stderr, re.M)
+    if not ended:
+        put_err(ran.stderr)
+        if b"within the time limit" in ran.stderr:
+            say("it ran for longer than the kit lets it: RT_SECONDS=600 before ./rapid_cell gives it 600 seconds; fewer `steps` end it sooner")
+        else:
+            say("the kit did not run it to its end: what it says stands above, and docs/CELL_SCRIPT.md has its limits")
+        return NO_PROGRAM
+    write(1, ran.stdout)
+    for line in ran.stderr.splitlines(keepends=True):
+        if line.startswith(b"rapid_cell: "):
+            put_err(as_given(line, cell, given))
+    return int(ended[1])
+
+
+def as_given(line: bytes, cell: bytes, given: bytes) -> bytes:
+    """The program's line with the script's name as the caller wrote it."""
+    for head in (b"rapid_cell: read ", b"rapid_cell: long "):
+        if line == head + cell + b"\n":
+            return head + given + b"\n"
+    return line

@@ -1,0 +1,12 @@
+"""What the text around a place tells of a refusal."""
+from dataclasses import dataclass, field
+from typing import List
+
+
+@dataclass
+class Own:
+    """What stands beside the caret, or nothing for the table's words; notes; and whether these are enough without the table's."""
+
+    label: str = ""
+    notes: List[str] = field(default_factory=list)
+    is_enough: bool = False

@@ -1,0 +1,109 @@
+"""The program, proved or unproved: finds it, runs it, becomes it."""
+import contextlib
+import os
+import signal
+import subprocess
+from dataclasses import dataclass
+from pathlib import Path
+from typing import Iterator, Optional, Sequence, Union
+
+from . import kept
+from .places import PROGRAM
+from .say import NO_PROGRAM, put_err, say
+
+Word = Union[str, bytes, Path]
+# How much of what the program says on standard error is kept.
+SAID = 65_536
+
+
+@dataclass(frozen=True)
+class Program:
+    file: Path
+    is_proved: bool
+
+
+@dataclass(frozen=True)
+class Answer:
+    """What the program printed where `out` is asked for, what it said on standard error, and its status."""
+
+    status: int
+    out: bytes
+    err: bytes
+
+
+def proved() -> Optional[Program]:
+    """The program that `build` made, if it did."""
+    return Program(PROGRAM, True) if PROGRAM.is_file() else None
+
+
+def unproved() -> Optional[Program]:
+    """The unproved program that is kept for the sources as they stand, if it is."""
+    file = kept.find()
+    return Program(file, False) if file else None
+
+
+def ready() -> Optional[Program]:
+    """The program that answers at once: the proved one, else the unproved one that is kept, else None."""
+    return proved() or unproved()
+
+
+def answer(program: Program, words: Sequence[Word], folder: Optional[Path] = None, seconds: Optional[float] = None) -> Answer:
+    """Runs the program to its end and gives what it said. OSError where it does not start, TimeoutExpired after `seconds`."""
+    ran = subprocess.run(
+        [program.file, *words],
+        cwd=folder,
+        stdin=subprocess.DEVNULL,
+        stdout=subprocess.PIPE,
+        stderr=subprocess.PIPE,
+        timeout=seconds,
+    )
+    return Answer(ran.returncode, ran.stdout, ran.stderr)
+
+
+def become(program: Program, words: Sequence[bytes]) -> int:
+    """Becomes the program. Returns a status only where it does not start."""
+    try:
+        os.execv(program.file, [os.fsencode(program.file), *words])
+    except OSError as error:
+        return does_not_start(program, error)
+
+
+def run(program: Program, words: Sequence[bytes]) -> Answer:
+    """Runs the program on the launcher's own streams, and hands on what it says on standard error as it comes."""
+    try:
+        # It meets a closed pipe as the launcher does: by a write that fails, and not by a signal.
+        child = subprocess.Popen([program.file, *words], stderr=subprocess.PIPE, restore_signals=False)
+    except OSError as error:
+        return Answer(does_not_start(program, error), b"", b"")
+    assert child.stderr
+    said = b""
+    with ending_with(child):
+        while True:
+            more = os.read(child.stderr.fileno(), SAID)
+            if not more:
+                break
+            put_err(more)
+            said = (said + more)[-SAID:]
+        status = child.wait()
+    if status < 0:
+        say(f"the program was stopped by signal {-status}")
+        status = 128 - status
+    return Answer(status, b"", said)
+
+
+@contextlib.contextmanager
+def ending_with(child: "subprocess.Popen[bytes]") -> Iterator[None]:
+    """What ends the launcher while this lasts ends the child first."""
+    try:
+        yield
+    except BaseException as ended:
+        # The terminal has told the child of Ctrl-C too.
+        child.send_signal(signal.SIGINT if isinstance(ended, KeyboardInterrupt) else signal.SIGTERM)
+        child.wait()
+        raise
+
+
+def does_not_start(program: Program, error: OSError) -> int:
+    how = "./rapid_cell build makes it anew" if program.is_proved else "remove it, and it is made anew"
+    say(f"{program.file} does not start ({error.strerror}): {how}")
+    return NO_PROGRAM

@@ -1,0 +1,49 @@
+"""Where and why a text is no TOML, by Python's own reader of TOML, which Python has from 3.11 on."""
+import importlib
+import re
+import sys
+from dataclasses import dataclass
+from typing import Optional
+
+from .texts import offset_of
+
+KITS = "the kit's reader of TOML takes less than others do: see docs/CELL_SCRIPT.md for what a script has"
+
+
+@dataclass(frozen=True)
+class Fault:
+    """The byte's place, or None where it is not known, and the cause."""
+
+    at: Optional[int]
+    cause: str
+
+
+def find(text: bytes) -> Fault:
+    try:
+        spelled = text.decode()
+    except UnicodeDecodeError as error:
+        return Fault(error.start, "this byte is not valid UTF-8")
+    try:
+        tomllib = importlib.import_module("tomllib")
+    except ImportError:
+        version = ".".join(map(str, sys.version_info[:2]))
+        return Fault(None, f"the place is not known: Python {version} has no reader of TOML; from Python 3.11 on it is shown")
+    try:
+        tomllib.loads(spelled)
+    except tomllib.TOMLDecodeError as error:
+        return of_error(spelled, str(error))
+    except RecursionError:
+        return Fault(None, "the script is nested too deeply")
+    return Fault(None, f"Python reads this script, so {KITS}")
+
+
+def of_error(text: str, said: str) -> Fault:
+    """The fault that Python's reader told, whose columns count characters."""
+    cause, _, place = said.rpartition(" (at ")
+    found = re.match(r"line (\d+), column (\d+)\)", place)
+    data = text.encode()
+    if not found:
+        return Fault(len(data.rstrip()), f"{cause or said}, at the end of the script")
+    row, column = int(found[1]), int(found[2])
+    line = text.split("\n")[row - 1] if row <= text.count("\n") + 1 else ""
+    return Fault(min(offset_of(data, row, len(line[: column - 1].encode()) + 1), len(data)), cause)

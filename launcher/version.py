@@ -1,0 +1,52 @@
+"""`--version`: the commit, the kit, and the program that answers."""
+import platform
+import shutil
+import subprocess
+import time
+from pathlib import Path
+from typing import Optional
+
+from . import build, kept
+from .places import CRATES, PROGRAM, TOP
+
+
+def page() -> str:
+    return "".join(f"{line}\n" for line in (commit(), program(), kit(), f"python {platform.python_version()}"))
+
+
+def commit() -> str:
+    head = said_by("git", "-C", str(TOP), "log", "-1", "--format=%h of %cs")
+    if not head or not (TOP / ".git").exists():
+        return "rapid_cell, commit unknown"
+    is_changed = said_by("git", "-C", str(TOP), "status", "--porcelain")
+    return f"rapid_cell, commit {head}{', with changes' if is_changed else ''}"
+
+
+def program() -> str:
+    if PROGRAM.is_file():
+        newer = build.newer_source()
+        stale = f", older than {newer}" if newer else ""
+        return f"program: proved, since {day(PROGRAM)}{stale}"
+    file = kept.find()
+    if file:
+        return f"program: not proved, kept since {day(file)} (./rapid_cell build proves it)"
+    return "program: not built yet (./rapid_cell build proves and builds it)"
+
+
+def kit() -> str:
+    return f"kit: {(said_by('rt', 'version') or 'unknown') if shutil.which('rt') else 'none on the PATH'}"
+
+
+def day(file: Path) -> str:
+    return time.strftime("%Y-%m-%d %H:%M", time.localtime(file.stat().st_mtime))
+
+
+def said_by(*words: str) -> Optional[str]:
+    """What a command prints, or None where it fails."""
+    try:
+        ran = subprocess.run(
+            words, cwd=CRATES, stdin=subprocess.DEVNULL, stdout=subprocess.PIPE, stderr=subprocess.DEVNULL, timeout=20
+        )
+    except (OSError, subprocess.TimeoutExpired):
+        return None
+    return ran.stdout.decode(errors="replace").strip() if ran.returncode == 0 else None

@@ -1,0 +1,261 @@
+"""The command line: takes the launcher's words, and hands the others to the program."""
+import os
+import signal
+from dataclasses import dataclass
+from pathlib import Path
+from typing import Callable, Dict, List, Optional, Sequence
+
+from . import actions, build, hints, kept, program
+from .program import Program
+from .say import (
+    BROKEN,
+    NO_PROGRAM,
+    NOT_PRINTED,
+    REFUSED,
+    STOPPED,
+    NotPrinted,
+    is_coloured,
+    open_closed_streams,
+    put_err,
+    put_out,
+    say,
+    show,
+    wrong,
+)
+
+
+@dataclass
+class Asked:
+    """The words without the launcher's options, and which of these were given."""
+
+    words: List[bytes]
+    has_all: bool = False
+    is_plain: bool = False
+    has_proved: bool = False
+    has_unproved: bool = False
+
+
+def main(given: Sequence[str]) -> int:
+    """Does what the words ask, and gives the status."""
+    open_closed_streams()
+    for it in (signal.SIGTERM, signal.SIGHUP):
+        signal.signal(it, end)
+    try:
+        return ask([os.fsencode(word) for word in given])
+    except NotPrinted as failed:
+        if str(failed):
+            say(f"not all could be printed ({failed}): see where standard output goes")
+        return NOT_PRINTED
+    except KeyboardInterrupt:
+        put_err(b"\n")
+        say("stopped")
+        return STOPPED
+    except Ended as ended:
+        return ended.status
+    except (OSError, ImportError) as error:
+        say(f"{error}: the checkout is not whole, or you may not read it")
+        return BROKEN
+
+
+class Ended(BaseException):
+    """Somebody ended the launcher by a signal."""
+
+    def __init__(self, status: int) -> None:
+        self.status = status
+
+
+def end(number: int, _: object) -> None:
+    raise Ended(128 + number)
+
+
+def ask(given: List[bytes]) -> int:
+    asked = taken_apart(given)
+    if any(it in (b"-h", b"--help") for it in given):
+        return answered(actions.help_page())
+    if given in ([b"-V"], [b"--version"]):
+        return version([])
+    words = asked.words
+    if asked.has_proved and asked.has_unproved:
+        return wrong("--proved and --unproved exclude each other")
+    own = OWN.get(words[0]) if words else None
+    if own:
+        return own(words[1:])
+    if words[:1] == [b"watch"]:
+        return watch(asked)
+    if words[:1] == [b"lsp"]:
+        return serve(words[1:])
+    if asked.has_all and words[:1] != [b"check"]:
+        return wrong("--all goes with check")
+    return of_program(asked)
+
+
+def taken_apart(given: Sequence[bytes]) -> Asked:
+    asked = Asked([])
+    for word in given:
+        if word == b"--all":
+            asked.has_all = True
+        elif word == b"--plain":
+            asked.is_plain = True
+        elif word == b"--proved":
+            asked.has_proved = True
+        elif word == b"--unproved":
+            asked.has_unproved = True
+        else:
+            asked.words.append(word)
+    return asked
+
+
+# The launcher's own words
+
+
+def answered(text: str) -> int:
+    put_out(text)
+    return 0
+
+
+def help_of(words: Sequence[bytes]) -> int:
+    return answered(actions.help_page())
+
+
+def version(words: Sequence[bytes]) -> int:
+    from .version import page
+
+    return wrong("version takes no other word") if words else answered(page())
+
+
+def explain(words: Sequence[bytes]) -> int:
+    from .explain import explain
+
+    return explain(words)
+
+
+def build_all(words: Sequence[bytes]) -> int:
+    return wrong("build takes no other word") if words else build.build()
+
+
+def completion(words: Sequence[bytes]) -> int:
+    from .completion import SHELLS, script
+
+    shell = words[0].decode(errors="replace") if len(words) == 1 else ""
+    return answered(script(shell)) if shell in SHELLS else wrong(f"completion takes one of {', '.join(SHELLS)}")
+
+
+def watch(asked: Asked) -> int:
+    if len(asked.words) != 2:
+        return wrong("watch takes the script of a cell")
+    found = found_program(asked) or (made_program(asked) if build.has_kit() else None)
+    if not found:
+        return NO_PROGRAM
+    from .watch import watch
+
+    return watch(found, Path(os.fsdecode(asked.words[1])))
+
+
+def serve(words: Sequence[bytes]) -> int:
+    if len(words) != 1:
+        return wrong("lsp takes the script of a cell")
+    from .lsp import serve
+
+    return serve(Path(os.fsdecode(words[0])))
+
+
+OWN: Dict[bytes, Callable[[Sequence[bytes]], int]] = {
+    b"help": help_of,
+    b"version": version,
+    b"explain": explain,
+    b"build": build_all,
+    b"completion": completion,
+}
+
+
+# The program's words
+
+
+def of_program(asked: Asked) -> int:
+    """Hands the words to the program, and adds what helps to what it says."""
+    words = asked.words
+    place = refused_place(words)
+    is_text = all(map(hints.is_utf8, words))
+    found = found_program(asked)
+    if place is not None and (not is_text or not found):
+        # Wrong words are told at once, and not after a long build.
+        put_err(b"rapid_cell: words %d\n" % place)
+        return helped(asked, REFUSED, b"rapid_cell: words %d\n" % place)
+    if not found and not build.has_kit():
+        return NO_PROGRAM
+    found = found or made_program(asked)
+    if not found:
+        return NO_PROGRAM if asked.has_proved or kept.is_kept_by_kit() else kept.try_once(words)
+    if asked.is_plain and not asked.has_all:
+        return program.become(found, words)
+    if found.is_proved and not asked.is_plain:
+        build.say_where_stale()
+    status = all_checked(asked, found) if asked.has_all else run(asked, found)
+    if not found.is_proved and status != REFUSED and not asked.is_plain:
+        say("not proved; ./rapid_cell build proves the program, in an hour or more")
+    return status
+
+
+def run(asked: Asked, found: Program) -> int:
+    for word in asked.words[1:]:
+        if hints.is_pipe(word):
+            say(f"{hints.shown_word(word)} is a pipe: it is read until its writer closes it")
+    ran = program.run(found, asked.words)
+    return helped(asked, ran.status, ran.err)
+
+
+def all_checked(asked: Asked, found: Program) -> int:
+    from .check_all import check_all
+    from .shown import script_of
+
+    script = script_of(asked.words)
+    return check_all(found, asked.words, script, asked.is_plain) if script else run(asked, found)
+
+
+def found_program(asked: Asked) -> Optional[Program]:
+    """The program that answers without being made first."""
+    if asked.has_unproved:
+        return program.unproved()
+    return program.proved() if asked.has_proved else program.ready()
+
+
+def made_program(asked: Asked) -> Optional[Program]:
+    if asked.has_proved:
+        return program.proved() if build.build() == 0 else None
+    file = kept.make() if kept.is_kept_by_kit() else None
+    return Program(file, False) if file else None
+
+
+def helped(asked: Asked, status: int, said: bytes) -> int:
+    """Adds what helps to a refusal that the program told, and gives the status, which nothing here changes."""
+    if asked.is_plain:
+        return status
+    try:
+        from .refusals import parse
+        from .shown import shown
+
+        refusal = parse(said)
+        for line in shown(refusal, asked.words, is_coloured()) if refusal else []:
+            show(line)
+    except Exception as error:
+        say(f"no more can be said of it ({error})")
+    return status
+
+
+def refused_place(words: Sequence[bytes]) -> Optional[int]:
+    """The place of the first cause by which the words are refused, in the order of docs/CELL_SCRIPT.md, or None."""
+    places = range(len(words))
+    history = [k for k in places if words[k] == hints.HISTORY]
+    others = [k for k in places if words[k] != hints.HISTORY]
+    options = [k for k in others if words[k].startswith(b"-")]
+    if options:
+        return options[0]
+    if history[1:]:
+        return history[1]
+    if others and not actions.is_programs_action(words[others[0]]):
+        return others[0]
+    if len(others) < 2:
+        return len(words)
+    if others[2:]:
+        return others[2]
+    return None if hints.is_utf8(words[others[1]]) else others[1]
