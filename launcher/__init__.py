@@ -1,28 +1,45 @@
-"""The launcher of rapid_cell: finds, builds and starts the program, and explains what it answers.
+"""The launcher of rapid_cell: finds, builds and starts the program, and explains what it answers. One file a concern.
 
-One file a concern:
+Words:
+    words           the command line: takes the launcher's words, and hands the others to the program
+    actions         the table of words, and the help
+    say             what the launcher prints, and the statuses that are its own
+    hints           what helps where words or a file are refused
+    completion      completion for the shell
+    version         the commit, the kit, and the program that answers
+The program:
+    places          where the checkout and its files lie
+    program         finds the program, runs it, becomes it
+    build           proves the crates and builds the program
+    kept            the unproved program, kept with a checksum of the sources
+Texts:
+    texts           the texts of a cell: its script and its modules
+    toml_places     the keys of a TOML text and where they stand
+    toml_faults     where and why a text is no TOML
+    tokens          the tokens of a module's text
+    grammar         the grammar of docs/LANGUAGE.md, and a parser by it
+    names           the names that a module declares, those that are predefined, and the nearest ones
+    tables          the tables of docs/LANGUAGE.md and docs/CELL_SCRIPT.md
+    manual          the names of ABB's manuals that are not supported, from manual.txt
+    reserved        the reserved words, from reserved.txt, and the marks
+    explain         `explain WORD`
+A refusal:
+    refusals        a refusal, read from the program's line
+    view            the place of a refusal in a module, with the forms around it
+    causes          why a module is refused; form_causes, name_causes and script_causes have the rules, own_cause what they tell
+    excerpt         a line of a text with a caret
+    shown           a refusal, shown
+All errors at once:
+    checks          a check of a cell, also with other texts than its files have
+    draft           a copy of a module in which what is wrong is left out
+    form_mends, name_mends, script_mends    what is left out, by the rule
+    consequences    which refusals of a draft only follow from what was left out
+    faults          the search for all errors
+    check_all       `check --all CELL`
+    watch           `watch CELL`
+The language server:
+    lsp             the server; lsp_wire, lsp_text, lsp_files, lsp_checker, lsp_diagnostics, lsp_hover, lsp_definition, lsp_completion
+    symbols         what a name of a cell means
 
-    places       where the checkout and its program lie
-    words        the command line: actions, options, help
-    say          what the launcher says of its own, and the statuses that are its own
-    program      the program, proved or unproved: finds it, runs it, becomes it
-    build        proves the crates and builds the program
-    kept         the unproved program, kept beside the cache of builds
-    refusals     a refusal of the program, read from its line
-    texts        the texts of a cell: its script and its modules
-    toml_places  the keys of a TOML text and where they stand
-    tokens       the tokens of a module's text
-    grammar      what may stand at a place where the form is refused
-    names        the names that a module declares, those that are predefined, and the nearest ones
-    tables       the tables of the documents
-    manual       the names of ABB's manuals that are not supported, from manual.txt
-    explain      the rows for a word
-    shown        a refusal, shown with its line and a caret
-    faults       all faults of a cell at once: `check --all`
-    watch        `watch CELL`
-    completion   completion of the shell
-    version      `--version`
-    lsp          the language server
-
-Python 3.8 or later, standard library only (`lsp` uses pygls).
+Python 3.8 or later, standard library alone.
 """

@@ -1,13 +1,13 @@
 """A check of a cell, also with other texts than its files have, as an editor's or those with a fault left out."""
 import os
 import tempfile
-from dataclasses import dataclass
+from dataclasses import dataclass, replace
 from pathlib import Path
-from typing import Mapping, Optional
+from typing import Dict, Mapping, Optional, Tuple
 
 from .program import Program, answer
 from .refusals import Refusal, parse
-from .texts import Cell, read
+from .texts import Cell, Module, read
 
 
 @dataclass(frozen=True)
@@ -22,35 +22,53 @@ class Check:
 def check(program: Program, cell: Cell, changed: Mapping[Path, bytes] = {}, seconds: float = 60) -> Check:
     """Checks a cell. `changed` has texts that stand for those of files (resolved paths). OSError, TimeoutExpired."""
     if not changed:
-        return made(program, cell.script, seconds)
+        return made(program, cell.script, {}, seconds)
     with tempfile.TemporaryDirectory(prefix="rapid-cell-") as folder:
-        return made(program, copy(cell, changed, Path(folder)), seconds)
+        script, names = copy(cell, changed, Path(folder))
+        return made(program, script, names, seconds)
 
 
-def made(program: Program, script: Path, seconds: float) -> Check:
+def made(program: Program, script: Path, names: Mapping[bytes, bytes], seconds: float) -> Check:
+    """Checks a script. `names` has the names that modules had before they were copied."""
     ran = answer(program, ["check", script.name], script.parent, seconds)
-    return Check(ran.status, ran.err, parse(ran.err))
+    refusal = parse(ran.err)
+    if refusal and refusal.name in names:
+        refusal = replace(refusal, name=names[refusal.name])
+    return Check(ran.status, ran.err, refusal)
 
 
-def copy(cell: Cell, changed: Mapping[Path, bytes], folder: Path) -> Path:
-    """Writes the cell with the changed texts below a folder, under the names that the script has, and gives its script's path.
+def copy(cell: Cell, changed: Mapping[Path, bytes], folder: Path) -> Tuple[Path, Dict[bytes, bytes]]:
+    """Writes the cell with the changed texts below a folder, and gives its script's path, and the names that were changed.
 
-    A name that leads out of the script's folder (`..`) stays below `folder`, since the script lies deep enough. A module that the
-    script names by a whole path is not copied: it is read where it lies.
+    A module keeps its name: one that leads out of the script's folder (`..`) stays below `folder`, since the script lies deep enough.
+    One that is a whole path gets another name; where the script spells it in an unusual way, the module is read where it lies.
     """
     steps = max([it.name.split("/").count("..") for it in cell.modules], default=0)
     home = folder.joinpath(*["down"] * steps, "cell")
     home.mkdir(parents=True)
+    text = read(cell.script, changed)
+    names: Dict[bytes, bytes] = {}
+    for n, module in enumerate(cell.modules):
+        name = module.name
+        if os.path.isabs(name):
+            name, spelled = f"whole/{n}.mod", os.fsencode(module.name)
+            if b'"%s"' % spelled not in text and spelled not in names.values():
+                continue
+            text = text.replace(b'"%s"' % spelled, b'"%s"' % name.encode())
+            names[name.encode()] = spelled
+        put(home / name, module, changed)
     script = home / cell.script.name
-    script.write_bytes(read(cell.script, changed))
-    for module in cell.modules:
-        place = home / module.name
-        if os.path.isabs(module.name) or place.exists():
-            continue
-        try:
-            text = read(module.file, changed)
-        except OSError:
-            continue
-        place.parent.mkdir(parents=True, exist_ok=True)
-        place.write_bytes(text)
-    return script
+    script.write_bytes(text)
+    return script, names
+
+
+def put(place: Path, module: Module, changed: Mapping[Path, bytes]) -> None:
+    """Copies a module; one that cannot be read is left out, and the program tells so."""
+    if place.exists():
+        return
+    try:
+        text = read(module.file, changed)
+    except OSError:
+        return
+    place.parent.mkdir(parents=True, exist_ok=True)
+    place.write_bytes(text)

@@ -50,7 +50,7 @@ def notes_on_byte(character: str) -> List[str]:
 
 def of_syntax(seen: View) -> Own:
     first = first_of_routine(seen)
-    tokens = seen.tokens[first:]
+    tokens = seen.tokens[first : seen.k + 1]
     expected = grammar.parse(tokens, "items" if first else "module", seen.k - first).expected
     label = f"found {found(seen.token)}" if seen.token else "the text ends here"
     if not expected:
@@ -102,25 +102,29 @@ def opener(seen: View, k: int) -> str:
 
 
 def of_missing_form(seen: View, expected: Dict[str, Tuple[grammar.Open, ...]]) -> List[str]:
-    """A form of RAPID that is missing here, told by the tokens around the place."""
-    texts = [it.text for it in seen.tokens[max(seen.k - 6, 0) : seen.k]]
+    """What to write instead of a form of RAPID that is not supported, told by the token at the place and those around it."""
     here = seen.token.text if seen.token else ""
-    before = texts[-1] if texts else ""
-    rules = [it.rule for it in next(iter(expected.values()))]
-    if here == "," and "{" in texts:
+    before = seen.tokens[seen.k - 1].text if seen.k else ""
+    in_head = ")" in expected and any(it.rule in ("params", "param") for stack in expected.values() for it in stack)
+    if here == "," and "}" in expected:
         return manual.notes_on("arrays of two")
-    if here == "{" and "param" in rules or (here == "{" and before and ")" in expected):
+    if here == "{" and in_head:
         return manual.notes_on("num a{*}")
-    if here == "\\" and "type" not in rules and before in ("(", ",") and ("params" in rules or ")" in expected) and "expr" not in rules:
+    if here == "\\" and (in_head or is_head_open(seen)):
         return manual.notes_on("\\num x")
     if here == "(" and before == "ERROR":
         return manual.notes_on("ERROR (1, 2)")
-    if here in ("<", "*") and (grammar.starters("expr") <= set(expected) or "THEN" in expected or "ENDPROC" in expected):
+    if here in ("<", "*") and (grammar.starters("expr") <= set(expected) or grammar.starters("stmt") <= set(expected)):
         return manual.notes_on("<EXP>")
     if here == "NOT":
         return ["NOT stands first in an expression alone: write `(NOT ...)` here"]
-    if here in ("+", "-") and "(" in expected and before in "* / DIV MOD + - = <> < > <= >=".split():
+    if here in ("+", "-") and grammar.starters("primary") <= set(expected):
         return manual.notes_on("a * -b")
-    if here in ("BACKWARD", "UNDO", "RECORD", "ALIAS"):
-        return manual.notes_on(here)
     return []
+
+
+def is_head_open(seen: View) -> bool:
+    """Whether the place is right after the parenthesis or a comma of a routine's head."""
+    opening = next((k for k in range(seen.k - 1, -1, -1) if seen.tokens[k].text in ("(", ")", ";")), 0)
+    head = [it.text for it in seen.tokens[max(opening - 3, 0) : opening]]
+    return seen.tokens[opening].text == "(" and any(it in ("PROC", "FUNC") for it in head)

@@ -110,7 +110,7 @@ def leave_part(draft: Draft, k: int) -> None:
 def mend_form(draft: Draft, k: int) -> None:
     """Leaves out the smallest form around the first token that does not fit."""
     first = first_of_item(draft, k)
-    expected = grammar.parse(draft.tokens[first:], "items" if first else "module", k - first).expected
+    expected = grammar.parse(draft.tokens[first : k + 1], "items" if first else "module", k - first).expected
     stacks: List[Tuple[grammar.Open, ...]] = sorted(expected.values(), key=len)
     if not stacks or k >= len(draft.tokens):
         raise CannotMend

@@ -13,8 +13,10 @@ from .places import LANGUAGE
 from .tokens import MARK, NAME, NUMBER, STRING, WORD, Token
 
 # How deep the parser may call itself: 64 levels of nesting of the deepest form.
-DEEP = 20_000
+DEEP = 8_000
 SIGN = re.compile(r'"([^"]+)"|([A-Z]+)|([a-z]+)|([][{}()|=])')
+# How many tokens are parsed at most, which takes a second or two.
+MOST = 30_000
 FAILED = -1
 
 
@@ -63,7 +65,9 @@ Step = Callable[[Parser, int], int]
 
 
 def parse(tokens: Sequence[Token], rule: str = "module", target: int = FAILED) -> Parse:
-    """Parses all tokens by a rule."""
+    """Parses all tokens by a rule. Nothing comes of too many."""
+    if len(tokens) > MOST:
+        return Parse(None, {})
     parser = Parser(tokens, target)
     limit = sys.getrecursionlimit()
     sys.setrecursionlimit(max(limit, DEEP))

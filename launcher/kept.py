@@ -55,9 +55,18 @@ def find() -> Optional[Path]:
 
 
 def is_kept_by_kit() -> bool:
-    """Whether nothing has shown yet that the kit gives no program to keep."""
+    """Whether nothing has shown yet that the kit that is here gives no program of these sources to keep."""
     file = place()
-    return not file.with_name(file.name + NONE).exists()
+    try:
+        return file.with_name(file.name + NONE).read_text(encoding="utf-8") != kit()
+    except OSError:
+        return True
+
+
+def kit() -> str:
+    """Which kit is here: its path, and when it was made."""
+    found = shutil.which("rt")
+    return f"{found} {os.stat(found).st_mtime_ns}" if found else ""
 
 
 def make() -> Optional[Path]:
@@ -101,7 +110,7 @@ def is_made(file: Path) -> bool:
             copy.replace(file)
             return True
         if is_waiting:
-            file.with_name(file.name + NONE).touch()
+            file.with_name(file.name + NONE).write_text(kit(), encoding="utf-8")
         else:
             put_err(said.read_bytes())
             say("the kit did not make the unproved program: what it says stands above")

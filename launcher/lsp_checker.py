@@ -1,5 +1,4 @@
 """Checks a cell whenever its files or an editor's buffers change, on a thread of its own."""
-import signal
 import subprocess
 import sys
 import threading
@@ -68,7 +67,8 @@ class Checker:
         self.news.set()
         made = self.making
         if made and made.poll() is None:
-            made.send_signal(signal.SIGINT)
+            # The launcher then stops the kit.
+            made.terminate()
             try:
                 made.wait(LAST)
             except subprocess.TimeoutExpired:

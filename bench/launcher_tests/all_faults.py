@@ -64,6 +64,22 @@ def is_front(file, line):
     return not file.read_text(encoding="utf-8").splitlines()[row - 1].encode()[: column - 1].strip()
 
 
+def try_whole_paths():
+    """Modules that are named by whole paths, and by paths that lead out of the script's folder."""
+    with tempfile.TemporaryDirectory() as copy:
+        cell = Path(copy, "scripts/deep/cell.toml")
+        cell.parent.mkdir(parents=True)
+        Path(copy, "mods").mkdir()
+        for name in ("a", "b"):
+            text = f"MODULE {name}\nPROC p_{name}()\nMoveL 1;\nStop;\nENDPROC\n"
+            Path(copy, f"mods/{name}.mod").write_text(text + ("PROC main()\nzork;\nENDPROC\n" if name == "a" else "") + "ENDMODULE\n")
+        a, b = f"{copy}/mods/a.mod", "../../mods/b.mod"
+        cell.write_text(f'version = 1\n[[task]]\nname = "A"\nmodules = ["{a}", "{b}"]\n')
+        status, out, err = ask(*options, "check", "--all", "--plain", cell)
+        wanted = [f"{a} 3:1", f"{a} 4:1", f"{a} 7:1", f"{b} 3:1", f"{b} 4:1"]
+        compare("whole paths", (status, err), (4, "".join(f"rapid_cell: module {it} NoName\n" for it in wanted)))
+
+
 def try_shown():
     """What is added to a cell's errors, and how the search ends."""
     folder = CELLS / "welding"

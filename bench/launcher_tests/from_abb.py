@@ -57,17 +57,21 @@ def change(home, block):
 
 
 def ask(home, block):
-    """Gives a command, whose lines have to be those of the block, without setpoints where it leaves them out."""
+    """Gives a command, whose lines have to be those of the block: without setpoints, or as many, where its pipe says so."""
     head, _, wanted = block.partition("\n")
-    words, _, piped = head[len("$ ./rapid_cell ") :].partition(" | ")
-    # Where the block has what the launcher adds, the launcher is asked.
-    starter = LAUNCHER if "\n  " in wanted else common.program().file
+    command, _, piped = head[len("$ ./rapid_cell ") :].partition(" | ")
+    words = [it for it in command.split() if it != "2>&1"]
+    # The launcher is asked where the block has what it adds, or a word of its own.
+    starter = LAUNCHER if "\n  " in wanted or "--all" in words else common.program().file
     options = common.options if starter == LAUNCHER else []
-    ran = subprocess.run([starter, *words.split(), *options], cwd=home, stdin=subprocess.DEVNULL, stdout=subprocess.PIPE, stderr=subprocess.PIPE)
+    ran = subprocess.run([starter, *words, *options], cwd=home, stdin=subprocess.DEVNULL, stdout=subprocess.PIPE, stderr=subprocess.PIPE)
     lines = (text_of(ran.stdout) + text_of(ran.stderr)).splitlines(True)
     left_out = ("launcher: ", "S ") if piped == "grep -v ^S" else ("launcher: ",)
-    got = "".join(it for it in lines if not it.startswith(left_out))
-    compare(f"docs/FROM_ABB.md, {head}", (ran.returncode, got), (status_of(wanted), wanted))
+    got = [it for it in lines if not it.startswith(left_out)]
+    if piped == "wc -l":
+        compare(f"docs/FROM_ABB.md, {head}", (ran.returncode, f"{len(got)}\n"), (4, wanted))
+    else:
+        compare(f"docs/FROM_ABB.md, {head}", (ran.returncode, "".join(got)), (status_of(wanted), wanted))
 
 
 def status_of(wanted):
