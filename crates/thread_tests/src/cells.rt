@@ -136,7 +136,7 @@ fn two_tasks<R: AllocGlobal + Threads + Wait + Sync>(
     outcome_of(
         rt,
         rt.alloc(),
-        &["run", "--history", "cell"],
+        &["run", "cell"],
         files,
         failing_write,
         &NoPace,
