@@ -1,9 +1,9 @@
 """The launcher of rapid_cell: finds, builds and starts the program, and explains what it answers. One file a concern.
 
 Words:
-    words           the command line: takes the launcher's words, and hands the others to the program
+    words           the command line: takes the launcher's words, and passes the others to the program
     actions         the table of words, and the help
-    say             what the launcher prints, and the statuses that are its own
+    say             what the launcher prints, and its own statuses
     hints           what helps where words or a file are refused
     completion      completion for the shell
     version         the commit, the kit, and the program that answers
@@ -11,11 +11,12 @@ The program:
     places          where the checkout and its files lie
     program         finds the program, runs it, becomes it
     build           proves the crates and builds the program
+    child           a child process that does not outlive the launcher
     kept            the unproved program, kept with a checksum of the sources
 Texts:
     texts           the texts of a cell: its script and its modules
     toml_places     the keys of a TOML text and where they stand
-    toml_faults     where and why a text is no TOML
+    toml_faults     where and why a text is not TOML
     tokens          the tokens of a module's text
     grammar         the grammar of docs/LANGUAGE.md, and a parser by it
     names           the names that a module declares, those that are predefined, and the nearest ones
@@ -41,5 +42,5 @@ The language server:
     lsp             the server; lsp_wire, lsp_text, lsp_files, lsp_checker, lsp_diagnostics, lsp_hover, lsp_definition, lsp_completion
     symbols         what a name of a cell means
 
-Python 3.8 or later, standard library alone.
+Python 3.8 or later, and only its standard library.
 """

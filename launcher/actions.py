@@ -6,7 +6,7 @@ from typing import Iterable, List, Optional
 
 @dataclass(frozen=True)
 class Action:
-    """A word that asks for something: what it takes, whether the program does it, and what it does, in lines of the help."""
+    """An action: what it takes, whether it is the program's or the launcher's, and what it does, as the help says it."""
 
     name: str
     takes: str
@@ -23,24 +23,24 @@ class Option:
 
 ACTIONS = (
     Action("check", "CELL", True, "reads the cell script CELL and its modules, and prints `accepted`"),
-    Action("round", "CELL", True, "checks the cell, runs it by turns, and prints its setpoints (S), its texts (T) and\nhow each task ended (E)"),
-    Action("run", "CELL", True, "the same with each task on a thread of its own: the lines can come in another order\neach time"),
+    Action("round", "CELL", True, "checks the cell, runs its tasks in turn, and prints its setpoints (S), its texts (T) and\nhow each task ended (E)"),
+    Action("run", "CELL", True, "the same with a thread for each task: the lines may come in a different order each time"),
     Action("list", "CELL", True, "checks the cell, and prints its persistents (P), signals (D), meetings (G) and the\ncode of its tasks (C)"),
-    Action("load", "N", True, "runs a cell of four tasks that make N moves each, to measure the machine"),
+    Action("load", "N", True, "runs a cell of four tasks that make N moves each, to measure the program"),
     Action("watch", "CELL", False, "checks again whenever a file of the cell changes; Ctrl-C ends it"),
     Action("explain", "WORD", False, "a rule, a fault, a status, an error's number, or any word of RAPID: its cause, an\nexample, what to write instead"),
     Action("build", "", False, "proves every crate of the program and builds it: an hour or more the first time"),
     Action("lsp", "CELL", False, "a language server on standard input and output (docs/EDITORS.md)"),
     Action("completion", "SHELL", False, "prints completions for bash or zsh: source <(./rapid_cell completion bash)"),
     Action("version", "", False, "what this is: commit, kit, proved or not (-V, --version)"),
-    Action("help", "", False, "this page (-h, --help)"),
+    Action("help", "", False, "lists all words (-h, --help)"),
 )
 OPTIONS = (
-    Option("--history", True, "prints every event of a run as a line H"),
+    Option("--history", True, "prints every event of a run, as a line H, in place of its setpoints and texts"),
     Option("--all", False, "with check: goes on after an error, and shows up to 50 errors at once"),
     Option("--plain", False, "prints only the program's own lines"),
-    Option("--proved", False, "waits for the proof where the program is not built yet, instead of an unproved answer"),
-    Option("--unproved", False, "answers by the unproved program, even if the proved one is built"),
+    Option("--proved", False, "waits for the proof if the program is not built yet, instead of giving an unproved answer"),
+    Option("--unproved", False, "answers with the unproved program, even if the proved one is built"),
 )
 SHORT = """\
 ./rapid_cell check CELL      checks a cell: try examples/first_move/cell.toml
@@ -61,8 +61,8 @@ def help_page() -> str:
         lines += help_lines(option.name, option.does)
     lines += [
         "",
-        "Until ./rapid_cell build has proved and built the program, cells are answered by an unproved one, made in a minute or two.",
-        "A first cell is examples/first_move/cell.toml. The pages are README.md, docs/CELL_SCRIPT.md and docs/LANGUAGE.md.",
+        "Until ./rapid_cell build has proved and built the program, an unproved one answers. It is made in a minute or two.",
+        "A first cell is examples/first_move/cell.toml. To read: README.md, docs/CELL_SCRIPT.md and docs/LANGUAGE.md.",
     ]
     return "".join(f"{line}\n" for line in lines)
 
@@ -77,7 +77,7 @@ def is_programs_action(word: bytes) -> bool:
 
 
 def nearest(word: str, names: Iterable[str]) -> Optional[str]:
-    """The name that a word was perhaps meant to be."""
+    """The name that was perhaps meant by a word."""
     by_small = {it.lower(): it for it in names}
     found = difflib.get_close_matches(word.lower(), by_small, 1, 0.6 if len(word) > 3 else 0.75)
     return by_small[found[0]] if found else None

@@ -31,16 +31,16 @@ def crates_in_turn() -> List[str]:
 def has_kit() -> bool:
     if shutil.which("rt"):
         return True
-    say("there is no kit here (README.md names it): put the folder of its `rt` on the PATH and start this again")
+    say("the kit was not found (README.md names it): put the folder of its `rt` on the PATH and try again")
     return False
 
 
 def build() -> int:
-    """Proves each crate and builds the program, with a line for each. Gives the status: 0, or that there is no program."""
+    """Proves each crate and builds the program, with a line for each. Returns the status: 0, or that there is no program."""
     if not has_kit():
         return NO_PROGRAM
     crates = crates_in_turn()
-    say(f"{len(crates)} crates are to be proved; those that have not changed take a moment")
+    say(f"{len(crates)} crates to prove; those that have not changed take a moment")
     for k, name in enumerate(crates):
         put_err(f"launcher: {name} ".encode())
         start = time.monotonic()
@@ -48,14 +48,14 @@ def build() -> int:
         put_err(f"{time.monotonic() - start:.0f} s, {len(crates) - k - 1} left\n".encode())
         if not is_done:
             put_err(said.encode())
-            say(f"{name} is not proved or not built: mend what stands above (README.md names the kit), then run ./rapid_cell build")
+            say(f"{name} was not proved or not built: the messages above say why. README.md names the kit; ./rapid_cell build tries again")
             return NO_PROGRAM
     PROGRAM.touch()
     return 0
 
 
 def prove(name: str) -> Tuple[str, bool]:
-    """Proves and builds a crate over those below it. Gives what the kit said, and whether it is built."""
+    """Proves and builds a crate over those below it. Returns what the kit said, and whether it is built."""
     is_program = name == CRATE
     # The kit builds a program only in order to run it, here without words, which the program refuses.
     words = ["rt", "run"] if is_program else ["rt", "lib"]
@@ -86,7 +86,7 @@ def newer_source() -> Optional[str]:
 def say_where_stale() -> None:
     newer = newer_source()
     if newer:
-        say(f"the program is older than {newer}: ./rapid_cell build renews it")
+        say(f"the program is older than {newer}: ./rapid_cell build rebuilds it")
 
 
 def sources(parts: Sequence[str] = ("src", "specs", "proofs")) -> Iterator[str]:

@@ -8,12 +8,12 @@ from .refusals import Kind
 from .say import is_coloured, put_err, put_out, say, show
 from .texts import read_cell
 
-# What stands below each error when it is shown alone.
+# The last line below an error that is shown by itself.
 SEE = " see ./rapid_cell explain "
 
 
 def check_all(found: Program, words: List[bytes], script: Path, is_plain: bool) -> int:
-    """Checks a cell, and shows its errors in the order of its files. Gives the status of the first check."""
+    """Checks a cell, and shows its errors in the order of its files. Returns the status of the first check."""
     first = program.answer(found, words)
     refusal = refusals.parse(first.err)
     if refusal is None or refusal.kind not in (Kind.SCRIPT, Kind.MODULE, Kind.READ, Kind.LONG) or not script.is_file():
@@ -39,12 +39,12 @@ def summarize(told: faults.Found) -> None:
     """Says how many errors were found, and what was not checked."""
     count = len(told.faults)
     if count > 1:
-        say(f"{count} errors; those after the first were found with the ones before left out of a copy")
+        say(f"{count} errors; those after the first were found in a copy without the earlier ones")
     if count:
-        say("./rapid_cell explain RULE has the cause of a rule, and an example")
+        say("./rapid_cell explain RULE shows a rule's cause, and an example")
     if told.unchecked:
-        say(f"{told.unchecked} more places use what is left out, and were not checked: check again once the errors are mended")
+        say(f"{told.unchecked} more places depend on what was left out, and were not checked: check again after correcting these")
     for it in told.ended:
         say(it)
     if told.is_cut:
-        say("there may be more: check again once these are mended")
+        say("there may be more: check again after correcting these")

@@ -63,7 +63,7 @@ def copy(cell: Cell, changed: Mapping[Path, bytes], folder: Path) -> Tuple[Path,
 
 
 def put(place: Path, module: Module, changed: Mapping[Path, bytes]) -> None:
-    """Copies a module; one that cannot be read is left out, and the program tells so."""
+    """Copies a module; one that cannot be read is left out, and the program reports it."""
     if place.exists():
         return
     try:

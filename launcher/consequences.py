@@ -1,4 +1,4 @@
-"""Which refusals of a draft are no errors of their own, but follow from what was changed in it before."""
+"""Which refusals of a draft are not errors of their own, but follow from what was changed in it before."""
 from typing import Optional, Sequence
 
 from . import manual
@@ -11,7 +11,7 @@ from .view import item_around
 OWN = frozenset("NoName NameTwice NameTaken NotThis ReadOnly SyncName".split())
 # Those that depend on no name at all: a zone and a tool are not looked up.
 FREE = frozenset("CornerZone ToolOnly HandlerOnly ReturnKind NoLabel LabelTwice NoArm".split())
-# Those that depend on what is called alone.
+# Those that depend only on what is called.
 OF_CALLED = frozenset(("ArgCount", "ArgName"))
 
 
@@ -67,9 +67,9 @@ def called_at(draft: Draft, k: int) -> Optional[Token]:
     return None
 
 
-def is_told_once(draft: Draft, k: int, rule: str) -> bool:
-    """Whether a missing name is told where it stands first alone: one declaration or signal mends it everywhere, while a word of
-    RAPID has to be rewritten at each place."""
+def is_reported_once(draft: Draft, k: int, rule: str) -> bool:
+    """Whether a missing name is reported only where it first stands: one declaration or signal corrects it everywhere, while a word
+    of RAPID has to be rewritten at each place."""
     token = draft.tokens[k]
     is_component = k > 0 and draft.tokens[k - 1].text == "."
     return rule == "NoName" and token.kind == NAME and not is_component and manual.find(token.text) is None

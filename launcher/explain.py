@@ -1,4 +1,5 @@
 """`explain WORD`: what there is to say of a word."""
+import functools
 import os
 import re
 from typing import Dict, Iterator, List, Sequence, Tuple
@@ -6,6 +7,7 @@ from typing import Dict, Iterator, List, Sequence, Tuple
 from . import actions, manual, names, reserved
 from .say import put_out, wrong
 from .tables import Row, codes, plain, rows
+from .tokens import RESERVED
 
 # A place, and the lines below it.
 Part = Tuple[str, List[str]]
@@ -15,20 +17,21 @@ COMMON = frozenset(
     "named number other others over parts place places places row same share side silently some such than that their them then there "
     "they this three values what where which whole with words your".split()
 )
-# How a row answers that has no more to say than that its names are outside.
+# How the answer of a row begins that only says that its names are not supported.
 OUTSIDE = "nothing: they are"
-OWN_ERROR = "a number of your own: `RAISE {0};` raises it, an ERROR part takes it as ERRNO, and no other error has it"
-LEFT = "`E TASK Fault Unhandled {0}` is the end of a task that it left"
+OWN_ERROR = "a number of your own: `RAISE {0};` raises it, ERRNO in an ERROR part has it, and the language itself never raises it"
+HELP = "./rapid_cell --help"
+LEFT = "`E TASK Fault Unhandled {0}`, if no ERROR part handles it"
 
 
 def explain(words: Sequence[bytes]) -> int:
     if len(words) != 1:
-        return wrong("explain takes one word, as CornerZone, ZoneStop, 9 or MoveJ")
+        return wrong("explain takes one word, such as CornerZone, ZoneStop, 9 or MoveJ")
     word = os.fsdecode(words[0])
     found = list(parts_for(word))
     if not found:
         near = actions.nearest(word, known_words()) if len(word) > 2 else None
-        return wrong(f"no table has the word {word!a}{f': did you mean {near}?' if near else ''}")
+        return wrong(f"nothing is known about the word {word!a}{f': did you mean {near}?' if near else ''}")
     put_out("\n".join("".join(f"{line}\n" for line in (place, *lines)) for place, lines in found))
     return 0
 
@@ -42,20 +45,57 @@ def parts_for(word: str) -> Iterator[Part]:
     for row in found:
         yield row.place, list(row.lines())
     if re.fullmatch(r"[1-9]|[1-8]\d|90", word):
-        yield "docs/LANGUAGE.md, Error recovery", [f"  Error: {word}", f"  Cause: {OWN_ERROR.format(word)}", f"  Seen: {LEFT.format(word)}"]
-    entry = manual.find(word)
-    if entry and all(it.get("Write instead").startswith(OUTSIDE) for it in found):
-        yield "launcher/manual.txt", list(entry.lines())
+        own = Row("docs/LANGUAGE.md, Error recovery", ["Error", "Cause", "Seen"], [word, OWN_ERROR.format(word), LEFT.format(word)])
+        yield own.place, list(own.lines())
+    if not found:
+        yield from of_launcher(word)
+    if all(it.get("Write instead").startswith(OUTSIDE) for it in found):
+        for entry in manual.entries_for(word):
+            yield "launcher/manual.txt", list(entry.lines())
+
+
+def of_launcher(word: str) -> Iterator[Part]:
+    """What there is to say of a word of the launcher."""
+    for it in actions.ACTIONS:
+        if it.name == word:
+            yield HELP, list(Row(HELP, ["Action", "Does"], [f"{it.name} {it.takes}".strip(), joined(it.does)]).lines())
+    for option in actions.OPTIONS:
+        if option.name == word:
+            yield HELP, list(Row(HELP, ["Option", "Does"], [option.name, joined(option.does)]).lines())
+
+
+def joined(text: str) -> str:
+    return text.replace("\n", " ")
 
 
 def rows_for(word: str) -> List[Row]:
     """The rows that explain a word: of exactly this spelling, else of another case; else those that have it as a topic."""
-    for exact in (lambda it: it, str.lower):
-        given = {exact(word), exact(word.lstrip("\\"))} - {""}
-        found = [row for row in rows() if not given.isdisjoint(map(exact, words_of(row)))]
-        if found:
-            return found
-    return [row for row in rows() if word.lower() in topics_of(row)]
+    exact, small, topics = index()
+    bare = word.lstrip("\\") or word
+    for table, key in ((exact, word), (exact, bare), (small, word.lower()), (small, bare.lower())):
+        if key in table:
+            return table[key]
+    return topics.get(word.lower(), [])
+
+
+Index = Dict[str, List[Row]]
+
+
+@functools.lru_cache(maxsize=None)
+def index() -> Tuple[Index, Index, Index]:
+    """The rows by their words, by their words in small letters, and by their topics, each row once."""
+    exact: Index = {}
+    small: Index = {}
+    topics: Index = {}
+    for row in rows():
+        for table, words in (
+            (exact, words_of(row)),
+            (small, [it.lower() for it in words_of(row)]),
+            (topics, topics_of(row)),
+        ):
+            for word in dict.fromkeys(words):
+                table.setdefault(word, []).append(row)
+    return exact, small, topics
 
 
 def words_of(row: Row) -> List[str]:
@@ -76,7 +116,7 @@ def topics_of(row: Row) -> List[str]:
 
 def known_words() -> List[str]:
     """Every word that is explained, each once."""
-    found: Dict[str, None] = dict.fromkeys(reserved.RESERVED)
+    found: Dict[str, None] = dict.fromkeys(RESERVED)
     found.update(dict.fromkeys(plain(word) for row in rows() for word in words_of(row)))
-    found.update(dict.fromkeys(it.name for it in manual.read()))
+    found.update(dict.fromkeys(it.name for it in manual.read() if it.kind not in manual.PARTS or len(it.name) > 2))
     return sorted(it for it in found if re.fullmatch(r"\w+", it))

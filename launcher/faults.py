@@ -1,9 +1,9 @@
-"""All errors of a cell at once, as far as they can be told honestly.
+"""All errors of a cell at once, as far as they can be reported honestly.
 
-A check ends at its first error. So a copy of the cell is made in which that error is left out, and the copy is checked again. Left out
-is the statement that has the error, or the condition of its head, for which a constant stands; a datum becomes a num, and what is
-refused because of that is not told (`consequences`). Where nothing can be left out, the rest of the module, and the names and types of
-the tasks that have it, are not checked further, and that is said.
+A check ends at its first error. So a copy of the cell is made without that error, and the copy is checked again. The statement with
+the error is left out, or a constant takes the place of the condition in its head; a datum becomes a num, and what is refused because
+of that is not reported (`consequences`). Where nothing can be left out, the rest of the module, and the names and types of the tasks
+that have it, are not checked further, and the answer says so.
 """
 import re
 from dataclasses import dataclass, field
@@ -90,7 +90,7 @@ class Search:
         return check(self.program, cell, {**self.changed, **texts, self.cell.script.resolve(): script})
 
     def goes_on(self, refusal: Refusal) -> bool:
-        """Takes a refusal, and leaves out what it is about. Gives whether the search goes on."""
+        """Takes a refusal, and leaves out what it is about. Returns whether the search goes on."""
         if refusal.kind is Kind.SCRIPT:
             return self.on_script(refusal)
         if refusal.kind in (Kind.READ, Kind.LONG):
@@ -108,7 +108,7 @@ class Search:
         try:
             self.script.mend(refusal)
         except CannotMend:
-            self.found.ended.append("the script is not checked after this error, nor are the modules")
+            self.found.ended.append("neither the rest of the script nor the modules were checked")
             return False
         return True
 
@@ -123,7 +123,7 @@ class Search:
     def on_module(self, refusal: Refusal) -> bool:
         module = self.cell.named(refusal.name)
         if module is None or module.file in self.stubs:
-            # The copy that stands for it is refused: nothing more can be said.
+            # The copy in its place is refused: nothing more can be said.
             self.found.is_cut = True
             return False
         if refusal.rule not in FORM and self.has_stub(module.file):
@@ -163,7 +163,7 @@ class Search:
             return
         if self.gives_signal(refusal, draft, k):
             return
-        if consequences.is_told_once(draft, k, refusal.rule):
+        if consequences.is_reported_once(draft, k, refusal.rule):
             draft.taints.append(Taint(draft.tokens[k].text.lower()))
         if refusal.rule == "PersType":
             self.simplify_shared(draft.tokens[k].text.lower())
@@ -179,7 +179,7 @@ class Search:
                 simplify_datum(draft, index_at(draft.tokens, at))
 
     def gives_signal(self, refusal: Refusal, draft: Draft, k: int) -> bool:
-        """Gives the script a signal that is missing, where what is called tells its kind."""
+        """Adds a missing signal to the script, if what is called shows its kind."""
         called = consequences.called_at(draft, k)
         kind = names.OF_SIGNALS.get(called.text.lower()) if called and called.at != draft.tokens[k].at else None
         return bool(refusal.rule == "NoName" and kind and self.script.gives_signal(draft.tokens[k].text, kind))
@@ -200,7 +200,7 @@ class Search:
         """Puts an empty module for one that cannot be checked further."""
         self.drafts.pop(file, None)
         self.stubs[file] = True
-        self.found.ended.append(f"{name_of(self.cell, file)} is not checked after its last error")
+        self.found.ended.append(f"{name_of(self.cell, file)} was not checked beyond its last error")
 
     def end_tasks(self, file: Path) -> None:
         """Ends the check of names and types of the tasks that have a module."""
@@ -210,7 +210,7 @@ class Search:
                 self.stubs[it.file] = True
                 self.drafts.pop(it.file, None)
         told = ", ".join(f"task[{it}]" for it in sorted(tasks))
-        self.found.ended.append(f"names and types of {told} are not checked further")
+        self.found.ended.append(f"names and types of {told} were not checked further")
 
     def order(self, refusal: Refusal) -> List[int]:
         """The place of a refusal in the order of the files: the script, then the modules as it names them."""

@@ -1,4 +1,4 @@
-"""Why the tokens or the form of a module are refused, as far as the text around the place tells."""
+"""Why the tokens or the form of a module are refused, as far as the text around the place shows."""
 from typing import Dict, List, Optional, Tuple
 
 from . import grammar, manual
@@ -19,7 +19,7 @@ def of(rule: str, seen: View) -> Optional[Own]:
     if rule == "BadByte":
         return of_byte(seen)
     if rule == "LongName":
-        return Own(f"this name has {len(seen.word)} characters, and 32 are the most")
+        return Own(f"this name has {len(seen.word)} characters; 32 is the limit")
     return None
 
 
@@ -32,9 +32,9 @@ def of_byte(seen: View) -> Own:
         except UnicodeDecodeError:
             continue
         if character.isprintable():
-            return Own(f"{character!r} stands in comments alone", notes_on_byte(character))
+            return Own(f"{character!r} is allowed only in comments", notes_on_byte(character))
         break
-    return Own(f"the byte {data[0]:02X} stands in comments alone" if data else "")
+    return Own(f"the byte {data[0]:02X} is allowed only in comments" if data else "")
 
 
 def notes_on_byte(character: str) -> List[str]:
@@ -63,8 +63,8 @@ def of_syntax(seen: View) -> Own:
 
 
 def first_of_routine(seen: View) -> int:
-    """The number of the token with which the last item before the place begins, as far as its first word tells: all before is well
-    formed, since the first token that is not is refused."""
+    """The number of the token with which the last item before the place begins, judging by its first word. Everything before it is
+    well formed, since the first token that is not is refused."""
     for k in range(min(seen.k, len(seen.tokens)) - 1, 0, -1):
         if seen.tokens[k].text in ("PROC", "FUNC", "TRAP"):
             return k - 1 if seen.tokens[k - 1].text == "LOCAL" else k
@@ -84,14 +84,14 @@ def of_missing_sign(seen: View, expected: Dict[str, Tuple[grammar.Open, ...]], f
     before = seen.tokens[seen.k - 1] if seen.k else None
     here = seen.token.at if seen.token else len(seen.text)
     if ";" in expected and before and seen.row(before.at) < seen.row(here):
-        return [f"`;` is perhaps missing at the end of line {seen.row(before.at)}, after `{before.text}`"]
+        return [f"perhaps `;` is missing at the end of line {seen.row(before.at)}, after `{before.text}`"]
     notes = []
     for end in ENDS.values():
         if end in expected:
             opened = seen.tokens[first + expected[end][-1].start]
             begun = opener(seen, first + expected[end][-1].start)
             if seen.token and seen.token.text in (*ENDS.values(), "ENDMODULE", "PROC", "FUNC", "TRAP", "ELSE", "ELSEIF", "CASE", "DEFAULT"):
-                notes.append(f"{end} is perhaps missing: {begun} of line {seen.row(opened.at)} is open here")
+                notes.append(f"perhaps {end} is missing: the {begun} of line {seen.row(opened.at)} is still open here")
     return notes
 
 
@@ -102,7 +102,7 @@ def opener(seen: View, k: int) -> str:
 
 
 def of_missing_form(seen: View, expected: Dict[str, Tuple[grammar.Open, ...]]) -> List[str]:
-    """What to write instead of a form of RAPID that is not supported, told by the token at the place and those around it."""
+    """What to write instead of a form of RAPID that is not supported, by the token at the place and those around it."""
     here = seen.token.text if seen.token else ""
     before = seen.tokens[seen.k - 1].text if seen.k else ""
     in_head = ")" in expected and any(it.rule in ("params", "param") for stack in expected.values() for it in stack)
@@ -117,7 +117,7 @@ def of_missing_form(seen: View, expected: Dict[str, Tuple[grammar.Open, ...]]) -
     if here in ("<", "*") and (grammar.starters("expr") <= set(expected) or grammar.starters("stmt") <= set(expected)):
         return manual.notes_on("<EXP>")
     if here == "NOT":
-        return ["NOT stands first in an expression alone: write `(NOT ...)` here"]
+        return ["NOT may stand only at the start of an expression: write `(NOT ...)` here"]
     if here in ("+", "-") and grammar.starters("primary") <= set(expected):
         return manual.notes_on("a * -b")
     return []

@@ -1,5 +1,6 @@
 """What is left out of a module so that its form can be checked further after an error in it."""
 import re
+import zlib
 from typing import Dict, List, Tuple
 
 from . import grammar
@@ -50,7 +51,7 @@ def one(draft: Draft, at: int) -> Tuple[int, int]:
 def rename(draft: Draft, at: int) -> None:
     """Shortens a long name wherever it stands in the module."""
     name = draft.tokens[index_at(draft.tokens, at)].text.lower()
-    short = f"{name[:24]}_{abs(hash(name)) % 10**6}"
+    short = f"{name[:20]}_{zlib.crc32(name.encode())}"
     for token in [it for it in draft.tokens if it.text.lower() == name]:
         draft.blank(token.at, token.end, short)
 

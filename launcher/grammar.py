@@ -91,11 +91,11 @@ def steps() -> Dict[str, Step]:
 
 @functools.lru_cache(maxsize=None)
 def rules() -> Dict[str, str]:
-    """Each rule of the grammar: its name, and what stands on its right side."""
+    """Each rule of the grammar: its name, and its right side."""
     text = LANGUAGE.read_text(encoding="utf-8")
     blocks = re.findall(r"^```\n(.*?)^```$", text, re.M | re.S)
     found = re.findall(r"^(\w+) += (.*(?:\n +.*)*)", "\n".join(blocks), re.M)
-    # Items alone, for a text that is looked at from one of its routines on.
+    # Only items, for a text that is read from one of its routines on.
     return {**dict(found), "items": "{ item } ENDMODULE"}
 
 

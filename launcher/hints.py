@@ -29,20 +29,20 @@ def cause_of_words(place: int, words: Sequence[str], given: Sequence[bytes]) -> 
     word = words[place]
     if word.startswith("-"):
         if word == HISTORY.decode():
-            return [f"{word} stands twice"]
+            return [f"{word} is given twice"]
         return [f"there is no option {word}{meant(word, [it.name for it in actions.OPTIONS])}"]
     others = [k for k, it in enumerate(words) if it != HISTORY.decode()]
     if place == others[0]:
         return unknown_action(word, given[place])
     if not is_utf8(given[place]):
-        return [f"the name {word} is not valid UTF-8: give the file or its folder another name"]
-    return [f"{word} is one word too many: a name with spaces stands in quotes"]
+        return [f"the name {word} is not valid UTF-8: rename the file or its folder"]
+    return [f"{word} is one word too many: put a name with spaces in quotes"]
 
 
 def missing(words: Sequence[str]) -> List[str]:
     others = [it for it in words if it != HISTORY.decode()]
     if not others:
-        return ["an action is missing, as check"]
+        return ["an action is missing, such as check"]
     action = next((it for it in actions.ACTIONS if it.name == others[0]), None)
     if action and action.takes == "N":
         return [f"{action.name} takes a number: ./rapid_cell {action.name} 10"]
@@ -53,9 +53,9 @@ def missing(words: Sequence[str]) -> List[str]:
 
 def unknown_action(word: str, given: bytes) -> List[str]:
     if given.endswith(b".toml") or os.path.isfile(given):
-        return [f"an action stands before the script: ./rapid_cell check {word}"]
+        return [f"an action comes before the script: ./rapid_cell check {word}"]
     if actions.is_programs_action(given):
-        return [f"this program does not have the action {word} yet: ./rapid_cell build renews it"]
+        return [f"this program does not have the action {word} yet: ./rapid_cell build rebuilds it"]
     return [f"there is no action {word}{meant(word, [it.name for it in actions.ACTIONS])}"]
 
 
@@ -110,14 +110,14 @@ def unread(file: Path) -> str:
     try:
         kind = os.stat(file).st_mode
         if stat.S_ISDIR(kind):
-            inner = sorted(it.name for it in file.glob("*.toml"))
+            inner = sorted((it.name for it in file.glob("*.toml")), key=lambda it: (it != "cell.toml", it))
             return f"{name} is a folder{f': did you mean {shown_path(file / inner[0])}?' if inner else ''}"
         with open(os.open(file, os.O_RDONLY | os.O_NONBLOCK), "rb"):
-            return f"{name} could not be read to its end"
+            return f"{name} could not be read completely"
     except OSError as error:
         return cause_of_error(file, error)
     except ValueError:
-        return f"{name} is no name of a file"
+        return f"{name} is not a valid file name"
 
 
 def cause_of_error(file: Path, error: OSError) -> str:
@@ -126,10 +126,10 @@ def cause_of_error(file: Path, error: OSError) -> str:
         near = nearest_file(file)
         folder = first_missing(file)
         if folder != file:
-            return f"{name} is not there: there is no folder {shown_path(folder)}"
+            return f"{name} does not exist: there is no folder {shown_path(folder)}"
         return f"there is no file {name}{f': did you mean {shown_path(near)}?' if near else ''}"
     if error.errno in (errno.EACCES, errno.EPERM):
-        return f"{name} may not be read by you: see its permissions and those of its folders"
+        return f"you may not read {name}: check its permissions and those of its folders"
     return f"{name}: {error.strerror}"
 
 

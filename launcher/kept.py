@@ -18,6 +18,7 @@ from pathlib import Path
 from typing import Iterator, List, Optional, Sequence
 
 from . import build
+from .child import started
 from .places import CRATE, CRATES, TOP
 from .say import NO_PROGRAM, put_err, say, write
 
@@ -70,12 +71,12 @@ def kit() -> str:
 
 
 def make() -> Optional[Path]:
-    """Makes the unproved program and keeps it. None where the kit does not make it, or gives no program to keep."""
+    """Makes the unproved program and keeps it. None if the kit does not make it, or gives no program to keep."""
     file = place()
     with in_turn(file):
         if file.is_file():
             return file
-        say("the program is not built yet; an unproved one is made now, which takes a minute or two on a free machine, and is kept")
+        say("the program is not built yet; an unproved one is made now, in a minute or two on an idle machine, and kept")
         try:
             made = is_made(file)
         except OSError as error:
@@ -92,7 +93,7 @@ def in_turn(file: Path) -> Iterator[None]:
         file.parent.mkdir(mode=0o700, parents=True, exist_ok=True)
         lock = open(file.parent / "lock", "w")
     except OSError:
-        # Nothing can be kept there; that is told where it is tried.
+        # Nothing can be kept there, which is reported where it is tried.
         yield
         return
     with lock:
@@ -101,7 +102,7 @@ def in_turn(file: Path) -> Iterator[None]:
 
 
 def is_made(file: Path) -> bool:
-    """Makes the program and puts it to its place. Gives whether the kit let it be taken."""
+    """Makes the program and puts it in its place. Returns whether it could be taken from the kit."""
     with tempfile.TemporaryDirectory(prefix="rapid-cell-", dir=file.parent) as room:
         copy, said = Path(room, "program"), Path(room, "said")
         is_waiting = copied(copy, said, Path(room))
@@ -113,41 +114,32 @@ def is_made(file: Path) -> bool:
             file.with_name(file.name + NONE).write_text(kit(), encoding="utf-8")
         else:
             put_err(said.read_bytes())
-            say("the kit did not make the unproved program: what it says stands above")
+            say("the kit did not make the unproved program: its messages above say why")
     return False
 
 
 def copied(copy: Path, said: Path, room: Path) -> bool:
-    """Starts the kit, and copies the program while it waits at its script. Gives whether it waited there. `copy` is written where
+    """Starts the kit, and copies the program while it waits at its script. Returns whether it waited there. `copy` is written if
     exactly one executable file was found, and `said` has what the kit said."""
     pipe, work = room / "cell.toml", room / "work"
     os.mkfifo(pipe)
     work.mkdir()
     words = ["rt", "try", "--steps", "1", "--", "check", str(pipe)]
-    with said.open("wb") as out:
-        kit = subprocess.Popen(
-            words,
-            cwd=CRATES / CRATE,
-            env={**os.environ, "TMPDIR": str(work)},
-            stdin=subprocess.DEVNULL,
-            stdout=out,
-            stderr=out,
-            start_new_session=True,
-        )
-        with stopped_at_end(kit):
-            end = reader_of(pipe, kit)
-            if end is None:
-                return False
+    how = {"cwd": CRATES / CRATE, "env": {**os.environ, "TMPDIR": str(work)}, "start_new_session": True}
+    with said.open("wb") as out, started(words, stop, stdin=subprocess.DEVNULL, stdout=out, stderr=out, **how) as kit:
+        end = reader_of(pipe, kit)
+        if end is not None:
             found = [it for it in work.rglob("*") if it.is_file() and os.access(it, os.X_OK)]
             if len(found) == 1:
                 shutil.copy2(found[0], copy)
                 copy.chmod(0o700)
             os.close(end)
-    return True
+        stop(kit)
+    return end is not None
 
 
 def reader_of(pipe: Path, kit: "subprocess.Popen[bytes]") -> Optional[int]:
-    """Waits until a program opens the pipe to read it. Gives the pipe's other end, or None where the kit ends before."""
+    """Waits until a program opens the pipe to read it. Returns the pipe's other end, or None if the kit ends before."""
     while kit.poll() is None:
         try:
             return os.open(pipe, os.O_WRONLY | os.O_NONBLOCK)
@@ -167,18 +159,14 @@ def is_program(file: Path) -> bool:
     return (ran.returncode, ran.stderr) == (2, b"rapid_cell: words 0\n")
 
 
-@contextlib.contextmanager
-def stopped_at_end(kit: "subprocess.Popen[bytes]") -> Iterator[None]:
-    """Ends the kit and what it started, whatever comes."""
-    try:
-        yield
-    finally:
-        for sent in (signal.SIGTERM, signal.SIGKILL):
-            with contextlib.suppress(ProcessLookupError):
-                os.killpg(kit.pid, sent)
-            with contextlib.suppress(subprocess.TimeoutExpired):
-                kit.wait(10)
-                break
+def stop(kit: "subprocess.Popen[bytes]", ended: Optional[BaseException] = None) -> None:
+    """Ends the kit and what it started, which are a group of their own."""
+    for sent in (signal.SIGTERM, signal.SIGKILL):
+        with contextlib.suppress(ProcessLookupError):
+            os.killpg(kit.pid, sent)
+        with contextlib.suppress(subprocess.TimeoutExpired):
+            kit.wait(10)
+            break
 
 
 def remove_old() -> None:
@@ -193,7 +181,7 @@ def remove_old() -> None:
 
 
 def try_once(words: Sequence[bytes]) -> int:
-    """Runs what the kit makes of the sources, prints what it says, and gives its status."""
+    """Runs what the kit makes of the sources, prints what it says, and returns its status."""
     say("the kit gives no program to keep, so this takes a minute or two each time")
     at = [k for k, word in enumerate(words) if word != b"--history"][1]
     given = words[at]
@@ -211,9 +199,9 @@ def try_once(words: Sequence[bytes]) -> int:
     if not ended:
         put_err(ran.stderr)
         if b"within the time limit" in ran.stderr:
-            say("it ran for longer than the kit lets it: RT_SECONDS=600 before ./rapid_cell gives it 600 seconds; fewer `steps` end it sooner")
+            say("it ran longer than the kit allows: RT_SECONDS=600 before ./rapid_cell allows 600 seconds; fewer `steps` end it sooner")
         else:
-            say("the kit did not run it to its end: what it says stands above, and docs/CELL_SCRIPT.md has its limits")
+            say("the kit did not run it to its end: its messages are above, and docs/CELL_SCRIPT.md has its limits")
         return NO_PROGRAM
     write(1, ran.stdout)
     for line in ran.stderr.splitlines(keepends=True):

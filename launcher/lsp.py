@@ -82,17 +82,17 @@ class Server:
 
     def reply(self, method: str, number: Any, params: Any) -> None:
         if method not in self.answers:
-            self.wire.refuse(number, METHOD_NOT_FOUND, f"there is no {method} here")
+            self.wire.refuse(number, METHOD_NOT_FOUND, f"{method} is not supported")
         elif self.is_shut:
             self.wire.refuse(number, INVALID_REQUEST, "the server was shut down")
         elif self.is_started == (method == "initialize"):
-            self.wire.refuse(number, NOT_INITIALIZED, "initialize comes first, once")
+            self.wire.refuse(number, NOT_INITIALIZED, "initialize has to come first, and only once")
         else:
             try:
                 result = self.answers[method](params)
             except (KeyError, TypeError, IndexError) as error:
-                self.wire.refuse(number, INVALID_PARAMS, f"the parameters lack something: {error!r}")
-            except Exception as error:  # The editor's next request is answered all the same.
+                self.wire.refuse(number, INVALID_PARAMS, f"a parameter is missing: {error!r}")
+            except Exception as error:  # The editor's next request is still answered.
                 traceback.print_exc()
                 self.wire.refuse(number, INTERNAL_ERROR, repr(error))
             else:

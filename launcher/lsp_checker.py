@@ -116,7 +116,7 @@ class Checker:
             self.say(f"the cell could not be checked: {error}")
 
     def tell(self, told: Check, cell: Cell, changed: Mapping[Path, bytes], ready: Program) -> None:
-        """Gives the first error at once, and then all of them, unless there is news."""
+        """Publishes the first error at once, and then all of them, unless something changes meanwhile."""
         first = diagnostic(told.refusal, cell, changed) if told.refusal else None
         if told.refusal and not first:
             self.say(told.said.decode(errors="replace").strip())
@@ -138,11 +138,11 @@ class Checker:
         return not self.is_over and not self.news.is_set()
 
     def ready(self) -> Optional[Program]:
-        """The program, made first where there is none; None where it cannot be had."""
+        """The program, made first if there is none; None if it cannot be made."""
         found = program.ready()
         if found:
             return found
-        self.say("There is no program yet. An unproved one is made now, which takes a minute or two; then the cell is checked.")
+        self.say("There is no program yet. An unproved one is made now, in a minute or two; then the cell is checked.")
         words = [sys.executable, str(TOP / "rapid_cell"), "--unproved", "check", str(Path(self.files.script).resolve())]
         self.making = subprocess.Popen(words, stdin=subprocess.DEVNULL, stdout=subprocess.DEVNULL, stderr=subprocess.PIPE)
         said = self.making.communicate()[1].decode(errors="replace").strip()

@@ -28,7 +28,7 @@ def in_module(files: Files, cell: Cell, modules: List[Module], text: bytes, at: 
 
 
 def is_in_text(line: bytes) -> bool:
-    """Whether a place behind these bytes of its line lies in a string or a comment."""
+    """Whether a place after these bytes of its line is in a string or a comment."""
     without = re.sub(rb'"[^"]*"', b"", line)
     return b'"' in without or b"!" in without
 

@@ -32,7 +32,7 @@ class Files:
             self.changed.pop(file, None)
 
     def snapshot(self) -> Tuple[Optional[Cell], Dict[Path, bytes]]:
-        """The cell as it stands, or None where its script cannot be read, and the buffers that differ from their files."""
+        """The cell as it stands, or None if its script cannot be read, and the buffers that differ from their files."""
         changed = {file: text for file, text in list(self.changed.items()) if on_disk(file) != text}
         try:
             return read_cell(self.script, changed), changed

@@ -5,7 +5,7 @@ from typing import Dict, List, Tuple
 
 Position = Dict[str, int]
 Range = Dict[str, Position]
-# What ends a line for an editor; for the program it is a line feed alone.
+# What ends a line for an editor; for the program only a line feed does.
 END = re.compile(rb"\r\n|\n|\r")
 NAME = re.compile(rb"[A-Za-z0-9_]")
 # What a place covers that an editor shows: a name or a number, a string, or one character.

@@ -1,4 +1,4 @@
-"""Why a name, a type or an argument is refused, as far as the text around the place tells."""
+"""Why a name, a type or an argument is refused, as far as the text around the place shows."""
 from typing import Callable, Dict, List, Optional
 
 from . import manual, names, tables
@@ -29,7 +29,7 @@ def is_at_type(seen: View) -> bool:
     return any(it.at == seen.at for it in declared_in(seen.text))
 
 
-# Names that nothing has
+# Unknown names
 
 
 def of_no_name(seen: View) -> Own:
@@ -43,15 +43,14 @@ def of_no_name(seen: View) -> Own:
     near = nearest(seen, use, kind)
     notes = [f"did you mean {' or '.join(near)}?"] if near else []
     if kind:
-        notes.append(f'a signal stands in the script: [[signal]] with name = "{seen.word}" and kind = "{kind}"')
+        notes.append(f'a signal is declared in the script: [[signal]] with name = "{seen.word}" and kind = "{kind}"')
     elif not near:
         notes.append("declare it; or, if another module of the controller does, name that module in the script's `modules`")
-    return Own(f"nothing here has the name `{seen.word}`", notes, True)
+    return Own(f"nothing here is named `{seen.word}`", notes, True)
 
 
 def nearest(seen: View, use: str, signal: str) -> List[str]:
-    """The nearest names that are declared or predefined, each with where it is declared; of signals alone where one of a kind is
-    needed."""
+    """The nearest names that are declared or predefined, each with where it is declared; only signals, if one of a kind is needed."""
     if signal:
         alike = [it for it, kind in seen.signals().items() if kind == signal]
         return [f"`{it}` (a signal of kind {signal})" for it in names.nearest(seen.word, alike)]
@@ -67,7 +66,10 @@ def nearest(seen: View, use: str, signal: str) -> List[str]:
 
 
 def of_component(seen: View) -> Own:
-    label = f"no component here has the name `{seen.word}`"
+    known = manual.find_part(seen.word, "component")
+    if known:
+        return Own(f"`{seen.word}` is {known.called} of types of RAPID that are not supported", [f"write instead: {known.write}"], True)
+    label = f"no type here has a component `{seen.word}`"
     near = names.nearest(seen.word, [it for parts in names.COMPONENTS.values() for it in parts], 1)
     if near:
         return Own(label, [f"did you mean `{near[0]}`?"])
@@ -100,12 +102,13 @@ def type_at(seen: View) -> str:
 def of_option(seen: View) -> Own:
     name = called(seen)
     option = seen.tokens[seen.k + 1].text if seen.word == "\\" and seen.k + 1 < len(seen.tokens) else ""
-    return Own(f"{name} does not take `\\{option}` so" if name and option else "", of_call(seen))
+    known = manual.notes_on(f"\\{option}") if option else []
+    return Own(f"{name} does not take `\\{option}` here" if name and option else "", [*of_call(seen), *known], bool(known))
 
 
 def of_taken(seen: View) -> Own:
     kind = {name.lower(): kind for name, kind in names.predefined().items()}.get(seen.word.lower())
-    return Own(f"`{seen.word}` is predefined: {kind}" if kind else f"`{seen.word}` is a signal of the script")
+    return Own(f"`{seen.word}` is a predefined name ({kind})" if kind else f"`{seen.word}` is a signal of the script")
 
 
 def of_twice(seen: View) -> Own:
@@ -113,7 +116,7 @@ def of_twice(seen: View) -> Own:
 
 
 def of_written(seen: View) -> Own:
-    return Own(f"`{seen.word}` may not be written", of_declaration(seen))
+    return Own(f"`{seen.word}` cannot be written", of_declaration(seen))
 
 
 def of_no_arm(seen: View) -> Own:

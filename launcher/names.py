@@ -6,6 +6,7 @@ from dataclasses import dataclass
 from typing import Dict, Iterable, Iterator, List, Optional, Sequence, Tuple
 
 from . import tables
+from .places import LANGUAGE
 from .tokens import NAME, Token
 
 TYPE, DATA, FUNCTION, INSTRUCTION = "type", "data", "function", "instruction"
@@ -125,7 +126,7 @@ def predefined() -> Dict[str, str]:
             found.update({name: TYPE for name in tables.codes(row.cells[0][1])})
         elif row.cells[0][0] == "Data":
             found.update({name: DATA for name in tables.codes(row.cells[0][1])})
-    text = tables.LANGUAGE.read_text(encoding="utf-8")
+    text = LANGUAGE.read_text(encoding="utf-8")
     for kind in (FUNCTION, INSTRUCTION):
         listed = re.search(rf"^- {kind.capitalize()}s: (.*)$", text, re.M)
         found.update({name: kind for name in tables.codes(listed[1])} if listed else {})

@@ -1,4 +1,4 @@
-"""What the text around a place tells of a refusal."""
+"""What the text around a place shows about a refusal."""
 from dataclasses import dataclass, field
 from typing import List
 

@@ -1,13 +1,13 @@
 """The program, proved or unproved: finds it, runs it, becomes it."""
-import contextlib
 import os
 import signal
 import subprocess
 from dataclasses import dataclass
 from pathlib import Path
-from typing import Iterator, Optional, Sequence, Union
+from typing import Optional, Sequence, Union
 
 from . import kept
+from .child import started
 from .places import PROGRAM
 from .say import NO_PROGRAM, put_err, say
 
@@ -48,7 +48,7 @@ def ready() -> Optional[Program]:
 
 
 def answer(program: Program, words: Sequence[Word], folder: Optional[Path] = None, seconds: Optional[float] = None) -> Answer:
-    """Runs the program to its end and gives what it said. OSError where it does not start, TimeoutExpired after `seconds`."""
+    """Runs the program to its end and returns what it said. OSError if it does not start, TimeoutExpired after `seconds`."""
     ran = subprocess.run(
         [program.file, *words],
         cwd=folder,
@@ -69,41 +69,34 @@ def become(program: Program, words: Sequence[bytes]) -> int:
 
 
 def run(program: Program, words: Sequence[bytes]) -> Answer:
-    """Runs the program on the launcher's own streams, and hands on what it says on standard error as it comes."""
+    """Runs the program on the launcher's own streams, and passes on what it says on standard error as it comes."""
+    said = b""
     try:
         # It meets a closed pipe as the launcher does: by a write that fails, and not by a signal.
-        child = subprocess.Popen([program.file, *words], stderr=subprocess.PIPE, restore_signals=False)
+        with started([program.file, *words], end_child, stderr=subprocess.PIPE, restore_signals=False) as child:
+            assert child.stderr
+            while True:
+                more = os.read(child.stderr.fileno(), SAID)
+                if not more:
+                    break
+                put_err(more)
+                said = (said + more)[-SAID:]
+            status = child.wait()
     except OSError as error:
         return Answer(does_not_start(program, error), b"", b"")
-    assert child.stderr
-    said = b""
-    with ending_with(child):
-        while True:
-            more = os.read(child.stderr.fileno(), SAID)
-            if not more:
-                break
-            put_err(more)
-            said = (said + more)[-SAID:]
-        status = child.wait()
     if status < 0:
         say(f"the program was stopped by signal {-status}")
         status = 128 - status
     return Answer(status, b"", said)
 
 
-@contextlib.contextmanager
-def ending_with(child: "subprocess.Popen[bytes]") -> Iterator[None]:
-    """What ends the launcher while this lasts ends the child first."""
-    try:
-        yield
-    except BaseException as ended:
-        # The terminal has told the child of Ctrl-C too.
-        child.send_signal(signal.SIGINT if isinstance(ended, KeyboardInterrupt) else signal.SIGTERM)
-        child.wait()
-        raise
+def end_child(child: "subprocess.Popen[bytes]", ended: BaseException) -> None:
+    """Ends a child. The terminal has sent Ctrl-C to it too."""
+    child.send_signal(signal.SIGINT if isinstance(ended, KeyboardInterrupt) else signal.SIGTERM)
+    child.wait()
 
 
 def does_not_start(program: Program, error: OSError) -> int:
-    how = "./rapid_cell build makes it anew" if program.is_proved else "remove it, and it is made anew"
+    how = "./rapid_cell build rebuilds it" if program.is_proved else "remove it, and it is made again"
     say(f"{program.file} does not start ({error.strerror}): {how}")
     return NO_PROGRAM

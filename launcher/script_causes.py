@@ -9,7 +9,7 @@ from .texts import Cell
 # The table of the keys of each array of tables.
 TABLES = {"signal": "Key of a signal", "task": "Key of a task", "pers": "Key of a persistent's value", "zone": "Key of a zone"}
 TABLES["input"] = "Key of an input"
-BESIDE = 72
+SEE = "see ./rapid_cell explain {0}"
 
 
 def of(refusal: Refusal, cell: Cell) -> List[str]:
@@ -17,16 +17,17 @@ def of(refusal: Refusal, cell: Cell) -> List[str]:
     row = row_of(refusal)
     if row is None:
         return [refusal.rule]
-    cause = row.get("Cause")
-    notes = [*of_key(refusal), *of_name(refusal, cell)]
-    is_short = len(cause) <= BESIDE
-    if not is_short:
-        notes[:0] = [cause]
+    if refusal.rule == "NotToml":
+        return [row.get("Cause"), SEE.format(refusal.rule)]
+    cause, known = row.get("Cause"), of_key(refusal)
+    # The first part of a cause is the rule; the others are exceptions, and what the key takes says more, except of names.
+    label = re.split(r"[;.] ", cause)[0]
+    is_whole = label == cause or (known and refusal.rule != "Name")
+    notes = [*([] if is_whole else [cause]), *known, *of_name(refusal, cell)]
     # What a key takes says more than the example of another key.
-    if not of_key(refusal) or refusal.rule in ("Twice", "NoSuch", "Pair"):
+    if not known or refusal.rule in ("Twice", "NoSuch", "Pair"):
         notes.append(f"write instead: {row.get('Write instead')}")
-    notes.append(f"see ./rapid_cell explain {refusal.rule}")
-    return [cause if is_short else refusal.rule, *notes]
+    return [label, *notes, SEE.format(refusal.rule)]
 
 
 def row_of(refusal: Refusal) -> Optional[tables.Row]:

@@ -14,9 +14,9 @@ def shown(refusal: Refusal, words: Sequence[bytes], is_coloured: bool = False) -
     if refusal.kind is Kind.WORDS:
         return said(hints.of_words(refusal.place, words)) if words else [f"  {it}" for it in hints.of_words(0, words)]
     if refusal.kind is Kind.MEMORY:
-        return said(["there is not enough memory: a machine with more, or smaller modules"])
+        return said(["out of memory: use a machine with more memory, or smaller modules"])
     if refusal.kind is Kind.WRITE:
-        return said(["not all could be printed: see where standard output goes, as a full disk or a pipe that was closed"])
+        return said(["not everything could be printed: check where standard output goes: a full disk, a closed pipe"])
     script = script_of(words)
     return of_cell(refusal, script, {}, is_coloured) if script else []
 
@@ -24,7 +24,7 @@ def shown(refusal: Refusal, words: Sequence[bytes], is_coloured: bool = False) -
 def of_cell(
     refusal: Refusal, script: Path, changed: Mapping[Path, bytes], is_coloured: bool, seen: Optional[bytes] = None
 ) -> List[str]:
-    """The same for what is refused in a cell's files. `seen` is the module's text as it was checked, where it is not that of its
+    """The same for what is refused in a cell's files. `seen` is the module's text as it was checked, if it differs from that of its
     file; both have the same length and the same lines."""
     try:
         cell = read_cell(script, changed)

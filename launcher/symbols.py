@@ -62,7 +62,7 @@ def token_at(text: bytes, at: int) -> Optional[Tuple[int, Token]]:
 
 
 def name_at(text: bytes, at: int) -> Optional[Tuple[int, Token]]:
-    """The same for a name or a reserved word alone; of two tokens that meet at a place the name."""
+    """The same, but only for a name or a reserved word; of two tokens that meet at a place, the name."""
     for place in (at, at - 1):
         found = token_at(text, place) if place >= 0 else None
         if found and found[1].kind in (NAME, WORD) and found[1].at <= at <= found[1].end:

@@ -22,7 +22,7 @@ class Module:
 
 @dataclass(frozen=True)
 class Cell:
-    """A cell's script and its modules, in the order of the script. What is no TOML has no modules here."""
+    """A cell's script and its modules, in the order of the script. What is not TOML has no modules here."""
 
     script: Path
     text: bytes

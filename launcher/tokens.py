@@ -64,5 +64,5 @@ def index_at(tokens: List[Token], at: int) -> int:
 
 
 def is_gap(text: bytes) -> bool:
-    """Whether bytes, such as those between two tokens, are blanks and comments alone."""
+    """Whether bytes, such as those between two tokens, are only blanks and comments."""
     return not text or all(it.lastgroup == "gap" for it in TOKEN.finditer(text))

@@ -1,7 +1,7 @@
 """The keys of a TOML text and where they stand.
 
 Python's own reader of TOML gives values without places, and Python before 3.11 has none. This scanner gives the places, and the
-strings of a value. What is no TOML it passes over: it refuses nothing.
+strings of a value. It skips what is not TOML, and refuses nothing.
 """
 import re
 from dataclasses import dataclass, field

@@ -54,7 +54,7 @@ def show_check(found: Program, script: Path, files: int) -> None:
     rows = shutil.get_terminal_size().lines if is_terminal else 1000
     lines, summary = answer_of(found, script, rows - 3)
     proof = "" if found.is_proved else ", not proved"
-    status = f"{time.strftime('%H:%M:%S')} {summary}{proof}; {files} files are watched, Ctrl-C ends"
+    status = f"{time.strftime('%H:%M:%S')} {summary}{proof}; watching {files} files, Ctrl-C ends"
     put_out((CLEAR if is_terminal else "") + "".join(f"{line}\n" for line in (*lines, status)))
 
 

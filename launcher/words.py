@@ -1,4 +1,4 @@
-"""The command line: takes the launcher's words, and hands the others to the program."""
+"""The command line: takes the launcher's words, and passes the others to the program."""
 import os
 import signal
 from dataclasses import dataclass
@@ -36,15 +36,17 @@ class Asked:
 
 
 def main(given: Sequence[str]) -> int:
-    """Does what the words ask, and gives the status."""
+    """Does what the words ask, and returns the status."""
     open_closed_streams()
     for it in (signal.SIGTERM, signal.SIGHUP):
-        signal.signal(it, end)
+        # `nohup` has SIGHUP ignored.
+        if signal.getsignal(it) != signal.SIG_IGN:
+            signal.signal(it, end)
     try:
         return ask([os.fsencode(word) for word in given])
     except NotPrinted as failed:
         if str(failed):
-            say(f"not all could be printed ({failed}): see where standard output goes")
+            say(f"not everything could be printed ({failed}): check where standard output goes")
         return NOT_PRINTED
     except KeyboardInterrupt:
         put_err(b"\n")
@@ -53,12 +55,12 @@ def main(given: Sequence[str]) -> int:
     except Ended as ended:
         return ended.status
     except (OSError, ImportError) as error:
-        say(f"{error}: the checkout is not whole, or you may not read it")
+        say(f"{error}: the checkout is incomplete, or you may not read it")
         return BROKEN
 
 
 class Ended(BaseException):
-    """Somebody ended the launcher by a signal."""
+    """The launcher was ended by a signal."""
 
     def __init__(self, status: int) -> None:
         self.status = status
@@ -172,13 +174,13 @@ OWN: Dict[bytes, Callable[[Sequence[bytes]], int]] = {
 
 
 def of_program(asked: Asked) -> int:
-    """Hands the words to the program, and adds what helps to what it says."""
+    """Passes the words to the program, and adds what helps to its answer."""
     words = asked.words
     place = refused_place(words)
     is_text = all(map(hints.is_utf8, words))
     found = found_program(asked)
     if place is not None and (not is_text or not found):
-        # Wrong words are told at once, and not after a long build.
+        # Wrong words are reported at once, and not after a long build.
         put_err(b"rapid_cell: words %d\n" % place)
         return helped(asked, REFUSED, b"rapid_cell: words %d\n" % place)
     if not found and not build.has_kit():
@@ -227,7 +229,7 @@ def made_program(asked: Asked) -> Optional[Program]:
 
 
 def helped(asked: Asked, status: int, said: bytes) -> int:
-    """Adds what helps to a refusal that the program told, and gives the status, which nothing here changes."""
+    """Adds what helps to a refusal of the program, and returns the status, which nothing here changes."""
     if asked.is_plain:
         return status
     try:
@@ -238,7 +240,7 @@ def helped(asked: Asked, status: int, said: bytes) -> int:
         for line in shown(refusal, asked.words, is_coloured()) if refusal else []:
             show(line)
     except Exception as error:
-        say(f"no more can be said of it ({error})")
+        say(f"it cannot be explained ({error})")
     return status
 
 

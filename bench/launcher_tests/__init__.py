@@ -1,10 +1,17 @@
 """Tests of the launcher, the examples and the documents. bench/launcher_test runs them.
 
-    common      what all of them need: starting the launcher, comparing, tables of the documents
-    cells       every example and every module of the documents, with what it has to answer
-    words       the command line, the help, completion, and streams that fail
-    explained   every word that `explain` has to know
-    building    building, and the unproved program that is kept, with a kit that only pretends
-    readme      the commands of README.md
-    editors     the patterns of docs/EDITORS.md
+    common       what all of them need: starting the launcher, comparing, tables of the documents
+    cells        every example and every module of the documents, with what it has to answer
+    words        the command line, the help, completion, and streams that fail
+    refused      refusals, as they are shown
+    all_faults   `check --all`, on the five cells of abb/
+    explained    every word that `explain` has to know
+    building     building, and the unproved program that is kept, with a kit that only pretends
+    damage       damaged or strange files, names and checkouts, and signals
+    watched      `watch`
+    threads      a cell whose threads the system refuses
+    readme       the commands of README.md, and the links of all pages
+    from_abb     the steps of docs/FROM_ABB.md
+    editors      the patterns of docs/EDITORS.md
+    lsp          the language server, by lsp_client on the cell of lsp_cell; lsp_editors has it in Neovim and Emacs
 """

@@ -84,7 +84,7 @@ def try_shown():
     """What is added to a cell's errors, and how the search ends."""
     folder = CELLS / "welding"
     status, out, err = ask(*options, "check", "--all", folder / "cell.toml")
-    compare("errors counted", "launcher: 25 errors; those after the first were found with the ones before left out of a copy" in err, True)
+    compare("errors counted", "launcher: 25 errors; those after the first were found in a copy without the earlier ones" in err, True)
     compare("each with its line", len(re.findall(r"^ +--> ", err, re.M)), 25)
     with tempfile.TemporaryDirectory() as copy:
         script = Path(copy, "cell.toml")
@@ -94,7 +94,7 @@ def try_shown():
         text = module.read_bytes()
         module.write_bytes(text.replace(b"    EXIT;\n  ENDPROC", b"    EXIT;\n", 1))
         status, out, err = ask(*options, "check", "--all", script)
-        compare("a form without its end", (status, "Weld.mod is not checked after its last error" in err), (4, True))
+        compare("a form without its end", (status, "Weld.mod was not checked beyond its last error" in err), (4, True))
         module.write_bytes(b"MODULE Weld\n  PROC main()\n" + b"    MoveL p, v10, fine, tool0;\n" * 60 + b"  ENDPROC\nENDMODULE\n")
         status, out, err = ask(*options, "check", "--all", "--plain", script)
         compare("fifty errors at most", (status, len(err.splitlines())), (4, 50))
@@ -102,5 +102,5 @@ def try_shown():
         compare("no error", ask(*options, "check", "--all", "--plain", script), (0, "accepted\n", ""))
         module.unlink()
         status, out, err = ask(*options, "check", "--all", script)
-        compare("no module", (status, "there is no file" in err, "Weld.mod is not checked" in err), (5, True, True))
+        compare("no module", (status, "there is no file" in err, "Weld.mod was not checked" in err), (5, True, True))
     ask(*options, "check", "--all", "--history")

@@ -173,11 +173,17 @@ def wait_for(what):
 
 
 def try_real_one():
-    """The program that the kit's own `rt try` made answers at once."""
-    start = time.monotonic()
+    """The program that the kit's own `rt try` made is kept, and from then on answers within half a second of processor time."""
     wanted = (EXAMPLES / "first_move/round.txt").read_text().partition("\n")[2]
     status, out, err = launch("--unproved", "round", EXAMPLES / "first_move/cell.toml", timeout=3600)
     compare("--unproved: answer", (status, out, NOT_PROVED in err), (0, wanted, True))
-    start = time.monotonic()
-    launch("--unproved", "--plain", "check", EXAMPLES / "first_move/cell.toml")
-    print(f"an unproved check takes {time.monotonic() - start:.2f} s", flush=True)
+    took = min(seconds_of("--unproved", "check", EXAMPLES / "first_move/cell.toml") for _ in range(3))
+    compare("--unproved: half a second", took < 0.5, True)
+    print(f"an unproved check takes {took:.2f} processor seconds", flush=True)
+
+
+def seconds_of(*words):
+    """The processor time of an answer."""
+    before = sum(os.times()[2:4])
+    launch(*words)
+    return sum(os.times()[2:4]) - before

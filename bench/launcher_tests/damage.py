@@ -1,4 +1,5 @@
 """Files, names and checkouts that are damaged or strange: one line that says what to do, and a status."""
+import errno
 import os
 import shutil
 import signal
@@ -26,7 +27,7 @@ def try_names():
         strange = os.path.join(os.fsencode(folder), b"\xff\xfe")
         shutil.copytree(os.fsencode(str(FIRST)), strange)
         status, out, err = ask(*options, "check", strange + b"/cell.toml", cwd=folder)
-        said = "is not valid UTF-8: give the file or its folder another name"
+        said = "is not valid UTF-8: rename the file or its folder"
         compare("a name that is no text", (status, out, err.splitlines()[0], said in err), (2, "", "rapid_cell: words 1", True))
         compare("the same from within", ask("--plain", *options, "check", "cell.toml", cwd=strange), (0, "accepted\n", ""))
         Path(folder, "one\nline").mkdir()
@@ -34,7 +35,7 @@ def try_names():
         compare("a name of two lines", (status, out, "there is no file one\\nline/none.toml" in err), (5, "", True))
         compare("an empty name", ask(*options, "check", "", cwd=folder)[0], 5)
         compare("a long name", ask(*options, "check", "x" * 5000, cwd=folder)[0], 5)
-        compare("a name with a byte 0", "no name of a file" in unread("\0"), True)
+        compare("a name with a byte 0", "not a valid file name" in unread("\0"), True)
         try_pipe(folder)
 
 
@@ -65,6 +66,32 @@ def try_pipe(folder):
     compare("a pipe without a writer", (b"is a pipe" in line, started.returncode, text_of(err).splitlines()[-1]), (True, 130, "launcher: stopped"))
 
 
+def try_signal_at_start():
+    """A signal that comes while the program is being started ends it too: nobody reads the pipe any more."""
+    with tempfile.TemporaryDirectory() as folder:
+        pipe = Path(folder, "pipe.toml")
+        os.mkfifo(pipe)
+        status, out, err = ask(*options, "check", pipe, before=signal_at_start)
+        compare("a signal at the start", (status, out, err.splitlines()[-1]), (130, "", "launcher: stopped"))
+        try:
+            os.close(os.open(pipe, os.O_WRONLY | os.O_NONBLOCK))
+            compare("a signal at the start: nothing runs on", True, False)
+        except OSError as error:
+            compare("a signal at the start: nothing runs on", error.errno, errno.ENXIO)
+
+
+def signal_at_start():
+    """Sends Ctrl-C to this process right after it has started another one."""
+    real = subprocess.Popen
+
+    def start(*words, **how):
+        child = real(*words, **how)
+        os.kill(os.getpid(), signal.SIGINT)
+        return child
+
+    subprocess.Popen = start
+
+
 def try_rights():
     """What may not be read, as a user without rights sees it."""
     if os.geteuid() != 0:
@@ -76,7 +103,7 @@ def try_rights():
         for file in ("cell.toml", "first_move.mod"):
             Path(folder, "cell", file).chmod(0)
             status, out, err = ask(*options, "check", "cell/cell.toml", cwd=folder, before=as_nobody)
-            compare(f"{file} without rights", (status, "may not be read by you" in err), (5, True))
+            compare(f"{file} without rights", (status, "you may not read" in err), (5, True))
             Path(folder, "cell", file).chmod(0o644)
 
 
@@ -103,7 +130,7 @@ def try_checkouts():
         for name, words in (
             ("launcher/words.py", ("check", "a.toml")),
             ("docs/LANGUAGE.md", ("explain", "NoName")),
-            ("launcher/manual.txt", ("explain", "MoveL")),
+            ("launcher/manual.txt", ("explain", "SocketSend")),
             ("crates.txt", ("check", "a.toml")),
             ("crates.txt", ("build",)),
         ):
@@ -123,7 +150,7 @@ def try_checkouts():
         Path(folder, "cell/m.mod").write_text("MODULE M\nENDMODULE\n")
         status, out, err = frame.start("check", script)
         compare("a refusal without the documents", (status, out, err.splitlines()[1]), (4, "", "rapid_cell: module m.mod 1:1 NoName"))
-        compare("it says so", "no more can be said of it" in err, True)
+        compare("it says so", "it cannot be explained" in err, True)
 
 
 def try_pythons():

@@ -1,4 +1,4 @@
-"""README.md: its commands, and its length."""
+"""README.md: its commands, its length, and the links of all pages."""
 import re
 import shutil
 import subprocess
@@ -8,9 +8,12 @@ from pathlib import Path
 from . import common
 from .common import EXAMPLES, LAUNCHER, TOP, compare, text_of
 
-# The most words above what is for engineers.
+# The most words of the page, as `wc -w` counts them.
 MOST = 600
 NOT_PROVED = "launcher: not proved; ./rapid_cell build proves the program, in an hour or more"
+# The words that the program does not answer, and the command that takes an hour.
+OWN = ("explain", "--help")
+LONG = "./rapid_cell build"
 
 
 def text():
@@ -18,11 +21,10 @@ def text():
 
 
 def try_readme():
-    """Each command that README.md shows, in a folder of its own, gives the lines that stand below it, of which `...` stands for
-    any. What breaks and mends the module there is done as it says."""
+    """Each command that README.md shows, in a folder of its own: with the lines below it, in which `...` stands for any lines, or
+    with its status alone. What breaks and mends the module there is done as it says."""
     with tempfile.TemporaryDirectory() as folder:
-        for name in ("first_move", "press_cell"):
-            shutil.copytree(EXAMPLES / name, Path(folder, "examples", name))
+        shutil.copytree(EXAMPLES, Path(folder, "examples"))
         Path(folder, "rapid_cell").symlink_to(LAUNCHER)
         module = Path(folder, "examples/first_move/first_move.mod")
         whole = module.read_text()
@@ -30,24 +32,54 @@ def try_readme():
         for block in re.findall(r"(?:^    .*\n)+", text(), re.M):
             module.write_text(whole.replace("fine", "z10", 1) if "CornerZone" in block else whole)
             for command, lines in re.findall(r"^    \$ (.*)\n((?:    (?!\$ ).*\n)*)", block, re.M):
-                try_command(folder, command, re.sub("^    ", "", lines, flags=re.M))
+                try_lines(folder, command, re.sub("^    ", "", lines, flags=re.M))
                 tried += 1
-        compare("commands of README.md", tried >= 7, True)
+        module.write_text(whole)
+        for command in re.findall(r"`(\./rapid_cell [^`]*)`", text()):
+            if command != LONG:
+                ran = start(folder, command)
+                compare(f"README.md, {command}", (ran[0], bool(ran[1] + ran[2])), (4 if "/faults/" in command else 0, True))
+                tried += 1
+        compare("commands of README.md", tried >= 11, True)
 
 
-def try_command(folder, command, lines):
-    ran = subprocess.run(command.split() + common.options, cwd=folder, stdout=subprocess.PIPE, stderr=subprocess.PIPE)
-    err = text_of(ran.stderr).splitlines(True)
-    got = text_of(ran.stdout) + "".join(line for line in err if not line.startswith("launcher: "))
+def try_lines(folder, command, lines):
+    status, out, err = start(folder, command)
+    got = out + "".join(line for line in err.splitlines(True) if not line.startswith("launcher: "))
     wanted = re.escape(lines).replace(re.escape("...\n"), "(?:.*\n)+")
     compare(f"README.md, {command}", (bool(re.fullmatch(wanted, got)), got), (True, got))
-    # Which of the two programs answered, as the page says.
-    if command.split()[1] != "explain":
-        is_proved = common.program().is_proved
-        compare(f"README.md, {command}, proved", err[-1:] == [f"{NOT_PROVED}\n"], not is_proved)
+
+
+def start(folder, command):
+    """Gives a command, and sees that the page says right which of the two programs answers."""
+    words = command.split()
+    ran = subprocess.run(words + common.options, cwd=folder, stdout=subprocess.PIPE, stderr=subprocess.PIPE)
+    err = text_of(ran.stderr)
+    if words[1] not in OWN:
+        compare(f"README.md, {command}, proved", err.splitlines()[-1:] == [NOT_PROVED], not common.program().is_proved)
+    return ran.returncode, text_of(ran.stdout), err
 
 
 def try_readme_words():
-    front = text().partition("## For engineers")[0]
-    compare("README.md, words of the front page", len(front.split()) <= MOST, True)
-    compare("README.md, the line of the unproved program", NOT_PROVED in front, True)
+    words = text().split()
+    compare("README.md, its words", len(words) <= MOST, True)
+    compare("README.md, the line of the unproved program", NOT_PROVED in text(), True)
+    compare("README.md, the test", re.findall(r"^    (rt .*)$", text(), re.M), ["rt ci"])
+
+
+def try_links():
+    """Each link of the pages leads to a file of the repository, and to a heading of it."""
+    tried = 0
+    for page in (TOP / "README.md", *sorted((TOP / "docs").glob("*.md"))):
+        for link in re.findall(r"\]\(([^)\s]+)\)", page.read_text(encoding="utf-8")):
+            name, _, heading = link.partition("#")
+            file = page.parent / name if name else page
+            compare(f"{page.name}, link {link}", file.exists() and (not heading or heading in headings(file)), True)
+            tried += 1
+    compare("links of README.md", tried >= 10, True)
+
+
+def headings(file):
+    """The headings of a page as links name them."""
+    found = re.findall(r"^#+ (.*)$", file.read_text(encoding="utf-8"), re.M)
+    return [re.sub(r"[^\w\- ]", "", it).strip().lower().replace(" ", "-") for it in found]

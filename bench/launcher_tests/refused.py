@@ -1,4 +1,5 @@
 """Refusals, shown with the line, a caret, the cause, and what to write instead."""
+import importlib.util
 import os
 import pty
 import re
@@ -27,6 +28,7 @@ VAR num counter;
 VAR num list{{3}};
 CONST num most := 5;
 VAR string text;
+VAR jointtarget here;
 {item}
 PROC fetch(num part, VAR num done)
 ENDPROC
@@ -37,39 +39,43 @@ ENDMODULE
 """
 # A statement of main, or an item of the module; what stands beside the caret; and notes that have to be there.
 STATEMENTS = (
-    ("^countr := 1;", "nothing here has the name `countr`", ["did you mean `counter` (line 2)?"]),
-    ("TPWrite ^txt;", "nothing here has the name `txt`", ["did you mean `text` (line 5)?"]),
-    ("^TPWrit text;", "nothing here has the name `TPWrit`", ["did you mean `TPWrite`?"]),
-    ("^fetsh 1, counter;", "nothing here has the name `fetsh`", ["did you mean `fetch` (line 7)?"]),
-    ("WaitDI ^di_prt, 1;", "nothing here has the name `di_prt`", ["did you mean `di_part` (a signal of kind di)?"]),
-    ("Set ^do_gripper;", "nothing here has the name `do_gripper`", ['a signal stands in the script: [[signal]] with name = "do_gripper" and kind = "do"']),
-    ("^MoveL text, v100, fine, tool0;", "`MoveL` is an instruction of RAPID that is not supported", ["write instead: a move is `MoveAbsJ`"]),
+    ("^countr := 1;", "nothing here is named `countr`", ["did you mean `counter` (line 2)?"]),
+    ("TPWrite ^txt;", "nothing here is named `txt`", ["did you mean `text` (line 5)?"]),
+    ("^TPWrit text;", "nothing here is named `TPWrit`", ["did you mean `TPWrite`?"]),
+    ("^fetsh 1, counter;", "nothing here is named `fetsh`", ["did you mean `fetch` (line 8)?"]),
+    ("WaitDI ^di_prt, 1;", "nothing here is named `di_prt`", ["did you mean `di_part` (a signal of kind di)?"]),
+    ("Set ^do_gripper;", "nothing here is named `do_gripper`", ['a signal is declared in the script: [[signal]] with name = "do_gripper" and kind = "do"']),
+    ("^MoveL text, v100, fine, tool0;", "`MoveL` is an instruction of RAPID that is not supported", ["write instead: `MoveAbsJ` to a jointtarget"]),
     ("counter := ^Sqrt(2);", "`Sqrt` is a function of RAPID that is not supported", ["write instead: a table of values"]),
     ("counter := ^ERR_WAIT_MAXTIME;", "`ERR_WAIT_MAXTIME` is a predefined datum of RAPID that is not supported", []),
     ('counter := ^"a";', "this is a string", []),
     ("Reset ^di_part;", "this is a signal of kind di", ["Reset takes signaldo"]),
-    ("^most := 1;", "`most` may not be written", ["`most` is declared on line 4: CONST num"]),
-    ("^fetch 1;", "too few or too many arguments, or more than 32", ["fetch(num part, VAR num done) is declared on line 7"]),
+    ("^most := 1;", "`most` cannot be written", ["`most` is declared on line 4: CONST num"]),
+    ("^fetch 1;", "too few or too many arguments, or more than 32", ["fetch(num part, VAR num done) is declared on line 8"]),
     ("^Incr counter, 2;", "too few or too many arguments, or more than 32", ["Incr takes VAR or PERS num"]),
-    ("TPWrite text^\\Foo;", "TPWrite does not take `\\Foo` so", ["TPWrite takes string"]),
+    ("TPWrite text^\\Foo;", "TPWrite does not take `\\Foo` here", ["TPWrite takes string", "write instead: the options"]),
+    ("WaitDI di_part, 1^\\MaxTime:=5;", "WaitDI does not take `\\MaxTime` here", ["WaitDI takes signaldi", "write instead: an input of the script that ends"]),
+    ("WaitDI di_part, 1^\\Visualize;", "WaitDI does not take `\\Visualize` here", ["write instead: nothing: a wait ends"]),
+    ("counter := here.^trans;", "`trans` is a component of types of RAPID that are not supported", ["write instead: a jointtarget"]),
+    ("counter := here.^rax_9;", "no type here has a component `rax_9`", ["did you mean `rax_"]),
     ("counter := ^list;", "an array without an index", ["`list` is declared on line 3: VAR num"]),
     ("counter := counter + ^;", "expected a value, found the mark `;`", []),
-    ("counter := 1\n^Set do_lamp;", "expected an operator or `;`, found the name `Set`", ["`;` is perhaps missing at the end of line 10, after `1`"]),
-    ("IF counter = 1 THEN\ncounter := 2;\n^", "found the word `ENDPROC`", ["ENDIF is perhaps missing: IF of line 10 is open here"]),
-    ("WHILE TRUE DO\nIF TRUE THEN\ncounter := 2;\n^ENDWHILE", "found the word `ENDWHILE`", ["ENDIF is perhaps missing: IF of line 11 is open here"]),
+    ("counter := 1\n^Set do_lamp;", "expected an operator or `;`, found the name `Set`", ["perhaps `;` is missing at the end of line 11, after `1`"]),
+    ("IF counter = 1 THEN\ncounter := 2;\n^", "found the word `ENDPROC`", ["perhaps ENDIF is missing: the IF of line 11 is still open here"]),
+    ("WHILE TRUE DO\nIF TRUE THEN\ncounter := 2;\n^ENDWHILE", "found the word `ENDWHILE`", ["perhaps ENDIF is missing: the IF of line 12 is still open here"]),
     ("counter := ^<EXP>;", "expected an expression, found the mark `<`", ["write instead:"]),
     ("MoveAbsJ ^*, v100, fine, tool0;", "found the mark `*`", ["write instead:"]),
-    ("IF TRUE AND ^NOT FALSE EXIT;", "found the word `NOT`", ["NOT stands first in an expression alone: write `(NOT ...)` here"]),
+    ("IF TRUE AND ^NOT FALSE EXIT;", "found the word `NOT`", ["NOT may stand only at the start of an expression: write `(NOT ...)` here"]),
     ("counter := 2 * ^-counter;", "found the mark `-`", ["write instead:"]),
-    ('TPWrite "caf^é";', "'é' stands in comments alone", ["write instead: characters from space to `~`"]),
-    ("\t\tcounter := ^$1; ! ß", "'$' stands in comments alone", []),
-    ("counter := 1; ! ü\n\tcounter := \t^zork;", "nothing here has the name `zork`", []),
+    ('TPWrite "caf^é";', "'é' is allowed only in comments", ["write instead: characters from space to `~`"]),
+    ("\t\tcounter := ^$1; ! ß", "'$' is allowed only in comments", []),
+    ("counter := 1; ! ü\n\tcounter := \t^zork;", "nothing here is named `zork`", []),
 )
 ITEMS = (
     ("VAR ^robtarget over;", "`robtarget` is a data type of RAPID that is not supported", ["write instead: a jointtarget"]),
-    ("VAR ^jointtarge over;", "nothing here has the name `jointtarge`", ["did you mean `jointtarget`"]),
+    ("VAR ^jointtarge over;", "nothing here is named `jointtarge`", ["did you mean `jointtarget`"]),
     ("VAR num ^counter;", "this name is declared twice", ["`counter` is declared on line 2: VAR num"]),
-    ("VAR num ^low;", "`low` is predefined: data", []),
+    ("VAR num ^low;", "`low` is a predefined name (data)", []),
     ("VAR num ^do_lamp;", "`do_lamp` is a signal of the script", []),
     ("^RECORD part num mass; ENDRECORD", "RECORD is not supported", ["write instead:"]),
     ("VAR num places{2^,3};", "found the mark `,`", ["write instead: one dimension"]),
@@ -115,7 +121,7 @@ def try_module(folder, given, text, label, notes):
 
 SCRIPTS = (
     ("version = 1", "version 1", "--> cell.toml:1:9", "Expected '=' after a key"),
-    ('"A"', '"A', "--> cell.toml:12:10", "Illegal character"),
+    ('"A"', '"A', "--> cell.toml:12:10", "perhaps a quote is missing"),
     ("[0, 0, 0, 0, 0, 0]", "[0, 0]", "--> cell.toml:14:1", "`arm` is optional: an array of six integers"),
     ('modules = ["m.mod"]', "", "--> cell.toml:11:1", "`modules` is an array of 1 to 16 texts"),
     ("arm = ", "arms = ", "--> cell.toml:14:1", "did you mean `arm`?"),
@@ -129,7 +135,9 @@ def try_scripts():
     with tempfile.TemporaryDirectory() as folder:
         Path(folder, "m.mod").write_text(FRAME.format(item="", statement=""))
         script = Path(folder, "cell.toml")
-        for one, other, place, said in SCRIPTS:
+        # Python has a reader of TOML from 3.11 on.
+        some = SCRIPTS if importlib.util.find_spec("tomllib") else SCRIPTS[2:]
+        for one, other, place, said in some:
             script.write_text(SCRIPT.replace(one, other, 1))
             status, out, err = ask(*options, "check", "cell.toml", cwd=folder)
             whole = " ".join(it.strip(" =") for it in err.splitlines())
@@ -164,7 +172,7 @@ def try_colours():
         Path(folder, "m.mod").write_text(FRAME.format(item="", statement="zork;"))
         for more, wanted in (({}, True), ({"NO_COLOR": "1"}, False), ({"TERM": "dumb"}, False)):
             said = on_terminal(folder, {**os.environ, "TERM": "xterm", "NO_COLOR": "", **more})
-            compare(f"colours with {more}", (b"\x1b[" in said, b"nothing here has the name" in said), (wanted, True))
+            compare(f"colours with {more}", (b"\x1b[" in said, b"nothing here is named" in said), (wanted, True))
         compare("no colours on no terminal", "\x1b[" in ask(*options, "check", "cell.toml", cwd=folder)[2], False)
 
 

@@ -23,6 +23,9 @@ STACK, REST = 512 * 2**20, 256 * 2**20
 def try_refused_threads():
     """Runs a cell with room for the stacks of so many threads, from none to one for each task: the system refuses the others. The
     tasks that get no thread, the first ones, take turns, and each of the others has its own lines in order."""
+    if not program().is_proved:
+        print("the unproved program reserves too much of the address space: refused threads are not tried")
+        return
     with tempfile.TemporaryDirectory() as folder:
         script = write_cell(folder, "saying", SAYING, SAYERS)
         by_turns = launch("--plain", *options, "round", script)[1].splitlines()

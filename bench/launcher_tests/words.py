@@ -48,12 +48,12 @@ def try_meant():
             (("chek", "first/cell.toml"), "there is no action chek: did you mean check?"),
             (("explian", "NoName"), "there is no action explian: did you mean explain?"),
             (("check", "--al", "first/cell.toml"), "there is no option --al: did you mean --all?"),
-            (("first/cell.toml",), "an action stands before the script: ./rapid_cell check first/cell.toml"),
+            (("first/cell.toml",), "an action comes before the script: ./rapid_cell check first/cell.toml"),
             (("check", "first"), "first is a folder: did you mean first/cell.toml?"),
             (("check", "first/cel.toml"), "there is no file first/cel.toml: did you mean first/cell.toml?"),
-            (("check", "frist/cell.toml"), "frist/cell.toml is not there: there is no folder frist"),
+            (("check", "frist/cell.toml"), "frist/cell.toml does not exist: there is no folder frist"),
             (("check",), "check takes the script of a cell: ./rapid_cell check examples/first_move/cell.toml"),
-            (("check", "my", "cell.toml"), "cell.toml is one word too many: a name with spaces stands in quotes"),
+            (("check", "my", "cell.toml"), "cell.toml is one word too many: put a name with spaces in quotes"),
             (("completion", "fish"), "completion takes one of bash, zsh; ./rapid_cell --help lists the words"),
             (("build", "x"), "build takes no other word; ./rapid_cell --help lists the words"),
             (("--all", "round", "first/cell.toml"), "--all goes with check; ./rapid_cell --help lists the words"),
@@ -86,7 +86,7 @@ def try_version():
 def try_streams():
     """Standard output that is closed, full or not read; standard error that is."""
     full = os.open("/dev/full", os.O_WRONLY)
-    said = "launcher: not all could be printed (No space left on device): see where standard output goes\n"
+    said = "launcher: not everything could be printed (No space left on device): check where standard output goes\n"
     for words in (("--help",), ("explain", "NoName"), ("--version",), ("completion", "bash")):
         compare(f"{words} to a full device", ask(*words, before=lambda: os.dup2(full, 1)), (6, "", said))
         status, out, err = ask(*words, before=lambda: os.close(1))
