@@ -23,7 +23,6 @@ pub checked_is : (script : ScriptData) (made : MadeCell) (number : ℕ) (tree : 
 checked_is script made number tree accepted there =
     let h = accepted_right script made number tree accepted there in record {
       signals = length made.cell.signals;
-      arm = is_some h.row.arm;
       cell = made.cell;
       number = number;
       typed = h.typed;

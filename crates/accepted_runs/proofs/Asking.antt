@@ -45,9 +45,9 @@ pub may_next : (script : ScriptData) (made : MadeCell) (task : ℕ) (tree : Type
 may_next script made task tree mine request accepted there own due =
     let h = accepted_right script made task tree accepted there in
     let answers : List Answer = map (λ (e : Event). e.answer) mine in
-    let c : Setting = record { signals = length made.cell.signals; arm = is_some h.row.arm; tree = tree } in
+    let c : Setting = record { signals = length made.cell.signals; tree = tree } in
     let now : (d : Data) × (state_after tree answers ≡ Asking request d) = is_asking tree answers request due in
-    let may : IsAsked c now.0 request = asked (length made.cell.signals) (is_some h.row.arm) made.cell task tree answers request now.0 h.typed h.numbered now.1 in
+    let may : IsAsked c now.0 request = asked (length made.cell.signals) made.cell task tree answers request now.0 h.typed h.numbered now.1 in
     let suits : IsTrue (suits_actor made.cell task (own_events task tree answers) request) = may_be_asked made.cell task h.row tree answers request h.there h.typed h.numbered due in
     and_from (is_offered request) (suits_actor made.cell task mine request) (offered c now.0 request may)
     (subst (λ (events : List Event). IsTrue (suits_actor made.cell task events request)) (sym (are_own task tree mine own)) suits)
@@ -70,7 +70,7 @@ goes_on script made history task accepted within legal going =
     let mine : List Event = part_of task history in
     let course = own_part made.trees made.cell history task t.0 within t.1 legal in
     let next : (request : Request) × (asked_after t.0 (answers_of task history) ≡ asks request) =
-    asks_on (length made.cell.signals) (is_some h.row.arm) made.cell task t.0 mine h.typed h.numbered (tree_own made.cell task t.0 mine course) (tree_fit made.cell task t.0 mine course) going in
+    asks_on (length made.cell.signals) made.cell task t.0 mine h.typed h.numbered (tree_own made.cell task t.0 mine course) (tree_fit made.cell task t.0 mine course) going in
     (next.0, asks_by made.trees task t.0 (answers_of task history) next.0 t.1 next.1)
 
 pub ask_well : (script : ScriptData) (made : MadeCell) → IsAccepted script made → TasksAskWell (tree_asks made.trees) made.cell

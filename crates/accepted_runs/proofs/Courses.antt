@@ -40,7 +40,7 @@ module _ (script : ScriptData) (made : MadeCell) (task : ℕ) (tree : TypedTree)
 
   fits_tree : (mine : List Event) → IsTreeCourse mine → FitsSteps tree (answers_in mine)
   fits_tree mine course =
-      fits_steps (length made.cell.signals) (is_some right.row.arm) made.cell task tree mine right.typed right.numbered (tree_own made.cell task tree mine course) (tree_fit made.cell task tree mine course)
+      fits_steps (length made.cell.signals) made.cell task tree mine right.typed right.numbered (tree_own made.cell task tree mine course) (tree_fit made.cell task tree mine course)
 
   -- what the code asks after a course of the tree, the tree asks
   due_next : (mine : List Event) (request : Request) → IsTreeCourse mine → CodeAsks (compiled tree) (answers_in mine) request → TreeAsks tree (answers_in mine) request

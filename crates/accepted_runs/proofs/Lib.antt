@@ -3,3 +3,4 @@ pub mod Trees
 pub mod Asking
 pub mod Programs
 pub mod Courses
+mod Fits

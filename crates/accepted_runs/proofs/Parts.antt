@@ -39,5 +39,5 @@ own_part trees cell history task tree within there legal =
 pub tree_own : (cell : CellData) (task : ℕ) (tree : TypedTree) (mine : List Event) → IsCourse TreeAsks cell task tree mine → AreOwn task tree mine
 tree_own cell task tree mine course = record { its = λ before after e cut. (course.at before after e cut).own; due = λ before after e cut. (course.at before after e cut).asked }
 
-pub tree_fit : (cell : CellData) (task : ℕ) (tree : TypedTree) (mine : List Event) → IsCourse TreeAsks cell task tree mine → AreFit cell mine
+pub tree_fit : (cell : CellData) (task : ℕ) (tree : TypedTree) (mine : List Event) → IsCourse TreeAsks cell task tree mine → AreFit cell task mine
 tree_fit cell task tree mine course = record { at = λ before after e cut. (course.at before after e cut).fits }

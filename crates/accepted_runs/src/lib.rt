@@ -5,6 +5,6 @@
 mod laws;
 
 pub use laws::{
-    accepted_code_suits_its_task, accepted_tasks_ask_as_their_code, accepted_tasks_ask_well,
-    tasks_ask_one_request,
+    accepted_code_fits_its_task, accepted_code_suits_its_task, accepted_tasks_ask_as_their_code,
+    accepted_tasks_ask_well, tasks_ask_one_request,
 };

@@ -68,7 +68,8 @@ fn one_arm(alloc: Global) -> Result<Cell, Memory>
     name.push(b'A');
     let arm = Some(home());
     let mut tasks = Vec::new(alloc);
-    tasks.push(TaskRow { name, arm }).map_err(|_| Memory)?;
+    let axes = 6;
+    tasks.push(TaskRow { name, arm, axes }).map_err(|_| Memory)?;
     Ok(Cell {
         steps: 1,
         tasks: Sequence::from_vec(tasks),
@@ -82,7 +83,7 @@ fn one_arm(alloc: Global) -> Result<Cell, Memory>
 
 /// Axes 1 to 6 at 0, no external axes.
 fn home() -> Joints
-    ensures { IsTrue (is_position result) }
+    ensures { IsTrue (is_position 6 result) }
 {
     let zero = Num::new(0).unwrap();
     let absent = Num::new(9_000_000_000_000).unwrap();

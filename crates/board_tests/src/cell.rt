@@ -23,7 +23,8 @@ pub(crate) fn board_cell(alloc: Global) -> Result<Cell, Fail>
     let tasks = vec![in alloc;
         TaskRow {
             name: name(b'A'),
-            arm
+            arm,
+            axes: 0
         },
     ]?;
     let signals = vec![in alloc;

@@ -1,6 +1,6 @@
 //! A cell of two tasks with arms, two signals and three zones.
 
-ghost use Rattle.std.specs.Prelude.{◌≡◌, ◌<◌, ◌≤◌, ◌*◌, [], ◌∷◌, All, length, IfOk, IsTrue, is_some, pos};
+ghost use Rattle.std.specs.Prelude.{◌≡◌, ◌<◌, ◌≤◌, ◌*◌, [], ◌∷◌, All, length, IfOk, IsTrue, pos};
 ghost use Rattle.rapid_num.specs.Reach.{is_position};
 ghost use Rattle.rapid_model.specs.CellData.{starts_well};
 ghost use Rattle.rapid_model.specs.Limits.{is_zone_shape};
@@ -42,12 +42,13 @@ fn task(letter: u8) -> TaskRow
     requires low { 65 ≤ letter }
     requires high { letter ≤ 90 }
     ensures name { result.name ≡ letter ∷ [] }
-    ensures arm { IsTrue (is_some result.arm) }
+    ensures axes { result.axes ≡ 6 }
     ensures start { IsTrue (starts_well result) }
 {
     TaskRow {
         name: name(letter),
         arm: Some(at(0)),
+        axes: 6,
     }
 }
 
@@ -68,7 +69,7 @@ fn zone(task: u32, shape: Shape, signal: u32, value: bool) -> ZoneRow
 
 /// Axis 1 at so many degrees, the others at 0, no external axes.
 pub(crate) fn at(angle: u32) -> Joints
-    ensures { angle ≤ 720 → IsTrue (is_position result) }
+    ensures { angle ≤ 720 → IsTrue (is_position 6 result) }
 {
     let zero = degrees(0);
     let absent = Num::new(9_000_000_000_000).unwrap();
@@ -92,7 +93,7 @@ pub(crate) fn at(angle: u32) -> Joints
 
 /// Inside these bounds of axis 1, in degrees.
 pub(crate) fn slab(low: u32, high: u32) -> Shape
-    ensures { low < high → high ≤ 720 → IsTrue (is_zone_shape result) }
+    ensures { low < high → high ≤ 720 → IsTrue (is_zone_shape 6 result) }
 {
     let mut bounds = [None; 12];
     bounds[0] = Some(Bound {

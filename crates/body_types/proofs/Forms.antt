@@ -6,7 +6,7 @@ use Rattle.std.specs.declared.alloc.Global.{Global}
 use Rattle.std.specs.declared.boxed.Box.{Box}
 use Rattle.std.specs.declared.vec.Vec.{Vec}
 use Rattle.raw_trees.specs.declared.raw_bounds.RawBounds.{RawBounds}
-use Rattle.raw_trees.specs.declared.raw_expr.Operator.TheVariants as operators
+use Rattle.rapid_model.specs.declared.operator.Operator.TheVariants as operators
 use Rattle.raw_trees.specs.declared.raw_expr.RawExpr.{RawExpr}
 use Rattle.raw_trees.specs.declared.raw_name.RawName.{RawName}
 use Rattle.raw_trees.specs.declared.raw_stmt.RawStmt.{RawStmt}

@@ -1,6 +1,6 @@
 use crate::label_list::LabelList;
 use data_scopes::Scopes;
-use raw_trees::RoutineKind;
+use rapid_model::RoutineKind;
 use std::alloc::Global;
 
 /// A routine that is checked: the names of the task's modules, its module's number and its own, whether it is a procedure, a

@@ -12,8 +12,8 @@ use crate::targets::{named, no_signal};
 use data_scopes::Meant;
 use expr_types::{call_arguments, instruction_signature, lent_place, routine_signature};
 use named_data::{Site, fault};
-use rapid_model::{Instruction, Sort};
-use raw_trees::{RawArg, RawName, RawPlace, RoutineKind};
+use rapid_model::{Instruction, RoutineKind, Sort};
+use raw_trees::{RawArg, RawName, RawPlace};
 use rule_checks::{TypeFault, TypeRule};
 use typed_trees::Stmt;
 

@@ -12,8 +12,8 @@ use crate::around::Around;
 use crate::body::Body;
 use expr_types::typed;
 use named_data::{Site, Wanted, fault, must};
-use rapid_model::Sort;
-use raw_trees::{RawExpr, RoutineKind};
+use rapid_model::{RoutineKind, Sort};
+use raw_trees::RawExpr;
 use rule_checks::{TypeFault, TypeRule};
 use typed_trees::Stmt;
 

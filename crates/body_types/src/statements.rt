@@ -27,8 +27,8 @@ use crate::typed_rows::{TypedArms, TypedCases, TypedElse, TypedList, TypedOne};
 use data_scopes::number_after;
 use expr_types::typed;
 use named_data::{Site, Wanted};
-use rapid_model::Sort;
-use raw_trees::{Operator, RawForm, RawStmt};
+use rapid_model::{Operator, Sort};
+use raw_trees::{RawForm, RawStmt};
 use rule_checks::TypeFault;
 use typed_trees::Stmt;
 

@@ -1,5 +1,5 @@
 -- The limits of a script are those of its cell.
-use Rattle.std.proofs.Common.{◌≡◌, true, ◌&&◌, List, [], ◌∷◌, length, map, refl, ap, ◌∙◌}
+use Rattle.std.proofs.Common.{◌≡◌, ℕ, true, List, [], ◌∷◌, length, map, refl, ap, ◌∙◌}
 use Rattle.std.specs.List.{list_all}
 use Rattle.std.proofs.lemmas.Bool.{and_parts, and_from}
 use Rattle.std.proofs.lemmas.List.{length-map}
@@ -7,18 +7,17 @@ use Rattle.rapid_model.specs.declared.script_task.ScriptTask.{ScriptTask}
 use Rattle.rapid_model.specs.declared.signal_row.SignalRow.{SignalRow}
 use Rattle.rapid_model.specs.declared.task_row.TaskRow.{TaskRow}
 use Rattle.rapid_model.specs.CellData.{CellData, IsCell, starts_well, is_pers_cell}
-use Rattle.rapid_model.specs.Limits.{is_within, is_start, is_signal, is_zone, is_input}
+use Rattle.rapid_model.specs.Limits.{is_start, is_signal, is_zone, is_input}
 use Rattle.rapid_model.specs.Names.{is_short_name, differ}
-use Rattle.rapid_model.specs.ScriptData.{ScriptData, IsScript, is_file_name, is_task, row_of}
+use Rattle.rapid_model.specs.ScriptData.{ScriptData, IsScript, is_task, row_of}
+use Rattle.rapid_model.proofs.Scripts.{few_tasks, task_named, task_starts}
 
-starts : (tasks : List ScriptTask) → list_all is_task tasks ≡ true → list_all starts_well (map row_of tasks) ≡ true
-starts [] e = refl
-starts (task ∷ tasks) e =
-    let (here, more) = and_parts (is_task task) (list_all is_task tasks) e in
-    let (front, start) = and_parts ((is_short_name task.name && is_within 1 16 (length task.modules)) && list_all is_file_name task.modules) (is_start task.arm) here in
-    let (named, _) = and_parts (is_short_name task.name && is_within 1 16 (length task.modules)) (list_all is_file_name task.modules) front in
-    let (name, _) = and_parts (is_short_name task.name) (is_within 1 16 (length task.modules)) named in
-    and_from (starts_well (row_of task)) (list_all starts_well (map row_of tasks)) (and_from (is_short_name task.name) (is_start task.arm) name start) (starts tasks more)
+starts : (version : ℕ) (tasks : List ScriptTask) → list_all (is_task version) tasks ≡ true → list_all starts_well (map row_of tasks) ≡ true
+starts version [] e = refl
+starts version (task ∷ tasks) e =
+    let (here, more) = and_parts (is_task version task) (list_all (is_task version) tasks) e in
+    and_from (starts_well (row_of task)) (list_all starts_well (map row_of tasks))
+    (and_from (is_short_name task.name) (is_start task.axes task.arm) (task_named version task here) (task_starts version task here)) (starts version tasks more)
 
 -- what a row has of its task
 same_parts : {A : Type 0} (part : TaskRow → A) (tasks : List ScriptTask) → map part (map row_of tasks) ≡ map (λ task. part (row_of task)) tasks
@@ -33,8 +32,8 @@ IsCell-from script cell is steps tasks signals fit zones inputs =
       some_steps = rw steps is.some_steps;
       few_steps = rw steps is.few_steps;
       some_tasks = rw count is.some_tasks;
-      few_tasks = rw count is.few_tasks;
-      starts = ap (list_all starts_well) tasks ∙ starts script.tasks is.tasks;
+      few_tasks = rw count (few_tasks script is);
+      starts = ap (list_all starts_well) tasks ∙ starts script.version script.tasks is.tasks;
       task_names = ap (λ (ts : List TaskRow). differ (map (λ row. row.name) ts)) tasks ∙ ap differ (same_parts (λ row. row.name) script.tasks) ∙ is.task_names;
       few_signals = rw signals is.few_signals;
       signals = ap (list_all is_signal) signals ∙ is.signals;
@@ -42,9 +41,9 @@ IsCell-from script cell is steps tasks signals fit zones inputs =
       pers = ap (λ n. list_all (is_pers_cell n) cell.pers) count ∙ fit;
       few_zones = rw zones is.few_zones;
       zones =
-          ap (λ zs. list_all (is_zone cell.signals (map (λ row. row.arm) cell.tasks)) zs) zones
-          ∙ ap (λ ss. list_all (is_zone ss (map (λ row. row.arm) cell.tasks)) script.zones) signals
-          ∙ ap (λ arms. list_all (is_zone script.signals arms) script.zones) (ap (map (λ row. row.arm)) tasks ∙ same_parts (λ row. row.arm) script.tasks)
+          ap (λ zs. list_all (is_zone cell.signals (map (λ row. row.axes) cell.tasks)) zs) zones
+          ∙ ap (λ ss. list_all (is_zone ss (map (λ row. row.axes) cell.tasks)) script.zones) signals
+          ∙ ap (λ arms. list_all (is_zone script.signals arms) script.zones) (ap (map (λ row. row.axes)) tasks ∙ same_parts (λ row. row.axes) script.tasks)
           ∙ is.zones;
       few_inputs = rw inputs is.few_inputs;
       inputs =

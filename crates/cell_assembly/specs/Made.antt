@@ -59,6 +59,7 @@ with_numbers tree pers_of meeting_of = record {
   main = tree.main;
   pers_of = pers_of;
   meeting_of = meeting_of;
+  axes = tree.axes;
 }
 
 abbrev pub numbered : List TypedTree → List (List ℕ) → List (List ℕ) → List TypedTree

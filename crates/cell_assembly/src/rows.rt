@@ -14,6 +14,7 @@ fn task_row(task: &ScriptTask) -> TaskRow
     TaskRow {
         name: task.name.copy(),
         arm: task.arm,
+        axes: task.axes,
     }
 }
 

@@ -8,7 +8,7 @@ use Rattle.std.proofs.lemmas.List.Sums.{count_by-le-length}
 use Rattle.std.proofs.lemmas.Option.{slice_get-get_or, slice_get_within, get_or_from_slice_get}
 use Rattle.rapid_num.specs.declared.joints.Joints.{Joints}
 use Rattle.rapid_model.specs.CellData.{CellData}
-use Rattle.rapid_model.specs.Limits.{holds_where_there, has_arm, is_input, is_input_signal, is_within, is_zone, is_zone_shape}
+use Rattle.rapid_model.specs.Limits.{axes_at, holds_where_there, has_arm, is_input, is_input_signal, is_within, is_zone, is_zone_shape}
 use Rattle.rapid_model.specs.Names.{is_short_name}
 use Rattle.rapid_model.specs.Own.{part_of, is_trap, is_leave}
 use Rattle.rapid_model.specs.Paths.{fits_part, has_element, has_path, part_sort}
@@ -75,15 +75,15 @@ zones_stand cell history =
     (λ before after e is stand. subst (ZonesStand cell) (sym (zones_after-more cell before e)) (stand_with cell (zones_after cell before) e.actor e.request e.answer stand))
 
 -- each signal that a zone of the cell names is there
-zone_signals : (cell : CellData) (rows : List ZoneRow) → list_all (is_zone cell.signals (map (λ row. row.arm) cell.tasks)) rows ≡ true
+zone_signals : (cell : CellData) (rows : List ZoneRow) → list_all (is_zone cell.signals (map (λ row. row.axes) cell.tasks)) rows ≡ true
     → All (λ zone. zone.signal < length cell.signals) (map zone_of rows)
 zone_signals cell [] all k d lt = absurd (omega arith)
 zone_signals cell (row ∷ rows) all zero d lt =
-    let arms : List (Option Joints) = map (λ (row : TaskRow). row.arm) cell.tasks in
+    let arms : List ℕ = map (λ (row : TaskRow). row.axes) cell.tasks in
     let here = (and_parts (is_zone cell.signals arms row) (list_all (is_zone cell.signals arms) rows) all).0 in
-    ltb-true row.signal (length cell.signals) (and_parts (is_short_name row.name && has_arm arms row.task && is_zone_shape row.shape) (nat_lt row.signal (length cell.signals)) here).1
+    ltb-true row.signal (length cell.signals) (and_parts (is_short_name row.name && has_arm arms row.task && is_zone_shape (axes_at arms row.task) row.shape) (nat_lt row.signal (length cell.signals)) here).1
 zone_signals cell (row ∷ rows) all (suc k) d lt =
-    let arms : List (Option Joints) = map (λ (row : TaskRow). row.arm) cell.tasks in
+    let arms : List ℕ = map (λ (row : TaskRow). row.axes) cell.tasks in
     zone_signals cell rows (and_parts (is_zone cell.signals arms row) (list_all (is_zone cell.signals arms) rows) all).1 k d (omega arith)
 
 -- the stands, none of which went on more often than there were events

@@ -1,5 +1,6 @@
 -- What the boards must have for a request.
 use Rattle.std.specs.Prelude.{◌≡◌, ℕ, ◌<◌, ◌≤◌, ◌^◌, List, length, Some, IfSome, All, is_some, slice_get, IsTrue}
+use Rattle.rapid_limits.specs.declared.TheConstants.{LONGEST_QUEUE}
 use Rattle.rapid_model.specs.CellData.{CellData}
 use Rattle.rapid_model.specs.Paths.{fits_part, has_element, part_sort}
 use Rattle.rapid_model.specs.declared.input_row.InputRow.{InputRow}
@@ -76,7 +77,7 @@ pub record IsFew (actor : Actor) : Type 0 where
 -- the actor is there, each queue has its room, and no count is near the end of its range
 pub record CanCount (boards : BoardData) (actor : ℕ) : Type 0 where
   pub there : actor < length boards.actors
-  pub room : All (λ task. length task.queue ≤ 1_024) boards.traps
+  pub room : All (λ task. length task.queue ≤ LONGEST_QUEUE) boards.traps
   pub own : IsFew (actor_at boards.actors actor)
   pub counted : boards.counted < 2 ^ 31
   pub changes : boards.changes < 2 ^ 31

@@ -21,7 +21,7 @@ pub(crate) fn allows(cell: &Cell, row: &TaskRow, trapped: bool, request: &Reques
         Request::ReadS { signal } => has_signal(cell, *signal),
         Request::WriteS { signal, .. } => has_signal(cell, *signal),
         Request::Position => row.arm.is_some(),
-        Request::Setpoint { to } => row.arm.is_some() && to.is_position(),
+        Request::Setpoint { to } => row.arm.is_some() && to.is_position(usize::from(row.axes)),
         Request::Order { on, .. } => can_watch(cell, *on),
         Request::Leave => trapped,
         Request::ZoneSet { .. } => row.arm.is_some(),

@@ -11,6 +11,7 @@ ghost use Rattle.cell_meaning.specs.Interrupts.{asked_with};
 ghost use Rattle.cell_core.specs.Changes.{watched_of};
 
 use crate::change::Change;
+use rapid_limits::LONGEST_QUEUE;
 use rapid_model::{Answer, Watched};
 use trap_dispatch::{ConnectFault, Due, OrderFault, Traps, Unknown};
 
@@ -129,7 +130,7 @@ pub(crate) fn leave(traps: &mut Traps, actor: u32) -> Answer
 
 /// Fires the interrupts, of every task, whose order is on what changed. Each queue has its room.
 pub(crate) fn fire(traps: &mut Traps, change: Change)
-    requires { All (λ task. length task.queue ≤ 1_024) traps.old }
+    requires { All (λ task. length task.queue ≤ LONGEST_QUEUE) traps.old }
     ensures { traps.new ≡ map (after_changes (watched_of change)) traps.old }
 {
     match change {

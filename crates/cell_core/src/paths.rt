@@ -4,6 +4,7 @@ ghost use Rattle.std.specs.Prelude.{◌≡◌, is_some};
 ghost use Rattle.rapid_model.specs.Paths.{fits_part, has_element, has_path, num_where, part_sort};
 ghost use Rattle.rapid_model.specs.Requests.{is_bool};
 
+use rapid_limits::{MOST_AXES, ROBOT_AXES};
 use rapid_model::{PartName, Path, PersCell, Sort, Value, is_value_of};
 use rapid_values::value_is_full;
 
@@ -53,9 +54,11 @@ fn part_sort(sort: Sort, part: PartName) -> Option<Sort>
         (_, PartName::Whole) => Some(sort),
         (Sort::JointTarget, PartName::Robax) => Some(Sort::RobJoint),
         (Sort::JointTarget, PartName::Extax) => Some(Sort::ExtJoint),
-        (Sort::JointTarget, PartName::Axis(number)) => num_where(number < 12),
+        (Sort::JointTarget, PartName::Axis(number)) => num_where((number as usize) < MOST_AXES),
         (Sort::RobJoint, PartName::Axis(number)) => num_where(number < 6),
-        (Sort::ExtJoint, PartName::Axis(number)) => num_where(6 <= number && number < 12),
+        (Sort::ExtJoint, PartName::Axis(number)) => num_where(
+            ROBOT_AXES <= number as usize && (number as usize) < MOST_AXES,
+        ),
         (Sort::SpeedData, PartName::SpeedPart(number)) => num_where(number < 4),
         (Sort::Tasks, PartName::Taskname) => Some(Sort::Text),
         _ => None,

@@ -20,6 +20,7 @@ use crate::boards::{Boards, is_counted};
 use crate::fits::{allows, feeds, goes_with};
 use crate::served::Served;
 use crate::starting::starts_full;
+use rapid_limits::MOST_TASKS;
 use rapid_model::{Answer, Cell, Event, Fate, InputRow, Path, Request, Value};
 use std::alloc::Global;
 use std::marker::Model;
@@ -87,7 +88,7 @@ impl Core {
         ensures cell { self.new.cell ≡ self.old.cell }
         ensures served { Serves self.old.cell self.old.history actor request result }
         ensures history { self.new.history ≡ history_with self.old.history actor request result }
-        ensures fits { IfAnswered result (λ answer. IsTrue (fits_request (fitting_in self.old.cell (part_of actor self.old.history)) request answer)) }
+        ensures fits { IfAnswered result (λ answer. IsTrue (fits_request (fitting_in self.old.cell actor (part_of actor self.old.history)) request answer)) }
     {
         if !self.can_be_served(&request) {
             return Served::Spent;
@@ -126,7 +127,7 @@ impl Core {
         ensures cell { self.new.cell ≡ self.old.cell }
         ensures answered { IsAnswer self.old.cell self.old.history actor request result }
         ensures history { self.new.history ≡ self.old.history ++ event_of actor request result ∷ [] }
-        ensures fits { IsTrue (fits_request (fitting_in self.old.cell (part_of actor self.old.history)) request result) }
+        ensures fits { IsTrue (fits_request (fitting_in self.old.cell actor (part_of actor self.old.history)) request result) }
     {
         let index = self.events.len();
         // The request is long: it is moved once, to its place in the history, where the boards read it. Then comes the answer.
@@ -291,7 +292,7 @@ impl Core {
     /// How many tasks there are.
     pub fn task_count(&self) -> u32
         ensures same { result ≡ length self.now.cell.tasks }
-        ensures few { result ≤ 8 }
+        ensures few { result ≤ MOST_TASKS }
     {
         self.tasks
     }

@@ -55,10 +55,10 @@ module _ {P : Type 0} (program_asks : P → List Answer → Request → Type 0) 
             (same.same (answers_in before) e.request (fit before course)).0
             (subst (λ (mine : List Event). asks task (answers_in mine) e.request) c.kept (subst (λ (actor : ℕ). asks actor (answers_of actor c.front) e.request) own asks_it))
 
-        fitting : IsTrue (fits_request (fitting_in cell before) e.request e.answer)
+        fitting : IsTrue (fits_request (fitting_in cell task before) e.request e.answer)
         fitting =
-            subst (λ (mine : List Event). IsTrue (fits_request (fitting_in cell mine) e.request e.answer)) c.kept
-            (subst (λ (actor : ℕ). IsTrue (fits_request (fitting_in cell (part_of actor c.front)) e.request e.answer)) own (legal.fits c.front c.back e c.cut))
+            subst (λ (mine : List Event). IsTrue (fits_request (fitting_in cell task mine) e.request e.answer)) c.kept
+            (subst (λ (actor : ℕ). IsTrue (fits_request (fitting_in cell actor (part_of actor c.front)) e.request e.answer)) own (legal.fits c.front c.back e c.cut))
 
     -- its own events are a course
     pub own_course : IsCourse program_asks cell task program (part_of task history)

@@ -15,7 +15,7 @@ answers_in mine = map (λ e. e.answer) mine
 pub record IsStep {P : Type 0} (program_asks : P → List Answer → Request → Type 0) (cell : CellData) (task : ℕ) (program : P) (before : List Event) (e : Event) : Type 0 where
   pub own : e.actor ≡ task
   pub asked : program_asks program (answers_in before) e.request
-  pub fits : IsTrue (fits_request (fitting_in cell before) e.request e.answer)
+  pub fits : IsTrue (fits_request (fitting_in cell task before) e.request e.answer)
 
 -- A task's own events, step by step. Of a task's tree `AreOwn` and `AreFit` of task_typing say together what this says of a program.
 pub record IsCourse {P : Type 0} (program_asks : P → List Answer → Request → Type 0) (cell : CellData) (task : ℕ) (program : P) (mine : List Event) : Type 0 where

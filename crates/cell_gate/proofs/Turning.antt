@@ -149,7 +149,7 @@ pass_gained old new before after request answer turn gains =
     record {
       begins = turn.begins;
       answered = subst (λ (c : CellData). IsAnswered c before.history old.actor request answer) turn.cell gains.answered;
-      fits = subst₂ (λ (c : CellData) (es : List Event). IsTrue (fits_request (fitting_in c es) request answer)) turn.cell (sym turn.was) gains.fits;
+      fits = subst₂ (λ (c : CellData) (es : List Event). IsTrue (fits_request (fitting_in c old.actor es) request answer)) turn.cell (sym turn.was) gains.fits;
       seen = turn.seen ∙ gains.history;
       mine = turn.mine ∙ ap (λ (es : List Event). part_of old.actor es) gains.history ∙ part_of-own old.actor before.history e refl ∙ ap (λ (es : List Event). es ++ e ∷ []) (sym turn.was);
       own = turn.mine ∙ ap (λ (es : List Event). part_of old.actor es) (sym turn.seen);

@@ -37,7 +37,7 @@ pub record IsSameHolder (old new : PassData) : Type 0 where
 pub record PassGained (old : PassData) (before : List Event) (request : Request) (answer : Answer) (new : PassData) : Type 0 where
   pub begins : IsPrefix old.seen before
   pub answered : IsAnswered old.gate.cell before old.actor request answer
-  pub fits : IsTrue (fits_request (fitting_in old.gate.cell old.mine) request answer)
+  pub fits : IsTrue (fits_request (fitting_in old.gate.cell old.actor old.mine) request answer)
   pub seen : new.seen ≡ before ++ event_of old.actor request answer ∷ []
   pub mine : new.mine ≡ old.mine ++ event_of old.actor request answer ∷ []
   pub own : new.mine ≡ part_of old.actor new.seen

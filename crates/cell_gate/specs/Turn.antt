@@ -27,7 +27,7 @@ pub record GainedIf (actor : ℕ) (before after : List Event) (grew : Bool) : Ty
 -- the request got the core's answer, which fits, and is one more event
 pub record CoreGained (old : CoreData) (actor : ℕ) (request : Request) (answer : Answer) (new : CoreData) : Type 0 where
   pub answered : IsAnswered old.cell old.history actor request answer
-  pub fits : IsTrue (fits_request (fitting_in old.cell (part_of actor old.history)) request answer)
+  pub fits : IsTrue (fits_request (fitting_in old.cell actor (part_of actor old.history)) request answer)
   pub cell : new.cell ≡ old.cell
   pub history : new.history ≡ old.history ++ event_of actor request answer ∷ []
 

@@ -2,11 +2,11 @@ ghost use Rattle.std.specs.Prelude.{◌≡◌, []};
 ghost use Rattle.cell_gate.specs.Hands.{HasTaken, IsBetweenCalls, IsPlaceOf, IsSameCaller, IsSamePlace, MaySettle};
 ghost use Rattle.cell_gate.specs.Views.{after_count, after_give};
 
+use crate::backoff::Backoff;
+use crate::boxed_core::BoxedCore;
 use crate::rule::{Give, Place, Take, Top};
-use crate::steps::{count, put};
-use cell_core::Core;
+use crate::steps::{await_turn, count, put};
 use std::sync::Wait;
-use std::thread::yield_now;
 
 /// An actor at the gate's table.
 #[derive(Drop)]
@@ -15,11 +15,13 @@ pub struct Caller {
     pub actor: u32,
     /// How many events it has seen.
     pub len: u32,
+    /// Its pauses since its last event.
+    pub backoff: Backoff,
 }
 
 impl Caller {
     /// Waits for the turn, takes it, and takes the core out of its slot.
-    pub(crate) fn take<R: Wait>(&mut self, rt: &R, top: &Top) -> Core
+    pub(crate) fn take<R: Wait>(&mut self, rt: &R, top: &Top) -> BoxedCore
         requires place { IsPlaceOf top.now.table_id self.old.place }
         requires between { IsBetweenCalls self.old }
         ensures same { IsSameCaller self.old self.new }
@@ -31,13 +33,13 @@ impl Caller {
             if found == 0 {
                 return top.exchange(&mut self.place, 0, None).unwrap();
             }
-            yield_now();
+            await_turn(rt, top);
         }
         unreachable!()
     }
 
     /// Puts the core back, which gained an event or did not, counts the event, and gives the turn on.
-    pub(crate) fn settle(&mut self, top: &Top, core: Core, grew: bool)
+    pub(crate) fn settle(&mut self, top: &Top, core: BoxedCore, grew: bool)
         requires place { IsPlaceOf top.now.table_id self.old.place }
         requires may { MaySettle self.old core grew }
         ensures same { IsSamePlace self.old.place self.new.place }
@@ -46,6 +48,7 @@ impl Caller {
         ensures between { IsBetweenCalls self.new }
     {
         self.len = core.len();
+        self.backoff = self.backoff.until(grew);
         put(top, &mut self.place, core);
         count(top, &mut self.place, grew);
         top.swap::<Give>(&mut self.place, 0, 0);

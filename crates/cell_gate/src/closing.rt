@@ -31,6 +31,7 @@ impl Gate {
         let mut closed = table.close_with(place);
         let core = closed.take(0).unwrap();
         closed.free();
+        let core = core.into_core();
         // Tells that its history is sound.
         let _events = core.len();
         core

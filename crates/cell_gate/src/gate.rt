@@ -4,7 +4,7 @@ ghost use Rattle.cell_gate.specs.Calls.{MayAsk, IsSameHolder, ActedAs, RoseNow, 
 ghost use Rattle.cell_gate.specs.Causes.{may_wait};
 
 use crate::acted::Acted;
-use crate::asking::{try_act, try_feed, try_rise};
+use crate::boxed_core::BoxedCore;
 use crate::fed::Fed;
 use crate::now::Now;
 use crate::pass::Pass;
@@ -13,7 +13,7 @@ use crate::rule::Turns;
 use crate::steps::wait_past;
 use crate::view::View;
 use atomic_table::Table;
-use cell_core::Core;
+use rapid_limits::MOST_TASKS;
 use rapid_model::{Cell, Request};
 use std::alloc::Global;
 use std::marker::Model;
@@ -23,7 +23,7 @@ use std::sync::Wait;
 /// pass waits for its turn. Then it asks the core: what all passes ask stands in one history, each call once.
 #[derive(Drop)]
 pub struct Gate {
-    pub(crate) table: Table<Option<Core>, View, Cell, Turns, Global>,
+    pub(crate) table: Table<Option<BoxedCore>, View, Cell, Turns, Global>,
     /// How many tasks the cell has.
     pub(crate) tasks: u32,
 }
@@ -32,19 +32,20 @@ impl Model for Gate {
     ghost use Rattle.std.specs.Prelude.{◌≡◌, ◌≤◌, length};
     ghost use Rattle.cell_gate.specs.GateData.{GateData};
     ghost use Rattle.cell_gate.specs.Hands.{IsSized};
+    ghost use Rattle.rapid_limits.specs.declared.TheConstants.{MOST_TASKS};
 
     ghost Value = { GateData };
 
     ghost view = { λ g. record { cell = g.table.shared.key; table = g.table.shared.table_id } };
 
-    ghost invariant = { λ g. IsSized g.table.shared.table_id × (g.tasks ≡ length g.table.shared.key.tasks) × (g.tasks ≤ 8) };
+    ghost invariant = { λ g. IsSized g.table.shared.table_id × (g.tasks ≡ length g.table.shared.key.tasks) × (g.tasks ≤ MOST_TASKS) };
 }
 
 impl Gate {
     /// How many tasks the cell has.
     pub fn task_count(&self) -> u32
         ensures same { result ≡ length self.now.cell.tasks }
-        ensures few { result ≤ 8 }
+        ensures few { result ≤ MOST_TASKS }
     {
         self.tasks
     }
@@ -62,7 +63,7 @@ impl Gate {
         let top = &self.table.shared;
         let actor = pass.caller.actor;
         let mut core = pass.caller.take(rt, top);
-        let acted = try_act(&mut core, actor, request);
+        let acted = core.try_act(actor, request);
         let grew = acted.is_done();
         pass.caller.settle(top, core, grew);
         acted
@@ -81,7 +82,7 @@ impl Gate {
         let top = &self.table.shared;
         let task = pass.caller.actor;
         let mut core = pass.caller.take(rt, top);
-        let now = try_rise(&mut core, task);
+        let now = core.try_rise(task);
         let grew = now.is_woken();
         pass.caller.settle(top, core, grew);
         now
@@ -117,7 +118,7 @@ impl Gate {
     {
         let top = &self.table.shared;
         let mut core = pass.caller.take(rt, top);
-        let fed = try_feed(&mut core);
+        let fed = core.try_feed();
         let grew = fed.is_given();
         pass.caller.settle(top, core, grew);
         fed
@@ -129,6 +130,7 @@ impl Gate {
         ensures { pass.new ≡ pass.old }
     {
         let top = &self.table.shared;
-        wait_past(rt, top, &mut pass.caller.place, pass.caller.len);
+        let caller = &mut pass.caller;
+        wait_past(rt, top, &mut caller.place, caller.len, &mut caller.backoff);
     }
 }

@@ -3,6 +3,8 @@
 
 mod acted;
 mod asking;
+mod backoff;
+mod boxed_core;
 mod caller;
 mod closing;
 mod fed;

@@ -4,6 +4,8 @@ ghost use Rattle.cell_gate.specs.Calls.{fresh_pass, fresh_passes};
 ghost use Rattle.cell_gate.specs.Hands.{IsNew, IsPlaceOf, IsSamePlace, gate_of};
 ghost use Rattle.cell_gate.specs.Views.{first_view, dealer};
 
+use crate::backoff::Backoff;
+use crate::boxed_core::BoxedCore;
 use crate::caller::Caller;
 use crate::gate::Gate;
 use crate::pass::Pass;
@@ -12,6 +14,7 @@ use crate::steps::put;
 use crate::view::View;
 use atomic_table::Table;
 use cell_core::Core;
+use rapid_limits::MOST_TASKS;
 use rapid_model::Cell;
 use std::alloc::Global;
 
@@ -26,13 +29,17 @@ pub fn open_gate(alloc: Global, core: Core) -> Result<(Gate, Vec<Pass>), Core>
     let Ok(mut passes) = Vec::with_capacity(alloc, tasks as usize + 1) else {
         return Err(core);
     };
-    let Ok((table, mut seat)) = Table::<Option<Core>, View, Cell, Turns, Global>::vacant(
+    let Ok((table, mut seat)) = Table::<Option<BoxedCore>, View, Cell, Turns, Global>::vacant(
         alloc,
         &[1, 0],
         1,
         core.cell(),
     ) else {
         return Err(core);
+    };
+    let core = match BoxedCore::new(alloc, core) {
+        Ok(core) => core,
+        Err(core) => return Err(core),
     };
     install(&table.shared, &mut seat, core);
     deal(&table.shared, &mut seat, tasks, &mut passes);
@@ -45,7 +52,7 @@ pub fn open_gate(alloc: Global, core: Core) -> Result<(Gate, Vec<Pass>), Core>
 }
 
 /// Puts the core, which has no event, into the slot of a new table, and gives the first turn on.
-fn install(top: &Top, place: &mut Place, core: Core)
+fn install(top: &Top, place: &mut Place, core: BoxedCore)
     requires place { IsPlaceOf top.now.table_id place.old }
     requires first { place.old.me ≡ (first_view core.cell, []) }
     requires no_events { core.history ≡ [] }
@@ -62,7 +69,7 @@ fn deal(top: &Top, place: &mut Place, tasks: u32, passes: &mut Vec<Pass>)
     requires place { IsPlaceOf top.now.table_id place.old }
     requires first { place.old.me ≡ (dealer place.old.me.0.cell 1, []) }
     requires tasks { tasks ≡ length place.old.me.0.cell.tasks }
-    requires few { tasks ≤ 8 }
+    requires few { tasks ≤ MOST_TASKS }
     requires none { passes.old.items ≡ [] }
     requires room { tasks < vec_capacity passes.old }
     ensures same { IsSamePlace place.old place.new }
@@ -87,6 +94,7 @@ fn new_pass(place: Place, actor: u32) -> Pass
             place,
             actor,
             len: 0,
+            backoff: Backoff::new(),
         },
     }
 }

@@ -1,20 +1,20 @@
 //! The rule of the gate's table, and what each step on it tells its caller. The table has two words, the turn (0, or one more
 //! than the actor that has it) and the length of the history, and one slot, for the core.
+use crate::boxed_core::BoxedCore;
 use crate::view::View;
 use atomic_table::{Join, Play, Seat, Shared, Split, TableRule};
-use cell_core::Core;
 use rapid_model::Cell;
 
 /// The table, as threads share it.
-pub(crate) type Top = Shared<Option<Core>, View, Cell, Turns>;
+pub(crate) type Top = Shared<Option<BoxedCore>, View, Cell, Turns>;
 
 /// A place at the table.
-pub(crate) type Place = Seat<Option<Core>, View>;
+pub(crate) type Place = Seat<Option<BoxedCore>, View>;
 
 /// What holds between any two steps.
 pub struct Turns;
 
-impl TableRule<Option<Core>, View, Cell> for Turns {
+impl TableRule<Option<BoxedCore>, View, Cell> for Turns {
     ghost use Rattle.cell_gate.specs.Rule.{Kept};
     ghost use Rattle.cell_gate.specs.Views.{first_view};
 
@@ -26,7 +26,7 @@ impl TableRule<Option<Core>, View, Cell> for Turns {
 /// Takes the turn and the core, or finds the turn taken.
 pub(crate) struct Take;
 
-impl Play<Option<Core>, View> for Take {
+impl Play<Option<BoxedCore>, View> for Take {
     ghost use Rattle.cell_gate.specs.Steps.{Takes};
 
     ghost then = { λ step. Takes };
@@ -35,7 +35,7 @@ impl Play<Option<Core>, View> for Take {
 /// Counts the event that the core gained.
 pub(crate) struct Count;
 
-impl Play<Option<Core>, View> for Count {
+impl Play<Option<BoxedCore>, View> for Count {
     ghost use Rattle.cell_gate.specs.Steps.{Counts};
 
     ghost then = { λ step. Counts };
@@ -44,7 +44,7 @@ impl Play<Option<Core>, View> for Count {
 /// Gives the turn and the core.
 pub(crate) struct Give;
 
-impl Play<Option<Core>, View> for Give {
+impl Play<Option<BoxedCore>, View> for Give {
     ghost use Rattle.cell_gate.specs.Steps.{Gives};
 
     ghost then = { λ step. Gives };
@@ -53,7 +53,7 @@ impl Play<Option<Core>, View> for Give {
 /// Reads the count.
 pub(crate) struct Rest;
 
-impl Play<Option<Core>, View> for Rest {
+impl Play<Option<BoxedCore>, View> for Rest {
     ghost use Rattle.cell_gate.specs.Steps.{Stays};
 
     ghost then = { λ step. Stays };
@@ -62,7 +62,7 @@ impl Play<Option<Core>, View> for Rest {
 /// Takes the empty slot, before the core is there.
 pub(crate) struct Open;
 
-impl Play<Option<Core>, View> for Open {
+impl Play<Option<BoxedCore>, View> for Open {
     ghost use Rattle.cell_gate.specs.Steps.{Opens};
 
     ghost then = { λ step. Opens };

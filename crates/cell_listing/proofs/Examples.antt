@@ -10,7 +10,7 @@ use Rattle.stack_code.specs.declared.op.Op.TheVariants as ops
 use Rattle.cell_listing.specs.Listing.{code_line, meeting_line, numbered, pers_line, signal_line}
 
 tasks : List TaskRow
-tasks = record { name = codes "Left"; arm = None } ∷ record { name = codes "Right"; arm = None } ∷ []
+tasks = record { name = codes "Left"; arm = None; axes = 0 } ∷ record { name = codes "Right"; arm = None; axes = 0 } ∷ []
 
 shared : pers_line tasks 0 (record { name = codes "k"; owner = None; sort = sorts.Num; len = None; first = values.Num (pos 7_000) ∷ [] }) ≡ codes "P0 * num k\n"
 unfolding digits tasks

@@ -4,9 +4,11 @@
 mod meetings;
 mod operations;
 mod persistents;
+mod rooms;
 mod signals;
 
 pub use meetings::write_meeting;
 pub use operations::write_operation;
 pub use persistents::write_persistent;
+pub use rooms::LINE_BYTES;
 pub use signals::write_signal;

@@ -3,12 +3,13 @@
 ghost use Rattle.std.specs.Prelude.{◌≡◌, []};
 ghost use Rattle.cell_listing.specs.Listing.{meeting_line};
 
+use crate::rooms::LINE_BYTES;
 use arrayvec::ArrayString;
 use rapid_model::NameText;
 use value_text::{push_count, push_name};
 
 /// Writes `G` and the number of a meeting, from 0, and its name as it is first spelled. Takes no memory.
-pub fn write_meeting(number: usize, name: &NameText, line: &mut ArrayString<512>)
+pub fn write_meeting(number: usize, name: &NameText, line: &mut ArrayString<LINE_BYTES>)
     requires { line.old.bytes ≡ [] }
     ensures { line.new.bytes ≡ meeting_line number name.now }
 {

@@ -5,14 +5,15 @@ ghost use Rattle.std.specs.Option.{option_map};
 ghost use Rattle.cell_listing.specs.Listing.{code_line};
 ghost use Rattle.code_listing.specs.Listing.{op_text};
 
+use crate::rooms::LINE_BYTES;
 use arrayvec::ArrayString;
-use code_listing::listing_line;
+use code_listing::{OPERATION_BYTES, listing_line};
 use rapid_model::NameText;
 use stack_code::Op;
 use value_text::{push_count, push_name};
 
 /// Writes `C`, the name of a task, a place of its code, from 0, and the operation that stands there. Takes no memory.
-pub fn write_operation(task: &NameText, ops: &[Op], pc: u32, line: &mut ArrayString<512>)
+pub fn write_operation(task: &NameText, ops: &[Op], pc: u32, line: &mut ArrayString<LINE_BYTES>)
     requires in_code { pc < length ops.now }
     requires empty { line.old.bytes ≡ [] }
     ensures { option_map (code_line task.now pc) (slice_get ops.now pc) ≡ Some line.new.bytes }
@@ -27,11 +28,11 @@ pub fn write_operation(task: &NameText, ops: &[Op], pc: u32, line: &mut ArrayStr
 }
 
 /// Appends an operation.
-fn push_operation(ops: &[Op], pc: u32, line: &mut ArrayString<512>)
+fn push_operation(ops: &[Op], pc: u32, line: &mut ArrayString<LINE_BYTES>)
     requires in_code { pc < length ops.now }
-    requires room { length line.old.bytes + 400 ≤ 512 }
+    requires room { length line.old.bytes + OPERATION_BYTES ≤ LINE_BYTES }
     ensures text { option_map (λ op. line.old.bytes ++ op_text op) (slice_get ops.now pc) ≡ Some line.new.bytes }
-    ensures short { length line.new.bytes ≤ length line.old.bytes + 400 }
+    ensures short { length line.new.bytes ≤ length line.old.bytes + OPERATION_BYTES }
 {
     let mut text = ArrayString::new();
     listing_line(ops, pc, &mut text);

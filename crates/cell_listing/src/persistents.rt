@@ -3,9 +3,11 @@
 ghost use Rattle.std.specs.Prelude.{◌≡◌, ◌+◌, ◌≤◌, ◌++◌, [], length};
 ghost use Rattle.cell_listing.specs.Listing.{length_text, owner_text, pers_line};
 
+use crate::rooms::LINE_BYTES;
 use arrayvec::ArrayString;
+use rapid_limits::LONGEST_NAME;
 use rapid_model::{PersCell, TaskRow};
-use value_text::{push_count, push_name, sort_name};
+use value_text::{COUNT_BYTES, push_count, push_name, sort_name};
 
 /// Writes `P` and the number of a persistent, from 0; its owner, `*` where it is all tasks'; its type, with the length in braces
 /// where it is an array; and its name as it is first spelled. Takes no memory.
@@ -13,7 +15,7 @@ pub fn write_persistent(
     tasks: &[TaskRow],
     number: usize,
     row: &PersCell,
-    line: &mut ArrayString<512>,
+    line: &mut ArrayString<LINE_BYTES>,
 )
     requires { line.old.bytes ≡ [] }
     ensures { line.new.bytes ≡ pers_line tasks.now number row.now }
@@ -31,10 +33,10 @@ pub fn write_persistent(
 }
 
 /// Appends whose a persistent is.
-fn push_owner(tasks: &[TaskRow], owner: Option<u32>, line: &mut ArrayString<512>)
-    requires room { length line.old.bytes + 32 ≤ 512 }
+fn push_owner(tasks: &[TaskRow], owner: Option<u32>, line: &mut ArrayString<LINE_BYTES>)
+    requires room { length line.old.bytes + LONGEST_NAME ≤ LINE_BYTES }
     ensures text { line.new.bytes ≡ line.old.bytes ++ owner_text tasks.now owner }
-    ensures short { length line.new.bytes ≤ length line.old.bytes + 32 }
+    ensures short { length line.new.bytes ≤ length line.old.bytes + LONGEST_NAME }
 {
     match owner {
         None => line.push_str("*"),
@@ -47,10 +49,10 @@ fn push_owner(tasks: &[TaskRow], owner: Option<u32>, line: &mut ArrayString<512>
 }
 
 /// Appends the length of an array.
-fn push_length(len: Option<u16>, line: &mut ArrayString<512>)
-    requires room { length line.old.bytes + 42 ≤ 512 }
+fn push_length(len: Option<u16>, line: &mut ArrayString<LINE_BYTES>)
+    requires room { length line.old.bytes + COUNT_BYTES + 2 ≤ LINE_BYTES }
     ensures text { line.new.bytes ≡ line.old.bytes ++ length_text len }
-    ensures short { length line.new.bytes ≤ length line.old.bytes + 42 }
+    ensures short { length line.new.bytes ≤ length line.old.bytes + COUNT_BYTES + 2 }
 {
     if let Some(len) = len {
         line.push('{');

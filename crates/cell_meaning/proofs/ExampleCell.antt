@@ -16,12 +16,12 @@ use Rattle.cell_meaning.proofs.MoreEvents.{event}
 
 -- axis 1 at this angle, the other five at 0
 abbrev pub joints_at : ℤ → Joints
-joints_at angle = record { axis = angle ∷ replicate 5 (pos 0) ++ absent_axes }
+joints_at angle = record { axis = angle ∷ replicate 5 (pos 0) ++ absent_axes 6 }
 
 abbrev pub cell : CellData
 cell = record {
   steps = 4;
-  tasks = record { name = codes "A"; arm = Some (joints_at (pos 0)) } ∷ record { name = codes "B"; arm = Some (joints_at (pos 0)) } ∷ [];
+  tasks = record { name = codes "A"; arm = Some (joints_at (pos 0)); axes = 6 } ∷ record { name = codes "B"; arm = Some (joints_at (pos 0)); axes = 6 } ∷ [];
   signals = record { name = codes "di1"; output = false; start = false } ∷ record { name = codes "do1"; output = true; start = true } ∷ [];
   pers = record { name = codes "list"; owner = None; sort = sorts.Num; len = Some 2; first = values.Num (pos 1000) ∷ values.Num (pos 2000) ∷ [] } ∷ [];
   meetings = codes "s1" ∷ [];

@@ -25,3 +25,8 @@ mod MeetingExamples
 mod ZoneExamples
 mod WaitExamples
 mod MoveExamples
+pub mod Since
+mod MeetingsTold
+mod Numbered
+mod ZonesTold
+mod InterruptsTold

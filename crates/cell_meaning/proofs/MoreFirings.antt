@@ -29,7 +29,7 @@ none_fired numbers (n ∷ range) =
     ap (λ (b : Bool). cond b (n ∷ filter (λ number. fires [] (connected_at numbers number)) range) (filter (λ number. fires [] (connected_at numbers number)) range)) (fires_none (connected_at numbers n))
     ∙ none_fired numbers range
 
-stays : (entry : Option Connected) → after_firing [] entry ≡ entry
+pub stays : (entry : Option Connected) → after_firing [] entry ≡ entry
 stays None = refl
 stays (Some c) = by (fires [] (Some c)) (fires_none (Some c))
   where

@@ -8,6 +8,7 @@ use Rattle.rapid_num.specs.declared.shape.Shape.{Shape}
 use Rattle.joint_clip.specs.Touches.{IsWithin, LiesInside, point_at}
 use Rattle.rapid_model.specs.CellData.{CellData}
 use Rattle.rapid_model.specs.declared.answer.Answer.TheVariants as answers
+use Rattle.rapid_model.specs.declared.event.Event.{Event}
 use Rattle.rapid_model.specs.declared.request.Request.TheVariants as requests
 use Rattle.rapid_model.specs.declared.zone_name.ZoneName.{ZoneName}
 use Rattle.rapid_model.specs.declared.zone_name.ZoneName.TheVariants.{Own, Cell}
@@ -18,6 +19,7 @@ use Rattle.cell_meaning.specs.Answers.{IsAnswer}
 use Rattle.cell_meaning.specs.Stored.{signals_after}
 use Rattle.cell_meaning.specs.Zones.{zones_after}
 use Rattle.cell_meaning.proofs.ExampleCell.{joints_at, cell, cleared}
+use Rattle.cell_meaning.proofs.MoreEvents.{event}
 
 abbrev near_one : Shape
 near_one = record { inside = true; bounds = Some (record { low = pos 500; high = pos 1500 }) ∷ replicate 11 None }
@@ -65,3 +67,21 @@ goes = untouched
     untouched (Own number) touched = let none = no_own number in let is = touched.is in let no : ⊥ = cc in no
     untouched (Cell zero) touched = let is = touched.is in let no : ⊥ = cc in no
     untouched (Cell (suc number)) touched = let is = touched.is in let no : ⊥ = cc in no
+
+-- where a zone of the task's own and one of the cell are both touched, the task's own stops the way
+abbrev supervised_too : Event
+supervised_too = event 0 (requests.ZoneSet 0 true near_one) (answers.Number 1)
+
+own_comes_first : IsAnswer zoned (supervised_too ∷ []) 0 (requests.Setpoint (joints_at (pos 1000))) (answers.Stopped (Own 1))
+own_comes_first = record {
+  touched = record { shape = near_one; is = refl; touched = record { k = 1; m = 1; whole = omega arith; on_the_way = omega arith; holds = end_inside } };
+  first = earlier;
+}
+  where
+    earlier : (other : ZoneName) → IsTrue (comes_before other (Own 1)) → ¬ IsTouched (zones_after zoned (supervised_too ∷ [])) 0 (signals_after zoned (supervised_too ∷ [])) (joints_at (pos 0)) (joints_at (pos 1000)) other
+    earlier (Own zero) before touched = let is = touched.is in let no : ⊥ = cc in no
+    earlier (Own (suc number)) before touched = let below = ltb-true (suc number) 1 before in absurd (omega arith)
+    earlier (Cell number) before touched = cc
+
+not_the_cell_s : ¬ IsAnswer zoned (supervised_too ∷ []) 0 (requests.Setpoint (joints_at (pos 1000))) (answers.Stopped (Cell 0))
+not_the_cell_s stops = stops.first (Own 1) refl own_comes_first.touched

@@ -1,10 +1,11 @@
 -- Waits, inputs and stalled cells on worked examples.
-use Rattle.std.proofs.Common.{◌≡◌, true, false, [], ◌∷◌, Some, refl}
+use Rattle.std.proofs.Common.{◌≡◌, true, false, [], ◌∷◌, Some, None, refl}
 use Rattle.rapid_model.specs.CellData.{CellData}
 use Rattle.rapid_model.specs.declared.answer.Answer.TheVariants as answers
 use Rattle.rapid_model.specs.declared.event.Event.{Event}
 use Rattle.rapid_model.specs.declared.fate.Fate.TheVariants as fates
 use Rattle.rapid_model.specs.declared.request.Request.TheVariants as requests
+use Rattle.rapid_model.specs.declared.zone_name.ZoneName.TheVariants.{Own}
 use Rattle.cell_meaning.specs.Answers.{is_enabled}
 use Rattle.cell_meaning.specs.Stalled.{is_stalled}
 use Rattle.cell_meaning.proofs.ExampleCell.{cell, cleared, went}
@@ -65,3 +66,27 @@ input_left = refl
 
 one_rises : is_stalled cell (held ∷ fed ∷ ended ∷ []) ≡ false
 one_rises = refl
+
+-- of four steps three are counted, and then all
+last_step : is_enabled cell (cleared ∷ went ∷ cleared ∷ []) 2 (requests.Input 0) ≡ true
+last_step = refl
+
+no_step_left : is_enabled cell (cleared ∷ went ∷ cleared ∷ went ∷ []) 2 (requests.Input 0) ≡ false
+no_step_left = refl
+
+-- a second step of the script waits for two counted events: neither an input is one, nor an End
+abbrev twice : CellData
+twice = record cell { inputs = record { signal = 0; value = true; when = None; given = None; after = None } ∷ record { signal = 0; value = false; when = None; given = None; after = Some 2 } ∷ [] }
+
+uncounted : is_enabled twice (fed ∷ ended ∷ cleared ∷ []) 2 (requests.Input 1) ≡ false
+uncounted = refl
+
+two_counted : is_enabled twice (fed ∷ ended ∷ cleared ∷ went ∷ []) 2 (requests.Input 1) ≡ true
+two_counted = refl
+
+-- a setpoint that a zone stopped was not given
+abbrev stopped : Event
+stopped = record went { answer = answers.Stopped (Own 1) }
+
+not_given : is_enabled gated (cleared ∷ stopped ∷ []) 2 (requests.Input 0) ≡ false
+not_given = refl

@@ -17,7 +17,7 @@ pub record Follows (asks : Asking) (cell : CellData) (before : List Event) (e : 
 
 -- the answer of an event after these fits its request
 abbrev pub is_fit : CellData → List Event → Event → Bool
-is_fit cell before e = fits_request (fitting_in cell (part_of e.actor before)) e.request e.answer
+is_fit cell before e = fits_request (fitting_in cell e.actor (part_of e.actor before)) e.request e.answer
 
 -- each event follows from those before it, and its answer fits
 pub record IsLegal (asks : Asking) (cell : CellData) (history : List Event) : Type 0 where

@@ -16,3 +16,7 @@ pub mod Stalled
 pub mod Premises
 pub mod Over
 pub mod Turns
+pub mod Since
+pub mod InterruptsSince
+pub mod MeetingsSince
+pub mod ZonesSince

@@ -1,4 +1,5 @@
-ghost use Rattle.std.specs.Prelude.{◌≡◌, ◌<◌, ◌↔◌, ℕ, List, length, IsTrue, false};
+ghost use Rattle.std.specs.Prelude.{◌≡◌, ◌<◌, ◌↔◌, ℕ, Bool, List, length, count_by, IsTrue, true, false, Some};
+ghost use Rattle.rapid_num.specs.declared.shape.Shape.{Shape};
 ghost use Rattle.rapid_model.specs.CellData.{CellData, IsCell};
 ghost use Rattle.rapid_model.specs.Fits.{fits_request, fitting_in};
 ghost use Rattle.rapid_model.specs.Own.{part_of, answers_of, has_ended};
@@ -6,15 +7,29 @@ ghost use Rattle.rapid_model.specs.declared.answer.Answer.{Answer};
 ghost use Rattle.rapid_model.specs.declared.event.Event.{Event};
 ghost use Rattle.rapid_model.specs.declared.request.Request.{Request};
 ghost use Rattle.rapid_model.specs.declared.request.Request.TheVariants as requests;
+ghost use Rattle.rapid_model.specs.declared.watched.Watched.{Watched};
+ghost use Rattle.rapid_model.specs.declared.zone_name.ZoneName.TheVariants.{Own};
+ghost use Rattle.sync_tasks.specs.Meetings.{stand_at};
+ghost use Rattle.trap_dispatch.specs.declared.connected.Connected.{Connected};
+ghost use Rattle.trap_dispatch.specs.Firing.{connected_at};
+ghost use Rattle.world_zones.specs.Touched.{supervised};
 ghost use Rattle.cell_meaning.specs.Answers.{is_enabled, IsAnswer};
 ghost use Rattle.cell_meaning.specs.Asking.{with_inputs};
 ghost use Rattle.cell_meaning.specs.Fates.{all_ended, is_spent};
 ghost use Rattle.cell_meaning.specs.Histories.{IsLegal, IsWhole};
+ghost use Rattle.cell_meaning.specs.Interrupts.{interrupts_of};
+ghost use Rattle.cell_meaning.specs.InterruptsSince.{Connects, ConnectsAny, Deletes, EndsOrder, IsAsleep, Orders};
 ghost use Rattle.cell_meaning.specs.MayAsk.{may_ask};
+ghost use Rattle.cell_meaning.specs.Meetings.{is_waiting, stands_after};
+ghost use Rattle.cell_meaning.specs.MeetingsSince.{Comes, ComesApart, is_met_at};
 ghost use Rattle.cell_meaning.specs.Over.{IsOver};
 ghost use Rattle.cell_meaning.specs.Premises.{OnlyActorsAsk, AsksOne, AsksWhatItMay, AsksUntilItsEnd, AsksInputs, TasksAskWell, AllAnswered, AskTheSame, StartsFull};
+ghost use Rattle.cell_meaning.specs.Since.{Since};
 ghost use Rattle.cell_meaning.specs.Stalled.{is_stalled};
+ghost use Rattle.cell_meaning.specs.Stored.{signals_after};
 ghost use Rattle.cell_meaning.specs.Turns.{IsByTurns};
+ghost use Rattle.cell_meaning.specs.Zones.{zones_after};
+ghost use Rattle.cell_meaning.specs.ZonesSince.{Watches};
 
 use crate::askers::Askers;
 
@@ -25,7 +40,7 @@ pub fn answer_is_one()
 
 /// A law: an answer of the cell fits its request, where each actor might ask what it asked and got the cell's answers.
 pub fn answers_fit()
-    ensures { (cell : CellData) (history : List Event) (actor : ℕ) (request : Request) (answer : Answer) → IsCell cell → StartsFull cell → AllAnswered cell history → IsTrue (may_ask cell actor (part_of actor history) request) → IsAnswer cell history actor request answer → IsTrue (fits_request (fitting_in cell (part_of actor history)) request answer) }
+    ensures { (cell : CellData) (history : List Event) (actor : ℕ) (request : Request) (answer : Answer) → IsCell cell → StartsFull cell → AllAnswered cell history → IsTrue (may_ask cell actor (part_of actor history) request) → IsAnswer cell history actor request answer → IsTrue (fits_request (fitting_in cell actor (part_of actor history)) request answer) }
 {}
 
 /// A law: what a run by turns makes is legal, and nothing follows it.
@@ -70,4 +85,26 @@ pub fn input_script_is_an_actor<A: Askers, B: Askers>()
     ensures may { (cell : CellData) → TasksAskWell A.asks cell → AsksWhatItMay (with_inputs A.asks cell) cell }
     ensures goes_on { (cell : CellData) → TasksAskWell A.asks cell → AsksUntilItsEnd (with_inputs A.asks cell) cell }
     ensures same { (cell : CellData) → AskTheSame A.asks B.asks → AskTheSame (with_inputs A.asks cell) (with_inputs B.asks cell) }
+{}
+
+/// A law: where each actor might ask what it asked and got the cell's answers, the meetings are as the events alone tell them: a task
+/// went on from a meeting as often as it met the others there, and waits where its last arrival there found it apart from them.
+pub fn meetings_are_as_arrived()
+    ensures passed { (cell : CellData) (history : List Event) (task meeting : ℕ) → AllAnswered cell history → task < length cell.tasks → meeting < length cell.meetings → (stand_at (stands_after cell history) task meeting).passed ≡ count_by (λ e. is_met_at meeting e.request e.answer) (part_of task history) }
+    ensures waits { (cell : CellData) (history : List Event) (task meeting : ℕ) → AllAnswered cell history → task < length cell.tasks → meeting < length cell.meetings → IsTrue (is_waiting cell history task meeting) ↔ Since (ComesApart task meeting) (Comes task meeting) history }
+{}
+
+/// A law: the same of the zones of arms. A task's own zone watches its arm where a ZoneSet gave it, none freed it since, and its last
+/// switch, the ZoneSet being one, is not ZoneOff.
+pub fn zones_are_as_given()
+    ensures { (cell : CellData) (history : List Event) (task number : ℕ) (shape : Shape) → AllAnswered cell history → task < length cell.tasks → (supervised (zones_after cell history) task (signals_after cell history) (Own number) ≡ Some shape) ↔ Watches task number shape history }
+{}
+
+/// A law: the same of interrupts. A number is connected with a trap since the Connect that it answered, until it is deleted. A connected
+/// number sleeps where the last of its Connect, Sleep and Watch is a Sleep. It has an order since the one that was answered Ok, until
+/// a firing ends it that is for one firing.
+pub fn interrupts_are_as_asked()
+    ensures connected { (cell : CellData) (history : List Event) (task number trap : ℕ) → AllAnswered cell history → task < length cell.tasks → ((c : Connected) × (connected_at (interrupts_of cell history task).numbers number ≡ Some c) × (c.trap ≡ trap)) ↔ Since (Connects task number trap) (Deletes task number) history }
+    ensures asleep { (cell : CellData) (history : List Event) (task number : ℕ) (c : Connected) → AllAnswered cell history → task < length cell.tasks → connected_at (interrupts_of cell history task).numbers number ≡ Some c → (c.asleep ≡ true) ↔ IsAsleep task number history }
+    ensures ordered { (cell : CellData) (history : List Event) (task number : ℕ) (c : Connected) (on : Watched) (single : Bool) → AllAnswered cell history → task < length cell.tasks → connected_at (interrupts_of cell history task).numbers number ≡ Some c → (c.order ≡ Some (record { on = on; single = single })) ↔ Since (Orders task number on single) (EndsOrder cell task number on single) history }
 {}

@@ -29,7 +29,7 @@ abbrev seen : ℕ → TypedPers
 seen at = record { name = codes "seen"; «module» = 0; at = at; own = true; sort = sorts.Bool; len = None; first = None }
 
 abbrev tree : List TypedPers → List (List ℕ) → List ℕ → List ℕ → TypedTree
-tree pers meetings pers_of meeting_of = record { modules = 1; tasks = codes "A" ∷ codes "B" ∷ []; slots = []; pers = pers; meetings = meetings; routines = []; main = 0; pers_of = pers_of; meeting_of = meeting_of }
+tree pers meetings pers_of meeting_of = record { modules = 1; tasks = codes "A" ∷ codes "B" ∷ []; slots = []; pers = pers; meetings = meetings; routines = []; main = 0; pers_of = pers_of; meeting_of = meeting_of; axes = 0 }
 
 abbrev first_task : List ℕ → List ℕ → TypedTree
 first_task pers_of meeting_of = tree (parts (codes "parts") 12 2 None ∷ seen 30 ∷ []) (codes "go" ∷ []) pers_of meeting_of
@@ -46,7 +46,7 @@ abbrev gives : List ℕ → Option ℕ → Value → PersValue
 gives name index value = record { name = name; index = index; value = value }
 
 abbrev script : List PersValue → ScriptData
-script given = record { steps = 100; signals = []; tasks = []; pers = given; zones = []; inputs = [] }
+script given = record { version = 1; steps = 100; signals = []; tasks = []; pers = given; zones = []; inputs = [] }
 
 abbrev cell : Value → CellData
 cell second = record {

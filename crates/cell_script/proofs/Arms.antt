@@ -5,7 +5,7 @@ use Rattle.rapid_num.specs.Reach.{absent_axes}
 use Rattle.rapid_num.specs.declared.joints.Joints.{Joints}
 
 abbrev pub arm_of_angles : List ℤ → Option Joints
-arm_of_angles angles = if length angles == 6 then Some (record { axis = angles ++ absent_axes }) else None
+arm_of_angles angles = if length angles == 6 then Some (record { axis = angles ++ absent_axes 6 }) else None
 
 pub arm_of_six : (angles : List ℤ) (a b c d e f g : ℤ) → length angles ≡ 6 → a ≡ get_or angles 0 a → b ≡ get_or angles 1 b → c ≡ get_or angles 2 c → d ≡ get_or angles 3 d → e ≡ get_or angles 4 e → f ≡ get_or angles 5 f
     → g ≡ pos 9_000_000_000_000 → Some (record { axis = a ∷ b ∷ c ∷ d ∷ e ∷ f ∷ g ∷ g ∷ g ∷ g ∷ g ∷ g ∷ [] }) ≡ arm_of_angles angles

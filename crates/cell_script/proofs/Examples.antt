@@ -18,7 +18,7 @@ abbrev nothing_more : Members → Members
 nothing_more members = members
 
 one_task : script_of (script (task nothing_more) nothing_more)
-    ≡ Ok (record { steps = 100_000; signals = []; tasks = record { name = codes "A"; modules = codes "a.mod" ∷ []; arm = None } ∷ []; pers = []; zones = []; inputs = [] })
+    ≡ Ok (record { version = 1; steps = 100_000; signals = []; tasks = record { name = codes "A"; modules = codes "a.mod" ∷ []; arm = None; axes = 0 } ∷ []; pers = []; zones = []; inputs = [] })
 unfolding script_of_keys task_of
 one_task = refl
 

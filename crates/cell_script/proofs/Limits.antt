@@ -1,15 +1,16 @@
 -- Each row that is read is within its limits.
-use Rattle.std.proofs.Common.{◌≡◌, ℕ, true, false, ◌&&◌, ℤ, List, [], ◌∷◌, ◌++◌, length, map, take, drop, codes, Option, Some, None, Ok, ◌==◌, refl}
+use Rattle.std.proofs.Common.{◌≡◌, ℕ, true, false, ◌&&◌, ℤ, List, [], ◌∷◌, ◌++◌, length, length-append, ap, map, take, drop, codes, Option, Some, None, Ok, ◌==◌, refl, arith, ◌∙◌}
 use Rattle.std.specs.Prelude.{pos, negsuc}
 use Rattle.std.specs.List.{list_all}
 use Rattle.std.proofs.Math.Seq.{take-append_seam, drop-append_seam}
 use Rattle.std.proofs.lemmas.Bool.{and_parts, and_from, eqb-true}
 use Rattle.toml.specs.Data.{Data, as_str, as_integer, as_bool}
-use Rattle.rapid_num.specs.Reach.{is_in_reach, are_absent, absent_axes, is_position}
+use Rattle.rapid_num.specs.Absent.{is_absent}
+use Rattle.rapid_num.specs.Reach.{is_in_reach, are_in_reach, absent_axes, is_position}
 use Rattle.rapid_num.specs.declared.joints.Joints.{Joints}
 use Rattle.rapid_model.specs.Limits.{is_within, holds_where_there, is_start, is_signal}
 use Rattle.rapid_model.specs.Names.{is_short_name}
-use Rattle.rapid_model.specs.ScriptData.{is_file_name, is_task, is_given_value, is_pers_value}
+use Rattle.rapid_model.specs.ScriptData.{is_file_name, is_task, is_given_value, is_pers_value, takes_axes}
 use Rattle.rapid_model.specs.declared.pers_value.PersValue.{PersValue}
 use Rattle.rapid_model.specs.declared.script_rule.ScriptRule.TheVariants.{Kind, Range}
 use Rattle.rapid_model.specs.declared.script_task.ScriptTask.{ScriptTask}
@@ -18,7 +19,7 @@ use Rattle.rapid_model.specs.declared.value.Value.TheVariants as values
 use Rattle.rule_checks.specs.Checks.{◌>>=◌, found_or}
 use Rattle.cell_script.specs.Break.{at_key}
 use Rattle.cell_script.specs.Keys.{Keys, at, value_of, needed, optional, text_at, whole_at, bit_at, word_at, name_at, list_at, table_at}
-use Rattle.cell_script.specs.Rows.{signal_name_at, signal_of, task_name_at, files_at, arm_at, task_of, signed_literal, number_value_at, truth_value_at, text_value_at, given_value, pers_of}
+use Rattle.cell_script.specs.Rows.{signal_name_at, signal_of, task_name_at, files_at, arm_at, axes_of, task_of, signed_literal, number_value_at, truth_value_at, text_value_at, given_value, pers_of}
 use Rattle.rule_checks.proofs.Keeps.{Keeps, Keeps-then, Keeps-any, Keeps-must}
 use Rattle.cell_script.proofs.Keeps.{Keeps-optional, Keeps-only}
 use Rattle.cell_script.proofs.KeepsNames.{IsName, IsNew, name_keeps, signal_name_keeps, task_name_keeps}
@@ -53,45 +54,63 @@ files_keep key d =
     let Q : List (List ℕ) → Type 0 = λ files. (is_within 1 16 (length files) && list_all is_file_name files) ≡ true in
     Keeps-any Q (list_at key as_str d) _ (λ files. Keeps-must Q (is_within 1 16 (length files) && list_all is_file_name files) (at_key key Range) (Ok files) (λ e. e))
 
-position : (angles : List ℤ) (arm : Joints) → list_all is_in_reach angles ≡ true → length angles ≡ 6 → arm.axis ≡ angles ++ absent_axes → is_position arm ≡ true
+-- axes 1 to 6 reach equally far
+six_in_reach : (angles : List ℤ) → length angles ≡ 6 → are_in_reach 0 angles ≡ list_all (is_in_reach 0) angles
+six_in_reach [] six = absurd (omega arith)
+six_in_reach (a ∷ []) six = absurd (omega arith)
+six_in_reach (a ∷ b ∷ []) six = absurd (omega arith)
+six_in_reach (a ∷ b ∷ c ∷ []) six = absurd (omega arith)
+six_in_reach (a ∷ b ∷ c ∷ d ∷ []) six = absurd (omega arith)
+six_in_reach (a ∷ b ∷ c ∷ d ∷ e ∷ []) six = absurd (omega arith)
+six_in_reach (a ∷ b ∷ c ∷ d ∷ e ∷ f ∷ []) six = refl
+six_in_reach (a ∷ b ∷ c ∷ d ∷ e ∷ f ∷ g ∷ angles) six = absurd (omega arith)
+
+position : (angles : List ℤ) (arm : Joints) → list_all (is_in_reach 0) angles ≡ true → length angles ≡ 6 → arm.axis ≡ angles ++ absent_axes 6 → is_position 6 arm ≡ true
 position angles arm reach six e =
-    let front : take 6 arm.axis ≡ angles = rw (e, ← six) (take-append_seam angles absent_axes) in
-    let back : drop 6 arm.axis ≡ absent_axes = rw (e, ← six) (drop-append_seam angles absent_axes) in
-    and_from (list_all is_in_reach (take 6 arm.axis)) (are_absent (drop 6 arm.axis)) (rw front reach) (rw back)
+    let front : take 6 arm.axis ≡ angles = rw (e, ← six) (take-append_seam angles (absent_axes 6)) in
+    let back : drop 6 arm.axis ≡ absent_axes 6 = rw (e, ← six) (drop-append_seam angles (absent_axes 6)) in
+    let long : length arm.axis ≡ 12 = ap length e ∙ omega (arith, six, length-append angles (absent_axes 6)) in
+    and_from (length arm.axis == 12 && are_in_reach 0 (take 6 arm.axis)) (list_all is_absent (drop 6 arm.axis))
+    (and_from (length arm.axis == 12) (are_in_reach 0 (take 6 arm.axis)) (rw long refl) (rw front (six_in_reach angles six ∙ reach))) (rw back refl)
 
-arm_keeps : (key : List ℕ) (d : Data) → Keeps (λ arm. is_position arm ≡ true) (arm_at key d)
+arm_keeps : (key : List ℕ) (d : Data) → Keeps (λ arm. is_position 6 arm ≡ true) (arm_at key d)
 arm_keeps key d =
-    let Q : Joints → Type 0 = λ arm. is_position arm ≡ true in
+    let Q : Joints → Type 0 = λ arm. is_position 6 arm ≡ true in
     Keeps-any Q (list_at key as_integer d) _ (λ angles.
-    Keeps-must Q (length angles == 6 && list_all is_in_reach angles) (at_key key Range) (Ok (record { axis = angles ++ absent_axes })) (λ e.
-    let parts = and_parts (length angles == 6) (list_all is_in_reach angles) e in
-    position angles (record { axis = angles ++ absent_axes }) parts.1 (eqb-true (length angles) 6 parts.0) refl))
+    Keeps-must Q (length angles == 6 && list_all (is_in_reach 0) angles) (at_key key Range) (Ok (record { axis = angles ++ absent_axes 6 })) (λ e.
+    let parts = and_parts (length angles == 6) (list_all (is_in_reach 0) angles) e in
+    position angles (record { axis = angles ++ absent_axes 6 }) parts.1 (eqb-true (length angles) 6 parts.0) refl))
 
-start_keeps : (key : List ℕ) (o : Option Data) → Keeps (λ arm. is_start arm ≡ true) (optional None (λ a. arm_at key a >>= (λ arm. Ok (Some arm))) o)
+-- an arm of version 1 has six axes, and starts at a position
+record Starts (arm : Option Joints) : Type 0 where
+  pub few : takes_axes 1 (axes_of arm) ≡ true
+  pub start : is_start (axes_of arm) arm ≡ true
+
+start_keeps : (key : List ℕ) (o : Option Data) → Keeps Starts (optional None (λ a. arm_at key a >>= (λ arm. Ok (Some arm))) o)
 start_keeps key o =
-    let Q : Option Joints → Type 0 = λ arm. is_start arm ≡ true in
-    let P : Joints → Type 0 = λ arm. is_position arm ≡ true in
-    Keeps-optional Q None (λ a. arm_at key a >>= (λ arm. Ok (Some arm))) o refl (λ d. Keeps-then P Q (arm_at key d) (λ arm. Ok (Some arm)) (arm_keeps key d) (λ arm is. is))
+    let Q : Option Joints → Type 0 = Starts in
+    let P : Joints → Type 0 = λ arm. is_position 6 arm ≡ true in
+    Keeps-optional Q None (λ a. arm_at key a >>= (λ arm. Ok (Some arm))) o (record { few = refl; start = refl }) (λ d. Keeps-then P Q (arm_at key d) (λ arm. Ok (Some arm)) (arm_keeps key d) (λ arm is. record { few = refl; start = is }))
 
-pub task_keeps : (before : List ScriptTask) (d : Data) → Keeps (λ task. (is_task task ≡ true) × IsNew (map (λ task. task.name) before) task.name) (task_of before d)
+pub task_keeps : (before : List ScriptTask) (d : Data) → Keeps (λ task. (is_task 1 task ≡ true) × IsNew (map (λ task. task.name) before) task.name) (task_of before d)
 unfolding task_of
 task_keeps before d =
     let names : List (List ℕ) = map (λ task. task.name) before in
-    let Q : ScriptTask → Type 0 = λ task. (is_task task ≡ true) × IsNew names task.name in
+    let Q : ScriptTask → Type 0 = λ task. (is_task 1 task ≡ true) × IsNew names task.name in
     let P : List ℕ → Type 0 = λ name. IsName name × IsNew names name in
     let F : List (List ℕ) → Type 0 = λ files. (is_within 1 16 (length files) && list_all is_file_name files) ≡ true in
-    let S : Option Joints → Type 0 = λ arm. is_start arm ≡ true in
     Keeps-any Q (table_at (codes "task") (length before) d) _ (λ keys.
     Keeps-then P Q (needed keys (codes "name") >>= task_name_at (at keys (codes "name")) names) _
     (Keeps-any P (needed keys (codes "name")) _ (λ n. task_name_keeps (at keys (codes "name")) names n)) (λ name is.
     Keeps-then F Q (needed keys (codes "modules") >>= files_at (at keys (codes "modules"))) _
     (Keeps-any F (needed keys (codes "modules")) _ (λ m. files_keep (at keys (codes "modules")) m)) (λ modules files.
-    Keeps-then S Q (optional None (λ a. arm_at (at keys (codes "arm")) a >>= (λ arm. Ok (Some arm))) (value_of keys (codes "arm"))) _
+    Keeps-then Starts Q (optional None (λ a. arm_at (at keys (codes "arm")) a >>= (λ arm. Ok (Some arm))) (value_of keys (codes "arm"))) _
     (start_keeps (at keys (codes "arm")) (value_of keys (codes "arm"))) (λ arm start.
     let parts = and_parts (is_within 1 16 (length modules)) (list_all is_file_name modules) files in
-    Keeps-only Q keys (codes "name" ∷ codes "modules" ∷ codes "arm" ∷ []) (Ok (record { name = name; modules = modules; arm = arm })) (
-      and_from ((is_short_name name && is_within 1 16 (length modules)) && list_all is_file_name modules) (is_start arm)
-          (and_from (is_short_name name && is_within 1 16 (length modules)) (list_all is_file_name modules) (and_from (is_short_name name) (is_within 1 16 (length modules)) is.0 parts.0) parts.1) start,
+    Keeps-only Q keys (codes "name" ∷ codes "modules" ∷ codes "arm" ∷ []) (Ok (record { name = name; modules = modules; arm = arm; axes = axes_of arm })) (
+      and_from (((is_short_name name && is_within 1 16 (length modules)) && list_all is_file_name modules) && takes_axes 1 (axes_of arm)) (is_start (axes_of arm) arm)
+          (and_from ((is_short_name name && is_within 1 16 (length modules)) && list_all is_file_name modules) (takes_axes 1 (axes_of arm))
+          (and_from (is_short_name name && is_within 1 16 (length modules)) (list_all is_file_name modules) (and_from (is_short_name name) (is_within 1 16 (length modules)) is.0 parts.0) parts.1) start.few) start.start,
       is.1,
     )))))
 

@@ -1,5 +1,6 @@
 -- A rule of the script that is broken, and the key at which it is.
 use Rattle.std.specs.Prelude.{ℕ, List, [], ◌∷◌, ◌++◌, map, take, decimal, Result, if◌then◌else◌}
+use Rattle.rapid_limits.specs.declared.TheConstants.{LONGEST_STRING}
 use Rattle.rapid_num.specs.Characters.{is_printable}
 use Rattle.rapid_model.specs.declared.script_rule.ScriptRule.{ScriptRule}
 
@@ -24,7 +25,7 @@ shown_byte b = if is_printable b then b else 63
 
 -- how a refusal shows a key: a question mark for a byte that is not printable, and 80 bytes at most
 abbrev pub shown : List ℕ → List ℕ
-shown key = take 80 (map shown_byte key)
+shown key = take LONGEST_STRING (map shown_byte key)
 
 abbrev pub at_key : List ℕ → ScriptRule → ScriptBreak
 at_key key rule = record { key = shown key; rule = rule }

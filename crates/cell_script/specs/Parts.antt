@@ -21,7 +21,7 @@ needed_rows keys key low high read = needed keys key >>= rows_at (at keys key) l
 
 -- integers, where each is within 720 degrees
 abbrev pub angles_in : List ℕ → Data → Read (Option (List ℤ))
-angles_in key d = list_at key as_integer d >>= (λ angles. Ok (if list_all is_in_reach angles then Some angles else None))
+angles_in key d = list_at key as_integer d >>= (λ angles. Ok (if list_all (is_in_reach 0) angles then Some angles else None))
 
 -- a whole number in a range at a key that is needed
 abbrev pub needed_whole : Keys → List ℕ → ℕ → ℕ → Read ℕ

@@ -3,6 +3,7 @@
 use Rattle.std.specs.Prelude.{ℕ, Bool, true, false, not, ◌&&◌, nat_le, ℤ, pos, negsuc, neg_ℤ, int_lt, List, [], ◌∷◌, ◌++◌, length, map, replicate, codes, Option, Some, None, Ok, Err, ◌==◌, if◌then◌else◌}
 use Rattle.std.specs.List.{list_all}
 use Rattle.std.specs.Option.{option_map}
+use Rattle.rapid_limits.specs.declared.TheConstants.{LONGEST_ARRAY, LONGEST_STRING, MOST_MODULES, MOST_STEPS}
 use Rattle.toml.specs.Data.{Data, as_str, as_integer, as_bool}
 use Rattle.rapid_num.specs.Literal.{literal_value}
 use Rattle.rapid_num.specs.Reach.{is_in_reach, absent_axes}
@@ -53,15 +54,20 @@ task_name_at key others d = do
 abbrev pub files_at : List ℕ → Data → Read (List (List ℕ))
 files_at key d = do
   files ← list_at key as_str d
-  must (is_within 1 16 (length files) && list_all is_file_name files) (at_key key Range)
+  must (is_within 1 MOST_MODULES (length files) && list_all is_file_name files) (at_key key Range)
   Ok files
 
--- six angles within 720 degrees, in thousandths; external axes are not there
+-- six angles within 720 degrees, in thousandths; external axes are not there, which come with version 2
 abbrev pub arm_at : List ℕ → Data → Read Joints
 arm_at key d = do
   angles ← list_at key as_integer d
-  must (length angles == 6 && list_all is_in_reach angles) (at_key key Range)
-  Ok (record { axis = angles ++ absent_axes })
+  must (length angles == 6 && list_all (is_in_reach 0) angles) (at_key key Range)
+  Ok (record { axis = angles ++ absent_axes 6 })
+
+-- how many axes an arm has where there is one
+abbrev pub axes_of : Option Joints → ℕ
+axes_of None = 0
+axes_of (Some arm) = 6
 
 unfoldable pub task_of : List ScriptTask → Data → Read ScriptTask
 task_of before d = do
@@ -69,7 +75,7 @@ task_of before d = do
   name ← needed keys (codes "name") >>= task_name_at (at keys (codes "name")) (map (λ task. task.name) before)
   modules ← needed keys (codes "modules") >>= files_at (at keys (codes "modules"))
   arm ← optional None (λ a. arm_at (at keys (codes "arm")) a >>= (λ arm. Ok (Some arm))) (value_of keys (codes "arm"))
-  only_keys keys (codes "name" ∷ codes "modules" ∷ codes "arm" ∷ []) (Ok (record { name = name; modules = modules; arm = arm }))
+  only_keys keys (codes "name" ∷ codes "modules" ∷ codes "arm" ∷ []) (Ok (record { name = name; modules = modules; arm = arm; axes = axes_of arm }))
 
 -- the number of a numerical literal with an optional minus before it, which is not one of its 30 bytes
 abbrev pub signed_literal : List ℕ → Option ℤ
@@ -91,7 +97,7 @@ truth_value_at key d = do
 abbrev pub text_value_at : List ℕ → Data → Read Value
 text_value_at key d = do
   text ← text_at key d
-  must (nat_le (length text) 80 && list_all is_printable text) (at_key key Range)
+  must (nat_le (length text) LONGEST_STRING && list_all is_printable text) (at_key key Range)
   Ok (values.Text text)
 
 -- the value at the one of the keys num, bool and text that is there
@@ -105,7 +111,7 @@ unfoldable pub pers_of : List PersValue → Data → Read PersValue
 pers_of before d = do
   keys ← table_at (codes "pers") (length before) d
   name ← needed keys (codes "name") >>= name_at (at keys (codes "name"))
-  index ← optional None (λ i. whole_at (at keys (codes "index")) 1 1_000 i >>= (λ index. Ok (Some index))) (value_of keys (codes "index"))
+  index ← optional None (λ i. whole_at (at keys (codes "index")) 1 LONGEST_ARRAY i >>= (λ index. Ok (Some index))) (value_of keys (codes "index"))
   value ← given_value keys (value_of keys (codes "num")) (value_of keys (codes "bool")) (value_of keys (codes "text"))
   only_keys keys (codes "name" ∷ codes "index" ∷ codes "num" ∷ codes "bool" ∷ codes "text" ∷ [])
       (Ok (record { name = name; index = index; value = value }))
@@ -114,7 +120,7 @@ pers_of before d = do
 abbrev pub armed_task_at : List ℕ → List ScriptTask → Data → Read ℕ
 armed_task_at key tasks d = do
   task ← number_at key (map (λ task. task.name) tasks) d
-  must (has_arm (map (λ task. task.arm) tasks) task) (at_key key NoSuch)
+  must (has_arm (map (λ task. task.axes) tasks) task) (at_key key NoSuch)
   Ok task
 
 -- an axis from 1 to 6
@@ -139,7 +145,7 @@ axes_at key d = do
 abbrev pub bounds_at : List ℕ → ℕ → Data → Read (List ℤ)
 bounds_at key count d = do
   bounds ← list_at key as_integer d
-  must (length bounds == count && list_all is_in_reach bounds) (at_key key Range)
+  must (length bounds == count && list_all (is_in_reach 0) bounds) (at_key key Range)
   Ok bounds
 
 abbrev pub each_below : List ℤ → List ℤ → Bool
@@ -195,7 +201,7 @@ input_of signals tasks before d = do
   value ← needed keys (codes "value") >>= bit_at (at keys (codes "value"))
   when ← pair_at keys (codes "when") (codes "is") (number_at (at keys (codes "when")) (map (λ row. row.name) signals)) (bit_at (at keys (codes "is")))
   given ← pair_at keys (codes "task") (codes "setpoints") (number_at (at keys (codes "task")) (map (λ task. task.name) tasks))
-      (whole_at (at keys (codes "setpoints")) 0 1_000_000)
-  after ← optional None (λ a. whole_at (at keys (codes "after")) 0 1_000_000 a >>= (λ after. Ok (Some after))) (value_of keys (codes "after"))
+      (whole_at (at keys (codes "setpoints")) 0 MOST_STEPS)
+  after ← optional None (λ a. whole_at (at keys (codes "after")) 0 MOST_STEPS a >>= (λ after. Ok (Some after))) (value_of keys (codes "after"))
   only_keys keys (codes "signal" ∷ codes "value" ∷ codes "when" ∷ codes "is" ∷ codes "task" ∷ codes "setpoints" ∷ codes "after" ∷ [])
       (Ok (record { signal = signal; value = value; when = when; given = given; after = after }))

@@ -1,6 +1,7 @@
 -- What the text of a cell script stands for.
 use Rattle.std.specs.Prelude.{◌≡◌, ◌⊎◌, ℕ, List, [], ◌∷◌, codes, Some, None, Ok, Err}
 use Rattle.std.specs.Str.{IsUtf8}
+use Rattle.rapid_limits.specs.declared.TheConstants.{DEFAULT_STEPS, MOST_CELL_ZONES, MOST_INPUTS, MOST_PERS_VALUES, MOST_SIGNALS, MOST_STEPS, MOST_TASKS_AT_FIRST}
 use Rattle.toml.specs.Data.{Members}
 use Rattle.toml.specs.Parse.{parse_document}
 use Rattle.rapid_model.specs.ScriptData.{ScriptData}
@@ -12,22 +13,18 @@ use Rattle.cell_script.specs.Break.{ScriptBreak, Read}
 use Rattle.cell_script.specs.Keys.{Keys, needed, optional, value_of, only_keys, whole_at, rows_at, each_row}
 use Rattle.cell_script.specs.Rows.{signal_of, task_of, pers_of, zone_of, input_of}
 
--- how many events are counted at most where the script does not say
-abbrev pub default_steps : ℕ
-default_steps = 100_000
-
 -- the script that a table stands for, or the first rule that it breaks, by the order of its keys
 unfoldable pub script_of_keys : Keys → Read ScriptData
 script_of_keys keys = do
   version ← needed keys (codes "version") >>= whole_at (codes "version") 1 1
-  steps ← optional default_steps (whole_at (codes "steps") 1 1_000_000) (value_of keys (codes "steps"))
-  signals ← optional [] (λ d. rows_at (codes "signal") 0 256 d >>= each_row signal_of []) (value_of keys (codes "signal"))
-  tasks ← needed keys (codes "task") >>= rows_at (codes "task") 1 8 >>= each_row task_of []
-  pers ← optional [] (λ d. rows_at (codes "pers") 0 1_000 d >>= each_row pers_of []) (value_of keys (codes "pers"))
-  zones ← optional [] (λ d. rows_at (codes "zone") 0 16 d >>= each_row (zone_of signals tasks) []) (value_of keys (codes "zone"))
-  inputs ← optional [] (λ d. rows_at (codes "input") 0 10_000 d >>= each_row (input_of signals tasks) []) (value_of keys (codes "input"))
+  steps ← optional DEFAULT_STEPS (whole_at (codes "steps") 1 MOST_STEPS) (value_of keys (codes "steps"))
+  signals ← optional [] (λ d. rows_at (codes "signal") 0 MOST_SIGNALS d >>= each_row signal_of []) (value_of keys (codes "signal"))
+  tasks ← needed keys (codes "task") >>= rows_at (codes "task") 1 MOST_TASKS_AT_FIRST >>= each_row task_of []
+  pers ← optional [] (λ d. rows_at (codes "pers") 0 MOST_PERS_VALUES d >>= each_row pers_of []) (value_of keys (codes "pers"))
+  zones ← optional [] (λ d. rows_at (codes "zone") 0 MOST_CELL_ZONES d >>= each_row (zone_of signals tasks) []) (value_of keys (codes "zone"))
+  inputs ← optional [] (λ d. rows_at (codes "input") 0 MOST_INPUTS d >>= each_row (input_of signals tasks) []) (value_of keys (codes "input"))
   only_keys keys (codes "version" ∷ codes "steps" ∷ codes "signal" ∷ codes "task" ∷ codes "pers" ∷ codes "zone" ∷ codes "input" ∷ [])
-      (Ok (record { steps = steps; signals = signals; tasks = tasks; pers = pers; zones = zones; inputs = inputs }))
+      (Ok (record { version = version; steps = steps; signals = signals; tasks = tasks; pers = pers; zones = zones; inputs = inputs }))
 
 abbrev pub script_of : Members → Read ScriptData
 script_of members = script_of_keys (record { path = []; members = members })

@@ -11,6 +11,7 @@ ghost use Rattle.cell_script.specs.Gives.{Gives, view_keys};
 use crate::fault::ScriptFault;
 use crate::keys::TableKeys;
 use crate::list::integers_at;
+use rapid_limits::ROBOT_REACH;
 use rapid_num::Num;
 use std::alloc::{AllocError, Global};
 use toml::Value;
@@ -29,7 +30,7 @@ pub(crate) fn angles_at(
 }
 
 fn angles_from(alloc: Global, integers: &[i64]) -> Result<Option<Vec<Num>>, AllocError>
-    ensures { IfOk result (λ angles. option_map (λ list. list.items) angles ≡ (if list_all is_in_reach integers.now then Some integers.now else None)) }
+    ensures { IfOk result (λ angles. option_map (λ list. list.items) angles ≡ (if list_all (is_in_reach 0) integers.now then Some integers.now else None)) }
 {
     let mut angles = Vec::new(alloc);
     for integer in integers {
@@ -43,9 +44,9 @@ fn angles_from(alloc: Global, integers: &[i64]) -> Result<Option<Vec<Num>>, Allo
 
 /// An angle within 720 degrees.
 fn angle_from(integer: i64) -> Option<Num>
-    ensures { result ≡ (if is_in_reach integer then Some integer else None) }
+    ensures { result ≡ (if is_in_reach 0 integer then Some integer else None) }
 {
-    if (-720_000..=720_000).contains(&integer) {
+    if integer.unsigned_abs() <= ROBOT_REACH {
         Num::new(integer)
     } else {
         None

@@ -14,6 +14,7 @@ use crate::list::rows_at;
 use crate::plain::{bit_at, whole_at};
 use crate::signal::signal_at;
 use crate::task::task_at;
+use rapid_limits::{MOST_INPUTS, MOST_SIGNALS, MOST_STEPS, MOST_TASKS};
 use rapid_model::{InputRow, ScriptRule, ScriptTask, SignalRow};
 use std::alloc::Global;
 use toml::Value;
@@ -25,16 +26,16 @@ pub(crate) fn inputs_in(
     signals: &[SignalRow],
     tasks: &[ScriptTask],
 ) -> Result<Vec<InputRow>, ScriptFault>
-    requires few_signals { length signals.now ≤ 256 }
-    requires few_tasks { length tasks.now ≤ 8 }
-    ensures { Gives (λ inputs. inputs.items) result (optional [] (rows_in (at (view_keys keys.now) (codes "input")) 0 10_000 (input_of signals.now tasks.now)) (value_of (view_keys keys.now) (codes "input"))) }
+    requires few_signals { length signals.now ≤ MOST_SIGNALS }
+    requires few_tasks { length tasks.now ≤ MOST_TASKS }
+    ensures { Gives (λ inputs. inputs.items) result (optional [] (rows_in (at (view_keys keys.now) (codes "input")) 0 MOST_INPUTS (input_of signals.now tasks.now)) (value_of (view_keys keys.now) (codes "input"))) }
 {
     match keys.value("input") {
         Some(rows) => inputs_of(
             alloc,
             signals,
             tasks,
-            rows_at(keys, "input", 0, 10_000, rows)?,
+            rows_at(keys, "input", 0, MOST_INPUTS, rows)?,
         ),
         None => Ok(Vec::new(alloc)),
     }
@@ -46,8 +47,8 @@ fn inputs_of(
     tasks: &[ScriptTask],
     rows: &[Value],
 ) -> Result<Vec<InputRow>, ScriptFault>
-    requires few_signals { length signals.now ≤ 256 }
-    requires few_tasks { length tasks.now ≤ 8 }
+    requires few_signals { length signals.now ≤ MOST_SIGNALS }
+    requires few_tasks { length tasks.now ≤ MOST_TASKS }
     ensures { Gives (λ inputs. inputs.items) result (each_row (input_of signals.now tasks.now) [] (map view rows.now)) }
 {
     let mut inputs = Vec::new(alloc);
@@ -65,8 +66,8 @@ fn input_of(
     before: &[InputRow],
     value: &Value,
 ) -> Result<InputRow, ScriptFault>
-    requires few_signals { length signals.now ≤ 256 }
-    requires few_tasks { length tasks.now ≤ 8 }
+    requires few_signals { length signals.now ≤ MOST_SIGNALS }
+    requires few_tasks { length tasks.now ≤ MOST_TASKS }
     ensures { Gives (λ input. input) result (input_of signals.now tasks.now before.now (view value.now)) }
 {
     let keys = table_at("input", before.len(), value)?;
@@ -102,7 +103,7 @@ fn input_signal_at(
     signals: &[SignalRow],
     value: &Value,
 ) -> Result<u32, ScriptFault>
-    requires { length signals.now ≤ 256 }
+    requires { length signals.now ≤ MOST_SIGNALS }
     ensures { Gives (λ number. number) result (input_signal_at (at (view_keys keys.now) key.now) signals.now (view value.now)) }
 {
     let number = signal_at(keys, key, signals, value)?;
@@ -124,7 +125,7 @@ fn is_input_signal(signals: &[SignalRow], number: u32) -> bool
 
 /// The signal and its value for which the step waits, if it waits for one.
 fn when_of(keys: &TableKeys<'_>, signals: &[SignalRow]) -> Result<Option<(u32, bool)>, ScriptFault>
-    requires { length signals.now ≤ 256 }
+    requires { length signals.now ≤ MOST_SIGNALS }
     ensures { Gives (λ pair. pair) result (pair_at (view_keys keys.now) (codes "when") (codes "is") (number_at (at (view_keys keys.now) (codes "when")) (map (λ row. row.name) signals.now)) (bit_at (at (view_keys keys.now) (codes "is")))) }
 {
     match (keys.value("when"), keys.value("is")) {
@@ -143,8 +144,8 @@ fn when_of(keys: &TableKeys<'_>, signals: &[SignalRow]) -> Result<Option<(u32, b
 
 /// The task and the count of its setpoints for which the step waits, if it waits for one.
 fn given_of(keys: &TableKeys<'_>, tasks: &[ScriptTask]) -> Result<Option<(u32, u32)>, ScriptFault>
-    requires { length tasks.now ≤ 8 }
-    ensures { Gives (λ pair. pair) result (pair_at (view_keys keys.now) (codes "task") (codes "setpoints") (number_at (at (view_keys keys.now) (codes "task")) (map (λ task. task.name) tasks.now)) (whole_at (at (view_keys keys.now) (codes "setpoints")) 0 1_000_000)) }
+    requires { length tasks.now ≤ MOST_TASKS }
+    ensures { Gives (λ pair. pair) result (pair_at (view_keys keys.now) (codes "task") (codes "setpoints") (number_at (at (view_keys keys.now) (codes "task")) (map (λ task. task.name) tasks.now)) (whole_at (at (view_keys keys.now) (codes "setpoints")) 0 MOST_STEPS)) }
 {
     match (keys.value("task"), keys.value("setpoints")) {
         (None, None) => Ok(None),
@@ -155,17 +156,17 @@ fn given_of(keys: &TableKeys<'_>, tasks: &[ScriptTask]) -> Result<Option<(u32, u
         }
         (Some(task), Some(count)) => {
             let task = task_at(keys, "task", tasks, task)?;
-            Ok(Some((task, whole_at(keys, "setpoints", 0, 1_000_000, count)?)))
+            Ok(Some((task, whole_at(keys, "setpoints", 0, MOST_STEPS, count)?)))
         }
     }
 }
 
 /// How many counted events the step waits for, if it waits for any.
 fn after_of(keys: &TableKeys<'_>) -> Result<Option<u32>, ScriptFault>
-    ensures { Gives (λ after. after) result (where_there (whole_at (at (view_keys keys.now) (codes "after")) 0 1_000_000) (value_of (view_keys keys.now) (codes "after"))) }
+    ensures { Gives (λ after. after) result (where_there (whole_at (at (view_keys keys.now) (codes "after")) 0 MOST_STEPS) (value_of (view_keys keys.now) (codes "after"))) }
 {
     match keys.value("after") {
-        Some(after) => Ok(Some(whole_at(keys, "after", 0, 1_000_000, after)?)),
+        Some(after) => Ok(Some(whole_at(keys, "after", 0, MOST_STEPS, after)?)),
         None => Ok(None),
     }
 }

@@ -13,6 +13,7 @@ use crate::fault::ScriptFault;
 use crate::keys::TableKeys;
 use crate::plain::text_at;
 use rapid_lexer::{is_letter, is_name_byte, is_reserved};
+use rapid_limits::LONGEST_NAME;
 use rapid_model::{NameText, ScriptRule};
 use toml::Value;
 
@@ -52,7 +53,9 @@ fn is_short_name(bytes: &[u8]) -> bool
 {
     match bytes {
         [] => false,
-        [first, rest @ ..] => { is_letter(*first) && are_name_bytes(rest) && bytes.len() <= 32 }
+        [first, rest @ ..] => {
+            is_letter(*first) && are_name_bytes(rest) && bytes.len() <= LONGEST_NAME
+        }
     }
 }
 

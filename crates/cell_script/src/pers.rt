@@ -14,6 +14,7 @@ use crate::keys::{TableKeys, table_at};
 use crate::list::rows_at;
 use crate::name::name_at;
 use crate::plain::{text_at, whole_at};
+use rapid_limits::{LONGEST_ARRAY, LONGEST_STRING, MOST_PERS_VALUES};
 use rapid_model::{PersValue, ScriptRule, Text, Value as Given};
 use rapid_num::{Num, is_printable, read_literal};
 use std::alloc::Global;
@@ -21,10 +22,10 @@ use toml::Value;
 
 /// The first values, in script order: none where the key is not there.
 pub(crate) fn values_in(alloc: Global, keys: &TableKeys<'_>) -> Result<Vec<PersValue>, ScriptFault>
-    ensures { Gives (λ values. values.items) result (optional [] (rows_in (at (view_keys keys.now) (codes "pers")) 0 1_000 pers_of) (value_of (view_keys keys.now) (codes "pers"))) }
+    ensures { Gives (λ values. values.items) result (optional [] (rows_in (at (view_keys keys.now) (codes "pers")) 0 MOST_PERS_VALUES pers_of) (value_of (view_keys keys.now) (codes "pers"))) }
 {
     match keys.value("pers") {
-        Some(rows) => values_of(alloc, rows_at(keys, "pers", 0, 1_000, rows)?),
+        Some(rows) => values_of(alloc, rows_at(keys, "pers", 0, MOST_PERS_VALUES, rows)?),
         None => Ok(Vec::new(alloc)),
     }
 }
@@ -56,10 +57,10 @@ fn pers_of(before: &[PersValue], value: &Value) -> Result<PersValue, ScriptFault
 
 /// The element of an array, from 1, if the value is one's.
 fn index_of(keys: &TableKeys<'_>) -> Result<Option<u16>, ScriptFault>
-    ensures { Gives (λ index. index) result (where_there (whole_at (at (view_keys keys.now) (codes "index")) 1 1_000) (value_of (view_keys keys.now) (codes "index"))) }
+    ensures { Gives (λ index. index) result (where_there (whole_at (at (view_keys keys.now) (codes "index")) 1 LONGEST_ARRAY) (value_of (view_keys keys.now) (codes "index"))) }
 {
     match keys.value("index") {
-        Some(index) => Ok(Some(whole_at(keys, "index", 1, 1_000, index)? as u16)),
+        Some(index) => Ok(Some(whole_at(keys, "index", 1, LONGEST_ARRAY as u32, index)? as u16)),
         None => Ok(None),
     }
 }
@@ -115,7 +116,7 @@ fn text_value_at(keys: &TableKeys<'_>, key: &str, value: &Value) -> Result<Given
 {
     let text = text_at(keys, key, value)?;
     let bytes = text.as_bytes();
-    if bytes.len() <= 80 && are_printable(bytes) {
+    if bytes.len() <= LONGEST_STRING && are_printable(bytes) {
         Ok(Given::Text(copy_text(bytes)))
     } else {
         Err(keys.broken(key, ScriptRule::Range))
@@ -129,7 +130,7 @@ fn are_printable(bytes: &[u8]) -> bool
 }
 
 fn copy_text(bytes: &[u8]) -> Text
-    requires short { length bytes.now ≤ 80 }
+    requires short { length bytes.now ≤ LONGEST_STRING }
     requires printable { IsTrue (list_all is_printable bytes.now) }
     ensures { result ≡ bytes.now }
 {

@@ -6,7 +6,7 @@ ghost use Rattle.cell_script.specs.declared.fault.ScriptFault.TheVariants.{Rule}
 ghost use Rattle.rapid_model.specs.declared.script_rule.ScriptRule.TheVariants.{NotToml};
 ghost use Rattle.cell_script.specs.Keys.{at, optional, value_of, whole_at};
 ghost use Rattle.cell_script.specs.Parts.{needed_whole};
-ghost use Rattle.cell_script.specs.ScriptOf.{default_steps, script_of, script_of_keys, ScriptOf, FaultOf};
+ghost use Rattle.cell_script.specs.ScriptOf.{script_of, script_of_keys, ScriptOf, FaultOf};
 ghost use Rattle.cell_script.specs.Gives.{Gives, view_keys};
 
 use crate::fault::ScriptFault;
@@ -18,6 +18,7 @@ use crate::plain::whole_at;
 use crate::signal::signals_in;
 use crate::task::tasks_in;
 use crate::zone::zones_in;
+use rapid_limits::{DEFAULT_STEPS, MOST_STEPS};
 use rapid_model::{Script, ScriptRule, Sequence, Text};
 use std::alloc::Global;
 use toml::Table;
@@ -58,7 +59,7 @@ fn read_table(alloc: Global, table: &Table) -> Result<Script, ScriptFault>
         path: Path::Script,
         table,
     };
-    check_version(&keys)?;
+    let version = version_of(&keys)?;
     let steps = steps_of(&keys)?;
     let signals = signals_in(alloc, &keys)?;
     let tasks = tasks_in(alloc, &keys)?;
@@ -66,6 +67,7 @@ fn read_table(alloc: Global, table: &Table) -> Result<Script, ScriptFault>
     let zones = zones_in(alloc, &keys, &signals, &tasks)?;
     let inputs = inputs_in(alloc, &keys, &signals, &tasks)?;
     let script = Script {
+        version,
         steps,
         signals: Sequence::from_vec(signals),
         tasks: Sequence::from_vec(tasks),
@@ -82,7 +84,7 @@ fn read_table(alloc: Global, table: &Table) -> Result<Script, ScriptFault>
 }
 
 /// The version of the format: 1.
-fn check_version(keys: &TableKeys<'_>) -> Result<u32, ScriptFault>
+fn version_of(keys: &TableKeys<'_>) -> Result<u32, ScriptFault>
     ensures { Gives (λ version. version) result (needed_whole (view_keys keys.now) (codes "version") 1 1) }
 {
     let value = keys.needed("version")?;
@@ -91,10 +93,10 @@ fn check_version(keys: &TableKeys<'_>) -> Result<u32, ScriptFault>
 
 /// How many events are counted at most.
 fn steps_of(keys: &TableKeys<'_>) -> Result<u32, ScriptFault>
-    ensures { Gives (λ steps. steps) result (optional default_steps (whole_at (at (view_keys keys.now) (codes "steps")) 1 1_000_000) (value_of (view_keys keys.now) (codes "steps"))) }
+    ensures { Gives (λ steps. steps) result (optional DEFAULT_STEPS (whole_at (at (view_keys keys.now) (codes "steps")) 1 MOST_STEPS) (value_of (view_keys keys.now) (codes "steps"))) }
 {
     match keys.value("steps") {
-        Some(steps) => whole_at(keys, "steps", 1, 1_000_000, steps),
-        None => Ok(100_000),
+        Some(steps) => whole_at(keys, "steps", 1, MOST_STEPS, steps),
+        None => Ok(DEFAULT_STEPS),
     }
 }

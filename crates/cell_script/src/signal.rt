@@ -16,16 +16,17 @@ use crate::list::rows_at;
 use crate::name::{is_same_name, name_at};
 use crate::plain::{bit_at, text_at, word_at};
 use rapid_builtins::is_predefined;
+use rapid_limits::MOST_SIGNALS;
 use rapid_model::{NameText, ScriptRule, SignalRow};
 use std::alloc::Global;
 use toml::Value;
 
 /// The signals, in script order: none where the key is not there.
 pub(crate) fn signals_in(alloc: Global, keys: &TableKeys<'_>) -> Result<Vec<SignalRow>, ScriptFault>
-    ensures { Gives (λ signals. signals.items) result (optional [] (rows_in (at (view_keys keys.now) (codes "signal")) 0 256 signal_of) (value_of (view_keys keys.now) (codes "signal"))) }
+    ensures { Gives (λ signals. signals.items) result (optional [] (rows_in (at (view_keys keys.now) (codes "signal")) 0 MOST_SIGNALS signal_of) (value_of (view_keys keys.now) (codes "signal"))) }
 {
     match keys.value("signal") {
-        Some(rows) => signals_of(alloc, rows_at(keys, "signal", 0, 256, rows)?),
+        Some(rows) => signals_of(alloc, rows_at(keys, "signal", 0, MOST_SIGNALS, rows)?),
         None => Ok(Vec::new(alloc)),
     }
 }
@@ -104,7 +105,7 @@ pub(crate) fn signal_at(
     signals: &[SignalRow],
     value: &Value,
 ) -> Result<u32, ScriptFault>
-    requires { length signals.now ≤ 256 }
+    requires { length signals.now ≤ MOST_SIGNALS }
     ensures { Gives (λ number. number) result (number_at (at (view_keys keys.now) key.now) (map (λ row. row.name) signals.now) (view value.now)) }
 {
     let text = text_at(keys, key, value)?;

@@ -7,7 +7,7 @@ ghost use Rattle.toml.specs.View.{view};
 ghost use Rattle.rapid_num.specs.Reach.{absent_axes};
 ghost use Rattle.rapid_model.specs.ScriptData.{is_file_name};
 ghost use Rattle.cell_script.specs.Keys.{at, value_of, number_at, each_row};
-ghost use Rattle.cell_script.specs.Rows.{task_name_at, files_at, arm_at, task_of};
+ghost use Rattle.cell_script.specs.Rows.{task_name_at, files_at, arm_at, axes_of, task_of};
 ghost use Rattle.cell_script.specs.Parts.{needed_rows, where_there};
 ghost use Rattle.cell_script.specs.Gives.{Gives, view_keys};
 
@@ -17,17 +17,18 @@ use crate::keys::{TableKeys, table_at};
 use crate::list::{rows_at, texts_at};
 use crate::name::{is_same_name, name_at};
 use crate::plain::text_at;
+use rapid_limits::{LONGEST_FILE_NAME, MOST_MODULES, MOST_TASKS, MOST_TASKS_AT_FIRST};
 use rapid_model::{FileName, NameText, ScriptRule, ScriptTask, Sequence};
 use rapid_num::{Joints, Num};
 use std::alloc::Global;
 use toml::Value;
 
-/// The tasks, in script order: 1 to 8.
+/// The tasks, in script order: one or more, but not too many.
 pub(crate) fn tasks_in(alloc: Global, keys: &TableKeys<'_>) -> Result<Vec<ScriptTask>, ScriptFault>
-    ensures { Gives (λ tasks. tasks.items) result (needed_rows (view_keys keys.now) (codes "task") 1 8 task_of) }
+    ensures { Gives (λ tasks. tasks.items) result (needed_rows (view_keys keys.now) (codes "task") 1 MOST_TASKS_AT_FIRST task_of) }
 {
     let value = keys.needed("task")?;
-    let rows = rows_at(keys, "task", 1, 8, value)?;
+    let rows = rows_at(keys, "task", 1, MOST_TASKS_AT_FIRST, value)?;
     tasks_of(alloc, rows)
 }
 
@@ -50,9 +51,15 @@ fn task_of(alloc: Global, before: &[ScriptTask], value: &Value) -> Result<Script
     let name = task_name_at(&keys, "name", before, keys.needed("name")?)?;
     let modules = files_at(alloc, &keys, "modules", keys.needed("modules")?)?;
     let arm = arm_of(alloc, &keys)?;
+    let axes = axes_of(&arm);
     keys.only(
         &["name", "modules", "arm"],
-        ScriptTask { name, modules, arm },
+        ScriptTask {
+            name,
+            modules,
+            arm,
+            axes,
+        },
     )
 }
 
@@ -86,7 +93,7 @@ pub(crate) fn task_at(
     tasks: &[ScriptTask],
     value: &Value,
 ) -> Result<u32, ScriptFault>
-    requires { length tasks.now ≤ 8 }
+    requires { length tasks.now ≤ MOST_TASKS }
     ensures { Gives (λ number. number) result (number_at (at (view_keys keys.now) key.now) (map (λ task. task.name) tasks.now) (view value.now)) }
 {
     let text = text_at(keys, key, value)?;
@@ -103,7 +110,7 @@ fn find_task(name: &[u8], tasks: &[ScriptTask]) -> Option<usize>
     tasks.iter().position(|task| is_same_name(name, &task.name))
 }
 
-/// The files of a task's modules: 1 to 16 names of 1 to 255 bytes.
+/// The files of a task's modules: one or more, but not too many, and none has an empty name or too long a one.
 fn files_at(
     alloc: Global,
     keys: &TableKeys<'_>,
@@ -113,7 +120,7 @@ fn files_at(
     ensures { Gives (λ files. files) result (files_at (at (view_keys keys.now) key.now) (view value.now)) }
 {
     let files = texts_at(alloc, keys, key, value)?;
-    if 1 <= files.len() && files.len() <= 16 && are_file_names(&files) {
+    if 1 <= files.len() && files.len() <= MOST_MODULES && are_file_names(&files) {
         Ok(Sequence::from_vec(files))
     } else {
         Err(keys.broken(key, ScriptRule::Range))
@@ -129,7 +136,7 @@ fn are_file_names(files: &[FileName]) -> bool
 fn is_file_name(file: &FileName) -> bool
     ensures { result ≡ is_file_name file.now }
 {
-    (1..=255).contains(&file.as_str().len())
+    (1..=LONGEST_FILE_NAME).contains(&file.as_str().len())
 }
 
 /// Where the arm starts, if there is one.
@@ -139,6 +146,16 @@ fn arm_of(alloc: Global, keys: &TableKeys<'_>) -> Result<Option<Joints>, ScriptF
     match keys.value("arm") {
         Some(arm) => Ok(Some(arm_at(alloc, keys, "arm", arm)?)),
         None => Ok(None),
+    }
+}
+
+/// How many axes an arm has where there is one: six in version 1.
+fn axes_of(arm: &Option<Joints>) -> u8
+    ensures { result ≡ axes_of arm.now }
+{
+    match arm {
+        Some(_) => 6,
+        None => 0,
     }
 }
 
@@ -162,7 +179,7 @@ fn arm_at(
 }
 
 fn arm_from(angles: &[Num]) -> Option<Joints>
-    ensures { result ≡ (if length angles.now == 6 then Some (record { axis = angles.now ++ absent_axes }) else None) }
+    ensures { result ≡ (if length angles.now == 6 then Some (record { axis = angles.now ++ absent_axes 6 }) else None) }
 {
     match angles {
         [first, second, third, fourth, fifth, sixth] => {

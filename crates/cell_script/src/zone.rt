@@ -18,6 +18,7 @@ use crate::plain::{bit_at, word_at};
 use crate::shape::shape_of;
 use crate::signal::signal_at;
 use crate::task::task_at;
+use rapid_limits::{MOST_CELL_ZONES, MOST_SIGNALS, MOST_TASKS};
 use rapid_model::{ScriptRule, ScriptTask, SignalRow, ZoneRow};
 use rapid_num::Num;
 use std::alloc::Global;
@@ -30,12 +31,17 @@ pub(crate) fn zones_in(
     signals: &[SignalRow],
     tasks: &[ScriptTask],
 ) -> Result<Vec<ZoneRow>, ScriptFault>
-    requires few_signals { length signals.now ≤ 256 }
-    requires few_tasks { length tasks.now ≤ 8 }
-    ensures { Gives (λ zones. zones.items) result (optional [] (rows_in (at (view_keys keys.now) (codes "zone")) 0 16 (zone_of signals.now tasks.now)) (value_of (view_keys keys.now) (codes "zone"))) }
+    requires few_signals { length signals.now ≤ MOST_SIGNALS }
+    requires few_tasks { length tasks.now ≤ MOST_TASKS }
+    ensures { Gives (λ zones. zones.items) result (optional [] (rows_in (at (view_keys keys.now) (codes "zone")) 0 MOST_CELL_ZONES (zone_of signals.now tasks.now)) (value_of (view_keys keys.now) (codes "zone"))) }
 {
     match keys.value("zone") {
-        Some(rows) => zones_of(alloc, signals, tasks, rows_at(keys, "zone", 0, 16, rows)?),
+        Some(rows) => zones_of(
+            alloc,
+            signals,
+            tasks,
+            rows_at(keys, "zone", 0, MOST_CELL_ZONES, rows)?,
+        ),
         None => Ok(Vec::new(alloc)),
     }
 }
@@ -46,8 +52,8 @@ fn zones_of(
     tasks: &[ScriptTask],
     rows: &[Value],
 ) -> Result<Vec<ZoneRow>, ScriptFault>
-    requires few_signals { length signals.now ≤ 256 }
-    requires few_tasks { length tasks.now ≤ 8 }
+    requires few_signals { length signals.now ≤ MOST_SIGNALS }
+    requires few_tasks { length tasks.now ≤ MOST_TASKS }
     ensures { Gives (λ zones. zones.items) result (each_row (zone_of signals.now tasks.now) [] (map view rows.now)) }
 {
     let mut zones = Vec::new(alloc);
@@ -66,8 +72,8 @@ fn zone_of(
     before: &[ZoneRow],
     value: &Value,
 ) -> Result<ZoneRow, ScriptFault>
-    requires few_signals { length signals.now ≤ 256 }
-    requires few_tasks { length tasks.now ≤ 8 }
+    requires few_signals { length signals.now ≤ MOST_SIGNALS }
+    requires few_tasks { length tasks.now ≤ MOST_TASKS }
     ensures { Gives (λ zone. zone) result (zone_of signals.now tasks.now before.now (view value.now)) }
 {
     let keys = table_at("zone", before.len(), value)?;
@@ -100,7 +106,7 @@ fn armed_task_at(
     tasks: &[ScriptTask],
     value: &Value,
 ) -> Result<u32, ScriptFault>
-    requires { length tasks.now ≤ 8 }
+    requires { length tasks.now ≤ MOST_TASKS }
     ensures { Gives (λ number. number) result (armed_task_at (at (view_keys keys.now) key.now) tasks.now (view value.now)) }
 {
     let number = task_at(keys, key, tasks, value)?;
@@ -112,10 +118,10 @@ fn armed_task_at(
 }
 
 fn has_arm(tasks: &[ScriptTask], number: u32) -> bool
-    ensures { result ≡ has_arm (map (λ task. task.arm) tasks.now) number }
+    ensures { result ≡ has_arm (map (λ task. task.axes) tasks.now) number }
 {
     match tasks.get(number as usize) {
-        Some(task) => task.arm.is_some(),
+        Some(task) => task.axes > 0,
         None => false,
     }
 }

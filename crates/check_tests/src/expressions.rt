@@ -59,7 +59,7 @@ fn comes_to(alloc: Global, expression: &[u8], want: Want, outcome: Outcome) -> R
     let known = Known {
         tasks: &[],
         signals: &[],
-        arm: true,
+        axes: 6,
     };
     let Ok(scopes) = Scopes::new(alloc, &modules, &known) else {
         return Err("names are found".into());

@@ -2,8 +2,8 @@
 
 use super::texts::module_of;
 use data_scopes::{DatumRow, Known, Meant, ParamRow, Scopes, Since};
-use rapid_model::{Instruction, NameText, SignalRow, Sort, Value};
-use raw_trees::{Mode, RawModule, RoutineKind};
+use rapid_model::{Instruction, Mode, NameText, RoutineKind, SignalRow, Sort, Value};
+use raw_trees::RawModule;
 use rule_checks::Spot;
 use std::alloc::Global;
 use std::test::*;
@@ -62,7 +62,7 @@ fn what_names_mean(rt: HostRuntime) -> Result<(), Fail> {
     let known = Known {
         tasks: &[],
         signals: &signals,
-        arm: true,
+        axes: 6,
     };
     let modules = modules_of(alloc, &DECLARED)?;
     let Ok(mut scopes) = Scopes::new(alloc, &modules, &known) else {
@@ -185,7 +185,7 @@ fn declarations_by_number(rt: HostRuntime) -> Result<(), Fail> {
     let known = Known {
         tasks: &[],
         signals: &signals,
-        arm: false,
+        axes: 0,
     };
     let modules = modules_of(alloc, &NUMBERED)?;
     let Ok(scopes) = Scopes::new(alloc, &modules, &known) else {

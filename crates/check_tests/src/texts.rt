@@ -40,18 +40,18 @@ pub fn module_of(alloc: Global, text: &[u8]) -> Result<RawModule<'_>, Fail> {
 pub fn task_of(alloc: Global, text: &[u8]) -> Result<Tree, Fail>
     ensures { IfOk result (λ tree. IsTrue (has_sound_pers (view_tree tree))) }
 {
-    task_with(alloc, text, false)
+    task_with(alloc, text, 0)
 }
 
-/// The typed tree of a task, with an arm or without one, that has one module.
-pub fn task_with(alloc: Global, text: &[u8], arm: bool) -> Result<Tree, Fail>
+/// The typed tree of a task whose arm has so many axes, or none where it has no arm, and that has one module.
+pub fn task_with(alloc: Global, text: &[u8], axes: u8) -> Result<Tree, Fail>
     ensures { IfOk result (λ tree. IsTrue (has_sound_pers (view_tree tree))) }
 {
     let modules = [module_of(alloc, text)?];
     let known = Known {
         tasks: &[],
         signals: &[],
-        arm,
+        axes,
     };
     match check_task(alloc, &modules, &known) {
         Ok(tree) => Ok(tree),

@@ -68,7 +68,7 @@ fn tree_of(alloc: Global, text: &[u8]) -> Result<Option<Tree>, AllocError> {
     let known = Known {
         tasks: tasks.as_slice(),
         signals: signals.as_slice(),
-        arm: true,
+        axes: 6,
     };
     match parse_module(alloc, text) {
         Ok(module) => {

@@ -5,9 +5,10 @@ ghost use Rattle.live_code.specs.IsCode.{IsCode};
 ghost use Rattle.stack_code.specs.Compiled.{compiled};
 ghost use Rattle.typed_trees.specs.Views.{view_tree};
 
-use code_link::{LinkedCode, link_routines};
+use code_link::link_routines;
 use live_code::Code;
 use rapid_num::Memory;
+use stack_code::LinkedCode;
 use std::alloc::Global;
 use typed_trees::Tree;
 
@@ -40,26 +41,5 @@ fn kept(linked: LinkedCode) -> Code
     requires { IsCode linked }
     ensures { result ≡ linked }
 {
-    let LinkedCode {
-        ops,
-        routines,
-        marks,
-        slots,
-        firsts,
-        tasks,
-        sorts,
-        deepest,
-        main,
-    } = linked;
-    Code {
-        ops,
-        routines,
-        marks,
-        slots,
-        firsts,
-        tasks,
-        sorts,
-        deepest,
-        main,
-    }
+    Code { linked }
 }

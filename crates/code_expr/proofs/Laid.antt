@@ -6,8 +6,8 @@ use Rattle.rapid_model.specs.declared.function.Function.{Function}
 use Rattle.rapid_model.specs.declared.function.Function.TheVariants as functions
 use Rattle.rapid_model.specs.declared.part_name.PartName.{PartName}
 use Rattle.rapid_model.specs.declared.part_name.PartName.TheVariants as parts
-use Rattle.raw_trees.specs.declared.raw_expr.Operator.{Operator}
-use Rattle.raw_trees.specs.declared.raw_expr.Operator.TheVariants as operators
+use Rattle.rapid_model.specs.declared.operator.Operator.{Operator}
+use Rattle.rapid_model.specs.declared.operator.Operator.TheVariants as operators
 use Rattle.stack_code.specs.ExprLayouts.{args_code, builtin_code, expr_code, part_code, place_code, put, sign_code, signal_code, steps_code}
 use Rattle.stack_code.specs.Placed.{Own, Placed}
 use Rattle.stack_code.specs.Sizes.{args_size, builtin_size, expr_size, part_size, place_size, sign_size, signal_size, steps_size}

@@ -1,7 +1,7 @@
 -- Lists of children whose operations are put behind a block, one after the other.
 use Rattle.std.proofs.Common.{◌+◌, ap, arith}
-use Rattle.raw_trees.specs.declared.raw_expr.Operator.{Operator}
-use Rattle.raw_trees.specs.declared.raw_expr.Operator.TheVariants as operators
+use Rattle.rapid_model.specs.declared.operator.Operator.{Operator}
+use Rattle.rapid_model.specs.declared.operator.Operator.TheVariants as operators
 use Rattle.stack_code.specs.ExprLayouts.{args_code, expr_code, exprs_code, place_code, put, steps_code}
 use Rattle.stack_code.specs.Placed.{Own}
 use Rattle.stack_code.specs.Sizes.{args_size, expr_size, exprs_size, steps_size}

@@ -1,7 +1,7 @@
 -- The rest of a list of children, from one on.
 use Rattle.std.proofs.Common.{◌≡◌, ℕ, ◌+◌, ◌<◌, ◌≤◌, List, length, get_or, map, drop, sym, ap, ◌∙◌}
 use Rattle.std.proofs.lemmas.List.{at_drop_all, at_drop_more}
-use Rattle.raw_trees.specs.declared.raw_expr.Operator.{Operator}
+use Rattle.rapid_model.specs.declared.operator.Operator.{Operator}
 use Rattle.typed_trees.specs.Plain.{TypedArgs, TypedExprs, TypedSteps, MoreArgs, MoreExprs, MoreSteps, NoArgs, NoExprs, NoSteps, args_of, exprs_of, steps_of}
 use Rattle.typed_trees.specs.Views.{view_arg, view_expr, view_step}
 use Rattle.typed_trees.specs.declared.expr.Arg.{Arg}

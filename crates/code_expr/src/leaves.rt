@@ -1,22 +1,18 @@
 //! Operations of the smallest parts of expressions.
 
 ghost use Rattle.std.specs.Prelude.{◌≡◌, ◌*◌, pos, OnOk};
-ghost use Rattle.rapid_model.specs.declared.sort.Sort.{Sort};
 ghost use Rattle.stack_code.specs.ExprLayouts.{part_code, put, sign_code, signal_code};
 ghost use Rattle.stack_code.specs.Pieces;
 ghost use Rattle.stack_code.specs.Placed.{Own};
 ghost use Rattle.stack_code.specs.Sizes.{part_size, sign_size, signal_size};
 ghost use Rattle.stack_code.specs.declared.op.Op.TheVariants as ops;
-ghost use Rattle.code_expr.specs.Adds.{Adds, AddsPlace};
+ghost use Rattle.code_expr.specs.Adds.{Adds};
 
 use crate::block::Block;
-use crate::context::Context;
-use rapid_model::{Function, PartName};
+use rapid_model::{Function, Operator, PartName};
 use rapid_num::Num;
-use raw_trees::Operator;
 use stack_code::{Op, Pushed, UnaryOp};
 use std::alloc::AllocError;
-use typed_trees::TreeRoot;
 
 /// A count as a num.
 fn whole(count: u16) -> Num
@@ -82,22 +78,6 @@ pub(crate) fn add_signal(
         }
         _ => Ok(()),
     }
-}
-
-/// An element of an array, by its number from 1. Its error says that memory was refused.
-pub fn add_element(
-    context: &Context<'_>,
-    root: TreeRoot,
-    part: PartName,
-    number: u16,
-    code: &mut Block,
-) -> Result<(), AllocError>
-    ensures { OnOk result ((own : Own) (sort : Sort) → AddsPlace own context.now code.old code.new (Pieces.element root part sort number)) }
-{
-    code.put(context.root_op(root))?;
-    code.put(push(number))?;
-    code.put(context.index_op(root))?;
-    add_part(part, code)
 }
 
 /// A copy of the left operand, a jump by it, and without the jump it is dropped. Its error says that memory was refused.

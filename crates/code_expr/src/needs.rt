@@ -7,8 +7,7 @@ ghost use Rattle.stack_code.specs.Needs;
 
 use crate::builtin_form::{BuiltinForm, form_of};
 use crate::numbers::sum;
-use rapid_model::Function;
-use raw_trees::Operator;
+use rapid_model::{Function, Operator};
 use std::alloc::AllocError;
 use typed_trees::{Arg, Expr, ExprForm, TreePlace};
 

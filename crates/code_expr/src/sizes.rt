@@ -1,17 +1,13 @@
 //! How many operations expressions have. Each error says that they are 2^32 or more.
 
-ghost use Rattle.std.specs.Prelude.{◌≡◌, ℕ, ◌≤◌, IfOk, map};
-ghost use Rattle.rapid_model.specs.declared.sort.Sort.{Sort};
-ghost use Rattle.typed_trees.specs.declared.expr.TreeRoot.{TreeRoot};
-ghost use Rattle.stack_code.specs.Pieces;
+ghost use Rattle.std.specs.Prelude.{◌≡◌, ◌≤◌, IfOk, map};
 ghost use Rattle.typed_trees.specs.Plain.{MoreArgs, NoArgs, args_of, exprs_of, steps_of};
 ghost use Rattle.typed_trees.specs.Views.{view_arg, view_expr, view_place, view_step};
 ghost use Rattle.stack_code.specs.Sizes;
 
 use crate::builtin_form::{BuiltinForm, form_of};
 use crate::numbers::sum;
-use rapid_model::{Function, PartName};
-use raw_trees::Operator;
+use rapid_model::{Function, Operator, PartName};
 use std::alloc::AllocError;
 use typed_trees::{Arg, Expr, ExprForm, TreePlace};
 
@@ -103,13 +99,6 @@ fn builtin_size(function: Function, args: &Vec<Arg>) -> Result<u32, AllocError>
         BuiltinForm::Signal(_) => Ok(signal_size(function)),
         BuiltinForm::Other => Ok(0),
     }
-}
-
-/// How many operations an element of an array has, its index being a number.
-pub fn element_size(part: PartName) -> u32
-    ensures { (root : TreeRoot) (sort : Sort) (number : ℕ) → result ≡ Sizes.place_size (Pieces.element root part sort number) }
-{
-    3 + part_size(part)
 }
 
 /// How many operations the part of a place has: none where it is the whole.

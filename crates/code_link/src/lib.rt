@@ -5,9 +5,7 @@ mod data;
 mod firsts;
 mod link;
 mod linked;
-mod linked_code;
 mod routines;
 mod rows;
 
 pub use link::link_routines;
-pub use linked_code::LinkedCode;

@@ -3,9 +3,9 @@ ghost use Rattle.stack_code.specs.Compiled.{compiled};
 ghost use Rattle.typed_trees.specs.Views.{view_tree};
 
 use crate::data::{slots_of, sorts_of, tasks_of};
-use crate::linked_code::LinkedCode;
 use crate::routines::routines_of;
 use rapid_num::Memory;
+use stack_code::LinkedCode;
 use std::alloc::{AllocError, Global};
 use typed_trees::Tree;
 
@@ -38,5 +38,6 @@ fn code_of(alloc: Global, tree: &Tree) -> Result<LinkedCode, AllocError>
         sorts,
         deepest: linked.deepest,
         main: tree.main,
+        axes: tree.axes,
     })
 }

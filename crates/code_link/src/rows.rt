@@ -6,7 +6,7 @@ ghost use Rattle.rapid_meaning.specs.Frames.{first_values};
 ghost use Rattle.stack_code.specs.Compiled;
 ghost use Rattle.typed_trees.specs.Views.{view_routine};
 
-use raw_trees::RoutineKind;
+use rapid_model::RoutineKind;
 use stack_code::RoutineRow;
 use typed_trees::Routine;
 

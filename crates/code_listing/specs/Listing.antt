@@ -3,8 +3,8 @@
 use Rattle.std.specs.Prelude.{ℕ, List, [], ◌∷◌, ◌++◌, codes, decimal}
 use Rattle.rapid_model.specs.declared.function.Function.{Function}
 use Rattle.rapid_model.specs.declared.function.Function.TheVariants as functions
-use Rattle.raw_trees.specs.declared.raw_expr.Operator.{Operator}
-use Rattle.raw_trees.specs.declared.raw_expr.Operator.TheVariants as operators
+use Rattle.rapid_model.specs.declared.operator.Operator.{Operator}
+use Rattle.rapid_model.specs.declared.operator.Operator.TheVariants as operators
 use Rattle.stack_code.specs.declared.irq_op.IrqOp.{IrqOp}
 use Rattle.stack_code.specs.declared.irq_op.IrqOp.TheVariants as irqs
 use Rattle.stack_code.specs.declared.op.Op.{Op}
@@ -108,7 +108,7 @@ op_name (ops.Turn k a) = codes "Turn"
 op_name (ops.Step k a) = codes "Step"
 op_name (ops.Wait a) = codes "Wait"
 op_name ops.TestSet = codes "TestSet"
-op_name ops.TaskBit = codes "TaskBit"
+op_name (ops.TaskSet n) = codes "TaskSet"
 op_name (ops.Arrive g) = codes "Arrive"
 op_name ops.Here = codes "Here"
 op_name ops.Still = codes "Still"
@@ -144,6 +144,7 @@ op_args (ops.Local k) = number_word k
 op_args (ops.Pers p) = number_word p
 op_args (ops.Ref k) = number_word k
 op_args (ops.Index n) = number_word n
+op_args (ops.TaskSet n) = number_word n
 op_args (ops.Part part) = word (part_text part)
 op_args (ops.GetSignal s) = number_word s
 op_args (ops.PutSignal s) = number_word s

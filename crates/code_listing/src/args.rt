@@ -1,17 +1,18 @@
 //! What an operation has.
 
-ghost use Rattle.std.specs.Prelude.{◌≡◌, ◌+◌, ◌≤◌, ◌∷◌, ◌++◌, length};
+ghost use Rattle.std.specs.Prelude.{◌≡◌, ◌+◌, ◌*◌, ◌≤◌, ◌∷◌, ◌++◌, length};
 ghost use Rattle.value_text.specs.ValueText.{truth_text};
 ghost use Rattle.code_listing.specs.Listing.{datum_text, op_args, word, number_word, order_text};
 
 use crate::kinds::{function_name, irq_name, operator_name, tail_name, unary_name, zone_name};
+use crate::rooms::{ARGS_BYTES, NUMBER_BYTES, ONE_WORD_BYTES, OPERATION_BYTES, WATCHED_BYTES};
 use arrayvec::ArrayString;
 use stack_code::{Op, OrderOn, Pushed};
-use value_text::{part_name, push_count, push_value, sort_name, truth_name};
+use value_text::{WORD_BYTES, part_name, push_count, push_value, sort_name, truth_name};
 
 /// Appends what an operation has, each after a space.
-pub(crate) fn push_args(op: &Op, line: &mut ArrayString<400>)
-    requires room { length line.old.bytes + 250 ≤ 400 }
+pub(crate) fn push_args(op: &Op, line: &mut ArrayString<OPERATION_BYTES>)
+    requires room { length line.old.bytes + ARGS_BYTES ≤ OPERATION_BYTES }
     ensures { line.new.bytes ≡ line.old.bytes ++ op_args op.now }
 {
     match op {
@@ -29,7 +30,7 @@ pub(crate) fn push_args(op: &Op, line: &mut ArrayString<400>)
         | Op::Wait(number)
         | Op::Arrive(number)
         | Op::Connect(number) => push_number(*number, line),
-        Op::Index(len) => push_number(u32::from(*len), line),
+        Op::Index(len) | Op::TaskSet(len) => push_number(u32::from(*len), line),
         Op::Part(part) => push_word(part_name(*part), line),
         Op::Pack(sort) => push_word(sort_name(*sort), line),
         Op::Binary(operator) => push_word(operator_name(*operator), line),
@@ -59,7 +60,6 @@ pub(crate) fn push_args(op: &Op, line: &mut ArrayString<400>)
         | Op::Next
         | Op::Exit
         | Op::TestSet
-        | Op::TaskBit
         | Op::Here
         | Op::Still
         | Op::Move => {}
@@ -67,8 +67,8 @@ pub(crate) fn push_args(op: &Op, line: &mut ArrayString<400>)
 }
 
 /// Appends a space and a datum that is pushed.
-fn push_pushed(pushed: &Pushed, line: &mut ArrayString<400>)
-    requires room { length line.old.bytes + 250 ≤ 400 }
+fn push_pushed(pushed: &Pushed, line: &mut ArrayString<OPERATION_BYTES>)
+    requires room { length line.old.bytes + ARGS_BYTES ≤ OPERATION_BYTES }
     ensures { line.new.bytes ≡ line.old.bytes ++ 32 ∷ datum_text pushed.now }
 {
     let value = pushed.kept_value();
@@ -77,29 +77,29 @@ fn push_pushed(pushed: &Pushed, line: &mut ArrayString<400>)
 }
 
 /// Appends a space and a word.
-fn push_word(text: &'static str, line: &mut ArrayString<400>)
-    requires short { length text.now ≤ 12 }
-    requires room { length line.old.bytes + 100 ≤ 400 }
+fn push_word(text: &'static str, line: &mut ArrayString<OPERATION_BYTES>)
+    requires short { length text.now ≤ WORD_BYTES }
+    requires room { length line.old.bytes + ONE_WORD_BYTES ≤ OPERATION_BYTES }
     ensures text { line.new.bytes ≡ line.old.bytes ++ word text.now }
-    ensures short { length line.new.bytes ≤ length line.old.bytes + 13 }
+    ensures short { length line.new.bytes ≤ length line.old.bytes + ONE_WORD_BYTES }
 {
     line.push(' ');
     line.push_str(text);
 }
 
 /// Appends a space and a number.
-fn push_number(number: u32, line: &mut ArrayString<400>)
-    requires room { length line.old.bytes + 41 ≤ 400 }
+fn push_number(number: u32, line: &mut ArrayString<OPERATION_BYTES>)
+    requires room { length line.old.bytes + NUMBER_BYTES ≤ OPERATION_BYTES }
     ensures text { line.new.bytes ≡ line.old.bytes ++ number_word number }
-    ensures short { length line.new.bytes ≤ length line.old.bytes + 41 }
+    ensures short { length line.new.bytes ≤ length line.old.bytes + NUMBER_BYTES }
 {
     line.push(' ');
     push_count(number as usize, line);
 }
 
 /// Appends two numbers, each after a space.
-fn push_two(number: u32, pc: u32, line: &mut ArrayString<400>)
-    requires room { length line.old.bytes + 100 ≤ 400 }
+fn push_two(number: u32, pc: u32, line: &mut ArrayString<OPERATION_BYTES>)
+    requires room { length line.old.bytes + 2 * NUMBER_BYTES ≤ OPERATION_BYTES }
     ensures { line.new.bytes ≡ line.old.bytes ++ (number_word number ++ number_word pc) }
 {
     push_number(number, line);
@@ -107,8 +107,8 @@ fn push_two(number: u32, pc: u32, line: &mut ArrayString<400>)
 }
 
 /// Appends two truths, each after a space.
-fn push_truths(one: bool, other: bool, line: &mut ArrayString<400>)
-    requires room { length line.old.bytes + 200 ≤ 400 }
+fn push_truths(one: bool, other: bool, line: &mut ArrayString<OPERATION_BYTES>)
+    requires room { length line.old.bytes + 2 * ONE_WORD_BYTES ≤ OPERATION_BYTES }
     ensures { line.new.bytes ≡ line.old.bytes ++ (word (truth_text one) ++ word (truth_text other)) }
 {
     push_word(truth_name(one), line);
@@ -116,8 +116,8 @@ fn push_truths(one: bool, other: bool, line: &mut ArrayString<400>)
 }
 
 /// Appends what an interrupt is ordered on, and whether for one firing, each after a space.
-fn push_order(on: OrderOn, single: bool, line: &mut ArrayString<400>)
-    requires room { length line.old.bytes + 200 ≤ 400 }
+fn push_order(on: OrderOn, single: bool, line: &mut ArrayString<OPERATION_BYTES>)
+    requires room { length line.old.bytes + WATCHED_BYTES + ONE_WORD_BYTES ≤ OPERATION_BYTES }
     ensures { line.new.bytes ≡ line.old.bytes ++ (order_text on ++ word (truth_text single)) }
 {
     push_watched(on, line);
@@ -125,10 +125,10 @@ fn push_order(on: OrderOn, single: bool, line: &mut ArrayString<400>)
 }
 
 /// Appends a space and a signal or a persistent, by its number in the cell.
-fn push_watched(on: OrderOn, line: &mut ArrayString<400>)
-    requires room { length line.old.bytes + 100 ≤ 400 }
+fn push_watched(on: OrderOn, line: &mut ArrayString<OPERATION_BYTES>)
+    requires room { length line.old.bytes + WATCHED_BYTES ≤ OPERATION_BYTES }
     ensures text { line.new.bytes ≡ line.old.bytes ++ order_text on }
-    ensures short { length line.new.bytes ≤ length line.old.bytes + 42 }
+    ensures short { length line.new.bytes ≤ length line.old.bytes + WATCHED_BYTES }
 {
     match on {
         OrderOn::Signal(signal) => {

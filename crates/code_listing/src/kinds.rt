@@ -3,13 +3,13 @@
 ghost use Rattle.std.specs.Prelude.{◌≡◌, ◌≤◌, length};
 ghost use Rattle.code_listing.specs.Listing;
 
-use rapid_model::Function;
-use raw_trees::Operator;
+use rapid_model::{Function, Operator};
 use stack_code::{IrqOp, TailKind, UnaryOp, ZoneOp};
+use value_text::WORD_BYTES;
 
 pub(crate) fn operator_name(operator: Operator) -> &'static str
     ensures name { result.now ≡ Listing.operator_name operator }
-    ensures short { length result.now ≤ 12 }
+    ensures short { length result.now ≤ WORD_BYTES }
 {
     match operator {
         Operator::Or => "Or",
@@ -32,7 +32,7 @@ pub(crate) fn operator_name(operator: Operator) -> &'static str
 
 pub(crate) fn unary_name(operator: UnaryOp) -> &'static str
     ensures name { result.now ≡ Listing.unary_name operator }
-    ensures short { length result.now ≤ 12 }
+    ensures short { length result.now ≤ WORD_BYTES }
 {
     match operator {
         UnaryOp::Minus => "Minus",
@@ -42,7 +42,7 @@ pub(crate) fn unary_name(operator: UnaryOp) -> &'static str
 
 pub(crate) fn function_name(function: Function) -> &'static str
     ensures name { result.now ≡ Listing.function_name function }
-    ensures short { length result.now ≤ 12 }
+    ensures short { length result.now ≤ WORD_BYTES }
 {
     match function {
         Function::Abs => "Abs",
@@ -59,7 +59,7 @@ pub(crate) fn function_name(function: Function) -> &'static str
 
 pub(crate) fn irq_name(irq: IrqOp) -> &'static str
     ensures name { result.now ≡ Listing.irq_name irq }
-    ensures short { length result.now ≤ 12 }
+    ensures short { length result.now ≤ WORD_BYTES }
 {
     match irq {
         IrqOp::Sleep => "Sleep",
@@ -72,7 +72,7 @@ pub(crate) fn irq_name(irq: IrqOp) -> &'static str
 
 pub(crate) fn zone_name(zone: ZoneOp) -> &'static str
     ensures name { result.now ≡ Listing.zone_name zone }
-    ensures short { length result.now ≤ 12 }
+    ensures short { length result.now ≤ WORD_BYTES }
 {
     match zone {
         ZoneOp::On => "On",
@@ -83,7 +83,7 @@ pub(crate) fn zone_name(zone: ZoneOp) -> &'static str
 
 pub(crate) fn tail_name(tail: TailKind) -> &'static str
     ensures name { result.now ≡ Listing.tail_name tail }
-    ensures short { length result.now ≤ 12 }
+    ensures short { length result.now ≤ WORD_BYTES }
 {
     match tail {
         TailKind::None => "None",

@@ -5,5 +5,7 @@ mod args;
 mod kinds;
 mod listing;
 mod names;
+mod rooms;
 
 pub use listing::listing_line;
+pub use rooms::OPERATION_BYTES;

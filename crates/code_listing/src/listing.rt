@@ -4,11 +4,12 @@ ghost use Rattle.code_listing.specs.Listing.{op_text};
 
 use crate::args::push_args;
 use crate::names::op_name;
+use crate::rooms::OPERATION_BYTES;
 use arrayvec::ArrayString;
 use stack_code::Op;
 
 /// Writes the operation that stands at a place of code, from 0: its name, and what it has, each after a space. Takes no memory.
-pub fn listing_line(ops: &[Op], pc: u32, line: &mut ArrayString<400>)
+pub fn listing_line(ops: &[Op], pc: u32, line: &mut ArrayString<OPERATION_BYTES>)
     requires in_code { pc < length ops.now }
     requires empty { line.old.bytes ≡ [] }
     ensures { option_map op_text (slice_get ops.now pc) ≡ Some line.new.bytes }

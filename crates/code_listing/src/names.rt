@@ -1,12 +1,13 @@
 ghost use Rattle.std.specs.Prelude.{◌≡◌, ◌≤◌, length};
 ghost use Rattle.code_listing.specs.Listing.{op_name};
 
+use crate::rooms::NAME_BYTES;
 use stack_code::Op;
 
 /// The name of an operation.
 pub(crate) fn op_name(op: &Op) -> &'static str
     ensures name { result.now ≡ op_name op.now }
-    ensures short { length result.now ≤ 9 }
+    ensures short { length result.now ≤ NAME_BYTES }
 {
     match op {
         Op::Push(_) => "Push",
@@ -46,7 +47,7 @@ pub(crate) fn op_name(op: &Op) -> &'static str
         Op::Step(_, _) => "Step",
         Op::Wait(_) => "Wait",
         Op::TestSet => "TestSet",
-        Op::TaskBit => "TaskBit",
+        Op::TaskSet(_) => "TaskSet",
         Op::Arrive(_) => "Arrive",
         Op::Here => "Here",
         Op::Still => "Still",

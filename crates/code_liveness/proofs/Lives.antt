@@ -25,10 +25,10 @@ use Rattle.code_liveness.specs.Asking.{AsksAs}
 use Rattle.code_liveness.specs.Checked.{IsChecked}
 
 pub stands : (tree : TypedTree) (answers : List Answer) → IsChecked tree → FitsSteps tree answers → (k : ℕ) × StandsBy tree answers k
-stands tree answers checked fits = typed_stands checked.signals checked.arm checked.cell checked.number tree answers checked.typed checked.numbered checked.labels fits
+stands tree answers checked fits = typed_stands checked.signals checked.cell checked.number tree answers checked.typed checked.numbered checked.labels fits
 
 fits_alike : (tree : TypedTree) → IsChecked tree → fitting_by (compiled tree) ≡ fitting_of tree
-fits_alike tree checked = let is = compiled_is tree (orderly checked.signals checked.arm tree checked.typed checked.labels) in is.fits
+fits_alike tree checked = let is = compiled_is tree (orderly checked.signals tree checked.typed checked.labels) in is.fits
 
 -- by whatever number of operations code asks, the tree asks the same
 pub asks_same : (tree : TypedTree) (answers : List Answer) (k : ℕ) (request : Request) (d : Data) → IsChecked tree → FitsSteps tree answers
@@ -91,7 +91,7 @@ goes_stands o goes = absurd goes
 tree_stands : (tree : TypedTree) (answers : List Answer) → IsChecked tree → FitsSteps tree answers → Stands (state_after tree answers)
 unfolding asked_after
 tree_stands tree answers checked fits =
-    goes_stands (state_after tree answers) (typings.goes checked.signals checked.arm checked.cell checked.number tree answers checked.typed checked.numbered fits)
+    goes_stands (state_after tree answers) (typings.goes checked.signals checked.cell checked.number tree answers checked.typed checked.numbered fits)
 
 pub live : (tree : TypedTree) → IsChecked tree → IsLive (compiled tree)
 live tree checked = record {

@@ -6,15 +6,16 @@ use Rattle.std.proofs.lemmas.List.Elements.{All-cons, All-nil}
 use Rattle.rapid_model.specs.declared.part_name.PartName.TheVariants as parts
 use Rattle.rapid_model.specs.declared.request.Request.TheVariants.{Look}
 use Rattle.rapid_model.specs.declared.sort.Sort.TheVariants as sorts
-use Rattle.raw_trees.specs.declared.raw_expr.Operator.TheVariants as operators
-use Rattle.raw_trees.specs.declared.raw_routine.Mode.TheVariants as modes
+use Rattle.rapid_model.specs.declared.operator.Operator.TheVariants as operators
+use Rattle.rapid_model.specs.declared.mode.Mode.TheVariants as modes
 use Rattle.typed_trees.specs.Plain.{TypedExpr, TypedRoutine, TypedTree, Invoke, Return, Given, NoArgs, MoreArgs}
 use Rattle.typed_trees.specs.declared.datum.Datum.{Datum}
 use Rattle.typed_trees.specs.declared.datum.Datum.TheVariants as datums
 use Rattle.typed_trees.specs.declared.datum.Root.TheVariants as places
 use Rattle.typed_trees.specs.declared.expr.TreeRoot.TheVariants as roots
 use Rattle.rapid_meaning.specs.Answering.{Asking, performed, sort_of_pers}
-use Rattle.rapid_meaning.specs.Data.{At, Data, frame_at, with_frame}
+use Rattle.rapid_model.specs.declared.at.At.{At}
+use Rattle.rapid_meaning.specs.Data.{Data, frame_at, with_frame}
 use Rattle.rapid_meaning.specs.Doings.{Gives, after}
 use Rattle.rapid_meaning.specs.Frames.{frame_of, initial}
 use Rattle.rapid_meaning.specs.Runs.{deep}

@@ -1,5 +1,5 @@
 -- Code that has the routines of a tree does what its parts do.
-use Rattle.std.proofs.Common.{refl, subst, ℕ, ◌+◌, Bool, List, ◌∷◌, length}
+use Rattle.std.proofs.Common.{ap, refl, subst, ℕ, ◌+◌, Bool, false, List, ◌∷◌, length}
 use Rattle.rapid_model.specs.Fits.{Fitting}
 use Rattle.typed_trees.specs.Plain.{TypedExpr, TypedRoutine, TypedTree}
 use Rattle.typed_trees.specs.declared.datum.Datum.{Datum}
@@ -53,6 +53,7 @@ is_code tree code orderly has = record {
   missing = has.missing;
   tasks = has.tasks;
   main = has.main;
+  axes = ap (λ (by : Bool → Fitting). (by false).axes) has.fits;
   main_takes = orderly.main;
 }
 

@@ -1,5 +1,5 @@
 -- Code that has the routines of a tree.
-use Rattle.std.specs.Prelude.{◌≡◌, ℕ, ◌+◌, ◌≤◌, max, List, ◌++◌, map, drop, None, Some, slice_get}
+use Rattle.std.specs.Prelude.{◌≡◌, ℕ, ◌≤◌, max, List, ◌++◌, map, drop, None, Some, slice_get}
 use Rattle.std.specs.Option.{option_map}
 use Rattle.typed_trees.specs.Plain.{TypedRoutine, TypedTree}
 use Rattle.typed_trees.specs.declared.datum.Datum.{Datum}

@@ -98,7 +98,7 @@ of_values_alone function v w = tt
 pub part_alone : (part : PartName) (p : Lvalue) → NoPart (part_at part p)
 part_alone part p = or_misfit_alone _
 
-there_alone : (p : Lvalue) (number : ℕ) → NoPart (at_element p number)
+pub there_alone : (p : Lvalue) (number : ℕ) → NoPart (at_element p number)
 there_alone p number = λ d. or_misfit_alone (there_in d (place_of_element p number) (element_root p.root number))
 
 element_alone : (p : Lvalue) (number : Option ℕ) → NoPart (element_or_fault p number)

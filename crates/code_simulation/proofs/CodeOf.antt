@@ -32,4 +32,5 @@ pub record IsCodeOf (tree : TypedTree) (t : Target) : Type 0 where
   pub missing : (number : ℕ) → slice_get tree.routines number ≡ None → slice_get t.code.routines number ≡ None
   pub tasks : t.code.tasks ≡ tree.tasks
   pub main : t.code.main ≡ tree.main
+  pub axes : t.code.axes ≡ tree.axes
   pub main_takes : Takes tree tree.main 0

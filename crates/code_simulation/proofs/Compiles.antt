@@ -44,6 +44,7 @@ same_fits tree = λ i trapped. record {
   sorts = λ pers. same_sort tree.pers_of tree.pers pers i;
   traps = λ number. same_trap tree 0 0 tree.routines number i;
   trapped = trapped;
+  axes = tree.axes;
 }
 
 -- Routines of the code from one on: their rows, their handlers, their code from a place on, and their first values.
@@ -121,5 +122,6 @@ compiled_is tree orderly = record {
   missing = λ number there. missing_in tree 0 0 tree.routines number there;
   tasks = refl;
   main = refl;
+  axes = refl;
   main_takes = orderly.main;
 }

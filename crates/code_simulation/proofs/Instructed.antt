@@ -9,7 +9,7 @@ use Rattle.rapid_model.specs.declared.instruction.Instruction.TheVariants as ins
 use Rattle.rapid_model.specs.declared.part_name.PartName.TheVariants as parts
 use Rattle.rapid_model.specs.declared.request.Request.TheVariants as requests
 use Rattle.rapid_model.specs.declared.value.Value.TheVariants as values
-use Rattle.raw_trees.specs.declared.raw_expr.Operator.TheVariants as operators
+use Rattle.rapid_model.specs.declared.operator.Operator.TheVariants as operators
 use Rattle.typed_trees.specs.Plain.{TypedArg, TypedArgs, TypedExpr, TypedPlace, TypedTree, NotHeld, PlaceOf, Given, Lent, OfSignal, OfMeeting, Itself, Optional, Argument, NoArgs, MoreArgs}
 use Rattle.typed_trees.specs.declared.datum.Datum.TheVariants.{Plain, Mark, Place}
 use Rattle.typed_trees.specs.declared.datum.Lvalue.{Lvalue}
@@ -23,8 +23,9 @@ use Rattle.rapid_meaning.specs.Values.{text_in}
 use Rattle.rapid_meaning.specs.Zones.{asks_of_zone, define, define_home}
 use Rattle.rapid_meaning.proofs.Follows.{after_after}
 use Rattle.stack_code.specs.Needs.{pieces_need}
-use Rattle.stack_code.specs.Pieces.{Does, OfExpr, instruction_pieces, place_and_number, said, tail_kind}
+use Rattle.stack_code.specs.Pieces.{Does, OfExpr, OfPlace, pieces_of_steps, tail_kind}
 use Rattle.stack_code.specs.Placed.{Placed}
+use Rattle.stack_code.specs.Recipes.{recipe}
 use Rattle.stack_code.specs.Sizes.{expr_size, pieces_size}
 use Rattle.stack_code.specs.Steps.{act, does}
 use Rattle.stack_code.specs.StmtLayouts.{pieces_code}
@@ -65,7 +66,7 @@ tail_goes s code claims labels pc e f true ps calls others = say_num_goes s code
 tail_goes s code claims labels pc e f false ps calls others = say_bool_goes s code claims labels pc e f ps calls others
 
 said_goes : (s : Spot) → IsCodeOf s.tree s.target → Claims s.target s.tree s.run → (labels : List ℕ) (pc : ℕ) (e : TypedExpr) (given : List TypedArg) (ps : List Placed) → ExprCalls s.tree e → AreCalls s.tree given
-    → Goes s labels pc (OfExpr e ∷ said given) ps (text s.tree s.routine e >>= λ t. tail s.tree s.routine given >>= λ more. tells (requests.Say t more) >> ready)
+    → Goes s labels pc (pieces_of_steps s.tree s.routine (Given e ∷ []) given (recipe instructions.TPWrite)) ps (text s.tree s.routine e >>= λ t. tail s.tree s.routine given >>= λ more. tells (requests.Say t more) >> ready)
 unfolding after pieces_code pieces_need pieces_size
 said_goes s code claims labels pc e [] ps calls others = say_goes s code claims labels pc e ps calls
 said_goes s code claims labels pc e (Optional name (Argument (Given f)) ∷ []) ps calls others = tail_goes s code claims labels pc e f (bytes_eq name (codes "Num")) ps calls others.0
@@ -79,19 +80,21 @@ erase_goes s labels pc ps there room =
     sim_from (ap (λ (x : ℕ). standing s x []) here_on) (sim_gives true)
 
 -- what the last operations of shapes do
-limits_done : (s : Spot) (inside : Bool) (at : ℕ) (q : Lvalue) (l h : Joints)
-    → act (here s at (Plain (values.Target h) ∷ Plain (values.Target l) ∷ Place q ∷ [])) (ops.Shape inside false) ≡ does (here s at (Plain (values.Target h) ∷ Plain (values.Target l) ∷ Place q ∷ [])) [] (define q inside l h)
+limits_done : (s : Spot) → IsCodeOf s.tree s.target → (inside : Bool) (at : ℕ) (q : Lvalue) (l h : Joints)
+    → act (here s at (Plain (values.Target h) ∷ Plain (values.Target l) ∷ Place q ∷ [])) (ops.Shape inside false) ≡ does (here s at (Plain (values.Target h) ∷ Plain (values.Target l) ∷ Place q ∷ [])) [] (define s.tree.axes q inside l h)
 unfolding after
-limits_done s inside at q l h = refl
+limits_done s code inside at q l h =
+    ap (λ (axes : ℕ). does (here s at (Plain (values.Target h) ∷ Plain (values.Target l) ∷ Place q ∷ [])) [] (define axes q inside l h)) code.axes
 
-home_done : (s : Spot) (inside : Bool) (at : ℕ) (q : Lvalue) (m d : Joints)
-    → act (here s at (Plain (values.Target d) ∷ Plain (values.Target m) ∷ Place q ∷ [])) (ops.Shape inside true) ≡ does (here s at (Plain (values.Target d) ∷ Plain (values.Target m) ∷ Place q ∷ [])) [] (define_home q inside m d)
+home_done : (s : Spot) → IsCodeOf s.tree s.target → (inside : Bool) (at : ℕ) (q : Lvalue) (m d : Joints)
+    → act (here s at (Plain (values.Target d) ∷ Plain (values.Target m) ∷ Place q ∷ [])) (ops.Shape inside true) ≡ does (here s at (Plain (values.Target d) ∷ Plain (values.Target m) ∷ Place q ∷ [])) [] (define_home s.tree.axes q inside m d)
 unfolding after
-home_done s inside at q m d = refl
+home_done s code inside at q m d =
+    ap (λ (axes : ℕ). does (here s at (Plain (values.Target d) ∷ Plain (values.Target m) ∷ Place q ∷ [])) [] (define_home axes q inside m d)) code.axes
 
 -- a zone is freed, and its variable holds none
 free_goes : (s : Spot) → IsCodeOf s.tree s.target → Claims s.target s.tree s.run → (labels : List ℕ) (pc : ℕ) (zone : TypedPlace) (ps : List Placed) → PlaceCalls s.tree zone
-    → Goes s labels pc (place_and_number zone (Does (ops.Zone zones.Free) ∷ [])) ps
+    → Goes s labels pc (OfPlace zone ∷ Does ops.Dup ∷ Does ops.Load ∷ Does (ops.Zone zones.Free) ∷ []) ps
     (place s.tree s.routine zone >>= λ q. number_at q >>= λ n. asks_of_zone (requests.ZoneFree n) >> (store q (Mark 0) >> ready))
 unfolding after
 free_goes s code claims labels pc zone ps calls there room =
@@ -104,7 +107,7 @@ free_goes s code claims labels pc zone ps calls there room =
 
 pub instructed_goes : (s : Spot) → IsCodeOf s.tree s.target → Claims s.target s.tree s.run → (labels : List ℕ) (pc : ℕ) (instruction : Instruction) (args given : List TypedArg) (ps : List Placed)
     → AreCalls s.tree args → AreCalls s.tree given → IsBare instruction args
-    → Goes s labels pc (instruction_pieces s.tree s.routine instruction args given) ps (instructed s.tree s.routine instruction args given)
+    → Goes s labels pc (pieces_of_steps s.tree s.routine args given (recipe instruction)) ps (instructed s.tree s.routine instruction args given)
 instructed_goes s code claims labels pc instructions.MoveAbsJ (Given to ∷ Given speed ∷ Itself _ ∷ Itself _ ∷ []) given ps calls others bare = move_goes s code claims labels pc to speed ps calls.0 calls.1.0
 instructed_goes s code claims labels pc instructions.Set (OfSignal signal ∷ []) given ps calls others bare = set_goes s labels pc signal ps
 instructed_goes s code claims labels pc instructions.Reset (OfSignal signal ∷ []) given ps calls others bare = reset_goes s labels pc signal ps
@@ -114,8 +117,7 @@ instructed_goes s code claims labels pc instructions.WaitDO (OfSignal signal ∷
 instructed_goes s code claims labels pc instructions.WaitUntil (Given e ∷ []) given ps calls others bare = until_goes s code claims labels pc e ps calls.0
 instructed_goes s code claims labels pc instructions.WaitTime (Given e ∷ []) given ps calls others bare = time_goes s code claims labels pc e ps calls.0
 instructed_goes s code claims labels pc instructions.WaitTestAndSet (Lent p ∷ []) given ps calls others bare = test_goes s code claims labels pc p ps calls.0
-instructed_goes s code claims labels pc instructions.WaitSyncTask (OfMeeting number ∷ Lent (PlaceOf root NotHeld parts.Whole sort) ∷ []) given ps calls others bare = sync_goes s code labels pc number root sort ps
-instructed_goes s code claims labels pc instructions.WaitSyncTask (OfMeeting number ∷ Lent p ∷ []) given ps calls others bare = absurd bare
+instructed_goes s code claims labels pc instructions.WaitSyncTask (OfMeeting number ∷ Lent list ∷ []) given ps calls others bare = sync_goes s code claims labels pc number list ps calls.1.0
 instructed_goes s code claims labels pc instructions.TPWrite (Given e ∷ []) given ps calls others bare = said_goes s code claims labels pc e given ps calls.0 others
 instructed_goes s code claims labels pc instructions.TPErase [] given ps calls others bare = erase_goes s labels pc ps
 instructed_goes s code claims labels pc instructions.ISignalDI (OfSignal signal ∷ Given e ∷ Lent p ∷ []) given ps calls others bare = order_goes s code claims labels pc signal (has (codes "Single") given) e p ps calls.1.0 calls.1.1.0
@@ -128,11 +130,11 @@ instructed_goes s code claims labels pc instructions.IDelete (Lent p ∷ []) giv
 instructed_goes s code claims labels pc instructions.IDisable [] given ps calls others bare = alone_goes s labels pc (ops.Irq irqs.Disable) (tells requests.Disable) ps refl (tells_alone requests.Disable)
 instructed_goes s code claims labels pc instructions.IEnable [] given ps calls others bare = alone_goes s labels pc (ops.Irq irqs.Enable) (tells requests.Enable) ps refl (tells_alone requests.Enable)
 instructed_goes s code claims labels pc instructions.WZLimJointDef (Lent shape ∷ Given low ∷ Given high ∷ []) given ps calls others bare =
-    shape_goes s code claims labels pc shape low high (ops.Shape (has (codes "Inside") given) false) (λ q l h. define q (has (codes "Inside") given) l h) ps calls.0 calls.1.0 calls.1.1.0
-    (limits_done s (has (codes "Inside") given)) (λ q l h. define_alone q (has (codes "Inside") given) l h)
+    shape_goes s code claims labels pc shape low high (ops.Shape (has (codes "Inside") given) false) (λ q l h. define s.tree.axes q (has (codes "Inside") given) l h) ps calls.0 calls.1.0 calls.1.1.0
+    (limits_done s code (has (codes "Inside") given)) (λ q l h. define_alone s.tree.axes q (has (codes "Inside") given) l h)
 instructed_goes s code claims labels pc instructions.WZHomeJointDef (Lent shape ∷ Given middle ∷ Given delta ∷ []) given ps calls others bare =
-    shape_goes s code claims labels pc shape middle delta (ops.Shape (has (codes "Inside") given) true) (λ q m d. define_home q (has (codes "Inside") given) m d) ps calls.0 calls.1.0 calls.1.1.0
-    (home_done s (has (codes "Inside") given)) (λ q m d. home_alone q (has (codes "Inside") given) m d)
+    shape_goes s code claims labels pc shape middle delta (ops.Shape (has (codes "Inside") given) true) (λ q m d. define_home s.tree.axes q (has (codes "Inside") given) m d) ps calls.0 calls.1.0 calls.1.1.0
+    (home_done s code (has (codes "Inside") given)) (λ q m d. home_alone s.tree.axes q (has (codes "Inside") given) m d)
 instructed_goes s code claims labels pc instructions.WZLimSup (Lent zone ∷ Lent shape ∷ []) given ps calls others bare = supervise_goes s code claims labels pc zone shape (has (codes "Temp") given) ps calls.0 calls.1.0
 instructed_goes s code claims labels pc instructions.WZDisable (Lent zone ∷ []) given ps calls others bare = zone_goes s code claims labels pc zone (ops.Zone zones.Off) (λ q n. asks_of_zone (requests.ZoneOff n)) ps calls.0 (λ at n q. refl) (λ q n. zone_alone (requests.ZoneOff n))
 instructed_goes s code claims labels pc instructions.WZEnable (Lent zone ∷ []) given ps calls others bare = zone_goes s code claims labels pc zone (ops.Zone zones.On) (λ q n. asks_of_zone (requests.ZoneOn n)) ps calls.0 (λ at n q. refl) (λ q n. zone_alone (requests.ZoneOn n))

@@ -16,7 +16,7 @@ use Rattle.rapid_model.specs.declared.tail.Tail.TheVariants as tails
 use Rattle.rapid_model.specs.declared.value.Value.{Value}
 use Rattle.rapid_model.specs.declared.value.Value.TheVariants as values
 use Rattle.rapid_model.specs.declared.watched.Watched.TheVariants as watched
-use Rattle.raw_trees.specs.declared.raw_expr.Operator.TheVariants as operators
+use Rattle.rapid_model.specs.declared.operator.Operator.TheVariants as operators
 use Rattle.rapid_operators.specs.Operators.{num_or_fault}
 use Rattle.typed_trees.specs.Plain.{TypedExpr, TypedPlace, NotHeld, PlaceOf}
 use Rattle.typed_trees.specs.declared.datum.Datum.{Datum}
@@ -38,7 +38,7 @@ use Rattle.rapid_meaning.specs.Values.{applied, bit_in, in_range, num_in, of_bit
 use Rattle.rapid_meaning.specs.Zones.{defined, shape_at, supervise}
 use Rattle.stack_code.specs.Confs.{Conf}
 use Rattle.stack_code.specs.Needs.{expr_need, pieces_need}
-use Rattle.stack_code.specs.Pieces.{Piece, OfExpr, OfPlace, Does, Waits, cell_number, number_of, place_and_number, push}
+use Rattle.stack_code.specs.Pieces.{Piece, OfExpr, OfPlace, Does, Waits, cell_number, push}
 use Rattle.stack_code.specs.Placed.{Placed}
 use Rattle.stack_code.specs.Sizes.{expr_size, pieces_size, place_size}
 use Rattle.stack_code.specs.Steps.{act, does, pushes}
@@ -251,7 +251,7 @@ say_bool_goes s code claims labels pc e f ps calls others there room =
 
 pub move_goes : (s : Spot) → IsCodeOf s.tree s.target → Claims s.target s.tree s.run → (labels : List ℕ) (pc : ℕ) (to speed : TypedExpr) (ps : List Placed) → ExprCalls s.tree to → ExprCalls s.tree speed
     → Goes s labels pc (Does ops.Still ∷ OfExpr to ∷ OfExpr speed ∷ Does ops.Move ∷ []) ps
-    (still >> (target s.tree s.routine to >>= λ joints. expr s.tree s.routine speed >>= λ v. tool_speed_in v >>= λ n. move joints n >> ready))
+    (still >> (target s.tree s.routine to >>= λ joints. expr s.tree s.routine speed >>= λ v. tool_speed_in v >>= λ n. move s.tree.axes joints n >> ready))
 unfolding pieces_code pieces_need pieces_size after
 move_goes s code claims labels pc to speed ps calls others there room =
     let behind = past_expr s.target.code s.tree s.routine s.own (pc + 1) to (pieces_code s.tree s.routine labels s.own (pc + 1 + expr_size to) (OfExpr speed ∷ Does ops.Move ∷ []) ps) there.1 in
@@ -259,12 +259,13 @@ move_goes s code claims labels pc to speed ps calls others there room =
     settled s (standing s pc []) _ (pc + 1 + expr_size to + expr_size speed + 1) (pc + (1 + (expr_size to + (expr_size speed + (1 + 0))))) (omega arith)
     (sim_op s pc [] ops.Still there.0 (omega arith) (sim_same still still_alone
     (λ _. read_then s code claims (pc + 1) [] to (pieces_code s.tree s.routine labels s.own (pc + 1 + expr_size to) (OfExpr speed ∷ Does ops.Move ∷ []) ps) target_in
-    (λ joints. expr s.tree s.routine speed >>= λ v. tool_speed_in v >>= λ n. move joints n >> ready) calls there.1 (omega (arith, room))
-    (of_target s (λ v. standing s (pc + 1 + expr_size to) (Plain v ∷ [])) (λ joints. expr s.tree s.routine speed >>= λ v. tool_speed_in v >>= λ n. move joints n >> ready)
+    (λ joints. expr s.tree s.routine speed >>= λ v. tool_speed_in v >>= λ n. move s.tree.axes joints n >> ready) calls there.1 (omega (arith, room))
+    (of_target s (λ v. standing s (pc + 1 + expr_size to) (Plain v ∷ [])) (λ joints. expr s.tree s.routine speed >>= λ v. tool_speed_in v >>= λ n. move s.tree.axes joints n >> ready)
     (λ joints. expr_then s code claims (pc + 1 + expr_size to) (Plain (values.Target joints) ∷ []) speed (pieces_code s.tree s.routine labels s.own (pc + 1 + expr_size to + expr_size speed) (Does ops.Move ∷ []) ps)
-    (λ v. tool_speed_in v >>= λ n. move joints n >> ready) others behind (omega (arith, room))
-    (λ v. done_by_two s (pc + 1 + expr_size to + expr_size speed) (Plain v ∷ Plain (values.Target joints) ∷ []) ops.Move (tool_speed_in v) (λ n. move joints n) last.0 (omega (arith, room)) refl
-    (no_part_then (tool_speed_in v) (λ n. move joints n) (tool_alone v) (λ n. move_alone joints n))))))
+    (λ v. tool_speed_in v >>= λ n. move s.tree.axes joints n >> ready) others behind (omega (arith, room))
+    (λ v. done_by_two s (pc + 1 + expr_size to + expr_size speed) (Plain v ∷ Plain (values.Target joints) ∷ []) ops.Move (tool_speed_in v) (λ n. move s.tree.axes joints n) last.0 (omega (arith, room))
+    (ap (λ (axes : ℕ). does (here s (pc + 1 + expr_size to + expr_size speed) (Plain v ∷ Plain (values.Target joints) ∷ [])) [] (tool_speed_in v >>= λ n. move axes joints n)) code.axes)
+    (no_part_then (tool_speed_in v) (λ n. move s.tree.axes joints n) (tool_alone v) (λ n. move_alone s.tree.axes joints n))))))
     (λ n. sim_raises n)))
 
 -- interrupts
@@ -277,12 +278,12 @@ ordered s pc signal n single true there room = done_by s pc (Mark n ∷ Plain (o
 ordered s pc signal n single false there room = done_by s pc (Mark n ∷ Plain (of_bit false) ∷ []) (ops.Order (orders.Signal signal) single) (order n (watched.Signal signal false) single) there room refl (order_alone n (watched.Signal signal false) single)
 
 pub order_goes : (s : Spot) → IsCodeOf s.tree s.target → Claims s.target s.tree s.run → (labels : List ℕ) (pc signal : ℕ) (single : Bool) (e : TypedExpr) (p : TypedPlace) (ps : List Placed) → ExprCalls s.tree e → PlaceCalls s.tree p
-    → Goes s labels pc (OfExpr e ∷ Does ops.Bit ∷ number_of p (Does (ops.Order (orders.Signal signal) single) ∷ [])) ps
+    → Goes s labels pc (OfExpr e ∷ Does ops.Bit ∷ OfPlace p ∷ Does ops.Load ∷ Does (ops.Order (orders.Signal signal) single) ∷ []) ps
     (bit s.tree s.routine e >>= λ b. place s.tree s.routine p >>= λ q. number_at q >>= λ n. order n (watched.Signal signal b) single >> ready)
 unfolding pieces_code pieces_need pieces_size
 order_goes s code claims labels pc signal single e p ps calls others there room =
     settled s (standing s pc []) _ (pc + expr_size e + 1 + place_size p + 1 + 1) (pc + (expr_size e + (1 + (place_size p + (1 + (1 + 0)))))) (omega arith)
-    (bit_then s code claims labels pc e (number_of p (Does (ops.Order (orders.Signal signal) single) ∷ [])) ps (λ b. place s.tree s.routine p >>= λ q. number_at q >>= λ n. order n (watched.Signal signal b) single >> ready)
+    (bit_then s code claims labels pc e (OfPlace p ∷ Does ops.Load ∷ Does (ops.Order (orders.Signal signal) single) ∷ []) ps (λ b. place s.tree s.routine p >>= λ q. number_at q >>= λ n. order n (watched.Signal signal b) single >> ready)
     (settles s (pc + expr_size e + 1 + place_size p + 1 + 1)) calls there (omega (arith, room)) (omega (arith, room))
     (λ b here_on. place_then s code claims (pc + expr_size e + 1) (Plain (of_bit b) ∷ []) p (pieces_code s.tree s.routine labels s.own (pc + expr_size e + 1 + place_size p) (Does ops.Load ∷ Does (ops.Order (orders.Signal signal) single) ∷ []) ps)
     (λ q. number_at q >>= λ n. order n (watched.Signal signal b) single >> ready) others here_on (omega (arith, room))
@@ -293,7 +294,7 @@ order_goes s code claims labels pc signal single e p ps calls others there room 
 -- an operation on the number that a variable holds
 pub number_goes : (s : Spot) → IsCodeOf s.tree s.target → Claims s.target s.tree s.run → (labels : List ℕ) (pc : ℕ) (p : TypedPlace) (op : Op) (m : ℕ → Act) (ps : List Placed) → PlaceCalls s.tree p
     → ((at n : ℕ) → act (here s at (Mark n ∷ [])) op ≡ does (here s at (Mark n ∷ [])) [] (m n)) → ((n : ℕ) → NoPart (m n))
-    → Goes s labels pc (number_of p (Does op ∷ [])) ps (place s.tree s.routine p >>= λ q. number_at q >>= λ n. m n >> ready)
+    → Goes s labels pc (OfPlace p ∷ Does ops.Load ∷ Does op ∷ []) ps (place s.tree s.routine p >>= λ q. number_at q >>= λ n. m n >> ready)
 unfolding pieces_code pieces_need pieces_size
 number_goes s code claims labels pc p op m ps calls same alone there room =
     let behind = past_place s.target.code s.tree s.routine s.own pc p (pieces_code s.tree s.routine labels s.own (pc + place_size p) (Does ops.Load ∷ Does op ∷ []) ps) there in
@@ -318,12 +319,12 @@ watched_place s row sort k x next None more = sim_misfit
 watched_place s row sort k x next (Some pers) more = more pers refl
 
 pub watch_goes : (s : Spot) → IsCodeOf s.tree s.target → Claims s.target s.tree s.run → (labels : List ℕ) (pc row : ℕ) (sort : Sort) (single : Bool) (p : TypedPlace) (ps : List Placed) → PlaceCalls s.tree p
-    → Goes s labels pc (number_of p (Does (ops.Order (orders.Pers (cell_number s.tree (roots.Pers row))) single) ∷ [])) ps
+    → Goes s labels pc (OfPlace p ∷ Does ops.Load ∷ Does (ops.Order (orders.Pers (cell_number s.tree (roots.Pers row))) single) ∷ []) ps
     (place s.tree s.routine (PlaceOf (roots.Pers row) NotHeld parts.Whole sort) >>= λ w. pers_at w.root >>= λ pers. place s.tree s.routine p >>= λ q. number_at q >>= λ n. order n (watched.Pers pers) single >> ready)
 watch_goes s code claims labels pc row sort single p ps calls there room =
     watched_place s row sort (λ pers. place s.tree s.routine p >>= λ q. number_at q >>= λ n. order n (watched.Pers pers) single >> ready) (standing s pc []) _ (slice_get s.tree.pers_of row)
     (λ pers e. subst (λ (o : Option ℕ). Sim s.target s.run (standing s pc []) (place s.tree s.routine p >>= λ q. number_at q >>= λ n. order n (watched.Pers (unwrap_or o 0)) single >> ready)
-    (settles s (pc + pieces_size (number_of p (Does (ops.Order (orders.Pers (cell_number s.tree (roots.Pers row))) single) ∷ [])))) (failing s)) e
+    (settles s (pc + pieces_size (OfPlace p ∷ Does ops.Load ∷ Does (ops.Order (orders.Pers (cell_number s.tree (roots.Pers row))) single) ∷ []))) (failing s)) e
     (number_goes s code claims labels pc p (ops.Order (orders.Pers (cell_number s.tree (roots.Pers row))) single) (λ n. order n (watched.Pers (cell_number s.tree (roots.Pers row))) single) ps calls
     (λ at n. refl) (λ n. order_alone n (watched.Pers (cell_number s.tree (roots.Pers row))) single) there room))
 
@@ -332,7 +333,7 @@ watch_goes s code claims labels pc row sort single p ps calls there room =
 -- an operation on a variable and the number that it holds
 pub zone_goes : (s : Spot) → IsCodeOf s.tree s.target → Claims s.target s.tree s.run → (labels : List ℕ) (pc : ℕ) (p : TypedPlace) (op : Op) (m : Lvalue → ℕ → Act) (ps : List Placed) → PlaceCalls s.tree p
     → ((at n : ℕ) (q : Lvalue) → act (here s at (Mark n ∷ Place q ∷ [])) op ≡ does (here s at (Mark n ∷ Place q ∷ [])) [] (m q n)) → ((q : Lvalue) (n : ℕ) → NoPart (m q n))
-    → Goes s labels pc (place_and_number p (Does op ∷ [])) ps (place s.tree s.routine p >>= λ q. number_at q >>= λ n. m q n >> ready)
+    → Goes s labels pc (OfPlace p ∷ Does ops.Dup ∷ Does ops.Load ∷ Does op ∷ []) ps (place s.tree s.routine p >>= λ q. number_at q >>= λ n. m q n >> ready)
 unfolding pieces_code pieces_need pieces_size
 zone_goes s code claims labels pc p op m ps calls same alone there room =
     let behind = past_place s.target.code s.tree s.routine s.own pc p (pieces_code s.tree s.routine labels s.own (pc + place_size p) (Does ops.Dup ∷ Does ops.Load ∷ Does op ∷ []) ps) there in
@@ -376,7 +377,7 @@ supervised s pc q old temporary (datums.Shape held) there room =
 supervised s pc q old temporary d there room = sim_misfit
 
 pub supervise_goes : (s : Spot) → IsCodeOf s.tree s.target → Claims s.target s.tree s.run → (labels : List ℕ) (pc : ℕ) (zone shape : TypedPlace) (temporary : Bool) (ps : List Placed) → PlaceCalls s.tree zone → PlaceCalls s.tree shape
-    → Goes s labels pc (place_and_number zone (OfPlace shape ∷ Does ops.Load ∷ Does (ops.ZoneSet temporary) ∷ [])) ps
+    → Goes s labels pc (OfPlace zone ∷ Does ops.Dup ∷ Does ops.Load ∷ OfPlace shape ∷ Does ops.Load ∷ Does (ops.ZoneSet temporary) ∷ []) ps
     (place s.tree s.routine zone >>= λ q. number_at q >>= λ old. place s.tree s.routine shape >>= λ p. shape_at p >>= λ held. supervise q old temporary held >> ready)
 unfolding pieces_code pieces_need pieces_size
 supervise_goes s code claims labels pc zone shape temporary ps calls others there room =

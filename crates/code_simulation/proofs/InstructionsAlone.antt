@@ -19,11 +19,11 @@ use Rattle.typed_trees.specs.declared.datum.Lvalue.{Lvalue}
 use Rattle.rapid_model.specs.declared.watched.Watched.{Watched}
 use Rattle.rapid_meaning.specs.Doings.{Act, Gives, Asks, done, fault, tells}
 use Rattle.rapid_meaning.specs.Interrupts.{asks_of_number, order, when_known, when_ordered}
-use Rattle.rapid_meaning.specs.Meetings.{when_arrived}
+use Rattle.rapid_meaning.specs.Meetings.{task_or_fault, when_arrived}
 use Rattle.rapid_meaning.specs.Moves.{cap_of, move, move_from, setpoints, still, when_given}
 use Rattle.rapid_meaning.specs.Signals.{when_written, write_signal}
 use Rattle.rapid_meaning.specs.Values.{bit_in, in_range, tool_speed_in}
-use Rattle.rapid_meaning.specs.Zones.{arm_axes, asks_of_zone, define, define_home, defined, home_high, home_low, on_axes, position_or_fault, shaped, supervise, when_numbered, when_zoned}
+use Rattle.rapid_meaning.specs.Zones.{asks_of_zone, define, define_home, defined, home_high, home_low, on_axes, position_or_fault, shaped, supervise, when_numbered, when_zoned}
 use Rattle.code_simulation.proofs.Alone.{ok_alone, store_alone}
 use Rattle.code_simulation.proofs.Same.{NoPart, no_part_then}
 
@@ -105,41 +105,45 @@ shaped_alone : (p : Lvalue) (r : Result Shape ShapeFault) → NoPart (shaped p r
 shaped_alone p (Ok shape) = store_alone p (datums.Shape (Some shape))
 shaped_alone p (Err why) = tt
 
-pub define_alone : (p : Lvalue) (inside : Bool) (low high : Joints) → NoPart (define p inside low high)
-define_alone p inside low high = shaped_alone p (made_shape inside low high arm_axes)
+pub define_alone : (axes : ℕ) (p : Lvalue) (inside : Bool) (low high : Joints) → NoPart (define axes p inside low high)
+define_alone axes p inside low high = shaped_alone p (made_shape inside low high axes)
 
 position_alone : (o : Option (List ℤ)) → NoPart (position_or_fault o)
 position_alone None = tt
 position_alone (Some axes) = tt
 
-pub home_alone : (p : Lvalue) (inside : Bool) (middle delta : Joints) → NoPart (define_home p inside middle delta)
-home_alone p inside middle delta =
+pub home_alone : (axes : ℕ) (p : Lvalue) (inside : Bool) (middle delta : Joints) → NoPart (define_home axes p inside middle delta)
+home_alone axes p inside middle delta =
     no_part_then (position_or_fault (on_axes home_low middle.axis delta.axis)) _ (position_alone (on_axes home_low middle.axis delta.axis)) (λ low.
-    no_part_then (position_or_fault (on_axes home_high middle.axis delta.axis)) _ (position_alone (on_axes home_high middle.axis delta.axis)) (λ high. define_alone p inside low high))
+    no_part_then (position_or_fault (on_axes home_high middle.axis delta.axis)) _ (position_alone (on_axes home_high middle.axis delta.axis)) (λ high. define_alone axes p inside low high))
 
 given_alone : (next : Act) → NoPart next → (a : Answer) → NoPart (when_given next a)
 given_alone next alone answers.Given = alone
 given_alone next alone (answers.Stopped zone) = tt
 given_alone next alone a = tt
 
-setpoints_alone : (start target : Joints) (n left : ℕ) → NoPart (setpoints start target n left)
+setpoints_alone : (axes : ℕ) (start target : Joints) (n left : ℕ) → NoPart (setpoints axes start target n left)
 unfolding setpoints
-setpoints_alone start target n zero = tt
-setpoints_alone start target n (suc left) = given_alone (setpoints start target n left) (setpoints_alone start target n left)
+setpoints_alone axes start target n zero = tt
+setpoints_alone axes start target n (suc left) = given_alone (setpoints axes start target n left) (setpoints_alone axes start target n left)
 
-from_alone : (target : Joints) (cap : ℕ) (a : Answer) → NoPart (move_from target cap a)
-from_alone target cap (answers.At start) = setpoints_alone start target (setpoint_count start target cap) (setpoint_count start target cap)
-from_alone target cap a = tt
+from_alone : (axes : ℕ) (target : Joints) (cap : ℕ) (a : Answer) → NoPart (move_from axes target cap a)
+from_alone axes target cap (answers.At start) = setpoints_alone axes start target (setpoint_count axes start target cap) (setpoint_count axes start target cap)
+from_alone axes target cap a = tt
 
-pub move_alone : (target : Joints) (speed : ℤ) → NoPart (move target speed)
-move_alone target speed = either (not (is_reachable target)) (not (int_lt (pos 0) speed))
+pub move_alone : (axes : ℕ) (target : Joints) (speed : ℤ) → NoPart (move axes target speed)
+move_alone axes target speed = either (not (is_reachable axes target)) (not (int_lt (pos 0) speed))
   where
-    either : (a b : Bool) → NoPart (if a then fault faults.JointRange else if b then fault faults.Speed else Asks Position (move_from target (cap_of speed)))
+    either : (a b : Bool) → NoPart (if a then fault faults.JointRange else if b then fault faults.Speed else Asks Position (move_from axes target (cap_of speed)))
     either true b = tt
     either false true = tt
-    either false false = from_alone target (cap_of speed)
+    either false false = from_alone axes target (cap_of speed)
 
 pub arrived_alone : (a : Answer) → NoPart (when_arrived a)
 arrived_alone answers.Met = tt
 arrived_alone answers.Apart = tt
 arrived_alone a = tt
+
+pub found_alone : (task : Option ℕ) → NoPart (task_or_fault task)
+found_alone None = tt
+found_alone (Some task) = tt

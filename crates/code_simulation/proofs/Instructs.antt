@@ -10,7 +10,8 @@ use Rattle.rapid_meaning.specs.Doings.{Raises, tells}
 use Rattle.rapid_meaning.specs.Flows.{Normal, Attempt}
 use Rattle.rapid_meaning.specs.Instructions.{instructed, needed, options}
 use Rattle.rapid_meaning.specs.Statements.{done_or_held, follows}
-use Rattle.stack_code.specs.Pieces.{instruction_pieces}
+use Rattle.stack_code.specs.Pieces.{pieces_of_steps}
+use Rattle.stack_code.specs.Recipes.{recipe}
 use Rattle.stack_code.specs.Sizes.{pieces_size, stmt_size}
 use Rattle.stack_code.specs.StmtLayouts.{own_of}
 use Rattle.code_simulation.proofs.Bodies.{Body, begins, lands, leaving, spot_of}
@@ -39,7 +40,7 @@ pub instruct_sim : (t : Target) (tree : TypedTree) (run : Run) → IsCodeOf tree
 instruct_sim t tree run code claims b pc at instruction args stands place =
     header_sim t tree run claims b pc (trees.Instruct at instruction args) stands place (begins b (pc + 1)) (instructed tree b.stands.routine instruction (needed args) (options args))
     (done_or_held b.stands (trees.Instruct at instruction args))
-    (settles (spot_of t tree run b (own_of tree b.stands.routine pc (trees.Instruct at instruction args))) (pc + 1 + pieces_size (instruction_pieces tree b.stands.routine instruction (needed args) (options args))))
+    (settles (spot_of t tree run b (own_of tree b.stands.routine pc (trees.Instruct at instruction args))) (pc + 1 + pieces_size (pieces_of_steps tree b.stands.routine (needed args) (options args) (recipe instruction))))
     (instructed_goes (spot_of t tree run b (own_of tree b.stands.routine pc (trees.Instruct at instruction args))) code claims b.labels (pc + 1) instruction (needed args) (options args) place.behind
     (needed_calls tree args place.calls.0) (options_calls tree args place.calls.0) place.calls.1 place.code.1 place.room)
     (settled_ends t tree run claims b pc _ _ (trees.Instruct at instruction args) refl (omega arith) stands place)

@@ -4,12 +4,13 @@ use Rattle.std.proofs.lemmas.Bool.{and_parts}
 use Rattle.rapid_model.specs.Fits.{fits_request}
 use Rattle.rapid_model.specs.declared.answer.Answer.{Answer}
 use Rattle.rapid_model.specs.declared.answer.Answer.TheVariants as answers
+use Rattle.rapid_model.specs.declared.at.At.{At}
 use Rattle.rapid_model.specs.declared.fate.Fate.TheVariants as fates
 use Rattle.rapid_model.specs.declared.fate.Fault.TheVariants.{TrapFlood, Unhandled}
 use Rattle.rapid_model.specs.declared.request.Request.TheVariants.{Look, Leave}
 use Rattle.typed_trees.specs.Plain.{TypedRoutine, TypedTree}
 use Rattle.rapid_meaning.specs.Answering.{Run, fitting_of, is_trap_row}
-use Rattle.rapid_meaning.specs.Data.{At, with_seen}
+use Rattle.rapid_meaning.specs.Data.{with_seen}
 use Rattle.rapid_meaning.specs.Doings.{Doing, Asks, Raises, change, goes_to, tells, when_ok, ◌>>◌}
 use Rattle.rapid_meaning.specs.Flows.{Flow, Part, value_of}
 use Rattle.rapid_meaning.specs.Looks as source

@@ -1,6 +1,6 @@
 -- What stands behind the code of a statement, of a list, and of a routine.
 use Rattle.std.proofs.Common.{ℕ, ◌+◌, List, [], ◌∷◌, arith}
-use Rattle.raw_trees.specs.declared.raw_expr.Operator.TheVariants as operators
+use Rattle.rapid_model.specs.declared.operator.Operator.TheVariants as operators
 use Rattle.typed_trees.specs.Plain as trees
 use Rattle.typed_trees.specs.Plain.{TypedArms, TypedCases, TypedElse, TypedExprs, TypedRoutine, TypedStmt, TypedStmts, TypedTree, NoExprs, MoreExprs, NoStmts, MoreStmts, NoArms, MoreArms, NoCases, MoreCases, NoElse, Else}
 use Rattle.rapid_meaning.specs.Layouts.{local_start}

@@ -1,6 +1,6 @@
 -- A PROC that is called.
 use Rattle.std.proofs.Common.{◌≡◌, refl, sym, ◌∙◌, ℕ, List, length, None, slice_get}
-use Rattle.raw_trees.specs.declared.raw_routine.RoutineKind.TheVariants as kinds
+use Rattle.rapid_model.specs.declared.routine_kind.RoutineKind.TheVariants as kinds
 use Rattle.typed_trees.specs.Plain.{TypedTree}
 use Rattle.typed_trees.specs.declared.datum.Datum.{Datum}
 use Rattle.rapid_meaning.specs.Answering.{Run}

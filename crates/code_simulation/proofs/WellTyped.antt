@@ -7,8 +7,8 @@ use Rattle.rapid_model.specs.declared.instruction.Instruction.TheVariants as ins
 use Rattle.rapid_model.specs.declared.part_name.PartName.TheVariants as parts
 use Rattle.rapid_model.specs.declared.sort.Sort.{Sort}
 use Rattle.rapid_values.specs.Components.{Component, components}
-use Rattle.raw_trees.specs.declared.raw_routine.RoutineKind.{RoutineKind}
-use Rattle.raw_trees.specs.declared.raw_routine.RoutineKind.TheVariants as kinds
+use Rattle.rapid_model.specs.declared.routine_kind.RoutineKind.{RoutineKind}
+use Rattle.rapid_model.specs.declared.routine_kind.RoutineKind.TheVariants as kinds
 use Rattle.rapid_builtins.specs.Calls as builtins
 use Rattle.rapid_builtins.specs.Calls.{OptionRow, function_needs, instruction_needs}
 use Rattle.rapid_builtins.specs.declared.need.Need.{Need}
@@ -59,7 +59,7 @@ mutual
   expr_calls c kinds (trees.Known at own v) sort is = tt
   expr_calls c kinds (trees.ErrorNumber at own) sort is = tt
   expr_calls c kinds (trees.SignalValue at own signal) sort is = tt
-  expr_calls c kinds (trees.Stored at own p) sort is = place_calls c kinds p sort is.2
+  expr_calls c kinds (trees.Stored at own p) sort is = place_calls c kinds false p sort is.2
   expr_calls c kinds (trees.Group at own e) sort is = expr_calls c kinds e sort is.1
   expr_calls c kinds (trees.Aggregate at own es) sort is = exprs_calls c kinds es (components own) is.2
   expr_calls c kinds (trees.Builtin at own function args) sort is = args_calls c kinds args (function_needs function) is.3
@@ -77,19 +77,19 @@ mutual
   steps_calls c kinds NoSteps first sort are = tt
   steps_calls c kinds (MoreSteps o e steps) first sort are = (expr_calls c kinds e first are.2, steps_calls c kinds steps are.0 sort are.3)
 
-  place_calls : (c : Setting) (kinds : List Kind) (p : TypedPlace) (sort : Sort) → IsPlace c kinds p sort → PlaceCalls c.tree p
-  place_calls c kinds (PlaceOf root NotHeld part own) sort is = tt
-  place_calls c kinds (PlaceOf root (Held e) part own) sort is = expr_calls c kinds e _ is.5
+  place_calls : (c : Setting) (kinds : List Kind) (written : Bool) (p : TypedPlace) (sort : Sort) → IsPlace c kinds written p sort → PlaceCalls c.tree p
+  place_calls c kinds written (PlaceOf root NotHeld part own) sort is = tt
+  place_calls c kinds written (PlaceOf root (Held e) part own) sort is = expr_calls c kinds e _ is.5
 
   arg_calls : (c : Setting) (kinds : List Kind) (arg : TypedArg) (need : Need) → IsArg c kinds arg need → ArgCalls c.tree arg
   arg_calls c kinds (Given e) (needs.Value sort) is = expr_calls c kinds e sort is
   arg_calls c kinds (Given e) needs.One is = expr_calls c kinds e _ is
-  arg_calls c kinds (Lent p) (needs.Var sort) is = place_calls c kinds p sort is
-  arg_calls c kinds (Lent p) (needs.Pers sort) is = place_calls c kinds p sort is
-  arg_calls c kinds (Lent p) (needs.VarOrPers sort) is = place_calls c kinds p sort is
-  arg_calls c kinds (Lent p) (needs.Written sort) is = place_calls c kinds p sort is
-  arg_calls c kinds (Lent p) (needs.Place sort) is = place_calls c kinds p sort is
-  arg_calls c kinds (Lent p) needs.WorldZone is = place_calls c kinds p is.0 is.2
+  arg_calls c kinds (Lent p) (needs.Var sort) is = place_calls c kinds true p sort is
+  arg_calls c kinds (Lent p) (needs.Pers sort) is = place_calls c kinds true p sort is
+  arg_calls c kinds (Lent p) (needs.VarOrPers sort) is = place_calls c kinds true p sort is
+  arg_calls c kinds (Lent p) (needs.Written sort) is = place_calls c kinds true p sort is
+  arg_calls c kinds (Lent p) (needs.Place sort) is = place_calls c kinds false p sort is
+  arg_calls c kinds (Lent p) needs.WorldZone is = place_calls c kinds true p is.0 is.2
   arg_calls c kinds (Lent p) needs.Array is = array_calls c kinds p is.0 is.2
   arg_calls c kinds (Lent p) needs.TaskList is = array_calls c kinds p _ is
   arg_calls c kinds (Lent p) needs.PersName is = name_calls c p is
@@ -131,17 +131,9 @@ bare_name c kinds (Lent (PlaceOf (roots.Pers row) NotHeld parts.Whole own)) more
 bare_name c kinds (Lent p) more is = absurd is
 bare_name c kinds arg more is = absurd is
 
-bare_list : (c : Setting) (kinds : List Kind) (number arg : TypedArg) (more : List TypedArg) → IsArg c kinds arg needs.TaskList → IsBare instructions.WaitSyncTask (number ∷ arg ∷ more)
-bare_list c kinds number (Lent (PlaceOf root NotHeld parts.Whole own)) more is = tt
-bare_list c kinds number (Lent p) more is = absurd is
-bare_list c kinds number arg more is = absurd is
-
 bare : (c : Setting) (kinds : List Kind) (instruction : Instruction) (args : List TypedArg) → AreNeeded c kinds args (instruction_needs instruction) → IsBare instruction args
 bare c kinds instructions.IPers [] are = tt
 bare c kinds instructions.IPers (arg ∷ more) are = bare_name c kinds arg more are.0
-bare c kinds instructions.WaitSyncTask [] are = tt
-bare c kinds instructions.WaitSyncTask (arg ∷ []) are = tt
-bare c kinds instructions.WaitSyncTask (number ∷ arg ∷ more) are = bare_list c kinds number arg more are.1.0
 bare c kinds instruction args are = tt
 
 maybe_calls : (c : Setting) (kinds : List Kind) (step : Option TypedExpr) → IsStep c kinds step → MaybeCalls c.tree step
@@ -157,7 +149,7 @@ procedure tree called routine there kind other found = ap (λ (r : TypedRoutine)
 
 mutual
   stmt_calls : (c : Setting) (around : Around) (s : TypedStmt) → IsStmt c around s → StmtCalls c.tree s
-  stmt_calls c around (trees.Assign at p e) is = (place_calls c around.places p is.0 is.2, expr_calls c around.places e is.0 is.3)
+  stmt_calls c around (trees.Assign at p e) is = (place_calls c around.places true p is.0 is.2, expr_calls c around.places e is.0 is.3)
   stmt_calls c around (trees.Instruct at instruction args) is = (
     given_calls c around.places args (instruction_needs instruction) (builtins.options instruction) is.are_needed is.are_options,
     bare c around.places instruction (needed args) is.are_needed,
@@ -173,7 +165,7 @@ mutual
   stmt_calls c around (trees.Raise at (Some e)) is = expr_calls c around.places e _ is
   stmt_calls c around (trees.Retry at) is = tt
   stmt_calls c around (trees.TryNext at) is = tt
-  stmt_calls c around (trees.Connect at p trap) is = place_calls c around.places p _ is.0
+  stmt_calls c around (trees.Connect at p trap) is = place_calls c around.places true p _ is.0
   stmt_calls c around (trees.If at arms other) is = (arms_calls c around arms is.0, else_calls c around other is.1)
   stmt_calls c around (trees.IfOne at e one) is = (expr_calls c around.places e _ is.0, stmt_calls c around one is.1)
   stmt_calls c around (trees.For at local first last step list) is =
@@ -220,9 +212,9 @@ main_takes : (tree : TypedTree) (main : IsMain tree) → Takes tree tree.main 0
 main_takes tree main other found =
     ap (λ (params : List TypedParam). length params) (sym main.takes_nothing) ∙ ap (λ (r : TypedRoutine). length r.params) (one_routine tree tree.main main.routine other main.there found)
 
-pub orderly : (signals : ℕ) (arm : Bool) (tree : TypedTree) → WellTyped signals arm tree → All NumbersLabels tree.routines → IsOrderly tree
-orderly signals arm tree typed labels = record {
+pub orderly : (signals : ℕ) (tree : TypedTree) → WellTyped signals tree → All NumbersLabels tree.routines → IsOrderly tree
+orderly signals tree typed labels = record {
   routines = λ k d within.
-      orderly_routine (record { signals = signals; arm = arm; tree = tree }) (get_or tree.routines k d) (typed.routines k d within) (labels k d within);
+      orderly_routine (record { signals = signals; tree = tree }) (get_or tree.routines k d) (typed.routines k d within) (labels k d within);
   main = main_takes tree typed.main;
 }

@@ -104,8 +104,8 @@ goes_fine (Asking request d) goes = tt
 goes_fine (Ended d) goes = tt
 goes_fine o goes = absurd goes
 
-pub typed_stands : (signals : ℕ) (arm : Bool) (cell : CellData) (number : ℕ) (tree : TypedTree) (answers : List Answer) → WellTyped signals arm tree → Numbered cell number tree
+pub typed_stands : (signals : ℕ) (cell : CellData) (number : ℕ) (tree : TypedTree) (answers : List Answer) → WellTyped signals tree → Numbered cell number tree
     → All NumbersLabels tree.routines → FitsSteps tree answers → (k : ℕ) × StandsBy tree answers k
 unfolding asked_after
-typed_stands signals arm cell number tree answers typed numbered labels fits =
-    simulates tree (orderly signals arm tree typed labels) answers (goes_fine (state_after tree answers) (typings.goes signals arm cell number tree answers typed numbered fits))
+typed_stands signals cell number tree answers typed numbered labels fits =
+    simulates tree (orderly signals tree typed labels) answers (goes_fine (state_after tree answers) (typings.goes signals cell number tree answers typed numbered fits))

@@ -3,7 +3,7 @@ use Rattle.std.specs.Prelude.{◌≡◌, ℕ, ◌+◌, List, ◌∷◌, Option, 
 use Rattle.rapid_model.specs.declared.instruction.Instruction.{Instruction}
 use Rattle.rapid_model.specs.declared.instruction.Instruction.TheVariants as instructions
 use Rattle.rapid_model.specs.declared.part_name.PartName.TheVariants as parts
-use Rattle.raw_trees.specs.declared.raw_routine.RoutineKind.TheVariants as kinds
+use Rattle.rapid_model.specs.declared.routine_kind.RoutineKind.TheVariants as kinds
 use Rattle.typed_trees.specs.Plain as trees
 use Rattle.typed_trees.specs.Plain.{TypedArg, TypedArgs, TypedArgument, TypedArms, TypedCases, TypedElse, TypedExpr, TypedExprs, TypedHeld, TypedPlace, TypedRoutine, TypedSteps, TypedStmt, TypedStmts, TypedTree, NoExprs, MoreExprs, NoSteps, MoreSteps, NotHeld, Held, PlaceOf, Given, Lent, OfSignal, OfMeeting, Itself, Optional, NoArgument, Argument, NoArgs, MoreArgs, NoStmts, MoreStmts, NoArms, MoreArms, NoCases, MoreCases, NoElse, Else}
 use Rattle.typed_trees.specs.declared.expr.TreeRoot.TheVariants as roots
@@ -21,12 +21,10 @@ Takes tree called count = (routine : TypedRoutine) → slice_get tree.routines c
 abbrev pub IsProcedure : TypedTree → ℕ → Type 0
 IsProcedure tree called = (routine : TypedRoutine) → slice_get tree.routines called ≡ Some routine → routine.kind ≡ kinds.Proc
 
--- what IPers watches and the list of WaitSyncTask are named alone
+-- what IPers watches is named alone
 abbrev pub IsBare : Instruction → List TypedArg → Type 0
 IsBare instructions.IPers (Lent (PlaceOf (roots.Pers row) NotHeld parts.Whole sort) ∷ more) = ⊤
 IsBare instructions.IPers (arg ∷ more) = ⊥
-IsBare instructions.WaitSyncTask (number ∷ Lent (PlaceOf root NotHeld parts.Whole sort) ∷ more) = ⊤
-IsBare instructions.WaitSyncTask (number ∷ arg ∷ more) = ⊥
 IsBare instruction args = ⊤
 
 -- in each form, each call of a routine gives as many arguments as it takes, and one that is a statement is of a PROC

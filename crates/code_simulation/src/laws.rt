@@ -11,7 +11,7 @@ ghost use Rattle.code_simulation.specs.Standing.{Simulates, StandsBy};
 /// A law: a well typed tree, in each routine of which the labels are numbered in text order, is orderly: its calls give as many
 /// arguments as are taken, its statements call procedures alone, and its traps and its main take nothing.
 pub fn well_typed_trees_are_orderly()
-    ensures { (signals : ℕ) (arm : Bool) (tree : TypedTree) → WellTyped signals arm tree → All NumbersLabels tree.routines → IsOrderly tree }
+    ensures { (signals : ℕ) (tree : TypedTree) → WellTyped signals tree → All NumbersLabels tree.routines → IsOrderly tree }
 {}
 
 /// A law: compiled code stands after any answers as its tree does: by some number of operations, and by any more, it asks the same
@@ -19,5 +19,5 @@ pub fn well_typed_trees_are_orderly()
 /// tree with its cell's numbers never does, after whatever answers fit step by step.
 pub fn compiled_code_asks_as_its_tree()
     ensures stands { (tree : TypedTree) → IsOrderly tree → Simulates tree }
-    ensures goes { (signals : ℕ) (arm : Bool) (cell : CellData) (number : ℕ) (tree : TypedTree) (answers : List Answer) → WellTyped signals arm tree → Numbered cell number tree → All NumbersLabels tree.routines → FitsSteps tree answers → (k : ℕ) × StandsBy tree answers k }
+    ensures goes { (signals : ℕ) (cell : CellData) (number : ℕ) (tree : TypedTree) (answers : List Answer) → WellTyped signals tree → Numbered cell number tree → All NumbersLabels tree.routines → FitsSteps tree answers → (k : ℕ) × StandsBy tree answers k }
 {}

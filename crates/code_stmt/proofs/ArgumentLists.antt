@@ -3,7 +3,7 @@ use Rattle.std.proofs.Common.{◌≡◌, ℕ, ◌||◌, true, false, List, [], �
 use Rattle.std.proofs.lemmas.List.{append_assoc}
 use Rattle.rapid_meaning.specs.Instructions.{has, needed, options}
 use Rattle.typed_trees.specs.Plain.{TypedArg, TypedArgs, MoreArgs, Optional}
-use Rattle.code_stmt.specs.Given.{is_named, is_option}
+use Rattle.code_stmt.specs.Options.{is_named, is_option}
 
 pub option_needed : (arg : TypedArg) (more : TypedArgs) → is_option arg ≡ true → needed (MoreArgs arg more) ≡ needed more
 option_needed (Optional name value) more is = refl
@@ -22,8 +22,8 @@ other_kept (Optional name value) more is = absurd cc
 other_kept arg more is = refl
 
 -- the first of those that are left is put behind those that are there
-pub one_further : (done : List TypedArg) (arg : TypedArg) (left rest whole : List TypedArg) → done ++ left ≡ whole → left ≡ arg ∷ rest → (done ++ arg ∷ []) ++ rest ≡ whole
-one_further done arg left rest whole is first = append_assoc done (arg ∷ []) rest ∙ (ap (λ xs. done ++ xs) (sym first) ∙ is)
+pub one_further : {X : Type 0} (done : List X) (one : X) (left rest whole : List X) → done ++ left ≡ whole → left ≡ one ∷ rest → (done ++ one ∷ []) ++ rest ≡ whole
+one_further done one left rest whole is first = append_assoc done (one ∷ []) rest ∙ (ap (λ xs. done ++ xs) (sym first) ∙ is)
 
 -- an option more
 pub has_more : (name : List ℕ) (arg : TypedArg) (more : List TypedArg) → has name (arg ∷ more) ≡ (is_named name arg || has name more)

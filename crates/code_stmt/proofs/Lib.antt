@@ -1,8 +1,6 @@
 pub mod ArgumentLists
 pub mod Closing
 pub mod Forms
-pub mod GivenForms
-pub mod InstructionForms
 pub mod Labels
 pub mod Layouts
 pub mod Lists
@@ -12,6 +10,6 @@ pub mod PieceLists
 pub mod RoutineParts
 pub mod Rows
 pub mod Simple
+pub mod Sizings
 pub mod StmtNeeds
-pub mod TaskSets
 pub mod ValueLists

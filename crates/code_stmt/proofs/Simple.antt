@@ -16,11 +16,13 @@ use Rattle.typed_trees.specs.declared.bounds.Bounds.{Bounds}
 use Rattle.typed_trees.specs.declared.expr.Expr.{Expr}
 use Rattle.typed_trees.specs.declared.stmt.Form.{Form, Label, If, If', IfOne, IfOne', For, For', While, While', Test, Test'}
 use Rattle.typed_trees.specs.declared.stmt.Stmt.{Stmt}
+use Rattle.code_stmt.specs.Sizing.{inner_sizes}
 use Rattle.code_stmt.proofs.Forms.{for_is, if_is, if_one_is, test_is, while_is}
 
 -- a statement is its Look and its pieces
 pub record Simple (tree : TypedTree) (routine : TypedRoutine) (s : TypedStmt) : Type 0 where
   pub size : stmt_size tree routine s ≡ 1 + pieces_size (pieces tree routine s)
+  pub inside : inner_sizes tree routine s ≡ []
   pub need : stmt_need tree routine s ≡ pieces_need 0 (pieces tree routine s)
   pub labels : (pc : ℕ) → stmt_labels tree routine pc s ≡ []
   pub code : (labels : List ℕ) (own : Own) (pc : ℕ) (ps : List Placed) → stmt_code tree routine labels own pc s ps ≡ put own ops.Look (pieces_code tree routine labels own (pc + 1) (pieces tree routine s) ps)
@@ -44,4 +46,4 @@ simple tree routine s = by s.at s.form
     by at (For' local bounds shape row) not = let is = for_is local bounds shape row in absurd (not.count local bounds is.0 is.1)
     by at (While' test shape row) not = let is = while_is test shape row in absurd (not.repeat test is.0 is.1)
     by at (Test' value shape row other) not = let is = test_is value shape row other in absurd (not.test value is.0 is.1.0 is.1.1)
-    by at form not = record { size = refl; need = refl; labels = λ pc. refl; code = λ labels own pc ps. refl }
+    by at form not = record { size = refl; inside = refl; need = refl; labels = λ pc. refl; code = λ labels own pc ps. refl }

@@ -1,6 +1,6 @@
 -- The values of a CASE, put behind a block one after the other.
 use Rattle.std.proofs.Common.{ℕ, ◌+◌, ap, arith}
-use Rattle.raw_trees.specs.declared.raw_expr.Operator.TheVariants as operators
+use Rattle.rapid_model.specs.declared.operator.Operator.TheVariants as operators
 use Rattle.stack_code.specs.ExprLayouts.{expr_code, put}
 use Rattle.stack_code.specs.Placed.{Own}
 use Rattle.stack_code.specs.Sizes.{values_size}

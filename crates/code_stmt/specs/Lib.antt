@@ -1,8 +1,9 @@
 pub mod Depths
-pub mod Given
+pub mod Options
 pub mod Labelled
 pub mod Lays
 pub mod Marked
 pub mod Parts
 pub mod Runs
+pub mod Sizing
 pub mod Views

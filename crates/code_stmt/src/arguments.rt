@@ -4,7 +4,7 @@ ghost use Rattle.std.specs.Prelude.{◌≡◌, map, IfOk};
 ghost use Rattle.rapid_meaning.specs.Instructions.{has, needed, options};
 ghost use Rattle.typed_trees.specs.Plain.{args_of};
 ghost use Rattle.typed_trees.specs.Views.{view_arg};
-ghost use Rattle.code_stmt.specs.Given;
+ghost use Rattle.code_stmt.specs.Options;
 ghost use Rattle.code_stmt.specs.Views.{view_args};
 
 use std::alloc::{AllocError, Global};
@@ -17,7 +17,7 @@ pub(crate) struct Arguments<'a> {
     pub(crate) options: Vec<&'a Arg>,
 }
 
-/// The arguments, parted. Its error says that memory was refused.
+/// The arguments, split into the two. Fails only if an allocation fails.
 pub(crate) fn parted<'a>(alloc: Global, args: &'a Vec<Arg>) -> Result<Arguments<'a>, AllocError>
     ensures needed { IfOk result (λ a. view_args a.needed.items ≡ needed (args_of (map view_arg args.now.items))) }
     ensures options { IfOk result (λ a. view_args a.options.items ≡ options (args_of (map view_arg args.now.items))) }
@@ -39,7 +39,7 @@ pub(crate) fn parted<'a>(alloc: Global, args: &'a Vec<Arg>) -> Result<Arguments<
 
 /// Whether an argument is an option.
 fn is_option(arg: &Arg) -> bool
-    ensures { result ≡ Given.is_option (view_arg arg.now) }
+    ensures { result ≡ Options.is_option (view_arg arg.now) }
 {
     match arg {
         Arg::Option { .. } => true,
@@ -61,7 +61,7 @@ pub(crate) fn has(name: &[u8], options: &[&Arg]) -> bool
 
 /// Whether an argument is the option of this name.
 fn is_named(arg: &Arg, name: &[u8]) -> bool
-    ensures { result ≡ Given.is_named name.now (view_arg arg.now) }
+    ensures { result ≡ Options.is_named name.now (view_arg arg.now) }
 {
     match arg {
         Arg::Option { name: other, .. } => other.bytes() == name,

@@ -10,6 +10,7 @@ ghost use Rattle.code_stmt.specs.Marked.{Kept, Marked, Stand, handler_at};
 
 use crate::commits::{commit, last_row};
 use crate::routines::{add_routine, handler_of, places_of};
+use crate::sizes::SizesLeft;
 use crate::written::Written;
 use code_expr::{Block, Context, count_of, local_starts, slot_starts};
 use rapid_num::Memory;
@@ -74,6 +75,7 @@ pub fn add_marked(
         code: Block::new(context.alloc(), start),
         owners: last_row(context.alloc(), &marks.owners)?,
     };
-    add_routine(context, &places.labels, &mut out)?;
+    let mut sizes = SizesLeft::new(places.sizes);
+    add_routine(context, &places.labels, &mut sizes, &mut out)?;
     commit(code, marks, out, handler_of(context, places.part))
 }

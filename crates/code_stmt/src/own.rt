@@ -1,4 +1,4 @@
-use stack_code::At;
+use rapid_model::At;
 
 /// What a statement has to do with its operations: where it is done again, where it is gone on behind, and its place in the
 /// source (RAPID Overview, error recovery).

@@ -1,7 +1,7 @@
-//! Operations of one statement, put behind what is written, with the row of their owner. Each error says that memory was refused,
-//! or that there are 2^32 operations or more; what is behind then is of no use.
+//! Operations of one statement, appended to what is written, with the row of their owner. Each fails only if an allocation fails, or
+//! if there are 2^32 operations or more; what was appended then is of no use.
 
-ghost use Rattle.std.specs.Prelude.{◌≡◌, ◌+◌, IfOk, OnOk, map, option_map};
+ghost use Rattle.std.specs.Prelude.{◌≡◌, ◌+◌, [], ◌∷◌, IfOk, OnOk, map, option_map};
 ghost use Rattle.rapid_meaning.specs.Layouts.{local_start};
 ghost use Rattle.stack_code.specs.ExprLayouts.{expr_code, put};
 ghost use Rattle.stack_code.specs.Pieces;
@@ -14,24 +14,31 @@ ghost use Rattle.typed_trees.specs.Views.{view_expr, view_stmt};
 ghost use Rattle.code_expr.specs.Adds.{end_of};
 ghost use Rattle.code_expr.specs.Contexts.{routine_of, tree_of};
 ghost use Rattle.code_stmt.specs.Lays.{Lays};
+ghost use Rattle.code_stmt.specs.Sizing.{Taking};
 ghost use Rattle.code_stmt.specs.Views.{view_own};
 
-use crate::ends::behind_stmt;
 use crate::own::Own;
 use crate::piece_code::add_pieces;
 use crate::pieces::{bounds_pieces, pieces_of};
+use crate::sizes::SizesLeft;
 use crate::values::add_values;
 use crate::written::Written;
-use code_expr::{Context, add_expr};
-use stack_code::{At, Op};
+use code_expr::{Context, add_expr, sum};
+use rapid_model::At;
+use stack_code::Op;
 use std::alloc::AllocError;
 use typed_trees::{Bounds, Expr, Stmt};
 
-/// Whose the operations of a statement are that begins at a place.
-pub(crate) fn own_of(context: &Context<'_>, stmt: &Stmt, pc: u32) -> Result<Own, AllocError>
-    ensures { IfOk result (λ own. view_own own ≡ StmtLayouts.own_of (tree_of context.now) (routine_of context.now) pc (view_stmt stmt.now)) }
+/// Whose the operations of a statement are that begins at a place, if its size is the next.
+pub(crate) fn own_of(
+    context: &Context<'_>,
+    stmt: &Stmt,
+    pc: u32,
+    sizes: &mut SizesLeft,
+) -> Result<Own, AllocError>
+    ensures { IfOk result (λ own. let tree = tree_of context.now in let routine = routine_of context.now in Taking sizes.old sizes.new (Sizes.stmt_size tree routine (view_stmt stmt.now) ∷ []) (view_own own ≡ StmtLayouts.own_of tree routine pc (view_stmt stmt.now))) }
 {
-    let next = behind_stmt(context, stmt, pc, &mut Vec::new(context.alloc()))?;
+    let next = sum(pc, sizes.next())?;
     let at = at_byte(context, stmt.at)?;
     Ok(Own {
         retry: pc,

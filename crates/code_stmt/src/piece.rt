@@ -7,8 +7,6 @@ pub(crate) enum Piece<'a> {
     Expr(&'a Expr),
     Place(&'a TreePlace),
     Args(&'a Vec<Arg>),
-    /// An element of the array of a place, by its number from 1.
-    Element(&'a TreePlace, u16),
     Does(Op),
     /// A wait that goes back to the statement's Look.
     Waits,

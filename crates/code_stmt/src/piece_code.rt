@@ -13,7 +13,7 @@ ghost use Rattle.code_stmt.specs.Views.{view_own, view_piece, view_pieces};
 
 use crate::own::Own;
 use crate::piece::Piece;
-use code_expr::{Block, Context, add_args, add_element, add_expr, add_place, push, push_down};
+use code_expr::{Block, Context, add_args, add_expr, add_place, push, push_down};
 use stack_code::Op;
 use std::alloc::AllocError;
 
@@ -47,7 +47,6 @@ fn add_piece(
         Piece::Expr(expr) => add_expr(context, expr, code),
         Piece::Place(place) => add_place(context, place, code),
         Piece::Args(args) => add_args(context, args, code),
-        Piece::Element(place, number) => add_element(context, place.root, place.part, number, code),
         Piece::Does(op) => code.put(op),
         Piece::Waits => code.put(Op::Wait(own.retry)),
         Piece::GoesTo(label) => code.put(Op::Jump(label_at(labels, label))),

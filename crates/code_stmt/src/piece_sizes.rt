@@ -7,9 +7,7 @@ ghost use Rattle.code_stmt.specs.Depths;
 ghost use Rattle.code_stmt.specs.Views.{view_piece, view_pieces};
 
 use crate::piece::Piece;
-use code_expr::{
-    args_need, args_size, element_size, expr_need, expr_size, more, place_need, place_size, sum,
-};
+use code_expr::{args_need, args_size, expr_need, expr_size, more, place_need, place_size, sum};
 use stack_code::Op;
 use std::alloc::AllocError;
 
@@ -32,7 +30,6 @@ fn piece_size(piece: &Piece<'_>) -> Result<u32, AllocError>
         Piece::Expr(expr) => expr_size(expr),
         Piece::Place(place) => place_size(place),
         Piece::Args(args) => args_size(args),
-        Piece::Element(place, _) => Ok(element_size(place.part)),
         Piece::Does(_) | Piece::Waits | Piece::GoesTo(_) => Ok(1),
         Piece::Chooses => Ok(4),
     }
@@ -59,7 +56,6 @@ fn piece_need(piece: &Piece<'_>) -> Result<u32, AllocError>
         Piece::Expr(expr) => expr_need(expr),
         Piece::Place(place) => place_need(place),
         Piece::Args(args) => args_need(args),
-        Piece::Element(_, _) => Ok(2),
         Piece::Does(_) | Piece::Waits | Piece::GoesTo(_) | Piece::Chooses => Ok(0),
     }
 }
@@ -69,7 +65,7 @@ fn depth_behind(piece: &Piece<'_>, depth: u32) -> Result<u32, AllocError>
     ensures { IfOk result (λ behind. behind ≡ Depths.depth_behind (view_piece piece.now) depth) }
 {
     match piece {
-        Piece::Expr(_) | Piece::Place(_) | Piece::Element(_, _) => sum(depth, 1),
+        Piece::Expr(_) | Piece::Place(_) => sum(depth, 1),
         Piece::Does(op) => depth_behind_op(op, depth),
         Piece::Waits => Ok(depth.saturating_sub(1)),
         Piece::Args(_) | Piece::GoesTo(_) | Piece::Chooses => Ok(depth),
@@ -82,7 +78,7 @@ fn depth_behind_op(op: &Op, depth: u32) -> Result<u32, AllocError>
 {
     match op {
         Op::Push(_) | Op::Dup | Op::Over | Op::Local(_) | Op::GetSignal(_) => sum(depth, 1),
-        Op::Binary(_) | Op::TaskBit => Ok(depth.saturating_sub(1)),
+        Op::Binary(_) => Ok(depth.saturating_sub(1)),
         Op::Store => Ok(depth.saturating_sub(2)),
         _ => Ok(depth),
     }

@@ -8,11 +8,10 @@ ghost use Rattle.typed_trees.specs.Views.{view_expr, view_stmt};
 ghost use Rattle.code_expr.specs.Contexts.{routine_of, tree_of};
 ghost use Rattle.code_stmt.specs.Views.{view_pieces};
 
-use crate::instructions::instruction_pieces;
-use crate::interrupt_pieces::of_place_and_number;
 use crate::piece::Piece;
+use crate::steps::instruction_pieces;
 use code_expr::{Context, sum};
-use raw_trees::Operator;
+use rapid_model::Operator;
 use stack_code::Op;
 use std::alloc::{AllocError, Global};
 use typed_trees::{Bounds, Expr, Form, Stmt};
@@ -48,7 +47,13 @@ pub(crate) fn pieces_of<'a>(
         Form::Retry => of_op(alloc, Op::Retry),
         Form::TryNext => of_op(alloc, Op::Next),
         Form::Connect { place, trap } => {
-            of_place_and_number(alloc, Some(place), Op::Connect(*trap))
+            let pieces = [
+                Piece::Place(place),
+                Piece::Does(Op::Dup),
+                Piece::Does(Op::Load),
+                Piece::Does(Op::Connect(*trap)),
+            ];
+            Ok(Vec::from_array(alloc, pieces)?)
         }
         Form::Label(_)
         | Form::If { .. }

@@ -12,7 +12,7 @@ ghost use Rattle.code_expr.specs.Adds.{Adds};
 ghost use Rattle.code_expr.specs.Contexts.{routine_of, tree_of};
 
 use code_expr::{Block, Context, add_expr, expr_need, expr_size, more, sum};
-use raw_trees::Operator;
+use rapid_model::Operator;
 use stack_code::Op;
 use std::alloc::AllocError;
 use typed_trees::Expr;

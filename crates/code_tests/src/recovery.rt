@@ -5,8 +5,9 @@ ghost use Rattle.stack_code.specs.Compiled.{compiled};
 ghost use Rattle.typed_trees.specs.Views.{view_tree};
 
 use super::texts::{listed, task_of};
-use code_link::{LinkedCode, link_routines};
+use code_link::link_routines;
 use error_recovery::{How, handler_of, resume_of};
+use stack_code::LinkedCode;
 use std::test::Fail;
 use typed_trees::Tree;
 

@@ -18,7 +18,7 @@ pub fn task_of(alloc: Global, text: &[u8]) -> Result<Tree, Fail> {
     let known = Known {
         tasks: &[],
         signals: &[],
-        arm: false,
+        axes: 0,
     };
     match check_task(alloc, &[module], &known) {
         Ok(tree) => Ok(tree),

@@ -1,7 +1,7 @@
 -- Constant expressions worked by hand.
 use Rattle.std.proofs.Common.{◌≡◌, refl, Bool, true, false, ℤ, pos, negsuc, [], ◌∷◌, Some}
-use Rattle.raw_trees.specs.declared.raw_expr.Operator.{Operator}
-use Rattle.raw_trees.specs.declared.raw_expr.Operator.TheVariants as operators
+use Rattle.rapid_model.specs.declared.operator.Operator.{Operator}
+use Rattle.rapid_model.specs.declared.operator.Operator.TheVariants as operators
 use Rattle.rapid_model.specs.declared.sort.Sort.TheVariants as sorts
 use Rattle.rapid_model.specs.declared.value.Value.TheVariants as values
 use Rattle.rapid_model.specs.declared.part_name.PartName.TheVariants as parts

@@ -8,7 +8,7 @@ use Rattle.rapid_model.specs.declared.sort.Sort.{Sort}
 use Rattle.rapid_model.specs.declared.sort.Sort.TheVariants as sorts
 use Rattle.rapid_model.specs.declared.value.Value.{Value}
 use Rattle.rapid_model.specs.declared.value.Value.TheVariants as values
-use Rattle.raw_trees.specs.declared.raw_expr.Operator.{Operator}
+use Rattle.rapid_model.specs.declared.operator.Operator.{Operator}
 use Rattle.rapid_values.specs.Values.{made_of}
 use Rattle.rapid_values.proofs.Lists.{other_count}
 use Rattle.typed_trees.specs.declared.expr.Expr.{Expr}

@@ -11,9 +11,8 @@ use crate::components::{blanks, keep};
 use crate::elements::{array_of, element_at};
 use crate::operands::{decides, on_right, opposite, value_or_not_known, with_sign};
 use crate::outcome::Outcome;
-use rapid_model::{Sort, Value};
+use rapid_model::{Operator, Sort, Value};
 use rapid_values::record_of;
-use raw_trees::Operator;
 use typed_trees::{Expr, ExprForm, TreePlace};
 
 /// What an expression comes to whose value is known before the run (RAPID Kernel, constant expressions): parts from the left

@@ -5,9 +5,8 @@ ghost use Rattle.constant_meaning.specs.Constants.{applied, decides, on_right, o
 ghost use Rattle.constant_meaning.specs.declared.outcome.Outcome.TheVariants as outcomes;
 
 use crate::outcome::Outcome;
-use rapid_model::Value;
+use rapid_model::{Operator, Value};
 use rapid_operators::{Applied, apply};
-use raw_trees::Operator;
 
 /// A value, where there is one.
 pub(crate) fn value_or_not_known(value: Option<Value>) -> Outcome

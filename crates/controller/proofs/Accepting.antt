@@ -3,7 +3,7 @@ use Rattle.std.proofs.Common.{◌≡◌, ℕ, ◌+◌, ◌≤◌, List, [], ◌�
 use Rattle.std.specs.Prelude.{is_some}
 use Rattle.std.proofs.lemmas.List.{length-map}
 use Rattle.std.proofs.lemmas.List.Elements.{All-cons, All-drop, All-map, All-nil, All-take}
-use Rattle.rapid_model.specs.ScriptData.{ScriptData, row_of}
+use Rattle.rapid_model.specs.ScriptData.{IsScript, ScriptData, row_of}
 use Rattle.rapid_model.specs.declared.script_task.ScriptTask.{ScriptTask}
 use Rattle.raw_trees.specs.Plain.{PlainModule}
 use Rattle.module_parser.specs.Modules.{ModuleText}
@@ -40,7 +40,7 @@ are_read reads spelled = All-map (λ (m : PlainModule). (source : List ℕ) × M
 
 -- the trees of a task and of those behind it
 typed_first : (script : ScriptData) (task : ScriptTask) (tasks : List ScriptTask) (own : List ReadModule) (more : List (List PlainModule)) (found : Checked TypedTree) (behind : Result (List TypedTree) Refused)
-    (trees : List TypedTree) → found ≡ task_of (raws own) (names_in script.tasks) script.signals (is_some task.arm) → AreSpelled own → then_trees (or_refused own found) behind ≡ Ok trees
+    (trees : List TypedTree) → found ≡ task_of (raws own) (names_in script.tasks) script.signals task.axes → AreSpelled own → then_trees (or_refused own found) behind ≡ Ok trees
     → ((ts : List TypedTree) → behind ≡ Ok ts → AreChecked script tasks more ts) → AreChecked script (task ∷ tasks) (raws own ∷ more) trees
 typed_first script task tasks own more (Ok tree) (Ok ts) [] here spelled is rest = cc
 typed_first script task tasks own more (Ok tree) (Ok ts) (t ∷ us) here spelled is rest =
@@ -56,7 +56,7 @@ are_checked script [] reads [] spelled is = tt
 are_checked script [] reads (tree ∷ trees) spelled is = cc
 are_checked script (task ∷ tasks) reads trees spelled is =
     let count = length task.modules in
-    typed_first script task tasks (take count reads) (modules_in tasks (drop count reads)) (task_of (raws (take count reads)) (names_in script.tasks) script.signals (is_some task.arm))
+    typed_first script task tasks (take count reads) (modules_in tasks (drop count reads)) (task_of (raws (take count reads)) (names_in script.tasks) script.signals task.axes)
     (typed_tasks script tasks (drop count reads)) trees refl (All-take IsSpelled count reads spelled) is
     (λ ts behind. are_checked script tasks (drop count reads) ts (All-drop IsSpelled count reads spelled) behind)
 
@@ -65,25 +65,25 @@ made_of_trees : (script : ScriptData) (reads : List ReadModule) (making : Making
 made_of_trees script reads (Ok m) made is = let same : m ≡ made = cc in ap Ok same
 made_of_trees script reads (Err broken) made is = cc
 
-from_trees : (script : ScriptData) (reads : List ReadModule) (found : Result (List TypedTree) Refused) (made : MadeCell) → length script.tasks ≤ 8 → AreSpelled reads → typed_tasks script script.tasks reads ≡ found
+from_trees : (script : ScriptData) (reads : List ReadModule) (found : Result (List TypedTree) Refused) (made : MadeCell) → IsScript script → AreSpelled reads → typed_tasks script script.tasks reads ≡ found
     → cell_from script reads found ≡ Ok made → IsAccepted script made
-from_trees script reads (Ok trees) made few spelled typed is = record {
+from_trees script reads (Ok trees) made limits spelled typed is = record {
   modules = modules_in script.tasks reads;
   trees = trees;
-  few_tasks = few;
+  is_script = limits;
   are_checked = are_checked script script.tasks reads trees spelled typed;
   is_made = made_of_trees script reads (make_cell script trees) made is;
 }
-from_trees script reads (Err refused) made few spelled typed is = cc
+from_trees script reads (Err refused) made limits spelled typed is = cc
 
-checked_is_accepted : (script : ScriptData) (reads : List ReadModule) (made : MadeCell) → length script.tasks ≤ 8 → AreSpelled reads → checked script reads ≡ Ok made → IsAccepted script made
-checked_is_accepted script reads made few spelled is = from_trees script reads (typed_tasks script script.tasks reads) made few spelled refl is
+checked_is_accepted : (script : ScriptData) (reads : List ReadModule) (made : MadeCell) → IsScript script → AreSpelled reads → checked script reads ≡ Ok made → IsAccepted script made
+checked_is_accepted script reads made limits spelled is = from_trees script reads (typed_tasks script script.tasks reads) made limits spelled refl is
 
 -- and has a tree for each task
-pub checked_has_script : (script : ScriptData) (reads : List ReadModule) (made : MadeCell) → length script.tasks ≤ 8 → AreSpelled reads → checked script reads ≡ Ok made → length made.trees ≡ length script.tasks
+pub checked_has_script : (script : ScriptData) (reads : List ReadModule) (made : MadeCell) → IsScript script → AreSpelled reads → checked script reads ≡ Ok made → length made.trees ≡ length script.tasks
     → HasScript made
-checked_has_script script reads made few spelled is one_each =
-    let accepted = checked_is_accepted script reads made few spelled is in
+checked_has_script script reads made limits spelled is one_each =
+    let accepted = checked_is_accepted script reads made limits spelled is in
     record {
       script = script;
       accepted = accepted;

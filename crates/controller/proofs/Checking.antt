@@ -43,27 +43,27 @@ trees_more front t (Ok more) = ap Ok (sym (append_assoc front (t ∷ []) more))
 trees_more front t (Err refused) = refl
 
 -- the typed tree of a task, from what its modules come to
-pub one_checked : (script : ScriptData) (task : ScriptTask) (reads : List ReadModule) (own : Modules) (names : List (List ℕ)) (signals : List SignalRow) (arm : Bool) (found : Checked TypedTree)
-    → ArePaired own → reads_in own ≡ reads → names ≡ names_in script.tasks → signals ≡ script.signals → arm ≡ is_some task.arm
-    → task_of (map view_module own.trees.now) names signals arm ≡ found → typed_task script task reads ≡ or_refused reads found
-one_checked script task reads own names signals arm found paired same named signalled armed is =
+pub one_checked : (script : ScriptData) (task : ScriptTask) (reads : List ReadModule) (own : Modules) (names : List (List ℕ)) (signals : List SignalRow) (axes : ℕ) (found : Checked TypedTree)
+    → ArePaired own → reads_in own ≡ reads → names ≡ names_in script.tasks → signals ≡ script.signals → axes ≡ task.axes
+    → task_of (map view_module own.trees.now) names signals axes ≡ found → typed_task script task reads ≡ or_refused reads found
+one_checked script task reads own names signals axes found paired same named signalled counted is =
     let raws : map (λ (r : ReadModule). r.raw) reads ≡ map view_module own.trees.now =
     ap (map (λ (r : ReadModule). r.raw)) (sym same) ∙ raws-of own.first own.texts.now own.trees.now paired.same in
-    ap (λ (ms : List PlainModule). or_refused reads (task_of ms (names_in script.tasks) script.signals (is_some task.arm))) raws
-    ∙ ap (λ (ns : List (List ℕ)). or_refused reads (task_of (map view_module own.trees.now) ns script.signals (is_some task.arm))) (sym named)
-    ∙ ap (λ (rows : List SignalRow). or_refused reads (task_of (map view_module own.trees.now) names rows (is_some task.arm))) (sym signalled)
-    ∙ ap (λ (b : Bool). or_refused reads (task_of (map view_module own.trees.now) names signals b)) (sym armed)
+    ap (λ (ms : List PlainModule). or_refused reads (task_of ms (names_in script.tasks) script.signals task.axes)) raws
+    ∙ ap (λ (ns : List (List ℕ)). or_refused reads (task_of (map view_module own.trees.now) ns script.signals task.axes)) (sym named)
+    ∙ ap (λ (rows : List SignalRow). or_refused reads (task_of (map view_module own.trees.now) names rows task.axes)) (sym signalled)
+    ∙ ap (λ (count : ℕ). or_refused reads (task_of (map view_module own.trees.now) names signals count)) (sym counted)
     ∙ ap (or_refused reads) is
 
 -- its refusal
-pub one_refused : (script : ScriptData) (task : ScriptTask) (reads : List ReadModule) (own : Modules) (names : List (List ℕ)) (signals : List SignalRow) (arm : Bool) (fault : TypeFault) (refused : Refused)
-    → ArePaired own → reads_in own ≡ reads → names ≡ names_in script.tasks → signals ≡ script.signals → arm ≡ is_some task.arm
-    → Fails fault (task_of (map view_module own.trees.now) names signals arm) → IsRuleRefusal (reads_in own) fault refused
+pub one_refused : (script : ScriptData) (task : ScriptTask) (reads : List ReadModule) (own : Modules) (names : List (List ℕ)) (signals : List SignalRow) (axes : ℕ) (fault : TypeFault) (refused : Refused)
+    → ArePaired own → reads_in own ≡ reads → names ≡ names_in script.tasks → signals ≡ script.signals → axes ≡ task.axes
+    → Fails fault (task_of (map view_module own.trees.now) names signals axes) → IsRuleRefusal (reads_in own) fault refused
     → (refused ≡ Memory) ⊎ (typed_task script task reads ≡ Err refused)
-one_refused script task reads own names signals arm types.Memory refused paired same named signalled armed fails told = inl told
-one_refused script task reads own names signals arm (types.Rule number at rule) refused paired same named signalled armed fails told =
+one_refused script task reads own names signals axes types.Memory refused paired same named signalled counted fails told = inl told
+one_refused script task reads own names signals axes (types.Rule number at rule) refused paired same named signalled counted fails told =
     inr (
-    one_checked script task reads own names signals arm (Err (record { «module» = number; at = at; rule = rule })) paired same named signalled armed fails
+    one_checked script task reads own names signals axes (Err (record { «module» = number; at = at; rule = rule })) paired same named signalled counted fails
     ∙ ap Err (ap (λ (rs : List ReadModule). rule_refusal rs number at rule) (sym same) ∙ sym told)
     )
 
@@ -96,12 +96,12 @@ checking_more script all k trees tree rest later task lt is p here paired behind
 }
 
 -- each task has few modules
-pub few_each : (tasks : List ScriptTask) (k : ℕ) (task : ScriptTask) → IsTrue (list_all is_task tasks) → k < length tasks → task ≡ get_or tasks k task → length task.modules ≤ 16
-few_each [] k task all lt is = absurd (omega arith)
-few_each (t ∷ tasks) zero task all lt is =
-    let few = (task_modules t (first_of_all (is_task t) (list_all is_task tasks) all)).few in
+pub few_each : (version : ℕ) (tasks : List ScriptTask) (k : ℕ) (task : ScriptTask) → IsTrue (list_all (is_task version) tasks) → k < length tasks → task ≡ get_or tasks k task → length task.modules ≤ 16
+few_each version [] k task all lt is = absurd (omega arith)
+few_each version (t ∷ tasks) zero task all lt is =
+    let few = (task_modules version t (first_of_all (is_task version t) (list_all (is_task version) tasks) all)).few in
     let same = ap (λ (x : ScriptTask). length x.modules) is in omega (arith, few, same)
-few_each (t ∷ tasks) (suc k) task all lt is = few_each tasks k task (rest_of_all (is_task t) (list_all is_task tasks) all) (omega arith) is
+few_each version (t ∷ tasks) (suc k) task all lt is = few_each version tasks k task (rest_of_all (is_task version t) (list_all (is_task version) tasks) all) (omega arith) is
 
 -- the modules of the tasks before one
 
@@ -164,7 +164,7 @@ module _ (P : Refused → Type 0) (of_script : (key : List ℕ) (rule : ScriptRu
   in_tasks script (task ∷ tasks) reads refused is =
       in_then (typed_task script task (take (length task.modules) reads)) (typed_tasks script tasks (drop (length task.modules) reads)) refused
       (λ r e. in_refused (take (length task.modules) reads)
-      (task_of (map (λ read. read.raw) (take (length task.modules) reads)) (names_in script.tasks) script.signals (is_some task.arm)) r e)
+      (task_of (map (λ read. read.raw) (take (length task.modules) reads)) (names_in script.tasks) script.signals task.axes) r e)
       (λ r e. in_tasks script tasks (drop (length task.modules) reads) r e) is
 
   in_cell : (script : ScriptData) (reads : List ReadModule) (making : Making MadeCell) → IfErr (cell_or_refused script reads making) P

@@ -172,7 +172,7 @@ no_module = refl
 small_cell : CellData
 small_cell = record {
   steps = 4;
-  tasks = record { name = codes "A"; arm = Some (joints_at (pos 0)) } ∷ [];
+  tasks = record { name = codes "A"; arm = Some (joints_at (pos 0)); axes = 6 } ∷ [];
   signals = [];
   pers = record { name = codes "total"; owner = None; sort = sorts.Num; len = None; first = values.Num (pos 0) ∷ [] } ∷ [];
   meetings = [];

@@ -3,6 +3,7 @@ use Rattle.std.proofs.Common.{◌≡◌, ℕ, List, [], ◌∷◌, Bool, Option,
 use Rattle.std.specs.Borrow.{Bor}
 use Rattle.std.specs.Prelude.{Vec}
 use Rattle.std.specs.declared.alloc.Global.{Global}
+use Rattle.rapid_limits.specs.declared.TheConstants.{SCRIPT_BYTES}
 use Rattle.raw_trees.specs.declared.raw_module.RawModule.{RawModule}
 use Rattle.outside.specs.Told.{Told}
 use Rattle.rapid_model.specs.CellData.{CellData}
@@ -19,7 +20,7 @@ use Rattle.controller.specs.declared.shown.Shown.TheVariants as shows
 use Rattle.controller.specs.Words.{refused_place}
 use Rattle.controller.specs.Files.{Reads, told_reads}
 use Rattle.controller.specs.Loaded.{names_in_turn, file_names, bytes_of, reads_of, IsScriptIn, TextsDecide}
-use Rattle.controller.specs.Accepted.{Verdict, refuses, accepts, runs, runs_free, lists, Accepted, ReadModule, script_limit, file_text, ModulesOf, checked, names_of, ActionDecides, CheckedDecides, ModulesDecide, FileDecides, WordsDecide}
+use Rattle.controller.specs.Accepted.{Verdict, refuses, accepts, runs, runs_free, lists, Accepted, ReadModule, file_text, ModulesOf, checked, names_of, ActionDecides, CheckedDecides, ModulesDecide, FileDecides, WordsDecide}
 use Rattle.controller.specs.Printed.{Seen, Sunk}
 use Rattle.controller.specs.Refusals.{refusal_text, status_of}
 use Rattle.controller.specs.Runs.{IsRun, IsRunByTurns}
@@ -68,10 +69,10 @@ script_refused words told action name refused report out err g r = by g.script_i
     verdict : Verdict
     verdict = refuses (name ∷ []) refused
 
-    from : (read : Result (List ℕ) Refused) → file_text g.gave 0 script_limit name ≡ read → FileDecides (Some action) g.gave name read verdict → AnswersWords words told report out err
+    from : (read : Result (List ℕ) Refused) → file_text g.gave 0 SCRIPT_BYTES name ≡ read → FileDecides (Some action) g.gave name read verdict → AnswersWords words told report out err
     from read is d = inr (verdict, g.verdicts verdict (subst (λ (t : Result (List ℕ) Refused). FileDecides (Some action) g.gave name t verdict) (sym is) d), r)
 
-    by : IsScriptIn (file_text g.gave 0 script_limit name) (Err refused) → AnswersWords words told report out err
+    by : IsScriptIn (file_text g.gave 0 SCRIPT_BYTES name) (Err refused) → AnswersWords words told report out err
     by (inl memory) = inl (out_of_memory (name ∷ []) refused report out err memory r)
     by (inr (inl read)) = from (Err refused) read refl
     by (inr (inr rule)) = from (Ok rule.0) rule.2 (Err rule.1, rule.3, ap (refuses (name ∷ [])) rule.4)

@@ -5,6 +5,7 @@ use Rattle.std.specs.Borrow.{Bor}
 use Rattle.std.specs.Prelude.{Option, Some, None, IfSome, option_map, Result, Ok, Vec, All}
 use Rattle.std.specs.declared.alloc.Global.{Global}
 use Rattle.std.proofs.lemmas.List.{length-map}
+use Rattle.rapid_limits.specs.declared.TheConstants.{MODULE_BYTES, SCRIPT_BYTES}
 use Rattle.outside.specs.Told.{Told, found, after_reads}
 use Rattle.outside.proofs.Counting.{after_reads-zero}
 use Rattle.rapid_model.specs.ScriptData.{ScriptData, module_names}
@@ -14,7 +15,7 @@ use Rattle.controller.specs.declared.refused.Refused.{Refused}
 use Rattle.controller.specs.Words.{script_name}
 use Rattle.controller.specs.Files.{Reads, told_reads, text_of, IsUnread}
 use Rattle.controller.specs.LoadFiles.{load_reads}
-use Rattle.controller.specs.Accepted.{Verdict, Accepted, FilesDecide, WordsDecide, reads_for, script_limit, module_limit, file_text}
+use Rattle.controller.specs.Accepted.{Verdict, Accepted, FilesDecide, WordsDecide, reads_for, file_text}
 use Rattle.controller.specs.Loaded.{names_in_turn, bytes_of, IsWithin, IsScriptIn, AreTexts}
 use Rattle.controller.specs.Answered.{IsVerdict}
 use Rattle.controller.specs.Asked.{AreFor, GiveScript, GiveTexts}
@@ -68,11 +69,11 @@ load_verdict words told action name moves is_for same verdict d = on told
     on (Some files) = here (told_reads files)
 
 -- the first read, as it is told
-first_read : (files : Told) (name : List ℕ) (result : Result ScriptData Refused) → IsScriptIn (text_of 0 script_limit (found files name)) result → IsScriptIn (file_text (told_reads files) 0 script_limit name) result
-first_read files name result is = subst (λ (t : Told). IsScriptIn (text_of 0 script_limit (found t name)) result) (sym (after_reads-zero files)) is
+first_read : (files : Told) (name : List ℕ) (result : Result ScriptData Refused) → IsScriptIn (text_of 0 SCRIPT_BYTES (found files name)) result → IsScriptIn (file_text (told_reads files) 0 SCRIPT_BYTES name) result
+first_read files name result is = subst (λ (t : Told). IsScriptIn (text_of 0 SCRIPT_BYTES (found t name)) result) (sym (after_reads-zero files)) is
 
 pub script_given : (words : List (List ℕ)) (told : Option Told) (action : Action) (name : List ℕ) (result : Result ScriptData Refused) → AreFor words action name → ReadsFiles action
-    → IfSome told (λ files. IsScriptIn (text_of 0 script_limit (found files name)) result) → (gave : Option (List ℕ)) × IsScriptIn (text_of 0 script_limit gave) result → GiveScript words told action name result
+    → IfSome told (λ files. IsScriptIn (text_of 0 SCRIPT_BYTES (found files name)) result) → (gave : Option (List ℕ)) × IsScriptIn (text_of 0 SCRIPT_BYTES gave) result → GiveScript words told action name result
 script_given words None action name result is_for reads here some =
     let gave : Reads = λ file other. some.0 in
     record { gave = gave; verdicts = shelf_verdict words None action name gave is_for reads tt; script_is = some.1 }
@@ -81,9 +82,9 @@ script_given words (Some files) action name result is_for reads here some =
 
 -- what the last read gave, which stopped the others
 last_gave : (file : ℕ) (failed : Option Refused) (Fewer : Type 0) → IfSome failed (λ refused. IsUnread file refused × Fewer)
-    → (last : Option (List ℕ)) × IfSome failed (λ refused. Stops file module_limit refused last × Fewer)
+    → (last : Option (List ℕ)) × IfSome failed (λ refused. Stops file MODULE_BYTES refused last × Fewer)
 last_gave file None Fewer unread = (None, tt)
-last_gave file (Some refused) Fewer unread = let gave = unread_gave file module_limit refused unread.0 in (gave.0, (gave.1, unread.1))
+last_gave file (Some refused) Fewer unread = let gave = unread_gave file MODULE_BYTES refused unread.0 in (gave.0, (gave.1, unread.1))
 
 -- what is known of the texts, whatever the shelf tells
 pub record AreLoaded (names : List (List ℕ)) (texts : List (Vec ℕ Global)) (failed : Option Refused) : Type 0 where
@@ -93,7 +94,7 @@ pub record AreLoaded (names : List (List ℕ)) (texts : List (Vec ℕ Global)) (
   pub unread : IfSome failed (λ refused. IsUnread (length texts + 1) refused × (length texts < length names))
 
 untold_given : (words : List (List ℕ)) (action : Action) (name : List ℕ) (script : ScriptData) (names : List (List ℕ)) (texts : List (Vec ℕ Global)) (failed : Option Refused) → AreFor words action name → ReadsFiles action
-    → (gave : Option (List ℕ)) × IsScriptIn (text_of 0 script_limit gave) (Ok script) → AreLoaded names texts failed → names ≡ module_names script.tasks
+    → (gave : Option (List ℕ)) × IsScriptIn (text_of 0 SCRIPT_BYTES gave) (Ok script) → AreLoaded names texts failed → names ≡ module_names script.tasks
     → GiveTexts words None action name script (bytes_of texts) failed
 untold_given words action name script names texts failed is_for reads some loaded named =
     let last = last_gave (length texts + 1) failed (length texts < length names) loaded.unread in
@@ -105,7 +106,7 @@ untold_given words action name script names texts failed is_for reads some loade
       texts_are =
           subst (λ (ns : List (List ℕ)). AreTexts gave 1 ns (bytes_of texts) failed) named
           (texts_given gave 1 names texts last.0 failed (λ k other. ap (λ (n : ℕ). get_or all n None) (one_more k)) loaded.within loaded.few loaded.whole
-          (subst (λ (n : ℕ). IfSome failed (λ refused. Stops n module_limit refused last.0 × (length texts < length names))) turned last.1));
+          (subst (λ (n : ℕ). IfSome failed (λ refused. Stops n MODULE_BYTES refused last.0 × (length texts < length names))) turned last.1));
     }
   where
     one_more : (k : ℕ) → 1 + k ≡ suc k
@@ -113,7 +114,7 @@ untold_given words action name script names texts failed is_for reads some loade
 
 pub all_given : (words : List (List ℕ)) (told later : Option Told) (action : Action) (name : List ℕ) (script : ScriptData) (names : List (List ℕ)) (texts : List (Vec ℕ Global)) (failed : Option Refused)
     → AreFor words action name → ReadsFiles action → later ≡ option_map (after_reads 1) told
-    → IfSome told (λ files. IsScriptIn (text_of 0 script_limit (found files name)) (Ok script)) → (gave : Option (List ℕ)) × IsScriptIn (text_of 0 script_limit gave) (Ok script)
+    → IfSome told (λ files. IsScriptIn (text_of 0 SCRIPT_BYTES (found files name)) (Ok script)) → (gave : Option (List ℕ)) × IsScriptIn (text_of 0 SCRIPT_BYTES gave) (Ok script)
     → ((files : Told) → later ≡ Some (after_reads 1 files) → AreTexts (told_reads files) 1 names (bytes_of texts) failed) → AreLoaded names texts failed → names ≡ module_names script.tasks
     → GiveTexts words told action name script (bytes_of texts) failed
 unfolding script_given

@@ -31,3 +31,4 @@ pub mod Exits
 pub mod Causes
 pub mod OneVerdict
 pub mod Refusing
+pub mod Complete

@@ -6,13 +6,14 @@ use Rattle.std.specs.Option.{unwrap_or}
 use Rattle.std.specs.declared.alloc.Global.{Global}
 use Rattle.std.proofs.lemmas.Fmt.{length-decimal-le}
 use Rattle.std.proofs.lemmas.List.Elements.{All-cons, All-nil}
+use Rattle.rapid_limits.specs.declared.TheConstants.{MODULE_BYTES, SCRIPT_BYTES}
 use Rattle.outside.specs.Told.{Told}
 use Rattle.rapid_model.specs.ScriptData.{ScriptData, module_names}
 use Rattle.cell_load.specs.Texts.{module_files, module_text, script_text}
 use Rattle.controller.specs.declared.command.Action.{Action}
 use Rattle.controller.specs.declared.command.Action.TheVariants as actions
 use Rattle.controller.specs.declared.refused.Refused.{Refused}
-use Rattle.controller.specs.Accepted.{file_text, module_limit, script_limit}
+use Rattle.controller.specs.Accepted.{file_text}
 use Rattle.controller.specs.Asked.{AreFor, AreMoves, GiveScript, GiveTexts}
 use Rattle.controller.specs.Files.{text_of}
 use Rattle.controller.specs.LoadFiles.{load_reads, module_named}
@@ -72,14 +73,14 @@ load_script_given words told action name moves source result is_for same are tex
   verdicts = load_verdict words told action name moves is_for same;
   script_is =
       let short = script_short moves are in
-      script_in (text_of 0 script_limit (Some (script_text moves))) (script_text moves) source result (text_within 0 script_limit (script_text moves) (omega (arith, short))) text is;
+      script_in (text_of 0 SCRIPT_BYTES (Some (script_text moves))) (script_text moves) source result (text_within 0 SCRIPT_BYTES (script_text moves) (omega (arith, short))) text is;
 }
 
 -- a module
-module_read : (moves file : ℕ) (name : List ℕ) → AreMoves moves → 1 ≤ file → file_text (load_reads moves) file module_limit name ≡ Ok (module_named (module_files moves) name)
+module_read : (moves file : ℕ) (name : List ℕ) → AreMoves moves → 1 ≤ file → file_text (load_reads moves) file MODULE_BYTES name ≡ Ok (module_named (module_files moves) name)
 module_read moves zero name are some = absurd (omega arith)
 module_read moves (suc k) name are some =
-    let short = text_short moves name are in text_within (suc k) module_limit (module_named (module_files moves) name) (omega (arith, short))
+    let short = text_short moves name are in text_within (suc k) MODULE_BYTES (module_named (module_files moves) name) (omega (arith, short))
 
 modules_read : (moves file : ℕ) (names : List (List ℕ)) → AreMoves moves → 1 ≤ file → AreTexts (load_reads moves) file names (map (module_named (module_files moves)) names) None
 modules_read moves file [] are some = tt

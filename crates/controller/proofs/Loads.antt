@@ -5,13 +5,14 @@ use Rattle.std.proofs.lemmas.List.{append-nil}
 use Rattle.std.proofs.lemmas.Option.{IfSome_then}
 use Rattle.std.specs.Prelude.{Option, Some, None, IfSome, Result, Ok, Err, Vec, All}
 use Rattle.std.specs.declared.alloc.Global.{Global}
+use Rattle.rapid_limits.specs.declared.TheConstants.{MODULE_BYTES, SCRIPT_BYTES}
 use Rattle.outside.specs.Told.{Told, found, after_reads}
 use Rattle.rapid_model.specs.declared.script_rule.ScriptRule.{ScriptRule}
 use Rattle.rapid_model.specs.ScriptData.{ScriptData}
 use Rattle.cell_script.specs.ScriptOf.{FaultOf}
 use Rattle.cell_script.specs.declared.fault.ScriptFault.{ScriptFault}
 use Rattle.cell_script.specs.declared.fault.ScriptFault.TheVariants.{Rule}
-use Rattle.controller.specs.Accepted.{ReadModule, script_limit, module_limit, file_text, ModuleIn, ModulesOf}
+use Rattle.controller.specs.Accepted.{ReadModule, file_text, ModuleIn, ModulesOf}
 use Rattle.controller.specs.Files.{Reads, told_reads, text_of, IsUnread, GivesText}
 use Rattle.controller.specs.Loaded.{names_in_turn, bytes_of, IsScriptIn, IsWithin, AreTexts, TextsDecide}
 use Rattle.controller.specs.declared.refused.Refused.{Refused}
@@ -30,22 +31,22 @@ pub script_in : (read : Result (List ℕ) Refused) (text source : List ℕ) (res
 script_in read text source result whole same is = subst (λ (r : Result (List ℕ) Refused). IsScriptIn r result) (sym (whole ∙ ap Ok (sym same))) is
 
 -- the same of the first file, where the shelf may tell its files
-pub script_read : (told : Option Told) (name text source : List ℕ) (result : Result ScriptData Refused) → IfSome told (λ t. text_of 0 script_limit (found t name) ≡ Ok text) → source ≡ text
-    → IsScriptIn (Ok source) result → IfSome told (λ t. IsScriptIn (text_of 0 script_limit (found t name)) result)
+pub script_read : (told : Option Told) (name text source : List ℕ) (result : Result ScriptData Refused) → IfSome told (λ t. text_of 0 SCRIPT_BYTES (found t name) ≡ Ok text) → source ≡ text
+    → IsScriptIn (Ok source) result → IfSome told (λ t. IsScriptIn (text_of 0 SCRIPT_BYTES (found t name)) result)
 script_read told name text source result whole same is =
-    IfSome_then told {P = λ t. text_of 0 script_limit (found t name) ≡ Ok text} {Q = λ t. IsScriptIn (text_of 0 script_limit (found t name)) result} whole
-    (λ t read. script_in (text_of 0 script_limit (found t name)) text source result read same is)
+    IfSome_then told {P = λ t. text_of 0 SCRIPT_BYTES (found t name) ≡ Ok text} {Q = λ t. IsScriptIn (text_of 0 SCRIPT_BYTES (found t name)) result} whole
+    (λ t read. script_in (text_of 0 SCRIPT_BYTES (found t name)) text source result read same is)
 
 -- and of what some read gave, whatever the shelf tells
-pub script_gave : (text source : List ℕ) (result : Result ScriptData Refused) → length text ≤ script_limit → source ≡ text → IsScriptIn (Ok source) result
-    → (gave : Option (List ℕ)) × IsScriptIn (text_of 0 script_limit gave) result
-script_gave text source result within same is = (Some text, script_in (text_of 0 script_limit (Some text)) text source result (text_within 0 script_limit text within) same is)
+pub script_gave : (text source : List ℕ) (result : Result ScriptData Refused) → length text ≤ SCRIPT_BYTES → source ≡ text → IsScriptIn (Ok source) result
+    → (gave : Option (List ℕ)) × IsScriptIn (text_of 0 SCRIPT_BYTES gave) result
+script_gave text source result within same is = (Some text, script_in (text_of 0 SCRIPT_BYTES (Some text)) text source result (text_within 0 SCRIPT_BYTES text within) same is)
 
 -- the file is not read
-pub script_stops : (refused : Refused) → IsUnread 0 refused → (gave : Option (List ℕ)) × IsScriptIn (text_of 0 script_limit gave) (Err refused)
-script_stops refused is = let found = unread_gave 0 script_limit refused is in (found.0, stops found.0 found.1)
+pub script_stops : (refused : Refused) → IsUnread 0 refused → (gave : Option (List ℕ)) × IsScriptIn (text_of 0 SCRIPT_BYTES gave) (Err refused)
+script_stops refused is = let found = unread_gave 0 SCRIPT_BYTES refused is in (found.0, stops found.0 found.1)
   where
-    stops : (gave : Option (List ℕ)) → Stops 0 script_limit refused gave → IsScriptIn (text_of 0 script_limit gave) (Err refused)
+    stops : (gave : Option (List ℕ)) → Stops 0 SCRIPT_BYTES refused gave → IsScriptIn (text_of 0 SCRIPT_BYTES gave) (Err refused)
     stops gave (inl memory) = inl memory
     stops gave (inr read) = inr (inl read)
 
@@ -60,13 +61,13 @@ pub record Loading (start now : Option Told) (old new : ℕ) (modules : List (Bo
 
 -- what is told where a module is read
 here_is : (now : Option Told) (told : Told) (k : ℕ) (name : List ℕ) (result : Result (Vec ℕ Global) Refused) → now ≡ Some (after_reads (k + 1) told)
-    → IfSome now (λ t. GivesText (text_of (k + 1) module_limit (found t name)) result) → GivesText (file_text (told_reads told) (k + 1) module_limit name) result
+    → IfSome now (λ t. GivesText (text_of (k + 1) MODULE_BYTES (found t name)) result) → GivesText (file_text (told_reads told) (k + 1) MODULE_BYTES name) result
 here_is now told k name result is text_in =
-    subst (λ (o : Option Told). IfSome o (λ t. GivesText (text_of (k + 1) module_limit (found t name)) result)) is text_in
+    subst (λ (o : Option Told). IfSome o (λ t. GivesText (text_of (k + 1) MODULE_BYTES (found t name)) result)) is text_in
 
 -- a text is not read
 pub loading_fails : (start now : Option Told) (old mid : ℕ) (modules : List (Bor (List ℕ))) (k : ℕ) (texts : List (Vec ℕ Global)) (d : Bor (List ℕ)) (refused : Refused)
-    → k < length modules → Loading start now old mid modules k texts → IfSome now (λ t. GivesText (text_of (k + 1) module_limit (found t (get_or modules k d).now)) (Err refused))
+    → k < length modules → Loading start now old mid modules k texts → IfSome now (λ t. GivesText (text_of (k + 1) MODULE_BYTES (found t (get_or modules k d).now)) (Err refused))
     → (told : Told) → start ≡ Some (after_reads 1 told) → AreTexts (told_reads told) 1 (names_in_turn modules) (bytes_of texts) (Some refused)
 loading_fails start now old mid modules k texts d refused lt p here told first =
     subst (λ (ts : List (List ℕ)). AreTexts (told_reads told) 1 (names_in_turn modules) ts (Some refused)) (append-nil (bytes_of texts))
@@ -97,8 +98,8 @@ loading_ends start now old mid modules k texts past p told first =
 
 -- what the texts come to is what the modules come to
 
-in_file : (gave : Reads) (file : ℕ) (name text : List ℕ) (verdict : Result ReadModule Refused) → file_text gave file module_limit name ≡ Ok text → ModuleIn file (Ok text) verdict
-    → ModuleIn file (file_text gave file module_limit name) verdict
+in_file : (gave : Reads) (file : ℕ) (name text : List ℕ) (verdict : Result ReadModule Refused) → file_text gave file MODULE_BYTES name ≡ Ok text → ModuleIn file (Ok text) verdict
+    → ModuleIn file (file_text gave file MODULE_BYTES name) verdict
 in_file gave file name text verdict is d = subst (λ (read : Result (List ℕ) Refused). ModuleIn file read verdict) (sym is) d
 
 pub modules_from_texts : (gave : Reads) (file : ℕ) (names texts : List (List ℕ)) (failed : Option Refused) (verdict : Result (List ReadModule) Refused) → AreTexts gave file names texts failed

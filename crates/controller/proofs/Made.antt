@@ -54,8 +54,8 @@ typed_sound script (task ∷ tasks) reads trees is =
     let own = take (length task.modules) reads in
     let raws = map (λ (r : ReadModule). r.raw) own in
     then_sound task tasks (typed_task script task own) (typed_tasks script tasks (drop (length task.modules) reads)) trees
-    (λ t e. one_sound own (task_of raws (names_in script.tasks) script.signals (is_some task.arm)) t
-    (λ x f. task_sound raws (names_in script.tasks) script.signals (is_some task.arm) x f) e)
+    (λ t e. one_sound own (task_of raws (names_in script.tasks) script.signals task.axes) t
+    (λ x f. task_sound raws (names_in script.tasks) script.signals task.axes x f) e)
     (λ ts e. typed_sound script tasks (drop (length task.modules) reads) ts e) is
 
 -- the trees of all tasks, as the cell is made of them

@@ -7,6 +7,7 @@ use Rattle.std.proofs.lemmas.List.{length-map, map-append}
 use Rattle.std.proofs.lemmas.Bool.Decides.{nat_tests}
 use Rattle.rapid_model.specs.ScriptData.{ScriptData, IsScript, is_task, module_names}
 use Rattle.rapid_model.specs.declared.script_task.ScriptTask.{ScriptTask}
+use Rattle.rapid_model.proofs.Scripts.{few_tasks}
 use Rattle.controller.specs.Loaded.{names_in_turn}
 use Rattle.controller.proofs.Lists.{take-element}
 
@@ -36,8 +37,8 @@ pub record IsFew (n : ℕ) : Type 0 where
   pub some : 1 ≤ n
   pub few : n ≤ 16
 
-pub task_modules : (task : ScriptTask) → IsTrue (is_task task) → IsFew (length task.modules)
-task_modules task h = record { some = grind (arith, nat_tests); few = grind (arith, nat_tests) }
+pub task_modules : (version : ℕ) (task : ScriptTask) → IsTrue (is_task version task) → IsFew (length task.modules)
+task_modules version task h = record { some = grind (arith, nat_tests); few = grind (arith, nat_tests) }
 
 pub first_of_all : (b c : Bool) → IsTrue (b && c) → IsTrue b
 first_of_all true c h = refl
@@ -47,19 +48,19 @@ pub rest_of_all : (b c : Bool) → IsTrue (b && c) → IsTrue c
 rest_of_all true c h = h
 rest_of_all false c h = absurd (let no : false ≡ true = h in cc)
 
-sixteen_each : (tasks : List ScriptTask) → IsTrue (list_all is_task tasks) → length (module_names tasks) ≤ 16 * length tasks
-sixteen_each [] all = omega arith
-sixteen_each (task ∷ tasks) all =
-    let more = sixteen_each tasks (rest_of_all (is_task task) (list_all is_task tasks) all) in
-    let few = (task_modules task (first_of_all (is_task task) (list_all is_task tasks) all)).few in
+sixteen_each : (version : ℕ) (tasks : List ScriptTask) → IsTrue (list_all (is_task version) tasks) → length (module_names tasks) ≤ 16 * length tasks
+sixteen_each version [] all = omega arith
+sixteen_each version (task ∷ tasks) all =
+    let more = sixteen_each version tasks (rest_of_all (is_task version task) (list_all (is_task version) tasks) all) in
+    let few = (task_modules version task (first_of_all (is_task version task) (list_all (is_task version) tasks) all)).few in
     let whole = length-append task.modules (module_names tasks) in
     omega (arith, more, few, whole)
 
 -- a script names few modules
-pub few_files : (script : ScriptData) (names : List (Bor (List ℕ))) → IsScript script → names_in_turn names ≡ module_names script.tasks → length names ≤ 128
+pub few_files : (script : ScriptData) (names : List (Bor (List ℕ))) → IsScript script → names_in_turn names ≡ module_names script.tasks → length names ≤ 256
 few_files script names limits is =
-    let all = sixteen_each script.tasks limits.tasks in
-    let few = limits.few_tasks in
+    let all = sixteen_each script.version script.tasks limits.tasks in
+    let few = few_tasks script limits in
     let seen = length-map names (λ (n : Bor (List ℕ)). n.now) in
     let same = ap length is in
     omega (arith, all, few, seen, same)

@@ -1,5 +1,6 @@
 -- Words, and what the reads gave, come to at most one verdict, where a text comes to one module.
 use Rattle.std.proofs.Common.{◌≡◌, ℕ, ◌+◌, List, [], ◌∷◌, Option, Some, None, Result, Ok, Err, ap, sym, ◌∙◌, subst, inl, inr}
+use Rattle.rapid_limits.specs.declared.TheConstants.{MODULE_BYTES, SCRIPT_BYTES}
 use Rattle.toml.specs.Data.{Members}
 use Rattle.cell_assembly.specs.Made.{MadeCell}
 use Rattle.rapid_model.specs.ScriptData.{ScriptData, module_names}
@@ -13,7 +14,7 @@ use Rattle.controller.specs.declared.command.Action.TheVariants as actions
 use Rattle.controller.specs.declared.refused.Refused.{Refused}
 use Rattle.controller.specs.Words.{refused_place, script_name, asked}
 use Rattle.controller.specs.Files.{Reads}
-use Rattle.controller.specs.Accepted.{ReadModule, Verdict, Accepted, script_limit, module_limit, file_text, reads_for, fault_refusal, ModuleOf, ModuleIn, ModulesOf, checked, ActionDecides, CheckedDecides, ModulesDecide, names_of, ScriptDecides, FileDecides, WordsDecide}
+use Rattle.controller.specs.Accepted.{ReadModule, Verdict, Accepted, file_text, reads_for, fault_refusal, ModuleOf, ModuleIn, ModulesOf, checked, ActionDecides, CheckedDecides, ModulesDecide, names_of, ScriptDecides, FileDecides, WordsDecide}
 
 -- a text comes to one module or one fault
 abbrev pub OneText : Type 0
@@ -65,27 +66,27 @@ modules_one one gave file [] a b p q = p ∙ sym q
 modules_one one gave file (n ∷ ns) (Ok []) b p q = absurd p
 modules_one one gave file (n ∷ ns) (Ok (s ∷ ss)) (Ok []) p q = absurd q
 modules_one one gave file (n ∷ ns) (Ok (s ∷ ss)) (Ok (t ∷ ts)) p q =
-    let e : Ok s ≡ Ok t = module_one one file (file_text gave file module_limit n) (Ok s) (Ok t) p.0 q.0 in
+    let e : Ok s ≡ Ok t = module_one one file (file_text gave file MODULE_BYTES n) (Ok s) (Ok t) p.0 q.0 in
     let f : Ok ss ≡ Ok ts = modules_one one gave (file + 1) ns (Ok ss) (Ok ts) p.1 q.1 in
     let first : s ≡ t = cc in
     let rest : ss ≡ ts = cc in
     ap (λ (x : ReadModule). Ok (x ∷ ss)) first ∙ ap (λ (xs : List ReadModule). Ok (t ∷ xs)) rest
 modules_one one gave file (n ∷ ns) (Ok (s ∷ ss)) (Err y) p (inl q) =
-    let e : Ok s ≡ Err y = module_one one file (file_text gave file module_limit n) (Ok s) (Err y) p.0 q in cc
+    let e : Ok s ≡ Err y = module_one one file (file_text gave file MODULE_BYTES n) (Ok s) (Err y) p.0 q in cc
 modules_one one gave file (n ∷ ns) (Ok (s ∷ ss)) (Err y) p (inr q) =
     let e : Ok ss ≡ Err y = modules_one one gave (file + 1) ns (Ok ss) (Err y) p.1 q.2 in cc
 modules_one one gave file (n ∷ ns) (Err x) (Ok []) p q = absurd q
 modules_one one gave file (n ∷ ns) (Err x) (Ok (t ∷ ts)) (inl p) q =
-    let e : Ok t ≡ Err x = module_one one file (file_text gave file module_limit n) (Ok t) (Err x) q.0 p in cc
+    let e : Ok t ≡ Err x = module_one one file (file_text gave file MODULE_BYTES n) (Ok t) (Err x) q.0 p in cc
 modules_one one gave file (n ∷ ns) (Err x) (Ok (t ∷ ts)) (inr p) q =
     let e : Ok ts ≡ Err x = modules_one one gave (file + 1) ns (Ok ts) (Err x) q.1 p.2 in cc
 modules_one one gave file (n ∷ ns) (Err x) (Err y) (inl p) (inl q) =
-    let e : Err x ≡ Err y = module_one one file (file_text gave file module_limit n) (Err x) (Err y) p q in
+    let e : Err x ≡ Err y = module_one one file (file_text gave file MODULE_BYTES n) (Err x) (Err y) p q in
     let same : x ≡ y = cc in ap Err same
 modules_one one gave file (n ∷ ns) (Err x) (Err y) (inl p) (inr q) =
-    let e : Ok q.0 ≡ Err x = module_one one file (file_text gave file module_limit n) (Ok q.0) (Err x) q.1 p in cc
+    let e : Ok q.0 ≡ Err x = module_one one file (file_text gave file MODULE_BYTES n) (Ok q.0) (Err x) q.1 p in cc
 modules_one one gave file (n ∷ ns) (Err x) (Err y) (inr p) (inl q) =
-    let e : Ok p.0 ≡ Err y = module_one one file (file_text gave file module_limit n) (Ok p.0) (Err y) p.1 q in cc
+    let e : Ok p.0 ≡ Err y = module_one one file (file_text gave file MODULE_BYTES n) (Ok p.0) (Err y) p.1 q in cc
 modules_one one gave file (n ∷ ns) (Err x) (Err y) (inr p) (inr q) = modules_one one gave (file + 1) ns (Err x) (Err y) p.2 q.2
 
 -- what is accepted is done in one way
@@ -122,7 +123,7 @@ words_decide_one : OneText → (gave : Reads) (words : List (List ℕ)) (place :
 words_decide_one one gave words (Some place) v w p q = p ∙ sym q
 words_decide_one one gave words None v w p q =
     let read = reads_for (asked words) gave in
-    file_decides_one one (asked words) read (script_name words) (file_text read 0 script_limit (script_name words)) v w p q
+    file_decides_one one (asked words) read (script_name words) (file_text read 0 SCRIPT_BYTES (script_name words)) v w p q
 
 pub verdict_one : OneText → (words : List (List ℕ)) (gave : Reads) (v w : Verdict) → Accepted words gave v → Accepted words gave w → v ≡ w
 verdict_one one words gave v w a b = words_decide_one one gave words (refused_place words) v w a.decides b.decides

@@ -1,6 +1,7 @@
 -- No verdict refuses for want of memory or for a write.
 use Rattle.std.proofs.Common.{◌≡◌, ℕ, ◌+◌, List, [], ◌∷◌, Bool, true, false, refl, sym, subst, inl, inr}
 use Rattle.std.specs.Prelude.{Option, Some, None, IfErr, Result, Ok, Err, nat_le, length, if◌then◌else◌}
+use Rattle.rapid_limits.specs.declared.TheConstants.{MODULE_BYTES, SCRIPT_BYTES}
 use Rattle.rapid_model.specs.ScriptData.{ScriptData, module_names}
 use Rattle.cell_assembly.specs.Made.{MadeCell}
 use Rattle.cell_script.specs.Break.{Read}
@@ -13,7 +14,7 @@ use Rattle.controller.specs.declared.refused.Refused.{Refused}
 use Rattle.controller.specs.declared.refused.Refused.TheVariants as refusals
 use Rattle.controller.specs.Files.{Reads, text_of}
 use Rattle.controller.specs.Words.{refused_place, script_name, asked}
-use Rattle.controller.specs.Accepted.{Verdict, refuses, accepts, runs, runs_free, lists, Accepted, ReadModule, script_limit, module_limit, file_text, reads_for, fault_refusal, ModuleIn, ModulesOf, checked, ActionDecides, CheckedDecides, ModulesDecide, names_of, ScriptDecides, FileDecides, WordsDecide}
+use Rattle.controller.specs.Accepted.{Verdict, refuses, accepts, runs, runs_free, lists, Accepted, ReadModule, file_text, reads_for, fault_refusal, ModuleIn, ModulesOf, checked, ActionDecides, CheckedDecides, ModulesDecide, names_of, ScriptDecides, FileDecides, WordsDecide}
 use Rattle.controller.proofs.Checking.{checks_refuse}
 
 -- the words, a file, the script or a module is refused
@@ -58,7 +59,7 @@ of_module file (Ok text) refused of d = subst IsOfInput (sym d.2) (of_fault file
 
 of_modules : (gave : Reads) (file : ℕ) (names : List (List ℕ)) (refused : Refused) → ModulesOf gave file names (Err refused) → IsOfInput refused
 of_modules gave file [] refused d = cc
-of_modules gave file (name ∷ names) refused (inl d) = of_module file (file_text gave file module_limit name) refused (of_text file module_limit (gave file name)) d
+of_modules gave file (name ∷ names) refused (inl d) = of_module file (file_text gave file MODULE_BYTES name) refused (of_text file MODULE_BYTES (gave file name)) d
 of_modules gave file (name ∷ names) refused (inr d) = of_modules gave (file + 1) names refused d.2
 
 -- from what is checked to the words
@@ -95,7 +96,7 @@ of_words : (gave : Reads) (words : List (List ℕ)) (place : Option ℕ) (verdic
 of_words gave words (Some place) verdict d = is_refused [] (refusals.Words place) verdict tt d
 of_words gave words None verdict d =
     let read = reads_for (asked words) gave in
-    of_file (asked words) read (script_name words) (file_text read 0 script_limit (script_name words)) verdict (of_text 0 script_limit (read 0 (script_name words))) d
+    of_file (asked words) read (script_name words) (file_text read 0 SCRIPT_BYTES (script_name words)) verdict (of_text 0 SCRIPT_BYTES (read 0 (script_name words))) d
 
 pub refuses_input : (words : List (List ℕ)) (gave : Reads) (names : List (List ℕ)) (refused : Refused) → Accepted words gave (refuses names refused) → IsOfInput refused
 refuses_input words gave names refused a = of_words gave words (refused_place words) (refuses names refused) a.decides

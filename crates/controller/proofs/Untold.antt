@@ -4,7 +4,8 @@ use Rattle.std.specs.Prelude.{Option, Some, None, IfSome, Result, Ok, Err, Vec, 
 use Rattle.std.specs.declared.alloc.Global.{Global}
 use Rattle.std.proofs.lemmas.Bool.{le-leb, lt-leb}
 use Rattle.std.proofs.lemmas.List.Elements.{All-tail}
-use Rattle.controller.specs.Accepted.{module_limit, file_text}
+use Rattle.rapid_limits.specs.declared.TheConstants.{MODULE_BYTES}
+use Rattle.controller.specs.Accepted.{file_text}
 use Rattle.controller.specs.Files.{Reads, text_of, IsUnread}
 use Rattle.controller.specs.Loaded.{bytes_of, IsWithin, AreTexts}
 use Rattle.controller.specs.declared.refused.Refused.{Refused}
@@ -46,7 +47,7 @@ behind (text ∷ texts) last = Some text.items ∷ behind texts last
 -- where the reads from a file on gave these, they come to the texts and to what stopped them
 pub texts_given : (gave : Reads) (file : ℕ) (names : List (List ℕ)) (texts : List (Vec ℕ Global)) (last : Option (List ℕ)) (failed : Option Refused)
     → ((k : ℕ) (name : List ℕ) → gave (file + k) name ≡ get_or (behind texts last) k None) → All IsWithin texts → length texts ≤ length names → (failed ≡ None → length texts ≡ length names)
-    → IfSome failed (λ refused. Stops (file + length texts) module_limit refused last × (length texts < length names)) → AreTexts gave file names (bytes_of texts) failed
+    → IfSome failed (λ refused. Stops (file + length texts) MODULE_BYTES refused last × (length texts < length names)) → AreTexts gave file names (bytes_of texts) failed
 texts_given gave file [] [] last None at within few whole stops = tt
 texts_given gave file [] [] last (Some refused) at within few whole stops = absurd (let none = stops.1 in omega (arith, none))
 texts_given gave file [] (text ∷ texts) last failed at within few whole stops = absurd (omega (arith, few))
@@ -56,12 +57,12 @@ texts_given gave file (name ∷ names) [] last (Some refused) at within few whol
     same : file + 0 ≡ file
     same = omega arith
 
-    here : Stops (file + 0) module_limit refused last → (refused ≡ refusals.Memory) ⊎ (file_text gave file module_limit name ≡ Err refused)
+    here : Stops (file + 0) MODULE_BYTES refused last → (refused ≡ refusals.Memory) ⊎ (file_text gave file MODULE_BYTES name ≡ Err refused)
     here (inl memory) = inl memory
     here (inr is) =
-        inr (ap (λ (o : Option (List ℕ)). text_of file module_limit o) (ap (λ (n : ℕ). gave n name) (sym same) ∙ at 0 name) ∙ ap (λ (n : ℕ). text_of n module_limit last) (sym same) ∙ is)
+        inr (ap (λ (o : Option (List ℕ)). text_of file MODULE_BYTES o) (ap (λ (n : ℕ). gave n name) (sym same) ∙ at 0 name) ∙ ap (λ (n : ℕ). text_of n MODULE_BYTES last) (sym same) ∙ is)
 texts_given gave file (name ∷ names) (text ∷ texts) last failed at within few whole stops = (
-  ap (λ (o : Option (List ℕ)). text_of file module_limit o) (ap (λ (n : ℕ). gave n name) (first file) ∙ at 0 name) ∙ text_within file module_limit text.items (within 0 text (omega arith)),
+  ap (λ (o : Option (List ℕ)). text_of file MODULE_BYTES o) (ap (λ (n : ℕ). gave n name) (first file) ∙ at 0 name) ∙ text_within file MODULE_BYTES text.items (within 0 text (omega arith)),
   texts_given gave (file + 1) names texts last failed (λ k other. ap (λ (n : ℕ). gave n other) (next file k) ∙ at (suc k) other) (All-tail IsWithin text texts within) (omega (arith, few))
       (λ none. let all = whole none in omega (arith, all)) (later failed stops),
 )
@@ -72,8 +73,8 @@ texts_given gave file (name ∷ names) (text ∷ texts) last failed at within fe
     next : (n k : ℕ) → n + 1 + k ≡ n + suc k
     next n k = omega arith
 
-    later : (o : Option Refused) → IfSome o (λ refused. Stops (file + length (text ∷ texts)) module_limit refused last × (length (text ∷ texts) < length (name ∷ names)))
-        → IfSome o (λ refused. Stops (file + 1 + length texts) module_limit refused last × (length texts < length names))
+    later : (o : Option Refused) → IfSome o (λ refused. Stops (file + length (text ∷ texts)) MODULE_BYTES refused last × (length (text ∷ texts) < length (name ∷ names)))
+        → IfSome o (λ refused. Stops (file + 1 + length texts) MODULE_BYTES refused last × (length texts < length names))
     later None p = tt
     later (Some refused) p =
-        (subst (λ (n : ℕ). Stops n module_limit refused last) (sym (next file (length texts))) p.0, let fewer = p.1 in omega (arith, fewer))
+        (subst (λ (n : ℕ). Stops n MODULE_BYTES refused last) (sym (next file (length texts))) p.0, let fewer = p.1 in omega (arith, fewer))

@@ -1,5 +1,6 @@
 -- What command words and files come to: the first refusal; or what is checked; or the cell and the trees of its tasks.
 use Rattle.std.specs.Prelude.{◌≡◌, ℕ, zero, suc, ◌+◌, ◌⊎◌, take, drop, slice_get, List, [], ◌∷◌, length, map, Option, Some, None, is_some, Result, Ok, Err}
+use Rattle.rapid_limits.specs.declared.TheConstants.{MODULE_BYTES, SCRIPT_BYTES}
 use Rattle.rapid_model.specs.CellData.{CellData}
 use Rattle.rapid_model.specs.ScriptData.{ScriptData, module_names}
 use Rattle.rapid_model.specs.declared.script_task.ScriptTask.{ScriptTask}
@@ -30,13 +31,6 @@ use Rattle.controller.specs.declared.shown.Shown.TheVariants as shows
 use Rattle.controller.specs.Files.{Reads, text_of}
 use Rattle.controller.specs.LoadFiles.{load_reads}
 use Rattle.controller.specs.Words.{refused_place, script_name, asked}
-
--- the most bytes of a script and of a module
-abbrev pub script_limit : ℕ
-script_limit = 262_144
-
-abbrev pub module_limit : ℕ
-module_limit = 1_048_576
 
 -- The refusal; or all is accepted, for `check`; or the cell and the trees: for a run by turns or for one in which each task runs by
 -- itself, with what is printed of it, or for their list. And the names of the files, in the order in which they are read, as far as
@@ -82,11 +76,11 @@ ModuleIn file (Ok text) verdict = ModuleOf file text verdict
 abbrev pub ModulesOf : Reads → ℕ → List (List ℕ) → Result (List ReadModule) Refused → Type 0
 ModulesOf gave file [] verdict = verdict ≡ Ok []
 ModulesOf gave file (name ∷ names) (Err refused) =
-    ModuleIn file (file_text gave file module_limit name) (Err refused)
-    ⊎ ((read : ReadModule) × ModuleIn file (file_text gave file module_limit name) (Ok read) × ModulesOf gave (file + 1) names (Err refused))
+    ModuleIn file (file_text gave file MODULE_BYTES name) (Err refused)
+    ⊎ ((read : ReadModule) × ModuleIn file (file_text gave file MODULE_BYTES name) (Ok read) × ModulesOf gave (file + 1) names (Err refused))
 ModulesOf gave file (name ∷ names) (Ok []) = ⊥
 ModulesOf gave file (name ∷ names) (Ok (read ∷ reads)) =
-    ModuleIn file (file_text gave file module_limit name) (Ok read) × ModulesOf gave (file + 1) names (Ok reads)
+    ModuleIn file (file_text gave file MODULE_BYTES name) (Ok read) × ModulesOf gave (file + 1) names (Ok reads)
 
 -- the text of a module, where there is one, and the number of its file
 abbrev pub read_text : Option ReadModule → List ℕ
@@ -115,7 +109,7 @@ names_in tasks = map (λ task. task.name) tasks
 -- the typed tree of a task, whose modules these are
 abbrev pub typed_task : ScriptData → ScriptTask → List ReadModule → Result TypedTree Refused
 typed_task script task reads =
-    or_refused reads (task_of (map (λ read. read.raw) reads) (names_in script.tasks) script.signals (is_some task.arm))
+    or_refused reads (task_of (map (λ read. read.raw) reads) (names_in script.tasks) script.signals task.axes)
 
 -- the typed trees of these tasks, each with as many of the modules as it names; or the first refusal
 abbrev pub typed_tasks : ScriptData → List ScriptTask → List ReadModule → Result (List TypedTree) Refused
@@ -179,7 +173,7 @@ FileDecides action gave name (Ok text) verdict =
 
 -- what the files of an action come to, where the reads give these, and the script's has this name
 abbrev pub FilesDecide : Option Action → Reads → List ℕ → Verdict → Type 0
-FilesDecide action gave name verdict = FileDecides action gave name (file_text gave 0 script_limit name) verdict
+FilesDecide action gave name verdict = FileDecides action gave name (file_text gave 0 SCRIPT_BYTES name) verdict
 
 -- what the reads of its files give: those of `load` are the texts of the load cell
 abbrev pub reads_for : Option Action → Reads → Reads

@@ -1,5 +1,6 @@
 -- How words and files come to an action with a cell, step by step.
 use Rattle.std.specs.Prelude.{◌≡◌, ◌≤◌, ℕ, List, Option, Some, None, Result, Ok}
+use Rattle.rapid_limits.specs.declared.TheConstants.{SCRIPT_BYTES}
 use Rattle.outside.specs.Told.{Told}
 use Rattle.rapid_model.specs.ScriptData.{ScriptData, module_names}
 use Rattle.cell_assembly.specs.Made.{MadeCell}
@@ -7,7 +8,7 @@ use Rattle.controller.specs.declared.command.Action.{Action}
 use Rattle.controller.specs.declared.refused.Refused.{Refused}
 use Rattle.controller.specs.Words.{refused_place, script_name, asked}
 use Rattle.controller.specs.Files.{Reads}
-use Rattle.controller.specs.Accepted.{Verdict, script_limit, file_text, ActionDecides, FilesDecide}
+use Rattle.controller.specs.Accepted.{Verdict, file_text, ActionDecides, FilesDecide}
 use Rattle.controller.specs.Loaded.{AreTexts, IsScriptIn}
 use Rattle.controller.specs.Answered.{IsVerdict}
 
@@ -27,7 +28,7 @@ pub record AreFor (words : List (List ℕ)) (action : Action) (name : List ℕ) 
 pub record GiveScript (words : List (List ℕ)) (told : Option Told) (action : Action) (name : List ℕ) (result : Result ScriptData Refused) : Type 0 where
   pub gave : Reads
   pub verdicts : (verdict : Verdict) → FilesDecide (Some action) gave name verdict → IsVerdict words told verdict
-  pub script_is : IsScriptIn (file_text gave 0 script_limit name) result
+  pub script_is : IsScriptIn (file_text gave 0 SCRIPT_BYTES name) result
 
 -- The same, and these texts of its modules, up to the first one that is not read.
 pub record GiveTexts (words : List (List ℕ)) (told : Option Told) (action : Action) (name : List ℕ) (script : ScriptData) (texts : List (List ℕ)) (failed : Option Refused) : Type 0 where

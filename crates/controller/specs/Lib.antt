@@ -12,4 +12,5 @@ pub mod Printed
 pub mod Answered
 pub mod Asked
 pub mod Written
+pub mod Complete
 pub mod EventsShown

@@ -2,6 +2,7 @@
 use Rattle.std.specs.Prelude.{◌≡◌, ℕ, ◌+◌, ◌≤◌, ◌<◌, ◌^◌, ◌⊎◌, List, [], ◌∷◌, map, length, Option, None, Some, Result, Ok, Err, Vec, All}
 use Rattle.std.specs.Borrow.{Bor}
 use Rattle.std.specs.declared.alloc.Global.{Global}
+use Rattle.rapid_limits.specs.declared.TheConstants.{MODULE_BYTES}
 use Rattle.rapid_model.specs.CellData.{CellData}
 use Rattle.rapid_model.specs.ScriptData.{ScriptData}
 use Rattle.cell_script.specs.Break.{ScriptBreak}
@@ -23,7 +24,7 @@ use Rattle.controller.specs.declared.modules.Modules.{Modules}
 use Rattle.controller.specs.declared.refused.Refused.{Refused}
 use Rattle.controller.specs.declared.refused.Refused.TheVariants.{Script, Memory}
 use Rattle.controller.specs.Files.{Reads}
-use Rattle.controller.specs.Accepted.{ReadModule, ModuleOf, module_limit, file_text, rule_refusal, cell_refusal}
+use Rattle.controller.specs.Accepted.{ReadModule, ModuleOf, file_text, rule_refusal, cell_refusal}
 
 -- the names of the modules' files
 abbrev pub names_in_turn : List (Bor (List ℕ)) → List (List ℕ)
@@ -50,7 +51,7 @@ reads_in modules = reads_of modules.first modules.texts.now modules.trees.now
 
 -- a text is within the limit of a module
 abbrev pub IsWithin : Vec ℕ Global → Type 0
-IsWithin text = length text.items ≤ module_limit
+IsWithin text = length text.items ≤ MODULE_BYTES
 
 -- a text spells each of the modules
 abbrev pub IsSpelled : ReadModule → Type 0
@@ -76,9 +77,9 @@ IsScriptIn read (Err refused) =
 -- that one is not. Want of memory aside.
 abbrev pub AreTexts : Reads → ℕ → List (List ℕ) → List (List ℕ) → Option Refused → Type 0
 AreTexts gave file [] [] None = Unit {0}
-AreTexts gave file (name ∷ names) [] (Some refused) = (refused ≡ Memory) ⊎ (file_text gave file module_limit name ≡ Err refused)
+AreTexts gave file (name ∷ names) [] (Some refused) = (refused ≡ Memory) ⊎ (file_text gave file MODULE_BYTES name ≡ Err refused)
 AreTexts gave file (name ∷ names) (text ∷ texts) failed =
-    (file_text gave file module_limit name ≡ Ok text) × AreTexts gave (file + 1) names texts failed
+    (file_text gave file MODULE_BYTES name ≡ Ok text) × AreTexts gave (file + 1) names texts failed
 AreTexts _ _ _ _ _ = ⊥
 
 -- what these texts come to, of which the first has this number, with what failed behind them

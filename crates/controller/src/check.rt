@@ -9,6 +9,7 @@ use crate::modules::{Modules, first_modules, later_modules, module_refusal};
 use crate::refused::{ModuleRule, Refused};
 use cell_assembly::{CellFault, make_cell};
 use data_scopes::Known;
+use rapid_limits::MOST_MODULE_FILES;
 use rapid_model::{Cell, NameText, Script, ScriptTask};
 use rule_checks::{TypeFault, TypeRule};
 use std::alloc::{AllocError, Global};
@@ -77,7 +78,7 @@ fn check_one(
     let known = Known {
         tasks: names,
         signals: script.signals().as_slice(),
-        arm: task.arm.is_some(),
+        axes: task.axes,
     };
     match check_task(alloc, own.trees, &known) {
         Ok(tree) => Ok(tree),
@@ -130,10 +131,10 @@ fn cell_refusal(script: &Script, modules: &Modules<'_, '_>, fault: CellFault) ->
     }
 }
 
-/// How many modules the tasks before the one of this number have: a script has 8 tasks of 16 modules at most.
+/// How many modules the tasks before the one of this number have: a script has not too many of either.
 fn modules_before(script: &Script, number: u32) -> usize
     ensures is { result ≡ modules_before script.now.tasks number }
-    ensures few { result ≤ 128 }
+    ensures few { result ≤ MOST_MODULE_FILES }
 {
     let _steps = script.steps();
     let tasks = script.tasks().as_slice();

@@ -2,13 +2,14 @@ ghost use Rattle.std.specs.Prelude.{◌≡◌, ◌≤◌, ◌++◌, length, IfOk
 ghost use Rattle.rapid_model.specs.ScriptData.{module_names};
 ghost use Rattle.controller.specs.Loaded.{names_in_turn};
 
+use rapid_limits::MOST_MODULE_FILES;
 use rapid_model::{Script, ScriptTask};
 use std::alloc::{AllocError, Global};
 
 /// The names of the files of a script's modules, in the order in which they are read.
 pub(crate) fn module_files(alloc: Global, script: &Script) -> Result<Vec<&str>, AllocError>
     ensures named { IfOk result (λ found. names_in_turn found.items ≡ module_names script.now.tasks) }
-    ensures few { IfOk result (λ found. length found.items ≤ 128) }
+    ensures few { IfOk result (λ found. length found.items ≤ MOST_MODULE_FILES) }
 {
     let _steps = script.steps();
     let mut found = Vec::new(alloc);

@@ -28,7 +28,9 @@ mod top;
 pub use action::quiet;
 pub use command::{Action, is_run};
 pub use free_run::free;
-pub use laws::{given_setpoints_miss_zones, verdict_is_one, verdicts_refuse_input};
+pub use laws::{
+    given_setpoints_miss_zones, verdict_is_one, verdicts_refuse_input, what_is_asked_is_done,
+};
 pub use refused::{ModuleRule, Refused};
 pub use report::Report;
 pub use top::controller;

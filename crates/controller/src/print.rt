@@ -13,6 +13,7 @@ use arrayvec::ArrayString;
 use cell_core::Core;
 use history_text::{Names, has_line, line_of, names_of, write_fate};
 use outside::{Failed, Sink};
+use rapid_limits::MOST_TASKS;
 use rapid_model::{Event, Fate, NameText, TaskRow};
 
 /// Prints the lines of the events or their summary, and then how each task stands. Takes no memory.
@@ -72,7 +73,7 @@ fn print_line<O: Sink>(
 /// The tasks of a core's cell, of which there are few.
 pub(crate) fn rows_of(core: &Core) -> &[TaskRow]
     ensures rows { result.now ≡ core.now.cell.tasks }
-    ensures few { length result.now ≤ 8 }
+    ensures few { length result.now ≤ MOST_TASKS }
 {
     let cell = core.cell();
     let _steps = cell.steps();

@@ -109,8 +109,8 @@ fn print_program<O: Sink>(out: &mut O, row: &TaskRow, code: &Code) -> Result<(),
     ensures { Writes (numbered (code_line row.now.name) 0 code.now.ops) result (sunk O.told O.calls O.faults out.old out.new) }
 {
     // Code has fewer than 2^32 operations.
-    let _main = code.main;
-    print_operations(out, &row.name, code.ops.as_slice())
+    let _main = code.linked.main;
+    print_operations(out, &row.name, code.linked.ops.as_slice())
 }
 
 fn print_operations<O: Sink>(out: &mut O, task: &NameText, ops: &[Op]) -> Result<(), Failed>

@@ -2,19 +2,13 @@ ghost use Rattle.std.specs.Prelude.{◌≡◌, ℕ, ◌+◌, ◌≤◌, ◌<◌,
 ghost use Rattle.outside.specs.Told.{Told, found, after_reads};
 ghost use Rattle.controller.specs.Files.{text_of, told_reads, IsLoadFault, IsUnread, GivesText};
 ghost use Rattle.controller.specs.Loaded.{names_in_turn, bytes_of, IsScriptIn, IsWithin, AreTexts};
-ghost use Rattle.controller.specs.Accepted.{script_limit};
 
 use crate::refused::Refused;
 use cell_script::{ScriptFault, read_script};
 use outside::{Shelf, ShelfFault};
+use rapid_limits::{MODULE_BYTES, SCRIPT_BYTES};
 use rapid_model::Script;
 use std::alloc::Global;
-
-/// The most bytes of a script.
-const SCRIPT_LIMIT: usize = 262_144;
-
-/// The most bytes of a module.
-const MODULE_LIMIT: usize = 1_048_576;
 
 /// The texts of modules up to the first that could not be read, and why that one could not, if there is one.
 #[derive(Debug, Drop)]
@@ -33,11 +27,11 @@ pub(crate) fn load_script<S: Shelf>(
     ensures told_after { S.told shelf.new ≡ option_map (after_reads 1) (S.told shelf.old) }
     ensures causes { IfErr result (IsLoadFault (S.faults shelf.old) (S.faults shelf.new)) }
     // It is what the read comes to that the shelf tells,
-    ensures told { IfSome (S.told shelf.old) (λ told. IsScriptIn (text_of 0 script_limit (found told name.now)) result) }
+    ensures told { IfSome (S.told shelf.old) (λ told. IsScriptIn (text_of 0 SCRIPT_BYTES (found told name.now)) result) }
     // and what some read comes to, whatever the shelf tells.
-    ensures read { (gave : Option (List ℕ)) × IsScriptIn (text_of 0 script_limit gave) result }
+    ensures read { (gave : Option (List ℕ)) × IsScriptIn (text_of 0 SCRIPT_BYTES gave) result }
 {
-    let text = read_file(alloc, shelf, 0, SCRIPT_LIMIT, name)?;
+    let text = read_file(alloc, shelf, 0, SCRIPT_BYTES, name)?;
     script_of(alloc, text.as_slice())
 }
 
@@ -68,7 +62,7 @@ pub(crate) fn load_texts<S: Shelf>(alloc: Global, shelf: &mut S, modules: &[&str
 {
     let mut texts = Vec::new(alloc);
     for (k, name) in modules.iter().enumerate() {
-        let text = match read_file(alloc, shelf, k as u32 + 1, MODULE_LIMIT, name) {
+        let text = match read_file(alloc, shelf, k as u32 + 1, MODULE_BYTES, name) {
             Ok(text) => text,
             Err(refused) => {
                 return Texts {

@@ -2,8 +2,8 @@
 use Rattle.std.proofs.Common.{◌≡◌, ℕ, true, false, [], ◌∷◌, Option, Some, None, List, codes, refl}
 use Rattle.raw_trees.specs.Plain.{PlainDatum, PlainModule, PlainName, PlainRoutine, Datum, Routine, Number, For, NoStmts}
 use Rattle.raw_trees.specs.declared.raw_datum.DatumKind.TheVariants as kinds
-use Rattle.raw_trees.specs.declared.raw_routine.Mode.TheVariants as modes
-use Rattle.raw_trees.specs.declared.raw_routine.RoutineKind.TheVariants as routines
+use Rattle.rapid_model.specs.declared.mode.Mode.TheVariants as modes
+use Rattle.rapid_model.specs.declared.routine_kind.RoutineKind.TheVariants as routines
 use Rattle.data_scopes.specs.declared.meant.Meant.{Meant}
 use Rattle.data_scopes.specs.declared.meant.Meant.TheVariants as meants
 use Rattle.data_scopes.specs.Numbers.{tables_of}

@@ -210,8 +210,8 @@ pub record AreNumbered (names : Names) : Type 0 where
   pub rows : (spot : Spot) (name : List ℕ) (meant : Meant) → meaning names.tables spot name ≡ Some meant → HasRow names.rows meant
   pub valued : list_all has_valued_sort names.rows.pers ≡ true
 
-pub are_numbered : (modules : List PlainModule) (signals : List SignalRow) (arm : Bool) (names : Names) → names_of modules signals arm ≡ Ok names → AreNumbered names
-are_numbered modules signals arm names e =
+pub are_numbered : (modules : List PlainModule) (signals : List SignalRow) (axes : ℕ) (names : Names) → names_of modules signals axes ≡ Ok names → AreNumbered names
+are_numbered modules signals axes names e =
     let tables = tables_of modules signals in
     behind (AreNumbered names) names (modules_rules tables 0 [] no_counts modules) _ e (λ u is rest.
     behind (AreNumbered names) names (modules_rows tables 0 modules no_rows) _ rest (λ rows found done.

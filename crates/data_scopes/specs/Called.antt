@@ -1,7 +1,7 @@
 -- The declarations, asked by number.
 use Rattle.std.specs.Prelude.{ℕ, ◌+◌, ◌-◌, false, nat_lt, List, [], length, slice_get, Option, Some, None, if◌then◌else◌}
 use Rattle.std.specs.Option.{option_and_then, option_map}
-use Rattle.raw_trees.specs.declared.raw_routine.RoutineKind.{RoutineKind}
+use Rattle.rapid_model.specs.declared.routine_kind.RoutineKind.{RoutineKind}
 use Rattle.rapid_model.specs.declared.sort.Sort.{Sort}
 use Rattle.data_scopes.specs.declared.data_row.DatumRow.{DatumRow}
 use Rattle.data_scopes.specs.declared.data_row.ParamRow.{ParamRow}

@@ -2,8 +2,8 @@
 -- a declaration's type before its name.
 use Rattle.std.specs.Prelude.{ℕ, ◌+◌, Bool, true, false, not, ◌||◌, List, [], ◌∷◌, ◌++◌, length, map, Option, Some, None, is_some, Ok, ◌==◌, if◌then◌else◌}
 use Rattle.raw_trees.specs.Plain.{PlainDatum, PlainParam, PlainRoutine, PlainItem, PlainModule, PlainName, Datum, Routine}
-use Rattle.raw_trees.specs.declared.raw_routine.Mode.{Mode}
-use Rattle.raw_trees.specs.declared.raw_routine.Mode.TheVariants as modes
+use Rattle.rapid_model.specs.declared.mode.Mode.{Mode}
+use Rattle.rapid_model.specs.declared.mode.Mode.TheVariants as modes
 use Rattle.rapid_model.specs.declared.sort.Sort.{Sort}
 use Rattle.rapid_model.specs.Names.{is_among}
 use Rattle.rule_checks.specs.declared.rule.TypeRule.TheVariants.{NameTwice, NameTaken, NoName, NotThis, TypeClash, PersKind}

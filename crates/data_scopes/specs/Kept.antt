@@ -15,7 +15,7 @@ with_kept names constant value = record {
   kept = set names.kept constant (Some value);
   rows = names.rows;
   outputs = names.outputs;
-  arm = names.arm;
+  axes = names.axes;
 }
 
 -- the number of a CONST is below this

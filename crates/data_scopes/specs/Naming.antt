@@ -1,5 +1,5 @@
 -- The names of a task's modules, or the first rule that is broken at a declared name or at its type's name.
-use Rattle.std.specs.Prelude.{Bool, List, [], length, replicate, None, Ok}
+use Rattle.std.specs.Prelude.{ℕ, List, [], length, replicate, None, Ok}
 use Rattle.raw_trees.specs.Plain.{PlainModule}
 use Rattle.rapid_model.specs.declared.signal_row.SignalRow.{SignalRow}
 use Rattle.rule_checks.specs.Checks.{◌>>=◌}
@@ -9,9 +9,9 @@ use Rattle.data_scopes.specs.Numbers.{no_counts, tables_of}
 use Rattle.data_scopes.specs.Rows.{modules_rows, no_rows, outputs_of}
 use Rattle.data_scopes.specs.Scopes.{Names}
 
--- of a task with an arm or without one, among these signals
-abbrev pub names_of : List PlainModule → List SignalRow → Bool → Checked Names
-names_of modules signals arm =
+-- of a task among these signals, where its arm has so many axes, or none where it has no arm
+abbrev pub names_of : List PlainModule → List SignalRow → ℕ → Checked Names
+names_of modules signals axes =
     let tables = tables_of modules signals in
     modules_rules tables 0 [] no_counts modules >>= (λ _.
     modules_rows tables 0 modules no_rows >>= (λ rows.
@@ -20,5 +20,5 @@ names_of modules signals arm =
       kept = replicate (length rows.consts) None;
       rows = rows;
       outputs = outputs_of signals;
-      arm = arm;
+      axes = axes;
     })))

@@ -8,7 +8,7 @@ use Rattle.name_tables.specs.Names.{NameList, found_in, entered}
 use Rattle.rapid_model.specs.declared.sort.Sort.{Sort}
 use Rattle.rapid_model.specs.declared.value.Value.{Value}
 use Rattle.rapid_builtins.specs.Names.{instruction_of, function_of, predefined_of}
-use Rattle.raw_trees.specs.declared.raw_routine.RoutineKind.{RoutineKind}
+use Rattle.rapid_model.specs.declared.routine_kind.RoutineKind.{RoutineKind}
 use Rattle.data_scopes.specs.declared.data_row.DatumRow.{DatumRow}
 use Rattle.data_scopes.specs.declared.data_row.ParamRow.{ParamRow}
 use Rattle.data_scopes.specs.declared.meant.Meant.{Meant}
@@ -57,13 +57,13 @@ pub record Rows : Type 0 where
   pub routines : List RoutineRow
 
 -- The names; the values that are kept so far for the CONSTs that are no arrays; the declarations; of each signal whether it is
--- an output, and whether the task has an arm.
+-- an output, and how many axes the task's arm has, 0 where it has none.
 pub record Names : Type 0 where
   pub tables : Tables
   pub kept : List (Option Value)
   pub rows : Rows
   pub outputs : List Bool
-  pub arm : Bool
+  pub axes : ℕ
 
 -- this FOR where its variable has the name, else one further out
 abbrev pub named_or : List ℕ → ℕ → Option Loop → (Option ℕ → Option ℕ) → Option ℕ

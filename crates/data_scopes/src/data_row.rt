@@ -1,7 +1,6 @@
 //! Data of a task's modules, by their types.
 
-use rapid_model::Sort;
-use raw_trees::Mode;
+use rapid_model::{Mode, Sort};
 
 /// Where a CONST is declared: the number of its module, and the byte at which its value begins. An expression that begins
 /// behind it may name the CONST.

@@ -19,5 +19,5 @@ pub fn kept_by_number()
 
 /// Among the names of a task's modules, each VAR, PERS, CONST and routine that a name means at a spot has its row.
 pub fn numbers_have_rows()
-    ensures { (modules : List PlainModule) (signals : List SignalRow) (arm : Bool) (names : Names) → names_of modules signals arm ≡ Ok names → (spot : Spot) (name : List ℕ) (meant : Meant) → meaning names.tables spot name ≡ Some meant → HasRow names.rows meant }
+    ensures { (modules : List PlainModule) (signals : List SignalRow) (axes : ℕ) (names : Names) → names_of modules signals axes ≡ Ok names → (spot : Spot) (name : List ℕ) (meant : Meant) → meaning names.tables spot name ≡ Some meant → HasRow names.rows meant }
 {}

@@ -3,6 +3,7 @@ ghost use Rattle.std.specs.Str.{str_to_ascii_lowercase};
 ghost use Rattle.rule_checks.specs.declared.fault.TypeFault.TheVariants.{Memory};
 
 use arrayvec::ArrayVec;
+use rapid_limits::LONGEST_NAME;
 use rule_checks::TypeFault;
 use std::marker::Model;
 
@@ -10,7 +11,7 @@ use std::marker::Model;
 /// small letters.
 #[derive(Drop)]
 pub(crate) struct LoopRow {
-    name: ArrayVec<u8, 32>,
+    name: ArrayVec<u8, LONGEST_NAME>,
     outer: Option<u32>,
 }
 

@@ -7,7 +7,8 @@ ghost use Rattle.rule_checks.specs.declared.fault.TypeFault.TheVariants.{Memory}
 
 use crate::counts::Counts;
 use crate::meant::Meant;
-use raw_trees::{DatumKind, Mode, RawDatum, RawItem, RawRoutine};
+use rapid_model::Mode;
+use raw_trees::{DatumKind, RawDatum, RawItem, RawRoutine};
 use rule_checks::TypeFault;
 
 /// The number behind this one. Its error is want of memory, also for a number past 32 bits.

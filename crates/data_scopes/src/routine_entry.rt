@@ -1,6 +1,5 @@
 use crate::data_row::{DatumRow, ParamRow};
-use rapid_model::Sort;
-use raw_trees::RoutineKind;
+use rapid_model::{RoutineKind, Sort};
 use std::marker::Model;
 
 /// How a routine is called, and what its data are.

@@ -4,8 +4,7 @@ ghost use Rattle.data_scopes.specs.Called.{kind_of, local_of, param_of, params_o
 use crate::data_row::{DatumRow, ParamRow};
 use crate::routine_entry::RoutineEntry;
 use crate::slots::Slots;
-use rapid_model::Sort;
-use raw_trees::RoutineKind;
+use rapid_model::{RoutineKind, Sort};
 use std::marker::Model;
 
 /// The declarations by their numbers: the CONSTs that are no arrays, the VARs and CONST arrays of the modules, the PERSs, and

@@ -1,4 +1,4 @@
-ghost use Rattle.std.specs.Prelude.{◌≡◌, ◌<◌, map, length, slice_get, replicate, IfSome, IsTrue, ℕ};
+ghost use Rattle.std.specs.Prelude.{◌≡◌, ◌<◌, nat_lt, map, length, slice_get, replicate, IfSome, IsTrue, ℕ};
 ghost use Rattle.raw_trees.specs.Views.{view_module};
 ghost use Rattle.data_scopes.specs.Naming.{names_of};
 ghost use Rattle.data_scopes.specs.Called.{kind_of, local_of, param_of, params_of, data_count_of, result_of};
@@ -17,8 +17,8 @@ use crate::row_tables::RowTables;
 use crate::rows::modules_rows;
 use crate::tables::NameTables;
 use crate::walking::modules_rules;
-use rapid_model::{SignalRow, Sort, Value};
-use raw_trees::{RawModule, RoutineKind};
+use rapid_model::{RoutineKind, SignalRow, Sort, Value};
+use raw_trees::RawModule;
 use rule_checks::{Spot, TypeFault};
 use std::alloc::Global;
 use std::marker::Model;
@@ -30,7 +30,7 @@ pub struct Scopes {
     kept: Vec<Option<Value>>,
     rows: RowTables,
     outputs: Vec<bool>,
-    arm: bool,
+    axes: u8,
 }
 
 impl Model for Scopes {
@@ -39,7 +39,7 @@ impl Model for Scopes {
 
     ghost Value = { Names };
 
-    ghost view = { λ s. record { tables = s.tables; kept = s.kept.items; rows = s.rows; outputs = s.outputs.items; arm = s.arm } };
+    ghost view = { λ s. record { tables = s.tables; kept = s.kept.items; rows = s.rows; outputs = s.outputs.items; axes = s.axes } };
 
     ghost invariant = { λ s. AreKept s.tables s.rows.consts s.kept.items };
 }
@@ -53,7 +53,7 @@ impl Scopes {
         modules: &[RawModule<'_>],
         known: &Known<'_>,
     ) -> Result<Scopes, TypeFault>
-        ensures { Gives (λ scopes. scopes) result (names_of (map view_module modules.now) known.now.signals.now known.now.arm) }
+        ensures { Gives (λ scopes. scopes) result (names_of (map view_module modules.now) known.now.signals.now known.now.axes) }
     {
         let tables = tables_of(alloc, modules, known.signals)?;
         modules_rules(modules, &tables)?;
@@ -65,7 +65,7 @@ impl Scopes {
             kept,
             rows,
             outputs,
-            arm: known.arm,
+            axes: known.axes,
         })
     }
 
@@ -182,9 +182,9 @@ impl Scopes {
 
     /// Whether the task has an arm.
     pub fn has_arm(&self) -> bool
-        ensures { result ≡ self.now.arm }
+        ensures { result ≡ nat_lt 0 self.now.axes }
     {
-        self.arm
+        self.axes > 0
     }
 }
 

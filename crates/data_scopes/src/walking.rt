@@ -16,8 +16,8 @@ use crate::numbers::{
 };
 use crate::own::is_own;
 use crate::tables::NameTables;
-use rapid_model::{Sort, has_values};
-use raw_trees::{Mode, RawDatum, RawItem, RawModule, RawName, RawParam, RawRoutine};
+use rapid_model::{Mode, Sort, has_values};
+use raw_trees::{RawDatum, RawItem, RawModule, RawName, RawParam, RawRoutine};
 use rule_checks::{TypeFault, TypeRule, must};
 
 /// A datum of a module.

@@ -2,6 +2,7 @@
 use Rattle.std.proofs.Common.{◌≡◌, ℕ, ℤ, zero, suc, ◌+◌, Bool, true, false, ◌||◌, ◌==◌, nat_le, List, [], ◌∷◌, length, Option, Some, None, slice_get, Ok, refl, sym, ap, subst, ◌∙◌, if◌then◌else◌}
 use Rattle.std.specs.List.{list_all}
 use Rattle.std.proofs.lemmas.Bool.{and_from, and_parts, le-leb}
+use Rattle.rapid_limits.specs.declared.TheConstants.{LONGEST_ARRAY}
 use Rattle.raw_trees.specs.Plain.{PlainDatum, PlainExpr, PlainItem, PlainModule, Datum, Routine}
 use Rattle.rapid_model.specs.Limits.{is_within, holds_where_there}
 use Rattle.rapid_model.specs.Sorts.{has_values, is_value_of, are_values_of}
@@ -33,16 +34,16 @@ use Rattle.named_data.specs.Rules.{Site, at_byte}
 use Rattle.expr_types.specs.Typing.{typed}
 use Rattle.decl_types.specs.Data.{Progress, Inner, beginning, sort_in, keeping, with_const, with_slot, with_pers, of_modules, datum_const, datum_pers, datum_slot, datum, with_local, local, locals, entered, left, routine, item, items, data_of}
 use Rattle.decl_types.specs.Parts.{pers_row}
-use Rattle.decl_types.specs.Values.{Initial, longest_array, length_or_fault, whole_length, length_at, value_or_fault, single_value, brackets, how_many, values_or_fault, array_values, no_value, initial_values, site_of, values_at, len_of, init_rule, initial}
+use Rattle.decl_types.specs.Values.{Initial, length_or_fault, whole_length, length_at, value_or_fault, single_value, brackets, how_many, values_or_fault, array_values, no_value, initial_values, site_of, values_at, len_of, init_rule, initial}
 use Rattle.decl_types.proofs.Elements.{found, held_if}
 
 -- a length is within bounds
 abbrev is_short : ℕ → Bool
 is_short len = is_within 1 1_000 len
 
-number_short : (v : ℤ) (len : ℕ) → element_number longest_array v ≡ Some len → is_short len ≡ true
+number_short : (v : ℤ) (len : ℕ) → element_number LONGEST_ARRAY v ≡ Some len → is_short len ≡ true
 number_short v len is =
-    let within = element_within longest_array v len is in
+    let within = element_within LONGEST_ARRAY v len is in
     and_from (nat_le 1 len) (nat_le len 1_000) (le-leb 1 len within.0) (le-leb len 1_000 within.1)
 
 found_short : (s : Site) (at : ℕ) (number : Option ℕ) (len : ℕ) → ((n : ℕ) → number ≡ Some n → is_short n ≡ true) → length_or_fault s at number ≡ Ok len → is_short len ≡ true
@@ -50,7 +51,7 @@ found_short s at (Some n) len short is = subst (λ k. is_short k ≡ true) (ok_s
 found_short s at None len short is = absurd cc
 
 whole_short : (s : Site) (at : ℕ) (outcome : Outcome) (len : ℕ) → whole_length s at outcome ≡ Ok len → is_short len ≡ true
-whole_short s at (outcomes.Value (values.Num v)) len is = found_short s at (element_number longest_array v) len (number_short v) is
+whole_short s at (outcomes.Value (values.Num v)) len is = found_short s at (element_number LONGEST_ARRAY v) len (number_short v) is
 whole_short s at (outcomes.Value _) len is = absurd cc
 whole_short s at other len is = absurd cc
 
@@ -216,6 +217,6 @@ data_sound number (m ∷ ms) p q is h =
     behind (IsSoundSoFar q) q (items number m.items p) _ is (λ next one others. data_sound (number + 1) ms next q others (items_sound number m.items p next one h))
 
 -- the persistents of a task's modules
-pub pers_are_sound : (modules : List PlainModule) (signals : List SignalRow) (arm : Bool) (names : Names) (p : Progress) → names_of modules signals arm ≡ Ok names → data_of 0 modules (beginning names) ≡ Ok p → list_all is_sound p.pers ≡ true
-pers_are_sound modules signals arm names p named is =
-    (data_sound 0 modules (beginning names) p is (record { valued = (are_numbered modules signals arm names named).valued; sound = refl })).sound
+pub pers_are_sound : (modules : List PlainModule) (signals : List SignalRow) (axes : ℕ) (names : Names) (p : Progress) → names_of modules signals axes ≡ Ok names → data_of 0 modules (beginning names) ≡ Ok p → list_all is_sound p.pers ≡ true
+pers_are_sound modules signals axes names p named is =
+    (data_sound 0 modules (beginning names) p is (record { valued = (are_numbered modules signals axes names named).valued; sound = refl })).sound

@@ -1,6 +1,7 @@
 -- Lengths and initial values of data: known before the run, and of the datum's type (RAPID Kernel, data declarations).
 use Rattle.std.specs.Prelude.{ℕ, suc, not, ◌||◌, ◌==◌, List, [], ◌∷◌, length, replicate, map, Option, Some, None, is_some, Ok, if◌then◌else◌}
 use Rattle.std.specs.List.{list_all}
+use Rattle.rapid_limits.specs.declared.TheConstants.{LONGEST_ARRAY}
 use Rattle.raw_trees.specs.Plain.{PlainDatum, PlainExpr, PlainExprs, Aggregate, Group, NoExprs, MoreExprs}
 use Rattle.rapid_model.specs.declared.sort.Sort.{Sort}
 use Rattle.rapid_model.specs.declared.sort.Sort.TheVariants as sorts
@@ -26,17 +27,13 @@ use Rattle.named_data.specs.declared.wanted.Wanted.TheVariants.{Is, Nothing}
 use Rattle.named_data.specs.Rules.{Site, fail, at_byte}
 use Rattle.expr_types.specs.Typing.{typed}
 
--- the greatest length of an array
-abbrev pub longest_array : ℕ
-longest_array = 1_000
-
 abbrev pub length_or_fault : Site → ℕ → Option ℕ → Checked ℕ
 length_or_fault site at (Some n) = Ok n
 length_or_fault site at None = fail site at DimRange
 
 -- a whole number from 1 to the greatest length
 abbrev pub whole_length : Site → ℕ → Outcome → Checked ℕ
-whole_length site at (outcomes.Value (values.Num n)) = length_or_fault site at (element_number longest_array n)
+whole_length site at (outcomes.Value (values.Num n)) = length_or_fault site at (element_number LONGEST_ARRAY n)
 whole_length site at other = fail site at DimRange
 
 -- the length of an array

@@ -11,13 +11,11 @@ use constant_meaning::{Arrays, Outcome, constant_value, is_constant};
 use data_scopes::begin_of;
 use expr_types::typed;
 use named_data::{Site, Wanted, fault, must};
+use rapid_limits::LONGEST_ARRAY;
 use rapid_model::{Sort, Value};
 use rapid_operators::whole_index;
 use raw_trees::RawExpr;
 use rule_checks::{TypeFault, TypeRule};
-
-/// The greatest length of an array.
-const LONGEST_ARRAY: u16 = 1_000;
 
 fn length_or_fault(site: &Site<'_>, at: usize, length: Option<u16>) -> Result<u16, TypeFault>
     ensures { Gives (λ n. n) result (Values.length_or_fault (view_site site.now) at length) }

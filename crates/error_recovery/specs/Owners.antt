@@ -2,7 +2,7 @@
 use Rattle.std.specs.Prelude.{◌≡◌, ℕ, ◌<◌, ◌≤◌, List, [], ◌∷◌, length, Some, slice_index_or}
 use Rattle.error_recovery.specs.declared.how.How.{How}
 use Rattle.error_recovery.specs.declared.how.How.TheVariants.{Retry, Next}
-use Rattle.stack_code.specs.Placed.{owner_at}
+use Rattle.stack_code.specs.Placed.{Own, owner_at}
 use Rattle.stack_code.specs.declared.owner.Owner.{Owner}
 
 -- from a place on, up to another, each row begins where the one before it ends, and has an operation
@@ -25,6 +25,7 @@ abbrev pub IsNumberAt : List Owner → ℕ → ℕ → Type 0
 IsNumberAt owners pc number =
     (number < length owners) × ((d : Owner) → (owner_at owners pc ≡ Some (slice_index_or owners number d)) × Holds (slice_index_or owners number d) pc)
 
-abbrev pub resumed : How → Owner → ℕ
-resumed Retry owner = owner.retry
-resumed Next owner = owner.next
+-- where a statement that failed is gone on from: its beginning, or the place after it
+abbrev pub resumed : How → Own → ℕ
+resumed Retry own = own.retry
+resumed Next own = own.next

@@ -1,5 +1,5 @@
-ghost use Rattle.std.specs.Prelude.{◌≡◌, ℕ, Some, slice_get};
-ghost use Rattle.stack_code.specs.Placed.{owner_at};
+ghost use Rattle.std.specs.Prelude.{◌≡◌, ℕ, Some, option_map, slice_get};
+ghost use Rattle.stack_code.specs.Placed.{own_of, owner_at};
 ghost use Rattle.stack_code.specs.Raising.{handler_in};
 ghost use Rattle.stack_code.specs.declared.owner.Owner.{Owner};
 ghost use Rattle.error_recovery.specs.Owners.{Holds, IsNumberAt, StandsIn, resumed};
@@ -29,7 +29,8 @@ pub fn owner_of(marks: &Marks, pc: u32) -> &Owner
 /// place stands in the code of the marks.
 pub fn resume_of(marks: &Marks, pc: u32, how: How) -> u32
     requires { StandsIn marks.now.owners.items pc }
-    ensures { (k : ℕ) (owner : Owner) → slice_get marks.now.owners.items k ≡ Some owner → Holds owner pc → result ≡ resumed how owner }
+    ensures held { (k : ℕ) (owner : Owner) → slice_get marks.now.owners.items k ≡ Some owner → Holds owner pc → result ≡ resumed how (own_of owner) }
+    ensures named { option_map (λ owner. resumed how (own_of owner)) (owner_at marks.now.owners.items pc) ≡ Some result }
 {
     let owner = owner_of(marks, pc);
     match how {

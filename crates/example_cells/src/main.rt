@@ -1,5 +1,6 @@
 //! Runs the examples that lie beside it, and tells of each run whether the status and the lines are those that stand with the
-//! example; of `run` the status and how the tasks ended. A line of the standard input names an action and an example.
+//! example; of `run` the status and how the tasks ended. A line of the standard input names an action and an example; `history` is
+//! `round` with the whole history.
 #![tactic(auto)]
 
 use anyhow::Context;
@@ -39,21 +40,35 @@ fn run<R: Files + AllocGlobal + Threads + Wait + Sync>(
     action: &str,
     example: &str,
 ) -> anyhow::Result<Vec<u8>> {
+    let script = format!(in rt.alloc(); "{example}/cell.toml")?;
+    let script = script.as_str();
+    match action {
+        "history" => told_by(rt, &["--history", "round", script], script, true),
+        // The order of the other lines can be another one at each `run`.
+        "run" => told_by(rt, &["run", script], script, false),
+        _ => told_by(rt, &[action, script], script, true),
+    }
+}
+
+/// The status of these words and what they print: all lines, or of those on the standard output only how the tasks ended.
+fn told_by<R: Files + AllocGlobal + Threads + Wait + Sync>(
+    rt: &R,
+    words: &[&str],
+    script: &str,
+    all: bool,
+) -> anyhow::Result<Vec<u8>> {
     let alloc = rt.alloc();
-    let script = format!(in alloc; "{example}/cell.toml")?;
-    let mut shelf = FileShelf::new(rt, script.as_str());
+    let mut shelf = FileShelf::new(rt, script);
     let mut out = MemorySink::new(alloc, ROOM, Vec::new(alloc))
         .ok()
         .context("memory")?;
     let mut err = MemorySink::new(alloc, ROOM, Vec::new(alloc))
         .ok()
         .context("memory")?;
-    let words = [action, script.as_str()];
-    let report = controller::controller(rt, alloc, &words, &mut shelf, &mut out, &mut err, &NoPace);
+    let report = controller::controller(rt, alloc, words, &mut shelf, &mut out, &mut err, &NoPace);
     let mut told = format!(in alloc; "status {}\n", report.status)?.into_bytes();
     for line in out.bytes().split_inclusive(|byte| *byte == b'\n') {
-        // The order of the other lines can be another one at each `run`.
-        if action != "run" || line.starts_with(b"E ") {
+        if all || line.starts_with(b"E ") {
             told.extend_from_slice(line)?;
         }
     }

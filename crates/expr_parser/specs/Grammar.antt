@@ -15,7 +15,7 @@
 -- Each parenthesis, bracket, brace and list of arguments opens a level of nesting.
 use Rattle.std.specs.Prelude.{ℕ, zero, suc, List, [], ◌∷◌, Option, None, Some}
 use Rattle.rapid_lexer.specs.Tokens.{Lexeme}
-use Rattle.raw_trees.specs.declared.raw_expr.Operator.{Operator}
+use Rattle.rapid_model.specs.declared.operator.Operator.{Operator}
 use Rattle.raw_trees.specs.Plain.{PlainName, PlainExpr, PlainPlace, PlainArg, Number, Quoted, Truth, Group, Aggregate, Invoke, Place, Not, Signed, Chain, PlaceOf, Needed, Optional, exprs_of, args_of, steps_of, held_of}
 use Rattle.rapid_forms.specs.declared.sign.Sign.{Sign}
 use Rattle.rapid_forms.specs.declared.sign.Sign.TheVariants as signs

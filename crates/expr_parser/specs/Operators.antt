@@ -1,8 +1,8 @@
 -- What operators and literal words stand for.
 use Rattle.std.specs.Prelude.{Bool, List, [], ◌∷◌, if◌then◌else◌}
 use Rattle.rapid_lexer.specs.Tokens.{Lexeme}
-use Rattle.raw_trees.specs.declared.raw_expr.Operator.{Operator}
-use Rattle.raw_trees.specs.declared.raw_expr.Operator.TheVariants as operators
+use Rattle.rapid_model.specs.declared.operator.Operator.{Operator}
+use Rattle.rapid_model.specs.declared.operator.Operator.TheVariants as operators
 use Rattle.rapid_forms.specs.declared.sign.Sign.{Sign}
 use Rattle.rapid_forms.specs.declared.sign.Sign.TheVariants as signs
 use Rattle.rapid_forms.specs.Signs.{has, sign_of}

@@ -12,7 +12,8 @@ use crate::level::Level;
 use crate::operators::{is_minus, operator_of};
 use crate::primary::primary;
 use rapid_forms::{Parser, Sign, SyntaxFault};
-use raw_trees::{Operator, RawExpr};
+use rapid_model::Operator;
+use raw_trees::RawExpr;
 
 static COMPARISONS: [Sign; 6] = [
     Sign::Equal,

@@ -6,7 +6,7 @@ ghost use Rattle.expr_parser.specs.Operators.{is_minus, is_true, operator_in, op
 
 use rapid_forms::{Sign, sign_of};
 use rapid_lexer::Token;
-use raw_trees::Operator;
+use rapid_model::Operator;
 
 /// The operator that a token is, where it is one.
 #[tactic(auto, unfolding(crate::specs::Operators::operator_of))]

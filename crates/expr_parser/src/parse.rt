@@ -9,6 +9,7 @@ ghost use Rattle.expr_parser.specs.Grammar.{expr};
 use crate::chains::expr;
 use rapid_forms::{Parser, SyntaxFault, Tokens};
 use rapid_lexer::Token;
+use rapid_limits::MOST_LEVELS;
 use raw_trees::RawExpr;
 use std::alloc::Global;
 
@@ -22,13 +23,13 @@ pub fn parse_expr<'a>(
     end: usize,
 ) -> Result<(RawExpr<'a>, usize), SyntaxFault>
     requires there { at ≤ length tokens.now }
-    requires open { depth ≤ 64 }
-    ensures answer { Parses expr (64 - depth) (views tokens.now) end at view_expr result }
+    requires open { depth ≤ MOST_LEVELS }
+    ensures answer { Parses expr (MOST_LEVELS - depth) (views tokens.now) end at view_expr result }
 {
     let p = Parser {
         alloc,
         tokens: Tokens { list: tokens, end },
     };
-    let (tree, next) = expr(&p, at, 64 - depth)?;
+    let (tree, next) = expr(&p, at, MOST_LEVELS - depth)?;
     Ok((tree, next.min(tokens.len())))
 }

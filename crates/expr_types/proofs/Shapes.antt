@@ -4,7 +4,7 @@ use Rattle.std.specs.Result.{IsErrAnd}
 use Rattle.std.specs.declared.alloc.Global.{Global}
 use Rattle.std.specs.declared.boxed.Box.{Box}
 use Rattle.std.specs.declared.vec.Vec.{Vec}
-use Rattle.raw_trees.specs.declared.raw_expr.Operator.{Operator}
+use Rattle.rapid_model.specs.declared.operator.Operator.{Operator}
 use Rattle.raw_trees.specs.declared.raw_expr.RawArg.{RawArg, Needed as NeededArg, Option as OptionArg}
 use Rattle.raw_trees.specs.declared.raw_expr.RawExpr.{RawExpr}
 use Rattle.raw_trees.specs.declared.raw_expr.RawExprForm.{Aggregate, Call, Chain}

@@ -1,10 +1,11 @@
 -- What is called, and its arguments as a list: needed ones in their order, options anywhere among them.
-use Rattle.std.specs.Prelude.{ℕ, Bool, true, false, not, ◌&&◌, ◌||◌, ◌+◌, ◌==◌, nat_le, List, [], ◌∷◌, ◌++◌, codes, length, map, drop, Option, Some, None, Ok, if◌then◌else◌}
+use Rattle.std.specs.Prelude.{ℕ, Bool, true, false, not, ◌&&◌, ◌||◌, ◌+◌, ◌==◌, nat_lt, nat_le, List, [], ◌∷◌, ◌++◌, codes, length, map, drop, Option, Some, None, Ok, if◌then◌else◌}
 use Rattle.std.specs.Option.{option_map}
 use Rattle.std.specs.Str.{str_eq_ignore_ascii_case}
+use Rattle.rapid_limits.specs.declared.TheConstants.{MOST_ARGUMENTS}
 use Rattle.raw_trees.specs.Plain.{PlainName, PlainExpr, PlainArg, PlainArgs, Needed, Optional, NoArgs, MoreArgs}
-use Rattle.raw_trees.specs.declared.raw_routine.RoutineKind.{RoutineKind}
-use Rattle.raw_trees.specs.declared.raw_routine.RoutineKind.TheVariants as kinds
+use Rattle.rapid_model.specs.declared.routine_kind.RoutineKind.{RoutineKind}
+use Rattle.rapid_model.specs.declared.routine_kind.RoutineKind.TheVariants as kinds
 use Rattle.rapid_model.specs.declared.function.Function.{Function}
 use Rattle.rapid_model.specs.declared.instruction.Instruction.{Instruction}
 use Rattle.rapid_model.specs.declared.sort.Sort.{Sort}
@@ -99,13 +100,14 @@ abbrev pub all_in : PlainArgs → ℕ
 all_in NoArgs = 0
 all_in (MoreArgs a more) = all_in more + 1
 
--- as many arguments as are needed, at most 32 with the options
+-- as many arguments as are needed, with the options not too many
 abbrev pub are_counted : PlainArgs → ℕ → Bool
-are_counted args count = needed_in args == count && nat_le (all_in args) 32
+are_counted args count = needed_in args == count && nat_le (all_in args) MOST_ARGUMENTS
 
 -- one option stands where one has to
 abbrev pub are_chosen : Choice → PlainArgs → Bool
 are_chosen choices.JustOne args = not (all_in args == needed_in args)
+are_chosen choices.Never args = false
 are_chosen _ args = true
 
 -- the rules of a call, after those of its arguments
@@ -117,7 +119,7 @@ abbrev pub call_rules : Site → ℕ → Signature → PlainArgs → Checked (Un
 call_rules site at s args =
     must (are_counted args (length s.needs)) (at_byte site at ArgCount) >>= (λ _.
     must (are_chosen s.choice args) (at_byte site at ArgName) >>= (λ _.
-    must (not s.arm || site.names.arm) (at_byte site at NoArm)))
+    must (not s.arm || nat_lt 0 site.names.axes) (at_byte site at NoArm)))
 
 -- what the next argument has to be
 abbrev pub first_need : List Need → Option Need

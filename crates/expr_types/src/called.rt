@@ -13,8 +13,8 @@ use crate::signature::{Signature, function_signature, routine_signature};
 use data_scopes::Meant;
 use named_data::{Site, fault};
 use rapid_builtins::function_result;
-use rapid_model::Sort;
-use raw_trees::{RawName, RoutineKind};
+use rapid_model::{RoutineKind, Sort};
+use raw_trees::RawName;
 use rule_checks::{TypeFault, TypeRule};
 
 /// A function that is called, how, and the type of its answer (RAPID Kernel, function calls).

@@ -11,11 +11,9 @@ ghost use Rattle.expr_types.specs.Views.{view_signature};
 use crate::signature::Signature;
 use named_data::{Site, must};
 use rapid_builtins::Choice;
+use rapid_limits::MOST_ARGUMENTS;
 use raw_trees::RawArg;
 use rule_checks::{TypeFault, TypeRule};
-
-/// The greatest number of arguments of a call, options with them (RAPID Kernel, procedure calls).
-const MOST_ARGUMENTS: usize = 32;
 
 /// Whether an argument is no option.
 fn is_needed(arg: &RawArg<'_>) -> bool
@@ -44,13 +42,14 @@ fn all_in(args: &[RawArg<'_>]) -> usize
     args.len()
 }
 
-/// Whether one option stands where one has to.
+/// Whether one option stands where one has to, and some call is right.
 fn are_chosen(choice: Choice, args: &[RawArg<'_>]) -> bool
     ensures { result ≡ Calls.are_chosen choice (args_of (map view_raw_arg args.now)) }
 {
     match choice {
         Choice::JustOne => all_in(args) != needed_in(args),
         Choice::Any | Choice::OneAtMost => true,
+        Choice::Never => false,
     }
 }
 

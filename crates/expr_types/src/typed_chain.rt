@@ -1,5 +1,4 @@
-use rapid_model::Sort;
-use raw_trees::Operator;
+use rapid_model::{Operator, Sort};
 use typed_trees::Expr;
 
 /// Operators of one level and their operands behind the first, and the type of what they come to.

@@ -31,8 +31,8 @@ use crate::values::{
 use data_scopes::begin_of;
 use named_data::{Site, Wanted, comes_to, datum_at, fault, inside, must, part_at, suits};
 use rapid_builtins::{Need, first_named};
-use rapid_model::{Predefined, Sort, Value};
-use raw_trees::{Operator, RawArg, RawExpr, RawExprForm, RawPlace};
+use rapid_model::{Operator, Predefined, Sort, Value};
+use raw_trees::{RawArg, RawExpr, RawExprForm, RawPlace};
 use rule_checks::{TypeFault, TypeRule};
 use typed_trees::{Arg, Expr};
 

@@ -20,10 +20,10 @@ use crate::callee::Callee;
 use crate::place_part::PlacePart;
 use crate::rules::{call_rules, count_rules};
 use named_data::{Site, Source, Wanted, clash, fault, fits, hands_on, must, untyped};
-use rapid_model::{PartName, Sort, Value, has_values};
+use rapid_model::{Operator, PartName, Sort, Value, has_values};
 use rapid_num::read_literal;
 use rapid_values::{component_sorts, part};
-use raw_trees::{Operator, RawArg, RawExpr, RawExprForm};
+use raw_trees::{RawArg, RawExpr, RawExprForm};
 use rule_checks::{TypeFault, TypeRule};
 use typed_trees::{Arg, Expr, TreePlace};
 

@@ -108,8 +108,10 @@ module _ {M P : Type 0} (program : M → P) (fits : P → List Answer → Type 0
       abbrev the_event : Event
       the_event = event_of job.pass.actor request answer
 
-      its_fit : IsTrue (fits_request (fitting_in gate.cell job.pass.mine) request answer)
-      its_fit = subst (λ (g : GateData). IsTrue (fits_request (fitting_in g.cell job.pass.mine) request answer)) a.amid.gate_is grew.fits
+      its_fit : IsTrue (fits_request (fitting_in gate.cell task job.pass.mine) request answer)
+      its_fit =
+          subst (λ (n : ℕ). IsTrue (fits_request (fitting_in gate.cell n job.pass.mine) request answer)) a.amid.actor_is
+          (subst (λ (g : GateData). IsTrue (fits_request (fitting_in g.cell job.pass.actor job.pass.mine) request answer)) a.amid.gate_is grew.fits)
 
       pub longer : IsCourse program_asks gate.cell task (program job.machine) pass.mine
       longer =

@@ -1,5 +1,6 @@
 -- The rows of a crew: machines, passes and standings, the same place for the same task.
 use Rattle.std.specs.Prelude.{◌≡◌, ◌<◌, ◌≤◌, true, List, [], ◌∷◌, length, vec_capacity}
+use Rattle.rapid_limits.specs.declared.TheConstants.{MOST_TASKS}
 use Rattle.cell_gate.specs.GateData.{GateData}
 use Rattle.cell_gate.specs.PassData.{PassData}
 use Rattle.cell_gate.specs.Causes.{is_over}
@@ -15,17 +16,17 @@ jobs_in machines passes standings = []
 abbrev pub jobs_of : {M : Type 0} → Crew M → List (Job M)
 jobs_of crew = jobs_in crew.machines.items crew.passes.items crew.standings.items
 
--- The rows are of one length, and there are at most eight tasks.
+-- The rows are of one length, and there are not too many tasks.
 pub record IsEven {M : Type 0} (crew : Crew M) : Type 0 where
   pub passes : length crew.passes.items ≡ length crew.machines.items
   pub standings : length crew.standings.items ≡ length crew.machines.items
-  pub few : length crew.machines.items ≤ 8
+  pub few : length crew.machines.items ≤ MOST_TASKS
 
 -- there is room for one more task
 pub record HasRoom {M : Type 0} (crew : Crew M) : Type 0 where
   pub machines : length crew.machines.items < vec_capacity crew.machines
   pub passes : length crew.passes.items < vec_capacity crew.passes
-  pub few : length crew.machines.items < 8
+  pub few : length crew.machines.items < MOST_TASKS
 
 -- in the same room
 pub record IsSameRoom {M : Type 0} (old new : Crew M) : Type 0 where

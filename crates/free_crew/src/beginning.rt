@@ -14,6 +14,7 @@ use crate::standing::Standing;
 use arrayvec::ArrayVec;
 use cell_crew::ask_first;
 use cell_gate::{Gate, Pass};
+use rapid_limits::MOST_TASKS;
 use task_programs::TaskMachine;
 
 /// The crew of a gate, by its passes and a machine for each task. Each machine has asked its first request then.
@@ -30,15 +31,15 @@ pub(crate) fn begin<M: TaskMachine + Drop>(
     ensures machines_room { vec_capacity result.machines ≡ vec_capacity machines }
     ensures programs { map M.program result.machines.items ≡ map M.program machines.items }
 {
-    // A gate has at most eight tasks.
-    prove!(gate.task_count() <= 8);
+    // A gate has not too many tasks.
+    prove!(gate.task_count() as usize <= MOST_TASKS);
     new_crew(machines, passes)
 }
 
 /// The crew of these machines, which have asked nothing, and these passes, the last of which is the input script's.
 fn new_crew<M: TaskMachine + Drop>(machines: Vec<M>, mut passes: Vec<Pass>) -> Crew<M>
     requires fresh { AllByRecursion M.is_fresh machines.items }
-    requires few { length machines.items ≤ 8 }
+    requires few { length machines.items ≤ MOST_TASKS }
     requires passes { length passes.items ≡ length machines.items + 1 }
     ensures even { IsEven result }
     ensures passes { passes.items ≡ result.passes.items ++ result.script ∷ [] }
@@ -62,8 +63,8 @@ fn new_crew<M: TaskMachine + Drop>(machines: Vec<M>, mut passes: Vec<Pass>) -> C
 }
 
 /// The standings of so many tasks whose first requests are due.
-fn all_going(tasks: usize) -> ArrayVec<Standing, 8>
-    requires { tasks ≤ 8 }
+fn all_going(tasks: usize) -> ArrayVec<Standing, MOST_TASKS>
+    requires { tasks ≤ MOST_TASKS }
     ensures { result.items ≡ replicate tasks standings.Going }
 {
     let mut standings = ArrayVec::new();

@@ -5,6 +5,7 @@ use crate::job::Job;
 use crate::standing::Standing;
 use arrayvec::ArrayVec;
 use cell_gate::Pass;
+use rapid_limits::MOST_TASKS;
 
 /// The tasks of the first numbers, in rows: the machine, the pass and the standing of a task have the same place in each. Beside
 /// them is the input script's pass.
@@ -12,7 +13,7 @@ use cell_gate::Pass;
 pub struct Crew<M> {
     pub machines: Vec<M>,
     pub passes: Vec<Pass>,
-    pub standings: ArrayVec<Standing, 8>,
+    pub standings: ArrayVec<Standing, MOST_TASKS>,
     pub script: Pass,
 }
 

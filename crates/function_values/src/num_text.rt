@@ -5,6 +5,7 @@ ghost use Rattle.rapid_num.specs.Arithmetic.{rounded};
 ghost use Rattle.rapid_meaning.specs.Functions;
 
 use itoa::Buffer;
+use rapid_limits::LONGEST_STRING;
 use rapid_model::{Text, show};
 use rapid_num::Num;
 
@@ -90,7 +91,7 @@ fn show_whole(whole: u64, text: &mut Text)
 
 /// The point before decimals.
 fn show_point(text: &mut Text)
-    requires { length text.old < 80 }
+    requires { length text.old < LONGEST_STRING }
     ensures { text.new ≡ text.old ++ 46 ∷ [] }
 {
     text.push(b'.');
@@ -99,7 +100,7 @@ fn show_point(text: &mut Text)
 /// One decimal digit.
 fn show_digit(digit: u64, text: &mut Text)
     requires digit { digit < 10 }
-    requires room { length text.old < 80 }
+    requires room { length text.old < LONGEST_STRING }
     ensures { text.new ≡ text.old ++ (48 + digit) ∷ [] }
 {
     text.push(b'0' + digit as u8);

@@ -20,6 +20,7 @@ pub fn one_task(alloc: Global) -> Result<Cell, AllocError>
     tasks.push(TaskRow {
         name: name(),
         arm: None,
+        axes: 0,
     })?;
     let mut signals = Vec::new(alloc);
     signals.push(SignalRow {

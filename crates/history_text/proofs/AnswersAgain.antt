@@ -96,7 +96,7 @@ bit_answer : (names : NamesData) (signal : ℕ) (bit : Bool) (more : List ℕ) �
 unfolding answer_at
 bit_answer names signal bit more = rw (bit_again bit (10 ∷ more)) refl
 
-place_answer : (names : NamesData) (place : Joints) (more : List ℕ) → AreNums 12 place.axis → is_position place ≡ true → answer_at names requests.Position (axes_words place ++ 10 ∷ more) ≡ Some (answers.At place, 10 ∷ more)
+place_answer : (names : NamesData) (place : Joints) (more : List ℕ) → AreNums 12 place.axis → is_position 6 place ≡ true → answer_at names requests.Position (axes_words place ++ 10 ∷ more) ≡ Some (answers.At place, 10 ∷ more)
 unfolding answer_at
 place_answer names place more fits h = rw (place_again place (10 ∷ more) fits h refl) refl
 

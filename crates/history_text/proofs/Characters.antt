@@ -1,5 +1,5 @@
 -- The characters of a text in quotes, one after the other.
-use Rattle.std.proofs.Common.{◌≡◌, ℕ, suc, ◌+◌, ◌-◌, ◌<◌, ◌≤◌, List, Option, None, refl, arith}
+use Rattle.std.proofs.Common.{◌≡◌, ℕ, suc, ◌+◌, ◌-◌, ◌<◌, ◌≤◌, List, None, refl, arith}
 use Rattle.history_text.specs.Reading.{◌>>=◌, character_at, characters_at, with_character}
 
 -- a step more

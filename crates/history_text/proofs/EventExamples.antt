@@ -41,7 +41,7 @@ use Rattle.std.proofs.lemmas.Bool.{and_parts}
 
 names : NamesData
 names = record {
-  tasks = record { name = codes "A"; arm = None } ∷ record { name = codes "B"; arm = None } ∷ [];
+  tasks = record { name = codes "A"; arm = None; axes = 0 } ∷ record { name = codes "B"; arm = None; axes = 0 } ∷ [];
   signals = [];
   pers = record { name = codes "busy"; owner = None; sort = sorts.Bool; len = None; first = values.Bool false ∷ [] } ∷ [];
 }
@@ -183,7 +183,7 @@ fault = refl
 
 worked_names : NamesData
 worked_names = record {
-  tasks = record { name = codes "A"; arm = None } ∷ [];
+  tasks = record { name = codes "A"; arm = None; axes = 0 } ∷ [];
   signals = record { name = codes "d"; output = false; start = false } ∷ [];
   pers = record { name = codes "t"; owner = None; sort = sorts.JointTarget; len = Some 3; first = [] } ∷ [];
 }
@@ -234,8 +234,8 @@ front_lines = codes "H A Look > Go 0\n" ∷ codes "H B Look > Go 0\n" ∷ codes 
 -- names begin with A and B
 initial : (i : ℕ) (row : TaskRow) → slice_get names.tasks i ≡ Some row → get_or row.name 0 0 ≡ 65 + i
 unfolding names
-initial zero row at = ap (λ (t : TaskRow). get_or t.name 0 0) (sym (same_Some (record { name = codes "A"; arm = None }) row at))
-initial (suc zero) row at = ap (λ (t : TaskRow). get_or t.name 0 0) (sym (same_Some (record { name = codes "B"; arm = None }) row at))
+initial zero row at = ap (λ (t : TaskRow). get_or t.name 0 0) (sym (same_Some (record { name = codes "A"; arm = None; axes = 0 }) row at))
+initial (suc zero) row at = ap (λ (t : TaskRow). get_or t.name 0 0) (sym (same_Some (record { name = codes "B"; arm = None; axes = 0 }) row at))
 initial (suc (suc i)) row at = absurd cc
 
 named : AreNamed names.tasks

@@ -20,7 +20,7 @@ turned : Joints
 turned = record { axis = pos 833 ∷ pos 0 ∷ pos 0 ∷ pos 0 ∷ pos 0 ∷ pos 0 ∷ pos 0 ∷ pos 0 ∷ pos 0 ∷ pos 0 ∷ pos 0 ∷ pos 0 ∷ [] }
 
 tasks : List TaskRow
-tasks = record { name = codes "A"; arm = None } ∷ []
+tasks = record { name = codes "A"; arm = None; axes = 0 } ∷ []
 
 asked : Request → Answer → Event
 asked request answer = record { actor = 0; request = request; answer = answer }

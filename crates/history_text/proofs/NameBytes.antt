@@ -5,8 +5,9 @@ use Rattle.std.proofs.lemmas.Bool.Decides.{nat_tests}
 use Rattle.std.proofs.lemmas.Option.{same_Some}
 use Rattle.std.specs.List.{AllByRecursion, list_all}
 use Rattle.std.specs.Prelude.{IsTrue, nat_le, slice_get, length}
+use Rattle.rapid_limits.specs.declared.TheConstants.{LONGEST_NAME}
 use Rattle.rapid_num.specs.Characters.{is_letter, is_name, is_name_byte}
-use Rattle.rapid_model.specs.Names.{is_short_name, longest_name}
+use Rattle.rapid_model.specs.Names.{is_short_name}
 use Rattle.rapid_model.specs.declared.task_row.TaskRow.{TaskRow}
 
 abbrev pub IsNameByte : ℕ → Type 0
@@ -30,7 +31,7 @@ bytes_of (b ∷ bs) h = let both = and_parts (is_letter b) (list_all is_name_byt
 
 name_of : (name : List ℕ) → is_short_name name ≡ true → IsName name
 name_of name h =
-    let form = (and_parts (is_name name) (nat_le (length name) longest_name) h).0 in
+    let form = (and_parts (is_name name) (nat_le (length name) LONGEST_NAME) h).0 in
     record { form = form; bytes = bytes_of name form }
 
 pub name_at : (tasks : List TaskRow) (actor : ℕ) (row : TaskRow) → AllByRecursion (λ r. IsTrue (is_short_name r.name)) tasks → slice_get tasks actor ≡ Some row → IsName row.name

@@ -44,7 +44,7 @@ forms : (tasks : List TaskRow) → list_all starts_well tasks ≡ true → AllBy
 forms [] h = tt
 forms (r ∷ rs) h =
     let both = and_parts (starts_well r) (list_all starts_well rs) h in
-    ((and_parts (is_short_name r.name) (is_start r.arm) both.0).0, forms rs both.1)
+    ((and_parts (is_short_name r.name) (is_start r.axes r.arm) both.0).0, forms rs both.1)
 
 pub cell_is_named : (cell : CellData) → IsCell cell → AreNamed cell.tasks
 cell_is_named cell limits = record {

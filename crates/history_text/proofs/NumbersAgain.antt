@@ -1,15 +1,15 @@
 -- A number that was written is read again, whatever follows that is no part of it.
-use Rattle.std.proofs.Common.{◌≡◌, ◌≢◌, ℕ, zero, suc, ◌+◌, ◌-◌, ◌*◌, ◌/◌, ◌%◌, ◌^◌, ◌<◌, ◌≤◌, Bool, true, false, cond, List, [], ◌∷◌, ◌++◌, length, Option, Some, None, ℤ, pos, negsuc, refl, sym, ap, ◌∙◌, arith, decimal, append_assoc, inl, inr}
+use Rattle.std.proofs.Common.{◌≡◌, ◌≢◌, ℕ, suc, ◌+◌, ◌-◌, ◌*◌, ◌/◌, ◌%◌, ◌^◌, ◌<◌, ◌≤◌, Bool, true, false, List, [], ◌∷◌, ◌++◌, length, Some, None, ℤ, pos, negsuc, refl, sym, ap, ◌∙◌, arith, decimal, append_assoc, inl, inr}
 use Rattle.std.proofs.lemmas.Bool.{cases_eq}
 use Rattle.std.proofs.lemmas.Bool.Decides.{nat_tests}
-use Rattle.std.specs.List.{AllByRecursion, fold}
-use Rattle.std.specs.Prelude.{neg_ℤ, nat_lt, nat_le, ◌==◌}
+use Rattle.std.specs.List.{fold}
+use Rattle.std.specs.Prelude.{nat_lt, ◌==◌}
 use Rattle.rapid_num.specs.Characters.{is_digit}
 use Rattle.rapid_num.specs.Literal.{digit_value}
-use Rattle.rapid_num.specs.NumText.{fraction_text, shortest_text, sign_text, three_digits}
+use Rattle.rapid_num.specs.NumText.{fraction_text, shortest_text, three_digits}
 use Rattle.rapid_num.specs.Range.{IsNum, greatest, is_num}
 use Rattle.rapid_num.proofs.DecimalDigits.{AreDigits, decimal_text, one_more}
-use Rattle.history_text.specs.Reading.{after_word, decimals_at, digit_at, digits_at, ends_num, ends_whole, fraction_at, minus_at, next_num, num_at, number_at, size_at, whole_at}
+use Rattle.history_text.specs.Reading.{decimals_at, digit_at, digits_at, ends_num, ends_whole, fraction_at, minus_at, next_num, num_at, number_at, size_at, whole_at}
 use Rattle.history_text.proofs.AfterWord.{after_word_again}
 use Rattle.history_text.proofs.Stops.{GoesOn, GoesOn-append, GoesOn-cond, Stops, each}
 

@@ -1,5 +1,5 @@
 -- Nums that were written one after the other are read again.
-use Rattle.std.proofs.Common.{◌≡◌, ℕ, zero, suc, true, List, [], ◌∷◌, ◌++◌, length, take, drop, replicate, Option, Some, ℤ, pos, negsuc, refl, sym, ap, ◌∙◌, arith, append_assoc, length-drop}
+use Rattle.std.proofs.Common.{◌≡◌, ℕ, zero, suc, true, List, [], ◌∷◌, ◌++◌, ◌&&◌, length, take, drop, replicate, Option, Some, ℤ, pos, negsuc, refl, sym, ap, ◌∙◌, arith, append_assoc, length-drop}
 use Rattle.std.proofs.lemmas.Bool.{and_parts, eqb-true}
 use Rattle.std.proofs.lemmas.List.{length-take-le, take-append-drop}
 use Rattle.std.specs.List.{AllByRecursion, flat_map, list_all}
@@ -7,7 +7,7 @@ use Rattle.std.specs.Prelude.{◌==◌}
 use Rattle.rapid_num.specs.Absent.{absent, is_absent}
 use Rattle.rapid_num.specs.NumText.{shortest_text}
 use Rattle.rapid_num.specs.Range.{IsNum}
-use Rattle.rapid_num.specs.Reach.{absent_axes, are_absent, is_position, is_reachable}
+use Rattle.rapid_num.specs.Reach.{absent_axes, is_position, is_reachable}
 use Rattle.rapid_num.specs.declared.joints.Joints.{Joints}
 use Rattle.value_text.specs.ValueText.{nums_text, target_text}
 use Rattle.history_text.specs.EventWords.{axes_words, nums_words}
@@ -111,14 +111,11 @@ absent_are (z ∷ zs) h =
     let others : zs ≡ replicate (length zs) absent = absent_are zs both.1 in
     ap (λ x. x ∷ zs) first ∙ ap (λ xs. absent ∷ xs) others
 
-absent_six : (zs : List ℤ) → are_absent zs ≡ true → zs ≡ absent_axes
-absent_six zs h =
-    let both = and_parts (length zs == 6) (list_all is_absent zs) h in
-    absent_are zs both.1 ∙ ap (λ n. replicate n absent) (eqb-true (length zs) 6 both.0)
-
-pub place_again : (place : Joints) (rest : List ℕ) → AreNums 12 place.axis → is_position place ≡ true → Stops ends_num rest → place_at (axes_words place ++ rest) ≡ Some (place, rest)
+pub place_again : (place : Joints) (rest : List ℕ) → AreNums 12 place.axis → is_position 6 place ≡ true → Stops ends_num rest → place_at (axes_words place ++ rest) ≡ Some (place, rest)
 unfolding place_at
 place_again place rest h position stops =
-    let none : drop 6 place.axis ≡ absent_axes = absent_six (drop 6 place.axis) (and_parts (is_reachable place) (are_absent (drop 6 place.axis)) position).1 in
-    let whole : take 6 place.axis ++ absent_axes ≡ place.axis = ap (λ axes. take 6 place.axis ++ axes) (sym none) ∙ take-append-drop 6 place.axis in
+    let outside : list_all is_absent (drop 6 place.axis) ≡ true =
+    (and_parts (length place.axis == 12 && is_reachable 6 place) (list_all is_absent (drop 6 place.axis)) position).1 in
+    let none : drop 6 place.axis ≡ absent_axes 6 = absent_are (drop 6 place.axis) outside ∙ ap (λ n. replicate n absent) (last_six place.axis h).count in
+    let whole : take 6 place.axis ++ absent_axes 6 ≡ place.axis = ap (λ axes. take 6 place.axis ++ axes) (sym none) ∙ take-append-drop 6 place.axis in
     rw (words_again 5 (take 6 place.axis) rest (first_six place.axis h) stops) (ap (λ axis. Some (joints_of axis, rest)) whole)

@@ -5,6 +5,7 @@ use Rattle.std.proofs.lemmas.Bool.Decides.{nat_tests}
 use Rattle.std.proofs.lemmas.List.Concat.{flat_map-cons}
 use Rattle.std.specs.List.{flat_map}
 use Rattle.std.specs.Prelude.{codes, not, ◌==◌}
+use Rattle.rapid_limits.specs.declared.TheConstants.{LONGEST_STRING}
 use Rattle.rapid_model.specs.Printable.{ArePrintable, takes}
 use Rattle.rapid_num.specs.Characters.{is_printable}
 use Rattle.value_text.specs.ValueText.{quoted_byte, quoted_text}
@@ -41,7 +42,7 @@ unfolding character_at
 end_again [] stops = refl
 end_again (c ∷ cs) stops = let other : (c == 34) ≡ false = grind (arith, nat_tests) in rw other refl
 
-characters_again : (steps : ℕ) (so_far text rest : List ℕ) → ArePrintable text → length so_far + length text ≤ 80 → length text < steps → Stops no_quote rest
+characters_again : (steps : ℕ) (so_far text rest : List ℕ) → ArePrintable text → length so_far + length text ≤ LONGEST_STRING → length text < steps → Stops no_quote rest
     → characters_at steps so_far (flat_map quoted_byte text ++ 34 ∷ rest) ≡ Some (so_far ++ text, rest)
 unfolding characters_at
 characters_again zero so_far text rest printable room few stops = absurd (omega arith)
@@ -51,7 +52,7 @@ characters_again (suc steps) so_far (x ∷ xs) rest printable room few stops =
     let tail = flat_map quoted_byte xs ++ 34 ∷ rest in
     let regrouped : flat_map quoted_byte (x ∷ xs) ++ 34 ∷ rest ≡ quoted_byte x ++ tail =
     ap (λ w. w ++ 34 ∷ rest) (flat_map-cons quoted_byte x xs) ∙ append_assoc (quoted_byte x) (flat_map quoted_byte xs) (34 ∷ rest) in
-    let taken : takes 80 so_far x ≡ true = grind (arith, nat_tests) in
+    let taken : takes LONGEST_STRING so_far x ≡ true = grind (arith, nat_tests) in
     let more = characters_again steps (so_far ++ x ∷ []) xs rest printable.1 (omega (arith, length-append so_far (x ∷ []))) (omega arith) stops in
     let step : characters_at (suc steps) so_far (quoted_byte x ++ tail) ≡ Some ((so_far ++ x ∷ []) ++ xs, rest) = rw (character_again x tail, taken) more in
     ap (characters_at (suc steps) so_far) regrouped ∙ step ∙ ap (λ w. Some (w, rest)) (append_assoc so_far (x ∷ []) xs)
@@ -60,4 +61,4 @@ pub quoted_again : (text rest : List ℕ) → IsText text → Stops no_quote res
 unfolding quoted_at
 quoted_again text rest fits stops =
     let regrouped : quoted_text text ++ rest ≡ codes "\"" ++ (flat_map quoted_byte text ++ 34 ∷ rest) = ap (λ w. 34 ∷ w) (append_assoc (flat_map quoted_byte text) (34 ∷ []) rest) in
-    ap quoted_at regrouped ∙ rw (after_word_again (codes "\"") (flat_map quoted_byte text ++ 34 ∷ rest)) (characters_again 81 [] text rest fits.printable (omega (arith, fits.short)) (omega (arith, fits.short)) stops)
+    ap quoted_at regrouped ∙ rw (after_word_again (codes "\"") (flat_map quoted_byte text ++ 34 ∷ rest)) (characters_again (LONGEST_STRING + 1) [] text rest fits.printable (omega (arith, fits.short)) (omega (arith, fits.short)) stops)

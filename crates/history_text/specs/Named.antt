@@ -69,15 +69,15 @@ request_fits names actor (requests.TestSet pers path) = has_part names pers path
 request_fits names actor (requests.ReadS signal) = has_signal names signal
 request_fits names actor (requests.WriteS signal value) = has_signal names signal
 request_fits names actor requests.Position = has_task names actor
-request_fits names actor (requests.Setpoint to) = has_task names actor && is_position to
+request_fits names actor (requests.Setpoint to) = has_task names actor && is_position 6 to
 request_fits names actor (requests.Order number on single) = has_watched names on
 request_fits names actor (requests.ZoneTie old temporary shape signal value) = has_signal names signal
 request_fits names actor (requests.End fate) = may_tell fate
 request_fits names actor _ = true
 
--- what answers have to fit: the types of the persistents; any routine may be a trap, and no trap need be over
+-- what answers have to fit: the types of the persistents; any routine may be a trap, and no trap need be over; an arm has six axes
 abbrev pub fitting_by : NamesData → Fitting
-fitting_by names = record { sorts = pers_sort names; traps = λ trap. true; trapped = false }
+fitting_by names = record { sorts = pers_sort names; traps = λ trap. true; trapped = false; axes = 6 }
 
 -- an answer with a number may have any
 abbrev pub with_some_number : Answer → Answer

@@ -3,6 +3,7 @@
 use Rattle.std.specs.Prelude.{ℕ, ◌+◌, ◌-◌, ◌*◌, ℤ, pos, neg_ℤ, Bool, true, false, not, ◌||◌, nat_lt, ◌==◌, if◌then◌else◌, zero, suc, List, [], ◌∷◌, ◌++◌, codes, Option, Some, None}
 use Rattle.std.specs.List.{position_or_len}
 use Rattle.std.specs.Option.{option_and_then}
+use Rattle.rapid_limits.specs.declared.TheConstants.{LONGEST_STRING}
 use Rattle.rapid_num.specs.Arithmetic.{num_of}
 use Rattle.rapid_num.specs.Characters.{is_digit}
 use Rattle.rapid_model.specs.Printable.{takes}
@@ -106,7 +107,7 @@ character_at (b ∷ c ∷ rest) =
 -- a character more, or the end
 abbrev pub with_character : List ℕ → (List ℕ → List ℕ → Option (List ℕ × List ℕ)) → Option ℕ × List ℕ → Option (List ℕ × List ℕ)
 with_character so_far go_on (None, rest) = Some (so_far, rest)
-with_character so_far go_on (Some b, rest) = if takes 80 so_far b then go_on (so_far ++ b ∷ []) rest else None
+with_character so_far go_on (Some b, rest) = if takes LONGEST_STRING so_far b then go_on (so_far ++ b ∷ []) rest else None
 
 -- the characters up to the last quote, after those so far; at most so many steps are made
 unfoldable pub characters_at : ℕ → List ℕ → List ℕ → Option (List ℕ × List ℕ)
@@ -115,7 +116,7 @@ characters_at (suc steps) so_far text = character_at text >>= with_character so_
 
 -- a text in quotes
 unfoldable pub quoted_at : List ℕ → Option (List ℕ × List ℕ)
-quoted_at text = after_word (codes "\"") text >>= (λ rest. characters_at 81 [] rest)
+quoted_at text = after_word (codes "\"") text >>= (λ rest. characters_at (LONGEST_STRING + 1) [] rest)
 
 -- a num after a byte
 unfoldable pub next_num : ℕ → List ℕ → Option (ℤ × List ℕ)

@@ -49,7 +49,7 @@ value_at _ text = None
 
 -- a place of an arm, which has no external axes
 unfoldable pub place_at : List ℕ → Option (Joints × List ℕ)
-place_at text = nums_at 32 5 text >>= (λ s. Some (record { axis = s.0 ++ absent_axes }, s.1))
+place_at text = nums_at 32 5 text >>= (λ s. Some (record { axis = s.0 ++ absent_axes 6 }, s.1))
 
 -- one of six axes: the number of the first one, and the byte that names it
 unfoldable pub axis_at : ℕ → ℕ → List ℕ → Option (PartName × List ℕ)

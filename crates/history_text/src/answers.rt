@@ -4,13 +4,14 @@ ghost use Rattle.history_text.specs.EventWords.{answer_words, zone_name_words};
 use crate::counts::{push_counted, push_two};
 use crate::names::Names;
 use crate::places::push_place;
+use crate::rooms::{ANSWER_BYTES, COUNTED_BYTES, LINE_BYTES};
 use crate::signals::bit_name;
 use arrayvec::ArrayString;
 use rapid_model::{Answer, ZoneName};
 use value_text::{push_value, truth_name};
 
 /// Writes the words of an answer. Takes no memory.
-pub fn answer_words(_names: &Names, answer: &Answer, line: &mut ArrayString<1200>)
+pub fn answer_words(_names: &Names, answer: &Answer, line: &mut ArrayString<LINE_BYTES>)
     requires empty { line.old.bytes ≡ [] }
     ensures { line.new.bytes ≡ answer_words answer.now }
 {
@@ -18,10 +19,10 @@ pub fn answer_words(_names: &Names, answer: &Answer, line: &mut ArrayString<1200
 }
 
 /// Appends the words of an answer.
-pub(crate) fn push_answer(answer: &Answer, line: &mut ArrayString<1200>)
-    requires room { length line.old.bytes + 200 ≤ 1200 }
+pub(crate) fn push_answer(answer: &Answer, line: &mut ArrayString<LINE_BYTES>)
+    requires room { length line.old.bytes + ANSWER_BYTES ≤ LINE_BYTES }
     ensures text { line.new.bytes ≡ line.old.bytes ++ answer_words answer.now }
-    ensures short { length line.new.bytes ≤ length line.old.bytes + 200 }
+    ensures short { length line.new.bytes ≤ length line.old.bytes + ANSWER_BYTES }
 {
     match answer {
         Answer::Ok => line.push_str("Ok"),
@@ -54,10 +55,10 @@ pub(crate) fn push_answer(answer: &Answer, line: &mut ArrayString<1200>)
 }
 
 /// Appends a zone that stopped a move.
-fn push_zone_name(zone: ZoneName, line: &mut ArrayString<1200>)
-    requires room { length line.old.bytes + 29 ≤ 1200 }
+fn push_zone_name(zone: ZoneName, line: &mut ArrayString<LINE_BYTES>)
+    requires room { length line.old.bytes + COUNTED_BYTES ≤ LINE_BYTES }
     ensures text { line.new.bytes ≡ line.old.bytes ++ zone_name_words zone }
-    ensures short { length line.new.bytes ≤ length line.old.bytes + 29 }
+    ensures short { length line.new.bytes ≤ length line.old.bytes + COUNTED_BYTES }
 {
     match zone {
         ZoneName::Own(number) => push_counted("Own ", u32::from(number), line),

@@ -2,14 +2,16 @@ ghost use Rattle.std.specs.Prelude.{◌≡◌, ◌+◌, ◌≤◌, ◌∷◌, �
 ghost use Rattle.rapid_num.specs.NumText.{fixed_text};
 ghost use Rattle.history_text.specs.Lines.{number_words};
 
+use crate::rooms::{AXES_BYTES, LINE_BYTES};
 use arrayvec::ArrayString;
 use rapid_num::{Joints, Num, write_fixed};
+use value_text::NUM_BYTES;
 
 /// Appends axes 1 to 6 in degrees, each after a space.
-pub(crate) fn push_axes(to: &Joints, line: &mut ArrayString<1200>)
-    requires room { length line.old.bytes + 96 ≤ 1200 }
+pub(crate) fn push_axes(to: &Joints, line: &mut ArrayString<LINE_BYTES>)
+    requires room { length line.old.bytes + AXES_BYTES ≤ LINE_BYTES }
     ensures text { line.new.bytes ≡ line.old.bytes ++ number_words (take 6 to.now.axis) }
-    ensures short { length line.new.bytes ≤ length line.old.bytes + 96 }
+    ensures short { length line.new.bytes ≤ length line.old.bytes + AXES_BYTES }
 {
     for axis in &to.axis[..6] {
         push_number(*axis, line);
@@ -17,10 +19,10 @@ pub(crate) fn push_axes(to: &Joints, line: &mut ArrayString<1200>)
 }
 
 /// Appends a space and the number with three decimals.
-fn push_number(number: Num, line: &mut ArrayString<1200>)
-    requires room { length line.old.bytes + 16 ≤ 1200 }
+fn push_number(number: Num, line: &mut ArrayString<LINE_BYTES>)
+    requires room { length line.old.bytes + NUM_BYTES + 1 ≤ LINE_BYTES }
     ensures text { line.new.bytes ≡ line.old.bytes ++ 32 ∷ fixed_text number }
-    ensures short { length line.new.bytes ≤ length line.old.bytes + 16 }
+    ensures short { length line.new.bytes ≤ length line.old.bytes + NUM_BYTES + 1 }
 {
     let mut text = ArrayString::new();
     write_fixed(number, &mut text);

@@ -2,8 +2,10 @@ ghost use Rattle.std.specs.Prelude.{◌≡◌, ◌+◌, ◌≤◌, [], ◌++◌,
 ghost use Rattle.history_text.specs.Lines.{line_of, setpoint_line, text_line, task_name};
 
 use crate::axes::push_axes;
+use crate::rooms::LINE_BYTES;
 use crate::texts::{push_tail, push_text};
 use arrayvec::ArrayString;
+use rapid_limits::LONGEST_NAME;
 use rapid_model::{Answer, Event, Request, Tail, TaskRow, Text};
 use rapid_num::Joints;
 use value_text::push_name;
@@ -11,7 +13,7 @@ use value_text::push_name;
 /// Writes the event's line: for a setpoint that was given `S TASK` and the six axes in degrees with three decimals; for a text
 /// to the operator `T TASK`, a space, the text, and at once its tail. The line stays empty for an event that has none. Takes no
 /// memory.
-pub fn write_event(tasks: &[TaskRow], event: &Event, line: &mut ArrayString<1200>)
+pub fn write_event(tasks: &[TaskRow], event: &Event, line: &mut ArrayString<LINE_BYTES>)
     requires { line.old.bytes ≡ [] }
     ensures { line.new.bytes ≡ line_of tasks.now event.now }
 {
@@ -29,7 +31,13 @@ pub fn write_event(tasks: &[TaskRow], event: &Event, line: &mut ArrayString<1200
 }
 
 /// The line of a text for the operator.
-fn write_text(tasks: &[TaskRow], actor: u32, text: &Text, tail: &Tail, line: &mut ArrayString<1200>)
+fn write_text(
+    tasks: &[TaskRow],
+    actor: u32,
+    text: &Text,
+    tail: &Tail,
+    line: &mut ArrayString<LINE_BYTES>,
+)
     requires { line.old.bytes ≡ [] }
     ensures { line.new.bytes ≡ text_line (task_name tasks.now actor) text.now tail.now }
 {
@@ -42,7 +50,7 @@ fn write_text(tasks: &[TaskRow], actor: u32, text: &Text, tail: &Tail, line: &mu
 }
 
 /// The line of a setpoint that was given.
-fn write_setpoint(tasks: &[TaskRow], actor: u32, to: &Joints, line: &mut ArrayString<1200>)
+fn write_setpoint(tasks: &[TaskRow], actor: u32, to: &Joints, line: &mut ArrayString<LINE_BYTES>)
     requires { line.old.bytes ≡ [] }
     ensures { line.new.bytes ≡ setpoint_line (task_name tasks.now actor) to.now }
 {
@@ -53,10 +61,10 @@ fn write_setpoint(tasks: &[TaskRow], actor: u32, to: &Joints, line: &mut ArraySt
 }
 
 /// Appends the name of a task, and nothing where there is no such task.
-fn push_task(tasks: &[TaskRow], actor: u32, line: &mut ArrayString<1200>)
-    requires room { length line.old.bytes + 32 ≤ 1200 }
+fn push_task(tasks: &[TaskRow], actor: u32, line: &mut ArrayString<LINE_BYTES>)
+    requires room { length line.old.bytes + LONGEST_NAME ≤ LINE_BYTES }
     ensures text { line.new.bytes ≡ line.old.bytes ++ task_name tasks.now actor }
-    ensures short { length line.new.bytes ≤ length line.old.bytes + 32 }
+    ensures short { length line.new.bytes ≤ length line.old.bytes + LONGEST_NAME }
 {
     if let Some(row) = tasks.get(actor as usize) {
         push_name(&row.name, line);

@@ -1,12 +1,13 @@
 ghost use Rattle.std.specs.Prelude.{◌≡◌, ◌+◌, ◌≤◌, ◌++◌, [], length};
 ghost use Rattle.history_text.specs.Lines.{fate_line, fate_words, fault_name, fault_words};
 
+use crate::rooms::{FATE_BYTES, FAULT_BYTES, LINE_BYTES, NAME_BYTES};
 use arrayvec::ArrayString;
 use rapid_model::{Fate, Fault, NameText};
 use value_text::{push_count, push_name};
 
 /// Writes `E TASK FATE`: Done, Exit, Held, Cut, or Fault and the fault's name, for Unhandled also its number. Takes no memory.
-pub fn write_fate(name: &NameText, fate: &Fate, line: &mut ArrayString<1200>)
+pub fn write_fate(name: &NameText, fate: &Fate, line: &mut ArrayString<LINE_BYTES>)
     requires { line.old.bytes ≡ [] }
     ensures { line.new.bytes ≡ fate_line name.now fate.now }
 {
@@ -18,10 +19,10 @@ pub fn write_fate(name: &NameText, fate: &Fate, line: &mut ArrayString<1200>)
 }
 
 /// Appends how a fate is written.
-pub(crate) fn push_fate(fate: Fate, line: &mut ArrayString<1200>)
-    requires room { length line.old.bytes + 64 ≤ 1200 }
+pub(crate) fn push_fate(fate: Fate, line: &mut ArrayString<LINE_BYTES>)
+    requires room { length line.old.bytes + FATE_BYTES ≤ LINE_BYTES }
     ensures text { line.new.bytes ≡ line.old.bytes ++ fate_words fate }
-    ensures short { length line.new.bytes ≤ length line.old.bytes + 64 }
+    ensures short { length line.new.bytes ≤ length line.old.bytes + FATE_BYTES }
 {
     match fate {
         Fate::Done => line.push_str("Done"),
@@ -36,10 +37,10 @@ pub(crate) fn push_fate(fate: Fate, line: &mut ArrayString<1200>)
 }
 
 /// Appends the fault's name, and the number of an error that was not handled.
-fn push_fault(fault: Fault, line: &mut ArrayString<1200>)
-    requires room { length line.old.bytes + 58 ≤ 1200 }
+fn push_fault(fault: Fault, line: &mut ArrayString<LINE_BYTES>)
+    requires room { length line.old.bytes + FAULT_BYTES ≤ LINE_BYTES }
     ensures text { line.new.bytes ≡ line.old.bytes ++ fault_words fault }
-    ensures short { length line.new.bytes ≤ length line.old.bytes + 58 }
+    ensures short { length line.new.bytes ≤ length line.old.bytes + FAULT_BYTES }
 {
     line.push_str(name_of(fault));
     if let Fault::Unhandled(number) = fault {
@@ -51,7 +52,7 @@ fn push_fault(fault: Fault, line: &mut ArrayString<1200>)
 /// The name of a fault.
 pub(crate) fn name_of(fault: Fault) -> &'static str
     ensures name { result.now ≡ fault_name fault }
-    ensures short { length result.now ≤ 16 }
+    ensures short { length result.now ≤ NAME_BYTES }
 {
     match fault {
         Fault::NumRange => "NumRange",

@@ -7,6 +7,7 @@ ghost use Rattle.history_text.specs.Named.{answer_fits, event_fits, fitting_by, 
 
 use crate::names::Names;
 use crate::part_sorts::{part_sort, pers_sort};
+use rapid_limits::{MOST_AXES, ROBOT_AXES};
 use rapid_model::{Answer, Event, Fate, PartName, Request, Value, Watched, is_value_of};
 use rapid_values::value_is_full;
 
@@ -32,7 +33,8 @@ fn request_fits(names: &Names, actor: u32, request: &Request) -> bool
         Request::ReadS { signal } => has_signal(names, *signal),
         Request::WriteS { signal, .. } => has_signal(names, *signal),
         Request::Position => (actor as usize) < names.tasks.len(),
-        Request::Setpoint { to } => (actor as usize) < names.tasks.len() && to.is_position(),
+        Request::Setpoint { to } => (actor as usize) < names.tasks.len()
+            && to.is_position(ROBOT_AXES),
         Request::Order { on, .. } => has_watched(names, *on),
         Request::ZoneTie { signal, .. } => has_signal(names, *signal),
         Request::End { fate } => may_tell(*fate),
@@ -72,7 +74,7 @@ fn is_part(part: PartName) -> bool
     ensures { result ≡ is_part part }
 {
     match part {
-        PartName::Axis(number) => number < 12,
+        PartName::Axis(number) => (number as usize) < MOST_AXES,
         PartName::SpeedPart(number) => number < 4,
         _ => true,
     }
@@ -123,7 +125,7 @@ fn answer_fits(names: &Names, request: &Request, answer: &Answer) -> bool
         Request::ReadS { .. } => matches!(answer, Answer::Bit(_)),
         Request::WriteS { .. } => matches!(answer, Answer::Ok | Answer::Tied),
         Request::Position => match answer {
-            Answer::At(place) => place.is_position(),
+            Answer::At(place) => place.is_position(ROBOT_AXES),
             _ => false,
         },
         Request::Setpoint { .. } => matches!(answer, Answer::Given | Answer::Stopped(_)),

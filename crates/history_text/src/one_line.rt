@@ -14,6 +14,7 @@ use crate::fitting::event_fits;
 use crate::line_reading::{event_at, fate_line_at};
 use crate::names::Names;
 use crate::ranges::{event_is_in_range, fate_is_in_range};
+use crate::rooms::LINE_BYTES;
 use crate::whole_line::line_of;
 use crate::words::after_word;
 use arrayvec::ArrayString;
@@ -27,7 +28,7 @@ pub(crate) fn read_event<'a>(
     done: usize,
     text: &'a [u8],
     events: &mut Vec<Event>,
-    room: &mut ArrayString<1200>,
+    room: &mut ArrayString<LINE_BYTES>,
 ) -> Result<Option<&'a [u8]>, AllocError>
     requires { AreNamed names.now.tasks.now }
     ensures { IfOk result (λ o. ReadsEvent (view_names names.now) done text.now events.old.items events.new.items (option_map (λ x. x.now) o)) }
@@ -54,7 +55,7 @@ fn after_event<'a>(
     names: &Names,
     event: &Event,
     text: &'a [u8],
-    room: &mut ArrayString<1200>,
+    room: &mut ArrayString<LINE_BYTES>,
 ) -> Option<&'a [u8]>
     ensures { option_map (λ x. x.now) result ≡ after_word (event_line names.now.tasks.now event.now) text.now }
 {
@@ -69,7 +70,7 @@ pub(crate) fn read_fate<'a>(
     names: &Names,
     done: usize,
     text: &'a [u8],
-    room: &mut ArrayString<1200>,
+    room: &mut ArrayString<LINE_BYTES>,
 ) -> Option<(Fate, &'a [u8])>
     ensures some { IfSome result (λ x. BeginsFate (view_names names.now) done text.now x.0 x.1.now) }
     ensures none { IfNone result (BeginsNoFate (view_names names.now) done text.now) }
@@ -92,7 +93,7 @@ fn after_fate<'a>(
     name: &NameText,
     fate: Fate,
     text: &'a [u8],
-    room: &mut ArrayString<1200>,
+    room: &mut ArrayString<LINE_BYTES>,
 ) -> Option<&'a [u8]>
     ensures { option_map (λ x. x.now) result ≡ after_word (fate_line name.now fate) text.now }
 {

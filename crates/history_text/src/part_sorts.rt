@@ -8,6 +8,7 @@ ghost use Rattle.history_text.specs.EventReading.{part_value_at, path_sort};
 
 use crate::names::Names;
 use crate::value_reading::value_at;
+use rapid_limits::{MOST_AXES, ROBOT_AXES};
 use rapid_model::{PartName, Path, Sort, Value};
 
 /// A value of the type of a part of a persistent.
@@ -48,9 +49,11 @@ pub(crate) fn part_sort(sort: Sort, part: PartName) -> Option<Sort>
         (_, PartName::Whole) => Some(sort),
         (Sort::JointTarget, PartName::Robax) => Some(Sort::RobJoint),
         (Sort::JointTarget, PartName::Extax) => Some(Sort::ExtJoint),
-        (Sort::JointTarget, PartName::Axis(number)) => num_where(number < 12),
+        (Sort::JointTarget, PartName::Axis(number)) => num_where((number as usize) < MOST_AXES),
         (Sort::RobJoint, PartName::Axis(number)) => num_where(number < 6),
-        (Sort::ExtJoint, PartName::Axis(number)) => num_where(6 <= number && number < 12),
+        (Sort::ExtJoint, PartName::Axis(number)) => num_where(
+            ROBOT_AXES <= number as usize && (number as usize) < MOST_AXES,
+        ),
         (Sort::SpeedData, PartName::SpeedPart(number)) => num_where(number < 4),
         (Sort::Tasks, PartName::Taskname) => Some(Sort::Text),
         _ => None,

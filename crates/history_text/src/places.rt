@@ -4,25 +4,27 @@ ghost use Rattle.std.specs.Prelude.{◌≡◌, ◌+◌, ◌≤◌, ◌∷◌, �
 ghost use Rattle.rapid_num.specs.NumText.{shortest_text};
 ghost use Rattle.history_text.specs.EventWords.{axes_words, nums_words};
 
+use crate::rooms::{AXES_BYTES, LINE_BYTES};
 use arrayvec::ArrayString;
+use rapid_limits::ROBOT_AXES;
 use rapid_num::{Joints, Num};
-use value_text::push_num;
+use value_text::{NUM_BYTES, push_num};
 
 /// Appends axes 1 to 6, with spaces between.
-pub(crate) fn push_place(place: &Joints, line: &mut ArrayString<1200>)
-    requires room { length line.old.bytes + 96 ≤ 1200 }
+pub(crate) fn push_place(place: &Joints, line: &mut ArrayString<LINE_BYTES>)
+    requires room { length line.old.bytes + AXES_BYTES ≤ LINE_BYTES }
     ensures text { line.new.bytes ≡ line.old.bytes ++ axes_words place.now }
-    ensures short { length line.new.bytes ≤ length line.old.bytes + 96 }
+    ensures short { length line.new.bytes ≤ length line.old.bytes + AXES_BYTES }
 {
     push_nums(&place.axis[..6], line);
 }
 
 /// Appends nums, with spaces between.
-fn push_nums(nums: &[Num], line: &mut ArrayString<1200>)
-    requires count { length nums.now ≤ 6 }
-    requires room { length line.old.bytes + 96 ≤ 1200 }
+fn push_nums(nums: &[Num], line: &mut ArrayString<LINE_BYTES>)
+    requires count { length nums.now ≤ ROBOT_AXES }
+    requires room { length line.old.bytes + AXES_BYTES ≤ LINE_BYTES }
     ensures text { line.new.bytes ≡ line.old.bytes ++ nums_words nums.now }
-    ensures short { length line.new.bytes ≤ length line.old.bytes + 96 }
+    ensures short { length line.new.bytes ≤ length line.old.bytes + AXES_BYTES }
 {
     if let [first, more @ ..] = nums {
         push_num(*first, line);
@@ -33,10 +35,10 @@ fn push_nums(nums: &[Num], line: &mut ArrayString<1200>)
 }
 
 /// Appends a space and a num.
-fn push_next(number: Num, line: &mut ArrayString<1200>)
-    requires room { length line.old.bytes + 16 ≤ 1200 }
+fn push_next(number: Num, line: &mut ArrayString<LINE_BYTES>)
+    requires room { length line.old.bytes + NUM_BYTES + 1 ≤ LINE_BYTES }
     ensures text { line.new.bytes ≡ line.old.bytes ++ 32 ∷ shortest_text number }
-    ensures short { length line.new.bytes ≤ length line.old.bytes + 16 }
+    ensures short { length line.new.bytes ≤ length line.old.bytes + NUM_BYTES + 1 }
 {
     line.push(' ');
     push_num(number, line);

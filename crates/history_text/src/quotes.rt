@@ -5,6 +5,7 @@ ghost use Rattle.std.specs.Option.{option_map};
 ghost use Rattle.history_text.specs.Reading.{character_at, characters_at, quoted_at};
 
 use crate::words::after_word;
+use rapid_limits::LONGEST_STRING;
 use rapid_model::Text;
 
 /// The next character of a text in quotes, or none at its end.
@@ -23,7 +24,7 @@ fn character_at(text: &[u8]) -> Option<(Option<u8>, &[u8])>
 
 /// The characters up to the last quote; one more step than a text has room is made.
 #[tactic(auto, using(crate::proofs::Characters::characters_turn, crate::proofs::Characters::characters_end))]
-fn characters_at(text: &[u8], steps: u32) -> Option<(Text, &[u8])>
+fn characters_at(text: &[u8], steps: usize) -> Option<(Text, &[u8])>
     ensures { option_map (λ x. (x.0, x.1.now)) result ≡ characters_at steps [] text.now }
 {
     let mut so_far = Text::new();
@@ -49,5 +50,5 @@ pub(crate) fn quoted_at(text: &[u8]) -> Option<(Text, &[u8])>
     ensures { option_map (λ x. (x.0, x.1.now)) result ≡ quoted_at text.now }
 {
     let rest = after_word(text, b"\"")?;
-    characters_at(rest, 81)
+    characters_at(rest, LONGEST_STRING + 1)
 }

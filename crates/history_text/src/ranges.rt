@@ -5,6 +5,7 @@ ghost use Rattle.std.specs.List.{AllByRecursion};
 ghost use Rattle.history_text.specs.InRange.{AreNums, IsAnswer, IsBound, IsEvent, IsFate, IsFault, IsPartName, IsPath, IsRequest, IsShape, IsTail, IsText, IsU8, IsU16, IsU32, IsValue, IsWatched, IsZoneName};
 ghost use Rattle.rapid_num.specs.Range.{IsNum};
 
+use rapid_limits::MOST_AXES;
 use rapid_model::{
     Answer, Event, Fate, Fault, PartName, Path, Request, Tail, Text, Value, Watched, ZoneName,
 };
@@ -191,7 +192,7 @@ fn shape_is_in_range(shape: &Shape)
     bounds_are_in_range(&shape.bounds);
 }
 
-fn bounds_are_in_range(bounds: &[Option<Bound>; 12])
+fn bounds_are_in_range(bounds: &[Option<Bound>; MOST_AXES])
     ensures count { length bounds.now ≡ 12 }
     ensures range { AllByRecursion IsBound bounds.now }
 {

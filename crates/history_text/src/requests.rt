@@ -6,6 +6,10 @@ use crate::fate_line::push_fate;
 use crate::names::Names;
 use crate::paths::push_path;
 use crate::places::push_place;
+use crate::rooms::{
+    AT_BYTES, FRONT_BYTES, LINE_BYTES, ORDER_BYTES, REQUEST_BYTES, SAID_BYTES, SINGLE_BYTES,
+    TAIL_BYTES, WRITTEN_BYTES,
+};
 use crate::shapes::push_zone;
 use crate::signals::{push_set, push_signal, push_watched};
 use arrayvec::ArrayString;
@@ -13,7 +17,7 @@ use rapid_model::{Path, Request, Tail, Text, Value, Watched};
 use value_text::{push_num, push_value, truth_name};
 
 /// Writes the words of a request. Takes no memory.
-pub fn request_words(_names: &Names, request: &Request, line: &mut ArrayString<1200>)
+pub fn request_words(_names: &Names, request: &Request, line: &mut ArrayString<LINE_BYTES>)
     requires empty { line.old.bytes ≡ [] }
     ensures { line.new.bytes ≡ request_words request.now }
 {
@@ -21,10 +25,10 @@ pub fn request_words(_names: &Names, request: &Request, line: &mut ArrayString<1
 }
 
 /// Appends the words of a request.
-pub(crate) fn push_request(request: &Request, line: &mut ArrayString<1200>)
-    requires room { length line.old.bytes + 449 ≤ 1200 }
+pub(crate) fn push_request(request: &Request, line: &mut ArrayString<LINE_BYTES>)
+    requires room { length line.old.bytes + REQUEST_BYTES ≤ LINE_BYTES }
     ensures text { line.new.bytes ≡ line.old.bytes ++ request_words request.now }
-    ensures short { length line.new.bytes ≤ length line.old.bytes + 449 }
+    ensures short { length line.new.bytes ≤ length line.old.bytes + REQUEST_BYTES }
 {
     match request {
         Request::Look => line.push_str("Look"),
@@ -94,21 +98,21 @@ pub(crate) fn push_request(request: &Request, line: &mut ArrayString<1200>)
 }
 
 /// Appends a word, with a space after it, and a part of a persistent.
-fn push_at(word: &'static str, pers: u32, path: Path, line: &mut ArrayString<1200>)
-    requires short { length word.now ≤ 8 }
-    requires room { length line.old.bytes + 63 ≤ 1200 }
+fn push_at(word: &'static str, pers: u32, path: Path, line: &mut ArrayString<LINE_BYTES>)
+    requires short { length word.now ≤ FRONT_BYTES }
+    requires room { length line.old.bytes + AT_BYTES ≤ LINE_BYTES }
     ensures text { line.new.bytes ≡ line.old.bytes ++ (word.now ++ path_words pers path) }
-    ensures short { length line.new.bytes ≤ length line.old.bytes + 63 }
+    ensures short { length line.new.bytes ≤ length line.old.bytes + AT_BYTES }
 {
     line.push_str(word);
     push_path(pers, path, line);
 }
 
 /// Appends the words of a WriteP.
-fn push_written(pers: u32, path: Path, value: &Value, line: &mut ArrayString<1200>)
-    requires room { length line.old.bytes + 264 ≤ 1200 }
+fn push_written(pers: u32, path: Path, value: &Value, line: &mut ArrayString<LINE_BYTES>)
+    requires room { length line.old.bytes + WRITTEN_BYTES ≤ LINE_BYTES }
     ensures text { line.new.bytes ≡ line.old.bytes ++ request_words (Request.WriteP pers path value.now) }
-    ensures short { length line.new.bytes ≤ length line.old.bytes + 264 }
+    ensures short { length line.new.bytes ≤ length line.old.bytes + WRITTEN_BYTES }
 {
     push_at("WriteP ", pers, path, line);
     line.push(' ');
@@ -116,10 +120,10 @@ fn push_written(pers: u32, path: Path, value: &Value, line: &mut ArrayString<120
 }
 
 /// Appends the words of an Order.
-fn push_order(number: u8, on: Watched, single: bool, line: &mut ArrayString<1200>)
-    requires room { length line.old.bytes + 60 ≤ 1200 }
+fn push_order(number: u8, on: Watched, single: bool, line: &mut ArrayString<LINE_BYTES>)
+    requires room { length line.old.bytes + ORDER_BYTES ≤ LINE_BYTES }
     ensures text { line.new.bytes ≡ line.old.bytes ++ request_words (Request.Order number on single) }
-    ensures short { length line.new.bytes ≤ length line.old.bytes + 60 }
+    ensures short { length line.new.bytes ≤ length line.old.bytes + ORDER_BYTES }
 {
     push_counted("Order ", u32::from(number), line);
     line.push(' ');
@@ -129,16 +133,16 @@ fn push_order(number: u8, on: Watched, single: bool, line: &mut ArrayString<1200
 
 fn single_name(single: bool) -> &'static str
     ensures name { result.now ≡ single_words single }
-    ensures short { length result.now ≤ 7 }
+    ensures short { length result.now ≤ SINGLE_BYTES }
 {
     if single { " Single" } else { "" }
 }
 
 /// Appends the words of a Say.
-fn push_said(text: &Text, tail: &Tail, line: &mut ArrayString<1200>)
-    requires room { length line.old.bytes + 220 ≤ 1200 }
+fn push_said(text: &Text, tail: &Tail, line: &mut ArrayString<LINE_BYTES>)
+    requires room { length line.old.bytes + SAID_BYTES ≤ LINE_BYTES }
     ensures text { line.new.bytes ≡ line.old.bytes ++ request_words (Request.Say text.now tail.now) }
-    ensures short { length line.new.bytes ≤ length line.old.bytes + 220 }
+    ensures short { length line.new.bytes ≤ length line.old.bytes + SAID_BYTES }
 {
     line.push_str("Say ");
     push_value(&Value::Text(text.copy()), line);
@@ -146,10 +150,10 @@ fn push_said(text: &Text, tail: &Tail, line: &mut ArrayString<1200>)
 }
 
 /// Appends what stands after a text, after a space.
-fn push_said_tail(tail: &Tail, line: &mut ArrayString<1200>)
-    requires room { length line.old.bytes + 16 ≤ 1200 }
+fn push_said_tail(tail: &Tail, line: &mut ArrayString<LINE_BYTES>)
+    requires room { length line.old.bytes + TAIL_BYTES ≤ LINE_BYTES }
     ensures text { line.new.bytes ≡ line.old.bytes ++ said_words tail.now }
-    ensures short { length line.new.bytes ≤ length line.old.bytes + 16 }
+    ensures short { length line.new.bytes ≤ length line.old.bytes + TAIL_BYTES }
 {
     match tail {
         Tail::None => {}

@@ -6,6 +6,7 @@ ghost use Rattle.history_text.specs.ValueReading.{bound_at, limits_at, shape_at,
 
 use crate::numbers::num_at;
 use crate::words::after_word;
+use rapid_limits::MOST_AXES;
 use rapid_num::{Bound, Shape};
 
 /// The side, and twelve axes.
@@ -16,9 +17,9 @@ pub(crate) fn shape_at(text: &[u8]) -> Option<(Shape, &[u8])>
     let Some((inside, after_side)) = side_at(text) else {
         return None;
     };
-    let mut bounds = [None; 12];
+    let mut bounds = [None; MOST_AXES];
     let mut rest = after_side;
-    for axis in 0..12 {
+    for axis in 0..MOST_AXES {
         let Some((bound, more)) = bound_at(rest) else {
             return None;
         };

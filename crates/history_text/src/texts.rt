@@ -3,26 +3,28 @@
 ghost use Rattle.std.specs.Prelude.{◌≡◌, ◌+◌, ◌≤◌, ◌++◌, length};
 ghost use Rattle.history_text.specs.Lines.{tail_words};
 
+use crate::rooms::LINE_BYTES;
 use arrayvec::ArrayString;
+use rapid_limits::LONGEST_STRING;
 use rapid_model::{Tail, Text};
 use std::str;
-use value_text::{push_num, truth_name};
+use value_text::{NUM_BYTES, push_num, truth_name};
 
 /// Appends the bytes of a text.
 #[tactic(auto, using(value_text::proofs::Printable::utf8_from_printable))]
-pub(crate) fn push_text(text: &Text, line: &mut ArrayString<1200>)
-    requires room { length line.old.bytes + 80 ≤ 1200 }
+pub(crate) fn push_text(text: &Text, line: &mut ArrayString<LINE_BYTES>)
+    requires room { length line.old.bytes + LONGEST_STRING ≤ LINE_BYTES }
     ensures text { line.new.bytes ≡ line.old.bytes ++ text.now }
-    ensures short { length line.new.bytes ≤ length line.old.bytes + 80 }
+    ensures short { length line.new.bytes ≤ length line.old.bytes + LONGEST_STRING }
 {
     line.push_str(str::from_utf8(text.bytes()).unwrap());
 }
 
 /// Appends what stands after a text: a num without needless digits, or a truth.
-pub(crate) fn push_tail(tail: &Tail, line: &mut ArrayString<1200>)
-    requires room { length line.old.bytes + 15 ≤ 1200 }
+pub(crate) fn push_tail(tail: &Tail, line: &mut ArrayString<LINE_BYTES>)
+    requires room { length line.old.bytes + NUM_BYTES ≤ LINE_BYTES }
     ensures text { line.new.bytes ≡ line.old.bytes ++ tail_words tail.now }
-    ensures short { length line.new.bytes ≤ length line.old.bytes + 15 }
+    ensures short { length line.new.bytes ≤ length line.old.bytes + NUM_BYTES }
 {
     match tail {
         Tail::None => {}

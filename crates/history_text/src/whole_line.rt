@@ -6,14 +6,16 @@ use crate::answers::push_answer;
 use crate::event_line::write_event;
 use crate::names::Names;
 use crate::requests::push_request;
+use crate::rooms::LINE_BYTES;
 use arrayvec::ArrayString;
+use rapid_limits::LONGEST_NAME;
 use rapid_model::{Event, TaskRow};
 use value_text::push_name;
 
 /// Writes the event's line: with `full` the line that each event has, `H ACTOR REQUEST > ANSWER`, where the actor of the input
 /// script is `-`; else the line of a setpoint that was given, or of a text for the operator, and nothing for other events. Takes
 /// no memory.
-pub fn line_of(names: &Names, event: &Event, full: bool, line: &mut ArrayString<1200>)
+pub fn line_of(names: &Names, event: &Event, full: bool, line: &mut ArrayString<LINE_BYTES>)
     requires empty { line.old.bytes ≡ [] }
     ensures { line.new.bytes ≡ (if full then event_line names.now.tasks.now event.now else line_of names.now.tasks.now event.now) }
 {
@@ -25,7 +27,7 @@ pub fn line_of(names: &Names, event: &Event, full: bool, line: &mut ArrayString<
 }
 
 /// Writes the line that each event has.
-fn write_whole(tasks: &[TaskRow], event: &Event, line: &mut ArrayString<1200>)
+fn write_whole(tasks: &[TaskRow], event: &Event, line: &mut ArrayString<LINE_BYTES>)
     requires { line.old.bytes ≡ [] }
     ensures { line.new.bytes ≡ event_line tasks.now event.now }
 {
@@ -39,10 +41,10 @@ fn write_whole(tasks: &[TaskRow], event: &Event, line: &mut ArrayString<1200>)
 }
 
 /// Appends the name of a task, or `-` for the input script.
-fn push_actor(tasks: &[TaskRow], actor: u32, line: &mut ArrayString<1200>)
-    requires room { length line.old.bytes + 32 ≤ 1200 }
+fn push_actor(tasks: &[TaskRow], actor: u32, line: &mut ArrayString<LINE_BYTES>)
+    requires room { length line.old.bytes + LONGEST_NAME ≤ LINE_BYTES }
     ensures text { line.new.bytes ≡ line.old.bytes ++ actor_words tasks.now actor }
-    ensures short { length line.new.bytes ≤ length line.old.bytes + 32 }
+    ensures short { length line.new.bytes ≤ length line.old.bytes + LONGEST_NAME }
 {
     match tasks.get(actor as usize) {
         Some(row) => push_name(&row.name, line),

@@ -3,13 +3,14 @@
 ghost use Rattle.std.specs.Prelude.{◌↔◌, IsTrue};
 ghost use Rattle.joint_clip.specs.Beside.{IsBeside, PassesBeside};
 
+use rapid_limits::MOST_AXES;
 use rapid_num::{Bound, Joints, Num};
 
 /// Whether some named axis is past one and the same bound at both ends of a segment.
-pub(crate) fn passes_beside(p: &Joints, q: &Joints, bounds: &[Option<Bound>; 12]) -> bool
+pub(crate) fn passes_beside(p: &Joints, q: &Joints, bounds: &[Option<Bound>; MOST_AXES]) -> bool
     ensures { IsTrue result ↔ PassesBeside bounds.now p.now q.now }
 {
-    for axis in 0..12 {
+    for axis in 0..MOST_AXES {
         if let Some(bound) = &bounds[axis] {
             if is_beside(p.axis[axis], q.axis[axis], bound) {
                 return true;

@@ -5,6 +5,7 @@ ghost use Rattle.rapid_num.specs.Absent.{is_absent};
 ghost use Rattle.joint_clip.specs.Shapes.{kept_low, kept_high, bound_of, bounds_of, has_no_room, made_shape};
 
 use crate::shape_fault::ShapeFault;
+use rapid_limits::MOST_AXES;
 use rapid_num::{Bound, Joints, Num, Shape};
 
 /// The zone inside or outside the bounds of an arm of so many axes, at most twelve, where 9E9 is no limit: `ExtAxis`
@@ -16,7 +17,7 @@ pub fn make_shape(
     high: &Joints,
     axes: usize,
 ) -> Result<Shape, ShapeFault>
-    requires axes { axes ≤ 12 }
+    requires axes { axes ≤ MOST_AXES }
     ensures { result ≡ made_shape inside low.now high.now axes }
 {
     let bounds = bounds_of(&low.axis, &high.axis);
@@ -31,11 +32,11 @@ pub fn make_shape(
 }
 
 /// The bounds of each axis.
-fn bounds_of(lows: &[Num; 12], highs: &[Num; 12]) -> [Option<Bound>; 12]
+fn bounds_of(lows: &[Num; MOST_AXES], highs: &[Num; MOST_AXES]) -> [Option<Bound>; MOST_AXES]
     ensures { result ≡ bounds_of lows.now highs.now }
 {
-    let mut bounds = [None; 12];
-    for axis in 0..12 {
+    let mut bounds = [None; MOST_AXES];
+    for axis in 0..MOST_AXES {
         bounds[axis] = bound_of(lows[axis], highs[axis]);
     }
     bounds

@@ -3,13 +3,14 @@
 ghost use Rattle.std.specs.Prelude.{◌↔◌, IsTrue};
 ghost use Rattle.joint_clip.specs.Touches.{LiesOutside, SomeFraction, IsBeyond, point_at, way_at};
 
+use rapid_limits::MOST_AXES;
 use rapid_num::{Bound, Joints, Num};
 
 /// Whether a segment has a point where some named axis is past one of its bounds.
-pub(crate) fn passes_outside(p: &Joints, q: &Joints, bounds: &[Option<Bound>; 12]) -> bool
+pub(crate) fn passes_outside(p: &Joints, q: &Joints, bounds: &[Option<Bound>; MOST_AXES]) -> bool
     ensures { IsTrue result ↔ SomeFraction (λ k m. LiesOutside bounds.now (point_at p.now q.now k m) m) }
 {
-    for axis in 0..12 {
+    for axis in 0..MOST_AXES {
         if let Some(bound) = &bounds[axis] {
             if passes_beyond(p.axis[axis], q.axis[axis], bound) {
                 return true;

@@ -14,19 +14,19 @@ zero_angles = angles (pos 0) (pos 0) (pos 0)
 abbrev turned : Joints
 turned = angles (pos 2500) (pos 0) (pos 0)
 
-turned_count : setpoint_count zero_angles turned 1000 ≡ 3
+turned_count : setpoint_count 6 zero_angles turned 1000 ≡ 3
 unfolding greatest_change
 turned_count = refl
 
-turned_first : setpoint zero_angles turned 3 1 ≡ angles (pos 833) (pos 0) (pos 0)
+turned_first : setpoint 6 zero_angles turned 3 1 ≡ angles (pos 833) (pos 0) (pos 0)
 unfolding step_of
 turned_first = refl
 
-turned_second : setpoint zero_angles turned 3 2 ≡ angles (pos 1667) (pos 0) (pos 0)
+turned_second : setpoint 6 zero_angles turned 3 2 ≡ angles (pos 1667) (pos 0) (pos 0)
 unfolding step_of
 turned_second = refl
 
-turned_last : setpoint zero_angles turned 3 3 ≡ turned
+turned_last : setpoint 6 zero_angles turned 3 3 ≡ turned
 unfolding step_of
 turned_last = refl
 
@@ -34,28 +34,40 @@ turned_last = refl
 abbrev halves : Joints
 halves = angles (pos 2000) (pos 1) (negsuc 0)
 
-halves_count : setpoint_count zero_angles halves 1000 ≡ 2
+halves_count : setpoint_count 6 zero_angles halves 1000 ≡ 2
 unfolding greatest_change
 halves_count = refl
 
-halves_first : setpoint zero_angles halves 2 1 ≡ angles (pos 1000) (pos 1) (negsuc 0)
+halves_first : setpoint 6 zero_angles halves 2 1 ≡ angles (pos 1000) (pos 1) (negsuc 0)
 unfolding step_of
 halves_first = refl
 
-halves_last : setpoint zero_angles halves 2 2 ≡ halves
+halves_last : setpoint 6 zero_angles halves 2 2 ≡ halves
 unfolding step_of
 halves_last = refl
 
 -- a move to where the arm is has one setpoint
-still_count : setpoint_count zero_angles zero_angles 1000 ≡ 1
+still_count : setpoint_count 6 zero_angles zero_angles 1000 ≡ 1
 unfolding greatest_change
 still_count = refl
 
-still_only : setpoint zero_angles zero_angles 1 1 ≡ zero_angles
+still_only : setpoint 6 zero_angles zero_angles 1 1 ≡ zero_angles
 unfolding step_of
 still_only = refl
 
 -- external axes stay, whatever the target says of them
-external_stay : setpoint zero_angles (record { axis = pos 2500 ∷ replicate 11 (pos 0) }) 3 3 ≡ turned
+external_stay : setpoint 6 zero_angles (record { axis = pos 2500 ∷ replicate 11 (pos 0) }) 3 3 ≡ turned
 unfolding step_of
 external_stay = refl
+
+-- an arm with seven axes moves the seventh one too, which may need the most setpoints
+abbrev seven : ℤ → ℤ → Joints
+seven a g = record { axis = (a ∷ pos 0 ∷ pos 0 ∷ pos 0 ∷ pos 0 ∷ pos 0 ∷ g ∷ []) ++ replicate 5 (pos 9_000_000_000_000) }
+
+seventh_count : setpoint_count 7 (seven (pos 0) (pos 0)) (seven (pos 1000) (pos 3000)) 1000 ≡ 3
+unfolding greatest_change
+seventh_count = refl
+
+seventh_first : setpoint 7 (seven (pos 0) (pos 0)) (seven (pos 1000) (pos 3000)) 3 1 ≡ seven (pos 333) (pos 1000)
+unfolding step_of
+seventh_first = refl

@@ -1,11 +1,11 @@
 -- One axis more, in a loop over the axes.
-use Rattle.std.proofs.Common.{◌≡◌, ◌<◌, ℕ, zero, suc, max, IsTrue, refl, ap, arith, List, [], ◌∷◌, length, take, get_or, ℤ, pos, nat_abs, ◌+ℤ◌, ◌-ℤ◌, ◌*ℤ◌}
+use Rattle.std.proofs.Common.{◌≡◌, ◌<◌, ◌≤◌, ◌+◌, ℕ, zero, suc, max, IsTrue, refl, ap, arith, List, [], ◌∷◌, length, take, get_or, ℤ, pos, nat_abs, ◌+ℤ◌, ◌-ℤ◌, ◌*ℤ◌}
 use Rattle.std.proofs.Math.ListN.{set}
-use Rattle.std.specs.List.{list_all}
 use Rattle.std.proofs.lemmas.Bool.{and_parts}
 use Rattle.rapid_num.specs.Arithmetic.{rounded_ratio}
-use Rattle.rapid_num.specs.Reach.{is_in_reach}
+use Rattle.rapid_num.specs.Reach.{are_in_reach, is_in_reach}
 use Rattle.joint_planner.specs.Setpoints.{step_of, greatest_change}
+use Rattle.joint_planner.proofs.Setpoints.{reach_small}
 
 pub step_of_more : (k : ℕ) (ps qs : List ℤ) (n j : ℕ) (d e : ℤ) → k < length ps → k < length qs → set (step_of k ps qs n j) k (get_or ps k d +ℤ rounded_ratio ((get_or qs k e -ℤ get_or ps k d) *ℤ pos j) n) ≡ step_of (suc k) ps qs n j
 unfolding step_of
@@ -24,10 +24,11 @@ greatest_change_more (suc k) (p ∷ ps) (q ∷ qs) d e from to =
     let rest = greatest_change_more k ps qs d e (omega arith) (omega arith) in
     omega arith
 
--- each of the first axes is in reach where all of them are
-pub reach_at : (axes k : ℕ) (ps : List ℤ) (d : ℤ) → IsTrue (list_all is_in_reach (take axes ps)) → k < axes → k < length ps → IsTrue (is_in_reach (get_or ps k d))
-reach_at zero k ps d all inside long = absurd (omega arith)
-reach_at (suc axes) k [] d all inside long = absurd (omega arith)
-reach_at (suc axes) zero (p ∷ ps) d all inside long = (and_parts (is_in_reach p) (list_all is_in_reach (take axes ps)) all).0
-reach_at (suc axes) (suc k) (p ∷ ps) d all inside long =
-    reach_at axes k ps d (and_parts (is_in_reach p) (list_all is_in_reach (take axes ps)) all).1 (omega arith) (omega arith)
+-- an axis is within 100,000 degrees where it is one of some that are in reach
+pub reach_at : (axis axes k : ℕ) (ps : List ℤ) (d : ℤ) → IsTrue (are_in_reach axis (take axes ps)) → k < axes → k < length ps → nat_abs (get_or ps k d) ≤ 100_000_000
+reach_at axis zero k ps d all inside long = absurd (omega arith)
+reach_at axis (suc axes) k [] d all inside long = absurd (omega arith)
+reach_at axis (suc axes) zero (p ∷ ps) d all inside long =
+    reach_small axis p (and_parts (is_in_reach axis p) (are_in_reach (axis + 1) (take axes ps)) all).0
+reach_at axis (suc axes) (suc k) (p ∷ ps) d all inside long =
+    reach_at (axis + 1) axes k ps d (and_parts (is_in_reach axis p) (are_in_reach (axis + 1) (take axes ps)) all).1 (omega arith) (omega arith)

@@ -1,1 +1,2 @@
 pub mod Setpoints
+pub mod Caps

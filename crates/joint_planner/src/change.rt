@@ -1,21 +1,20 @@
 ghost use Rattle.std.specs.Prelude.{◌≡◌, ◌≤◌, IsTrue, nat_abs, ◌-ℤ◌};
-ghost use Rattle.joint_planner.specs.Setpoints.{greatest_change, moved_axes};
-ghost use Rattle.rapid_num.specs.Reach.{is_in_reach, is_reachable};
+ghost use Rattle.joint_planner.specs.Setpoints.{greatest_change};
+ghost use Rattle.rapid_num.specs.Reach.{is_reachable};
 
+use rapid_limits::{EXTERNAL_REACH, MOST_AXES};
 use rapid_num::{Joints, Num};
 
-/// How many axes of an arm move.
-pub(crate) const MOVED_AXES: usize = 6;
-
-/// The greatest change of axes 1 to 6, in thousandths of a degree.
-pub(crate) fn greatest_change(start: &Joints, target: &Joints) -> u64
-    requires start { IsTrue (is_reachable start.now) }
-    requires target { IsTrue (is_reachable target.now) }
-    ensures change { result ≡ greatest_change moved_axes start.now.axis target.now.axis }
-    ensures at_most { result ≤ 1_440_000 }
+/// The greatest change of the first axes, so many, in thousandths of a degree.
+pub(crate) fn greatest_change(start: &Joints, target: &Joints, axes: usize) -> u64
+    requires axes { axes ≤ MOST_AXES }
+    requires start { IsTrue (is_reachable axes start.now) }
+    requires target { IsTrue (is_reachable axes target.now) }
+    ensures change { result ≡ greatest_change axes start.now.axis target.now.axis }
+    ensures at_most { result ≤ 200_000_000 }
 {
     let mut greatest = 0;
-    for k in 0..MOVED_AXES {
+    for k in 0..axes {
         greatest = change_of(start.axis[k], target.axis[k]).max(greatest);
     }
     greatest
@@ -23,10 +22,10 @@ pub(crate) fn greatest_change(start: &Joints, target: &Joints) -> u64
 
 /// How far an axis moves, either way.
 fn change_of(start: Num, target: Num) -> u64
-    requires start { IsTrue (is_in_reach start) }
-    requires target { IsTrue (is_in_reach target) }
+    requires start { nat_abs start ≤ EXTERNAL_REACH }
+    requires target { nat_abs target ≤ EXTERNAL_REACH }
     ensures change { result ≡ nat_abs (target -ℤ start) }
-    ensures at_most { result ≤ 1_440_000 }
+    ensures at_most { result ≤ 200_000_000 }
 {
     (target.thousandths() - start.thousandths()).unsigned_abs()
 }

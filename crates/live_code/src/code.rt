@@ -1,61 +1,29 @@
-ghost use Rattle.std.specs.Prelude.{◌≡◌};
+ghost use Rattle.std.specs.Prelude.{◌≡◌, ◌≤◌};
 ghost use Rattle.stack_code.specs.Firsts.{in_full};
 
+use rapid_limits::MOST_AXES;
 use rapid_model::NameText;
-use stack_code::{FirstRun, Marks, Op, PersSort, RoutineRow};
+use stack_code::{FirstRun, LinkedCode, Marks, Op, PersSort, RoutineRow};
 use std::marker::Model;
 use typed_trees::Datum;
 
-/// The code of a task: its operations and routines, what error recovery needs, the first values of module data and of
-/// frames, the names of all tasks of the script, the types of the task's persistents in the order of its tree, the most
-/// operands that a frame has, and the number of `main`. Contracts see it as plain data. It keeps that the code is live (after
-/// whatever answers fit step by step it comes to a request, or has ended), that the owners tile the operations in order, and
-/// that there are fewer than 2^32 operations, and as few module data.
+/// The code of a task. Contracts see it as plain data. It keeps that the code is live (after whatever answers fit step by step
+/// it comes to a request, or has ended), that the owners tile the operations in order, that there are fewer than 2^32
+/// operations, and as few module data, and that the arm has 6 to 12 axes, or none where there is no arm.
 #[derive(Drop)]
 pub struct Code {
-    pub ops: Vec<Op>,
-    pub routines: Vec<RoutineRow>,
-    pub marks: Marks,
-    pub slots: Vec<Datum>,
-    pub firsts: Vec<FirstRun>,
-    pub tasks: Vec<NameText>,
-    pub sorts: Vec<PersSort>,
-    pub deepest: u32,
-    pub main: u32,
+    pub linked: LinkedCode,
 }
 
 impl Model for Code {
     ghost use Rattle.stack_code.specs.CodeData.{CodeData};
-    ghost use Rattle.stack_code.specs.Firsts.{in_full};
     ghost use Rattle.live_code.specs.IsCode.{IsCode};
 
     ghost Value = { CodeData };
 
-    ghost view = { λ c. record {
-      ops = c.ops.items;
-      routines = c.routines.items;
-      owners = c.marks.owners.items;
-      handlers = c.marks.handlers.items;
-      slots = c.slots.items;
-      firsts = in_full c.firsts.items;
-      tasks = c.tasks.items;
-      sorts = c.sorts.items;
-      deepest = c.deepest;
-      main = c.main;
-    } };
+    ghost view = { λ c. c.linked };
 
-    ghost invariant = { λ c. IsCode (record {
-      ops = c.ops.items;
-      routines = c.routines.items;
-      owners = c.marks.owners.items;
-      handlers = c.marks.handlers.items;
-      slots = c.slots.items;
-      firsts = in_full c.firsts.items;
-      tasks = c.tasks.items;
-      sorts = c.sorts.items;
-      deepest = c.deepest;
-      main = c.main;
-    }) };
+    ghost invariant = { λ c. IsCode c.linked };
 }
 
 impl Code {
@@ -63,14 +31,14 @@ impl Code {
     pub fn ops(&self) -> &[Op]
         ensures { result.now ≡ self.now.ops }
     {
-        &self.ops
+        &self.linked.ops
     }
 
     /// The routines.
     pub fn routines(&self) -> &[RoutineRow]
         ensures { result.now ≡ self.now.routines }
     {
-        &self.routines
+        &self.linked.routines
     }
 
     /// What error recovery needs.
@@ -78,48 +46,56 @@ impl Code {
         ensures owners { result.now.owners.items ≡ self.now.owners }
         ensures handlers { result.now.handlers.items ≡ self.now.handlers }
     {
-        &self.marks
+        &self.linked.marks
     }
 
     /// The first values of the modules' data.
     pub fn slots(&self) -> &[Datum]
         ensures { result.now ≡ self.now.slots }
     {
-        &self.slots
+        &self.linked.slots
     }
 
     /// The first values of frames, run by run.
     pub fn firsts(&self) -> &[FirstRun]
         ensures { in_full result.now ≡ self.now.firsts }
     {
-        &self.firsts
+        &self.linked.firsts
     }
 
     /// The names of all tasks of the script.
     pub fn tasks(&self) -> &[NameText]
         ensures { result.now ≡ self.now.tasks }
     {
-        &self.tasks
+        &self.linked.tasks
     }
 
     /// The types of the task's persistents.
     pub fn sorts(&self) -> &[PersSort]
         ensures { result.now ≡ self.now.sorts }
     {
-        &self.sorts
+        &self.linked.sorts
     }
 
     /// The most operands that a frame has.
     pub fn deepest(&self) -> u32
         ensures { result ≡ self.now.deepest }
     {
-        self.deepest
+        self.linked.deepest
+    }
+
+    /// How many axes the task's arm has: 6 to 12, or 0 where it has none.
+    pub fn axes(&self) -> u8
+        ensures same { result ≡ self.now.axes }
+        ensures few { result ≤ MOST_AXES }
+    {
+        self.linked.axes
     }
 
     /// The number of `main` among the routines.
     pub fn main(&self) -> u32
         ensures { result ≡ self.now.main }
     {
-        self.main
+        self.linked.main
     }
 }

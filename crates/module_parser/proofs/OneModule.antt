@@ -1,6 +1,7 @@
 -- A text comes to one thing: the answers exclude one another, and each of them is one.
 use Rattle.std.proofs.Common.{◌≡◌, ℕ, suc, ◌+◌, Bool, List, length, drop, Result, Ok, Err, sym, ap, subst, ◌∙◌, inl, inr, ◌⊎◌, arith}
 use Rattle.std.proofs.lemmas.List.{take_all}
+use Rattle.rapid_limits.specs.declared.TheConstants.{MOST_LEVELS}
 use Rattle.rapid_lexer.specs.Tokens.{Lexeme}
 use Rattle.rapid_lexer.proofs.Tilings.{one_tiling, one_fault, no_fault}
 use Rattle.raw_trees.specs.Plain.{PlainModule}
@@ -12,7 +13,7 @@ use Rattle.rapid_forms.specs.Parsed.{IsTooDeep, syntax_fault, depth_fault}
 use Rattle.rapid_forms.proofs.Laws.{LL}
 use Rattle.rapid_forms.proofs.Spelled.{fewer, longest_one, longest_deep, deep_once}
 use Rattle.module_parser.specs.Grammar.{«module»}
-use Rattle.module_parser.specs.Modules.{SpellsWithin, IsStuck, Stops, ModuleText, most_levels}
+use Rattle.module_parser.specs.Modules.{SpellsWithin, IsStuck, Stops, ModuleText}
 use Rattle.module_parser.proofs.Ahead.{module_ll}
 use Rattle.module_parser.proofs.Answered.{module_above}
 
@@ -29,13 +30,13 @@ module _ {A : Type 0} {F : ℕ → Form A} {n : ℕ} {ts : List Lexeme} where
 
 stops_once : (end : ℕ) (ts : List Lexeme) (f g : SyntaxFault) → Stops end ts f → Stops end ts g → f ≡ g
 stops_once end ts f g (inl (j, h, e)) (inl (k, h', e')) = e ∙ ap (λ i. syntax_fault end (drop i ts)) (stuck_once h h') ∙ sym e'
-stops_once end ts f g (inl (j, h, e)) (inr (k, d, e')) = absurd (stuck_deep (module_ll most_levels) h d)
-stops_once end ts f g (inr (j, d, e)) (inl (k, h, e')) = absurd (stuck_deep (module_ll most_levels) h d)
-stops_once end ts f g (inr (j, d, e)) (inr (k, d', e')) = e ∙ ap (λ i. depth_fault end (drop i ts)) (deep_once (module_ll most_levels) d d') ∙ sym e'
+stops_once end ts f g (inl (j, h, e)) (inr (k, d, e')) = absurd (stuck_deep (module_ll MOST_LEVELS) h d)
+stops_once end ts f g (inr (j, d, e)) (inl (k, h, e')) = absurd (stuck_deep (module_ll MOST_LEVELS) h d)
+stops_once end ts f g (inr (j, d, e)) (inr (k, d', e')) = e ∙ ap (λ i. depth_fault end (drop i ts)) (deep_once (module_ll MOST_LEVELS) d d') ∙ sym e'
 
-whole_stops : (end : ℕ) (ts : List Lexeme) (x : PlainModule) (f : SyntaxFault) → («module» most_levels).Whole x ts → Stops end ts f → ⊥
-whole_stops end ts x f w (inl (k, h, e)) = h.none x (most_levels, w)
-whole_stops end ts x f w (inr (k, d, e)) = whole_deep (module_ll most_levels) x w d
+whole_stops : (end : ℕ) (ts : List Lexeme) (x : PlainModule) (f : SyntaxFault) → («module» MOST_LEVELS).Whole x ts → Stops end ts f → ⊥
+whole_stops end ts x f w (inl (k, h, e)) = h.none x (MOST_LEVELS, w)
+whole_stops end ts x f w (inr (k, d, e)) = whole_deep (module_ll MOST_LEVELS) x w d
 
 pub one_tree : (m n : ℕ) (t u : PlainModule) (source : List ℕ) → SpellsWithin m t source → SpellsWithin n u source → t ≡ u
 one_tree m n t u source (ts, tiles, w) (us, tiles', w') =
@@ -44,7 +45,7 @@ one_tree m n t u source (ts, tiles, w) (us, tiles', w') =
     ((module_above n (m + n) (omega arith)).whole u us w')
 
 pub one_module : (source : List ℕ) (a b : Result PlainModule SyntaxFault) → ModuleText source a → ModuleText source b → a ≡ b
-one_module source (Ok t) (Ok u) h h' = ap (λ x. Ok x) (one_tree most_levels most_levels t u source h h')
+one_module source (Ok t) (Ok u) h h' = ap (λ x. Ok x) (one_tree MOST_LEVELS MOST_LEVELS t u source h h')
 one_module source (Ok t) (Err (Lex f)) (ts, tiles, w) h = absurd (no_fault source ts f tiles h)
 one_module source (Ok t) (Err (Rule rule at)) (ts, tiles, w) (us, tiles', s) =
     absurd (whole_stops (length source) ts t (Rule rule at) w (subst (λ l. Stops (length source) l (Rule rule at)) (one_tiling source us ts tiles' tiles) s))

@@ -2,6 +2,7 @@
 use Rattle.std.proofs.Common.{◌≡◌, ℕ, ◌≤◌, ◌<◌, Bool, List, [], length, take, drop, Bor, Result, Ok, Err, refl, sym, ap, subst, ◌∙◌, inl, inr, ◌⊎◌, arith}
 use Rattle.std.proofs.lemmas.Bool.{cases_lt}
 use Rattle.std.proofs.lemmas.List.{append-nil, length-drop, length-map, take_all, drop_all}
+use Rattle.rapid_limits.specs.declared.TheConstants.{MOST_LEVELS}
 use Rattle.rapid_lexer.specs.declared.token.Token.{Token}
 use Rattle.rapid_lexer.specs.Tokens.{Lexeme, Tiles, views}
 use Rattle.rapid_lexer.specs.Tokens.{view as lexeme}
@@ -20,7 +21,7 @@ use Rattle.rapid_forms.proofs.Right.{Right, IsRead}
 use Rattle.rapid_forms.proofs.Spelled.{Answers, reads_answer}
 use Rattle.module_parser.specs.Grammar.{«module»}
 use Rattle.module_parser.specs.Reads.{module_read}
-use Rattle.module_parser.specs.Modules.{IsStuck, Stops, ModuleText, most_levels}
+use Rattle.module_parser.specs.Modules.{IsStuck, Stops, ModuleText}
 use Rattle.module_parser.proofs.Ahead.{module_ll}
 use Rattle.module_parser.proofs.Answered.{module_above, module_reads}
 
@@ -60,19 +61,19 @@ module _ {A : Type 0} {F : ℕ → Form A} {n : ℕ} {null : Bool} {first more :
   )
 
 module _ (source : List ℕ) (ts : List Lexeme) (tiles : Tiles source ts) where
-  answer : (read : Read PlainModule) → module_read most_levels ts ≡ read → Answers «module» most_levels ts read
-  answer read e = subst (Answers «module» most_levels ts) e (reads_answer (module_reads most_levels) module_ll module_above ts)
+  answer : (read : Read PlainModule) → module_read MOST_LEVELS ts ≡ read → Answers «module» MOST_LEVELS ts read
+  answer read e = subst (Answers «module» MOST_LEVELS ts) e (reads_answer (module_reads MOST_LEVELS) module_ll module_above ts)
 
-  text_spells : (x : PlainModule) (rest : List Lexeme) → module_read most_levels ts ≡ Ok (x, rest) → rest ≡ [] → ModuleText source (Ok x)
+  text_spells : (x : PlainModule) (rest : List Lexeme) → module_read MOST_LEVELS ts ≡ Ok (x, rest) → rest ≡ [] → ModuleText source (Ok x)
   text_spells x rest e none =
-      (ts, tiles, all_read (subst (λ l. IsRead «module» most_levels ts x l) none (subst (Right «module» most_levels ts) e ((module_reads most_levels).right ts))))
+      (ts, tiles, all_read (subst (λ l. IsRead «module» MOST_LEVELS ts x l) none (subst (Right «module» MOST_LEVELS ts) e ((module_reads MOST_LEVELS).right ts))))
 
-  text_left : (x : PlainModule) (rest : List Lexeme) → module_read most_levels ts ≡ Ok (x, rest) → 0 < length rest → ModuleText source (Err (syntax_fault (length source) rest))
+  text_left : (x : PlainModule) (rest : List Lexeme) → module_read MOST_LEVELS ts ≡ Ok (x, rest) → 0 < length rest → ModuleText source (Err (syntax_fault (length source) rest))
   text_left x rest e some =
       let (k, h, at) = left_stuck module_ll ts x rest some (answer (Ok (x, rest)) e) in
       (ts, tiles, inl (k, h, ap (syntax_fault (length source)) at))
 
-  halted : (halt : Halt) (fault : SyntaxFault) → module_read most_levels ts ≡ Err halt → fault ≡ fault_of (length source) halt → Stops (length source) ts fault
+  halted : (halt : Halt) (fault : SyntaxFault) → module_read MOST_LEVELS ts ≡ Err halt → fault ≡ fault_of (length source) halt → Stops (length source) ts fault
   halted (Fails rest) fault e is =
       let (k, h, at) = fails_stuck module_ll ts rest (answer (Err (Fails rest)) e) in
       inl (k, h, is ∙ ap (syntax_fault (length source)) at)
@@ -91,17 +92,17 @@ module _ (source : List ℕ) (list : Bor (List Token)) (items : List Token) (sam
   tiled : Tiles source (views list.now)
   tiled = subst (λ l. Tiles source (views l)) (sym same) tiles
 
-  pub text_whole : (tree : RawModule) (next : ℕ) → length items ≤ next → Gives all_tokens view_module (Ok (tree, next)) (module_read most_levels (rest_from all_tokens 0)) → ModuleText source (Ok (view_module tree))
+  pub text_whole : (tree : RawModule) (next : ℕ) → length items ≤ next → Gives all_tokens view_module (Ok (tree, next)) (module_read MOST_LEVELS (rest_from all_tokens 0)) → ModuleText source (Ok (view_module tree))
   text_whole tree next le g =
       text_spells source (views list.now) tiled (view_module tree) (rest_from all_tokens next) g
       (drop_all next (views list.now) (omega (arith, ap length same, length-map list.now lexeme)))
 
-  pub text_more : (tree : RawModule) (next : ℕ) (fault : SyntaxFault) → next < length items → Gives all_tokens view_module (Ok (tree, next)) (module_read most_levels (rest_from all_tokens 0)) → fault ≡ syntax_fault (length source) (rest_from all_tokens next) → ModuleText source (Err fault)
+  pub text_more : (tree : RawModule) (next : ℕ) (fault : SyntaxFault) → next < length items → Gives all_tokens view_module (Ok (tree, next)) (module_read MOST_LEVELS (rest_from all_tokens 0)) → fault ≡ syntax_fault (length source) (rest_from all_tokens next) → ModuleText source (Err fault)
   text_more tree next fault less g e =
       subst (λ f. ModuleText source (Err f)) (sym e)
       (text_left source (views list.now) tiled (view_module tree) (rest_from all_tokens next) g (omega (arith, ap length same, length-map list.now lexeme, length-drop next (views list.now))))
 
-  pub text_fails : (T : Type 0) (fault : SyntaxFault) → Gives all_tokens (λ (x : PlainModule). x) (Err fault) (module_read most_levels (rest_from all_tokens 0)) → (failed T fault ≡ failed T Memory) ⊎ ModuleText source (Err fault)
+  pub text_fails : (T : Type 0) (fault : SyntaxFault) → Gives all_tokens (λ (x : PlainModule). x) (Err fault) (module_read MOST_LEVELS (rest_from all_tokens 0)) → (failed T fault ≡ failed T Memory) ⊎ ModuleText source (Err fault)
   text_fails T (Rule rule at) (halt, e, is) = inr (views list.now, tiled, halted source (views list.now) tiled halt (Rule rule at) e is)
   text_fails T (Lex f) (Fails rest, e, is) = cc
   text_fails T (Lex f) (Deep rest, e, is) = cc

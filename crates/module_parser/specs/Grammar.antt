@@ -15,8 +15,8 @@
 use Rattle.std.specs.Prelude.{ℕ, true, false, is_some, List, [], ◌∷◌, Option, None, Some}
 use Rattle.rapid_lexer.specs.Tokens.{Lexeme}
 use Rattle.raw_trees.specs.declared.raw_module.Attribute.{Attribute}
-use Rattle.raw_trees.specs.declared.raw_routine.RoutineKind.TheVariants as kinds
-use Rattle.raw_trees.specs.declared.raw_routine.Mode.TheVariants as modes
+use Rattle.rapid_model.specs.declared.routine_kind.RoutineKind.TheVariants as kinds
+use Rattle.rapid_model.specs.declared.mode.Mode.TheVariants as modes
 use Rattle.raw_trees.specs.Plain.{PlainName, PlainExpr, PlainStmt, PlainDatum, PlainParam, PlainItem, PlainModule, Datum, Routine}
 use Rattle.rapid_forms.specs.declared.sign.Sign.{Sign}
 use Rattle.rapid_forms.specs.declared.sign.Sign.TheVariants as signs

@@ -1,5 +1,6 @@
 -- What a module's text spells, and where it is refused.
 use Rattle.std.specs.Prelude.{◌≡◌, ℕ, List, length, take, drop, Result, Ok, Err, ◌⊎◌}
+use Rattle.rapid_limits.specs.declared.TheConstants.{MOST_LEVELS}
 use Rattle.rapid_lexer.specs.Tokens.{Lexeme, Tiles}
 use Rattle.rapid_lexer.specs.Faults.{IsFirstMisfit}
 use Rattle.raw_trees.specs.declared.raw_module.RawModule.{RawModule}
@@ -10,10 +11,6 @@ use Rattle.rapid_forms.specs.declared.fault.SyntaxFault.TheVariants.{Rule, Lex, 
 use Rattle.rapid_forms.specs.Forms.{Form}
 use Rattle.rapid_forms.specs.Parsed.{IsLongest, IsTooDeep, Spells, syntax_fault, depth_fault}
 use Rattle.module_parser.specs.Grammar.{«module»}
-
--- nesting is at most so deep
-abbrev pub most_levels : ℕ
-most_levels = 64
 
 -- the tokens of the whole text are this module, within so many levels
 abbrev pub SpellsWithin : ℕ → PlainModule → List ℕ → Type 0
@@ -29,13 +26,13 @@ pub record IsStuck {A : Type 0} (F : ℕ → Form A) (n : ℕ) (ts : List Lexeme
 -- a level too many
 abbrev pub Stops : ℕ → List Lexeme → SyntaxFault → Type 0
 Stops end ts fault =
-    ((k : ℕ) × IsStuck «module» most_levels ts k × (fault ≡ syntax_fault end (drop k ts)))
-    ⊎ ((k : ℕ) × IsTooDeep «module» most_levels ts k × (fault ≡ depth_fault end (drop k ts)))
+    ((k : ℕ) × IsStuck «module» MOST_LEVELS ts k × (fault ≡ syntax_fault end (drop k ts)))
+    ⊎ ((k : ℕ) × IsTooDeep «module» MOST_LEVELS ts k × (fault ≡ depth_fault end (drop k ts)))
 
 -- What a text comes to: the module that it spells; a lexical fault, which comes first wherever it stands; or a fault of its
 -- tokens.
 abbrev pub ModuleText : List ℕ → Result PlainModule SyntaxFault → Type 0
-ModuleText source (Ok tree) = SpellsWithin most_levels tree source
+ModuleText source (Ok tree) = SpellsWithin MOST_LEVELS tree source
 ModuleText source (Err (Lex f)) = IsFirstMisfit source f
 ModuleText source (Err (Rule rule at)) = (ts : List Lexeme) × Tiles source ts × Stops (length source) ts (Rule rule at)
 ModuleText source (Err Memory) = ⊥

@@ -5,8 +5,8 @@ use Rattle.raw_trees.specs.declared.raw_module.Attribute.{Attribute}
 use Rattle.raw_trees.specs.declared.raw_module.Attribute.TheVariants as attributes
 use Rattle.raw_trees.specs.declared.raw_datum.DatumKind.{DatumKind}
 use Rattle.raw_trees.specs.declared.raw_datum.DatumKind.TheVariants as kinds
-use Rattle.raw_trees.specs.declared.raw_routine.Mode.{Mode}
-use Rattle.raw_trees.specs.declared.raw_routine.Mode.TheVariants as modes
+use Rattle.rapid_model.specs.declared.mode.Mode.{Mode}
+use Rattle.rapid_model.specs.declared.mode.Mode.TheVariants as modes
 use Rattle.rapid_forms.specs.declared.sign.Sign.{Sign}
 use Rattle.rapid_forms.specs.declared.sign.Sign.TheVariants as signs
 use Rattle.rapid_forms.specs.Signs.{has, sign_of}

@@ -7,6 +7,7 @@ ghost use Rattle.module_parser.specs.Reads.{body_read};
 use crate::data::locals;
 use crate::optional::handler_if_any;
 use rapid_forms::{Parser, SyntaxFault};
+use rapid_limits::MOST_LEVELS;
 use raw_trees::{RawDatum, RawStmt};
 use stmt_parser::list;
 
@@ -24,10 +25,10 @@ pub(crate) fn routine_body<'a>(
     p: &Parser<'_, 'a>,
     at: usize,
 ) -> Result<(Body<'a>, usize), SyntaxFault>
-    ensures { Gives p.now.tokens view_body result (body_read 64 (rest_from p.now.tokens at)) }
+    ensures { Gives p.now.tokens view_body result (body_read MOST_LEVELS (rest_from p.now.tokens at)) }
 {
     let (locals, next) = locals(p, at)?;
-    let (list, after) = list(p, next, 64)?;
+    let (list, after) = list(p, next, MOST_LEVELS)?;
     let (handler, end) = handler_if_any(p, after)?;
     let body = Body {
         locals,

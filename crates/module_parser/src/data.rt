@@ -9,6 +9,7 @@ use crate::optional::{length_if_any, value_if_any};
 use crate::words::kind_of;
 use expr_parser::name;
 use rapid_forms::{Parser, Sign, SyntaxFault};
+use rapid_limits::MOST_LEVELS;
 use raw_trees::RawDatum;
 
 /// A datum that one of these words declares.
@@ -18,7 +19,7 @@ pub(crate) fn datum<'a>(
     at: usize,
     words: &[Sign],
 ) -> Result<(RawDatum<'a>, usize), SyntaxFault>
-    ensures { Gives p.now.tokens view_datum result (datum_read words.now 64 (rest_from p.now.tokens at)) }
+    ensures { Gives p.now.tokens view_datum result (datum_read words.now MOST_LEVELS (rest_from p.now.tokens at)) }
 {
     let (word, next) = p.tokens.take(at, words)?;
     let (sort, second) = name(p, next)?;
@@ -43,7 +44,7 @@ pub(crate) fn locals<'a>(
     p: &Parser<'_, 'a>,
     at: usize,
 ) -> Result<(Vec<RawDatum<'a>>, usize), SyntaxFault>
-    ensures { Gives p.now.tokens (λ v. map view_datum v.items) result (locals_read 64 (rest_from p.now.tokens at)) }
+    ensures { Gives p.now.tokens (λ v. map view_datum v.items) result (locals_read MOST_LEVELS (rest_from p.now.tokens at)) }
 {
     let mut list = Vec::new(p.alloc);
     let mut next = at;

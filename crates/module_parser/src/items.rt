@@ -14,14 +14,16 @@ use crate::params::params;
 use expr_parser::name;
 use rapid_forms::{Parser, Sign, SyntaxFault};
 use rapid_lexer::Token;
-use raw_trees::{RawItem, RawRoutine, RoutineKind};
+use rapid_limits::MOST_LEVELS;
+use rapid_model::RoutineKind;
+use raw_trees::{RawItem, RawRoutine};
 
 static DATUM_SIGNS: [Sign; 3] = [Sign::Const, Sign::Var, Sign::Pers];
 
 /// An item.
 #[tactic(auto, unfolding(crate::specs::Reads::item_read, rapid_forms::specs::Reading::either_read, rapid_forms::specs::Reading::made_read, rapid_forms::specs::Reading::seq_read, rapid_forms::specs::Reading::then_read))]
 pub(crate) fn item<'a>(p: &Parser<'_, 'a>, at: usize) -> Result<(RawItem<'a>, usize), SyntaxFault>
-    ensures { Gives p.now.tokens view_item result (item_read 64 (rest_from p.now.tokens at)) }
+    ensures { Gives p.now.tokens view_item result (item_read MOST_LEVELS (rest_from p.now.tokens at)) }
 {
     if p.tokens.sees(at, &[Sign::Task]) {
         return task(p, at);
@@ -33,7 +35,7 @@ pub(crate) fn item<'a>(p: &Parser<'_, 'a>, at: usize) -> Result<(RawItem<'a>, us
 /// A persistent that each task has for itself.
 #[tactic(auto, unfolding(crate::specs::Reads::task_read, rapid_forms::specs::Reading::made_read, rapid_forms::specs::Reading::seq_read, rapid_forms::specs::Reading::then_read))]
 fn task<'a>(p: &Parser<'_, 'a>, at: usize) -> Result<(RawItem<'a>, usize), SyntaxFault>
-    ensures { Gives p.now.tokens view_item result (task_read 64 (rest_from p.now.tokens at)) }
+    ensures { Gives p.now.tokens view_item result (task_read MOST_LEVELS (rest_from p.now.tokens at)) }
 {
     let (_word, next) = p.tokens.take(at, &[Sign::Task])?;
     let (datum, end) = datum(p, next, &[Sign::Pers])?;
@@ -68,7 +70,7 @@ fn behind_local<'a>(
     byte: usize,
     at: usize,
 ) -> Result<(RawItem<'a>, usize), SyntaxFault>
-    ensures { Gives p.now.tokens view_item result (then_read (behind_local_read 64 (rest_from p.now.tokens at)) (λ x rest. Ok (local_tree byte (option_map view local.entry, x), rest))) }
+    ensures { Gives p.now.tokens view_item result (then_read (behind_local_read MOST_LEVELS (rest_from p.now.tokens at)) (λ x rest. Ok (local_tree byte (option_map view local.entry, x), rest))) }
 {
     if p.tokens.sees(at, &DATUM_SIGNS) {
         return local_datum(p, local, byte, at);
@@ -96,7 +98,7 @@ fn local_datum<'a>(
     byte: usize,
     at: usize,
 ) -> Result<(RawItem<'a>, usize), SyntaxFault>
-    ensures { Gives p.now.tokens view_item result (then_read (datum_read datum_signs 64 (rest_from p.now.tokens at)) (λ x rest. Ok (datum_item byte (option_map view local.entry, x), rest))) }
+    ensures { Gives p.now.tokens view_item result (then_read (datum_read datum_signs MOST_LEVELS (rest_from p.now.tokens at)) (λ x rest. Ok (datum_item byte (option_map view local.entry, x), rest))) }
 {
     let (datum, end) = datum(p, at, &DATUM_SIGNS)?;
     let item = RawItem::Datum {
@@ -115,7 +117,7 @@ fn procedure<'a>(
     byte: usize,
     at: usize,
 ) -> Result<(RawItem<'a>, usize), SyntaxFault>
-    ensures { Gives p.now.tokens view_item result (then_read (proc_read 64 (rest_from p.now.tokens at)) (λ x rest. Ok (proc_tree byte (option_map view local.entry, x), rest))) }
+    ensures { Gives p.now.tokens view_item result (then_read (proc_read MOST_LEVELS (rest_from p.now.tokens at)) (λ x rest. Ok (proc_tree byte (option_map view local.entry, x), rest))) }
 {
     let (_word, first) = p.tokens.take(at, &[Sign::Proc])?;
     let (name, next) = name(p, first)?;
@@ -143,7 +145,7 @@ fn function<'a>(
     byte: usize,
     at: usize,
 ) -> Result<(RawItem<'a>, usize), SyntaxFault>
-    ensures { Gives p.now.tokens view_item result (then_read (func_read 64 (rest_from p.now.tokens at)) (λ x rest. Ok (func_tree byte (option_map view local.entry, x), rest))) }
+    ensures { Gives p.now.tokens view_item result (then_read (func_read MOST_LEVELS (rest_from p.now.tokens at)) (λ x rest. Ok (func_tree byte (option_map view local.entry, x), rest))) }
 {
     let (_word, first) = p.tokens.take(at, &[Sign::Func])?;
     let (sort, second) = name(p, first)?;
@@ -172,7 +174,7 @@ fn trap<'a>(
     byte: usize,
     at: usize,
 ) -> Result<(RawItem<'a>, usize), SyntaxFault>
-    ensures { Gives p.now.tokens view_item result (then_read (trap_read 64 (rest_from p.now.tokens at)) (λ x rest. Ok (trap_tree byte (option_map view local.entry, x), rest))) }
+    ensures { Gives p.now.tokens view_item result (then_read (trap_read MOST_LEVELS (rest_from p.now.tokens at)) (λ x rest. Ok (trap_tree byte (option_map view local.entry, x), rest))) }
 {
     let (_word, first) = p.tokens.take(at, &[Sign::Trap])?;
     let (name, after) = name(p, first)?;

@@ -10,6 +10,7 @@ use crate::items::item;
 use crate::words::attribute_of;
 use expr_parser::name;
 use rapid_forms::{Parser, Sign, SyntaxFault};
+use rapid_limits::MOST_LEVELS;
 use raw_trees::{Attribute, RawItem, RawModule};
 
 static ITEM_SIGNS: [Sign; 8] = [
@@ -37,7 +38,7 @@ pub(crate) fn module<'a>(
     p: &Parser<'_, 'a>,
     at: usize,
 ) -> Result<(RawModule<'a>, usize), SyntaxFault>
-    ensures { Gives p.now.tokens view_module result (module_read 64 (rest_from p.now.tokens at)) }
+    ensures { Gives p.now.tokens view_module result (module_read MOST_LEVELS (rest_from p.now.tokens at)) }
 {
     let (_word, first) = p.tokens.take(at, &[Sign::Module])?;
     let (name, next) = name(p, first)?;
@@ -110,7 +111,7 @@ fn more_attribute(p: &Parser<'_, '_>, at: usize) -> Result<(Attribute, usize), S
 }
 
 fn items<'a>(p: &Parser<'_, 'a>, at: usize) -> Result<(Vec<RawItem<'a>>, usize), SyntaxFault>
-    ensures { Gives p.now.tokens (λ v. map view_item v.items) result (many_read item_signs (item_read 64) (rest_from p.now.tokens at)) }
+    ensures { Gives p.now.tokens (λ v. map view_item v.items) result (many_read item_signs (item_read MOST_LEVELS) (rest_from p.now.tokens at)) }
 {
     let mut list = Vec::new(p.alloc);
     let mut next = at;

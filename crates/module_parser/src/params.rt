@@ -13,7 +13,8 @@ use crate::words::mode_of;
 use expr_parser::name;
 use rapid_forms::{Parser, Sign, SyntaxFault};
 use rapid_lexer::Token;
-use raw_trees::{Mode, RawName, RawParam};
+use rapid_model::Mode;
+use raw_trees::{RawName, RawParam};
 
 static MODE_SIGNS: [Sign; 3] = [Sign::Inout, Sign::Var, Sign::Pers];
 

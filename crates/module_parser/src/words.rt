@@ -6,7 +6,8 @@ ghost use Rattle.module_parser.specs.Words.{attribute_of, kind_of, mode_of};
 
 use rapid_forms::{Sign, sign_of};
 use rapid_lexer::Token;
-use raw_trees::{Attribute, DatumKind, Mode};
+use rapid_model::Mode;
+use raw_trees::{Attribute, DatumKind};
 
 pub(crate) fn kind_of(token: &Token<'_>) -> DatumKind
     ensures { result ≡ kind_of (view token.now) }

@@ -2,8 +2,8 @@
 use Rattle.std.proofs.Common.{◌≡◌, inl, inr, ℕ, zero, suc, ◌+◌, ◌<◌, Bool, true, false, List, [], length, replicate, Option, Some, None, Ok, slice_get, refl, sym, ap, subst, ◌∙◌, if◌then◌else◌, arith}
 use Rattle.std.specs.Str.{str_to_ascii_lowercase}
 use Rattle.raw_trees.specs.Plain.{PlainDatum, PlainName, PlainRoutine, PlainItem, PlainModule, Datum, Routine}
-use Rattle.raw_trees.specs.declared.raw_routine.Mode.{Mode}
-use Rattle.raw_trees.specs.declared.raw_routine.Mode.TheVariants as modes
+use Rattle.rapid_model.specs.declared.mode.Mode.{Mode}
+use Rattle.rapid_model.specs.declared.mode.Mode.TheVariants as modes
 use Rattle.rapid_model.specs.declared.signal_row.SignalRow.{SignalRow}
 use Rattle.rapid_model.specs.declared.sort.Sort.{Sort}
 use Rattle.rapid_model.specs.declared.value.Value.{Value}
@@ -41,8 +41,8 @@ type_one tables spot name a b is other =
     cc both
 
 -- names that are found, and the rows of their CONSTs
-consts_of_names : (modules : List PlainModule) (signals : List SignalRow) (arm : Bool) (names : Names) → names_of modules signals arm ≡ Ok names → AllModules (rows_are.RowIn (tables_of modules signals) names.rows) 0 no_counts modules
-consts_of_names modules signals arm names e =
+consts_of_names : (modules : List PlainModule) (signals : List SignalRow) (axes : ℕ) (names : Names) → names_of modules signals axes ≡ Ok names → AllModules (rows_are.RowIn (tables_of modules signals) names.rows) 0 no_counts modules
+consts_of_names modules signals axes names e =
     let tables = tables_of modules signals in
     let P : Type 0 = AllModules (rows_are.RowIn tables names.rows) 0 no_counts modules in
     behind P names (modules_rules tables 0 [] no_counts modules) _ e (λ u is rest.
@@ -138,8 +138,8 @@ all_none (suc n) zero value at = let e : None ≡ value = cc at in sym e
 all_none (suc n) (suc j) value at = all_none n j value at
 
 -- at first no value is kept
-none_kept : (modules : List PlainModule) (signals : List SignalRow) (arm : Bool) (names : Names) → names_of modules signals arm ≡ Ok names → (j : ℕ) (value : Option Value) → slice_get names.kept j ≡ Some value → value ≡ None
-none_kept modules signals arm names e =
+none_kept : (modules : List PlainModule) (signals : List SignalRow) (axes : ℕ) (names : Names) → names_of modules signals axes ≡ Ok names → (j : ℕ) (value : Option Value) → slice_get names.kept j ≡ Some value → value ≡ None
+none_kept modules signals axes names e =
     let tables = tables_of modules signals in
     let P : Type 0 = (j : ℕ) (value : Option Value) → slice_get names.kept j ≡ Some value → value ≡ None in
     behind P names (modules_rules tables 0 [] no_counts modules) _ e (λ u is rest.
@@ -147,14 +147,14 @@ none_kept modules signals arm names e =
     subst (λ (n : Names). (j : ℕ) (value : Option Value) → slice_get n.kept j ≡ Some value → value ≡ None) (ok_same _ names done) (λ j value at. all_none (length rows.consts) j value at)))
 
 -- the number of a CONST is that of its declaration, its row and its value
-pub consts_are : (modules : List PlainModule) (tasks : List (List ℕ)) (signals : List SignalRow) (arm : Bool) (tree : TypedTree) (names : Names) (p : Progress) → task_of modules tasks signals arm ≡ Ok tree → names_of modules signals arm ≡ Ok names
+pub consts_are : (modules : List PlainModule) (tasks : List (List ℕ)) (signals : List SignalRow) (axes : ℕ) (tree : TypedTree) (names : Names) (p : Progress) → task_of modules tasks signals axes ≡ Ok tree → names_of modules signals axes ≡ Ok names
     → data_of 0 modules (beginning names) ≡ Ok p → (spot : Spot) (name : List ℕ) (k : ℕ) → meaning (tables_of modules signals) spot name ≡ Some (meants.Const k) → IsConst modules signals tree p.names spot name k
-consts_are modules tasks signals arm tree names p is named held spot name k means =
+consts_are modules tasks signals axes tree names p is named held spot name k means =
     let tables = tables_of modules signals in
     let rows = names.rows in
-    let checked = task_checked modules tasks signals arm tree is in
+    let checked = task_checked modules tasks signals axes tree is in
     let after = modules_walked Progress item items data_of (values_are.AreCounted rows) (values_are.Grow rows) (values_are.ValueIn rows) (values_are.values_walk rows) 0 no_counts modules (beginning names) p
-    (record { consts = refl; routines = refl; knows = record { same = refl; above = λ j value past at. none_kept modules signals arm names named j value at } }) held in
+    (record { consts = refl; routines = refl; knows = record { same = refl; above = λ j value past at. none_kept modules signals axes names named j value at } }) held in
     let same : p.names.rows ≡ names.rows = after.counted.knows.same in
     let InTree : Fact = IsInTree tables tree.slots tree.pers tree.routines modules in
     let Named : Fact = declared.RowIn tables rows in
@@ -162,8 +162,8 @@ consts_are modules tasks signals arm tree names p is named held spot name k mean
     let Valued : Fact = values_are.ValueIn rows p in
     let First : Fact = λ number c item. InTree number c item × Named number c item in
     let Second : Fact = λ number c item. Rowed number c item × Valued number c item in
-    let first = modules_made InTree Named First (λ number c item a b. (a, b)) 0 no_counts modules checked.all (rows_of_names modules signals arm names named).all in
-    let second = modules_made Rowed Valued Second (λ number c item a b. (a, b)) 0 no_counts modules (consts_of_names modules signals arm names named) after.all in
+    let first = modules_made InTree Named First (λ number c item a b. (a, b)) 0 no_counts modules checked.all (rows_of_names modules signals axes names named).all in
+    let second = modules_made Rowed Valued Second (λ number c item a b. (a, b)) 0 no_counts modules (consts_of_names modules signals axes names named) after.all in
     let all = modules_made First Second (Known modules signals tree names p same spot name) (λ number c item a b. record { in_tree = a.0; named = a.1; row = b.0; value = b.1 }) 0 no_counts modules first second in
-    let within : k < length p.names.kept = omega (arith, (constants_kept modules signals arm names named spot name k means).0, after.grows.long) in
+    let within : k < length p.names.kept = omega (arith, (constants_kept modules signals axes names named spot name k means).0, after.grows.long) in
     const_is modules signals tree names p same spot name all k means within

@@ -18,17 +18,17 @@ record AreMade (tables : Tables) (names : Names) : Type 0 where
   pub as_many : length names.kept ≡ length names.rows.consts
   pub are_tables : tables ≡ names.tables
 
-names_made : (modules : List PlainModule) (signals : List SignalRow) (arm : Bool) (names : Names) → names_of modules signals arm ≡ Ok names → AreMade (tables_of modules signals) names
-names_made modules signals arm names e =
+names_made : (modules : List PlainModule) (signals : List SignalRow) (axes : ℕ) (names : Names) → names_of modules signals axes ≡ Ok names → AreMade (tables_of modules signals) names
+names_made modules signals axes names e =
     let tables = tables_of modules signals in
     behind (AreMade tables names) names (modules_rules tables 0 [] no_counts modules) _ e (λ u is rest.
     behind (AreMade tables names) names (modules_rows tables 0 modules no_rows) _ rest (λ rows found done.
     subst (AreMade tables) (ok_same _ names done) (record { as_many = length-replicate (length rows.consts) None; are_tables = refl })))
 
-pub constants_kept : (modules : List PlainModule) (signals : List SignalRow) (arm : Bool) (names : Names) → names_of modules signals arm ≡ Ok names → (spot : Spot) (name : List ℕ) (k : ℕ) →
+pub constants_kept : (modules : List PlainModule) (signals : List SignalRow) (axes : ℕ) (names : Names) → names_of modules signals axes ≡ Ok names → (spot : Spot) (name : List ℕ) (k : ℕ) →
     meaning (tables_of modules signals) spot name ≡ Some (meants.Const k) → (k < length names.kept) × (k < length names.rows.consts)
-constants_kept modules signals arm names e spot name k means =
-    let made = names_made modules signals arm names e in
-    let known = are_numbered modules signals arm names e in
+constants_kept modules signals axes names e spot name k means =
+    let made = names_made modules signals axes names e in
+    let known = are_numbered modules signals axes names e in
     let has_row : k < length names.rows.consts = known.rows spot name (meants.Const k) (ap (λ t. meaning t spot name) (sym made.are_tables) ∙ means) in
     (omega (arith, has_row, made.as_many), has_row)

@@ -2,7 +2,7 @@
 -- first as its meaning.
 use Rattle.std.proofs.Common.{◌≡◌, ℕ, zero, suc, false, [], ◌∷◌, None, Some, List, codes, refl, sym, ap, subst, slice_get}
 use Rattle.raw_trees.specs.Plain.{PlainModule, PlainName, PlainRoutine, PlainStmt, Routine, Number, For, NoStmts}
-use Rattle.raw_trees.specs.declared.raw_routine.RoutineKind.TheVariants as routines
+use Rattle.rapid_model.specs.declared.routine_kind.RoutineKind.TheVariants as routines
 use Rattle.rule_checks.specs.declared.spot.Spot.{Spot}
 use Rattle.typed_trees.specs.Plain.{TypedTree}
 use Rattle.data_scopes.specs.declared.meant.Meant.TheVariants as meants

@@ -3,8 +3,8 @@ use Rattle.std.proofs.Common.{◌≡◌, inl, inr, ℕ, zero, suc, ◌+◌, ◌<
 use Rattle.std.specs.Str.{str_to_ascii_lowercase}
 use Rattle.std.proofs.lemmas.Option.{slice_get_within}
 use Rattle.raw_trees.specs.Plain.{PlainDatum, PlainParam, PlainRoutine, PlainItem, PlainModule, Datum, Routine}
-use Rattle.raw_trees.specs.declared.raw_routine.Mode.{Mode}
-use Rattle.raw_trees.specs.declared.raw_routine.Mode.TheVariants as modes
+use Rattle.rapid_model.specs.declared.mode.Mode.{Mode}
+use Rattle.rapid_model.specs.declared.mode.Mode.TheVariants as modes
 use Rattle.rapid_model.specs.declared.signal_row.SignalRow.{SignalRow}
 use Rattle.rapid_model.specs.Names.{IsOneName}
 use Rattle.rule_checks.specs.declared.spot.Spot.{Spot}
@@ -34,7 +34,7 @@ partner R (z ∷ xs) [] k x h is = absurd h
 partner R (z ∷ xs) (y ∷ ys) zero x h is = let same : z ≡ x = cc in record { y = y; is = refl; such = subst (λ w. R w y) same h.0 }
 partner R (z ∷ xs) (y ∷ ys) (suc k) x h is = let p = partner R xs ys k x h.1 is in record { y = p.y; is = p.is; such = p.such }
 
-module _ (modules : List PlainModule) (signals : List SignalRow) (arm : Bool) (tree : TypedTree) (checked : Checked modules signals arm tree) (spot : Spot) (name : List ℕ) where
+module _ (modules : List PlainModule) (signals : List SignalRow) (axes : ℕ) (tree : TypedTree) (checked : Checked modules signals axes tree) (spot : Spot) (name : List ℕ) where
   abbrev tables : Tables
   tables = tables_of modules signals
 

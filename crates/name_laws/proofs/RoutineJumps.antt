@@ -1,6 +1,7 @@
 -- The GOTOs and labels of each routine of a task.
 use Rattle.std.proofs.Common.{◌≡◌, ℕ, ◌+◌, Bool, false, List, [], ◌∷◌, ◌++◌, length, Some, Ok, slice_get, sym, ap, subst, ◌∙◌, nat_le}
 use Rattle.std.proofs.Math.Logic.{⊎_elim}
+use Rattle.rapid_limits.specs.declared.TheConstants.{MOST_VALUES}
 use Rattle.raw_trees.specs.Plain.{PlainRoutine, PlainItem, PlainModule, Datum, Routine, stmts_of, else_of}
 use Rattle.rapid_model.specs.declared.signal_row.SignalRow.{SignalRow}
 use Rattle.typed_trees.specs.Plain.{TypedLocal, TypedRoutine, TypedTree}
@@ -14,7 +15,7 @@ use Rattle.named_data.specs.Rules.{at_byte}
 use Rattle.decl_types.specs.Data.{beginning, data_of}
 use Rattle.body_types.specs.Bodies.{outside, stmts, into}
 use Rattle.body_types.specs.Labels.{labels_in, labels_in_else, labels_in_routine}
-use Rattle.stmt_types.specs.Task.{task_of, handler_of, body_of, typed_routine, item_bodies, items_bodies, bodies, main_or, top, main_among, routines_of, most_values, tree_of}
+use Rattle.stmt_types.specs.Task.{task_of, handler_of, body_of, typed_routine, item_bodies, items_bodies, bodies, main_or, top, main_among, routines_of, tree_of}
 use Rattle.name_laws.specs.Declared.{StandsIn}
 use Rattle.name_laws.specs.Jumps.{JumpsLand, AreApart, AreInOrder, LabelsApart}
 use Rattle.name_laws.proofs.Items.{Rest, rest_all, rest_first, rest_more}
@@ -84,16 +85,16 @@ pub record IsRight (modules : List PlainModule) (t : TypedRoutine) : Type 0 wher
   pub once : ((number : ℕ) (r : PlainRoutine) → StandsIn modules number (Routine r) → LabelsApart r) → AreApart (numbers_in_routine t)
   pub in_text_order : ((number : ℕ) (r : PlainRoutine) → StandsIn modules number (Routine r) → LabelsApart r) → AreInOrder (numbers_in_routine t)
 
-pub jumps_right : (modules : List PlainModule) (tasks : List (List ℕ)) (signals : List SignalRow) (arm : Bool) (tree : TypedTree) → task_of modules tasks signals arm ≡ Ok tree →
+pub jumps_right : (modules : List PlainModule) (tasks : List (List ℕ)) (signals : List SignalRow) (axes : ℕ) (tree : TypedTree) → task_of modules tasks signals axes ≡ Ok tree →
     (k : ℕ) (t : TypedRoutine) → slice_get tree.routines k ≡ Some t → IsRight modules t
-jumps_right modules tasks signals arm tree e k t is =
+jumps_right modules tasks signals axes tree e k t is =
     let P : Type 0 = IsRight modules t in
-    behind P tree (names_of modules signals arm) _ e (λ names named rest.
+    behind P tree (names_of modules signals axes) _ e (λ names named rest.
     behind P tree (data_of 0 modules (beginning names)) _ rest (λ p held more.
     behind P tree (bodies p.names p.locals 0 modules []) _ more (λ routines run left.
     behind P tree (main_or (top p.names) (main_among (routines_of modules))) _ left (λ main runs last.
-    behind P tree (must (nat_le p.values most_values) (at_byte (top p.names) 0 DataRange)) _ last (λ u few done.
-    let there : slice_get routines k ≡ Some t = ap (λ x. slice_get x.routines k) (ok_same (tree_of modules tasks p routines main) tree done) ∙ is in
+    behind P tree (must (nat_le p.values MOST_VALUES) (at_byte (top p.names) 0 DataRange)) _ last (λ u few done.
+    let there : slice_get routines k ≡ Some t = ap (λ x. slice_get x.routines k) (ok_same (tree_of modules tasks axes p routines main) tree done) ∙ is in
     let none : All modules p.names p.locals [] = λ n x none. absurd (cc) in
     let one = modules_right modules p.names p.locals 0 modules [] routines (rest_all modules) none run k t there in
     let labels = labels_in_routine one.r in

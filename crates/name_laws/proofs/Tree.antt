@@ -2,6 +2,7 @@
 use Rattle.std.proofs.Common.{◌≡◌, ℕ, zero, suc, ◌+◌, ◌-◌, ◌≤◌, Bool, true, false, ◌||◌, nat_lt, nat_le, List, [], ◌∷◌, length, Some, None, Ok, slice_get, is_some, refl, sym, ap, subst, ◌∙◌, if◌then◌else◌, arith}
 use Rattle.std.specs.Option.{option_and_then, option_map}
 use Rattle.std.proofs.lemmas.Bool.{le-ltb}
+use Rattle.rapid_limits.specs.declared.TheConstants.{MOST_VALUES}
 use Rattle.raw_trees.specs.Plain.{PlainDatum, PlainParam, PlainRoutine, PlainItem, PlainModule, Datum, Routine}
 use Rattle.rapid_model.specs.declared.signal_row.SignalRow.{SignalRow}
 use Rattle.typed_trees.specs.Plain.{TypedLocal, TypedRoutine, TypedSlot, TypedPers, TypedTree}
@@ -18,7 +19,7 @@ use Rattle.data_scopes.specs.Rows.{item_rows, items_rows, modules_rows, no_rows}
 use Rattle.data_scopes.specs.Scopes.{Names, RoutineRow, Rows, Tables, list_at}
 use Rattle.named_data.specs.Rules.{at_byte}
 use Rattle.decl_types.specs.Data.{Progress, sort_in, beginning, item, items, data_of}
-use Rattle.stmt_types.specs.Task.{task_of, typed_params, item_bodies, items_bodies, bodies, main_or, top, main_among, routines_of, most_values, tree_of}
+use Rattle.stmt_types.specs.Task.{task_of, typed_params, item_bodies, items_bodies, bodies, main_or, top, main_among, routines_of, tree_of}
 use Rattle.name_laws.specs.Declared.{StandsIn, IsType, IsResultType, AreEach}
 use Rattle.name_laws.specs.Rows.{IsSlotRow, IsPersRow, IsParamRow, IsLocalRow, IsRoutineRow}
 use Rattle.data_scopes.specs.Meetings.{is_meeting}
@@ -187,9 +188,9 @@ module _ (tables : Tables) (rows : Rows) (p : Progress) (routines : List TypedRo
       (modules_stand modules 0 no_counts modules (rest_all modules)) all
 
 -- the tree of modules that were checked, as far as rows go
-pub record Checked (modules : List PlainModule) (signals : List SignalRow) (arm : Bool) (tree : TypedTree) : Type 0 where
+pub record Checked (modules : List PlainModule) (signals : List SignalRow) (axes : ℕ) (tree : TypedTree) : Type 0 where
   pub names : Names
-  pub named : names_of modules signals arm ≡ Ok names
+  pub named : names_of modules signals axes ≡ Ok names
   pub meets : (k : ℕ) → is_meeting (slice_get names.rows.slots k) ≡ true → IsMeeting tree.slots tree.meetings names.rows.slots k
   pub all : AllModules (IsInTree (tables_of modules signals) tree.slots tree.pers tree.routines modules) 0 no_counts modules
 
@@ -201,8 +202,8 @@ pub record HaveRows (modules : List PlainModule) (signals : List SignalRow) (row
   pub counted : (after_modules no_counts modules).slots ≡ length rows.slots
   pub all : AllModules (declared.RowIn (tables_of modules signals) rows) 0 no_counts modules
 
-pub rows_of_names : (modules : List PlainModule) (signals : List SignalRow) (arm : Bool) (names : Names) → names_of modules signals arm ≡ Ok names → HaveRows modules signals names.rows
-rows_of_names modules signals arm names e =
+pub rows_of_names : (modules : List PlainModule) (signals : List SignalRow) (axes : ℕ) (names : Names) → names_of modules signals axes ≡ Ok names → HaveRows modules signals names.rows
+rows_of_names modules signals axes names e =
     let tables = tables_of modules signals in
     let P : Type 0 = HaveRows modules signals names.rows in
     behind P names (modules_rules tables 0 [] no_counts modules) _ e (λ u is rest.
@@ -211,31 +212,31 @@ rows_of_names modules signals arm names e =
     0 no_counts modules no_rows rows (record { slots = refl; pers = refl; routines = refl }) found in
     subst (HaveRows modules signals) (ap (λ n. n.rows) (ok_same _ names done)) (record { counted = after.counted.slots; all = after.all })))
 
-pub task_checked : (modules : List PlainModule) (tasks : List (List ℕ)) (signals : List SignalRow) (arm : Bool) (tree : TypedTree) → task_of modules tasks signals arm ≡ Ok tree → Checked modules signals arm tree
-task_checked modules tasks signals arm tree e =
-    let P : Type 0 = Checked modules signals arm tree in
+pub task_checked : (modules : List PlainModule) (tasks : List (List ℕ)) (signals : List SignalRow) (axes : ℕ) (tree : TypedTree) → task_of modules tasks signals axes ≡ Ok tree → Checked modules signals axes tree
+task_checked modules tasks signals axes tree e =
+    let P : Type 0 = Checked modules signals axes tree in
     let tables = tables_of modules signals in
-    behind P tree (names_of modules signals arm) _ e (λ names named rest.
+    behind P tree (names_of modules signals axes) _ e (λ names named rest.
     behind P tree (data_of 0 modules (beginning names)) _ rest (λ p held more.
     behind P tree (bodies p.names p.locals 0 modules []) _ more (λ routines run left.
     behind P tree (main_or (top p.names) (main_among (routines_of modules))) _ left (λ main runs last.
-    behind P tree (must (nat_le p.values most_values) (at_byte (top p.names) 0 DataRange)) _ last (λ u few done.
+    behind P tree (must (nat_le p.values MOST_VALUES) (at_byte (top p.names) 0 DataRange)) _ last (λ u few done.
     let rows = names.rows in
-    let have = rows_of_names modules signals arm names named in
+    let have = rows_of_names modules signals axes names named in
     let data_after = modules_walked Progress item items data_of (data_are.AreCounted rows) (data_are.Grow rows) (data_are.RowIn rows) (data_are.data_walk rows)
     0 no_counts modules (beginning names) p (record { slots = refl; pers = refl; routines = refl; same = refl; alike = none_alike rows.slots }) held in
     let bodies_after = modules_walked (List TypedRoutine) (item_bodies p.names p.locals) (items_bodies p.names p.locals) (bodies p.names p.locals)
     (bodies_are.AreCounted p.names p.locals) IsFront (bodies_are.RowIn p.names p.locals) (bodies_are.bodies_walk p.names p.locals)
     0 no_counts modules [] routines refl run in
-    subst (Checked modules signals arm) (ok_same (tree_of modules tasks p routines main) tree done) (record {
+    subst (Checked modules signals axes) (ok_same (tree_of modules tasks axes p routines main) tree done) (record {
       names = names;
       named = named;
       all = rows_made tables rows p routines data_after.counted.same modules have.all data_after.all bodies_after.all;
       meets = λ k meets. meeting_known p.slots rows.slots k data_after.counted.alike (sym data_after.counted.slots ∙ have.counted) meets;
     }))))))
 
-pub meetings_checked : (modules : List PlainModule) (tasks : List (List ℕ)) (signals : List SignalRow) (arm : Bool) (tree : TypedTree) (names : Names) → names_of modules signals arm ≡ Ok names → task_of modules tasks signals arm ≡ Ok tree →
+pub meetings_checked : (modules : List PlainModule) (tasks : List (List ℕ)) (signals : List SignalRow) (axes : ℕ) (tree : TypedTree) (names : Names) → names_of modules signals axes ≡ Ok names → task_of modules tasks signals axes ≡ Ok tree →
     (k : ℕ) → is_meeting (slice_get names.rows.slots k) ≡ true → IsMeeting tree.slots tree.meetings names.rows.slots k
-meetings_checked modules tasks signals arm tree names named is =
-    let checked = task_checked modules tasks signals arm tree is in
+meetings_checked modules tasks signals axes tree names named is =
+    let checked = task_checked modules tasks signals axes tree is in
     subst (λ n. (k : ℕ) → is_meeting (slice_get n.rows.slots k) ≡ true → IsMeeting tree.slots tree.meetings n.rows.slots k) (ok_same checked.names names (sym checked.named ∙ named)) checked.meets

@@ -2,8 +2,8 @@
 use Rattle.std.specs.Prelude.{◌≡◌, ◌≢◌, ◌⊎◌, ℕ, ◌+◌, ◌<◌, ◌||◌, Bool, true, false, List, [], ◌∷◌, length, Option, Some, slice_get}
 use Rattle.std.specs.Str.{str_to_ascii_lowercase}
 use Rattle.raw_trees.specs.Plain.{PlainDatum, PlainParam, PlainRoutine, PlainModule, Datum, Routine}
-use Rattle.raw_trees.specs.declared.raw_routine.Mode.{Mode}
-use Rattle.raw_trees.specs.declared.raw_routine.Mode.TheVariants as modes
+use Rattle.rapid_model.specs.declared.mode.Mode.{Mode}
+use Rattle.rapid_model.specs.declared.mode.Mode.TheVariants as modes
 use Rattle.rapid_model.specs.declared.signal_row.SignalRow.{SignalRow}
 use Rattle.rapid_model.specs.Names.{IsOneName}
 use Rattle.rule_checks.specs.declared.spot.Spot.{Spot}

@@ -2,6 +2,7 @@
 use Rattle.std.specs.Prelude.{◌≡◌, ℕ, ◌≤◌, Bool, List, [], ◌∷◌, ◌++◌, length, Option, Some, None, is_some, if◌then◌else◌, bytes_eq}
 use Rattle.std.specs.Option.{option_or}
 use Rattle.std.specs.Str.{str_to_ascii_lowercase}
+use Rattle.rapid_limits.specs.declared.TheConstants.{LONGEST_NAME}
 use Rattle.arrayvec.specs.ArrayVec.{ArrayVec}
 
 abbrev pub NameList : Type 0 → Type 0
@@ -24,10 +25,10 @@ entered name value names = if is_some (found_in name names) then names else name
 abbrev pub entry_of : {V : Type 0} → ArrayVec ℕ × V → List ℕ × V
 entry_of e = (e.0.items, e.1)
 
--- no name has more than 32 bytes
+-- no name is too long
 abbrev pub AreShort : {V : Type 0} → NameList V → Type 0
 AreShort [] = Unit {0}
-AreShort (entry ∷ entries) = (length entry.0 ≤ 32) × AreShort entries
+AreShort (entry ∷ entries) = (length entry.0 ≤ LONGEST_NAME) × AreShort entries
 
 -- a table tells of each name what is to be found
 abbrev pub Finds : {V : Type 0} → NameList V → (List ℕ → Option V) → Type 0

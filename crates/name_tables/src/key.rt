@@ -2,15 +2,16 @@ ghost use Rattle.std.specs.Prelude.{◌≡◌, ◌≤◌, ◌<◌, length, Match
 ghost use Rattle.std.specs.Str.{str_to_ascii_lowercase};
 
 use arrayvec::ArrayVec;
+use rapid_limits::LONGEST_NAME;
 
 /// A name in small letters.
-pub(crate) type Key = ArrayVec<u8, 32>;
+pub(crate) type Key = ArrayVec<u8, LONGEST_NAME>;
 
 /// The name in small letters; `None` exactly where it has more than 32 bytes.
 pub(crate) fn key_of(name: &[u8]) -> Option<Key>
-    ensures { MatchOption result (32 < length name.now) (λ key. (key.items ≡ str_to_ascii_lowercase name.now) × (length name.now ≤ 32)) }
+    ensures { MatchOption result (LONGEST_NAME < length name.now) (λ key. (key.items ≡ str_to_ascii_lowercase name.now) × (length name.now ≤ LONGEST_NAME)) }
 {
-    if name.len() > 32 {
+    if name.len() > LONGEST_NAME {
         return None;
     }
     let mut key = ArrayVec::new();

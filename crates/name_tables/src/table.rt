@@ -5,6 +5,7 @@ ghost use Rattle.name_tables.specs.declared.not_entered.NotEntered.TheVariants.{
 use crate::key::{Key, key_of};
 use crate::not_entered::NotEntered;
 use indexmap::IndexMap;
+use rapid_limits::LONGEST_NAME;
 use std::alloc::Global;
 use std::marker::Model;
 
@@ -52,8 +53,8 @@ impl<V: Copy + Drop> NameTable<V> {
     /// One more name; where the table has it already, that stands.
     pub fn enter(&mut self, name: &[u8], value: V) -> Result<(), NotEntered>
         ensures ok { OnOk result (self.new ≡ entered name.now value self.old) }
-        ensures short { OnOk result (length name.now ≤ 32) }
-        ensures err { IfErr result (λ e. (e ≡ Long) ↔ (32 < length name.now)) }
+        ensures short { OnOk result (length name.now ≤ LONGEST_NAME) }
+        ensures err { IfErr result (λ e. (e ≡ Long) ↔ (LONGEST_NAME < length name.now)) }
         ensures unchanged { OnErr result (self.new ≡ self.old) }
     {
         let Some(key) = key_of(name) else {

@@ -1,8 +1,8 @@
 -- What a name stands for where a value or a place is written, and the part of it that is meant.
 use Rattle.std.specs.Prelude.{ℕ, ◌+◌, Bool, true, false, not, ◌&&◌, ◌||◌, ◌==◌, nat_lt, List, [], ◌∷◌, Option, Some, None, slice_get, Ok}
 use Rattle.raw_trees.specs.Plain.{PlainName}
-use Rattle.raw_trees.specs.declared.raw_routine.Mode.{Mode}
-use Rattle.raw_trees.specs.declared.raw_routine.Mode.TheVariants as modes
+use Rattle.rapid_model.specs.declared.mode.Mode.{Mode}
+use Rattle.rapid_model.specs.declared.mode.Mode.TheVariants as modes
 use Rattle.rapid_model.specs.declared.predefined.Predefined.{Predefined}
 use Rattle.rapid_model.specs.declared.predefined.Predefined.TheVariants as predefineds
 use Rattle.rapid_model.specs.declared.sort.Sort.{Sort}

@@ -5,7 +5,7 @@ ghost use Rattle.named_data.specs.Data;
 
 use crate::named::Access;
 use data_scopes::Since;
-use raw_trees::Mode;
+use rapid_model::Mode;
 use rule_checks::Spot;
 
 /// Whether what is declared there stands before the expression at the spot.

@@ -1,5 +1,4 @@
-use rapid_model::Sort;
-use raw_trees::Operator;
+use rapid_model::{Operator, Sort};
 
 /// What the place of an expression wants of it.
 #[derive(Clone, Copy, Debug, PartialEq, Eq)]

@@ -7,8 +7,7 @@ ghost use Rattle.named_data.specs.Wants;
 
 use crate::wanted::Wanted;
 use data_scopes::same_sort;
-use rapid_model::Sort;
-use raw_trees::Operator;
+use rapid_model::{Operator, Sort};
 use rule_checks::TypeRule;
 
 /// Whether values of the type are compared by `=` and `<>` (RAPID Overview, expressions).

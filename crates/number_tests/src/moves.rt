@@ -10,7 +10,7 @@ fn turns_by_thirds(rt: HostRuntime) {
     let mut target = start;
     target.axis[0] = Num::new(2500).unwrap();
 
-    let turn = plan(&start, &target, 1000);
+    let turn = plan(&start, &target, 1000, 6);
     assert_eq!(rt; turn.count(), 3);
     for (j, angle) in [(1, 833), (2, 1667), (3, 2500)] {
         assert!(rt; 1 <= j && j <= turn.count());
@@ -27,7 +27,7 @@ fn rounds_halves_away_from_zero(rt: HostRuntime) {
     target.axis[1] = Num::new(1).unwrap();
     target.axis[2] = Num::new(-1).unwrap();
 
-    let turn = plan(&start, &target, 1000);
+    let turn = plan(&start, &target, 1000, 6);
     assert_eq!(rt; turn.count(), 2);
     let mut half = target;
     half.axis[0] = Num::new(1000).unwrap();
@@ -40,7 +40,7 @@ fn stays_by_one_setpoint(rt: HostRuntime) {
     let zero = Num::new(0).unwrap();
     let start = Joints { axis: [zero; 12] };
 
-    let turn = plan(&start, &start, 1000);
+    let turn = plan(&start, &start, 1000, 6);
     assert_eq!(rt; turn.count(), 1);
     assert!(rt; turn.at(1) == start);
 }

@@ -3,7 +3,7 @@ use Rattle.std.specs.Prelude.{ℕ, List, [], ◌∷◌, None, codes}
 use Rattle.rapid_lexer.specs.declared.kind.Kind.TheVariants as kinds
 use Rattle.rapid_lexer.specs.declared.word.Word.TheVariants as words
 use Rattle.rapid_lexer.specs.Tokens.{Lexeme}
-use Rattle.raw_trees.specs.declared.raw_expr.Operator.TheVariants as operators
+use Rattle.rapid_model.specs.declared.operator.Operator.TheVariants as operators
 use Rattle.raw_trees.specs.Plain.{PlainExpr, Place, Not, Chain, steps_of}
 use Rattle.expr_parser.specs.Grammar.{name_tree, place_tree}
 

@@ -15,6 +15,7 @@ names_differ instructions.IPers = refl
 names_differ instructions.WZLimJointDef = refl
 names_differ instructions.WZHomeJointDef = refl
 names_differ instructions.WZLimSup = refl
+names_differ instructions.WZDOSet = refl
 names_differ _ = refl
 
 pub two_where_excluded : (i : Instruction) → ¬ (choice i ≡ choices.Any) → length (options i) ≡ 2
@@ -22,4 +23,5 @@ two_where_excluded instructions.TPWrite h = refl
 two_where_excluded instructions.WZLimJointDef h = refl
 two_where_excluded instructions.WZHomeJointDef h = refl
 two_where_excluded instructions.WZLimSup h = refl
+two_where_excluded instructions.WZDOSet h = refl
 two_where_excluded _ h = absurd (h refl)

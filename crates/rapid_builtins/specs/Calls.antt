@@ -62,6 +62,7 @@ instruction_needs instructions.IEnable = []
 instruction_needs instructions.WZLimJointDef = needs.Var sorts.ShapeData ∷ needs.Value sorts.JointTarget ∷ needs.Value sorts.JointTarget ∷ []
 instruction_needs instructions.WZHomeJointDef = needs.Var sorts.ShapeData ∷ needs.Value sorts.JointTarget ∷ needs.Value sorts.JointTarget ∷ []
 instruction_needs instructions.WZLimSup = needs.WorldZone ∷ needs.Place sorts.ShapeData ∷ []
+instruction_needs instructions.WZDOSet = needs.WorldZone ∷ needs.Place sorts.ShapeData ∷ needs.Signal true ∷ needs.Value sorts.Num ∷ []
 instruction_needs instructions.WZDisable = needs.Var sorts.WzTemporary ∷ []
 instruction_needs instructions.WZEnable = needs.Var sorts.WzTemporary ∷ []
 instruction_needs instructions.WZFree = needs.Var sorts.WzTemporary ∷ []
@@ -95,6 +96,7 @@ options instructions.IPers = plain (codes "Single") ∷ []
 options instructions.WZLimJointDef = plain (codes "Inside") ∷ plain (codes "Outside") ∷ []
 options instructions.WZHomeJointDef = plain (codes "Inside") ∷ plain (codes "Outside") ∷ []
 options instructions.WZLimSup = plain (codes "Temp") ∷ plain (codes "Stat") ∷ []
+options instructions.WZDOSet = plain (codes "Temp") ∷ plain (codes "Stat") ∷ []
 options _ = []
 
 -- the first of the rows whose name is this one, letters of either case being the same
@@ -108,6 +110,7 @@ choice instructions.TPWrite = choices.OneAtMost
 choice instructions.WZLimJointDef = choices.JustOne
 choice instructions.WZHomeJointDef = choices.JustOne
 choice instructions.WZLimSup = choices.JustOne
+choice instructions.WZDOSet = choices.Never
 choice _ = choices.Any
 
 -- an instruction of a task with an arm
@@ -116,6 +119,7 @@ needs_arm instructions.MoveAbsJ = true
 needs_arm instructions.WZLimJointDef = true
 needs_arm instructions.WZHomeJointDef = true
 needs_arm instructions.WZLimSup = true
+needs_arm instructions.WZDOSet = true
 needs_arm instructions.WZDisable = true
 needs_arm instructions.WZEnable = true
 needs_arm instructions.WZFree = true

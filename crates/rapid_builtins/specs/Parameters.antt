@@ -1,6 +1,6 @@
 -- What an argument for a parameter of a routine has to be.
-use Rattle.raw_trees.specs.declared.raw_routine.Mode.{Mode}
-use Rattle.raw_trees.specs.declared.raw_routine.Mode.TheVariants as modes
+use Rattle.rapid_model.specs.declared.mode.Mode.{Mode}
+use Rattle.rapid_model.specs.declared.mode.Mode.TheVariants as modes
 use Rattle.rapid_model.specs.declared.sort.Sort.{Sort}
 use Rattle.rapid_builtins.specs.declared.need.Need.{Need}
 use Rattle.rapid_builtins.specs.declared.need.Need.TheVariants as needs

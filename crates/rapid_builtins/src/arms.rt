@@ -16,6 +16,7 @@ pub fn needs_arm(instruction: Instruction) -> bool
             | Instruction::WZLimJointDef
             | Instruction::WZHomeJointDef
             | Instruction::WZLimSup
+            | Instruction::WZDOSet
             | Instruction::WZDisable
             | Instruction::WZEnable
             | Instruction::WZFree

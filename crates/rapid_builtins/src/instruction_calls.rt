@@ -49,6 +49,12 @@ pub fn instruction_needs(instruction: Instruction) -> &'static [Need]
             Need::Value(Sort::JointTarget),
         ],
         Instruction::WZLimSup => &[Need::WorldZone, Need::Place(Sort::ShapeData)],
+        Instruction::WZDOSet => &[
+            Need::WorldZone,
+            Need::Place(Sort::ShapeData),
+            Need::Signal { output: true },
+            Need::Value(Sort::Num),
+        ],
         Instruction::WZDisable | Instruction::WZEnable | Instruction::WZFree => {
             &[Need::Var(Sort::WzTemporary)]
         }

@@ -7,4 +7,6 @@ pub enum Choice {
     OneAtMost,
     /// Just one: they exclude each other, and one has to stand.
     JustOne,
+    /// No call is right, whichever of them stand.
+    Never,
 }

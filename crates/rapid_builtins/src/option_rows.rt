@@ -50,7 +50,7 @@ pub fn options(instruction: Instruction) -> &'static [InstructionOption]
                 value: None,
             },
         ],
-        Instruction::WZLimSup => &[
+        Instruction::WZLimSup | Instruction::WZDOSet => &[
             InstructionOption {
                 name: b"Temp",
                 value: None,
@@ -73,6 +73,7 @@ pub fn choice(instruction: Instruction) -> Choice
         Instruction::TPWrite => Choice::OneAtMost,
         Instruction::WZLimJointDef | Instruction::WZHomeJointDef | Instruction::WZLimSup =>
             Choice::JustOne,
+        Instruction::WZDOSet => Choice::Never,
         _ => Choice::Any,
     }
 }

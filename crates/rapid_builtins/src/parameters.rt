@@ -4,8 +4,7 @@ ghost use Rattle.std.specs.Prelude.{◌≡◌};
 ghost use Rattle.rapid_builtins.specs.Parameters.{parameter_need};
 
 use crate::need::Need;
-use rapid_model::Sort;
-use raw_trees::Mode;
+use rapid_model::{Mode, Sort};
 
 /// What an argument for a parameter of the mode and the type has to be (RAPID Kernel, parameter declarations).
 pub fn parameter_need(mode: Mode, sort: Sort) -> Need

@@ -1,6 +1,7 @@
 -- The first place of a text where no token fits, and why.
 use Rattle.std.specs.Prelude.{◌≡◌, ◌≢◌, ℕ, ◌+◌, ◌≤◌, ◌<◌, false, List, [], ◌∷◌, ◌++◌, length, Option, Some, None, Result, Ok, Err, ◌⊎◌}
 use Rattle.std.specs.List.{concat}
+use Rattle.rapid_limits.specs.declared.TheConstants.{LONGEST_NAME, LONGEST_STRING}
 use Rattle.rapid_num.specs.Literal.{literal_value}
 use Rattle.rapid_lexer.specs.declared.kind.Kind.{Kind}
 use Rattle.rapid_lexer.specs.declared.kind.Kind.TheVariants.{Name, Number}
@@ -35,7 +36,7 @@ pub record IsLongString (bytes : List ℕ) : Type 0 where
   pub characters : List (List ℕ)
   pub is_string : IsString text characters
   pub is_longest : IsLongest text after
-  pub excess : 80 < length characters
+  pub excess : LONGEST_STRING < length characters
 
 -- the bytes begin as a string does and are none: a quote, these characters, and then what is left
 pub record IsBroken (bytes : List ℕ) (characters : List (List ℕ)) (left : List ℕ) : Type 0 where
@@ -65,7 +66,7 @@ IsBadAtFront (b ∷ bs) = (is_blank b ≡ false) × (b ≢ 33) × (b ≢ 34)
 
 -- Behind a quote at a place come at most 80 characters, and then, at the place of the fault, what stops the string.
 abbrev pub StopsString : (List ℕ → Type 0) → ℕ → List ℕ → ℕ → Type 0
-StopsString stops here bytes at = (cs : List (List ℕ)) × (left : List ℕ) × IsBroken bytes cs left × (length cs ≤ 80) × stops left × (at ≡ here + 1 + length (concat cs))
+StopsString stops here bytes at = (cs : List (List ℕ)) × (left : List ℕ) × IsBroken bytes cs left × (length cs ≤ LONGEST_STRING) × stops left × (at ≡ here + 1 + length (concat cs))
 
 -- At this place of the text, where no gap begins, no token fits: the rule, and the place where the fault stands. Within one
 -- string it is the fault that stands first in the bytes; for this order a string is too long from its 81st character on.
@@ -74,7 +75,7 @@ IsMisfit BadByte here bytes at = (NoToken bytes × IsBadAtFront bytes × (at ≡
 IsMisfit OpenString here bytes at = (end : ℕ) × StopsString IsAtEnd here bytes end × (at ≡ here)
 IsMisfit BadEscape here bytes at = StopsString IsBadEscape here bytes at
 IsMisfit LongString here bytes at = (IsLongString bytes ⊎ ((cs : List (List ℕ)) × (left : List ℕ) × IsBroken bytes cs left × (length cs ≡ 81))) × (at ≡ here)
-IsMisfit LongName here bytes at = IsTooLong Name (λ text. 32 < length text) bytes × (at ≡ here)
+IsMisfit LongName here bytes at = IsTooLong Name (λ text. LONGEST_NAME < length text) bytes × (at ≡ here)
 IsMisfit BadLiteral here bytes at = IsTooLong Number (λ text. literal_value text ≡ None) bytes × (at ≡ here)
 IsMisfit OpenHeader here bytes at = ⊥
 

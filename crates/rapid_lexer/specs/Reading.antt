@@ -2,6 +2,7 @@
 use Rattle.std.specs.Prelude.{ℕ, zero, suc, ◌+◌, Bool, true, false, not, ◌||◌, ◌==◌, nat_lt, if◌then◌else◌, List, [], ◌∷◌, length, take, drop, Option, Some, None, Result, Ok, Err, is_some, map}
 use Rattle.std.specs.Str.{bytes_eq}
 use Rattle.std.specs.Option.{option_map}
+use Rattle.rapid_limits.specs.declared.TheConstants.{LONGEST_STRING}
 use Rattle.rapid_num.specs.Literal.{literal_value}
 use Rattle.rapid_lexer.specs.declared.kind.Kind.{Kind}
 use Rattle.rapid_lexer.specs.declared.kind.Kind.TheVariants as kinds
@@ -73,7 +74,7 @@ broken_behind quote bytes (Some n) = stopped quote (quote + 1 + n) (drop n bytes
 
 -- the fault of a string that has no end, from what stands behind its quote
 unfoldable pub broken : ℕ → List ℕ → LexFault
-broken quote bytes = broken_behind quote bytes (characters_len 80 bytes)
+broken quote bytes = broken_behind quote bytes (characters_len LONGEST_STRING bytes)
 
 -- the fault where no token begins
 abbrev pub misfit : ℕ → List ℕ → LexFault
@@ -97,7 +98,7 @@ abbrev pub token_of : Kind → ℕ → List ℕ → Result Lexeme LexFault
 token_of kinds.Name at text = checked (nat_lt (length text) 33) (lexeme (name_kind (word_of text)) at text) (fault LongName at)
 token_of (kinds.Word word) at text = Ok (lexeme (kinds.Word word) at text)
 token_of kinds.Number at text = checked (is_some (literal_value text)) (lexeme kinds.Number at text) (fault BadLiteral at)
-token_of kinds.Quoted at text = checked (is_some (characters_len 80 (drop 1 text))) (lexeme kinds.Quoted at text) (fault LongString at)
+token_of kinds.Quoted at text = checked (is_some (characters_len LONGEST_STRING (drop 1 text))) (lexeme kinds.Quoted at text) (fault LongString at)
 token_of (kinds.Mark mark) at text = Ok (lexeme (kinds.Mark mark) at text)
 
 abbrev pub token_found : ℕ → List ℕ → Option (Kind × ℕ) → Result Lexeme LexFault

@@ -1,5 +1,6 @@
 -- Tokens, and how they tile a text.
 use Rattle.std.specs.Prelude.{◌≡◌, ℕ, ◌+◌, ◌≤◌, true, List, [], ◌∷◌, ◌++◌, length, take, drop, map, IsSome, Ok}
+use Rattle.rapid_limits.specs.declared.TheConstants.{LONGEST_NAME, LONGEST_STRING}
 use Rattle.rapid_num.specs.Characters.{is_name}
 use Rattle.rapid_num.specs.Literal.{spelled_thousandths, literal_value}
 use Rattle.rapid_lexer.specs.declared.kind.Kind.{Kind}
@@ -34,12 +35,12 @@ IsToken (Mark mark) text = text ≡ mark_text mark
 abbrev pub IsLongest : List ℕ → List ℕ → Type 0
 IsLongest text after = (kind : Kind) (other rest : List ℕ) → text ++ after ≡ other ++ rest → IsToken kind other → length other ≤ length text
 
--- the limits: 32 bytes of a name, the bytes and the range of a literal, 80 characters of a string
+-- the limits: the bytes of a name, the bytes and the range of a literal, the characters of a string
 abbrev pub IsWithinLimits : Kind → List ℕ → Type 0
-IsWithinLimits Name text = length text ≤ 32
+IsWithinLimits Name text = length text ≤ LONGEST_NAME
 IsWithinLimits (Word word) text = Unit {0}
 IsWithinLimits Number text = IsSome (literal_value text)
-IsWithinLimits Quoted text = (cs : List (List ℕ)) × IsString text cs × (length cs ≤ 80)
+IsWithinLimits Quoted text = (cs : List (List ℕ)) × IsString text cs × (length cs ≤ LONGEST_STRING)
 IsWithinLimits (Mark mark) text = Unit {0}
 
 -- of the bytes from a place on, a gap and a token come first, and then the bytes after

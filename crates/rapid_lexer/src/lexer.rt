@@ -17,6 +17,7 @@ use crate::scanner::longest_token;
 use crate::strings::{broken, characters_len};
 use crate::token::Token;
 use crate::words::word_of;
+use rapid_limits::{LONGEST_NAME, LONGEST_STRING};
 use rapid_num::read_literal;
 use std::marker::Model;
 
@@ -50,7 +51,7 @@ fn is_literal(text: &[u8]) -> bool
 /// Whether a string, its quotes included, has at most 80 characters.
 fn is_short(text: &[u8]) -> bool
     requires { 0 < length text.now }
-    ensures { result ≡ is_some (characters_len 80 (drop 1 text.now)) }
+    ensures { result ≡ is_some (characters_len LONGEST_STRING (drop 1 text.now)) }
 {
     characters_len(&text[1..]).is_some()
 }
@@ -71,7 +72,7 @@ fn token_of(kind: Kind, at: usize, text: &[u8]) -> Result<Token<'_>, LexFault>
 {
     match kind {
         Kind::Name => {
-            if text.len() > 32 {
+            if text.len() > LONGEST_NAME {
                 return Err(LexFault {
                     rule: LexRule::LongName,
                     at,

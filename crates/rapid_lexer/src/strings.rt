@@ -5,6 +5,7 @@ ghost use Rattle.rapid_lexer.specs.Reading.{broken, character_len, characters_le
 
 use crate::bytes::is_code;
 use crate::fault::{LexFault, LexRule};
+use rapid_limits::LONGEST_STRING;
 use rapid_num::is_printable;
 
 fn doubled_len(bytes: &[u8]) -> usize
@@ -44,7 +45,7 @@ fn character_len(bytes: &[u8]) -> usize
 
 /// How many bytes the characters have that come first, where they are at most 80.
 pub(crate) fn characters_len(bytes: &[u8]) -> Option<usize>
-    ensures same { result ≡ characters_len 80 bytes.now }
+    ensures same { result ≡ characters_len LONGEST_STRING bytes.now }
     ensures within { IfSome result (λ n. n ≤ length bytes.now) }
 {
     let mut now = 0;

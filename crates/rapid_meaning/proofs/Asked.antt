@@ -39,7 +39,7 @@ fault f = End (fates.Fault f)
 
 -- axis 1 at this angle, the other five at 0
 abbrev pub joints : ℤ → Joints
-joints angle = record { axis = angle ∷ replicate 5 (pos 0) ++ absent_axes }
+joints angle = record { axis = angle ∷ replicate 5 (pos 0) ++ absent_axes 6 }
 
 abbrev pub go : Answer
 go = Go 0

@@ -2,8 +2,8 @@
 use Rattle.std.proofs.Common.{ℕ, Bool, true, false, List, ◌∷◌, Option, Some, None, if◌then◌else◌}
 use Rattle.std.specs.Prelude.{⊤, slice_get}
 use Rattle.rapid_model.specs.declared.fate.Fault.TheVariants.{DepthLimit}
-use Rattle.raw_trees.specs.declared.raw_routine.RoutineKind.{RoutineKind}
-use Rattle.raw_trees.specs.declared.raw_routine.RoutineKind.TheVariants as kinds
+use Rattle.rapid_model.specs.declared.routine_kind.RoutineKind.{RoutineKind}
+use Rattle.rapid_model.specs.declared.routine_kind.RoutineKind.TheVariants as kinds
 use Rattle.typed_trees.specs.Plain as trees
 use Rattle.typed_trees.specs.Plain.{TypedRoutine, TypedStmt, TypedStmts, TypedTree, NoStmts, MoreStmts}
 use Rattle.typed_trees.specs.declared.datum.Datum.{Datum}

@@ -6,8 +6,8 @@ use Rattle.rapid_model.specs.declared.part_name.PartName.{PartName}
 use Rattle.rapid_model.specs.declared.sort.Sort.{Sort}
 use Rattle.rapid_model.specs.declared.value.Value.{Value}
 use Rattle.rapid_model.specs.declared.value.Value.TheVariants as values
-use Rattle.raw_trees.specs.declared.raw_expr.Operator.{Operator}
-use Rattle.raw_trees.specs.declared.raw_expr.Operator.TheVariants as operators
+use Rattle.rapid_model.specs.declared.operator.Operator.{Operator}
+use Rattle.rapid_model.specs.declared.operator.Operator.TheVariants as operators
 use Rattle.rapid_operators.specs.Operators.{apply}
 use Rattle.rapid_operators.specs.declared.applied.Applied.{Applied}
 use Rattle.rapid_operators.specs.declared.applied.Applied.TheVariants as applies
@@ -35,7 +35,7 @@ use Rattle.rapid_meaning.specs.Places.{at_element, at_root, element_or_fault, el
 use Rattle.rapid_meaning.specs.Values as meaning
 use Rattle.rapid_meaning.proofs.Composing.{Comes, comes_after}
 
-gives : {A : Type 0} (d : Data) (v : A) → Comes (Gives v) d v
+pub gives : {A : Type 0} (d : Data) (v : A) → Comes (Gives v) d v
 unfolding performed
 gives d v = λ by run left. refl
 
@@ -116,7 +116,7 @@ right_value o u v outcomes.OutOfArray e = never_out_of_array v e
 right_value o u v outcomes.NotKnown e = never_not_known v e
 
 -- the right operand comes to what its outcome says
-abbrev ComesAs : Doing Value → Data → Outcome → Type 0
+abbrev pub ComesAs : Doing Value → Data → Outcome → Type 0
 ComesAs right d r = (w : Value) → r ≡ outcomes.Value w → Comes right d w
 
 right_comes : (d : Data) (o : Operator) (u v : Value) (r : Outcome) (right : Doing Value) → ComesAs right d r → constants.on_right o u r ≡ outcomes.Value v
@@ -125,7 +125,7 @@ right_comes d o u v r right good e =
     let w = right_value o u v r e in
     comes_after right (λ w. meaning.applied (apply o u w)) Raises d w.0 v (good w.0 w.1) (applied_comes d (apply o u w.0) v w.2)
 
-between_comes : (d : Data) (o : Operator) (u v : Value) (r : Outcome) (right : Doing Value) → ComesAs right d r
+pub between_comes : (d : Data) (o : Operator) (u v : Value) (r : Outcome) (right : Doing Value) → ComesAs right d r
     → constants.between o (outcomes.Value u) r ≡ outcomes.Value v → Comes (meaning.between o u right) d v
 between_comes d operators.And (values.Bool true) v r right good e = right_comes d operators.And (values.Bool true) v r right good e
 between_comes d operators.And (values.Bool false) v r right good e = gives_same d (values.Bool false) v (one_value (values.Bool false) v e)
@@ -176,7 +176,7 @@ made_value : (known : Elements) (sort : Sort) (es : TypedExprs) (more : Outcomes
 made_value known sort es (all vs) v is e = (vs, refl, some_value (made_of sort vs) v e)
 made_value known sort es (stops other) v is e = absurd (no_stop known es v (is ∙ ap stops e))
 
-or_misfit_comes : {A : Type 0} (d : Data) (o : Option A) (v : A) → o ≡ Some v → Comes (or_misfit o) d v
+pub or_misfit_comes : {A : Type 0} (d : Data) (o : Option A) (v : A) → o ≡ Some v → Comes (or_misfit o) d v
 or_misfit_comes d o v e = subst (λ (x : Option _). Comes (or_misfit x) d v) (sym e) (gives d v)
 
 -- an element of a constant array: its array, its number, the element, and that the part of it is the value
@@ -221,7 +221,7 @@ load_comes d (roots.Slot slot) part u v is of_it = λ by run left. or_misfit_com
 load_comes d (roots.Frame frame at) part u v is of_it = λ by run left. or_misfit_comes d _ (datums.Plain v) (part_there part u v (datum_at (roots.Frame frame at) d) is of_it) by run left
 load_comes d (roots.Pers pers index) part u v is of_it = absurd cc
 
-read_comes : (d : Data) (root : Root) (part : PartName) (u v : Value) → datum_at root d ≡ Some (datums.Plain u) → part_of u part ≡ Some v
+pub read_comes : (d : Data) (root : Root) (part : PartName) (u v : Value) → datum_at root d ≡ Some (datums.Plain u) → part_of u part ≡ Some v
     → Comes (read_value (record { root = root; part = part })) d v
 read_comes d root part u v is of_it = comes_after (load_from root part) meaning.value_in Raises d (datums.Plain v) v (load_comes d root part u v is of_it) (gives d v)
 
@@ -230,12 +230,12 @@ own_frame [] below start e = absurd (omega (arith, e))
 own_frame (frame ∷ rest) below start e = let same : length rest ≡ below = omega (arith, e) in ap (λ (n : ℕ). Some (at_root (roots.Frame n start))) same
 
 -- where the array of a root begins, and that its elements are there
-record IsRooted (tree : TypedTree) (routine : TypedRoutine) (d : Data) (root : TreeRoot) (elements : List Value) : Type 0 where
-  start : Root
-  comes : Comes (rooted tree routine root) d (at_root start)
-  holds : (number : ℕ) (u : Value) → slice_get elements (number - 1) ≡ Some u → datum_at (element_root start number) d ≡ Some (datums.Plain u)
+pub record IsRooted (tree : TypedTree) (routine : TypedRoutine) (d : Data) (root : TreeRoot) (elements : List Value) : Type 0 where
+  pub start : Root
+  pub comes : Comes (rooted tree routine root) d (at_root start)
+  pub holds : (number : ℕ) (u : Value) → slice_get elements (number - 1) ≡ Some u → datum_at (element_root start number) d ≡ Some (datums.Plain u)
 
-is_rooted : (tree : TypedTree) (routine : TypedRoutine) (known : Elements) (d : Data) → HoldsArrays tree routine known d → (root : TreeRoot) (elements : List Value)
+pub is_rooted : (tree : TypedTree) (routine : TypedRoutine) (known : Elements) (d : Data) → HoldsArrays tree routine known d → (root : TreeRoot) (elements : List Value)
     → array_of known root ≡ Some elements → IsRooted tree routine d root elements
 unfolding performed
 is_rooted tree routine known d held (tree_roots.Slot row) elements is = record {

@@ -17,9 +17,9 @@ use Rattle.rapid_model.specs.declared.sort.Sort.TheVariants as sorts
 use Rattle.rapid_model.specs.declared.tail.Tail.TheVariants as tails
 use Rattle.rapid_model.specs.declared.value.Value.TheVariants as values
 use Rattle.rapid_model.specs.declared.watched.Watched.TheVariants as watched
-use Rattle.raw_trees.specs.declared.raw_expr.Operator.TheVariants as operators
-use Rattle.raw_trees.specs.declared.raw_routine.Mode.TheVariants as modes
-use Rattle.typed_trees.specs.Plain.{TypedExpr, TypedTree, Assign, Known, SignalValue, Group, Builtin, Invoke, Signed, NotHeld, PlaceOf, Given, Lent, OfSignal, OfMeeting, Optional, NoArgument, Connect, Exit, For, Goto, If, Label, Return, Test, TryNext, While, NoArgs, MoreArms, NoArms, MoreCases, NoCases, Else, NoStmts, args_of, exprs_of, stmts_of}
+use Rattle.rapid_model.specs.declared.operator.Operator.TheVariants as operators
+use Rattle.rapid_model.specs.declared.mode.Mode.TheVariants as modes
+use Rattle.typed_trees.specs.Plain.{TypedExpr, TypedPlace, TypedTree, Assign, Known, SignalValue, Group, Builtin, Invoke, Signed, NotHeld, Held, PlaceOf, Given, Lent, OfSignal, OfMeeting, Optional, NoArgument, Connect, Exit, For, Goto, If, Label, Return, Test, TryNext, While, NoArgs, MoreArms, NoArms, MoreCases, NoCases, Else, NoStmts, args_of, exprs_of, stmts_of}
 use Rattle.typed_trees.specs.declared.datum.Datum.TheVariants as datums
 use Rattle.typed_trees.specs.declared.expr.TreeRoot.TheVariants as roots
 use Rattle.rapid_meaning.specs.Runs.{asks, unfit, data_after}
@@ -355,3 +355,17 @@ has_its_order : asked_along ordering [] (go ∷ answers.Number 2 ∷ go ∷ answ
     ≡ all_of (Look ∷ requests.Connect 0 1 ∷ Look ∷ Order 2 (watched.Signal 1 false) true ∷ fault (faults.Unhandled 103) ∷ [])
 unfolding asked_along
 has_its_order = refl
+
+-- one axis of the second of two persistent targets, which is read and written alone
+abbrev pub turning : TypedTree
+turning = with_pers (task_of [] (proc (assigns axis (between (stored axis) operators.Add (num 10)) ∷ []) ∷ [])) (record (pers_row sorts.JointTarget (number 0)) { len = Some 2; first = None })
+  where
+    axis : TypedPlace
+    axis = PlaceOf (roots.Pers 0) (Held (num 2)) (parts.Axis 0) sorts.Num
+
+abbrev pub axis_path : Path
+axis_path = record { index = 2; part = parts.Axis 0 }
+
+turns_an_axis : asked_along turning [] (go ∷ answers.Val (number 5) ∷ Ok ∷ Ok ∷ []) ≡ all_of (Look ∷ ReadP 0 axis_path ∷ WriteP 0 axis_path (number 15) ∷ done ∷ [])
+unfolding asked_along
+turns_an_axis = refl

@@ -16,14 +16,14 @@ use Rattle.rapid_meaning.specs.Frames.{initial}
 use Rattle.rapid_meaning.specs.Runs.{FitsNext, FitsSteps, deep, state_after, task}
 
 -- what an outcome is that used all answers up, and whose last one fitted
-abbrev Went : {A : Type 0} → Outcome A → Type 0
+abbrev pub Went : {A : Type 0} → Outcome A → Type 0
 Went (Gave v d left) = left ≡ []
 Went (Raised e d left) = left ≡ []
 Went Unfit = ⊥
 Went _ = ⊤
 
 -- the second outcome is the first with one more answer
-abbrev Grows : {A : Type 0} → (Bool → Fitting) → Answer → Outcome A → Outcome A → Type 0
+abbrev pub Grows : {A : Type 0} → (Bool → Fitting) → Answer → Outcome A → Outcome A → Type 0
 Grows by a (Gave v d left) o = o ≡ Gave v d (left ++ a ∷ [])
 Grows by a (Raised e d left) o = o ≡ Raised e d (left ++ a ∷ [])
 Grows by a (Asking r d) o = MatchBool (fits_request (by d.trapped) r a) (Went o) (o ≡ Unfit)
@@ -96,7 +96,7 @@ grows_ending : (A : Type 0) (by : Bool → Fitting) (a : Answer) (fate : Fate) (
 grows_ending A by a fate d [] = asked_when {A = A} (fits_request (by d.trapped) (End fate) a) (Ended d) tt
 grows_ending A by a fate d (b ∷ left) = grows_when {A = A} by a (fits_request (by d.trapped) (End fate) b) (Ended d) (Ended d) refl
 
-abbrev GrowRuns : (Bool → Fitting) → Answer → Run → Run → Type 0
+abbrev pub GrowRuns : (Bool → Fitting) → Answer → Run → Run → Type 0
 GrowRuns by a run more = (p : Part) (d : Data) (left : List Answer) → Grows by a (run p d left) (more p d (left ++ a ∷ []))
 
 grows_performed : {A : Type 0} (by : Bool → Fitting) (a : Answer) (run more : Run) → GrowRuns by a run more → WentRun more → (m : Doing A) (d : Data) (left : List Answer)
@@ -118,7 +118,7 @@ grows_performed by a run more good went (Does p k h) d left =
     (λ flow e rest. grows_performed by a run more good went (k flow) e rest) (λ x e rest. grows_performed by a run more good went (h x) e rest)
     (λ flow e. went_performed by more went (k flow) e) (λ x e. went_performed by more went (h x) e)
 
-grows_deep : (tree : TypedTree) (a : Answer) (n : ℕ) → GrowRuns (fitting_of tree) a (deep tree n) (deep tree (suc n))
+pub grows_deep : (tree : TypedTree) (a : Answer) (n : ℕ) → GrowRuns (fitting_of tree) a (deep tree n) (deep tree (suc n))
 unfolding deep
 grows_deep tree a zero p d left = tt
 grows_deep tree a (suc n) p d left =

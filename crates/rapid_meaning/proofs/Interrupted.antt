@@ -9,7 +9,7 @@ use Rattle.rapid_model.specs.declared.request.Request.TheVariants.{Look, ReadS, 
 use Rattle.rapid_model.specs.declared.sort.Sort.TheVariants as sorts
 use Rattle.rapid_model.specs.declared.tail.Tail.TheVariants as tails
 use Rattle.rapid_model.specs.declared.watched.Watched.TheVariants as watched
-use Rattle.raw_trees.specs.declared.raw_expr.Operator.TheVariants as operators
+use Rattle.rapid_model.specs.declared.operator.Operator.TheVariants as operators
 use Rattle.typed_trees.specs.Plain.{TypedStmt, TypedTree, Given, Lent, OfSignal, Connect}
 use Rattle.rapid_meaning.specs.Runs.{asks}
 use Rattle.rapid_meaning.proofs.Asked.{all_of, asked_along, done, go}

@@ -13,3 +13,13 @@ pub mod ConstantsAgree
 mod ConstantArrays
 pub mod Setpoints
 pub mod Asking
+mod Texts
+mod Homes
+mod MoveEnds
+mod EmptyParts
+mod ConstantsFail
+mod Turns
+pub mod Room
+pub mod Tidy
+pub mod Kept
+mod Rises

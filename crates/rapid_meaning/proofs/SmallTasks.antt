@@ -15,8 +15,8 @@ use Rattle.rapid_model.specs.declared.tail.Tail.TheVariants as tails
 use Rattle.rapid_model.specs.declared.value.Value.TheVariants as values
 use Rattle.rapid_model.specs.declared.watched.Watched.TheVariants as watched
 use Rattle.rapid_model.specs.declared.zone_name.ZoneName.TheVariants as zone_names
-use Rattle.raw_trees.specs.declared.raw_expr.Operator.TheVariants as operators
-use Rattle.raw_trees.specs.declared.raw_routine.Mode.TheVariants as modes
+use Rattle.rapid_model.specs.declared.operator.Operator.TheVariants as operators
+use Rattle.rapid_model.specs.declared.mode.Mode.TheVariants as modes
 use Rattle.typed_trees.specs.Plain.{TypedTree, ErrorNumber, Stored, Invoke, Not, Signed, Given, Lent, OfSignal, OfMeeting, Optional, NoArgument, Connect, For, IfOne, Raise, Retry, TryNext, While, NoArgs, NoStmts, stmts_of}
 use Rattle.typed_trees.specs.declared.datum.Datum.TheVariants as datums
 use Rattle.typed_trees.specs.declared.expr.TreeRoot.TheVariants as roots

@@ -9,10 +9,10 @@ use Rattle.rapid_model.specs.declared.sort.Sort.{Sort}
 use Rattle.rapid_model.specs.declared.sort.Sort.TheVariants as sorts
 use Rattle.rapid_model.specs.declared.value.Value.{Value}
 use Rattle.rapid_model.specs.declared.value.Value.TheVariants as values
-use Rattle.raw_trees.specs.declared.raw_expr.Operator.{Operator}
-use Rattle.raw_trees.specs.declared.raw_routine.Mode.{Mode}
-use Rattle.raw_trees.specs.declared.raw_routine.RoutineKind.{RoutineKind}
-use Rattle.raw_trees.specs.declared.raw_routine.RoutineKind.TheVariants as kinds
+use Rattle.rapid_model.specs.declared.operator.Operator.{Operator}
+use Rattle.rapid_model.specs.declared.mode.Mode.{Mode}
+use Rattle.rapid_model.specs.declared.routine_kind.RoutineKind.{RoutineKind}
+use Rattle.rapid_model.specs.declared.routine_kind.RoutineKind.TheVariants as kinds
 use Rattle.typed_trees.specs.declared.datum.Datum.{Datum}
 use Rattle.typed_trees.specs.declared.datum.Datum.TheVariants as datums
 use Rattle.typed_trees.specs.declared.expr.TreeRoot.{TreeRoot}
@@ -157,7 +157,7 @@ param mode = record { name = codes "p"; mode = mode; sort = sorts.Num }
 
 -- a task whose main is the first routine
 abbrev pub task_of : List TypedSlot → List TypedRoutine → TypedTree
-task_of slots routines = record { modules = 1; tasks = codes "A" ∷ []; slots = slots; pers = []; meetings = []; routines = routines; main = 0; pers_of = []; meeting_of = [] }
+task_of slots routines = record { modules = 1; tasks = codes "A" ∷ []; slots = slots; pers = []; meetings = []; routines = routines; main = 0; pers_of = []; meeting_of = []; axes = 6 }
 
 abbrev pub with_pers : TypedTree → TypedPers → TypedTree
 with_pers tree row = record tree { pers = row ∷ []; pers_of = 0 ∷ [] }

@@ -6,8 +6,8 @@ use Rattle.rapid_model.specs.declared.fate.Fate.{Fate}
 use Rattle.rapid_model.specs.declared.request.Request.{Request}
 use Rattle.rapid_model.specs.declared.request.Request.TheVariants.{End}
 use Rattle.rapid_model.specs.declared.sort.Sort.{Sort}
-use Rattle.raw_trees.specs.declared.raw_routine.RoutineKind.{RoutineKind}
-use Rattle.raw_trees.specs.declared.raw_routine.RoutineKind.TheVariants as kinds
+use Rattle.rapid_model.specs.declared.routine_kind.RoutineKind.{RoutineKind}
+use Rattle.rapid_model.specs.declared.routine_kind.RoutineKind.TheVariants as kinds
 use Rattle.typed_trees.specs.Plain.{TypedPers, TypedRoutine, TypedTree}
 use Rattle.rapid_meaning.specs.Data.{Data}
 use Rattle.rapid_meaning.specs.Doings.{Doing, Gives, Raises, Asks, Ends, Misfit, Reads, Writes, Does}
@@ -58,6 +58,7 @@ fitting_of tree trapped = record {
   sorts = sort_of_pers tree.pers_of tree.pers;
   traps = λ number. is_trap_row (slice_get tree.routines number);
   trapped = trapped;
+  axes = tree.axes;
 }
 
 -- a task that ends with this fate asks End, and has ended with the answer

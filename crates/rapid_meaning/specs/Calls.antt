@@ -1,8 +1,8 @@
 -- Routines (RAPID Kernel, routine declarations), and what each part of a program is.
 use Rattle.std.specs.Prelude.{List, Option, None, Some, slice_get}
 use Rattle.rapid_model.specs.declared.fate.Fault.TheVariants.{NoReturn}
-use Rattle.raw_trees.specs.declared.raw_routine.RoutineKind.{RoutineKind}
-use Rattle.raw_trees.specs.declared.raw_routine.RoutineKind.TheVariants as kinds
+use Rattle.rapid_model.specs.declared.routine_kind.RoutineKind.{RoutineKind}
+use Rattle.rapid_model.specs.declared.routine_kind.RoutineKind.TheVariants as kinds
 use Rattle.typed_trees.specs.Plain.{TypedRoutine, TypedStmts, TypedTree}
 use Rattle.typed_trees.specs.declared.datum.Datum.{Datum}
 use Rattle.rapid_meaning.specs.Doings.{Doing, Gives, Raises, Misfit, ◌>>◌, after, fault}

@@ -3,14 +3,10 @@
 -- value and its step. A frame is named by the number of frames below it.
 use Rattle.std.specs.Prelude.{ℕ, ◌==◌, Bool, List, [], ◌∷◌, length, sum_by, Option, None, Some, if◌then◌else◌, slice_get, slice_set}
 use Rattle.std.specs.Option.{option_and_then}
+use Rattle.rapid_model.specs.declared.at.At.{At}
 use Rattle.typed_trees.specs.declared.datum.Datum.{Datum}
 use Rattle.typed_trees.specs.declared.datum.Root.{Root}
 use Rattle.typed_trees.specs.declared.datum.Root.TheVariants as roots
-
--- a place of the source: the module's number and the byte
-pub record At : Type 0 where
-  pub «module» : ℕ
-  pub byte : ℕ
 
 -- the data of a routine under way, and how many changes by others the last Look of its statements found
 pub record Frame : Type 0 where

@@ -1,5 +1,6 @@
 -- The data of a task as it begins, and those of a routine as it is called (RAPID Kernel, data declarations).
 use Rattle.std.specs.Prelude.{◌+◌, ◌*◌, ◌&&◌, nat_lt, nat_le, Bool, false, List, [], ◌∷◌, ◌++◌, length, replicate, flat_map, None, if◌then◌else◌}
+use Rattle.rapid_limits.specs.declared.TheConstants.{MOST_FRAMES, MOST_FRAME_VALUES}
 use Rattle.rapid_model.specs.declared.fate.Fault.TheVariants.{DepthLimit}
 use Rattle.typed_trees.specs.Plain.{TypedRoutine, TypedTree}
 use Rattle.typed_trees.specs.declared.datum.Datum.{Datum}
@@ -19,9 +20,9 @@ first_values routine = flat_map (λ row. row.first) routine.locals ++ replicate 
 abbrev pub frame_of : TypedRoutine → List Datum → Frame
 frame_of routine args = record { values = args ++ first_values routine; seen = 0 }
 
--- at most 32 frames, with at most 20,000 values in all
+-- not too many frames, nor too many values in all
 abbrev pub has_room : List Frame → Frame → Bool
-has_room frames frame = nat_lt (length frames) 32 && nat_le (values_in frames + length frame.values) 20_000
+has_room frames frame = nat_lt (length frames) MOST_FRAMES && nat_le (values_in frames + length frame.values) MOST_FRAME_VALUES
 
 abbrev pub enters : Frame → Act
 enters frame = Reads (λ d. if has_room d.frames frame then Writes (record d { frames = frame ∷ d.frames }) done else fault DepthLimit)

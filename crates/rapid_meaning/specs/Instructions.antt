@@ -80,7 +80,7 @@ instructed tree routine instructions.MoveAbsJ (Given to ∷ Given speed ∷ Itse
   joints ← target tree routine to
   v ← expr tree routine speed
   n ← tool_speed_in v
-  move joints n
+  move tree.axes joints n
   ready
 -- signals
 instructed tree routine instructions.Set (OfSignal signal ∷ []) options = write_signal signal true >> ready
@@ -155,13 +155,13 @@ instructed tree routine instructions.WZLimJointDef (Lent shape ∷ Given low ∷
   q ← place tree routine shape
   l ← target tree routine low
   h ← target tree routine high
-  define q (has (codes "Inside") options) l h
+  define tree.axes q (has (codes "Inside") options) l h
   ready
 instructed tree routine instructions.WZHomeJointDef (Lent shape ∷ Given middle ∷ Given delta ∷ []) options = do
   q ← place tree routine shape
   m ← target tree routine middle
   d ← target tree routine delta
-  define_home q (has (codes "Inside") options) m d
+  define_home tree.axes q (has (codes "Inside") options) m d
   ready
 instructed tree routine instructions.WZLimSup (Lent zone ∷ Lent shape ∷ []) options = do
   q ← place tree routine zone

@@ -23,3 +23,4 @@ pub mod Calls
 pub mod Runs
 pub mod Constants
 pub mod Asking
+pub mod Turns

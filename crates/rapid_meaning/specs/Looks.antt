@@ -2,9 +2,10 @@
 use Rattle.std.specs.Prelude.{ℕ, true, false, [], Option, Some}
 use Rattle.rapid_model.specs.declared.answer.Answer.{Answer}
 use Rattle.rapid_model.specs.declared.answer.Answer.TheVariants as answers
+use Rattle.rapid_model.specs.declared.at.At.{At}
 use Rattle.rapid_model.specs.declared.fate.Fault.TheVariants.{TrapFlood, Unhandled}
 use Rattle.rapid_model.specs.declared.request.Request.TheVariants.{Look, Leave, Hold, Rise}
-use Rattle.rapid_meaning.specs.Data.{At, seen_in, with_seen}
+use Rattle.rapid_meaning.specs.Data.{seen_in, with_seen}
 use Rattle.rapid_meaning.specs.Doings.{Doing, Misfit, Asks, Reads, Does, ◌>>◌, change, fault, goes_to, tells}
 use Rattle.rapid_meaning.specs.Flows.{Flow, Part, Call, Where}
 

@@ -22,19 +22,19 @@ when_given next answers.Given = next
 when_given next (answers.Stopped zone) = fault ZoneStop
 when_given next _ = Misfit
 
--- the last `left` of n setpoints, in order
-unfoldable pub setpoints : Joints → Joints → ℕ → ℕ → Act
-setpoints start target n zero = done
-setpoints start target n (suc left) = Asks (Setpoint (setpoint start target n (n - left))) (λ a. when_given (setpoints start target n left) a)
+-- the last `left` of n setpoints of an arm with so many axes, in order
+unfoldable pub setpoints : ℕ → Joints → Joints → ℕ → ℕ → Act
+setpoints axes start target n zero = done
+setpoints axes start target n (suc left) = Asks (Setpoint (setpoint axes start target n (n - left))) (λ a. when_given (setpoints axes start target n left) a)
 
 -- from where the arm is, all setpoints of the move
-abbrev pub move_from : Joints → ℕ → Answer → Act
-move_from target cap (answers.At start) = setpoints start target (setpoint_count start target cap) (setpoint_count start target cap)
-move_from target cap _ = Misfit
+abbrev pub move_from : ℕ → Joints → ℕ → Answer → Act
+move_from axes target cap (answers.At start) = setpoints axes start target (setpoint_count axes start target cap) (setpoint_count axes start target cap)
+move_from axes target cap _ = Misfit
 
--- a move to a target at a speed of the tool
-abbrev pub move : Joints → ℤ → Act
-move target speed =
-    if not (is_reachable target) then fault JointRange
+-- a move of an arm with so many axes to a target, at a speed of the tool
+abbrev pub move : ℕ → Joints → ℤ → Act
+move axes target speed =
+    if not (is_reachable axes target) then fault JointRange
     else if not (int_lt (pos 0) speed) then fault Speed
-    else Asks Position (move_from target (cap_of speed))
+    else Asks Position (move_from axes target (cap_of speed))

@@ -6,8 +6,8 @@ use Rattle.rapid_num.specs.declared.shape.Shape.{Shape}
 use Rattle.rapid_model.specs.declared.fate.Fault.TheVariants.{NumRange, SignalValue}
 use Rattle.rapid_model.specs.declared.value.Value.{Value}
 use Rattle.rapid_model.specs.declared.value.Value.TheVariants as values
-use Rattle.raw_trees.specs.declared.raw_expr.Operator.{Operator}
-use Rattle.raw_trees.specs.declared.raw_expr.Operator.TheVariants as operators
+use Rattle.rapid_model.specs.declared.operator.Operator.{Operator}
+use Rattle.rapid_model.specs.declared.operator.Operator.TheVariants as operators
 use Rattle.rapid_operators.specs.Operators.{apply}
 use Rattle.rapid_operators.specs.declared.applied.Applied.{Applied}
 use Rattle.rapid_operators.specs.declared.applied.Applied.TheVariants as applies

@@ -20,10 +20,6 @@ use Rattle.rapid_meaning.specs.Doings.{Doing, Gives, Misfit, Asks, Act, ◌>>=�
 use Rattle.rapid_meaning.specs.Places.{load, store}
 use Rattle.rapid_meaning.specs.Values.{shape_in}
 
--- an arm has axes 1 to 6
-abbrev pub arm_axes : ℕ
-arm_axes = 6
-
 abbrev pub fault_of : ShapeFault → Fault
 fault_of shape_faults.ExtAxis = faults.ExtAxis
 fault_of shape_faults.ZoneShape = faults.ZoneShape
@@ -32,9 +28,9 @@ abbrev pub shaped : Lvalue → Result Shape ShapeFault → Act
 shaped place (Ok shape) = store place (datums.Shape (Some shape))
 shaped place (Err why) = fault (fault_of why)
 
--- stores the shape of a low and a high position
-abbrev pub define : Lvalue → Bool → Joints → Joints → Act
-define place inside low high = shaped place (made_shape inside low high arm_axes)
+-- stores the shape of a low and a high position, for an arm with so many axes
+abbrev pub define : ℕ → Lvalue → Bool → Joints → Joints → Act
+define axes place inside low high = shaped place (made_shape inside low high axes)
 
 -- the bound of an axis below and above its middle; none of both where the middle or the delta is 9E9
 abbrev pub home_low : ℤ → ℤ → Option ℤ
@@ -53,11 +49,11 @@ position_or_fault None = fault faults.NumRange
 position_or_fault (Some axes) = Gives (record { axis = axes })
 
 -- stores the shape of a middle and its deltas
-abbrev pub define_home : Lvalue → Bool → Joints → Joints → Act
-define_home place inside middle delta = do
+abbrev pub define_home : ℕ → Lvalue → Bool → Joints → Joints → Act
+define_home axes place inside middle delta = do
   low ← position_or_fault (on_axes home_low middle.axis delta.axis)
   high ← position_or_fault (on_axes home_high middle.axis delta.axis)
-  define place inside low high
+  define axes place inside low high
 
 -- a shape that was defined
 abbrev pub defined : Option Shape → Doing Shape

@@ -1,6 +1,7 @@
 -- Which answers fit a request.
-use Rattle.std.specs.Prelude.{ℕ, Bool, true, false, not, ◌&&◌, List, Option, Some, None, slice_get}
+use Rattle.std.specs.Prelude.{ℕ, Bool, true, false, not, ◌&&◌, List, Option, Some, None, slice_get, unwrap_or}
 use Rattle.std.specs.Option.{option_map}
+use Rattle.rapid_limits.specs.declared.TheConstants.{MOST_INTERRUPTS, MOST_ZONES}
 use Rattle.rapid_num.specs.Reach.{is_position}
 use Rattle.rapid_model.specs.CellData.{CellData}
 use Rattle.rapid_model.specs.Limits.{is_within}
@@ -16,11 +17,12 @@ use Rattle.rapid_model.specs.declared.sort.Sort.{Sort}
 use Rattle.rapid_model.specs.declared.value.Value.{Value}
 
 -- What an answer has to fit besides its request: the type of each persistent, by its number in the cell; which routines are
--- traps that an interrupt may begin; and whether a trap is under way.
+-- traps that an interrupt may begin; whether a trap is under way; and how many axes the arm has, 0 where there is none.
 pub record Fitting : Type 0 where
   pub sorts : ℕ → Option Sort
   pub traps : ℕ → Bool
   pub trapped : Bool
+  pub axes : ℕ
 
 -- a value of the part of a persistent of this type, if the persistent is there
 abbrev pub fits_pers : Option Sort → PartName → Value → Bool
@@ -38,12 +40,12 @@ fits_request by (requests.TestSet pers path) (answers.Yes met) = true
 fits_request by (requests.ReadS signal) (answers.Bit bit) = true
 fits_request by (requests.WriteS signal value) answers.Ok = true
 fits_request by (requests.WriteS signal value) answers.Tied = true
-fits_request by requests.Position (answers.At position) = is_position position
+fits_request by requests.Position (answers.At position) = is_position by.axes position
 fits_request by (requests.Setpoint to) answers.Given = true
 fits_request by (requests.Setpoint to) (answers.Stopped zone) = true
 fits_request by (requests.Connect old trap) answers.Already = true
 fits_request by (requests.Connect old trap) answers.NoMore = true
-fits_request by (requests.Connect old trap) (answers.Number number) = is_within 1 64 number
+fits_request by (requests.Connect old trap) (answers.Number number) = is_within 1 MOST_INTERRUPTS number
 fits_request by (requests.Order number on single) answers.Unknown = true
 fits_request by (requests.Order number on single) answers.Already = true
 fits_request by (requests.Order number on single) answers.Ok = true
@@ -58,11 +60,11 @@ fits_request by requests.Enable answers.Ok = true
 fits_request by requests.Leave answers.Ok = true
 fits_request by (requests.ZoneSet old temporary shape) answers.ZoneUsed = true
 fits_request by (requests.ZoneSet old temporary shape) answers.ZoneFull = true
-fits_request by (requests.ZoneSet old temporary shape) (answers.Number number) = is_within 1 10 number
+fits_request by (requests.ZoneSet old temporary shape) (answers.Number number) = is_within 1 MOST_ZONES number
 fits_request by (requests.ZoneTie old temporary shape signal value) answers.ZoneUsed = true
 fits_request by (requests.ZoneTie old temporary shape signal value) answers.ZoneFull = true
 fits_request by (requests.ZoneTie old temporary shape signal value) answers.Tied = true
-fits_request by (requests.ZoneTie old temporary shape signal value) (answers.Number number) = is_within 1 10 number
+fits_request by (requests.ZoneTie old temporary shape signal value) (answers.Number number) = is_within 1 MOST_ZONES number
 fits_request by (requests.ZoneOn zone) answers.NoZone = true
 fits_request by (requests.ZoneOn zone) answers.Ok = true
 fits_request by (requests.ZoneOff zone) answers.NoZone = true
@@ -78,11 +80,16 @@ fits_request by (requests.Say text tail) answers.Ok = true
 fits_request by (requests.End fate) answers.Ok = true
 fits_request _ _ _ = false
 
+-- how many axes the arm of an actor has, by its number in the cell: 0 where it has none
+abbrev pub axes_of : CellData → ℕ → ℕ
+axes_of cell actor = unwrap_or (option_map (λ row. row.axes) (slice_get cell.tasks actor)) 0
+
 -- what the answers of a cell fit, for an actor with its own events so far: a trap that begins is one with which it asked to
 -- connect an interrupt
-abbrev pub fitting_in : CellData → List Event → Fitting
-fitting_in cell mine = record {
+abbrev pub fitting_in : CellData → ℕ → List Event → Fitting
+fitting_in cell actor mine = record {
   sorts = λ pers. option_map (λ row. row.sort) (slice_get cell.pers pers);
   traps = has_connected mine;
   trapped = is_trapped mine;
+  axes = axes_of cell actor;
 }

@@ -1,6 +1,7 @@
 -- Limits that a script and its cell keep.
-use Rattle.std.specs.Prelude.{ℕ, Bool, true, false, not, ◌&&◌, nat_le, nat_lt, int_lt, List, length, take, drop, Option, None, Some, is_some, is_none, slice_get}
+use Rattle.std.specs.Prelude.{ℕ, ◌+◌, Bool, true, false, not, ◌&&◌, ◌||◌, ◌==◌, nat_le, nat_lt, int_lt, List, [], ◌∷◌, length, take, drop, Option, None, Some, is_some, is_none, slice_get, unwrap_or}
 use Rattle.std.specs.List.{list_all, list_any}
+use Rattle.rapid_limits.specs.declared.TheConstants.{MOST_AXES, MOST_STEPS, ROBOT_AXES}
 use Rattle.rapid_num.specs.Reach.{is_in_reach, is_position}
 use Rattle.rapid_num.specs.declared.joints.Joints.{Joints}
 use Rattle.rapid_num.specs.declared.shape.Bound.{Bound}
@@ -18,29 +19,39 @@ abbrev pub holds_where_there : {A : Type 0} → (A → Bool) → Option A → Bo
 holds_where_there test None = true
 holds_where_there test (Some x) = test x
 
--- an arm, where there is one, starts at a position
-abbrev pub is_start : Option Joints → Bool
-is_start arm = holds_where_there is_position arm
+-- how many axes a task's arm has: a robot's, and external ones; or none where the task has no arm
+abbrev pub is_axes : ℕ → Bool
+is_axes axes = axes == 0 || is_within ROBOT_AXES MOST_AXES axes
+
+-- an arm with so many axes starts at a position, and where there are none there is no arm
+abbrev pub is_start : ℕ → Option Joints → Bool
+is_start axes None = axes == 0
+is_start axes (Some arm) = is_within ROBOT_AXES MOST_AXES axes && is_position axes arm
 
 abbrev pub is_signal : SignalRow → Bool
 is_signal row = is_short_name row.name
 
--- the bounds of an axis are within 720 degrees, the low one below the high one
-abbrev pub is_bounded : Bound → Bool
-is_bounded bound = is_in_reach bound.low && is_in_reach bound.high && int_lt bound.low bound.high
+-- the bounds of an axis, counted from 0, are in its reach, the low one below the high one
+abbrev pub is_bounded : ℕ → Bound → Bool
+is_bounded axis bound = is_in_reach axis bound.low && is_in_reach axis bound.high && int_lt bound.low bound.high
 
--- one or more of axes 1 to 6 have bounds, and no other axis has any
-abbrev pub is_zone_shape : Shape → Bool
-is_zone_shape shape =
-    list_any is_some (take 6 shape.bounds) && list_all (holds_where_there is_bounded) (take 6 shape.bounds) && list_all is_none (drop 6 shape.bounds)
+-- the bounds of axes in a row, from this one on
+abbrev pub are_bounded : ℕ → List (Option Bound) → Bool
+are_bounded axis [] = true
+are_bounded axis (bound ∷ bounds) = holds_where_there (is_bounded axis) bound && are_bounded (axis + 1) bounds
 
--- the task is there and has an arm; the arms are those of the tasks
-abbrev pub has_arm : List (Option Joints) → ℕ → Bool
-has_arm arms number = is_armed (slice_get arms number)
-  where
-    is_armed : Option (Option Joints) → Bool
-    is_armed None = false
-    is_armed (Some arm) = is_some arm
+-- one or more of the arm's axes, so many, have bounds, and no other axis has any
+abbrev pub is_zone_shape : ℕ → Shape → Bool
+is_zone_shape axes shape =
+    list_any is_some (take axes shape.bounds) && are_bounded 0 (take axes shape.bounds) && list_all is_none (drop axes shape.bounds)
+
+-- how many axes the arm of a task has, by the numbers of axes of all tasks: 0 where it has no arm, or is not there
+abbrev pub axes_at : List ℕ → ℕ → ℕ
+axes_at axes number = unwrap_or (slice_get axes number) 0
+
+-- the task is there and has an arm
+abbrev pub has_arm : List ℕ → ℕ → Bool
+has_arm axes number = nat_lt 0 (axes_at axes number)
 
 -- the signal is there and is an input
 abbrev pub is_input_signal : List SignalRow → ℕ → Bool
@@ -50,11 +61,13 @@ is_input_signal signals number = is_input_row (slice_get signals number)
     is_input_row None = false
     is_input_row (Some row) = not row.output
 
-abbrev pub is_zone : List SignalRow → List (Option Joints) → ZoneRow → Bool
-is_zone signals arms row = is_short_name row.name && has_arm arms row.task && is_zone_shape row.shape && nat_lt row.signal (length signals)
+-- a zone of a cell whose tasks' arms have so many axes
+abbrev pub is_zone : List SignalRow → List ℕ → ZoneRow → Bool
+is_zone signals axes row =
+    is_short_name row.name && has_arm axes row.task && is_zone_shape (axes_at axes row.task) row.shape && nat_lt row.signal (length signals)
 
 -- with so many tasks
 abbrev pub is_input : List SignalRow → ℕ → InputRow → Bool
 is_input signals tasks row =
     is_input_signal signals row.signal && holds_where_there (λ w. nat_lt w.0 (length signals)) row.when
-    && holds_where_there (λ g. nat_lt g.0 tasks && nat_le g.1 1_000_000) row.given && holds_where_there (is_within 0 1_000_000) row.after
+    && holds_where_there (λ g. nat_lt g.0 tasks && nat_le g.1 MOST_STEPS) row.given && holds_where_there (is_within 0 MOST_STEPS) row.after

@@ -2,14 +2,12 @@
 use Rattle.std.specs.Prelude.{◌≡◌, ℕ, Bool, true, not, ◌&&◌, nat_le, List, [], ◌∷◌, length}
 use Rattle.std.specs.List.{list_any}
 use Rattle.std.specs.Str.{str_eq_ignore_ascii_case, str_to_ascii_lowercase}
+use Rattle.rapid_limits.specs.declared.TheConstants.{LONGEST_NAME}
 use Rattle.rapid_num.specs.Characters.{is_name}
-
-abbrev pub longest_name : ℕ
-longest_name = 32
 
 -- a name that is not too long
 abbrev pub is_short_name : List ℕ → Bool
-is_short_name text = is_name text && nat_le (length text) longest_name
+is_short_name text = is_name text && nat_le (length text) LONGEST_NAME
 
 -- two names are one, letters of either case being the same
 abbrev pub IsOneName : List ℕ → List ℕ → Type 0

@@ -1,5 +1,6 @@
 -- The parts of persistents, and the values that they take.
 use Rattle.std.specs.Prelude.{ℕ, Bool, false, ◌&&◌, nat_le, nat_lt, Option, Some, None, is_some, ◌==◌, if◌then◌else◌}
+use Rattle.rapid_limits.specs.declared.TheConstants.{MOST_AXES, ROBOT_AXES}
 use Rattle.rapid_model.specs.Lengths.{is_full}
 use Rattle.rapid_model.specs.Limits.{is_within}
 use Rattle.rapid_model.specs.Sorts.{is_value_of}
@@ -19,9 +20,9 @@ abbrev pub part_sort : Sort → PartName → Option Sort
 part_sort sort parts.Whole = Some sort
 part_sort sorts.JointTarget parts.Robax = Some sorts.RobJoint
 part_sort sorts.JointTarget parts.Extax = Some sorts.ExtJoint
-part_sort sorts.JointTarget (parts.Axis number) = num_where (nat_lt number 12)
+part_sort sorts.JointTarget (parts.Axis number) = num_where (nat_lt number MOST_AXES)
 part_sort sorts.RobJoint (parts.Axis number) = num_where (nat_lt number 6)
-part_sort sorts.ExtJoint (parts.Axis number) = num_where (nat_le 6 number && nat_lt number 12)
+part_sort sorts.ExtJoint (parts.Axis number) = num_where (nat_le ROBOT_AXES number && nat_lt number MOST_AXES)
 part_sort sorts.SpeedData (parts.SpeedPart number) = num_where (nat_lt number 4)
 part_sort sorts.Tasks parts.Taskname = Some sorts.Text
 part_sort _ _ = None

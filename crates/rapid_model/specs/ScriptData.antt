@@ -1,6 +1,7 @@
 -- What contracts see of a cell script.
-use Rattle.std.specs.Prelude.{ℕ, ◌≤◌, Bool, true, false, ◌&&◌, IsTrue, List, [], ◌∷◌, ◌++◌, length, map}
+use Rattle.std.specs.Prelude.{ℕ, ◌≤◌, Bool, true, false, ◌&&◌, ◌||◌, ◌==◌, nat_le, nat_lt, if◌then◌else◌, IsTrue, List, [], ◌∷◌, ◌++◌, length, map}
 use Rattle.std.specs.List.{list_all}
+use Rattle.rapid_limits.specs.declared.TheConstants.{LONGEST_ARRAY, LONGEST_FILE_NAME, MOST_CELL_ZONES, MOST_INPUTS, MOST_MODULES, MOST_PERS_VALUES, MOST_SIGNALS, MOST_STEPS, MOST_TASKS, MOST_TASKS_AT_FIRST, ROBOT_AXES}
 use Rattle.rapid_model.specs.declared.input_row.InputRow.{InputRow}
 use Rattle.rapid_model.specs.declared.pers_value.PersValue.{PersValue}
 use Rattle.rapid_model.specs.declared.script_task.ScriptTask.{ScriptTask}
@@ -13,6 +14,7 @@ use Rattle.rapid_model.specs.Limits.{is_within, holds_where_there, is_start, is_
 use Rattle.rapid_model.specs.Names.{is_short_name, differ}
 
 pub record ScriptData : Type 0 where
+  pub version : ℕ
   pub steps : ℕ
   pub signals : List SignalRow
   pub tasks : List ScriptTask
@@ -20,13 +22,23 @@ pub record ScriptData : Type 0 where
   pub zones : List ZoneRow
   pub inputs : List InputRow
 
--- the name of a file has 1 to 255 bytes
+-- the name of a file has a byte and is not too long
 abbrev pub is_file_name : List ℕ → Bool
-is_file_name name = is_within 1 255 (length name)
+is_file_name name = is_within 1 LONGEST_FILE_NAME (length name)
 
--- a task has a name and 1 to 16 modules, and its arm, where there is one, starts at a position
-abbrev pub is_task : ScriptTask → Bool
-is_task task = is_short_name task.name && is_within 1 16 (length task.modules) && list_all is_file_name task.modules && is_start task.arm
+-- how many tasks a script of a version has at most
+abbrev pub most_tasks : ℕ → ℕ
+most_tasks version = if version == 1 then MOST_TASKS_AT_FIRST else MOST_TASKS
+
+-- external axes come with version 2
+abbrev pub takes_axes : ℕ → ℕ → Bool
+takes_axes version axes = nat_lt 1 version || nat_le axes ROBOT_AXES
+
+-- a task has a name, a module and not too many, and its arm, where there is one, starts at a position
+abbrev pub is_task : ℕ → ScriptTask → Bool
+is_task version task =
+    is_short_name task.name && is_within 1 MOST_MODULES (length task.modules) && list_all is_file_name task.modules
+    && takes_axes version task.axes && is_start task.axes task.arm
 
 -- a script gives nums, truths and texts alone
 abbrev pub is_given_value : Value → Bool
@@ -39,29 +51,30 @@ is_given_value (values.Target joints) = false
 is_given_value (values.Speed parts) = false
 
 abbrev pub is_pers_value : PersValue → Bool
-is_pers_value row = is_short_name row.name && holds_where_there (is_within 1 1_000) row.index && is_given_value row.value
+is_pers_value row = is_short_name row.name && holds_where_there (is_within 1 LONGEST_ARRAY) row.index && is_given_value row.value
 
--- the limits that every script keeps
+-- the limits that every script keeps, by its version
 pub record IsScript (script : ScriptData) : Type 0 where
+  pub version : IsTrue (is_within 1 2 script.version)
   pub some_steps : 1 ≤ script.steps
-  pub few_steps : script.steps ≤ 1_000_000
-  pub few_signals : length script.signals ≤ 256
+  pub few_steps : script.steps ≤ MOST_STEPS
+  pub few_signals : length script.signals ≤ MOST_SIGNALS
   pub signals : IsTrue (list_all is_signal script.signals)
   pub signal_names : IsTrue (differ (map (λ row. row.name) script.signals))
   pub some_tasks : 1 ≤ length script.tasks
-  pub few_tasks : length script.tasks ≤ 8
-  pub tasks : IsTrue (list_all is_task script.tasks)
+  pub few_tasks : length script.tasks ≤ most_tasks script.version
+  pub tasks : IsTrue (list_all (is_task script.version) script.tasks)
   pub task_names : IsTrue (differ (map (λ task. task.name) script.tasks))
-  pub few_pers : length script.pers ≤ 1_000
+  pub few_pers : length script.pers ≤ MOST_PERS_VALUES
   pub pers : IsTrue (list_all is_pers_value script.pers)
-  pub few_zones : length script.zones ≤ 16
-  pub zones : IsTrue (list_all (is_zone script.signals (map (λ task. task.arm) script.tasks)) script.zones)
-  pub few_inputs : length script.inputs ≤ 10_000
+  pub few_zones : length script.zones ≤ MOST_CELL_ZONES
+  pub zones : IsTrue (list_all (is_zone script.signals (map (λ task. task.axes) script.tasks)) script.zones)
+  pub few_inputs : length script.inputs ≤ MOST_INPUTS
   pub inputs : IsTrue (list_all (is_input script.signals (length script.tasks)) script.inputs)
 
 -- a task of a script in its cell
 abbrev pub row_of : ScriptTask → TaskRow
-row_of task = record { name = task.name; arm = task.arm }
+row_of task = record { name = task.name; arm = task.arm; axes = task.axes }
 
 -- the names of the modules, in the order in which they are read
 abbrev pub module_names : List ScriptTask → List (List ℕ)

@@ -24,6 +24,8 @@ pub enum Instruction {
     WZLimJointDef,
     WZHomeJointDef,
     WZLimSup,
+    /// No name means it, and no call of it is right.
+    WZDOSet,
     WZDisable,
     WZEnable,
     WZFree,

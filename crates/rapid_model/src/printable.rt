@@ -4,6 +4,7 @@ ghost use Rattle.rapid_num.specs.Characters.{is_printable};
 ghost use Rattle.rapid_model.specs.Printable.{ArePrintable, takes};
 
 use arrayvec::ArrayVec;
+use rapid_limits::{LONGEST_NAME, LONGEST_STRING};
 use rapid_num::is_printable;
 use std::marker::Model;
 
@@ -69,14 +70,14 @@ impl<const ROOM: usize> Printable<ROOM> {
 }
 
 /// A text of at most 80 bytes.
-pub type Text = Printable<80>;
+pub type Text = Printable<LONGEST_STRING>;
 
 /// A name of at most 32 bytes.
-pub type NameText = Printable<32>;
+pub type NameText = Printable<LONGEST_NAME>;
 
 /// Appends printable bytes, for which there is room.
 pub fn show(text: &mut Text, bytes: &[u8])
-    requires room { length text.old + length bytes.now ≤ 80 }
+    requires room { length text.old + length bytes.now ≤ LONGEST_STRING }
     requires printable { IsTrue (list_all is_printable bytes.now) }
     ensures { text.new ≡ text.old ++ bytes.now }
 {

@@ -11,6 +11,7 @@ use std::marker::Model;
 /// A cell script, its references as numbers from 0. Contracts see it as plain data within its limits.
 #[derive(Debug, Drop)]
 pub struct Script {
+    pub version: u32,
     pub steps: u32,
     pub signals: Sequence<SignalRow>,
     pub tasks: Sequence<ScriptTask>,
@@ -24,13 +25,20 @@ impl Model for Script {
 
     ghost Value = { ScriptData };
 
-    ghost view = { λ s. record { steps = s.steps; signals = s.signals; tasks = s.tasks; pers = s.pers; zones = s.zones; inputs = s.inputs } };
+    ghost view = { λ s. record { version = s.version; steps = s.steps; signals = s.signals; tasks = s.tasks; pers = s.pers; zones = s.zones; inputs = s.inputs } };
 
-    ghost invariant = { λ s. IsScript (record { steps = s.steps; signals = s.signals; tasks = s.tasks; pers = s.pers; zones = s.zones; inputs = s.inputs }) };
+    ghost invariant = { λ s. IsScript (record { version = s.version; steps = s.steps; signals = s.signals; tasks = s.tasks; pers = s.pers; zones = s.zones; inputs = s.inputs }) };
 }
 
 impl Script {
     ghost use Rattle.rapid_model.specs.ScriptData.{IsScript};
+
+    /// The version of the script's keys: 1 or 2.
+    pub fn version(&self) -> u32
+        ensures { result ≡ self.now.version }
+    {
+        self.version
+    }
 
     /// How many events may be counted.
     pub fn steps(&self) -> u32

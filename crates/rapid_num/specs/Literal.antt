@@ -3,12 +3,9 @@
 use Rattle.std.specs.Prelude.{ℕ, ◌+◌, ◌-◌, ◌*◌, ◌^◌, ℤ, pos, negsuc, ◌+ℤ◌, ◌-ℤ◌, neg_ℤ, Bool, not, ◌&&◌, ◌||◌, nat_lt, nat_le, ◌==◌, if◌then◌else◌, List, [], ◌∷◌, ◌++◌, length, fold, Option, Some, None}
 use Rattle.std.specs.List.{before_first, after_first, list_any, list_all}
 use Rattle.std.specs.Option.{option_and_then, option_map}
+use Rattle.rapid_limits.specs.declared.TheConstants.{LONGEST_LITERAL}
 use Rattle.rapid_num.specs.Range.{greatest}
 use Rattle.rapid_num.specs.Arithmetic.{rounded}
-
--- the greatest number of bytes of a literal
-abbrev pub longest_literal : ℕ
-longest_literal = 30
 
 -- what a byte counts as a digit: 0 to 9, then A to F or a to f; 16 for a byte that is no digit
 abbrev pub digit_value : ℕ → ℕ
@@ -82,4 +79,4 @@ spelled_thousandths (a ∷ b ∷ ds) = spelled_by (if a == 48 then base_of b els
 -- the num of a literal within its limits: at most 30 bytes, and in range once it is rounded
 abbrev pub literal_value : List ℕ → Option ℤ
 literal_value text =
-    option_and_then (λ n. if nat_le (length text) longest_literal && nat_le n greatest then Some (pos n) else None) (spelled_thousandths text)
+    option_and_then (λ n. if nat_le (length text) LONGEST_LITERAL && nat_le n greatest then Some (pos n) else None) (spelled_thousandths text)

@@ -1,25 +1,30 @@
--- Where an arm may be.
-use Rattle.std.specs.Prelude.{◌&&◌, Bool, nat_le, ℤ, nat_abs, List, length, replicate, take, drop, ◌==◌}
+-- Where an arm may be. Axes are counted from 0: 0 to 5 are axes 1 to 6, and 6 to 11 the external axes.
+use Rattle.std.specs.Prelude.{ℕ, ◌+◌, Bool, true, ◌&&◌, nat_le, nat_lt, ℤ, nat_abs, List, [], ◌∷◌, length, replicate, take, drop, ◌==◌, if◌then◌else◌}
 use Rattle.std.specs.List.{list_all}
+use Rattle.rapid_limits.specs.declared.TheConstants.{EXTERNAL_REACH, MOST_AXES, ROBOT_AXES, ROBOT_REACH}
 use Rattle.rapid_num.specs.Absent.{absent, is_absent}
 use Rattle.rapid_num.specs.declared.joints.Joints.{Joints}
 
--- an axis within 720.000 degrees
-abbrev pub is_in_reach : ℤ → Bool
-is_in_reach angle = nat_le (nat_abs angle) 720_000
+-- the greatest size of the angle of an axis, in thousandths of a degree: 720 degrees, and 100,000 of an external axis
+abbrev pub reach_of : ℕ → ℕ
+reach_of axis = if nat_lt axis ROBOT_AXES then ROBOT_REACH else EXTERNAL_REACH
 
--- six external axes, none of them there
-abbrev pub are_absent : List ℤ → Bool
-are_absent angles = length angles == 6 && list_all is_absent angles
+abbrev pub is_in_reach : ℕ → ℤ → Bool
+is_in_reach axis angle = nat_le (nat_abs angle) (reach_of axis)
 
--- external axes that are not given
-abbrev pub absent_axes : List ℤ
-absent_axes = replicate 6 absent
+-- angles of axes in a row, from this one on, each in reach
+abbrev pub are_in_reach : ℕ → List ℤ → Bool
+are_in_reach axis [] = true
+are_in_reach axis (angle ∷ angles) = is_in_reach axis angle && are_in_reach (axis + 1) angles
 
--- axes 1 to 6 are in reach
-abbrev pub is_reachable : Joints → Bool
-is_reachable joints = list_all is_in_reach (take 6 joints.axis)
+-- so many axes that are not there
+abbrev pub absent_axes : ℕ → List ℤ
+absent_axes count = replicate count absent
 
--- a position of an arm without external axes: axes 1 to 6 in reach, and six that are not there
-abbrev pub is_position : Joints → Bool
-is_position joints = is_reachable joints && are_absent (drop 6 joints.axis)
+-- the first axes, so many, are in reach
+abbrev pub is_reachable : ℕ → Joints → Bool
+is_reachable axes joints = are_in_reach 0 (take axes joints.axis)
+
+-- a position of an arm with so many axes: twelve angles, each of the arm's in reach, and no other given
+abbrev pub is_position : ℕ → Joints → Bool
+is_position axes joints = length joints.axis == MOST_AXES && is_reachable axes joints && list_all is_absent (drop axes joints.axis)

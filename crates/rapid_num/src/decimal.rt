@@ -6,6 +6,7 @@ ghost use Rattle.rapid_num.specs.Reading.{number_of, scaled_mantissa, within};
 
 use crate::digits::{read_digits, read_onto};
 use crate::scale::scale;
+use rapid_limits::LONGEST_LITERAL;
 
 /// The place of the first point.
 fn point_index(text: &[u8]) -> Option<usize>
@@ -35,10 +36,10 @@ fn cut_at_point(text: &[u8]) -> (&[u8], &[u8])
 
 /// The number that the digits on both sides of the point spell, and how many stand after it.
 fn read_mantissa(text: &[u8]) -> Option<(u128, usize)>
-    requires short { length text.now ≤ 30 }
+    requires short { length text.now ≤ LONGEST_LITERAL }
     ensures value { result ≡ mantissa_of text.now }
     ensures thirty_digits { IfSome result (λ m. m.0 < 10 ^ 30) }
-    ensures decimals { IfSome result (λ m. m.1 ≤ 30) }
+    ensures decimals { IfSome result (λ m. m.1 ≤ LONGEST_LITERAL) }
 {
     let (whole, fraction) = cut_at_point(text);
     if whole.is_empty() && fraction.is_empty() {
@@ -51,7 +52,7 @@ fn read_mantissa(text: &[u8]) -> Option<(u128, usize)>
 
 /// The exponent that digits without a sign spell.
 fn read_plain_exponent(digits: &[u8]) -> Option<i128>
-    requires short { length digits.now ≤ 30 }
+    requires short { length digits.now ≤ LONGEST_LITERAL }
     ensures value { result ≡ option_map pos (number_of 10 digits.now) }
     ensures thirty_digits { IfSome result (λ e. nat_abs e < 10 ^ 30) }
 {
@@ -61,7 +62,7 @@ fn read_plain_exponent(digits: &[u8]) -> Option<i128>
 
 /// The exponent that an optional sign and digits spell.
 fn read_exponent(text: &[u8]) -> Option<i128>
-    requires short { length text.now ≤ 30 }
+    requires short { length text.now ≤ LONGEST_LITERAL }
     ensures value { result ≡ exponent_of text.now }
     ensures thirty_digits { IfSome result (λ e. nat_abs e < 10 ^ 30) }
 {
@@ -80,7 +81,7 @@ fn read_exponent(text: &[u8]) -> Option<i128>
 
 /// The thousandths of a decimal without an exponent, times ten to the power of the exponent.
 fn read_scaled(text: &[u8], exponent: i128) -> Option<u64>
-    requires short { length text.now ≤ 30 }
+    requires short { length text.now ≤ LONGEST_LITERAL }
     requires thirty_digits { nat_abs exponent < 10 ^ 30 }
     ensures { result ≡ within (scaled_mantissa text.now exponent) }
 {
@@ -90,7 +91,7 @@ fn read_scaled(text: &[u8], exponent: i128) -> Option<u64>
 
 /// The thousandths of a decimal literal: `None` exactly where it is none or is out of range.
 pub(crate) fn read_decimal(text: &[u8]) -> Option<u64>
-    requires short { length text.now ≤ 30 }
+    requires short { length text.now ≤ LONGEST_LITERAL }
     ensures { result ≡ within (decimal_thousandths text.now) }
 {
     match letter_index(text) {

@@ -1,44 +1,64 @@
 ghost use Rattle.std.specs.Prelude.{◌≡◌};
 ghost use Rattle.std.specs.List.{list_all};
 ghost use Rattle.rapid_num.specs.Absent.{is_absent};
-ghost use Rattle.rapid_num.specs.Reach.{is_in_reach, are_absent, is_reachable, is_position};
+ghost use Rattle.rapid_num.specs.Reach.{is_in_reach, are_in_reach, is_reachable, is_position, reach_of};
 
 use crate::num::Num;
+use rapid_limits::{EXTERNAL_REACH, MOST_AXES, ROBOT_AXES, ROBOT_REACH};
 
 /// Twelve axes in thousandths of a degree: `rax_1` to `rax_6`, then `eax_a` to `eax_f`, where 9E9 means not given
 /// (RAPID Instructions, Functions and Data types: robjoint, extjoint).
 #[derive(Clone, Copy, Debug, PartialEq, Eq)]
 pub struct Joints {
-    pub axis: [Num; 12],
+    pub axis: [Num; MOST_AXES],
 }
 
 impl Joints {
-    /// Axes 1 to 6 are within 720 degrees, either way.
-    pub fn is_reachable(&self) -> bool
-        ensures { result ≡ is_reachable self.now }
+    /// The first axes, so many, are in reach: axes 1 to 6 within 720 degrees, either way, and external axes within 100,000.
+    pub fn is_reachable(&self, axes: usize) -> bool
+        ensures { result ≡ is_reachable axes self.now }
     {
-        self.axis[..6].iter().all(|axis| is_in_reach(*axis))
+        let count = axes.min(MOST_AXES);
+        are_in_reach(&self.axis[..count])
     }
 
-    /// Axes 1 to 6 are within 720 degrees, and no external axis is given.
-    pub fn is_position(&self) -> bool
-        ensures { result ≡ is_position self.now }
+    /// The joints are a position of an arm with so many axes: each axis is in reach, and no other axis is given.
+    pub fn is_position(&self, axes: usize) -> bool
+        ensures { result ≡ is_position axes self.now }
     {
-        let axes = &self.axis[..];
-        self.is_reachable() && are_absent(&axes[6..])
+        let angles = &self.axis[..];
+        let count = axes.min(MOST_AXES);
+        self.is_reachable(axes) && none_is_given(&angles[count..])
     }
 }
 
-fn is_in_reach(angle: Num) -> bool
-    ensures { result ≡ is_in_reach angle }
+/// The greatest size of the angle of an axis, counted from 0, in thousandths of a degree.
+fn reach_of(axis: usize) -> u64
+    ensures { result ≡ reach_of axis }
 {
-    angle.thousandths().unsigned_abs() <= 720_000
+    if axis < ROBOT_AXES {
+        ROBOT_REACH
+    } else {
+        EXTERNAL_REACH
+    }
 }
 
-fn are_absent(axes: &[Num]) -> bool
-    ensures { result ≡ are_absent axes.now }
+fn is_in_reach(axis: usize, angle: Num) -> bool
+    ensures { result ≡ is_in_reach axis angle }
 {
-    axes.len() == 6 && none_is_given(axes)
+    angle.thousandths().unsigned_abs() <= reach_of(axis)
+}
+
+/// The angles of the first axes are each in reach.
+fn are_in_reach(angles: &[Num]) -> bool
+    ensures { result ≡ are_in_reach 0 angles.now }
+{
+    for (axis, angle) in angles.iter().enumerate() {
+        if !is_in_reach(axis, *angle) {
+            return false;
+        }
+    }
+    true
 }
 
 fn none_is_given(axes: &[Num]) -> bool

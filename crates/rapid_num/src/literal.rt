@@ -1,5 +1,5 @@
 //! Numerical literals.
-ghost use Rattle.std.specs.Prelude.{◌≡◌, ◌≤◌, length};
+ghost use Rattle.std.specs.Prelude.{◌≡◌, ◌-◌, ◌≤◌, length};
 ghost use Rattle.std.specs.Result.{result_ok};
 ghost use Rattle.rapid_num.specs.Literal.{base_of, based_thousandths, literal_value, spelled_thousandths};
 ghost use Rattle.rapid_num.specs.Reading.{within};
@@ -8,13 +8,11 @@ use crate::decimal::read_decimal;
 use crate::digits::read_digits;
 use crate::num::Num;
 use crate::scale::size_within;
+use rapid_limits::LONGEST_LITERAL;
 
 /// No literal, one of more than 30 bytes, or one that is out of range once it is rounded.
 #[derive(Clone, Copy, Debug, PartialEq, Eq)]
 pub struct BadLiteral;
-
-/// The greatest number of bytes of a literal.
-const LONGEST_LITERAL: usize = 30;
 
 /// The base that the letter behind a 0 stands for.
 fn base_of(letter: u8) -> Option<u128>
@@ -30,7 +28,7 @@ fn base_of(letter: u8) -> Option<u128>
 
 /// The thousandths of whole digits of a base.
 fn read_based(digits: &[u8], base: u128) -> Option<u64>
-    requires short { length digits.now ≤ 28 }
+    requires short { length digits.now ≤ LONGEST_LITERAL - 2 }
     requires known { base ≤ 16 }
     ensures { result ≡ within (based_thousandths digits.now base) }
 {
@@ -40,7 +38,7 @@ fn read_based(digits: &[u8], base: u128) -> Option<u64>
 
 /// The thousandths that a text spells: `None` exactly where it is no literal or is out of range.
 fn read_thousandths(text: &[u8]) -> Option<u64>
-    requires short { length text.now ≤ 30 }
+    requires short { length text.now ≤ LONGEST_LITERAL }
     ensures { result ≡ within (spelled_thousandths text.now) }
 {
     if text.len() < 2 || text[0] != b'0' {

@@ -1,4 +1,5 @@
 use crate::num::Num;
+use rapid_limits::MOST_AXES;
 
 /// The low and the high bound of an axis, both in thousandths of a degree.
 #[derive(Clone, Copy, Debug, PartialEq, Eq)]
@@ -11,5 +12,5 @@ pub struct Bound {
 #[derive(Clone, Copy, Debug, PartialEq, Eq)]
 pub struct Shape {
     pub inside: bool,
-    pub bounds: [Option<Bound>; 12],
+    pub bounds: [Option<Bound>; MOST_AXES],
 }

@@ -1,7 +1,7 @@
 -- The definitions on examples worked by hand.
 use Rattle.std.proofs.Common.{◌≡◌, refl, true, false, [], ◌∷◌, ◌++◌, replicate}
 use Rattle.std.specs.Prelude.{codes, pos, neg_ℤ}
-use Rattle.raw_trees.specs.declared.raw_expr.Operator.TheVariants as operators
+use Rattle.rapid_model.specs.declared.operator.Operator.TheVariants as operators
 use Rattle.rapid_model.specs.declared.value.Value.TheVariants as values
 use Rattle.rapid_operators.specs.declared.applied.Applied.TheVariants.{Gives, Raises, OutOfRange, Unfit}
 use Rattle.rapid_operators.specs.Equality.{same}

@@ -1,9 +1,10 @@
 -- What operators come to (RAPID Overview, expressions; RAPID Kernel, operators; numbers are this profile's own).
 use Rattle.std.specs.Prelude.{ℕ, Bool, not, ◌&&◌, ◌||◌, nat_le, ℤ, pos, int_lt, List, ◌++◌, length, Option, Some, None, if◌then◌else◌}
 use Rattle.std.specs.Ordering.{int_eq}
+use Rattle.rapid_limits.specs.declared.TheConstants.{LONGEST_STRING}
 use Rattle.rapid_num.specs.Arithmetic.{sum_of, difference_of, product_of, quotient_of, whole_quotient_of, remainder_of}
-use Rattle.raw_trees.specs.declared.raw_expr.Operator.{Operator}
-use Rattle.raw_trees.specs.declared.raw_expr.Operator.TheVariants as operators
+use Rattle.rapid_model.specs.declared.operator.Operator.{Operator}
+use Rattle.rapid_model.specs.declared.operator.Operator.TheVariants as operators
 use Rattle.rapid_model.specs.declared.value.Value.{Value}
 use Rattle.rapid_model.specs.declared.value.Value.TheVariants as values
 use Rattle.rapid_operators.specs.declared.applied.Applied.{Applied}
@@ -22,7 +23,7 @@ unless_zero divisor applied = if int_eq divisor (pos 0) then Raises 101 else app
 
 -- two strings one behind the other, of at most 80 characters
 abbrev pub joined : List ℕ → List ℕ → Applied
-joined s t = if nat_le (length (s ++ t)) 80 then Gives (values.Text (s ++ t)) else Raises 102
+joined s t = if nat_le (length (s ++ t)) LONGEST_STRING then Gives (values.Text (s ++ t)) else Raises 102
 
 abbrev pub of_nums : Operator → ℤ → ℤ → Applied
 of_nums operators.Add m n = num_or_fault (sum_of m n)

@@ -4,9 +4,8 @@ ghost use Rattle.rapid_num.specs.Arithmetic.{quotient_of, remainder_of, whole_qu
 ghost use Rattle.rapid_operators.specs.Operators.{num_or_fault, of_nums, unless_zero};
 
 use crate::applied::Applied;
-use rapid_model::Value;
+use rapid_model::{Operator, Value};
 use rapid_num::Num;
-use raw_trees::Operator;
 
 /// What an operator other than `=` and `<>` comes to at two nums.
 pub(crate) fn of_nums(operator: Operator, left: Num, right: Num) -> Applied

@@ -8,8 +8,7 @@ use crate::applied::Applied;
 use crate::equality::{are_alike, same_value};
 use crate::numbers::of_nums;
 use crate::texts::of_texts;
-use rapid_model::Value;
-use raw_trees::Operator;
+use rapid_model::{Operator, Value};
 
 /// What an operator comes to at its left and right operand; AND and OR with both evaluated (RAPID Overview,
 /// expressions; RAPID Kernel, operators). Any two values of one form are compared for equality. Nums are added,

@@ -3,8 +3,8 @@ ghost use Rattle.std.specs.Prelude.{◌≡◌};
 ghost use Rattle.rapid_operators.specs.Operators.{joined, of_texts};
 
 use crate::applied::Applied;
-use rapid_model::{Text, Value};
-use raw_trees::Operator;
+use rapid_limits::LONGEST_STRING;
+use rapid_model::{Operator, Text, Value};
 
 /// What an operator other than `=` and `<>` comes to at two strings.
 pub(crate) fn of_texts(operator: Operator, left: &Text, right: &Text) -> Applied
@@ -21,7 +21,7 @@ fn joined(left: &Text, right: &Text) -> Applied
     ensures { result ≡ joined left.now right.now }
 {
     let bytes = right.bytes();
-    if left.bytes().len() + bytes.len() > 80 {
+    if left.bytes().len() + bytes.len() > LONGEST_STRING {
         return Applied::Raises(102);
     }
     let mut text = left.copy();

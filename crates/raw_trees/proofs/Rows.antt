@@ -6,7 +6,7 @@ use Rattle.std.specs.declared.boxed.Box.{Box}
 use Rattle.std.specs.declared.vec.Vec.{Vec}
 use Rattle.raw_trees.specs.declared.raw_bounds.RawBounds.{RawBounds}
 use Rattle.raw_trees.specs.declared.raw_name.RawName.{RawName}
-use Rattle.raw_trees.specs.declared.raw_expr.Operator.{Operator}
+use Rattle.rapid_model.specs.declared.operator.Operator.{Operator}
 use Rattle.raw_trees.specs.declared.raw_expr.RawArg.{RawArg}
 use Rattle.raw_trees.specs.declared.raw_expr.RawArg.TheBlock.{hidden-the_row-RawExpr-0, hidden-the_row-RawArg-1, hidden-the_row-RawExprForm-Chain-1-2-2}
 use Rattle.raw_trees.specs.declared.raw_expr.RawExpr.{RawExpr}

@@ -1,11 +1,11 @@
 -- The raw trees of a module as contracts see them: what they hold, wherever it lies in memory. Each form has the byte
 -- of the module at which it begins.
 use Rattle.std.specs.Prelude.{ℕ, Bool, List, [], ◌∷◌, Option, None, Some}
-use Rattle.raw_trees.specs.declared.raw_expr.Operator.{Operator}
+use Rattle.rapid_model.specs.declared.operator.Operator.{Operator}
 use Rattle.raw_trees.specs.declared.raw_module.Attribute.{Attribute}
 use Rattle.raw_trees.specs.declared.raw_datum.DatumKind.{DatumKind}
-use Rattle.raw_trees.specs.declared.raw_routine.RoutineKind.{RoutineKind}
-use Rattle.raw_trees.specs.declared.raw_routine.Mode.{Mode}
+use Rattle.rapid_model.specs.declared.routine_kind.RoutineKind.{RoutineKind}
+use Rattle.rapid_model.specs.declared.mode.Mode.{Mode}
 
 -- a name as it is spelled
 pub record PlainName : Type 0 where

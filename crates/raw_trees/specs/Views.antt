@@ -3,7 +3,7 @@ use Rattle.std.specs.Prelude.{ℕ, List, map, option_map}
 use Rattle.std.specs.declared.alloc.Global.{Global}
 use Rattle.std.specs.declared.vec.Vec.{Vec}
 use Rattle.raw_trees.specs.declared.raw_name.RawName.{RawName}
-use Rattle.raw_trees.specs.declared.raw_expr.Operator.{Operator}
+use Rattle.rapid_model.specs.declared.operator.Operator.{Operator}
 use Rattle.raw_trees.specs.declared.raw_expr.RawExpr.{RawExpr}
 use Rattle.raw_trees.specs.declared.raw_expr.RawExprForm.{RawExprForm, Number, Text, Bool, Group', Aggregate', Call', Place, Not', Signed', Chain', Row_of-RawExpr, end_of-RawExpr, more_of-RawExpr, Row_of-RawArg, end_of-RawArg, more_of-RawArg, Row_of-RawExprForm-Chain-1-2, end_of-RawExprForm-Chain-1-2, more_of-RawExprForm-Chain-1-2}
 use Rattle.raw_trees.specs.declared.raw_expr.RawArg.{RawArg, Needed', Option', Held-RawArg-Option-1, RawArg-Option-1-None', RawArg-Option-1-Some'}

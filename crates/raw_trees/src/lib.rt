@@ -12,8 +12,8 @@ mod raw_stmt;
 
 pub use raw_bounds::RawBounds;
 pub use raw_datum::{DatumKind, RawDatum};
-pub use raw_expr::{Operator, RawArg, RawExpr, RawExprForm, RawPlace};
+pub use raw_expr::{RawArg, RawExpr, RawExprForm, RawPlace};
 pub use raw_module::{Attribute, RawItem, RawModule};
 pub use raw_name::RawName;
-pub use raw_routine::{Mode, RawParam, RawRoutine, RoutineKind};
+pub use raw_routine::{RawParam, RawRoutine};
 pub use raw_stmt::{RawForm, RawStmt};

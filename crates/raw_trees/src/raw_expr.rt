@@ -6,6 +6,7 @@ ghost use Rattle.raw_trees.specs.Plain.{args_of, exprs_of, held_of, steps_of};
 ghost use Rattle.raw_trees.specs.Views.{view_arg, view_expr, view_name, view_place, view_step};
 
 use crate::raw_name::RawName;
+use rapid_model::Operator;
 use std::alloc::{AllocError, Global};
 
 /// An expression, and the byte at which it begins, from 0 (RAPID Kernel, expressions).
@@ -212,26 +213,4 @@ impl<'a> RawPlace<'a> {
         };
         Ok(RawPlace { name, index, parts })
     }
-}
-
-/// An operator between two values.
-#[derive(Clone, Copy, Debug, PartialEq, Eq)]
-pub enum Operator {
-    Or,
-    Xor,
-    And,
-    Equal,
-    NotEqual,
-    Less,
-    Greater,
-    LessEqual,
-    GreaterEqual,
-    Add,
-    Sub,
-    Mul,
-    Div,
-    /// The whole quotient, DIV.
-    IntDiv,
-    /// The remainder, MOD.
-    Mod,
 }

@@ -3,22 +3,7 @@
 use crate::raw_datum::RawDatum;
 use crate::raw_name::RawName;
 use crate::raw_stmt::RawStmt;
-
-#[derive(Clone, Copy, Debug, PartialEq, Eq)]
-pub enum RoutineKind {
-    Proc,
-    Func,
-    Trap,
-}
-
-/// How an argument is handed over: its value, or a reference of one of three kinds.
-#[derive(Clone, Copy, Debug, PartialEq, Eq)]
-pub enum Mode {
-    Value,
-    Inout,
-    Var,
-    Pers,
-}
+use rapid_model::{Mode, RoutineKind};
 
 /// A parameter: its mode, the name of its type, its name, and the byte at which it begins, from 0.
 #[derive(Drop)]

@@ -14,7 +14,7 @@ use std::process::Abort;
 
 // Axis 1 at no degrees or at one, the others at 0, no external axes.
 fn position(one_degree: bool) -> Joints
-    ensures { IsTrue (is_position result) }
+    ensures { IsTrue (is_position 6 result) }
 {
     let zero = number(0);
     let first = if one_degree { number(1000) } else { zero };
@@ -54,6 +54,7 @@ fn cell_of_one(alloc: Global, steps: u32) -> Result<Cell, AllocError>
     rows.push(TaskRow {
         name: name(),
         arm: Some(position(false)),
+        axes: 6,
     })?;
     let kept = PersCell {
         name: name(),

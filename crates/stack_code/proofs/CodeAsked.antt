@@ -17,7 +17,6 @@ use Rattle.stack_code.specs.CodeData.{CodeData}
 use Rattle.stack_code.specs.CodeRuns.{code_after, exec, sort_in}
 use Rattle.stack_code.specs.Compiled.{compiled, deepest_in, handlers_of, routine_rows, routines_code, rows_from, sorts_of}
 use Rattle.stack_code.specs.Needs.{pieces_need, values_need}
-use Rattle.stack_code.specs.Pieces.{tasks_from}
 use Rattle.stack_code.specs.Placed.{owner_at}
 use Rattle.stack_code.specs.Raising.{raised_to}
 use Rattle.stack_code.specs.Sizes.{pieces_size, values_size}
@@ -35,7 +34,7 @@ code_stands code before (a ∷ more) = code_after code enough before ∷ code_st
 
 -- how the code of a tree stands
 unfoldable pub compiled_stands : TypedTree → List Answer → List (Outcome ⊤)
-unfolding code_stands deepest_in handlers_of routine_rows routines_code rows_from sorts_of pieces_need values_need tasks_from pieces_size values_size pieces_code values_code
+unfolding code_stands deepest_in handlers_of routine_rows routines_code rows_from sorts_of pieces_need values_need pieces_size values_size pieces_code values_code
 compiled_stands tree answers = code_stands (compiled tree) [] answers
 
 -- what it asks

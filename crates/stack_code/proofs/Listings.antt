@@ -3,7 +3,7 @@ use Rattle.std.proofs.Common.{◌≡◌, refl, ℕ, false, pos, neg_ℤ, List, [
 use Rattle.std.specs.Prelude.{codes, map}
 use Rattle.rapid_model.specs.declared.request.Request.TheVariants as requests
 use Rattle.rapid_model.specs.declared.value.Value.TheVariants as values
-use Rattle.raw_trees.specs.declared.raw_expr.Operator.TheVariants as operators
+use Rattle.rapid_model.specs.declared.operator.Operator.TheVariants as operators
 use Rattle.typed_trees.specs.declared.datum.Datum.TheVariants.{Plain}
 use Rattle.rapid_meaning.specs.Runs.{asks, misfit, next_of}
 use Rattle.rapid_meaning.proofs.Asked.{go}

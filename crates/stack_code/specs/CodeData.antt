@@ -22,3 +22,5 @@ pub record CodeData : Type 0 where
   -- the most operands that a frame has
   pub deepest : ℕ
   pub main : ℕ
+  -- how many axes the task's arm has, 0 where it has none
+  pub axes : ℕ

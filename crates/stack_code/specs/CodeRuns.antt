@@ -25,7 +25,7 @@ is_trap (Some row) = row.trap
 
 -- what answers to code fit, while a trap is under way or while none is
 abbrev pub fitting_by : CodeData → Bool → Fitting
-fitting_by code trapped = record { sorts = sort_in code.sorts; traps = λ number. is_trap (slice_get code.routines number); trapped = trapped }
+fitting_by code trapped = record { sorts = sort_in code.sorts; traps = λ number. is_trap (slice_get code.routines number); trapped = trapped; axes = code.axes }
 
 -- an operation does no part of a tree
 abbrev pub no_part : Run

@@ -1,8 +1,8 @@
 -- The code of a task: its routines in order, each a list, its end, and its ERROR part.
 use Rattle.std.specs.Prelude.{ℕ, ◌+◌, ◌==◌, ◌&&◌, min, max, Bool, true, false, List, [], ◌∷◌, ◌++◌, map, flat_map, length, Option, None, Some, if◌then◌else◌}
 use Rattle.std.specs.Option.{option_map}
-use Rattle.raw_trees.specs.declared.raw_routine.RoutineKind.{RoutineKind}
-use Rattle.raw_trees.specs.declared.raw_routine.RoutineKind.TheVariants as kinds
+use Rattle.rapid_model.specs.declared.routine_kind.RoutineKind.{RoutineKind}
+use Rattle.rapid_model.specs.declared.routine_kind.RoutineKind.TheVariants as kinds
 use Rattle.typed_trees.specs.Plain.{TypedPers, TypedRoutine, TypedStmts, TypedTree}
 use Rattle.rapid_meaning.specs.Answering.{is_trap_kind}
 use Rattle.rapid_meaning.specs.Frames.{first_values}
@@ -71,7 +71,7 @@ abbrev pub same_own : Own → Own → Bool
 same_own a b = a.retry == b.retry && a.next == b.next && a.at.«module» == b.at.«module» && a.at.byte == b.at.byte
 
 abbrev pub owner_row : ℕ → ℕ → Own → Owner
-owner_row first past own = record { first = first; past = past; retry = own.retry; next = own.next; at = record { «module» = own.at.«module»; byte = own.at.byte } }
+owner_row first past own = record { first = first; past = past; retry = own.retry; next = own.next; at = own.at }
 
 -- a row from `first` on, of which so much is seen, and the rows behind it
 unfoldable pub rows_from : ℕ → ℕ → Own → List Placed → List Owner
@@ -141,4 +141,5 @@ compiled tree = record {
   sorts = sorts_of tree.pers_of tree.pers;
   deepest = deepest_in tree tree.routines;
   main = tree.main;
+  axes = tree.axes;
 }

@@ -8,6 +8,7 @@ pub mod Entering
 pub mod Operands
 pub mod Steps
 pub mod CodeRuns
+pub mod Recipes
 pub mod Pieces
 pub mod Sizes
 pub mod Needs

@@ -1,7 +1,7 @@
 -- Operations beside the statements that own them.
 use Rattle.std.specs.Prelude.{◌≡◌, ℕ, ◌+◌, nat_lt, List, [], ◌∷◌, Option, None, Some, if◌then◌else◌, slice_get, ⊤}
 use Rattle.std.specs.Option.{option_and_then, option_map}
-use Rattle.rapid_meaning.specs.Data.{At}
+use Rattle.rapid_model.specs.declared.at.At.{At}
 use Rattle.stack_code.specs.CodeData.{CodeData}
 use Rattle.stack_code.specs.declared.op.Op.{Op}
 use Rattle.stack_code.specs.declared.owner.Owner.{Owner}
@@ -18,7 +18,7 @@ pub record Placed : Type 0 where
   pub op : Op
 
 abbrev pub own_of : Owner → Own
-own_of owner = record { retry = owner.retry; next = owner.next; at = record { «module» = owner.at.«module»; byte = owner.at.byte } }
+own_of owner = record { retry = owner.retry; next = owner.next; at = owner.at }
 
 -- the owner of a place, among owners that tile the code in order
 unfoldable pub owner_at : List Owner → ℕ → Option Owner

@@ -1,5 +1,5 @@
 -- What each operation does. It asks, reads and writes as the meaning of trees does, by the same definitions.
-use Rattle.std.specs.Prelude.{ℕ, ◌+◌, ◌/◌, Bool, true, false, ℤ, pos, List, [], ◌∷◌, length, Option, None, Some, position, bytes_eq, if◌then◌else◌, slice_get}
+use Rattle.std.specs.Prelude.{ℕ, ◌+◌, ◌/◌, Bool, true, false, ℤ, pos, List, [], ◌∷◌, length, Option, None, Some, if◌then◌else◌, slice_get}
 use Rattle.rapid_num.specs.Arithmetic.{sum_of}
 use Rattle.rapid_model.specs.declared.answer.Answer.{Answer}
 use Rattle.rapid_model.specs.declared.answer.Answer.TheVariants as answers
@@ -23,7 +23,7 @@ use Rattle.rapid_meaning.specs.Doings.{Doing, Gives, Asks, Ends, Misfit, Reads, 
 use Rattle.rapid_meaning.specs.Functions.{of_value, of_values, read_signal, when_at}
 use Rattle.rapid_meaning.specs.Interrupts.{asks_of_number, connect, order}
 use Rattle.rapid_meaning.specs.Loops.{has_passed}
-use Rattle.rapid_meaning.specs.Meetings.{arrive, task_or_fault, task_set, with_task}
+use Rattle.rapid_meaning.specs.Meetings.{arrive, task_set, with_tasks}
 use Rattle.rapid_meaning.specs.Moves.{move, still}
 use Rattle.rapid_meaning.specs.Places.{at_root, indexed, kept_place, load, own_place, part_at, read_value, store, test_and_set, write_value}
 use Rattle.rapid_meaning.specs.Signals.{write_signal}
@@ -125,14 +125,6 @@ abbrev pub set_in : Value → Doing ℕ
 set_in (values.Num (pos n)) = task_set (n / 1_000)
 set_in _ = Misfit
 
--- a set with the task of a name
-abbrev pub with_named : List (List ℕ) → Value → Value → Doing ℕ
-with_named names held named = do
-  set ← set_in held
-  name ← text_in named
-  task ← task_or_fault (position (bytes_eq name) names)
-  task_set (with_task task set)
-
 -- The table, a line for each operation, or for each of its kinds. The operands of the frame under way are h.conf.stack.
 abbrev pub act : Here → Op → Doing Conf
 act h (ops.Push datum) = to_next h (datum ∷ h.conf.stack)
@@ -180,12 +172,12 @@ act h (ops.Turn k a) = passed k >>= λ b. if b then jumps h a h.conf.stack else 
 act h (ops.Step k a) = counter_at k >>= λ variable. counter_at (k + 2) >>= λ step. stepped h k a (sum_of variable step)
 act h (ops.Wait a) = on_truth h.conf.stack (λ b rest. if b then to_next h rest else holds h a rest)
 act h ops.TestSet = on_place h.conf.stack (λ p rest. pushes h rest as_truth (test_and_set p))
-act h ops.TaskBit = on_value h.conf.stack (λ name rest. on_value rest (λ set below. pushes h below (λ more. Plain (whole more)) (with_named h.code.tasks set name)))
+act h (ops.TaskSet n) = on_place h.conf.stack (λ list rest. pushes h rest (λ set. Plain (whole set)) (with_tasks h.code.tasks list n 1 0))
 act h (ops.Arrive g) = on_value h.conf.stack (λ set rest. pushes h rest as_truth (set_in set >>= λ tasks. arrive g tasks))
 -- moves
 act h ops.Here = pushes h h.conf.stack Plain (Asks Position when_at)
 act h ops.Still = does h h.conf.stack still
-act h ops.Move = on_value h.conf.stack (λ speed rest. on_value rest (λ to below. does h below (target_in to >>= λ joints. tool_speed_in speed >>= λ n. move joints n)))
+act h ops.Move = on_value h.conf.stack (λ speed rest. on_value rest (λ to below. does h below (target_in to >>= λ joints. tool_speed_in speed >>= λ n. move h.code.axes joints n)))
 -- interrupts
 act h (ops.Connect r) = on_mark h.conf.stack (λ old rest. on_place rest (λ p below. does h below (connect p old r)))
 act h (ops.Order (orders.Signal s) b) = on_mark h.conf.stack (λ n rest. on_value rest (λ v below. does h below (bit_in v >>= λ bit. order n (watched.Signal s bit) b)))
@@ -196,8 +188,8 @@ act h (ops.Irq irqs.Delete) = on_mark h.conf.stack (λ n rest. does h rest (asks
 act h (ops.Irq irqs.Disable) = does h h.conf.stack (tells requests.Disable)
 act h (ops.Irq irqs.Enable) = does h h.conf.stack (tells requests.Enable)
 -- zones
-act h (ops.Shape inside false) = on_value h.conf.stack (λ w rest. on_value rest (λ v below. on_place below (λ p bottom. does h bottom (target_in v >>= λ low. target_in w >>= λ high. define p inside low high))))
-act h (ops.Shape inside true) = on_value h.conf.stack (λ w rest. on_value rest (λ v below. on_place below (λ p bottom. does h bottom (target_in v >>= λ middle. target_in w >>= λ delta. define_home p inside middle delta))))
+act h (ops.Shape inside false) = on_value h.conf.stack (λ w rest. on_value rest (λ v below. on_place below (λ p bottom. does h bottom (target_in v >>= λ low. target_in w >>= λ high. define h.code.axes p inside low high))))
+act h (ops.Shape inside true) = on_value h.conf.stack (λ w rest. on_value rest (λ v below. on_place below (λ p bottom. does h bottom (target_in v >>= λ middle. target_in w >>= λ delta. define_home h.code.axes p inside middle delta))))
 act h (ops.ZoneSet temporary) = on_shape h.conf.stack (λ held rest. on_mark rest (λ old below. on_place below (λ p bottom. does h bottom (defined held >>= λ shape. supervise p old temporary shape))))
 act h (ops.Zone zones.On) = on_mark h.conf.stack (λ n rest. on_place rest (λ p below. does h below (asks_of_zone (requests.ZoneOn n))))
 act h (ops.Zone zones.Off) = on_mark h.conf.stack (λ n rest. on_place rest (λ p below. does h below (asks_of_zone (requests.ZoneOff n))))

@@ -1,10 +1,10 @@
 -- The code of statements, from a place on, before what follows it. Each begins with its Look and an empty stack.
 use Rattle.std.specs.Prelude.{ℕ, ◌+◌, List, [], ◌∷◌, ◌++◌, slice_get}
 use Rattle.std.specs.Option.{unwrap_or}
-use Rattle.raw_trees.specs.declared.raw_expr.Operator.TheVariants as operators
+use Rattle.rapid_model.specs.declared.operator.Operator.TheVariants as operators
+use Rattle.rapid_model.specs.declared.at.At.{At}
 use Rattle.typed_trees.specs.Plain as trees
 use Rattle.typed_trees.specs.Plain.{TypedArms, TypedCases, TypedElse, TypedExpr, TypedExprs, TypedRoutine, TypedStmt, TypedStmts, TypedTree, NoExprs, MoreExprs, NoStmts, MoreStmts, NoArms, MoreArms, NoCases, MoreCases, NoElse, Else}
-use Rattle.rapid_meaning.specs.Data.{At}
 use Rattle.rapid_meaning.specs.Layouts.{local_start}
 use Rattle.rapid_meaning.specs.Statements.{byte_of}
 use Rattle.stack_code.specs.ExprLayouts.{args_code, expr_code, place_code, put}

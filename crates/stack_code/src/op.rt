@@ -4,8 +4,7 @@ use crate::pushed::Pushed;
 use crate::tail_kind::TailKind;
 use crate::unary_op::UnaryOp;
 use crate::zone_op::ZoneOp;
-use rapid_model::{Function, PartName, Sort};
-use raw_trees::Operator;
+use rapid_model::{Function, Operator, PartName, Sort};
 
 /// An operation. Unless said, it goes on to the next one. Operands lie on the stack of the frame under way, the last pushed
 /// on top; places of operations count from 0. What each one does is a line of the table in `specs/Steps`. 24 bytes.
@@ -63,8 +62,8 @@ pub enum Op {
     /// Pops a bool; where it is FALSE, holds, rises and jumps.
     Wait(u32),
     TestSet,
-    /// Pops the name of a task, and adds the task to the set on top.
-    TaskBit,
+    /// Pops the place of an array of so many elements, and pushes the set of the tasks that they name.
+    TaskSet(u16),
     Arrive(u32),
     /// Pushes the arm's position.
     Here,

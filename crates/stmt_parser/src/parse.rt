@@ -9,6 +9,7 @@ ghost use Rattle.stmt_parser.specs.Grammar.{items};
 use crate::statements::items;
 use rapid_forms::{Parser, SyntaxFault, Tokens};
 use rapid_lexer::Token;
+use rapid_limits::MOST_LEVELS;
 use raw_trees::RawStmt;
 use std::alloc::Global;
 
@@ -22,13 +23,13 @@ pub fn parse_list<'a>(
     end: usize,
 ) -> Result<(Vec<RawStmt<'a>>, usize), SyntaxFault>
     requires there { at ≤ length tokens.now }
-    requires open { depth ≤ 64 }
-    ensures answer { Parses items (64 - depth) (views tokens.now) end at view_list result }
+    requires open { depth ≤ MOST_LEVELS }
+    ensures answer { Parses items (MOST_LEVELS - depth) (views tokens.now) end at view_list result }
 {
     let p = Parser {
         alloc,
         tokens: Tokens { list: tokens, end },
     };
-    let (list, next) = items(&p, at, 64 - depth)?;
+    let (list, next) = items(&p, at, MOST_LEVELS - depth)?;
     Ok((list, next.min(tokens.len())))
 }

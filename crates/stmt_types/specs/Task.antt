@@ -3,9 +3,10 @@
 use Rattle.std.specs.Prelude.{ℕ, ◌+◌, Bool, true, false, not, ◌&&◌, nat_le, suc, List, [], ◌∷◌, ◌++◌, codes, length, Option, Some, None, Ok, if◌then◌else◌}
 use Rattle.std.specs.Option.{option_map}
 use Rattle.std.specs.Str.{str_eq_ignore_ascii_case}
+use Rattle.rapid_limits.specs.declared.TheConstants.{MOST_VALUES}
 use Rattle.raw_trees.specs.Plain.{PlainName, PlainParam, PlainRoutine, PlainItem, PlainModule, Datum, Routine, stmts_of}
-use Rattle.raw_trees.specs.declared.raw_routine.RoutineKind.{RoutineKind}
-use Rattle.raw_trees.specs.declared.raw_routine.RoutineKind.TheVariants as kinds
+use Rattle.rapid_model.specs.declared.routine_kind.RoutineKind.{RoutineKind}
+use Rattle.rapid_model.specs.declared.routine_kind.RoutineKind.TheVariants as kinds
 use Rattle.rapid_model.specs.declared.signal_row.SignalRow.{SignalRow}
 use Rattle.rapid_model.specs.declared.sort.Sort.TheVariants as sorts
 use Rattle.raw_trees.specs.Plain as Raw
@@ -105,16 +106,12 @@ abbrev pub main_or : Site → Option ℕ → Checked ℕ
 main_or s (Some routine) = Ok routine
 main_or s None = fail s 0 NoMain
 
--- the greatest number of values of a task's module data
-abbrev pub most_values : ℕ
-most_values = 20_000
-
 abbrev pub meeting_names : List TypedSlot → List (List ℕ)
 meeting_names [] = []
 meeting_names (row ∷ rows) = if same_sort row.sort sorts.SyncIdent then row.name ∷ meeting_names rows else meeting_names rows
 
-abbrev pub tree_of : List PlainModule → List (List ℕ) → Progress → List TypedRoutine → ℕ → TypedTree
-tree_of modules tasks p routines main = record {
+abbrev pub tree_of : List PlainModule → List (List ℕ) → ℕ → Progress → List TypedRoutine → ℕ → TypedTree
+tree_of modules tasks axes p routines main = record {
   modules = length modules;
   tasks = tasks;
   slots = p.slots;
@@ -124,14 +121,15 @@ tree_of modules tasks p routines main = record {
   main = main;
   pers_of = [];
   meeting_of = [];
+  axes = axes;
 }
 
--- the typed tree of a task's modules among these tasks and signals, with an arm or without one
-abbrev pub task_of : List PlainModule → List (List ℕ) → List SignalRow → Bool → Checked TypedTree
-task_of modules tasks signals arm =
-    names_of modules signals arm >>= (λ names.
+-- the typed tree of a task's modules among these tasks and signals, where its arm has so many axes, or none where it has no arm
+abbrev pub task_of : List PlainModule → List (List ℕ) → List SignalRow → ℕ → Checked TypedTree
+task_of modules tasks signals axes =
+    names_of modules signals axes >>= (λ names.
     data_of 0 modules (beginning names) >>= (λ p.
     bodies p.names p.locals 0 modules [] >>= (λ routines.
     main_or (top p.names) (main_among (routines_of modules)) >>= (λ main.
-    must (nat_le p.values most_values) (at_byte (top p.names) 0 DataRange) >>= (λ _.
-    Ok (tree_of modules tasks p routines main))))))
+    must (nat_le p.values MOST_VALUES) (at_byte (top p.names) 0 DataRange) >>= (λ _.
+    Ok (tree_of modules tasks axes p routines main))))))

@@ -17,14 +17,12 @@ use crate::names::copied_names;
 use data_scopes::{Known, Scopes};
 use decl_types::{Progress, data_of};
 use named_data::{Site, must, number_of};
+use rapid_limits::MOST_VALUES;
 use raw_trees::RawModule;
 use rule_checks::{Spot, TypeFault, TypeRule};
 use std::alloc::Global;
 use std::mem;
 use typed_trees::{Routine, Tree};
-
-/// The greatest number of values of a task's module data.
-const MOST_VALUES: usize = 20_000;
 
 /// The first byte of the first module.
 fn top(alloc: Global, scopes: &Scopes) -> Site<'_>
@@ -51,7 +49,7 @@ fn tree_of(
     routines: Vec<Routine>,
     main: u32,
 ) -> Result<Tree, TypeFault>
-    ensures { Gives view_tree result (Ok (Task.tree_of (map view_module modules.now) known.now.tasks.now (view_progress progress) (map view_routine routines.items) main)) }
+    ensures { Gives view_tree result (Ok (Task.tree_of (map view_module modules.now) known.now.tasks.now known.now.axes (view_progress progress) (map view_routine routines.items) main)) }
 {
     let count = number_of(modules.len())?;
     let tasks = copied_names(alloc, known.tasks)?;
@@ -66,6 +64,7 @@ fn tree_of(
         main,
         pers_of: Vec::new(alloc),
         meeting_of: Vec::new(alloc),
+        axes: known.axes,
     })
 }
 
@@ -87,14 +86,14 @@ pub fn check_task(
     modules: &[RawModule<'_>],
     known: &Known<'_>,
 ) -> Result<Tree, TypeFault>
-    ensures gives { Gives view_tree result (task_of (map view_module modules.now) known.now.tasks.now known.now.signals.now known.now.arm) }
+    ensures gives { Gives view_tree result (task_of (map view_module modules.now) known.now.tasks.now known.now.signals.now known.now.axes) }
     ensures sound { IfOk result (λ tree. IsTrue (has_sound_pers (view_tree tree))) }
 {
     task_tree(alloc, modules, known)
 }
 
 fn task_tree(alloc: Global, modules: &[RawModule<'_>], known: &Known<'_>) -> Result<Tree, TypeFault>
-    ensures { Gives view_tree result (task_of (map view_module modules.now) known.now.tasks.now known.now.signals.now known.now.arm) }
+    ensures { Gives view_tree result (task_of (map view_module modules.now) known.now.tasks.now known.now.signals.now known.now.axes) }
 {
     let scopes = Scopes::new(alloc, modules, known)?;
     let mut progress = data_of(alloc, modules, scopes)?;

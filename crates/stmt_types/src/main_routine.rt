@@ -8,7 +8,8 @@ ghost use Rattle.stmt_types.specs.Task;
 
 use data_scopes::number_after;
 use named_data::{Site, fault};
-use raw_trees::{RawItem, RawModule, RawRoutine, RoutineKind};
+use rapid_model::RoutineKind;
+use raw_trees::{RawItem, RawModule, RawRoutine};
 use rule_checks::{TypeFault, TypeRule};
 
 /// Whether a routine of the kind is a procedure.

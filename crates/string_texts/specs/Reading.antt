@@ -2,6 +2,7 @@
 use Rattle.std.specs.Prelude.{◌≡◌, ℕ, ◌+◌, ◌-◌, ◌*◌, ◌==◌, if◌then◌else◌, List, [], ◌∷◌, ◌++◌, length, map, Option, Some, None}
 use Rattle.std.specs.List.{concat}
 use Rattle.std.specs.Option.{option_map}
+use Rattle.rapid_limits.specs.declared.TheConstants.{LONGEST_STRING}
 use Rattle.rapid_num.specs.Literal.{digit_value}
 use Rattle.rapid_num.specs.Characters.{is_printable}
 use Rattle.rapid_lexer.specs.Strings.{is_code, AreCharacters}
@@ -39,4 +40,4 @@ pub record Continues (bytes begun text : List ℕ) : Type 0 where
 
 -- the begun text, continued by this one where both together have at most 80 characters
 abbrev pub continued_by : List ℕ → Option (List ℕ) → Option (List ℕ)
-continued_by begun text = option_map (λ more. begun ++ more) (limited (80 - length begun) text)
+continued_by begun text = option_map (λ more. begun ++ more) (limited (LONGEST_STRING - length begun) text)

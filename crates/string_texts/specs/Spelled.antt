@@ -1,6 +1,7 @@
 -- The text that a string spells (RAPID Kernel, lexical elements).
 use Rattle.std.specs.Prelude.{◌≡◌, ℕ, ◌+◌, ◌*◌, ◌==◌, nat_le, if◌then◌else◌, List, [], ◌∷◌, length, map, Option, None, Some}
 use Rattle.std.specs.Option.{option_map}
+use Rattle.rapid_limits.specs.declared.TheConstants.{LONGEST_STRING}
 use Rattle.rapid_num.specs.Literal.{digit_value}
 use Rattle.rapid_num.specs.Characters.{is_printable}
 use Rattle.rapid_lexer.specs.Strings.{IsString, is_code}
@@ -44,4 +45,4 @@ limited most (Some text) = if nat_le (length text) most then Some text else None
 -- the text of a string token; None where the bytes are none of at most 80 characters
 abbrev pub text_in : List ℕ → Option (List ℕ)
 text_in [] = None
-text_in (b ∷ bs) = if b == 34 then limited 80 (text_behind bs) else None
+text_in (b ∷ bs) = if b == 34 then limited LONGEST_STRING (text_behind bs) else None

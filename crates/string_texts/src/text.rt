@@ -6,6 +6,7 @@ ghost use Rattle.string_texts.specs.Spelled.{Spells, text_behind, text_in};
 ghost use Rattle.string_texts.specs.Reading.{Continues, continued_by};
 
 use crate::first::first_of;
+use rapid_limits::LONGEST_STRING;
 use rapid_model::Text;
 
 fn is_end(bytes: &[u8]) -> bool
@@ -16,7 +17,7 @@ fn is_end(bytes: &[u8]) -> bool
 
 /// The text and one byte more. None where it holds 80 or the byte is outside 20 to 7E hexadecimal.
 fn with_byte(begun: Text, byte: u8) -> Option<Text>
-    ensures { result ≡ (if takes 80 begun byte then Some (begun ++ byte ∷ []) else None) }
+    ensures { result ≡ (if takes LONGEST_STRING begun byte then Some (begun ++ byte ∷ []) else None) }
 {
     let mut text = begun;
     if text.push(byte) { Some(text) } else { None }
@@ -25,7 +26,7 @@ fn with_byte(begun: Text, byte: u8) -> Option<Text>
 /// The begun text, continued by what the bytes spell up to the quote that ends them.
 fn continued(bytes: &[u8], begun: Text) -> Option<Text>
     ensures spelled { IfSome result (λ t. Continues bytes.now begun t) }
-    ensures only { (t : List ℕ) → Continues bytes.now begun t → length t ≤ 80 → result ≡ Some t }
+    ensures only { (t : List ℕ) → Continues bytes.now begun t → length t ≤ LONGEST_STRING → result ≡ Some t }
     ensures text { result ≡ continued_by begun (text_behind bytes.now) }
 {
     match first_of(bytes) {
@@ -44,7 +45,7 @@ fn continued(bytes: &[u8], begun: Text) -> Option<Text>
 /// exactly where the token is no string of at most 80 characters.
 pub fn text_of(quoted: &[u8]) -> Option<Text>
     ensures spelled { IfSome result (λ t. Spells quoted.now t) }
-    ensures only { (t : List ℕ) → Spells quoted.now t → length t ≤ 80 → result ≡ Some t }
+    ensures only { (t : List ℕ) → Spells quoted.now t → length t ≤ LONGEST_STRING → result ≡ Some t }
     ensures text { result ≡ text_in quoted.now }
 {
     match quoted {

@@ -7,7 +7,7 @@ use Rattle.rapid_meaning.specs.Answering.{Asking}
 use Rattle.rapid_meaning.specs.Data.{Data}
 use Rattle.stack_code.specs.CodeData.{CodeData}
 use Rattle.stack_code.specs.CodeRuns.{code_after, fitting_by}
-use Rattle.stack_code.specs.Confs.{Conf}
+use Rattle.task_steps.specs.Points.{Point}
 use Rattle.stack_code.specs.Entering.{initial}
 use Rattle.live_code.specs.Live.{CodeFits}
 use Rattle.live_code.specs.Reached.{Reached}
@@ -25,16 +25,16 @@ pub asked : (m : MachineData) (answers : List Answer) (r : Request) → StandsFo
 asked m answers r stands due = let it = asks_with m answers r stands due in (it.operations + 0, it.asked 0)
 
 -- one that has not begun
-pub stands_new : (code : CodeData) (c : Conf) → StandsFor (record { code = code; phase = phases.New; conf = c; data' = initial code }) []
+pub stands_new : (code : CodeData) (c : Point) → StandsFor (record { code = code; phase = phases.New; conf = c; data' = initial code }) []
 stands_new code c = (fits_none code, begins code)
 
 -- an answer that fits
-pub fits_on : (code : CodeData) (request : Request) (then : Pending) (c : Conf) (d : Data) (answers : List Answer) (a : Answer)
+pub fits_on : (code : CodeData) (request : Request) (then : Pending) (c : Point) (d : Data) (answers : List Answer) (a : Answer)
     → StandsFor (record { code = code; phase = phases.Asking request then; conf = c; data' = d }) answers → IsTrue (fits_request (fitting_by code d.trapped) request a)
     → CodeFits code (answers ++ a ∷ [])
 fits_on code request then c d answers a stands fits = fits_asked code request (answered (here_of code c) then) d answers a stands.0 stands.1 fits
 
-pub reached_on : (code : CodeData) (request : Request) (then : Pending) (c : Conf) (d : Data) (answers : List Answer) (a : Answer)
+pub reached_on : (code : CodeData) (request : Request) (then : Pending) (c : Point) (d : Data) (answers : List Answer) (a : Answer)
     → StandsFor (record { code = code; phase = phases.Asking request then; conf = c; data' = d }) answers → IsTrue (fits_request (fitting_by code d.trapped) request a)
     → Reached code (answered (here_of code c) then a) d (answers ++ a ∷ [])
 reached_on code request then c d answers a stands fits = answers_on code request (answered (here_of code c) then) d answers a stands.1 fits

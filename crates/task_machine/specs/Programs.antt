@@ -9,10 +9,10 @@ use Rattle.rapid_meaning.specs.Answering.{Outcome, Asking}
 use Rattle.rapid_meaning.specs.Data.{Data}
 use Rattle.stack_code.specs.CodeData.{CodeData}
 use Rattle.stack_code.specs.CodeRuns.{code_after}
-use Rattle.stack_code.specs.Confs.{Conf}
 use Rattle.live_code.specs.Reached.{Reached}
 use Rattle.live_code.proofs.Reaching.{asks_by, ends_by}
 use Rattle.task_steps.specs.Doing.{answered, doing_of, here_of}
+use Rattle.task_steps.specs.Points.{Point}
 use Rattle.task_steps.specs.Seen.{request_in}
 use Rattle.task_steps.specs.declared.phase.Phase.{Phase}
 use Rattle.task_steps.specs.declared.phase.Phase.TheVariants as phases
@@ -37,7 +37,7 @@ asks_just : (code : CodeData) (answers : List Answer) (request other : Request) 
 asks_just code answers request other d due =
     (λ asks. same_request code answers request other d asks.standing due asks.by, λ is. subst (λ (r : Request). CodeAsks code answers r) (sym is) (record { standing = d; by = due }))
 
-asks_in : (code : CodeData) (phase : Phase) (c : Conf) (d : Data) (answers : List Answer) (r : Request) → Reached code (doing_of code phase c) d answers → request_in phase ≡ Some r → AsksWith code answers r d
+asks_in : (code : CodeData) (phase : Phase) (c : Point) (d : Data) (answers : List Answer) (r : Request) → Reached code (doing_of code phase c) d answers → request_in phase ≡ Some r → AsksWith code answers r d
 asks_in code phases.New c d answers r here due = absurd (subst (λ (o : Option Request). IsSomeAnd o (λ x. ⊤)) (sym due) tt)
 asks_in code phases.Going c d answers r here due = absurd (subst (λ (o : Option Request). IsSomeAnd o (λ x. ⊤)) (sym due) tt)
 asks_in code (phases.Asking request then) c d answers r here due =

@@ -6,8 +6,7 @@ ghost use Rattle.task_steps.specs.Seen.{room_of};
 use crate::living::keep_live;
 use live_code::Code;
 use machine_stacks::Held;
-use rapid_model::{Answer, Request};
-use stack_code::At;
+use rapid_model::{Answer, At, Request};
 use std::alloc::Global;
 use task_steps::{LoadedCode, Task};
 
@@ -22,7 +21,6 @@ pub(crate) struct Course {
 
 impl Course {
     ghost use Rattle.std.specs.Prelude.{◌≡◌, ◌≢◌, ◌<◌, ◌++◌, ◌∷◌, [], List, length, Some, IsSome, IsTrue, IfOk, IfErr, slice_get};
-    ghost use Rattle.std.specs.Option.{option_map};
     ghost use Rattle.rapid_model.specs.Fits.{fits_request};
     ghost use Rattle.rapid_model.specs.declared.answer.Answer.{Answer};
     ghost use Rattle.rapid_model.specs.declared.request.Request.{Request};
@@ -30,7 +28,6 @@ impl Course {
     ghost use Rattle.stack_code.specs.Entering.{initial};
     ghost use Rattle.live_code.specs.Reached.{Reached};
     ghost use Rattle.task_steps.specs.Seen.{request_in};
-    ghost use Rattle.task_steps.specs.Tasks.{at_of};
     ghost use Rattle.task_steps.specs.declared.pending.Pending.{Pending};
     ghost use Rattle.task_steps.specs.declared.phase.Phase.TheVariants as phases;
     ghost use Rattle.task_machine.specs.Standing.{StandsFor, machine_of};
@@ -121,7 +118,7 @@ impl Course {
 
     /// The place of the statement that began last, or asked to; none before the first.
     pub(crate) fn place(&self) -> Option<At>
-        ensures { option_map at_of result ≡ self.now.task.data'.place }
+        ensures { result ≡ self.now.task.data'.place }
     {
         self.task.place()
     }

@@ -6,5 +6,5 @@ use live_code::Code;
 pub(crate) fn keep_live(code: &Code)
     ensures { IsLive code.now }
 {
-    let _main = code.main;
+    let _main = code.linked.main;
 }

@@ -1,20 +1,17 @@
 ghost use Rattle.std.specs.Prelude.{◌≡◌, ◌<◌, List, [], ◌∷◌, ◌++◌, IsTrue, Some, IsSome, IfOk, IfErr, length, slice_get};
-ghost use Rattle.std.specs.Option.{option_map};
 ghost use Rattle.rapid_model.specs.Fits.{fits_request};
 ghost use Rattle.rapid_model.specs.declared.answer.Answer.{Answer};
 ghost use Rattle.rapid_model.specs.declared.request.Request.{Request};
 ghost use Rattle.stack_code.specs.CodeRuns.{fitting_by};
 ghost use Rattle.task_machine.specs.MachineData.{request_of};
 ghost use Rattle.task_machine.specs.Standing.{StandsFor};
-ghost use Rattle.task_steps.specs.Tasks.{at_of};
 ghost use Rattle.task_steps.specs.declared.pending.Pending.{Pending};
 ghost use Rattle.task_steps.specs.declared.phase.Phase.TheVariants as phases;
 
 use crate::course::Course;
 use live_code::Code;
 use machine_stacks::Held;
-use rapid_model::{Answer, Request};
-use stack_code::At;
+use rapid_model::{Answer, At, Request};
 use std::alloc::Global;
 use std::marker::Model;
 use task_steps::LoadedCode;
@@ -122,7 +119,7 @@ impl Machine {
 
     /// The place of the statement that began last, or asked to by a Look; none before the first.
     pub fn place(&self) -> Option<At>
-        ensures { option_map at_of result ≡ self.now.data'.place }
+        ensures { result ≡ self.now.data'.place }
     {
         self.course.place()
     }

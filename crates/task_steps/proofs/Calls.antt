@@ -14,6 +14,7 @@ use Rattle.stack_code.specs.Entering.{enter, entered, frame_in}
 use Rattle.stack_code.specs.Steps.{Here, calls, looked, to_next}
 use Rattle.stack_code.specs.declared.routine_row.RoutineRow.{RoutineRow}
 use Rattle.task_steps.specs.Alike.{Alike}
+use Rattle.task_steps.specs.Points.{Point, Waiting, conf_in, fresh, point, saved_in}
 use Rattle.task_steps.proofs.Along.{alike_is, alike_then}
 use Rattle.task_steps.proofs.Readings.{reads_now, writes_now}
 
@@ -30,13 +31,13 @@ enters_by code routine row args saved d room is =
     (alike_is code _ _ d (ap (entering code routine row args saved d) is))
 
 -- it begins where its frame has room
-pub enter_stands : (code : CodeData) (routine : ℕ) (row : RoutineRow) (args : List Datum) (saved : List Saved) (d e : Data) (c : Conf)
-    → has_room d.frames (frame_in code row args) ≡ true → c ≡ conf row.entry [] (begun routine) saved → e ≡ record d { frames = frame_in code row args ∷ d.frames }
-    → Alike code (entered code routine row args saved) d (Gives c) e
+pub enter_stands : (code : CodeData) (routine : ℕ) (row : RoutineRow) (args : List Datum) (saved : List Waiting) (d e : Data) (p : Point)
+    → has_room d.frames (frame_in code row args) ≡ true → p ≡ point row.entry [] (fresh routine) saved → e ≡ record d { frames = frame_in code row args ∷ d.frames }
+    → Alike code (entered code routine row args (saved_in code saved)) d (Gives (conf_in code p)) e
 unfolding after
-enter_stands code routine row args saved d e c room here moved =
-    rw (here, moved) (alike_then code _ _ _ d d _ (enters_by code routine row args saved d true room)
-    (writes_now code (record d { frames = frame_in code row args ∷ d.frames }) (Gives (conf row.entry [] (begun routine) saved)) d))
+enter_stands code routine row args saved d e p room here moved =
+    rw (here, moved) (alike_then code _ _ _ d d _ (enters_by code routine row args (saved_in code saved) d true room)
+    (writes_now code (record d { frames = frame_in code row args ∷ d.frames }) (Gives (conf row.entry [] (begun routine) (saved_in code saved))) d))
 
 -- else it is a fault
 pub enter_floods : (code : CodeData) (routine : ℕ) (row : RoutineRow) (args : List Datum) (saved : List Saved) (d : Data)

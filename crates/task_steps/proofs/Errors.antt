@@ -13,11 +13,10 @@ use Rattle.stack_code.specs.Raising.{handler_of, part_or, raised, raised_out, ra
 use Rattle.std.proofs.Common.{false, reverse}
 use Rattle.std.specs.Option.{is_some}
 use Rattle.machine_stacks.specs.OperandStack.{OperandStack}
-use Rattle.stack_code.specs.Placed.{own_of}
-use Rattle.stack_code.specs.declared.owner.Owner.{Owner}
 use Rattle.task_steps.specs.Alike.{Alike}
-use Rattle.task_steps.specs.Doing.{doing_of}
-use Rattle.task_steps.specs.Savings.{running_of, saved_of}
+use Rattle.task_steps.specs.Doing.{doing_of, raised_at}
+use Rattle.task_steps.specs.Points.{own_at, point, running_in, saved_in}
+use Rattle.task_steps.specs.Savings.{saved_of}
 use Rattle.task_steps.specs.Tasks.{seen_task}
 use Rattle.task_steps.specs.declared.phase.Phase.TheVariants as phases
 use Rattle.task_steps.specs.declared.task.Task.TheInside.{Inside}
@@ -58,10 +57,10 @@ not_some None e = refl
 not_some (Some x) e = cc
 
 -- a task in whose routine it has begun
-pub part_stands : (code : CodeData) (t : Inside) (o : OperandStack) (owner : Owner) (error handler : ℕ) → t.phase ≡ phases.Going → o ≡ record t.operands { top = [] } → t.frame.failed ≡ None
+pub part_stands : (code : CodeData) (t : Inside) (o : OperandStack) (place error handler : ℕ) → t.phase ≡ phases.Going → o ≡ record t.operands { top = [] } → t.frame.failed ≡ None
     → handler_of code t.frame.routine ≡ Some handler
-    → Alike code (raised code (own_of owner) (seen_task t).conf.frame (seen_task t).conf.saved error) (seen_task t).data'
-    (doing_of code t.phase (conf handler o.top (running_of (record { routine = t.frame.routine; failed = Some (record { owner = owner; error = error }) })) (saved_of (reverse t.rows.items) o.below)))
+    → Alike code (raised_at code place (seen_task t).conf error) (seen_task t).data'
+    (doing_of code t.phase (point handler o.top (record { routine = t.frame.routine; failed = Some (record { place = place; error = error }) }) (saved_of (reverse t.rows.items) o.below)))
     (record (seen_task t).data' { errno = error })
-part_stands code t o owner error handler going cleared none there =
-    rw (going, cleared) (part_begins code (own_of owner) (running_of t.frame) (saved_of (reverse t.rows.items) t.operands.below) error handler (seen_task t).data' (rw none refl) there)
+part_stands code t o place error handler going cleared none there =
+    rw (going, cleared) (part_begins code (own_at code place) (running_in code t.frame) (saved_in code (saved_of (reverse t.rows.items) t.operands.below)) error handler (seen_task t).data' (rw none refl) there)

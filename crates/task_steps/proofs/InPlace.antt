@@ -1,7 +1,7 @@
 -- Operations that are done where their operands lie.
 use Rattle.std.proofs.Common.{◌≡◌, refl, sym, ap, ◌∙◌, Bool, ℤ, ◌≤◌, List, [], ◌∷◌, length, drop, Option, None, Some, slice_get}
 use Rattle.std.specs.Option.{option_and_then, option_map}
-use Rattle.raw_trees.specs.declared.raw_expr.Operator.{Operator}
+use Rattle.rapid_model.specs.declared.operator.Operator.{Operator}
 use Rattle.rapid_model.specs.declared.value.Value.{Value}
 use Rattle.rapid_model.specs.declared.value.Value.TheVariants as values
 use Rattle.rapid_operators.specs.Operators.{apply}
@@ -25,6 +25,7 @@ use Rattle.stack_code.specs.declared.op.Op.TheVariants as ops
 use Rattle.task_steps.specs.Alike.{Alike, popped}
 use Rattle.task_steps.specs.Doing.{here_of}
 use Rattle.task_steps.specs.Own.{IsNumAt, IsOwn}
+use Rattle.task_steps.specs.Points.{Point}
 use Rattle.task_steps.proofs.Along.{alike_is, alike_then}
 use Rattle.task_steps.proofs.Storings.{load_own, store_own}
 
@@ -47,16 +48,16 @@ own_of (roots.Slot slot) d x there = tt
 own_of (roots.Frame frame at) d x there = tt
 own_of (roots.Pers pers index) d x there = cc
 
-pub load_num : (code : CodeData) (c : Conf) (d : Data) (place : Lvalue) (n : ℤ) → slice_get c.stack 0 ≡ Some (Place place) → IsNumAt d place n
+pub load_num : (code : CodeData) (c : Point) (d : Data) (place : Lvalue) (n : ℤ) → slice_get c.stack 0 ≡ Some (Place place) → IsNumAt d place n
     → Alike code (act (here_of code c) ops.Load) d (to_next (here_of code c) (Plain (values.Num n) ∷ drop 1 c.stack)) d
 load_num code c d place n top held =
     let h = here_of code c in
     let own : IsOwn place.root = own_of place.root d (Plain (values.Num n)) held.num in
     let read : Some (Plain (values.Num n)) ≡ option_and_then (part_in place.part) (datum_at place.root d) = rw (held.whole, held.num) refl in
     alike_then code _ _ _ d d d (alike_is code _ _ d (ap (λ (xs : List Datum). on_place xs (λ p rest. pushes h rest (λ x. x) (load p))) (top_is c.stack (Place place) top)))
-    (load_own code (record h { conf = record c { stack = drop 1 c.stack } }) d place.root place.part (Some (Plain (values.Num n))) own read)
+    (load_own code (record h { conf = record h.conf { stack = drop 1 c.stack } }) d place.root place.part (Some (Plain (values.Num n))) own read)
 
-pub store_num : (code : CodeData) (c : Conf) (d : Data) (place : Lvalue) (n old : ℤ) → slice_get c.stack 0 ≡ Some (Plain (values.Num n)) → slice_get c.stack 1 ≡ Some (Place place) → IsNumAt d place old
+pub store_num : (code : CodeData) (c : Point) (d : Data) (place : Lvalue) (n old : ℤ) → slice_get c.stack 0 ≡ Some (Plain (values.Num n)) → slice_get c.stack 1 ≡ Some (Place place) → IsNumAt d place old
     → Alike code (act (here_of code c) ops.Store) d (to_next (here_of code c) (drop 1 (drop 1 c.stack))) (put_at place.root (Plain (values.Num n)) d)
 store_num code c d place n old top below held =
     let h = here_of code c in
@@ -65,7 +66,7 @@ store_num code c d place n old top below held =
     let put : option_map (λ it. put_at place.root (Plain (values.Num n)) d) there ≡ option_map (λ x. put_at place.root x d) (option_and_then (put_in place.part (Plain (values.Num n))) (datum_at place.root d)) =
     rw (held.whole, held.num) refl in
     alike_then code _ _ _ d d _ (alike_is code _ _ d (ap (λ (xs : List Datum). on_top xs (λ x rest. on_place rest (λ p more. does h more (store p x)))) (two_are c.stack (Plain (values.Num n)) (Place place) top below)))
-    (store_own code (record h { conf = record c { stack = drop 1 (drop 1 c.stack) } }) d (put_at place.root (Plain (values.Num n)) d) place.root place.part (Plain (values.Num n)) there own put)
+    (store_own code (record h { conf = record h.conf { stack = drop 1 (drop 1 c.stack) } }) d (put_at place.root (Plain (values.Num n)) d) place.root place.part (Plain (values.Num n)) there own put)
 
 -- the values of operands
 there_value : (o : Option Datum) (v : Value) → option_and_then as_value o ≡ Some v → o ≡ Some (Plain v)

@@ -18,4 +18,6 @@ pub mod TaskSets
 pub mod Homes
 pub mod Shapings
 pub mod Elements
+pub mod Gatherings
 pub mod Keepings
+pub mod Departures

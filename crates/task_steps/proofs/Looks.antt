@@ -5,19 +5,19 @@ use Rattle.rapid_meaning.specs.Answering.{performed}
 use Rattle.rapid_meaning.specs.Data.{Data, seen_in}
 use Rattle.rapid_meaning.specs.Doings.{after}
 use Rattle.stack_code.specs.CodeData.{CodeData}
-use Rattle.stack_code.specs.Confs.{Conf}
 use Rattle.stack_code.specs.Placed.{Own, own_of, owner_at}
 use Rattle.stack_code.specs.Steps.{holds, looks}
 use Rattle.stack_code.specs.declared.owner.Owner.{Owner}
 use Rattle.task_steps.specs.Alike.{Alike, with_stack}
 use Rattle.task_steps.specs.Doing.{effect, here_of}
+use Rattle.task_steps.specs.Points.{Point}
 use Rattle.task_steps.specs.Seen.{Seen}
 use Rattle.task_steps.specs.declared.done.Done.TheVariants as dones
 use Rattle.task_steps.proofs.Within.{own_is}
 use Rattle.task_steps.specs.declared.pending.Pending.TheVariants as pendings
 
 -- a Look asks, and its place is that of its statement
-pub look_asks : (code : CodeData) (c : Conf) (d : Data) (owner : Owner) → owner_at code.owners c.pc ≡ Some owner
+pub look_asks : (code : CodeData) (c : Point) (d : Data) (owner : Owner) → owner_at code.owners c.pc ≡ Some owner
     → Alike code (looks (here_of code c)) d (effect (here_of code c) (dones.Ask Look pendings.Looked)) (record d { place = Some (own_of owner).at })
 unfolding performed after
 look_asks code c d owner there =

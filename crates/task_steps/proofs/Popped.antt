@@ -31,6 +31,13 @@ ends_at code s0 s K done same finish stable =
     sym (stable (here_of code s0.conf) s.conf.stack s.conf.stack) ∙ finish (here_of code (with_stack s.conf.stack s0).conf) in
     subst (λ (t : Seen). K (here_of code s0.conf) s.conf.stack ≡ came (here_of code t.conf) done) (sym same) stands
 
+-- the same where what is done looks at the code
+pub ends_here : (code : CodeData) (s0 s : Seen) (K : Here → List Datum → Doing Conf) (done : Option Done) → s ≡ with_stack s.conf.stack s0
+    → K (here_of code s.conf) s.conf.stack ≡ came (here_of code s.conf) done → ((h : Here) (stack rest : List Datum) → K (record h { conf = record h.conf { stack = stack } }) rest ≡ K h rest)
+    → K (here_of code s0.conf) s.conf.stack ≡ came (here_of code s.conf) done
+ends_here code s0 s K _ same finish stable =
+    sym (stable (here_of code s0.conf) s.conf.stack s.conf.stack) ∙ ap (λ (t : Seen). K (here_of code t.conf) s.conf.stack) (sym same) ∙ finish
+
 -- and how the machine goes on then
 pub goes_at : (code : CodeData) (s0 s : Seen) (K : Here → List Datum → Doing Conf) (way : Option Way) → s ≡ with_stack s.conf.stack s0
     → ((t : Seen) → K (here_of code t.conf) t.conf.stack ≡ gone code way t) → ((h : Here) (stack rest : List Datum) → K (record h { conf = record h.conf { stack = stack } }) rest ≡ K h rest)

@@ -1,3 +1,4 @@
+pub mod Points
 pub mod Savings
 pub mod Seen
 pub mod Own

@@ -4,7 +4,7 @@ use Rattle.rapid_model.specs.declared.request.Request.{Request}
 use Rattle.rapid_model.specs.declared.request.Request.TheVariants.{End}
 use Rattle.rapid_meaning.specs.Data.{Data}
 use Rattle.stack_code.specs.CodeData.{CodeData}
-use Rattle.stack_code.specs.Confs.{Conf}
+use Rattle.task_steps.specs.Points.{Point}
 use Rattle.task_steps.specs.declared.phase.Phase.{Phase}
 use Rattle.task_steps.specs.declared.phase.Phase.TheVariants as phases
 
@@ -20,7 +20,7 @@ room_of code = record { operands = code.deepest; slots = length code.slots }
 -- how far a task has come, its data, and its room
 pub record Seen : Type 0 where
   pub phase : Phase
-  pub conf : Conf
+  pub conf : Point
   pub data' : Data
   pub room : Room
 

@@ -9,9 +9,8 @@ ghost use Rattle.task_steps.specs.Doing.{gone, here_of};
 
 use crate::task::Task;
 use crate::way::Way;
-use rapid_model::{Fate, Fault};
+use rapid_model::{Fate, Fault, Operator};
 use rapid_operators::{Applied, apply};
-use raw_trees::Operator;
 
 impl Task {
     /// An operator with two operands.

@@ -6,12 +6,12 @@ ghost use Rattle.rapid_meaning.specs.Frames.{has_room};
 ghost use Rattle.rapid_model.specs.declared.answer.Answer.TheVariants as answers;
 ghost use Rattle.typed_trees.specs.declared.datum.Datum.{Datum};
 ghost use Rattle.stack_code.specs.CodeData.{CodeData};
-ghost use Rattle.stack_code.specs.Confs.{Called, begun, conf};
 ghost use Rattle.stack_code.specs.Entering.{enter, entered, frame_in, initial, started};
 ghost use Rattle.stack_code.specs.Steps.{act, looked};
 ghost use Rattle.stack_code.specs.declared.op.Op.TheVariants as ops;
 ghost use Rattle.task_steps.specs.Alike.{Follows, Turns};
-ghost use Rattle.task_steps.specs.Doing.{answered, here_of, own_at};
+ghost use Rattle.task_steps.specs.Doing.{answered, here_of};
+ghost use Rattle.task_steps.specs.Points.{Called, fresh, point, saved_in};
 ghost use Rattle.task_steps.specs.Savings.{saved_row};
 ghost use Rattle.task_steps.specs.Seen.{room_of};
 ghost use Rattle.task_steps.specs.declared.pending.Pending.TheVariants as pendings;
@@ -20,20 +20,19 @@ ghost use Rattle.task_steps.specs.declared.phase.Phase.TheVariants as phases;
 use crate::done::Done;
 use crate::living::keep_code;
 use crate::loaded::LoadedCode;
-use crate::owning::owner_at;
 use crate::phase::Phase;
 use crate::row::Row;
 use crate::running::Running;
 use crate::task::Task;
-use live_code::Code;
 use machine_stacks::{Frames, Operands, slots_of};
+use rapid_limits::{MOST_FRAME_VALUES, MOST_FRAMES};
 use rapid_model::{Answer, Fate, Fault};
 use stack_code::RoutineRow;
 use std::alloc::{AllocError, Global};
 
 impl Task {
-    /// A task that has not begun, with room for 32 frames, 20,000 values and 33 times as many operands as a frame of its code
-    /// has at most. Its error says that memory was refused.
+    /// A task that has not begun, with room for all frames that may be, their values, and for each of these frames and one more
+    /// as many operands as a frame of its code has at most. Its error says that memory was refused.
     pub fn new(alloc: Global, loaded: &LoadedCode) -> Result<Task, AllocError>
         ensures phase { IfOk result (λ t. t.phase ≡ phases.New) }
         ensures data { IfOk result (λ t. t.data' ≡ initial loaded.now) }
@@ -42,9 +41,9 @@ impl Task {
         let code = loaded.code();
         keep_code(code);
         let room = code.deepest();
-        let rows = Vec::with_capacity(alloc, 32)?;
-        let operands = Operands::new(alloc, 33 * room as usize, 32)?;
-        let frames = Frames::new(alloc, 20_000, 32)?;
+        let rows = Vec::with_capacity(alloc, MOST_FRAMES)?;
+        let operands = Operands::new(alloc, (MOST_FRAMES + 1) * room as usize, MOST_FRAMES)?;
+        let frames = Frames::new(alloc, MOST_FRAME_VALUES, MOST_FRAMES)?;
         let slots = slots_of(alloc, code.slots())?;
         Ok(Task {
             phase: Phase::New,
@@ -82,6 +81,7 @@ impl Task {
     }
 
     /// Main is entered, where no routine is under way.
+    #[tactic(auto, unfolding(crate::specs::Points::saved_in))]
     fn enter_main(&mut self, loaded: &LoadedCode) -> Option<Done>
         requires { self.old.conf.saved ≡ [] }
         ensures phase { self.new.phase ≡ self.old.phase }
@@ -96,7 +96,7 @@ impl Task {
     fn enter_alone(&mut self, loaded: &LoadedCode, routine: u32, below: Row) -> Option<Done>
         ensures phase { self.new.phase ≡ self.old.phase }
         ensures room { self.new.room ≡ self.old.room }
-        ensures turns { Turns loaded.now (enter loaded.now routine [] (saved_row below self.old.conf.stack ∷ self.old.conf.saved)) self.old.data' result self.new }
+        ensures turns { Turns loaded.now (enter loaded.now routine [] (saved_in loaded.now (saved_row below self.old.conf.stack ∷ self.old.conf.saved))) self.old.data' result self.new }
     {
         match loaded.code().routines().get(routine as usize) {
             Some(row) => self.enter(loaded, routine, *row, 0, below),
@@ -118,7 +118,7 @@ impl Task {
         requires args { args ≤ length self.old.conf.stack }
         ensures phase { self.new.phase ≡ self.old.phase }
         ensures room { self.new.room ≡ self.old.room }
-        ensures turns { Turns loaded.now (entered loaded.now routine row (reverse (take args self.old.conf.stack)) (saved_row below (drop args self.old.conf.stack) ∷ self.old.conf.saved)) self.old.data' result self.new }
+        ensures turns { Turns loaded.now (entered loaded.now routine row (reverse (take args self.old.conf.stack)) (saved_in loaded.now (saved_row below (drop args self.old.conf.stack) ∷ self.old.conf.saved))) self.old.data' result self.new }
     {
         if self.has_room(loaded, routine, row, args) {
             self.stack_on(loaded, routine, row, args, below);
@@ -135,7 +135,7 @@ impl Task {
         ensures { result ≡ has_room self.now.data'.frames (frame_in loaded.now row (reverse (take args self.now.conf.stack))) }
     {
         let values = args as usize + loaded.own_values(routine, row);
-        self.frames.count() < 32 && self.frames.values() + values <= 20_000
+        self.frames.count() < MOST_FRAMES && self.frames.values() + values <= MOST_FRAME_VALUES
     }
 
     /// A routine for whose frame there is room stands on those under way.
@@ -152,7 +152,7 @@ impl Task {
         requires room { IsTrue (has_room self.old.data'.frames (frame_in loaded.now row (reverse (take args self.old.conf.stack)))) }
         ensures phase { self.new.phase ≡ self.old.phase }
         ensures room { self.new.room ≡ self.old.room }
-        ensures conf { self.new.conf ≡ conf row.entry [] (begun routine) (saved_row below (drop args self.old.conf.stack) ∷ self.old.conf.saved) }
+        ensures conf { self.new.conf ≡ point row.entry [] (fresh routine) (saved_row below (drop args self.old.conf.stack) ∷ self.old.conf.saved) }
         ensures data { self.new.data' ≡ record self.old.data' { frames = frame_in loaded.now row (reverse (take args self.old.conf.stack)) ∷ self.old.data'.frames } }
     {
         loaded.enter(routine, row, args, &mut self.frames, &mut self.operands);
@@ -176,19 +176,17 @@ impl Task {
         if self.operands.len() < usize::from(row.args) {
             return None;
         }
-        let below = self.caller(loaded.code());
+        let below = self.caller();
         self.enter(loaded, routine, row, row.args, below)
     }
 
     /// What goes on when a routine is left that is called here.
-    fn caller(&self, code: &Code) -> Row
-        ensures { (stack : List Datum) → saved_row result stack ≡ Called self.now.conf.pc (own_at code.now self.now.conf.pc) stack self.now.conf.frame }
+    fn caller(&self) -> Row
+        ensures { (stack : List Datum) → saved_row result stack ≡ Called self.now.conf.pc stack self.now.conf.frame }
     {
-        keep_code(code);
         let at = self.pc;
-        let owner = owner_at(code, at);
         let frame = self.frame;
-        Row::Called { at, owner, frame }
+        Row::Called { at, frame }
     }
 
     /// The answer to a Look: the statement begins, or a trap does.

@@ -11,7 +11,6 @@ ghost use Rattle.task_steps.specs.declared.way.Way.TheVariants as ways;
 
 use crate::done::Done;
 use crate::living::keep_code;
-use crate::owning::owner_at;
 use crate::phase::Phase;
 use crate::task::Task;
 use crate::way::Way;
@@ -73,8 +72,8 @@ impl Task {
             Some(Way::Jump(to)) => self.pc = to,
             Some(Way::Stay) => {}
             Some(Way::Raise(error)) => {
-                let owner = owner_at(code, self.pc);
-                self.raise(code, owner, error);
+                let place = self.pc;
+                self.raise(code, place, error);
             }
             Some(Way::Escape(error)) => self.raise_out(code, error),
             Some(Way::End(fate)) => self.phase = Phase::Over(fate),

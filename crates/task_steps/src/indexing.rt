@@ -45,7 +45,7 @@ impl Task {
 
     /// The place of an element, counted from 1, of the array that begins at a place. None where that is no datum of the task's
     /// own; persistents are the cell's.
-    fn element(&self, place: Lvalue, number: u16) -> Option<Lvalue>
+    pub(crate) fn element(&self, place: Lvalue, number: u16) -> Option<Lvalue>
         requires { 1 ≤ number }
         ensures { result ≡ there_in self.now.data' (place_of_element place number) (element_root place.root number) }
     {

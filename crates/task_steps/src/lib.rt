@@ -11,6 +11,7 @@ mod departure;
 mod done;
 mod failed;
 mod first_counts;
+mod gathering;
 mod indexing;
 mod keeping;
 mod left;
@@ -50,6 +51,7 @@ mod way;
 
 pub use departure::Departure;
 pub use failed::Failed;
+pub use gathering::Gathering;
 pub use loaded::LoadedCode;
 pub use moving::Moving;
 pub use pending::Pending;

@@ -5,15 +5,16 @@ ghost use Rattle.std.specs.Prelude.{◌≡◌, ◌≤◌, IsTrue, pos};
 ghost use Rattle.rapid_num.specs.Reach.{is_position};
 ghost use Rattle.rapid_model.specs.Fits.{Fitting, fits_request};
 ghost use Rattle.rapid_model.specs.declared.request.Request.{Request};
-ghost use Rattle.rapid_meaning.specs.Moves.{cap_of, move_from, setpoints, when_given};
+ghost use Rattle.rapid_meaning.specs.Moves.{cap_of, setpoints, when_given};
 ghost use Rattle.stack_code.specs.Steps.{Here, does};
-ghost use Rattle.task_steps.specs.Doing.{came};
+ghost use Rattle.task_steps.specs.Doing.{came, departs};
 
 use crate::departure::Departure;
 use crate::done::Done;
 use crate::moving::Moving;
 use crate::pending::Pending;
 use joint_planner::{Plan, plan};
+use rapid_limits::MOST_AXES;
 use rapid_model::{Answer, Fate, Fault, Request};
 use rapid_num::Num;
 
@@ -27,7 +28,7 @@ fn cap_of(speed: Num) -> i64
 /// The last so many setpoints of a plan.
 fn setpoints_of(plan: Plan, left: u32) -> Option<Done>
     requires { left ≤ plan.count }
-    ensures { (h : Here) → does h h.conf.stack (setpoints plan.start plan.target plan.count left) ≡ came h result }
+    ensures { (h : Here) → does h h.conf.stack (setpoints plan.axes plan.start plan.target plan.count left) ≡ came h result }
 {
     if left == 0 {
         return Some(Done::Next);
@@ -40,15 +41,16 @@ fn setpoints_of(plan: Plan, left: u32) -> Option<Done>
     })
 }
 
-/// The arm is there: its move begins. A position answers a request alone.
-pub(crate) fn departed(departure: Departure, answer: Answer) -> Option<Done>
-    requires fits { (by : Fitting) × (request : Request) × IsTrue (fits_request by request answer) }
-    ensures { (h : Here) → does h h.conf.stack (move_from departure.target (cap_of departure.speed) answer) ≡ came h result }
+/// The arm, which has so many axes, is there: its move begins. A position answers a request alone.
+pub(crate) fn departed(departure: Departure, answer: Answer, axes: u8) -> Option<Done>
+    requires few { axes ≤ MOST_AXES }
+    requires fits { (by : Fitting) × (request : Request) × IsTrue (fits_request by request answer) × (by.axes ≡ axes) }
+    ensures { (h : Here) → does h h.conf.stack (departs axes departure answer) ≡ came h result }
 {
     match answer {
-        Answer::At(start) => {
-            let Departure { target, speed } = departure;
-            let plan = plan(&start, &target, cap_of(speed));
+        Answer::At(start) if departure.axes == axes => {
+            let Departure { target, speed, .. } = departure;
+            let plan = plan(&start, &target, cap_of(speed), usize::from(axes));
             let count = plan.count();
             setpoints_of(plan, count)
         }
@@ -58,7 +60,7 @@ pub(crate) fn departed(departure: Departure, answer: Answer) -> Option<Done>
 
 /// A setpoint was given, or a zone stopped the move.
 pub(crate) fn moved(moving: Moving, answer: Answer) -> Option<Done>
-    ensures { (h : Here) → does h h.conf.stack (when_given (setpoints moving.plan.start moving.plan.target moving.plan.count moving.left) answer) ≡ came h result }
+    ensures { (h : Here) → does h h.conf.stack (when_given (setpoints moving.plan.axes moving.plan.start moving.plan.target moving.plan.count moving.left) answer) ≡ came h result }
 {
     match answer {
         Answer::Given => {

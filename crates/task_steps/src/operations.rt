@@ -25,6 +25,7 @@ use crate::requests::{
 };
 use crate::task::Task;
 use crate::way::Way;
+use live_code::Code;
 use rapid_model::{Function, PartName, Request};
 
 impl Task {
@@ -120,13 +121,13 @@ impl Task {
     }
 
     /// A move.
-    pub(crate) fn move_arm(&mut self) -> Option<Done>
-        ensures on { (code : CodeData) → act (here_of code self.old.conf) (ops.Move) ≡ came (here_of code self.new.conf) result }
+    pub(crate) fn move_arm(&mut self, code: &Code) -> Option<Done>
+        ensures on { act (here_of code.now self.old.conf) ops.Move ≡ came (here_of code.now self.new.conf) result }
         ensures rest { self.new ≡ with_stack self.new.conf.stack self.old }
     {
         let speed = self.pop_value()?;
         let target = self.pop_value()?;
-        move_to(&target, &speed)
+        move_to(&target, &speed, code.axes())
     }
 
     /// Connects an interrupt with a trap.

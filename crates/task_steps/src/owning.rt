@@ -1,27 +1,20 @@
-ghost use Rattle.std.specs.Prelude.{◌≡◌, length};
-ghost use Rattle.error_recovery.specs.Owners.{Tiles};
-ghost use Rattle.stack_code.specs.Placed.{own_of};
-ghost use Rattle.task_steps.specs.Doing.{own_at};
+ghost use Rattle.std.specs.Prelude.{◌≡◌};
+ghost use Rattle.error_recovery.specs.Owners.{resumed};
+ghost use Rattle.task_steps.specs.Points.{own_at};
 
-use error_recovery::owner_of;
+use crate::living::keep_code;
+use error_recovery::{How, resume_of};
 use live_code::Code;
-use stack_code::{At, Owner};
 
-/// The owner of a place of the code, and of one outside it one that is nothing. Takes a time in proportion to the logarithm of
-/// the number of owners.
-pub(crate) fn owner_at(code: &Code, pc: u32) -> Owner
-    requires { Tiles 0 (length code.now.ops) code.now.owners }
-    ensures { own_at code.now pc ≡ own_of result }
+/// Where the statement that owns a place of the code begins, or the place after it; 0 of a place outside the code. Takes a time
+/// in proportion to the logarithm of the number of owners.
+pub(crate) fn resumed_at(code: &Code, place: u32, how: How) -> u32
+    ensures { result ≡ resumed how (own_at code.now place) }
 {
-    if (pc as usize) < code.ops().len() {
-        *owner_of(code.marks(), pc)
+    keep_code(code);
+    if (place as usize) < code.ops().len() {
+        resume_of(code.marks(), place, how)
     } else {
-        Owner {
-            first: 0,
-            past: 0,
-            retry: 0,
-            next: 0,
-            at: At { module: 0, byte: 0 },
-        }
+        0
     }
 }

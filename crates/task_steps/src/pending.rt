@@ -1,4 +1,5 @@
 use crate::departure::Departure;
+use crate::gathering::Gathering;
 use crate::moving::Moving;
 use typed_trees::Lvalue;
 
@@ -9,6 +10,8 @@ pub enum Pending {
     Looked,
     /// Pushes the value that was read.
     Read,
+    /// Adds the task that the element of a list names to a set, and goes on with the elements after it.
+    Gathered(Gathering),
     /// Goes on.
     Confirmed,
     /// Pushes whether a bool was FALSE.

@@ -3,9 +3,8 @@
 ghost use Rattle.std.specs.Prelude.{◌≡◌, ◌≢◌, Some, []};
 ghost use Rattle.live_code.specs.Leads.{Runs};
 ghost use Rattle.rapid_meaning.specs.Data.{below_first};
-ghost use Rattle.stack_code.specs.Placed.{own_of};
-ghost use Rattle.stack_code.specs.Raising.{raised, raised_out};
 ghost use Rattle.task_steps.specs.Alike.{Follows};
+ghost use Rattle.task_steps.specs.Doing.{leaves_with, raised_at};
 ghost use Rattle.task_steps.specs.Savings.{left_by};
 ghost use Rattle.task_steps.specs.declared.left.Left.TheVariants as lefts;
 ghost use Rattle.task_steps.specs.declared.phase.Phase.TheVariants as phases;
@@ -18,7 +17,6 @@ use crate::task::Task;
 use error_recovery::handler_of;
 use live_code::Code;
 use rapid_model::{Fate, Fault};
-use stack_code::Owner;
 
 impl Task {
     /// The routine under way is left, and the one below it, if there is one, stands where it waited. `None` where there is
@@ -35,10 +33,10 @@ impl Task {
         self.operands.close();
         match row {
             Row::Started => Some(Left::Started),
-            Row::Called { at, owner, frame } => {
+            Row::Called { at, frame } => {
                 self.pc = at;
                 self.frame = frame;
-                Some(Left::Called(owner))
+                Some(Left::Called)
             }
             Row::Trapped { at, frame } => {
                 self.operands.clear();
@@ -49,15 +47,15 @@ impl Task {
         }
     }
 
-    /// An error of a statement of the routine under way goes into its ERROR part, where it has one and is not in it; else it
-    /// leaves the routine.
+    /// An error of the operation at a place of the routine under way goes into its ERROR part, if it has one and is not in it;
+    /// else it leaves the routine.
     #[cycle(raising)]
-    pub(crate) fn raise(&mut self, code: &Code, owner: Owner, error: u8)
+    pub(crate) fn raise(&mut self, code: &Code, place: u32, error: u8)
         requires going { self.old.phase ≡ phases.Going }
-        requires runs { Runs code.now (raised code.now (own_of owner) self.old.conf.frame self.old.conf.saved error) self.old.data' }
+        requires runs { Runs code.now (raised_at code.now place self.old.conf error) self.old.data' }
         ensures room { self.new.room ≡ self.old.room }
         ensures begun { self.new.phase ≢ phases.New }
-        ensures on { Follows code.now (raised code.now (own_of owner) self.old.conf.frame self.old.conf.saved error) self.old.data' self.new }
+        ensures on { Follows code.now (raised_at code.now place self.old.conf error) self.old.data' self.new }
     {
         if self.frame.failed.is_some() {
             return self.raise_out(code, error);
@@ -65,7 +63,7 @@ impl Task {
         match handler_of(code.marks(), self.frame.routine) {
             Some(handler) => {
                 self.operands.clear();
-                self.frame.failed = Some(Failed { owner, error });
+                self.frame.failed = Some(Failed { place, error });
                 self.errno = error;
                 self.pc = handler;
             }
@@ -78,13 +76,16 @@ impl Task {
     #[cycle(raising)]
     pub(crate) fn raise_out(&mut self, code: &Code, error: u8)
         requires going { self.old.phase ≡ phases.Going }
-        requires runs { Runs code.now (raised_out code.now self.old.conf.saved error) self.old.data' }
+        requires runs { Runs code.now (leaves_with code.now self.old.conf error) self.old.data' }
         ensures room { self.new.room ≡ self.old.room }
         ensures begun { self.new.phase ≢ phases.New }
-        ensures on { Follows code.now (raised_out code.now self.old.conf.saved error) self.old.data' self.new }
+        ensures on { Follows code.now (leaves_with code.now self.old.conf error) self.old.data' self.new }
     {
         match self.leave() {
-            Some(Left::Called(owner)) => self.raise(code, owner, error),
+            Some(Left::Called) => {
+                let place = self.pc;
+                self.raise(code, place, error);
+            }
             Some(Left::Started) => self.phase = Phase::Over(Fate::Fault(Fault::Unhandled(error))),
             Some(Left::Trapped) => self.phase = Phase::Over(Fate::Fault(Fault::Unhandled(error))),
             None => unreachable!(),

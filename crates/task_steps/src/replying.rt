@@ -24,7 +24,7 @@ impl Task {
     pub fn reply(&mut self, loaded: &LoadedCode, answer: Answer)
         requires asking { (request : Request) × (then : Pending) × (self.old.phase ≡ phases.Asking request then) }
         requires room { self.old.room ≡ room_of loaded.now }
-        requires fits { (by : Fitting) × (request : Request) × IsTrue (fits_request by request answer) }
+        requires fits { (by : Fitting) × (request : Request) × IsTrue (fits_request by request answer) × (by.axes ≡ loaded.now.axes) }
         requires runs { (request : Request) (then : Pending) → self.old.phase ≡ phases.Asking request then → Runs loaded.now (doing.answered (here_of loaded.now self.old.conf) then answer) self.old.data' }
         ensures room { self.new.room ≡ self.old.room }
         ensures begun { self.new.phase ≢ phases.New }
@@ -43,7 +43,7 @@ impl Task {
 
     /// What the answer comes to.
     fn answered(&mut self, loaded: &LoadedCode, then: Pending, answer: Answer) -> Option<Done>
-        requires fits { (by : Fitting) × (request : Request) × IsTrue (fits_request by request answer) }
+        requires fits { (by : Fitting) × (request : Request) × IsTrue (fits_request by request answer) × (by.axes ≡ loaded.now.axes) }
         ensures phase { self.new.phase ≡ self.old.phase }
         ensures room { self.new.room ≡ self.old.room }
         ensures turns { Turns loaded.now (doing.answered (here_of loaded.now self.old.conf) then answer) self.old.data' result self.new }
@@ -51,13 +51,14 @@ impl Task {
         match then {
             Pending::Looked => self.looked(loaded, answer),
             Pending::Read => answers::read(answer),
+            Pending::Gathered(gathering) => self.gathered(loaded.code(), gathering, answer),
             Pending::Confirmed => answers::confirmed(answer),
             Pending::Tested => answers::tested(answer),
             Pending::Sensed => answers::sensed(answer),
             Pending::Written => answers::written(answer),
             Pending::Arrived => answers::arrived(answer),
             Pending::Located => answers::located(answer),
-            Pending::Departed(departure) => departed(departure, answer),
+            Pending::Departed(departure) => departed(departure, answer, loaded.code().axes()),
             Pending::Moved(moving) => moved(moving, answer),
             Pending::Connected(place) => self.connected(place, answer),
             Pending::Ordered => answers::ordered(answer),

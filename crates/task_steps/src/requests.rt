@@ -1,7 +1,8 @@
 //! Operations that ask, with their operands.
 #![tactic(auto, unfolding(rapid_meaning::specs::Doings::after))]
 
-ghost use Rattle.std.specs.Prelude.{◌≡◌, ◌∷◌, Some};
+ghost use Rattle.std.specs.Prelude.{◌≡◌, ◌≤◌, ◌∷◌, IsTrue, Some};
+ghost use Rattle.rapid_num.specs.Reach.{is_reachable};
 ghost use Rattle.rapid_model.specs.declared.fate.Fate.TheVariants as fates;
 ghost use Rattle.rapid_model.specs.declared.request.Request.TheVariants as asked;
 ghost use Rattle.rapid_model.specs.declared.tail.Tail.TheVariants as tails;
@@ -11,7 +12,7 @@ ghost use Rattle.typed_trees.specs.declared.datum.Lvalue.{Lvalue};
 ghost use Rattle.rapid_meaning.specs.Doings.{Asks, Raises, after, tells};
 ghost use Rattle.rapid_meaning.specs.Functions.{read_signal, when_at};
 ghost use Rattle.rapid_meaning.specs.Interrupts.{asks_of_number, connect, order};
-ghost use Rattle.rapid_meaning.specs.Moves.{move};
+ghost use Rattle.rapid_meaning.specs.Moves.{cap_of, move, move_from};
 ghost use Rattle.rapid_meaning.specs.Places.{store};
 ghost use Rattle.rapid_meaning.specs.Signals.{write_signal};
 ghost use Rattle.rapid_meaning.specs.Values.{bit_in, num_in, of_bit, target_in, text_in, tool_speed_in, truth_in};
@@ -25,8 +26,9 @@ use crate::done::Done;
 use crate::pending::Pending;
 use crate::shown::{bit_of, target_of, text_of, tool_speed_of, truth_of};
 use function_values::num_of;
+use rapid_limits::MOST_AXES;
 use rapid_model::{Fate, Fault, Request, Tail, Value, Watched};
-use rapid_num::Shape;
+use rapid_num::{Joints, Num, Shape};
 use typed_trees::Lvalue;
 
 fn ask(request: Request, then: Pending) -> Option<Done>
@@ -75,22 +77,33 @@ pub(crate) fn position() -> Option<Done>
     ask(Request::Position, Pending::Located)
 }
 
-/// A move to a target at a speed.
-pub(crate) fn move_to(target: &Value, speed: &Value) -> Option<Done>
-    ensures { (h : Here) → does h h.conf.stack (after (target_in target.now) (λ joints. after (tool_speed_in speed.now) (λ n. move joints n) Raises) Raises) ≡ came h result }
+/// A move of an arm with so many axes to a target at a speed.
+pub(crate) fn move_to(target: &Value, speed: &Value, axes: u8) -> Option<Done>
+    requires { axes ≤ MOST_AXES }
+    ensures { (h : Here) → h.code.axes ≡ axes → does h h.conf.stack (after (target_in target.now) (λ joints. after (tool_speed_in speed.now) (λ n. move axes joints n) Raises) Raises) ≡ came h result }
 {
     let target = target_of(target)?;
     let speed = tool_speed_of(speed)?;
-    if !target.is_reachable() {
+    if !target.is_reachable(usize::from(axes)) {
         return end(Fault::JointRange);
     }
     if speed.thousandths() <= 0 {
         return end(Fault::Speed);
     }
-    ask(
-        Request::Position,
-        Pending::Departed(Departure { target, speed }),
-    )
+    departing(axes, target, speed)
+}
+
+/// The move of an arm with so many axes, to a target that it can reach.
+fn departing(axes: u8, target: Joints, speed: Num) -> Option<Done>
+    requires { IsTrue (is_reachable axes target) }
+    ensures { (h : Here) → h.code.axes ≡ axes → Asks asked.Position (λ a. does h h.conf.stack (move_from axes target (cap_of speed) a)) ≡ came h result }
+{
+    let departure = Departure {
+        axes,
+        target,
+        speed,
+    };
+    ask(Request::Position, Pending::Departed(departure))
 }
 
 /// Connects an interrupt with a trap; the old number is that of its variable, at this place.

@@ -3,17 +3,20 @@
 ghost use Rattle.std.specs.Prelude.{◌≡◌, []};
 ghost use Rattle.rapid_model.specs.declared.value.Value.{Value};
 ghost use Rattle.stack_code.specs.CodeData.{CodeData};
-ghost use Rattle.stack_code.specs.Confs.{behind_part, conf};
 ghost use Rattle.stack_code.specs.Raising.{raised_again, retried, returned, skipped};
 ghost use Rattle.stack_code.specs.Steps.{act};
 ghost use Rattle.stack_code.specs.declared.op.Op.TheVariants as ops;
 ghost use Rattle.task_steps.specs.Alike.{Turns};
 ghost use Rattle.task_steps.specs.Doing.{came, here_of};
+ghost use Rattle.task_steps.specs.Points.{behind_part, conf_in, point, saved_in};
 
 use crate::done::Done;
 use crate::left::Left;
+use crate::owning::resumed_at;
 use crate::pending::Pending;
 use crate::task::Task;
+use error_recovery::How;
+use live_code::Code;
 use rapid_model::{Fate, Request, Value};
 
 impl Task {
@@ -21,11 +24,11 @@ impl Task {
     pub(crate) fn back(&mut self, value: Option<Value>) -> Option<Done>
         ensures phase { self.new.phase ≡ self.old.phase }
         ensures room { self.new.room ≡ self.old.room }
-        ensures turns { (code : CodeData) → Turns code (returned self.old.conf.saved value) self.old.data' result self.new }
+        ensures turns { (code : CodeData) → Turns code (returned (saved_in code self.old.conf.saved) value) self.old.data' result self.new }
     {
         match self.leave() {
             Some(Left::Started) => Some(Done::End(Fate::Done)),
-            Some(Left::Called(_)) => match value {
+            Some(Left::Called) => match value {
                 Some(value) => Some(Done::value(value)),
                 None => Some(Done::Next),
             },
@@ -48,32 +51,32 @@ impl Task {
     }
 
     /// The statement that failed is done again.
-    pub(crate) fn retry(&mut self) -> Option<Done>
+    pub(crate) fn retry(&mut self, code: &Code) -> Option<Done>
         ensures phase { self.new.phase ≡ self.old.phase }
         ensures room { self.new.room ≡ self.old.room }
         ensures data { self.new.data' ≡ self.old.data' }
-        ensures on { (code : CodeData) → retried self.old.conf self.old.conf.frame.failed ≡ came (here_of code self.new.conf) result }
+        ensures on { let c = conf_in code.now self.old.conf in retried c c.frame.failed ≡ came (here_of code.now self.new.conf) result }
     {
         let failed = self.frame.failed?;
-        self.go_behind_part(failed.owner.retry);
+        self.go_behind_part(resumed_at(code, failed.place, How::Retry));
         Some(Done::Stay)
     }
 
     /// The statement that failed is left behind.
-    pub(crate) fn skip(&mut self) -> Option<Done>
+    pub(crate) fn skip(&mut self, code: &Code) -> Option<Done>
         ensures phase { self.new.phase ≡ self.old.phase }
         ensures room { self.new.room ≡ self.old.room }
         ensures data { self.new.data' ≡ self.old.data' }
-        ensures on { (code : CodeData) → skipped self.old.conf self.old.conf.frame.failed ≡ came (here_of code self.new.conf) result }
+        ensures on { let c = conf_in code.now self.old.conf in skipped c c.frame.failed ≡ came (here_of code.now self.new.conf) result }
     {
         let failed = self.frame.failed?;
-        self.go_behind_part(failed.owner.next);
+        self.go_behind_part(resumed_at(code, failed.place, How::Next));
         Some(Done::Stay)
     }
 
     /// The ERROR part under way is left, for another place.
     fn go_behind_part(&mut self, pc: u32)
-        ensures { self.new ≡ record self.old { conf = conf pc [] (behind_part self.old.conf.frame) self.old.conf.saved } }
+        ensures { self.new ≡ record self.old { conf = point pc [] (behind_part self.old.conf.frame) self.old.conf.saved } }
     {
         self.operands.clear();
         self.frame.failed = None;
@@ -82,7 +85,7 @@ impl Task {
 
     /// The error of the ERROR part under way is one of the statement that called the routine.
     pub(crate) fn again(&self) -> Option<Done>
-        ensures { (code : CodeData) → raised_again code self.now.conf self.now.conf.frame.failed ≡ came (here_of code self.now.conf) result }
+        ensures { (code : CodeData) → raised_again code (conf_in code self.now.conf) (conf_in code self.now.conf).frame.failed ≡ came (here_of code self.now.conf) result }
     {
         let failed = self.frame.failed?;
         Some(Done::Escape(failed.error))

@@ -1,20 +1,12 @@
 use crate::running::Running;
-use stack_code::Owner;
 
 /// What goes on when a routine is left. Places of operations count from 0.
 #[derive(Clone, Copy)]
 pub(crate) enum Row {
     /// Nothing: the task is done.
     Started,
-    /// The routine that called it, behind the Call at this place, of this statement.
-    Called {
-        at: u32,
-        owner: Owner,
-        frame: Running,
-    },
+    /// The routine that called it, after the Call at this place.
+    Called { at: u32, frame: Running },
     /// The routine that it interrupted, at the Look at this place.
-    Trapped {
-        at: u32,
-        frame: Running,
-    },
+    Trapped { at: u32, frame: Running },
 }

@@ -2,6 +2,7 @@ ghost use Rattle.std.specs.Prelude.{◌≡◌, ◌≢◌, true, false};
 ghost use Rattle.live_code.specs.Leads.{Runs};
 ghost use Rattle.stack_code.specs.Steps.{step};
 ghost use Rattle.task_steps.specs.Alike.{Follows};
+ghost use Rattle.task_steps.specs.Points.{conf_in};
 ghost use Rattle.task_steps.specs.Seen.{room_of};
 ghost use Rattle.task_steps.specs.declared.phase.Phase.TheVariants as phases;
 
@@ -22,10 +23,10 @@ impl Task {
     pub fn step(&mut self, loaded: &LoadedCode)
         requires going { self.old.phase ≡ phases.Going }
         requires room { self.old.room ≡ room_of loaded.now }
-        requires runs { Runs loaded.now (step loaded.now self.old.conf) self.old.data' }
+        requires runs { Runs loaded.now (step loaded.now (conf_in loaded.now self.old.conf)) self.old.data' }
         ensures room { self.new.room ≡ self.old.room }
         ensures begun { self.new.phase ≢ phases.New }
-        ensures on { Follows loaded.now (step loaded.now self.old.conf) self.old.data' self.new }
+        ensures on { Follows loaded.now (step loaded.now (conf_in loaded.now self.old.conf)) self.old.data' self.new }
     {
         let op = &loaded.code().ops()[self.pc as usize];
         let way = self.perform(loaded, op);

@@ -1,36 +1,105 @@
 //! Meetings of tasks (RAPID Instructions: WaitSyncTask).
 #![tactic(auto, unfolding(rapid_meaning::specs::Doings::after))]
 
-ghost use Rattle.std.specs.Prelude.{◌≡◌, bytes_eq, position};
+ghost use Rattle.std.specs.Prelude.{◌≡◌, ◌+◌, ◌-◌, bytes_eq, position};
+ghost use Rattle.std.specs.Option.{option_and_then};
 ghost use Rattle.typed_trees.specs.declared.datum.Datum.TheVariants.{Plain};
+ghost use Rattle.rapid_meaning.specs.Data.{datum_at};
 ghost use Rattle.rapid_meaning.specs.Doings.{Raises, after, or_misfit};
 ghost use Rattle.rapid_meaning.specs.Meetings as meetings;
-ghost use Rattle.rapid_meaning.specs.Meetings.{arrive};
-ghost use Rattle.rapid_meaning.specs.Values.{whole};
+ghost use Rattle.rapid_meaning.specs.Meetings.{arrive, with_tasks};
+ghost use Rattle.rapid_meaning.specs.Places.{part_in};
+ghost use Rattle.rapid_meaning.specs.Values.{value_in, whole};
 ghost use Rattle.stack_code.specs.CodeData.{CodeData};
-ghost use Rattle.stack_code.specs.Steps.{Here, act, as_truth, pushes, set_in, with_named};
+ghost use Rattle.stack_code.specs.Steps.{Here, act, as_truth, pushes, set_in};
 ghost use Rattle.stack_code.specs.declared.op.Op.TheVariants as ops;
-ghost use Rattle.task_steps.specs.Alike.{with_stack};
-ghost use Rattle.task_steps.specs.Doing.{came, here_of};
+ghost use Rattle.task_steps.specs.Alike.{Turns, tested, with_stack};
+ghost use Rattle.task_steps.specs.Doing.{answered, came, here_of, named};
+ghost use Rattle.task_steps.specs.declared.pending.Pending.TheVariants as pendings;
 
 use crate::done::Done;
+use crate::gathering::Gathering;
 use crate::pending::Pending;
 use crate::pushing::whole;
 use crate::shown::text_of;
 use crate::task::Task;
 use function_values::num_of;
 use live_code::Code;
-use rapid_model::{Fate, Fault, NameText, Request, Text, Value};
+use rapid_model::{Answer, Fate, Fault, NameText, Path, Request, Text, Value};
+use typed_trees::{Lvalue, Root};
 
 impl Task {
-    /// Adds the task of the name on top to the set below it.
-    pub(crate) fn add_task(&mut self, code: &Code) -> Option<Done>
-        ensures on { act (here_of code.now self.old.conf) ops.TaskBit ≡ came (here_of code.now self.new.conf) result }
+    /// Pushes the set of the tasks that the elements of an array name, of which there are so many, and whose place is on top.
+    pub(crate) fn task_set(&mut self, code: &Code, len: u16) -> Option<Done>
         ensures rest { self.new ≡ with_stack self.new.conf.stack self.old }
+        ensures turns { Turns code.now (act (here_of code.now self.old.conf) (ops.TaskSet len)) self.old.data' result self.new }
     {
-        let name = self.pop_value()?;
-        let set = self.pop_value()?;
-        added(code.tasks(), &set, name)
+        let list = self.pop_place()?;
+        self.gather(code, list, len, 0, 0)
+    }
+
+    /// Adds to a set the tasks that the elements of an array name, those from one on, and pushes it. The task's own elements are
+    /// read at once, an element that is a persistent by a request.
+    fn gather(&self, code: &Code, list: Lvalue, len: u16, from: u16, before: u16) -> Option<Done>
+        ensures { Turns code.now (pushes (here_of code.now self.now.conf) self.now.conf.stack (λ more. Plain (whole more)) (with_tasks code.now.tasks list (len - from) (from + 1) before)) self.now.data' result self.now }
+    {
+        let mut set = before;
+        for read in from..len {
+            let place = self.element(list, read + 1)?;
+            match place.root {
+                Root::Pers { pers, index } => {
+                    let path = Path {
+                        index,
+                        part: place.part,
+                    };
+                    let gathering = Gathering {
+                        list,
+                        len,
+                        read,
+                        set,
+                    };
+                    return Some(Done::Ask {
+                        request: Request::ReadP { pers, path },
+                        then: Pending::Gathered(gathering),
+                    });
+                }
+                Root::Slot(_) | Root::Frame { .. } => {}
+            }
+            match self.own_named(code.tasks(), place, set)? {
+                Ok(more) => set = more,
+                Err(fault) => return Some(Done::End(Fate::Fault(fault))),
+            }
+        }
+        Some(Done::value(whole(set)))
+    }
+
+    /// A set with the task that a place of the task's own names.
+    fn own_named(&self, names: &[NameText], place: Lvalue, set: u16) -> Option<Result<u16, Fault>>
+        ensures { tested result ≡ after (after (or_misfit (option_and_then (part_in place.part) (datum_at place.root self.now.data'))) value_in Raises) (named names.now set) Raises }
+    {
+        match self.own_part(place)?.into_value() {
+            Some(value) => joined(names, set, value),
+            None => None,
+        }
+    }
+
+    /// An element of a list was read: its task is added to the set, and then those of the elements after it.
+    pub(crate) fn gathered(&self, code: &Code, gathering: Gathering, answer: Answer) -> Option<Done>
+        ensures { Turns code.now (answered (here_of code.now self.now.conf) (pendings.Gathered gathering) answer) self.now.data' result self.now }
+    {
+        let Answer::Val(value) = answer else {
+            return None;
+        };
+        let Gathering {
+            list,
+            len,
+            read,
+            set,
+        } = gathering;
+        match joined(code.tasks(), set, value)? {
+            Ok(more) => self.gather(code, list, len, read + 1, more),
+            Err(fault) => Some(Done::End(Fate::Fault(fault))),
+        }
     }
 
     /// Arrives at a meeting, with the tasks of the set on top.
@@ -43,18 +112,17 @@ impl Task {
     }
 }
 
-/// A set with the task of a name.
-fn added(names: &[NameText], set: &Value, name: Value) -> Option<Done>
-    ensures { (h : Here) → pushes h h.conf.stack (λ more. Plain (whole more)) (with_named names.now set.now name) ≡ came h result }
+/// A set with the task of a name. The error is that there is no such task.
+fn joined(names: &[NameText], set: u16, name: Value) -> Option<Result<u16, Fault>>
+    ensures { named names.now set name ≡ tested result }
 {
-    let set = set_of(set)?;
     let name = text_of(name)?;
     match task_named(names, &name) {
         Some(task) => {
             let more = with_task(task, set)?;
-            Some(Done::value(whole(more)))
+            Some(Ok(more))
         }
-        None => Some(Done::End(Fate::Fault(Fault::TaskName))),
+        None => Some(Err(Fault::TaskName)),
     }
 }
 

@@ -2,7 +2,7 @@ use crate::phase::Phase;
 use crate::row::Row;
 use crate::running::Running;
 use machine_stacks::{Frames, Held, Operands};
-use stack_code::At;
+use rapid_model::At;
 use std::marker::Model;
 
 /// A task under way, apart from its code: how far it has come, where it stands in its operations, and its data. Contracts see
@@ -38,8 +38,6 @@ impl Model for Task {
 
 impl Task {
     ghost use Rattle.std.specs.Prelude.{◌≡◌, ◌<◌, length, slice_get, Some};
-    ghost use Rattle.std.specs.Option.{option_map};
-    ghost use Rattle.task_steps.specs.Tasks.{at_of};
 
     /// How many module data the task has.
     pub fn slots(&self) -> u32
@@ -59,7 +57,7 @@ impl Task {
 
     /// The place of the statement that began last, or asked to; none before the first.
     pub fn place(&self) -> Option<At>
-        ensures { option_map at_of result ≡ self.now.data'.place }
+        ensures { result ≡ self.now.data'.place }
     {
         self.place
     }

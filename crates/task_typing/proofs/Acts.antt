@@ -1,5 +1,5 @@
 -- What instructions do of places, numbers, signals, zones and moves.
-use Rattle.std.proofs.Common.{◌≡◌, refl, sym, ap, subst, ℕ, zero, suc, ◌+◌, ◌-◌, ◌^◌, ◌<◌, ◌≤◌, Bool, true, false, not, ℤ, pos, int_lt, List, [], ◌∷◌, length, Option, Some, None, Result, Ok, Err, slice_get, position, bytes_eq, nat_lt, if◌then◌else◌, IsTrue, arith}
+use Rattle.std.proofs.Common.{◌≡◌, refl, sym, ap, ◌∙◌, subst, ℕ, zero, suc, ◌+◌, ◌-◌, ◌^◌, ◌<◌, ◌≤◌, Bool, true, false, not, ℤ, pos, int_lt, List, [], ◌∷◌, length, Option, Some, None, Result, Ok, Err, slice_get, position, bytes_eq, nat_lt, if◌then◌else◌, IsTrue, arith}
 use Rattle.std.specs.Prelude.{⊤}
 use Rattle.std.specs.Option.{option_map}
 use Rattle.std.proofs.Math.Pow.{pow_mono}
@@ -41,12 +41,13 @@ use Rattle.rapid_meaning.specs.Signals.{has_value, when_written, write_signal}
 use Rattle.rapid_meaning.specs.Values.{bit_in, mark_in, num_in, shape_in, target_in, text_in, tool_speed_in, truth_in}
 use Rattle.joint_clip.specs.Shapes.{made_shape}
 use Rattle.joint_clip.specs.declared.shape_fault.ShapeFault.{ShapeFault}
-use Rattle.rapid_meaning.specs.Zones.{fault_of, arm_axes, asks_of_zone, define, define_home, defined, home_high, home_low, on_axes, position_or_fault, shape_at, shaped, supervise, when_numbered, when_zoned}
+use Rattle.rapid_meaning.specs.Zones.{fault_of, asks_of_zone, define, define_home, defined, home_high, home_low, on_axes, position_or_fault, shape_at, shaped, supervise, when_numbered, when_zoned}
 use Rattle.rapid_model.specs.Truths.{same_truth}
 use Rattle.rapid_meaning.proofs.Wholes.{whole_within}
 use Rattle.task_typing.specs.Asked.{CanWatch}
 use Rattle.task_typing.specs.Expressions.{IsArray, IsExpr, IsPersName}
 use Rattle.task_typing.specs.Kinds.{kinds_of}
+use Rattle.task_typing.specs.Setting.{has_arm}
 use Rattle.task_typing.specs.States.{IsPers}
 use Rattle.task_typing.specs.WellTyped.{is_datum_of, is_marked}
 use Rattle.task_typing.proofs.Bits.{positive, with_task_below}
@@ -55,7 +56,7 @@ use Rattle.task_typing.proofs.Expressions.{HasSort, expr_safe, signal_safe, text
 use Rattle.task_typing.proofs.Forms.{num_form, speed_form, target_form, tasks_form}
 use Rattle.task_typing.proofs.Loads.{load_safe, mark_safe, read_safe, store_safe, truth_safe}
 use Rattle.task_typing.proofs.Places.{Inside, IsRooted, IsThere, at_element_safe, num_safe, root_len, rooted_safe, scene}
-use Rattle.task_typing.proofs.Safe.{Answered, Anything, Safe, safe_any, safe_asks, safe_done, safe_fault, safe_gives, safe_or, safe_raises, safe_reads, safe_then}
+use Rattle.task_typing.proofs.Safe.{Answered, Anything, Safe, safe_any, safe_asks, safe_asks_in, safe_done, safe_fault, safe_gives, safe_or, safe_raises, safe_reads, safe_then}
 use Rattle.task_typing.proofs.Scene.{Scene}
 
 pub when_safe : {A : Type 0} (s : Scene) (P : A → Type 0) (b : Bool) (m n : Doing A) → (b ≡ true → Safe s P m) → (b ≡ false → Safe s P n) → Safe s P (if b then m else n)
@@ -131,9 +132,9 @@ enable_safe s = safe_asks s Anything requests.Enable when_ok (record { no_rise =
     answered trapped a fits = absurd cc
 
 -- interrupts
-pub number_safe : (s : Scene) (q : Lvalue) (sort : Sort) → IsTrue (is_marked sort) → IsThere s q sort → Safe s Anything (number_at q)
-number_safe s q sort marked is =
-    safe_then s (λ x. IsTrue (is_datum_of sort x)) Anything (load q) mark_in (load_safe s q sort is) (λ x typed. mark_safe s sort x marked typed)
+pub number_safe : (s : Scene) (written : Bool) (q : Lvalue) (sort : Sort) → IsTrue (is_marked sort) → IsThere s written q sort → Safe s Anything (number_at q)
+number_safe s written q sort marked is =
+    safe_then s (λ x. IsTrue (is_datum_of sort x)) Anything (load q) mark_in (load_safe s written q sort is) (λ x typed. mark_safe s sort x marked typed)
 
 ordered_answered : (s : Scene) (number : ℕ) (on : Watched) (single : Bool) → Answered s Anything (requests.Order number on single) when_ordered
 ordered_answered s number on single trapped answers.Ok fits = (refl, safe_done s)
@@ -168,13 +169,13 @@ delete_safe s number = safe_asks s Anything (requests.Delete number) when_known 
     answered trapped answers.Unknown fits = (refl, safe_raises {A = ⊤} s Anything 104)
     answered trapped a fits = absurd cc
 
-connected_answered : (s : Scene) (q : Lvalue) (old trap : ℕ) → IsThere s q sorts.IntNum → Answered s Anything (requests.Connect old trap) (when_connected q)
+connected_answered : (s : Scene) (q : Lvalue) (old trap : ℕ) → IsThere s true q sorts.IntNum → Answered s Anything (requests.Connect old trap) (when_connected q)
 connected_answered s q old trap is trapped (answers.Number number) fits = (refl, store_safe s q sorts.IntNum (datums.Mark number) is refl)
 connected_answered s q old trap is trapped answers.Already fits = (refl, safe_raises {A = ⊤} s Anything 103)
 connected_answered s q old trap is trapped answers.NoMore fits = (refl, safe_raises {A = ⊤} s Anything 105)
 connected_answered s q old trap is trapped a fits = absurd cc
 
-pub connect_safe : (s : Scene) (q : Lvalue) (old trap : ℕ) → IsTrue (is_trap_row (slice_get s.c.tree.routines trap)) → IsThere s q sorts.IntNum → Safe s Anything (connect q old trap)
+pub connect_safe : (s : Scene) (q : Lvalue) (old trap : ℕ) → IsTrue (is_trap_row (slice_get s.c.tree.routines trap)) → IsThere s true q sorts.IntNum → Safe s Anything (connect q old trap)
 connect_safe s q old trap there is = safe_asks s Anything (requests.Connect old trap) (when_connected q) (record { no_rise = refl; no_hold = refl; no_leave = refl; no_end = refl }) (λ d. there) (connected_answered s q old trap is)
 
 -- the whole of a persistent
@@ -197,13 +198,13 @@ pers_safe s q is =
 
 -- meetings
 pub array_place : (i : Inside) (p : TypedPlace) (sort : Sort) → IsArray i.c (kinds_of i.routine) p sort
-    → (len : ℕ) × (lent_length i.c.tree i.routine p ≡ Some len) × Safe (scene i) (λ q. IsRooted (scene i) q sort (Some len)) (place i.c.tree i.routine p)
+    → (len : ℕ) × (lent_length i.c.tree i.routine p ≡ Some len) × Safe (scene i) (λ q. IsRooted (scene i) false q sort (Some len)) (place i.c.tree i.routine p)
 array_place i (PlaceOf root NotHeld parts.Whole own) sort are = (
   are.1,
-  root_len i root sort (Some are.1) are.2,
-  safe_then (scene i) (λ q. IsRooted (scene i) q sort (Some are.1)) (λ q. IsRooted (scene i) q sort (Some are.1)) (rooted i.c.tree i.routine root) (part_at parts.Whole)
-      (rooted_safe i root sort (Some are.1) are.2)
-      (λ q is. safe_or (scene i) (λ r. IsRooted (scene i) r sort (Some are.1)) (option_map (λ x. record q { part = x }) (part_within q.part parts.Whole)) q
+  root_len i false root sort (Some are.1) are.2,
+  safe_then (scene i) (λ q. IsRooted (scene i) false q sort (Some are.1)) (λ q. IsRooted (scene i) false q sort (Some are.1)) (rooted i.c.tree i.routine root) (part_at parts.Whole)
+      (rooted_safe i false root sort (Some are.1) are.2)
+      (λ q is. safe_or (scene i) (λ r. IsRooted (scene i) false r sort (Some are.1)) (option_map (λ x. record q { part = x }) (part_within q.part parts.Whole)) q
       (ap (option_map (λ x. record q { part = x })) (whole_within q.part)) is),
 )
 array_place i (PlaceOf root NotHeld part own) sort are = absurd are
@@ -216,16 +217,16 @@ task_safe s (Some task) n few = safe_gives s (λ (k : ℕ). k < n) task (few tas
 name_text : (s : Scene) (v : Value) → HasSort sorts.Tasks v → Safe s Anything (text_in v)
 name_text s v h = let f : (t : List ℕ) × (v ≡ values.Text t) = tasks_form v h in subst (λ (x : Value). Safe s Anything (text_in x)) (sym f.1) (safe_any s f.0)
 
--- a set of eight tasks is one of sixteen
-set_below : (n set : ℕ) → n ≤ 8 → set < 2 ^ n → nat_lt set (2 ^ 16) ≡ true
-set_below n set few under = let eight : 2 ^ n ≤ 2 ^ 8 = pow_mono few in lt-ltb set (2 ^ 16) (omega (arith, eight, under))
+-- a set of at most sixteen tasks
+set_below : (n set : ℕ) → n ≤ 16 → set < 2 ^ n → nat_lt set (2 ^ 16) ≡ true
+set_below n set few under = let sixteen : 2 ^ n ≤ 2 ^ 16 = pow_mono few in lt-ltb set (2 ^ 16) (omega (arith, sixteen, under))
 
-task_set_safe : (s : Scene) (n set : ℕ) → n ≤ 8 → set < 2 ^ n → Safe s (λ tasks. tasks < 2 ^ n) (task_set set)
+task_set_safe : (s : Scene) (n set : ℕ) → n ≤ 16 → set < 2 ^ n → Safe s (λ tasks. tasks < 2 ^ n) (task_set set)
 task_set_safe s n set few under =
     subst (λ (b : Bool). Safe s (λ (tasks : ℕ). tasks < 2 ^ n) (if b then Gives set else Misfit)) (sym (set_below n set few under)) (safe_gives s (λ (tasks : ℕ). tasks < 2 ^ n) set under)
 
 -- what follows the name of a task
-named_safe : (s : Scene) (names : List (List ℕ)) (set : ℕ) (next : ℕ → Doing ℕ) → length names ≤ 8 → set < 2 ^ length names
+named_safe : (s : Scene) (names : List (List ℕ)) (set : ℕ) (next : ℕ → Doing ℕ) → length names ≤ 16 → set < 2 ^ length names
     → ((more : ℕ) → more < 2 ^ length names → Safe s (λ tasks. tasks < 2 ^ length names) (next more)) → (v : Value) → HasSort sorts.Tasks v
     → Safe s (λ tasks. tasks < 2 ^ length names) (text_in v >>= λ name. task_or_fault (position (bytes_eq name) names) >>= λ task. task_set (with_task task set) >>= next)
 named_safe s names set next few under goes v h =
@@ -235,21 +236,21 @@ named_safe s names set next few under goes v h =
     (λ task low. safe_then s (λ (more : ℕ). more < 2 ^ length names) (λ (tasks : ℕ). tasks < 2 ^ length names) (task_set (with_task task set)) next
     (task_set_safe s (length names) (with_task task set) few (with_task_below (length names) task set low under)) goes))
 
-listed_safe : (s : Scene) (names : List (List ℕ)) (q : Lvalue) (len : ℕ) → length names ≤ 8 → IsRooted s q sorts.Tasks (Some len) → (left number set : ℕ) → 1 ≤ number → number + left ≤ len + 1
+listed_safe : (s : Scene) (names : List (List ℕ)) (q : Lvalue) (len : ℕ) → length names ≤ 16 → IsRooted s false q sorts.Tasks (Some len) → (left number set : ℕ) → 1 ≤ number → number + left ≤ len + 1
     → set < 2 ^ length names → Safe s (λ tasks. tasks < 2 ^ length names) (with_tasks names q left number set)
 unfolding with_tasks
 listed_safe s names q len few is zero number set low high under = safe_gives s (λ (tasks : ℕ). tasks < 2 ^ length names) set under
 listed_safe s names q len few is (suc left) number set low high under =
-    safe_then s (λ r. IsThere s r sorts.Tasks) (λ (tasks : ℕ). tasks < 2 ^ length names) (at_element q number)
+    safe_then s (λ r. IsThere s false r sorts.Tasks) (λ (tasks : ℕ). tasks < 2 ^ length names) (at_element q number)
     (λ r. read_value r >>= λ v. text_in v >>= λ name. task_or_fault (position (bytes_eq name) names) >>= λ task. task_set (with_task task set) >>= λ more. with_tasks names q left (number + 1) more)
-    (at_element_safe s q sorts.Tasks number (is number low (omega (arith, high))))
+    (at_element_safe s false q sorts.Tasks number (is number low (omega (arith, high))))
     (λ r there. safe_then s (HasSort sorts.Tasks) (λ (tasks : ℕ). tasks < 2 ^ length names) (read_value r)
     (λ v. text_in v >>= λ name. task_or_fault (position (bytes_eq name) names) >>= λ task. task_set (with_task task set) >>= λ more. with_tasks names q left (number + 1) more)
-    (read_safe s r sorts.Tasks refl there)
+    (read_safe s false r sorts.Tasks refl there)
     (named_safe s names set (λ more. with_tasks names q left (number + 1) more) few under
     (λ more below. listed_safe s names q len few is left (number + 1) more (omega (arith, low)) (omega (arith, high)) below)))
 
-pub tasks_safe : (s : Scene) (names : List (List ℕ)) (q : Lvalue) (o : Option ℕ) (len : ℕ) → length names ≤ 8 → o ≡ Some len → IsRooted s q sorts.Tasks (Some len)
+pub tasks_safe : (s : Scene) (names : List (List ℕ)) (q : Lvalue) (o : Option ℕ) (len : ℕ) → length names ≤ 16 → o ≡ Some len → IsRooted s false q sorts.Tasks (Some len)
     → Safe s (λ tasks. tasks < 2 ^ length names) (tasks_in names q o)
 tasks_safe s names q o len few e is =
     subst (λ (x : Option ℕ). Safe s (λ tasks. tasks < 2 ^ length names) (tasks_in names q x)) (sym e)
@@ -264,22 +265,22 @@ arrive_safe s row meeting tasks e under = safe_asks s Anything (requests.Arrive 
     answered trapped a fits = absurd cc
 
 -- zones
-shaped_safe : (s : Scene) (q : Lvalue) (r : Result Shape ShapeFault) → IsThere s q sorts.ShapeData → Safe s Anything (shaped q r)
+shaped_safe : (s : Scene) (q : Lvalue) (r : Result Shape ShapeFault) → IsThere s true q sorts.ShapeData → Safe s Anything (shaped q r)
 shaped_safe s q (Ok shape) is = store_safe s q sorts.ShapeData (datums.Shape (Some shape)) is refl
 shaped_safe s q (Err why) is = safe_fault {A = ⊤} s Anything (fault_of why)
 
-pub define_safe : (s : Scene) (q : Lvalue) (inside : Bool) (low high : Joints) → IsThere s q sorts.ShapeData → Safe s Anything (define q inside low high)
-define_safe s q inside low high is = shaped_safe s q (made_shape inside low high arm_axes) is
+pub define_safe : (s : Scene) (q : Lvalue) (inside : Bool) (low high : Joints) → IsThere s true q sorts.ShapeData → Safe s Anything (define s.c.tree.axes q inside low high)
+define_safe s q inside low high is = shaped_safe s q (made_shape inside low high s.c.tree.axes) is
 
 position_safe : (s : Scene) (o : Option (List ℤ)) → Safe s Anything (position_or_fault o)
 position_safe s None = safe_fault {A = Joints} s Anything faults.NumRange
 position_safe s (Some axes) = safe_any {A = Joints} s (record { axis = axes })
 
-pub home_safe : (s : Scene) (q : Lvalue) (inside : Bool) (middle delta : Joints) → IsThere s q sorts.ShapeData → Safe s Anything (define_home q inside middle delta)
+pub home_safe : (s : Scene) (q : Lvalue) (inside : Bool) (middle delta : Joints) → IsThere s true q sorts.ShapeData → Safe s Anything (define_home s.c.tree.axes q inside middle delta)
 home_safe s q inside middle delta is =
-    safe_then s Anything Anything (position_or_fault (on_axes home_low middle.axis delta.axis)) (λ low. position_or_fault (on_axes home_high middle.axis delta.axis) >>= λ high. define q inside low high)
+    safe_then s Anything Anything (position_or_fault (on_axes home_low middle.axis delta.axis)) (λ low. position_or_fault (on_axes home_high middle.axis delta.axis) >>= λ high. define s.c.tree.axes q inside low high)
     (position_safe s (on_axes home_low middle.axis delta.axis))
-    (λ low _. safe_then s Anything Anything (position_or_fault (on_axes home_high middle.axis delta.axis)) (λ high. define q inside low high) (position_safe s (on_axes home_high middle.axis delta.axis))
+    (λ low _. safe_then s Anything Anything (position_or_fault (on_axes home_high middle.axis delta.axis)) (λ high. define s.c.tree.axes q inside low high) (position_safe s (on_axes home_high middle.axis delta.axis))
     (λ high _. define_safe s q inside low high is))
 
 defined_safe : (s : Scene) (o : Option Shape) → Safe s Anything (defined o)
@@ -289,27 +290,27 @@ defined_safe s (Some shape) = safe_any s shape
 shape_safe : (s : Scene) (x : Datum) → IsTrue (is_datum_of sorts.ShapeData x) → Safe s Anything (shape_in x)
 shape_safe s x is = let f : (o : Option Shape) × (x ≡ datums.Shape o) = shape_form x is in subst (λ (y : Datum). Safe s Anything (shape_in y)) (sym f.1) (safe_any s f.0)
 
-pub shape_at_safe : (s : Scene) (q : Lvalue) → IsThere s q sorts.ShapeData → Safe s Anything (shape_at q)
+pub shape_at_safe : (s : Scene) (q : Lvalue) → IsThere s false q sorts.ShapeData → Safe s Anything (shape_at q)
 shape_at_safe s q is =
-    safe_then s (λ x. IsTrue (is_datum_of sorts.ShapeData x)) Anything (load q) (λ x. shape_in x >>= defined) (load_safe s q sorts.ShapeData is)
+    safe_then s (λ x. IsTrue (is_datum_of sorts.ShapeData x)) Anything (load q) (λ x. shape_in x >>= defined) (load_safe s false q sorts.ShapeData is)
     (λ x typed. safe_then s Anything Anything (shape_in x) defined (shape_safe s x typed) (λ o _. defined_safe s o))
 
 marked_zone : (sort : Sort) (n : ℕ) → IsTrue (is_marked sort) → IsTrue (is_datum_of sort (datums.Mark n))
 marked_zone sort n marked = marked
 
-numbered_answered : (s : Scene) (q : Lvalue) (sort : Sort) (old : ℕ) (temporary : Bool) (shape : Shape) → IsTrue (is_marked sort) → IsThere s q sort
+numbered_answered : (s : Scene) (q : Lvalue) (sort : Sort) (old : ℕ) (temporary : Bool) (shape : Shape) → IsTrue (is_marked sort) → IsThere s true q sort
     → Answered s Anything (requests.ZoneSet old temporary shape) (when_numbered q)
 numbered_answered s q sort old temporary shape marked is trapped (answers.Number number) fits = (refl, store_safe s q sort (datums.Mark number) is (marked_zone sort number marked))
 numbered_answered s q sort old temporary shape marked is trapped answers.ZoneUsed fits = (refl, safe_fault {A = ⊤} s Anything faults.ZoneUsed)
 numbered_answered s q sort old temporary shape marked is trapped answers.ZoneFull fits = (refl, safe_fault {A = ⊤} s Anything faults.ZoneFull)
 numbered_answered s q sort old temporary shape marked is trapped a fits = absurd cc
 
-pub supervise_safe : (s : Scene) (q : Lvalue) (sort : Sort) (old : ℕ) (temporary : Bool) (shape : Shape) → IsTrue s.c.arm → IsTrue (is_marked sort) → IsThere s q sort
+pub supervise_safe : (s : Scene) (q : Lvalue) (sort : Sort) (old : ℕ) (temporary : Bool) (shape : Shape) → IsTrue (has_arm s.c) → IsTrue (is_marked sort) → IsThere s true q sort
     → Safe s Anything (supervise q old temporary shape)
 supervise_safe s q sort old temporary shape arm marked is =
     safe_asks s Anything (requests.ZoneSet old temporary shape) (when_numbered q) (record { no_rise = refl; no_hold = refl; no_leave = refl; no_end = refl }) (λ d. arm) (numbered_answered s q sort old temporary shape marked is)
 
-pub zone_off_safe : (s : Scene) (zone : ℕ) → IsTrue s.c.arm → Safe s Anything (asks_of_zone (requests.ZoneOff zone))
+pub zone_off_safe : (s : Scene) (zone : ℕ) → IsTrue (has_arm s.c) → Safe s Anything (asks_of_zone (requests.ZoneOff zone))
 zone_off_safe s zone arm = safe_asks s Anything (requests.ZoneOff zone) when_zoned (record { no_rise = refl; no_hold = refl; no_leave = refl; no_end = refl }) (λ d. arm) answered
   where
     answered : Answered s Anything (requests.ZoneOff zone) when_zoned
@@ -317,7 +318,7 @@ zone_off_safe s zone arm = safe_asks s Anything (requests.ZoneOff zone) when_zon
     answered trapped answers.NoZone fits = (refl, safe_fault {A = ⊤} s Anything faults.NoZone)
     answered trapped a fits = absurd cc
 
-pub zone_on_safe : (s : Scene) (zone : ℕ) → IsTrue s.c.arm → Safe s Anything (asks_of_zone (requests.ZoneOn zone))
+pub zone_on_safe : (s : Scene) (zone : ℕ) → IsTrue (has_arm s.c) → Safe s Anything (asks_of_zone (requests.ZoneOn zone))
 zone_on_safe s zone arm = safe_asks s Anything (requests.ZoneOn zone) when_zoned (record { no_rise = refl; no_hold = refl; no_leave = refl; no_end = refl }) (λ d. arm) answered
   where
     answered : Answered s Anything (requests.ZoneOn zone) when_zoned
@@ -325,7 +326,7 @@ zone_on_safe s zone arm = safe_asks s Anything (requests.ZoneOn zone) when_zoned
     answered trapped answers.NoZone fits = (refl, safe_fault {A = ⊤} s Anything faults.NoZone)
     answered trapped a fits = absurd cc
 
-pub zone_free_safe : (s : Scene) (zone : ℕ) → IsTrue s.c.arm → Safe s Anything (asks_of_zone (requests.ZoneFree zone))
+pub zone_free_safe : (s : Scene) (zone : ℕ) → IsTrue (has_arm s.c) → Safe s Anything (asks_of_zone (requests.ZoneFree zone))
 zone_free_safe s zone arm = safe_asks s Anything (requests.ZoneFree zone) when_zoned (record { no_rise = refl; no_hold = refl; no_leave = refl; no_end = refl }) (λ d. arm) answered
   where
     answered : Answered s Anything (requests.ZoneFree zone) when_zoned
@@ -333,33 +334,36 @@ zone_free_safe s zone arm = safe_asks s Anything (requests.ZoneFree zone) when_z
     answered trapped answers.NoZone fits = (refl, safe_fault {A = ⊤} s Anything faults.NoZone)
     answered trapped a fits = absurd cc
 
--- moves
-pub still_safe : (s : Scene) → Safe s Anything still
-still_safe s = safe_reads s Anything (λ d. if d.trapped then fault faults.MoveInTrap else done)
-    (λ d _. when_safe s Anything d.trapped (fault faults.MoveInTrap) done (λ _. safe_fault {A = ⊤} s Anything faults.MoveInTrap) (λ _. safe_done s))
+-- moves, which no trap makes
+pub still_safe : (s : Scene) → Safe s (λ _. s.trapped ≡ false) still
+still_safe s = safe_reads s (λ _. s.trapped ≡ false) (λ d. if d.trapped then fault faults.MoveInTrap else done)
+    (λ d is. when_safe s (λ _. s.trapped ≡ false) d.trapped (fault faults.MoveInTrap) done (λ _. safe_fault {A = ⊤} s (λ _. s.trapped ≡ false) faults.MoveInTrap)
+    (λ untrapped. safe_gives {A = ⊤} s (λ _. s.trapped ≡ false) tt (sym is.in_trap ∙ untrapped)))
 
 given_answered : (s : Scene) (to : Joints) (next : Act) → Safe s Anything next → Answered s Anything (requests.Setpoint to) (λ a. when_given next a)
 given_answered s to next safe trapped answers.Given fits = (refl, safe)
 given_answered s to next safe trapped (answers.Stopped zone) fits = (refl, safe_fault {A = ⊤} s Anything faults.ZoneStop)
 given_answered s to next safe trapped a fits = absurd cc
 
-setpoints_safe : (s : Scene) (start target : Joints) (n left : ℕ) → IsTrue s.c.arm → IsTrue (is_position start) → IsTrue (is_reachable target) → left ≤ n → Safe s Anything (setpoints start target n left)
+setpoints_safe : (s : Scene) (start target : Joints) (n left : ℕ) → IsTrue (has_arm s.c) → s.trapped ≡ false → IsTrue (is_position s.c.tree.axes start) → IsTrue (is_reachable s.c.tree.axes target) → left ≤ n
+    → Safe s Anything (setpoints s.c.tree.axes start target n left)
 unfolding setpoints
-setpoints_safe s start target n zero arm from to few = safe_done s
-setpoints_safe s start target n (suc left) arm from to few =
-    safe_asks s Anything (requests.Setpoint (setpoint start target n (n - left))) (λ a. when_given (setpoints start target n left) a) (record { no_rise = refl; no_hold = refl; no_leave = refl; no_end = refl })
-    (λ d. (arm, setpoint_position start target n (n - left) from to (omega (arith, few)) (omega arith)))
-    (given_answered s (setpoint start target n (n - left)) (setpoints start target n left) (setpoints_safe s start target n left arm from to (omega (arith, few))))
+setpoints_safe s start target n zero arm untrapped from to few = safe_done s
+setpoints_safe s start target n (suc left) arm untrapped from to few =
+    safe_asks_in s Anything (requests.Setpoint (setpoint s.c.tree.axes start target n (n - left))) (λ a. when_given (setpoints s.c.tree.axes start target n left) a)
+    (record { no_rise = refl; no_hold = refl; no_leave = refl; no_end = refl })
+    (λ d is. (arm, setpoint_position s.c.tree.axes start target n (n - left) from to (omega (arith, few)) (omega arith), is.in_trap ∙ untrapped))
+    (given_answered s (setpoint s.c.tree.axes start target n (n - left)) (setpoints s.c.tree.axes start target n left) (setpoints_safe s start target n left arm untrapped from to (omega (arith, few))))
 
-moved_answered : (s : Scene) (target : Joints) (cap : ℕ) → IsTrue s.c.arm → IsTrue (is_reachable target) → Answered s Anything requests.Position (move_from target cap)
-moved_answered s target cap arm to trapped (answers.At start) fits =
-    (refl, setpoints_safe s start target (setpoint_count start target cap) (setpoint_count start target cap) arm fits to (omega arith))
-moved_answered s target cap arm to trapped a fits = absurd cc
+moved_answered : (s : Scene) (target : Joints) (cap : ℕ) → IsTrue (has_arm s.c) → s.trapped ≡ false → IsTrue (is_reachable s.c.tree.axes target) → Answered s Anything requests.Position (move_from s.c.tree.axes target cap)
+moved_answered s target cap arm untrapped to trapped (answers.At start) fits =
+    (refl, setpoints_safe s start target (setpoint_count s.c.tree.axes start target cap) (setpoint_count s.c.tree.axes start target cap) arm untrapped fits to (omega arith))
+moved_answered s target cap arm untrapped to trapped a fits = absurd cc
 
-pub move_safe : (s : Scene) (target : Joints) (speed : ℤ) → IsTrue s.c.arm → Safe s Anything (move target speed)
-move_safe s target speed arm =
-    when_safe s Anything (not (is_reachable target)) (fault faults.JointRange) (if not (int_lt (pos 0) speed) then fault faults.Speed else Asks requests.Position (move_from target (cap_of speed)))
+pub move_safe : (s : Scene) (target : Joints) (speed : ℤ) → IsTrue (has_arm s.c) → s.trapped ≡ false → Safe s Anything (move s.c.tree.axes target speed)
+move_safe s target speed arm untrapped =
+    when_safe s Anything (not (is_reachable s.c.tree.axes target)) (fault faults.JointRange) (if not (int_lt (pos 0) speed) then fault faults.Speed else Asks requests.Position (move_from s.c.tree.axes target (cap_of speed)))
     (λ _. safe_fault {A = ⊤} s Anything faults.JointRange)
-    (λ there. when_safe s Anything (not (int_lt (pos 0) speed)) (fault faults.Speed) (Asks requests.Position (move_from target (cap_of speed))) (λ _. safe_fault {A = ⊤} s Anything faults.Speed)
-    (λ _. safe_asks s Anything requests.Position (move_from target (cap_of speed)) (record { no_rise = refl; no_hold = refl; no_leave = refl; no_end = refl }) (λ d. arm)
-    (moved_answered s target (cap_of speed) arm (not-false (is_reachable target) there))))
+    (λ there. when_safe s Anything (not (int_lt (pos 0) speed)) (fault faults.Speed) (Asks requests.Position (move_from s.c.tree.axes target (cap_of speed))) (λ _. safe_fault {A = ⊤} s Anything faults.Speed)
+    (λ _. safe_asks s Anything requests.Position (move_from s.c.tree.axes target (cap_of speed)) (record { no_rise = refl; no_hold = refl; no_leave = refl; no_end = refl }) (λ d. arm)
+    (moved_answered s target (cap_of speed) arm untrapped (not-false (is_reachable s.c.tree.axes target) there))))

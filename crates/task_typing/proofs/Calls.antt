@@ -1,8 +1,8 @@
 -- Calls of routines, and that each part of a program keeps what is said of it.
-use Rattle.std.proofs.Common.{◌≡◌, refl, sym, ◌∙◌, subst, ℕ, Bool, true, false, List, [], ◌∷◌, map, flat_map, Option, Some, None, slice_get, if◌then◌else◌}
+use Rattle.std.proofs.Common.{◌≡◌, refl, sym, subst, ℕ, Bool, true, false, List, [], ◌∷◌, map, flat_map, Option, Some, None, slice_get, if◌then◌else◌}
 use Rattle.rapid_model.specs.declared.fate.Fault.TheVariants.{DepthLimit}
-use Rattle.raw_trees.specs.declared.raw_routine.RoutineKind.{RoutineKind}
-use Rattle.raw_trees.specs.declared.raw_routine.RoutineKind.TheVariants as kinds
+use Rattle.rapid_model.specs.declared.routine_kind.RoutineKind.{RoutineKind}
+use Rattle.rapid_model.specs.declared.routine_kind.RoutineKind.TheVariants as kinds
 use Rattle.typed_trees.specs.Plain.{TypedRoutine, TypedStmts}
 use Rattle.typed_trees.specs.declared.datum.Datum.{Datum}
 use Rattle.rapid_meaning.specs.Calls.{body, called, errors_of, part, result, within}
@@ -46,7 +46,7 @@ left_with : (c : Setting) (g : Ghost) (name : ℕ) (args : List Datum) (cells : 
 unfolding after
 left_with c g name args cells flow e ends is = (
   record { not_held = refl; same = refl },
-  (ends, record { slots = is.slots; frames_are = frames_below c.tree cells g.frames e.frames is.frames_are; in_trap = is.in_trap }),
+  (ends, record { slots = is.slots; frames_are = frames_below c.tree cells g.frames e.frames is.frames_are; called = is.called.1; in_trap = is.in_trap }),
 )
 
 left_by : (c : Setting) (g : Ghost) (name : ℕ) (args : List Datum) (cells : List Cell) (n : ℕ) (e : Data) → IsState c.tree g.trapped (cells ∷ g.frames) e
@@ -54,7 +54,7 @@ left_by : (c : Setting) (g : Ghost) (name : ℕ) (args : List Datum) (cells : Li
 unfolding after
 left_by c g name args cells n e is = (
   record { not_held = refl; same = refl },
-  record { slots = is.slots; frames_are = frames_below c.tree cells g.frames e.frames is.frames_are; in_trap = is.in_trap },
+  record { slots = is.slots; frames_are = frames_below c.tree cells g.frames e.frames is.frames_are; called = is.called.1; in_trap = is.in_trap },
 )
 
 -- how a routine ends
@@ -107,7 +107,7 @@ called_safe c facts g name args routine there are d is =
     let e : Data = record d { frames = frame_of routine args ∷ d.frames } in
     entered_goes c g name args (after (body c.tree routine) (result routine.kind) (λ error. leaves >> Raises error)) (has_room d.frames (frame_of routine args)) d e is
     (body_goes c facts g name args routine e typed (λ x by. subst (λ (o : Option TypedRoutine). IsResult o x) (sym there) by)
-    (record { slots = is.slots; frames_are = (frame_in c.tree g.frames routine args typed.locals are, is.frames_are); in_trap = is.in_trap }))
+    (record { slots = is.slots; frames_are = (frame_in c.tree g.frames routine args typed.locals are, is.frames_are); called = (record { number = name; routine = routine; there = there; are = refl }, is.called); in_trap = is.in_trap }))
 
 call_keeps : (c : Setting) (facts : Facts c) (g : Ghost) (name : ℕ) (args : List Datum) → IsPart c g (Call name args)
     → Safe (scene_of c facts g (Call name args)) (IsEnd c g (Call name args)) (part c.tree (Call name args))

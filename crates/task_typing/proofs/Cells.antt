@@ -1,14 +1,33 @@
 -- Data in their places: reading and writing them.
-use Rattle.std.proofs.Common.{◌≡◌, refl, ap, ◌∙◌, subst, ℕ, zero, suc, ◌==◌, Bool, true, false, List, [], ◌∷◌, length, Option, Some, None, slice_get, slice_set, if◌then◌else◌, IsTrue, arith, ◌<◌}
+use Rattle.std.proofs.Common.{◌≡◌, refl, sym, ap, ◌∙◌, subst, ℕ, zero, suc, ◌==◌, Bool, true, false, List, [], ◌∷◌, length, Option, Some, None, slice_get, slice_set, if◌then◌else◌, IsTrue, arith, ◌<◌}
 use Rattle.std.proofs.lemmas.Bool.{eqb-true, eq-eqb, ne_eqb}
 use Rattle.std.specs.Option.{option_and_then}
 use Rattle.rapid_model.specs.declared.sort.Sort.{Sort}
 use Rattle.typed_trees.specs.Plain.{TypedTree}
 use Rattle.typed_trees.specs.declared.datum.Datum.{Datum}
 use Rattle.rapid_meaning.specs.Data.{Frame, frame_at, with_datum, with_frame}
-use Rattle.task_typing.specs.Kinds.{Cell, Holds}
-use Rattle.task_typing.specs.States.{IsInCell, AreInCells, AreFrames, cells_at}
+use Rattle.task_typing.specs.Kinds.{Cell, Holds, Fixes, Lends}
+use Rattle.task_typing.specs.States.{HasType, IsInCell, AreInCells, AreFrames, cells_at}
 use Rattle.task_typing.specs.WellTyped.{is_datum_of}
+
+-- what is in a place of a type is a datum of it
+pub datum_typed : (tree : TypedTree) (frames : List (List Cell)) (written : Bool) (cell : Cell) (sort : Sort) (x : Datum) → HasType written cell sort → IsInCell tree frames cell x
+    → IsTrue (is_datum_of sort x)
+datum_typed tree frames written (Holds own) sort x has is = subst (λ (y : Sort). IsTrue (is_datum_of y x)) has is
+datum_typed tree frames written (Fixes own o) sort x has is = subst (λ (y : Sort). IsTrue (is_datum_of y x)) has.1 is.1
+datum_typed tree frames written (Lends own) sort x has is = absurd has
+
+-- a place that is written may hold any datum of its type
+pub may_hold : (tree : TypedTree) (frames : List (List Cell)) (cell : Cell) (sort : Sort) (new : Datum) → HasType true cell sort → IsTrue (is_datum_of sort new) → IsInCell tree frames cell new
+may_hold tree frames (Holds own) sort new has is = subst (λ (y : Sort). IsTrue (is_datum_of y new)) (sym has) is
+may_hold tree frames (Fixes own o) sort new has is = let no : true ≡ false = has.0 in absurd cc
+may_hold tree frames (Lends own) sort new has is = absurd has
+
+-- what may be written may be read
+pub has_either : (written : Bool) (cell : Cell) (sort : Sort) → HasType true cell sort → HasType written cell sort
+has_either written (Holds own) sort has = has
+has_either written (Fixes own o) sort has = let no : true ≡ false = has.0 in absurd cc
+has_either written (Lends own) sort has = has
 
 -- what a place holds is in its cell
 pub cell_read : (tree : TypedTree) (frames : List (List Cell)) (cells : List Cell) (xs : List Datum) (at : ℕ) (cell : Cell)
@@ -58,38 +77,42 @@ frame_read tree (first ∷ below) (f ∷ fs) k cells are e =
     (subst (λ (n : ℕ). (if n == k then Some first else cells_at below k) ≡ Some cells) (as_deep tree below fs are.1) e)
 
 -- the cell of a place in a frame
-abbrev InFrame : List (List Cell) → ℕ → ℕ → Sort → Type 0
-InFrame frames k at sort = option_and_then (λ cells. slice_get cells at) (cells_at frames k) ≡ Some (Holds sort)
+abbrev InFrame : List (List Cell) → ℕ → ℕ → Cell → Type 0
+InFrame frames k at cell = option_and_then (λ cells. slice_get cells at) (cells_at frames k) ≡ Some cell
 
-pub record HasCells (o : Option (List Cell)) (at : ℕ) (sort : Sort) : Type 0 where
+pub record HasCells (o : Option (List Cell)) (at : ℕ) (cell : Cell) : Type 0 where
   pub cells : List Cell
   pub there : o ≡ Some cells
-  pub holds : slice_get cells at ≡ Some (Holds sort)
+  pub holds : slice_get cells at ≡ Some cell
 
-pub has_cells : (o : Option (List Cell)) (at : ℕ) (sort : Sort) → option_and_then (λ cells. slice_get cells at) o ≡ Some (Holds sort) → HasCells o at sort
-has_cells None at sort e = absurd cc
-has_cells (Some cells) at sort e = record { cells = cells; there = refl; holds = e }
+pub has_cells : (o : Option (List Cell)) (at : ℕ) (cell : Cell) → option_and_then (λ cells. slice_get cells at) o ≡ Some cell → HasCells o at cell
+has_cells None at cell e = absurd cc
+has_cells (Some cells) at cell e = record { cells = cells; there = refl; holds = e }
 
-written_here : (tree : TypedTree) (b : Bool) (first : List Cell) (below : List (List Cell)) (o : Option (List Cell)) (f g : Frame) (fs : List Frame) (k at : ℕ) (sort : Sort) (new : Datum)
-    → AreInCells tree below first f.values → AreFrames tree below fs → IsTrue (is_datum_of sort new)
-    → (o ≡ cells_at below k) → (frame_at fs k ≡ Some g → option_and_then (λ cells. slice_get cells at) o ≡ Some (Holds sort) → AreFrames tree below (with_frame fs k (with_datum g at new)))
-    → (if b then Some f else frame_at fs k) ≡ Some g → option_and_then (λ cells. slice_get cells at) (if b then Some first else o) ≡ Some (Holds sort)
+-- whatever frames are below
+abbrev IsInAny : TypedTree → Cell → Datum → Type 0
+IsInAny tree cell x = (frames : List (List Cell)) → IsInCell tree frames cell x
+
+written_here : (tree : TypedTree) (b : Bool) (first : List Cell) (below : List (List Cell)) (o : Option (List Cell)) (f g : Frame) (fs : List Frame) (k at : ℕ) (cell : Cell) (new : Datum)
+    → AreInCells tree below first f.values → AreFrames tree below fs → IsInAny tree cell new
+    → (o ≡ cells_at below k) → (frame_at fs k ≡ Some g → option_and_then (λ cells. slice_get cells at) o ≡ Some cell → AreFrames tree below (with_frame fs k (with_datum g at new)))
+    → (if b then Some f else frame_at fs k) ≡ Some g → option_and_then (λ cells. slice_get cells at) (if b then Some first else o) ≡ Some cell
     → AreFrames tree (first ∷ below) (if b then with_datum g at new ∷ fs else f ∷ with_frame fs k (with_datum g at new))
-written_here tree true first below o f g fs k at sort new are frames is same more there e =
+written_here tree true first below o f g fs k at cell new are frames is same more there e =
     let one : f ≡ g = cc in
-    (cell_written tree below first g.values at (Holds sort) new (subst (λ (x : Frame). AreInCells tree below first x.values) one are) e is, frames)
-written_here tree false first below o f g fs k at sort new are frames is same more there e = (are, more there e)
+    (cell_written tree below first g.values at cell new (subst (λ (x : Frame). AreInCells tree below first x.values) one are) e (is below), frames)
+written_here tree false first below o f g fs k at cell new are frames is same more there e = (are, more there e)
 
-pub frame_written : (tree : TypedTree) (frames : List (List Cell)) (fs : List Frame) (k at : ℕ) (sort : Sort) (new : Datum) (g : Frame)
-    → AreFrames tree frames fs → IsTrue (is_datum_of sort new) → frame_at fs k ≡ Some g → InFrame frames k at sort → AreFrames tree frames (with_frame fs k (with_datum g at new))
+pub frame_written : (tree : TypedTree) (frames : List (List Cell)) (fs : List Frame) (k at : ℕ) (cell : Cell) (new : Datum) (g : Frame)
+    → AreFrames tree frames fs → IsInAny tree cell new → frame_at fs k ≡ Some g → InFrame frames k at cell → AreFrames tree frames (with_frame fs k (with_datum g at new))
 unfolding frame_at with_frame
-frame_written tree [] [] k at sort new g are is there e = absurd cc
-frame_written tree [] (f ∷ fs) k at sort new g are is there e = absurd are
-frame_written tree (first ∷ below) [] k at sort new g are is there e = absurd are
-frame_written tree (first ∷ below) (f ∷ fs) k at sort new g are is there e =
-    written_here tree (length fs == k) first below (cells_at below k) f g fs k at sort new are.0 are.1 is refl
-    (λ t i. frame_written tree below fs k at sort new g are.1 is t i) there
-    (subst (λ (n : ℕ). option_and_then (λ cells. slice_get cells at) (if n == k then Some first else cells_at below k) ≡ Some (Holds sort)) (as_deep tree below fs are.1) e)
+frame_written tree [] [] k at cell new g are is there e = absurd cc
+frame_written tree [] (f ∷ fs) k at cell new g are is there e = absurd are
+frame_written tree (first ∷ below) [] k at cell new g are is there e = absurd are
+frame_written tree (first ∷ below) (f ∷ fs) k at cell new g are is there e =
+    written_here tree (length fs == k) first below (cells_at below k) f g fs k at cell new are.0 are.1 is refl
+    (λ t i. frame_written tree below fs k at cell new g are.1 is t i) there
+    (subst (λ (n : ℕ). option_and_then (λ cells. slice_get cells at) (if n == k then Some first else cells_at below k) ≡ Some cell) (as_deep tree below fs are.1) e)
 
 depth_here : (b : Bool) (first cells : List Cell) (o : Option (List Cell)) (k n : ℕ) → (b ≡ true → k < suc n) → (o ≡ Some cells → k < suc n)
     → (if b then Some first else o) ≡ Some cells → k < suc n

@@ -17,10 +17,10 @@ use Rattle.typed_trees.specs.declared.datum.Root.TheVariants as roots
 use Rattle.rapid_meaning.specs.Data.{Data, Frame, datum_at, frame_at, put_at, put_in_frame, with_datum, with_frame}
 use Rattle.rapid_meaning.specs.Places.{part_in, put_in}
 use Rattle.rapid_meaning.proofs.Wholes.{whole_in}
-use Rattle.task_typing.specs.Kinds.{Cell, Holds, slot_cells}
-use Rattle.task_typing.specs.States.{AreFrames, IsRootOf, IsState}
+use Rattle.task_typing.specs.Kinds.{Cell, slot_cells}
+use Rattle.task_typing.specs.States.{AreFrames, IsInCell, IsRootOf, IsState}
 use Rattle.task_typing.specs.WellTyped.{is_datum_of, is_marked}
-use Rattle.task_typing.proofs.Cells.{HasCells, HasFrame, cell_read, cell_written, frame_read, frame_written, has_cells}
+use Rattle.task_typing.proofs.Cells.{HasCells, HasFrame, cell_read, cell_written, datum_typed, frame_read, frame_written, has_cells, may_hold}
 use Rattle.task_typing.proofs.Forms.{valued}
 use Rattle.task_typing.proofs.Parts.{value_part, value_put}
 
@@ -139,32 +139,43 @@ datum_put whole part sort x new is e also =
     (λ v. valued_put whole part sort x new v.0 v.1 is e also) (whole_or_valued whole part sort e)
 
 -- what the data hold at a place of their own
-pub slot_datum : (tree : TypedTree) (trapped : Bool) (frames : List (List Cell)) (d : Data) (slot : ℕ) (sort : Sort) → IsState tree trapped frames d → IsRootOf tree frames (roots.Slot slot) sort
-    → HasDatum (datum_at (roots.Slot slot) d) sort
-slot_datum tree trapped frames d slot sort is root = cell_read tree [] (slot_cells tree) d.slots slot (Holds sort) is.slots root
+pub slot_datum : (tree : TypedTree) (trapped : Bool) (frames : List (List Cell)) (d : Data) (written : Bool) (slot : ℕ) (sort : Sort) → IsState tree trapped frames d
+    → IsRootOf tree frames written (roots.Slot slot) sort → HasDatum (datum_at (roots.Slot slot) d) sort
+slot_datum tree trapped frames d written slot sort is root =
+    let read : (x : Datum) × (slice_get d.slots slot ≡ Some x) × IsInCell tree [] root.0 x = cell_read tree [] (slot_cells tree) d.slots slot root.0 is.slots root.1 in
+    (read.0, read.1, datum_typed tree [] written root.0 sort read.0 root.2 read.2)
 
-pub frame_datum : (tree : TypedTree) (trapped : Bool) (frames : List (List Cell)) (d : Data) (k at : ℕ) (sort : Sort) → IsState tree trapped frames d → IsRootOf tree frames (roots.Frame k at) sort
-    → HasDatum (datum_at (roots.Frame k at) d) sort
-frame_datum tree trapped frames d k at sort is root =
-    let has : HasCells _ at sort = has_cells _ at sort root in
+pub frame_datum : (tree : TypedTree) (trapped : Bool) (frames : List (List Cell)) (d : Data) (written : Bool) (k at : ℕ) (sort : Sort) → IsState tree trapped frames d
+    → IsRootOf tree frames written (roots.Frame k at) sort → HasDatum (datum_at (roots.Frame k at) d) sort
+frame_datum tree trapped frames d written k at sort is root =
+    let has : HasCells _ at root.0 = has_cells _ at root.0 root.1 in
     let frame : HasFrame tree (frame_at d.frames k) has.cells = frame_read tree frames d.frames k has.cells is.frames_are has.there in
-    let read : (x : Datum) × (slice_get frame.frame.values at ≡ Some x) × IsTrue (is_datum_of sort x) = cell_read tree frame.below has.cells frame.frame.values at (Holds sort) frame.are has.holds in
-    (read.0, ap (λ (o : Option Frame). option_and_then (λ f. slice_get f.values at) o) frame.there ∙ read.1, read.2)
+    let read : (x : Datum) × (slice_get frame.frame.values at ≡ Some x) × IsInCell tree frame.below root.0 x = cell_read tree frame.below has.cells frame.frame.values at root.0 frame.are has.holds in (
+      read.0,
+      ap (λ (o : Option Frame). option_and_then (λ f. slice_get f.values at) o) frame.there ∙ read.1,
+      datum_typed tree frame.below written root.0 sort read.0 root.2 read.2,
+    )
 
 -- the data stay of their types where one is written
 pub slot_put : (tree : TypedTree) (trapped : Bool) (frames : List (List Cell)) (d : Data) (slot : ℕ) (sort : Sort) (new : Datum) → IsState tree trapped frames d
-    → IsRootOf tree frames (roots.Slot slot) sort → IsTrue (is_datum_of sort new) → IsState tree trapped frames (put_at (roots.Slot slot) new d)
-slot_put tree trapped frames d slot sort new is root also =
-    record { slots = cell_written tree [] (slot_cells tree) d.slots slot (Holds sort) new is.slots root also; frames_are = is.frames_are; in_trap = is.in_trap }
+    → IsRootOf tree frames true (roots.Slot slot) sort → IsTrue (is_datum_of sort new) → IsState tree trapped frames (put_at (roots.Slot slot) new d)
+slot_put tree trapped frames d slot sort new is root also = record {
+  slots = cell_written tree [] (slot_cells tree) d.slots slot root.0 new is.slots root.1 (may_hold tree [] root.0 sort new root.2 also);
+  frames_are = is.frames_are;
+  called = is.called;
+  in_trap = is.in_trap;
+}
 
 pub frame_put : (tree : TypedTree) (trapped : Bool) (frames : List (List Cell)) (d : Data) (k at : ℕ) (sort : Sort) (new : Datum) → IsState tree trapped frames d
-    → IsRootOf tree frames (roots.Frame k at) sort → IsTrue (is_datum_of sort new) → IsState tree trapped frames (put_at (roots.Frame k at) new d)
+    → IsRootOf tree frames true (roots.Frame k at) sort → IsTrue (is_datum_of sort new) → IsState tree trapped frames (put_at (roots.Frame k at) new d)
 frame_put tree trapped frames d k at sort new is root also =
-    let has : HasCells _ at sort = has_cells _ at sort root in
+    let has : HasCells _ at root.0 = has_cells _ at root.0 root.1 in
     let frame : HasFrame tree (frame_at d.frames k) has.cells = frame_read tree frames d.frames k has.cells is.frames_are has.there in
     let put : put_in_frame d.frames k at new (frame_at d.frames k) ≡ with_frame d.frames k (with_datum frame.frame at new) = ap (put_in_frame d.frames k at new) frame.there in
     record {
       slots = is.slots;
-      frames_are = subst (λ (fs : List Frame). AreFrames tree frames fs) (sym put) (frame_written tree frames d.frames k at sort new frame.frame is.frames_are also frame.there root);
+      frames_are = subst (λ (fs : List Frame). AreFrames tree frames fs) (sym put)
+          (frame_written tree frames d.frames k at root.0 new frame.frame is.frames_are (λ below. may_hold tree below root.0 sort new root.2 also) frame.there root.1);
+      called = is.called;
       in_trap = is.in_trap;
     }

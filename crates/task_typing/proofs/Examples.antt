@@ -41,19 +41,19 @@ main = record (proc (counts ∷ says (codes "done") ∷ [])) { loops = 1 }
 
 tree : TypedTree
 unfolding main
-tree = task_of (num_row 0 ∷ []) (main ∷ [])
+tree = record (task_of (num_row 0 ∷ []) (main ∷ [])) { axes = 0 }
 
 first_is : AreFirst sorts.Num None (Plain (number 0) ∷ [])
 first_is = (refl, all_more (λ x. IsTrue (is_datum_of sorts.Num x)) (Plain (number 0)) [] refl (all_none (λ x. IsTrue (is_datum_of sorts.Num x))))
 
 abbrev setting : Setting
 unfolding tree
-setting = record { signals = 0; arm = false; tree = tree }
+setting = record { signals = 0; tree = tree }
 
 list_is : AreStmts setting (around_in main false main.list) main.list
 unfolding tree setting
 list_is = (
-  (refl, (refl, refl), (refl, refl), tt, ((sorts.Num, refl, (refl, sorts.Num, (num_row 0, refl, refl, refl), refl), (refl, refl, (refl, sorts.Num, (Counts, refl, (refl, refl)), refl))), tt)),
+  (refl, (refl, refl), (refl, refl), tt, ((sorts.Num, refl, (refl, sorts.Num, (num_row 0, refl, (refl, refl)), refl), (refl, refl, (refl, sorts.Num, (Counts, refl, (refl, refl)), refl))), tt)),
   (record { arm = refl; are_needed = ((refl, refl), tt); are_options = tt; chosen = omega arith }, tt),
 )
 
@@ -61,25 +61,28 @@ main_is : IsRoutine setting main
 unfolding main
 main_is = record { locals = all_none (λ (row : TypedLocal). AreFirst row.sort row.len row.first); list = list_is; handler = tt; takes = tt }
 
-well_typed : WellTyped 0 false tree
+well_typed : WellTyped 0 tree
 unfolding tree setting
 well_typed = record {
   slots = all_more (λ (row : TypedSlot). AreFirst row.sort row.len row.first) (num_row 0) [] first_is (all_none (λ (row : TypedSlot). AreFirst row.sort row.len row.first));
   pers = all_none (λ (row : TypedPers). IsTrue (has_values row.sort));
   routines = all_more (IsRoutine setting) main [] main_is (all_none (IsRoutine setting));
   main = record { routine = main; there = refl; procedure = refl; takes_nothing = refl };
+  axes = refl;
 }
 
 cell : CellData
-cell = record { steps = 100; tasks = record { name = codes "A"; arm = None } ∷ []; signals = []; pers = []; meetings = []; zones = []; inputs = [] }
+cell = record { steps = 100; tasks = record { name = codes "A"; arm = None; axes = 0 } ∷ []; signals = []; pers = []; meetings = []; zones = []; inputs = [] }
 
 numbered : Numbered cell 0 tree
 unfolding tree cell
 numbered = record {
-  task_row = record { name = codes "A"; arm = None };
+  task_row = record { name = codes "A"; arm = None; axes = 0 };
   there = refl;
   tasks = refl;
   few_tasks = omega arith;
+  axes = refl;
+  starts = refl;
   as_many_pers = refl;
   pers = λ row number p e f. absurd cc;
   as_many_meetings = refl;

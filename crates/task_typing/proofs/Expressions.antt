@@ -1,12 +1,11 @@
 -- Expressions, places and arguments.
-use Rattle.std.proofs.Common.{◌≡◌, refl, sym, ◌∙◌, subst, ℕ, ◌*◌, ◌-◌, ◌<◌, ◌==◌, Bool, true, false, not, ◌||◌, ◌++◌, ℤ, pos, neg_ℤ, nat_abs, ◌*ℤ◌, List, [], ◌∷◌, length, map, flat_map, Option, Some, None, slice_get, drop, if◌then◌else◌, IsTrue, arith}
+use Rattle.std.proofs.Common.{◌≡◌, refl, sym, ◌∙◌, subst, ℕ, ◌*◌, ◌-◌, ◌<◌, ◌==◌, Bool, true, false, not, ◌&&◌, ◌||◌, ◌++◌, ℤ, pos, neg_ℤ, nat_abs, ◌*ℤ◌, List, [], ◌∷◌, length, map, flat_map, Option, Some, None, slice_get, drop, if◌then◌else◌, IsTrue, arith}
 use Rattle.std.specs.Prelude.{⊤}
 use Rattle.std.specs.List.{list_all}
-use Rattle.std.proofs.lemmas.Bool.{and_parts, eq-eqb, eqb-true}
-use Rattle.std.proofs.lemmas.List.{length-drop}
+use Rattle.std.proofs.lemmas.Bool.{and_parts}
 use Rattle.rapid_num.specs.Arithmetic.{whole_part}
 use Rattle.rapid_num.specs.Absent.{is_absent}
-use Rattle.rapid_num.specs.Reach.{are_absent, is_position, is_reachable}
+use Rattle.rapid_num.specs.Reach.{is_position, is_reachable}
 use Rattle.rapid_num.specs.declared.joints.Joints.{Joints}
 use Rattle.rapid_model.specs.Paths.{has_sort}
 use Rattle.rapid_model.specs.declared.answer.Answer.TheVariants as answers
@@ -18,10 +17,10 @@ use Rattle.rapid_model.specs.declared.sort.Sort.{Sort}
 use Rattle.rapid_model.specs.declared.sort.Sort.TheVariants as sorts
 use Rattle.rapid_model.specs.declared.value.Value.{Value}
 use Rattle.rapid_model.specs.declared.value.Value.TheVariants as values
-use Rattle.raw_trees.specs.declared.raw_routine.Mode.{Mode}
-use Rattle.raw_trees.specs.declared.raw_routine.Mode.TheVariants as modes
-use Rattle.raw_trees.specs.declared.raw_routine.RoutineKind.{RoutineKind}
-use Rattle.raw_trees.specs.declared.raw_routine.RoutineKind.TheVariants as kinds
+use Rattle.rapid_model.specs.declared.mode.Mode.{Mode}
+use Rattle.rapid_model.specs.declared.mode.Mode.TheVariants as modes
+use Rattle.rapid_model.specs.declared.routine_kind.RoutineKind.{RoutineKind}
+use Rattle.rapid_model.specs.declared.routine_kind.RoutineKind.TheVariants as kinds
 use Rattle.rapid_builtins.specs.Calls.{function_needs, function_needs_arm, function_result}
 use Rattle.rapid_values.specs.Components.{Component, components}
 use Rattle.rapid_values.specs.Values.{made_of}
@@ -41,6 +40,7 @@ use Rattle.rapid_builtins.specs.declared.need.Need.TheVariants as needs
 use Rattle.rapid_builtins.specs.Parameters.{parameter_need}
 use Rattle.task_typing.specs.Expressions.{AreArgs, AreComponents, AreSteps, IsArg, IsArray, IsExpr, IsPlace}
 use Rattle.task_typing.specs.Kinds.{Cell, Holds, Lends, cells_of, kind_by, kind_of, kinds_of, local_cells, need_of}
+use Rattle.task_typing.specs.Setting.{has_arm}
 use Rattle.task_typing.specs.States.{AreInCells}
 use Rattle.task_typing.proofs.Forms.{bool_form, num_form, text_form}
 use Rattle.task_typing.proofs.Loads.{read_safe, test_safe}
@@ -74,15 +74,13 @@ pub signal_safe : (s : Scene) (signal : ℕ) → signal < s.c.signals → Safe s
 signal_safe s signal few = safe_asks s Anything (ReadS signal) when_bit (record { no_rise = refl; no_hold = refl; no_leave = refl; no_end = refl }) (λ d. few) (bit_answered s signal)
 
 -- a position has twelve axes
-twelve_axes : (position : Joints) → is_position position ≡ true → IsTrue (length position.axis == 12)
-twelve_axes position is =
-    let apart = and_parts (is_reachable position) (are_absent (drop 6 position.axis)) is in
-    let six = and_parts (length (drop 6 position.axis) == 6) (list_all is_absent (drop 6 position.axis)) apart.1 in
-    let many : length position.axis - 6 ≡ 6 = sym (length-drop 6 position.axis) ∙ eqb-true (length (drop 6 position.axis)) 6 six.0 in
-    eq-eqb (length position.axis) 12 (omega (arith, many))
+twelve_axes : (axes : ℕ) (position : Joints) → is_position axes position ≡ true → IsTrue (length position.axis == 12)
+twelve_axes axes position is =
+    let apart = and_parts (length position.axis == 12 && is_reachable axes position) (list_all is_absent (drop axes position.axis)) is in
+    (and_parts (length position.axis == 12) (is_reachable axes position) apart.0).0
 
 at_answered : (s : Scene) → Answered s (HasSort sorts.JointTarget) Position when_at
-at_answered s trapped (answers.At position) fits = (refl, safe_gives s (HasSort sorts.JointTarget) (values.Target position) (twelve_axes position fits))
+at_answered s trapped (answers.At position) fits = (refl, safe_gives s (HasSort sorts.JointTarget) (values.Target position) (twelve_axes s.c.tree.axes position fits))
 at_answered s trapped a fits = absurd cc
 
 opposite_safe : (s : Scene) (sort : Sort) (v : Value) → sort ≡ sorts.Bool → HasSort sorts.Bool v → Safe s (HasSort sort) (opposite v)
@@ -116,13 +114,13 @@ returned_safe s o routine sort flow e func result is =
 of_value_num : (s : Scene) (f : ℤ → Value) (v : Value) → ((n : ℤ) → HasSort sorts.Num (f n)) → HasSort sorts.Num v → Safe s (HasSort sorts.Num) (num_in v >>= λ n. Gives (f n))
 of_value_num s f v is h = safe_then s Anything (HasSort sorts.Num) (num_in v) (λ n. Gives (f n)) (num_safe s v h) (λ n _. safe_gives s (HasSort sorts.Num) (f n) (is n))
 
-pub position_safe : (s : Scene) → IsTrue s.c.arm → Safe s (HasSort sorts.JointTarget) (of_nothing functions.CJointT)
+pub position_safe : (s : Scene) → IsTrue (has_arm s.c) → Safe s (HasSort sorts.JointTarget) (of_nothing functions.CJointT)
 position_safe s arm = safe_asks s (HasSort sorts.JointTarget) Position when_at (record { no_rise = refl; no_hold = refl; no_leave = refl; no_end = refl }) (λ d. arm) (at_answered s)
 
 -- what arguments do is safe, where they are well typed
 abbrev pub ArgSafe : Inside → TypedArg → Type 0
 ArgSafe i (Given e) = (sort : Sort) → IsExpr i.c (kinds_of i.routine) e sort → Safe (scene i) (HasSort sort) (expr i.c.tree i.routine e)
-ArgSafe i (Lent p) = (sort : Sort) → IsPlace i.c (kinds_of i.routine) p sort → Safe (scene i) (λ q. IsThere (scene i) q sort) (place i.c.tree i.routine p)
+ArgSafe i (Lent p) = (written : Bool) (sort : Sort) → IsPlace i.c (kinds_of i.routine) written p sort → Safe (scene i) (λ q. IsThere (scene i) written q sort) (place i.c.tree i.routine p)
 ArgSafe i _ = ⊤
 
 abbrev pub ArgsSafe : Inside → TypedArgs → Type 0
@@ -158,16 +156,16 @@ signal_arg i function output result (MoreArgs (OfSignal signal) (MoreArgs x y)) 
 signal_arg i function output result (MoreArgs arg y) are more = absurd are.0
 
 place_arg : (i : Inside) (function : Function) (sort result : Sort) (args : TypedArgs) → ArgsSafe i args → AreArgs i.c (kinds_of i.routine) args (needs.VarOrPers sort ∷ [])
-    → ((q : Lvalue) → IsThere (scene i) q sort → Safe (scene i) (HasSort result) (of_place function q)) → Safe (scene i) (HasSort result) (builtin i.c.tree i.routine function args)
+    → ((q : Lvalue) → IsThere (scene i) true q sort → Safe (scene i) (HasSort result) (of_place function q)) → Safe (scene i) (HasSort result) (builtin i.c.tree i.routine function args)
 place_arg i function sort result NoArgs safe are more = absurd are
 place_arg i function sort result (MoreArgs (Lent p) NoArgs) safe are more =
-    safe_then (scene i) (λ q. IsThere (scene i) q sort) (HasSort result) (place i.c.tree i.routine p) (of_place function) (safe.0 sort are.0) more
+    safe_then (scene i) (λ q. IsThere (scene i) true q sort) (HasSort result) (place i.c.tree i.routine p) (of_place function) (safe.0 true sort are.0) more
 place_arg i function sort result (MoreArgs (Lent p) (MoreArgs x y)) safe are more = absurd are.1
 place_arg i function sort result (MoreArgs arg y) safe are more = absurd are.0
 
 -- the length of an array that is lent
 pub array_len : (i : Inside) (p : TypedPlace) (sort : Sort) → IsArray i.c (kinds_of i.routine) p sort → (len : ℕ) × (lent_length i.c.tree i.routine p ≡ Some len)
-array_len i (PlaceOf root NotHeld parts.Whole own) sort is = (is.1, root_len i root sort (Some is.1) is.2)
+array_len i (PlaceOf root NotHeld parts.Whole own) sort is = (is.1, root_len i false root sort (Some is.1) is.2)
 array_len i (PlaceOf root NotHeld part own) sort is = absurd is
 array_len i (PlaceOf root (Held e) part own) sort is = absurd is
 
@@ -182,7 +180,7 @@ array_arg i (MoreArgs (Lent p) (MoreArgs one NoArgs)) are =
 array_arg i (MoreArgs (Lent p) (MoreArgs one (MoreArgs x y))) are = absurd are.1.1
 array_arg i (MoreArgs arg y) are = absurd are.0
 
-no_arg : (i : Inside) (args : TypedArgs) → IsTrue i.c.arm → AreArgs i.c (kinds_of i.routine) args [] → Safe (scene i) (HasSort sorts.JointTarget) (builtin i.c.tree i.routine functions.CJointT args)
+no_arg : (i : Inside) (args : TypedArgs) → IsTrue (has_arm i.c) → AreArgs i.c (kinds_of i.routine) args [] → Safe (scene i) (HasSort sorts.JointTarget) (builtin i.c.tree i.routine functions.CJointT args)
 no_arg i NoArgs arm are = position_safe (scene i) arm
 no_arg i (MoreArgs x y) arm are = absurd are
 
@@ -195,7 +193,7 @@ shown_safe s v w hv hw =
     (λ n _. safe_then s Anything (HasSort sorts.Text) (num_in w) (λ count. Gives (values.Text (num_text n (decimals_of count)))) (num_safe s w hw)
     (λ count _. safe_gives s (HasSort sorts.Text) (values.Text (num_text n (decimals_of count))) refl))
 
-builtin_safe : (i : Inside) (function : Function) (args : TypedArgs) → IsTrue (not (function_needs_arm function) || i.c.arm) → ArgsSafe i args
+builtin_safe : (i : Inside) (function : Function) (args : TypedArgs) → IsTrue (not (function_needs_arm function) || has_arm i.c) → ArgsSafe i args
     → AreArgs i.c (kinds_of i.routine) args (function_needs function) → Safe (scene i) (HasSort (function_result function)) (builtin i.c.tree i.routine function args)
 builtin_safe i functions.Abs args arm safe are =
     value_arg i functions.Abs sorts.Num sorts.Num args safe are (λ v h. of_value_num (scene i) (λ n. values.Num (pos (nat_abs n))) v (λ n. refl) h)
@@ -230,10 +228,10 @@ given_step i sort (Given e) more cells safe is rest =
     (λ xs are. safe_gives (scene i) (AreArgsOf (scene i) (Holds sort ∷ cells)) (datums.Plain v ∷ xs) (h, are)))
 given_step i sort arg more cells safe is rest = absurd is
 
-lent_step : (i : Inside) (sort : Sort) (p : TypedPlace) (more : TypedArgs) (cells : List Cell) → ArgSafe i (Lent p) → IsPlace i.c (kinds_of i.routine) p sort
+lent_step : (i : Inside) (sort : Sort) (p : TypedPlace) (more : TypedArgs) (cells : List Cell) → ArgSafe i (Lent p) → IsPlace i.c (kinds_of i.routine) true p sort
     → Safe (scene i) (AreArgsOf (scene i) cells) (arguments i.c.tree i.routine more) → Safe (scene i) (AreArgsOf (scene i) (Lends sort ∷ cells)) (arguments i.c.tree i.routine (MoreArgs (Lent p) more))
 lent_step i sort p more cells safe is rest =
-    safe_then (scene i) (λ q. IsThere (scene i) q sort) (AreArgsOf (scene i) (Lends sort ∷ cells)) (place i.c.tree i.routine p) (λ q. arguments i.c.tree i.routine more >>= λ xs. Gives (datums.Place q ∷ xs)) (safe sort is)
+    safe_then (scene i) (λ q. IsThere (scene i) true q sort) (AreArgsOf (scene i) (Lends sort ∷ cells)) (place i.c.tree i.routine p) (λ q. arguments i.c.tree i.routine more >>= λ xs. Gives (datums.Place q ∷ xs)) (safe true sort is)
     (λ q there. safe_then (scene i) (AreArgsOf (scene i) cells) (AreArgsOf (scene i) (Lends sort ∷ cells)) (arguments i.c.tree i.routine more) (λ xs. Gives (datums.Place q ∷ xs)) rest
     (λ xs are. safe_gives (scene i) (AreArgsOf (scene i) (Lends sort ∷ cells)) (datums.Place q ∷ xs) (there, are)))
 
@@ -272,7 +270,8 @@ mutual
       safe_then (scene i) Anything (HasSort sort) (read_signal signal) (λ bit. Gives (of_bit bit)) (signal_safe (scene i) signal is.2)
       (λ bit _. safe_gives (scene i) (HasSort sort) (of_bit bit) (bit_of_sort sort bit is.1))
   expr_safe i (trees.Stored at own p) sort is =
-      safe_then (scene i) (λ q. IsThere (scene i) q sort) (HasSort sort) (place i.c.tree i.routine p) read_value (place_safe i p sort is.2) (λ q there. read_safe (scene i) q sort is.1 there)
+      safe_then (scene i) (λ q. IsThere (scene i) false q sort) (HasSort sort) (place i.c.tree i.routine p) read_value (place_safe i false p sort is.2)
+      (λ q there. read_safe (scene i) false q sort is.1 there)
   expr_safe i (trees.Group at own e) sort is = expr_safe i e sort is.1
   expr_safe i (trees.Aggregate at own es) sort is =
       sorted (scene i) own sort (expr i.c.tree i.routine (trees.Aggregate at own es)) is.0
@@ -308,20 +307,23 @@ mutual
       safe_then (scene i) (HasSort are.0) (HasSort sort) (between o v (expr i.c.tree i.routine e)) (along i.c.tree i.routine steps)
       (between_safe (scene i) o first are.0 v (expr i.c.tree i.routine e) are.1 h (expr_safe i e first are.2)) (λ w hw. steps_safe i steps are.0 sort are.3 w hw)
 
-  pub place_safe : (i : Inside) (p : TypedPlace) (sort : Sort) → IsPlace i.c (kinds_of i.routine) p sort → Safe (scene i) (λ q. IsThere (scene i) q sort) (place i.c.tree i.routine p)
-  place_safe i (PlaceOf root NotHeld part own) sort is =
-      safe_then (scene i) (λ q. IsThere (scene i) q is.1) (λ q. IsThere (scene i) q sort) (rooted i.c.tree i.routine root) (part_at part) (rooted_safe i root is.1 None is.2)
-      (λ q there. part_safe (scene i) q is.1 sort part there is.3)
-  place_safe i (PlaceOf root (Held e) part own) sort is =
-      safe_then (scene i) (λ q. IsRooted (scene i) q is.1 (Some is.2)) (λ q. IsThere (scene i) q sort) (rooted i.c.tree i.routine root)
-      (λ q. expr i.c.tree i.routine e >>= λ v. indexed (length_at i.c.tree i.routine root) q v >>= part_at part) (rooted_safe i root is.1 (Some is.2) is.3)
-      (λ q there. safe_then (scene i) (HasSort sorts.Num) (λ r. IsThere (scene i) r sort) (expr i.c.tree i.routine e) (λ v. indexed (length_at i.c.tree i.routine root) q v >>= part_at part) (expr_safe i e sorts.Num is.5)
-      (λ v h. safe_then (scene i) (λ r. IsThere (scene i) r is.1) (λ r. IsThere (scene i) r sort) (indexed (length_at i.c.tree i.routine root) q v) (part_at part)
-      (indexed_safe (scene i) q is.1 is.2 (length_at i.c.tree i.routine root) v (root_len i root is.1 (Some is.2) is.3) there h) (λ r found. part_safe (scene i) r is.1 sort part found is.4)))
+  pub place_safe : (i : Inside) (written : Bool) (p : TypedPlace) (sort : Sort) → IsPlace i.c (kinds_of i.routine) written p sort
+      → Safe (scene i) (λ q. IsThere (scene i) written q sort) (place i.c.tree i.routine p)
+  place_safe i written (PlaceOf root NotHeld part own) sort is =
+      safe_then (scene i) (λ q. IsThere (scene i) written q is.1) (λ q. IsThere (scene i) written q sort) (rooted i.c.tree i.routine root) (part_at part) (rooted_safe i written root is.1 None is.2)
+      (λ q there. part_safe (scene i) written q is.1 sort part there is.3)
+  place_safe i written (PlaceOf root (Held e) part own) sort is =
+      safe_then (scene i) (λ q. IsRooted (scene i) written q is.1 (Some is.2)) (λ q. IsThere (scene i) written q sort) (rooted i.c.tree i.routine root)
+      (λ q. expr i.c.tree i.routine e >>= λ v. indexed (length_at i.c.tree i.routine root) q v >>= part_at part) (rooted_safe i written root is.1 (Some is.2) is.3)
+      (λ q there. safe_then (scene i) (HasSort sorts.Num) (λ r. IsThere (scene i) written r sort) (expr i.c.tree i.routine e) (λ v. indexed (length_at i.c.tree i.routine root) q v >>= part_at part)
+      (expr_safe i e sorts.Num is.5)
+      (λ v h. safe_then (scene i) (λ r. IsThere (scene i) written r is.1) (λ r. IsThere (scene i) written r sort) (indexed (length_at i.c.tree i.routine root) q v) (part_at part)
+      (indexed_safe (scene i) written q is.1 is.2 (length_at i.c.tree i.routine root) v (root_len i written root is.1 (Some is.2) is.3) there h)
+      (λ r found. part_safe (scene i) written r is.1 sort part found is.4)))
 
   pub one_safe : (i : Inside) (arg : TypedArg) → ArgSafe i arg
   one_safe i (Given e) = λ sort is. expr_safe i e sort is
-  one_safe i (Lent p) = λ sort is. place_safe i p sort is
+  one_safe i (Lent p) = λ written sort is. place_safe i written p sort is
   one_safe i (OfSignal signal) = tt
   one_safe i (OfMeeting meeting) = tt
   one_safe i (Itself name) = tt

@@ -22,6 +22,7 @@ pub mod Statements
 pub mod Frames
 pub mod Calls
 pub mod Whole
+pub mod Constants
 pub mod Suits
 pub mod Events
 pub mod Own

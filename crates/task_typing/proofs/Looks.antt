@@ -6,8 +6,8 @@ use Rattle.rapid_model.specs.declared.answer.Answer.{Answer}
 use Rattle.rapid_model.specs.declared.answer.Answer.TheVariants as answers
 use Rattle.rapid_model.specs.declared.fate.Fault.TheVariants.{TrapFlood}
 use Rattle.rapid_model.specs.declared.request.Request.TheVariants as requests
-use Rattle.raw_trees.specs.declared.raw_routine.RoutineKind.{RoutineKind}
-use Rattle.raw_trees.specs.declared.raw_routine.RoutineKind.TheVariants as kinds
+use Rattle.rapid_model.specs.declared.routine_kind.RoutineKind.{RoutineKind}
+use Rattle.rapid_model.specs.declared.routine_kind.RoutineKind.TheVariants as kinds
 use Rattle.typed_trees.specs.Plain.{TypedParam, TypedRoutine, TypedTree}
 use Rattle.rapid_meaning.specs.Answering.{fitting_of, is_trap_row}
 use Rattle.rapid_meaning.specs.Data.{Data, Frame, seen_in, with_seen}
@@ -37,7 +37,7 @@ left_answered : (c : Setting) (g : Ghost) (again : Part) (e : Data) (a : Answer)
     → Goes c g again (after (when_ok a) (λ _. change (λ d. record d { trapped = false }) >> goes_to again) Raises) (own_state_after (calm e) requests.Leave a) e
 unfolding after
 left_answered c g again e answers.Ok part free is fits =
-    again_goes c g again (record e { trapped = false }) part (record { slots = is.slots; frames_are = is.frames_are; in_trap = sym free })
+    again_goes c g again (record e { trapped = false }) part (record { slots = is.slots; frames_are = is.frames_are; called = is.called; in_trap = sym free })
 left_answered c g again e a part free is fits = absurd cc
 
 left_goes : (c : Setting) (g : Ghost) (again : Part) (e : Data) → IsPart c g again → g.trapped ≡ false → IsState c.tree true (frames_in g again) e → Goes c g again (left again) (calm e) e
@@ -75,7 +75,7 @@ interrupted_goes c facts g again trap d part is fits =
     let free : g.trapped ≡ false = sym is.in_trap ∙ not-true d.trapped both.1 in (
       record { not_held = refl; same = refl },
       record { trapped = true; frames = frames_in g again; lists = [] },
-      ((there.0, there.1, takes_nothing c.tree (frames_in g again) there.0 there.2 routine.takes), record { slots = is.slots; frames_are = is.frames_are; in_trap = refl }),
+      ((there.0, there.1, takes_nothing c.tree (frames_in g again) there.0 there.2 routine.takes), record { slots = is.slots; frames_are = is.frames_are; called = is.called; in_trap = refl }),
       λ flow e ends. left_goes c g again e part free ends.1,
       λ n e fails. record { rises = refl; same = refl; asked = record { asked = refl; trapped = true; frames = frames_in g again; state = fails } },
     )
@@ -91,7 +91,7 @@ looked_goes : (c : Setting) (facts : Facts c) (g : Ghost) (again : Part) (go : D
 looked_goes c facts g again go (answers.Go seen) d part safe is fits =
     safe_then (scene_of c facts g again) Anything (IsEnd c g again) (change (λ e. record e { frames = with_seen seen e.frames })) (λ _. go)
     (safe_change (scene_of c facts g again) (λ e. record e { frames = with_seen seen e.frames })
-    (λ e ie. record { slots = ie.slots; frames_are = seen_frames c.tree (frames_in g again) e.frames seen ie.frames_are; in_trap = ie.in_trap }))
+    (λ e ie. record { slots = ie.slots; frames_are = seen_frames c.tree (frames_in g again) e.frames seen ie.frames_are; called = ie.called; in_trap = ie.in_trap }))
     (λ _ _. safe) d is
 looked_goes c facts g again go (answers.Trap number trap) d part safe is fits = interrupted_goes c facts g again trap d part is fits
 looked_goes c facts g again go answers.Flood d part safe is fits = safe_fault (scene_of c facts g again) (IsEnd c g again) TrapFlood d is
@@ -101,7 +101,7 @@ pub look_safe : (c : Setting) (facts : Facts c) (g : Ghost) (again : Part) (w : 
     → Safe (scene_of c facts g again) (IsEnd c g again) (look w byte again go)
 look_safe c facts g again w byte go part safe =
     safe_then (scene_of c facts g again) Anything (IsEnd c g again) (change (λ d. record d { place = place_of w byte })) (λ _. Asks requests.Look (looked again go))
-    (safe_change (scene_of c facts g again) (λ d. record d { place = place_of w byte }) (λ d is. record { slots = is.slots; frames_are = is.frames_are; in_trap = is.in_trap }))
+    (safe_change (scene_of c facts g again) (λ d. record d { place = place_of w byte }) (λ d is. record { slots = is.slots; frames_are = is.frames_are; called = is.called; in_trap = is.in_trap }))
     (λ _ _ d is. (
       record { rises = refl; same = refl; asked = record { asked = tt; trapped = g.trapped; frames = frames_in g again; state = is } },
       refl,

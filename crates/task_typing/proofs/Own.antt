@@ -2,6 +2,7 @@
 use Rattle.std.proofs.Common.{◌≡◌, refl, sym, ap, ◌∙◌, subst, ℕ, Bool, true, false, not, ◌&&◌, List, [], ◌∷◌, ◌++◌, length, map, Option, Some, None, is_some, slice_get, IsTrue, append_assoc}
 use Rattle.std.specs.Prelude.{⊤}
 use Rattle.std.proofs.lemmas.List.{append-nil}
+use Rattle.rapid_num.specs.declared.joints.Joints.{Joints}
 use Rattle.rapid_model.specs.CellData.{CellData}
 use Rattle.rapid_model.specs.Fits.{fits_request}
 use Rattle.rapid_model.specs.Own.{fate_of, has_ended, is_held, is_rise, is_trapped}
@@ -10,6 +11,7 @@ use Rattle.rapid_model.specs.declared.answer.Answer.{Answer}
 use Rattle.rapid_model.specs.declared.event.Event.{Event}
 use Rattle.rapid_model.specs.declared.fate.Fate.{Fate}
 use Rattle.rapid_model.specs.declared.request.Request.{Request}
+use Rattle.rapid_model.specs.declared.request.Request.TheVariants as requests
 use Rattle.rapid_model.specs.declared.task_row.TaskRow.{TaskRow}
 use Rattle.rapid_model.proofs.OwnEvents.{is_held-more}
 use Rattle.typed_trees.specs.Plain.{TypedTree}
@@ -28,7 +30,7 @@ use Rattle.task_typing.proofs.Events.{AreTraps, IsBalanced, balanced_last, going
 use Rattle.task_typing.proofs.Meets.{Due}
 use Rattle.task_typing.proofs.Scene.{rules_of}
 use Rattle.task_typing.proofs.Steps.{Behind, Follows, Stands}
-use Rattle.task_typing.proofs.Suits.{suits}
+use Rattle.task_typing.proofs.Suits.{has_axes, is_armed, suits}
 use Rattle.task_typing.proofs.OwnState.{OwnState, calm, own_state_after}
 use Rattle.task_typing.proofs.Whole.{ComesTo, asked, first_stands, next_follows, state_comes}
 
@@ -36,15 +38,14 @@ use Rattle.task_typing.proofs.Whole.{ComesTo, asked, first_stands, next_follows,
 
 pub record Task : Type 0 where
   pub signals : ℕ
-  pub arm : Bool
   pub cell : CellData
   pub number : ℕ
   pub tree : TypedTree
-  pub typed : WellTyped signals arm tree
+  pub typed : WellTyped signals tree
   pub numbered : Numbered cell number tree
 
 abbrev pub setting_of : Task → Setting
-setting_of t = record { signals = t.signals; arm = t.arm; tree = t.tree }
+setting_of t = record { signals = t.signals; tree = t.tree }
 
 -- something is asked
 pub record IsAsking (o : Outcome ⊤) : Type 0 where
@@ -66,7 +67,7 @@ asked_by t before a NoFuel e comes later = absurd (enough t.tree before e)
 
 asked_before : (t : Task) (before : List Answer) (a : Answer) → IsAsking (state_after t.tree (before ++ a ∷ [])) → IsAsking (state_after t.tree before)
 asked_before t before a later =
-    asked_by t before a (state_after t.tree before) refl (state_comes t.signals t.arm t.cell t.number t.tree before t.typed t.numbered) later
+    asked_by t before a (state_after t.tree before) refl (state_comes t.signals t.cell t.number t.tree before t.typed t.numbered) later
 
 asked_within : (t : Task) (left before : List Answer) → IsAsking (state_after t.tree (before ++ left)) → IsAsking (state_after t.tree before)
 asked_within t [] before later = subst (λ (x : List Answer). IsAsking (state_after t.tree x)) (append-nil before) later
@@ -115,7 +116,7 @@ due_after t told answers stands = due_of t told answers (state_after t.tree answ
 pub first_own_state : (t : Task) → Tells t.tree [] []
 first_own_state t =
     let first : IsDueSo t (calm (initial t.tree)) (state_after t.tree []) =
-    due_after t (calm (initial t.tree)) [] (first_stands t.signals t.arm t.cell t.number t.tree t.typed t.numbered) in
+    due_after t (calm (initial t.tree)) [] (first_stands t.signals t.cell t.number t.tree t.typed t.numbered) in
     record {
       request = first.request;
       standing = first.standing;
@@ -137,7 +138,7 @@ pub behind_next : (t : Task) (before : List Answer) (a : Answer) (mine : List Ev
 behind_next t before a mine tells fits =
     let follows : Follows (rules_of (setting_of t)) (λ (v : ⊤) x. ⊥) (λ n x. ⊥) a (Asking tells.request tells.standing) (state_after t.tree (before ++ a ∷ [])) =
     subst (λ (o : Outcome ⊤). Follows (rules_of (setting_of t)) (λ (v : ⊤) x. ⊥) (λ n x. ⊥) a o (state_after t.tree (before ++ a ∷ []))) tells.asking
-    (next_follows t.signals t.arm t.cell t.number t.tree before a t.typed t.numbered) in
+    (next_follows t.signals t.cell t.number t.tree before a t.typed t.numbered) in
     follows fits
 
 pub own_state_next : (t : Task) (before : List Answer) (a : Answer) (mine : List Event) (tells : Tells t.tree before mine)
@@ -146,7 +147,7 @@ pub own_state_next : (t : Task) (before : List Answer) (a : Answer) (mine : List
 own_state_next t before a mine tells fits untold next =
     let d : Data = tells.standing in
     let e : Event = event_now t before mine tells a in
-    let may : IsAsked (setting_of t) d tells.request = asked t.signals t.arm t.cell t.number t.tree before tells.request d t.typed t.numbered tells.asking in
+    let may : IsAsked (setting_of t) d tells.request = asked t.signals t.cell t.number t.tree before tells.request d t.typed t.numbered tells.asking in
     record {
       request = next.request;
       standing = next.standing;
@@ -216,10 +217,10 @@ same_asked : (o : Outcome ⊤) (r s : Request) (d e : Data) → o ≡ Asking r d
 same_asked o r s d e first second = let one : Asking r d ≡ Asking s e = sym first ∙ second in (cc, cc)
 
 pub may_be_asked : (cell : CellData) (number : ℕ) (row : TaskRow) (tree : TypedTree) (answers : List Answer) (request : Request) → slice_get cell.tasks number ≡ Some row
-    → WellTyped (length cell.signals) (is_some row.arm) tree → Numbered cell number tree → asked_after tree answers ≡ asks request
+    → WellTyped (length cell.signals) tree → Numbered cell number tree → asked_after tree answers ≡ asks request
     → IsTrue (suits_actor cell number (own_events number tree answers) request)
 may_be_asked cell number row tree answers request there typed numbered asking =
-    let t : Task = record { signals = length cell.signals; arm = is_some row.arm; cell = cell; number = number; tree = tree; typed = typed; numbered = numbered } in
+    let t : Task = record { signals = length cell.signals; cell = cell; number = number; tree = tree; typed = typed; numbered = numbered } in
     let mine : List Event = own_events number tree answers in
     let now : (d : Data) × (state_after tree answers ≡ Asking request d) = is_asking tree answers request asking in
     let tells : Tells tree answers mine = asks_as_tree t answers (record { request = request; standing = now.0; is = now.1 }) in
@@ -228,7 +229,21 @@ may_be_asked cell number row tree answers request there typed numbered asking =
     told_trapped mine tells.standing.trapped tells.balanced ∙ ap (λ (d : Data). d.trapped) same.1 in
     rw there
     (all_of (has_ended mine) (is_held mine) (is_rise request) (suits_task cell row mine request) tells.going (tells.held ∙ ap is_rise same.0)
-    (suits cell number row mine (setting_of t) now.0 request refl refl numbered trapped (asked (length cell.signals) (is_some row.arm) cell number tree answers request now.0 typed numbered now.1)))
+    (suits cell number row mine (setting_of t) now.0 request refl (is_armed cell number row tree there numbered) (has_axes cell number row tree there numbered) numbered trapped (asked (length cell.signals) cell number tree answers request now.0 typed numbered now.1)))
+
+-- a setpoint is asked for in no trap
+pub no_trap : (cell : CellData) (number : ℕ) (tree : TypedTree) (answers : List Answer) (to : Joints) → WellTyped (length cell.signals) tree → Numbered cell number tree
+    → asked_after tree answers ≡ asks (requests.Setpoint to) → is_trapped (own_events number tree answers) ≡ false
+no_trap cell number tree answers to typed numbered asking =
+    let t : Task = record { signals = length cell.signals; cell = cell; number = number; tree = tree; typed = typed; numbered = numbered } in
+    let mine : List Event = own_events number tree answers in
+    let now : (d : Data) × (state_after tree answers ≡ Asking (requests.Setpoint to) d) = is_asking tree answers (requests.Setpoint to) asking in
+    let tells : Tells tree answers mine = asks_as_tree t answers (record { request = requests.Setpoint to; standing = now.0; is = now.1 }) in
+    let same : (tells.request ≡ requests.Setpoint to) × (tells.standing ≡ now.0) =
+    same_asked (state_after tree answers) tells.request (requests.Setpoint to) tells.standing now.0 tells.asking now.1 in
+    told_trapped mine tells.standing.trapped tells.balanced
+    ∙ ap (λ (d : Data). d.trapped) same.1
+    ∙ (asked (length cell.signals) cell number tree answers (requests.Setpoint to) now.0 typed numbered now.1).2
 
 -- ---- own events, told by each
 

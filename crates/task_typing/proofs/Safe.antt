@@ -81,15 +81,20 @@ quiet_own_state request a d quiet untrapped =
 abbrev pub Answered : {A : Type 0} → Scene → (A → Type 0) → Request → (Answer → Doing A) → Type 0
 Answered s P request k = (trapped : Bool) (a : Answer) → IsTrue (fits_request (fitting_of s.c.tree trapped) request a) → (is_trap a ≡ false) × Safe s P (k a)
 
-pub safe_asks : {A : Type 0} (s : Scene) (P : A → Type 0) (request : Request) (k : Answer → Doing A) → IsQuiet request → ((d : Data) → IsAsked s.c d request) → Answered s P request k
-    → Safe s P (Asks request k)
-safe_asks s P request k quiet asked answered d is = (
-  record { rises = quiet.no_rise; same = refl; asked = record { asked = asked d; trapped = s.trapped; frames = s.frames; state = is } },
+-- a request that may be asked of data of the scene
+pub safe_asks_in : {A : Type 0} (s : Scene) (P : A → Type 0) (request : Request) (k : Answer → Doing A) → IsQuiet request → ((d : Data) → InScene s d → IsAsked s.c d request)
+    → Answered s P request k → Safe s P (Asks request k)
+safe_asks_in s P request k quiet asked answered d is = (
+  record { rises = quiet.no_rise; same = refl; asked = record { asked = asked d is; trapped = s.trapped; frames = s.frames; state = is } },
   quiet.no_end,
   λ a fits.
       subst (λ (t : OwnState). Meets (rules_of s.c) (λ v x. P v × InScene s x) (λ n x. InScene s x) (k a) t d) (quiet_own_state request a d quiet (answered d.trapped a fits).0)
       ((answered d.trapped a fits).1 d is),
 )
+
+pub safe_asks : {A : Type 0} (s : Scene) (P : A → Type 0) (request : Request) (k : Answer → Doing A) → IsQuiet request → ((d : Data) → IsAsked s.c d request) → Answered s P request k
+    → Safe s P (Asks request k)
+safe_asks s P request k quiet asked answered = safe_asks_in s P request k quiet (λ d _. asked d) answered
 
 -- what is there
 pub safe_or : {A : Type 0} (s : Scene) (P : A → Type 0) (o : Option A) (v : A) → o ≡ Some v → P v → Safe s P (or_misfit o)

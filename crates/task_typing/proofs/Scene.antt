@@ -5,8 +5,8 @@ use Rattle.rapid_model.specs.Paths.{has_sort}
 use Rattle.rapid_model.specs.Sorts.{has_values}
 use Rattle.rapid_model.specs.declared.request.Request.{Request}
 use Rattle.rapid_model.specs.declared.sort.Sort.{Sort}
-use Rattle.raw_trees.specs.declared.raw_routine.RoutineKind.{RoutineKind}
-use Rattle.raw_trees.specs.declared.raw_routine.RoutineKind.TheVariants as kinds
+use Rattle.rapid_model.specs.declared.routine_kind.RoutineKind.{RoutineKind}
+use Rattle.rapid_model.specs.declared.routine_kind.RoutineKind.TheVariants as kinds
 use Rattle.typed_trees.specs.Plain as trees
 use Rattle.typed_trees.specs.Plain.{TypedPers, TypedRoutine, TypedStmt, TypedStmts}
 use Rattle.rapid_meaning.specs.Answering.{sort_of_pers}
@@ -27,7 +27,7 @@ pub record Facts (c : Setting) : Type 0 where
   pub valued : (number : ℕ) (p : TypedPers) → IsPers c.tree number p → IsTrue (has_values p.sort)
   pub routines : All (IsRoutine c) c.tree.routines
   pub meetings : (row : ℕ) → row < length c.tree.meetings → (number : ℕ) × (slice_get c.tree.meeting_of row ≡ Some number)
-  pub few_tasks : length c.tree.tasks ≤ 8
+  pub few_tasks : length c.tree.tasks ≤ 16
 
 -- in a trap or in none, and with frames of these places
 pub record Scene : Type 0 where

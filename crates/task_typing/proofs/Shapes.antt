@@ -1,5 +1,5 @@
 -- Arguments by their needs.
-use Rattle.std.proofs.Common.{ℕ, ◌<◌, Bool, List, [], ◌∷◌, length, IsTrue}
+use Rattle.std.proofs.Common.{ℕ, ◌<◌, Bool, true, false, List, [], ◌∷◌, length, IsTrue}
 use Rattle.rapid_model.specs.declared.sort.Sort.{Sort}
 use Rattle.rapid_model.specs.declared.sort.Sort.TheVariants as sorts
 use Rattle.rapid_builtins.specs.declared.need.Need.{Need}
@@ -62,27 +62,27 @@ pub meeting_needed : (c : Setting) (kinds : List Kind) (P : TypedArg → Type 0)
 meeting_needed c kinds P p (OfMeeting meeting) is = p meeting is
 meeting_needed c kinds P p a is = absurd is
 
-pub var_needed : (c : Setting) (kinds : List Kind) (P : TypedArg → Type 0) (sort : Sort) → ((p : TypedPlace) → IsPlace c kinds p sort → P (Lent p))
+pub var_needed : (c : Setting) (kinds : List Kind) (P : TypedArg → Type 0) (sort : Sort) → ((p : TypedPlace) → IsPlace c kinds true p sort → P (Lent p))
     → (a : TypedArg) → IsArg c kinds a (needs.Var sort) → P a
 var_needed c kinds P sort p (Lent place) is = p place is
 var_needed c kinds P sort p a is = absurd is
 
-pub pers_needed : (c : Setting) (kinds : List Kind) (P : TypedArg → Type 0) (sort : Sort) → ((p : TypedPlace) → IsPlace c kinds p sort → P (Lent p))
+pub pers_needed : (c : Setting) (kinds : List Kind) (P : TypedArg → Type 0) (sort : Sort) → ((p : TypedPlace) → IsPlace c kinds true p sort → P (Lent p))
     → (a : TypedArg) → IsArg c kinds a (needs.Pers sort) → P a
 pers_needed c kinds P sort p (Lent place) is = p place is
 pers_needed c kinds P sort p a is = absurd is
 
-pub written_needed : (c : Setting) (kinds : List Kind) (P : TypedArg → Type 0) (sort : Sort) → ((p : TypedPlace) → IsPlace c kinds p sort → P (Lent p))
+pub written_needed : (c : Setting) (kinds : List Kind) (P : TypedArg → Type 0) (sort : Sort) → ((p : TypedPlace) → IsPlace c kinds true p sort → P (Lent p))
     → (a : TypedArg) → IsArg c kinds a (needs.Written sort) → P a
 written_needed c kinds P sort p (Lent place) is = p place is
 written_needed c kinds P sort p a is = absurd is
 
-pub place_needed : (c : Setting) (kinds : List Kind) (P : TypedArg → Type 0) (sort : Sort) → ((p : TypedPlace) → IsPlace c kinds p sort → P (Lent p))
+pub place_needed : (c : Setting) (kinds : List Kind) (P : TypedArg → Type 0) (sort : Sort) → ((p : TypedPlace) → IsPlace c kinds false p sort → P (Lent p))
     → (a : TypedArg) → IsArg c kinds a (needs.Place sort) → P a
 place_needed c kinds P sort p (Lent place) is = p place is
 place_needed c kinds P sort p a is = absurd is
 
-pub zone_needed : (c : Setting) (kinds : List Kind) (P : TypedArg → Type 0) → ((p : TypedPlace) (sort : Sort) → IsTrue (is_zone sort) → IsPlace c kinds p sort → P (Lent p))
+pub zone_needed : (c : Setting) (kinds : List Kind) (P : TypedArg → Type 0) → ((p : TypedPlace) (sort : Sort) → IsTrue (is_zone sort) → IsPlace c kinds true p sort → P (Lent p))
     → (a : TypedArg) → IsArg c kinds a needs.WorldZone → P a
 zone_needed c kinds P p (Lent place) is = p place is.0 is.1 is.2
 zone_needed c kinds P p a is = absurd is

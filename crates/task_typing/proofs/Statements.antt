@@ -9,7 +9,7 @@ use Rattle.rapid_model.specs.declared.sort.Sort.TheVariants as sorts
 use Rattle.rapid_model.specs.declared.value.Value.{Value}
 use Rattle.rapid_model.specs.declared.value.Value.TheVariants as values
 use Rattle.rapid_model.specs.Sorts.{is_compared}
-use Rattle.raw_trees.specs.declared.raw_expr.Operator.TheVariants as operators
+use Rattle.rapid_model.specs.declared.operator.Operator.TheVariants as operators
 use Rattle.rapid_operators.specs.Operators.{apply}
 use Rattle.typed_trees.specs.Plain as trees
 use Rattle.typed_trees.specs.Plain.{TypedArms, TypedCases, TypedElse, TypedExpr, TypedExprs, TypedRoutine, TypedStmt, TypedStmts, NoExprs, MoreExprs, NoStmts, MoreStmts, NoArms, MoreArms, NoCases, MoreCases, NoElse, Else}
@@ -31,7 +31,7 @@ use Rattle.rapid_meaning.specs.Statements.{again_behind, and_then, assign, byte_
 use Rattle.rapid_meaning.specs.Values.{applied, num_in, truth_in}
 use Rattle.rapid_meaning.specs.Doings as doings
 use Rattle.task_typing.specs.Expressions.{AreArgs, IsExpr, IsPlace}
-use Rattle.task_typing.specs.Kinds.{Counts, Holds, Kind, cells_of, kind_of, kinds_of, need_of}
+use Rattle.task_typing.specs.Kinds.{Counts, Kind, cells_of, kind_of, kinds_of, need_of}
 use Rattle.task_typing.specs.Setting.{Setting}
 use Rattle.task_typing.specs.Statements.{Around, AreArms, AreCaseValues, AreCases, AreStmts, IsElse, IsStep, IsStmt, Sees, into}
 use Rattle.task_typing.proofs.Acts.{connect_safe, number_safe, num_expr, truth_expr, when_safe}
@@ -41,8 +41,7 @@ use Rattle.task_typing.proofs.Instructions.{instructed_safe}
 use Rattle.task_typing.proofs.Loads.{read_safe, store_safe, truth_safe}
 use Rattle.task_typing.proofs.Looks.{hold_safe, look_safe}
 use Rattle.task_typing.proofs.Operators.{apply_is, applied_safe}
-use Rattle.task_typing.proofs.Places.{Inside, IsThere, num_safe, own_safe, row_cell, scene}
-use Rattle.task_typing.proofs.Rows.{at_repeated}
+use Rattle.task_typing.proofs.Places.{Inside, IsThere, num_safe, count_cell, own_safe, scene}
 use Rattle.task_typing.proofs.Safe.{Anything, Safe, safe_after, safe_any, safe_change, safe_does, safe_ends, safe_fault, safe_gives, safe_goes, safe_raises, safe_reads, safe_then}
 use Rattle.task_typing.proofs.Scene.{AreErrors, Facts, Ghost, IsFlow, IsFor, IsPart, IsResult, Scene, around_of, is_in_part}
 
@@ -77,7 +76,7 @@ failed_by c facts g w s (InPart entered) error part are = safe_raises (place_of 
 failed_by c facts g w s (Guarded list) error part are =
     safe_then (place_of c facts g w) Anything (IsFlow (around_of w g.lists)) (change (λ d. record d { errno = error }))
     (λ _. doings.Does (Rest (record w { errors = InPart error }) list list) (parted w s error) Raises)
-    (safe_change (place_of c facts g w) (λ d. record d { errno = error }) (λ d is. record { slots = is.slots; frames_are = is.frames_are; in_trap = is.in_trap }))
+    (safe_change (place_of c facts g w) (λ d. record d { errno = error }) (λ d is. record { slots = is.slots; frames_are = is.frames_are; called = is.called; in_trap = is.in_trap }))
     (λ _ _. safe_does c facts (record { trapped = g.trapped; frames = g.frames; lists = [] }) (Rest (record w { errors = InPart error }) list list) (IsFlow (around_of w g.lists)) (parted w s error) Raises
     (tt, are, are) (λ flow ends. parted_safe c facts g w s error flow part ends) (safe_raises (place_of c facts g w) (IsFlow (around_of w g.lists))))
 
@@ -102,9 +101,9 @@ then_safe c facts g w next (Returns v) safe is = safe_gives (place_of c facts g 
 then_safe c facts g w next Retries safe is = safe_gives (place_of c facts g w) (IsFlow (around_of w g.lists)) Retries is
 then_safe c facts g w next Skips safe is = safe_gives (place_of c facts g w) (IsFlow (around_of w g.lists)) Skips is
 
-assign_safe : (i : Inside) (p : trees.TypedPlace) (e : TypedExpr) (sort : Sort) → IsPlace i.c (kinds_of i.routine) p sort → IsExpr i.c (kinds_of i.routine) e sort → Safe (scene i) Anything (assign i.c.tree i.routine p e)
+assign_safe : (i : Inside) (p : trees.TypedPlace) (e : TypedExpr) (sort : Sort) → IsPlace i.c (kinds_of i.routine) true p sort → IsExpr i.c (kinds_of i.routine) e sort → Safe (scene i) Anything (assign i.c.tree i.routine p e)
 assign_safe i p e sort ip ie =
-    safe_then (scene i) (λ q. IsThere (scene i) q sort) Anything (place i.c.tree i.routine p) (λ q. expr i.c.tree i.routine e >>= write_value q) (place_safe i p sort ip)
+    safe_then (scene i) (λ q. IsThere (scene i) true q sort) Anything (place i.c.tree i.routine p) (λ q. expr i.c.tree i.routine e >>= write_value q) (place_safe i true p sort ip)
     (λ q at. safe_then (scene i) (HasSort sort) Anything (expr i.c.tree i.routine e) (write_value q) (expr_safe i e sort ie) (λ v h. store_safe (scene i) q sort (datums.Plain v) at h))
 
 call_stmt : (i : Inside) (called : ℕ) (routine : TypedRoutine) (args : trees.TypedArgs) → slice_get i.c.tree.routines called ≡ Some routine
@@ -128,10 +127,10 @@ again_safe c facts g w (InPart entered) is = safe_raises (place_of c facts g w) 
 again_safe c facts g w Unguarded is = absurd cc
 again_safe c facts g w (Guarded list) is = absurd cc
 
-connects_safe : (i : Inside) (p : trees.TypedPlace) (trap : ℕ) → IsTrue (is_trap_row (slice_get i.c.tree.routines trap)) → IsPlace i.c (kinds_of i.routine) p sorts.IntNum → Safe (scene i) Anything (connects i.c.tree i.routine p trap)
+connects_safe : (i : Inside) (p : trees.TypedPlace) (trap : ℕ) → IsTrue (is_trap_row (slice_get i.c.tree.routines trap)) → IsPlace i.c (kinds_of i.routine) true p sorts.IntNum → Safe (scene i) Anything (connects i.c.tree i.routine p trap)
 connects_safe i p trap there is =
-    safe_then (scene i) (λ q. IsThere (scene i) q sorts.IntNum) Anything (place i.c.tree i.routine p) (λ q. number_at q >>= λ old. connect q old trap) (place_safe i p sorts.IntNum is)
-    (λ q at. safe_then (scene i) Anything Anything (number_at q) (λ old. connect q old trap) (number_safe (scene i) q sorts.IntNum refl at) (λ old _. connect_safe (scene i) q old trap there at))
+    safe_then (scene i) (λ q. IsThere (scene i) true q sorts.IntNum) Anything (place i.c.tree i.routine p) (λ q. number_at q >>= λ old. connect q old trap) (place_safe i true p sorts.IntNum is)
+    (λ q at. safe_then (scene i) Anything Anything (number_at q) (λ old. connect q old trap) (number_safe (scene i) true q sorts.IntNum refl at) (λ old _. connect_safe (scene i) q old trap there at))
 
 -- IF and TEST choose a list
 chosen_safe : (i : Inside) (around : Around) (arms : TypedArms) (other : TypedElse) → around.places ≡ kinds_of i.routine → AreArms i.c around arms → IsElse i.c around other
@@ -164,27 +163,27 @@ selected_safe i around sort v (MoreCases es list more) other same compared h are
     (λ _. selected_safe i around sort v more other same compared h are.2 is))
 
 -- the three data of a FOR
-counter_place_safe : (i : Inside) (local which : ℕ) → slice_get (kinds_of i.routine) local ≡ Some Counts → which < 3 → Safe (scene i) (λ q. IsThere (scene i) q sorts.Num) (counter_place i.routine local which)
+counter_place_safe : (i : Inside) (local which : ℕ) → slice_get (kinds_of i.routine) local ≡ Some Counts → which < 3 → Safe (scene i) (λ q. IsThere (scene i) true q sorts.Num) (counter_place i.routine local which)
 counter_place_safe i local which e few =
-    safe_reads (scene i) (λ q. IsThere (scene i) q sorts.Num) (λ d. doings.or_misfit (own_place (local_start i.routine local + which) d.frames))
-    (own_safe i (λ q. IsThere (scene i) q sorts.Num) (local_start i.routine local + which) (row_cell i local which Counts sorts.Num e (at_repeated 3 which (Holds sorts.Num) few) few))
+    safe_reads (scene i) (λ q. IsThere (scene i) true q sorts.Num) (λ d. doings.or_misfit (own_place (local_start i.routine local + which) d.frames))
+    (own_safe i (λ q. IsThere (scene i) true q sorts.Num) (local_start i.routine local + which) (count_cell i local which e few))
 
 counter_safe : (i : Inside) (local which : ℕ) → slice_get (kinds_of i.routine) local ≡ Some Counts → which < 3 → Safe (scene i) Anything (counter i.routine local which)
 counter_safe i local which e few =
-    safe_then (scene i) (λ q. IsThere (scene i) q sorts.Num) Anything (counter_place i.routine local which) (λ p. read_value p >>= num_in) (counter_place_safe i local which e few)
-    (λ q at. safe_then (scene i) (HasSort sorts.Num) Anything (read_value q) num_in (read_safe (scene i) q sorts.Num refl at) (λ v h. num_safe (scene i) v h))
+    safe_then (scene i) (λ q. IsThere (scene i) true q sorts.Num) Anything (counter_place i.routine local which) (λ p. read_value p >>= num_in) (counter_place_safe i local which e few)
+    (λ q at. safe_then (scene i) (HasSort sorts.Num) Anything (read_value q) num_in (read_safe (scene i) true q sorts.Num refl at) (λ v h. num_safe (scene i) v h))
 
 set_safe : (i : Inside) (local which : ℕ) (n : ℤ) → slice_get (kinds_of i.routine) local ≡ Some Counts → which < 3 → Safe (scene i) Anything (set_counter i.routine local which n)
 set_safe i local which n e few =
-    safe_then (scene i) (λ q. IsThere (scene i) q sorts.Num) Anything (counter_place i.routine local which) (λ p. write_value p (values.Num n)) (counter_place_safe i local which e few)
+    safe_then (scene i) (λ q. IsThere (scene i) true q sorts.Num) Anything (counter_place i.routine local which) (λ p. write_value p (values.Num n)) (counter_place_safe i local which e few)
     (λ q at. store_safe (scene i) q sorts.Num (datums.Plain (values.Num n)) at refl)
 
 -- a num is stored in one of them
-write_safe : (i : Inside) (q : Lvalue) (n : ℤ) → IsThere (scene i) q sorts.Num → Safe (scene i) Anything (write_value q (values.Num n))
+write_safe : (i : Inside) (q : Lvalue) (n : ℤ) → IsThere (scene i) true q sorts.Num → Safe (scene i) Anything (write_value q (values.Num n))
 write_safe i q n at = store_safe (scene i) q sorts.Num (datums.Plain (values.Num n)) at refl
 
 -- the bounds with a step, as they are evaluated
-stored_safe : (i : Inside) (p q r : Lvalue) (from to by : ℤ) → IsThere (scene i) p sorts.Num → IsThere (scene i) q sorts.Num → IsThere (scene i) r sorts.Num
+stored_safe : (i : Inside) (p q r : Lvalue) (from to by : ℤ) → IsThere (scene i) true p sorts.Num → IsThere (scene i) true q sorts.Num → IsThere (scene i) true r sorts.Num
     → Safe (scene i) Anything (write_value r (values.Num by) >> (write_value q (values.Num to) >> write_value p (values.Num from)))
 stored_safe i p q r from to by at_p at_q at_r =
     safe_then (scene i) Anything Anything (write_value r (values.Num by)) (λ _. write_value q (values.Num to) >> write_value p (values.Num from)) (write_safe i r by at_r)
@@ -192,7 +191,7 @@ stored_safe i p q r from to by at_p at_q at_r =
     (λ _ _. write_safe i p from at_p))
 
 -- a step by the two others, as they are stored
-found_safe : (i : Inside) (local : ℕ) (r : Lvalue) → slice_get (kinds_of i.routine) local ≡ Some Counts → IsThere (scene i) r sorts.Num
+found_safe : (i : Inside) (local : ℕ) (r : Lvalue) → slice_get (kinds_of i.routine) local ≡ Some Counts → IsThere (scene i) true r sorts.Num
     → Safe (scene i) Anything (counter i.routine local 0 >>= λ begins. counter i.routine local 1 >>= λ ends. write_value r (values.Num (direction begins ends)))
 found_safe i local r e at_r =
     safe_then (scene i) Anything Anything (counter i.routine local 0) (λ begins. counter i.routine local 1 >>= λ ends. write_value r (values.Num (direction begins ends)))
@@ -203,21 +202,21 @@ found_safe i local r e at_r =
 bounds_safe : (i : Inside) (local : ℕ) (first last : TypedExpr) (step : Option TypedExpr) → slice_get (kinds_of i.routine) local ≡ Some Counts → IsExpr i.c (kinds_of i.routine) first sorts.Num
     → IsExpr i.c (kinds_of i.routine) last sorts.Num → IsStep i.c (kinds_of i.routine) step → Safe (scene i) Anything (bounds i.c.tree i.routine local first last step)
 bounds_safe i local first last (Some step) e ifirst ilast istep =
-    safe_then (scene i) (λ p. IsThere (scene i) p sorts.Num) Anything (counter_place i.routine local 0) _ (counter_place_safe i local 0 e (omega arith))
+    safe_then (scene i) (λ p. IsThere (scene i) true p sorts.Num) Anything (counter_place i.routine local 0) _ (counter_place_safe i local 0 e (omega arith))
     (λ p at_p. safe_then (scene i) Anything Anything (num i.c.tree i.routine first) _ (num_expr i first ifirst)
-    (λ from _. safe_then (scene i) (λ q. IsThere (scene i) q sorts.Num) Anything (counter_place i.routine local 1) _ (counter_place_safe i local 1 e (omega arith))
+    (λ from _. safe_then (scene i) (λ q. IsThere (scene i) true q sorts.Num) Anything (counter_place i.routine local 1) _ (counter_place_safe i local 1 e (omega arith))
     (λ q at_q. safe_then (scene i) Anything Anything (num i.c.tree i.routine last) _ (num_expr i last ilast)
-    (λ to _. safe_then (scene i) (λ r. IsThere (scene i) r sorts.Num) Anything (counter_place i.routine local 2) _ (counter_place_safe i local 2 e (omega arith))
+    (λ to _. safe_then (scene i) (λ r. IsThere (scene i) true r sorts.Num) Anything (counter_place i.routine local 2) _ (counter_place_safe i local 2 e (omega arith))
     (λ r at_r. safe_then (scene i) Anything Anything (num i.c.tree i.routine step) _ (num_expr i step istep)
     (λ by _. stored_safe i p q r from to by at_p at_q at_r))))))
 bounds_safe i local first last None e ifirst ilast istep =
-    safe_then (scene i) (λ p. IsThere (scene i) p sorts.Num) Anything (counter_place i.routine local 0) _ (counter_place_safe i local 0 e (omega arith))
+    safe_then (scene i) (λ p. IsThere (scene i) true p sorts.Num) Anything (counter_place i.routine local 0) _ (counter_place_safe i local 0 e (omega arith))
     (λ p at_p. safe_then (scene i) Anything Anything (num i.c.tree i.routine first) _ (num_expr i first ifirst)
-    (λ from _. safe_then (scene i) (λ q. IsThere (scene i) q sorts.Num) Anything (counter_place i.routine local 1) _ (counter_place_safe i local 1 e (omega arith))
+    (λ from _. safe_then (scene i) (λ q. IsThere (scene i) true q sorts.Num) Anything (counter_place i.routine local 1) _ (counter_place_safe i local 1 e (omega arith))
     (λ q at_q. safe_then (scene i) Anything Anything (num i.c.tree i.routine last) _ (num_expr i last ilast)
     (λ to _. safe_then (scene i) Anything Anything (write_value q (values.Num to)) _ (write_safe i q to at_q)
     (λ _ _. safe_then (scene i) Anything Anything (write_value p (values.Num from)) _ (write_safe i p from at_p)
-    (λ _ _. safe_then (scene i) (λ r. IsThere (scene i) r sorts.Num) Anything (counter_place i.routine local 2) _ (counter_place_safe i local 2 e (omega arith))
+    (λ _ _. safe_then (scene i) (λ r. IsThere (scene i) true r sorts.Num) Anything (counter_place i.routine local 2) _ (counter_place_safe i local 2 e (omega arith))
     (λ r at_r. found_safe i local r e at_r)))))))
 
 -- the next turn of a FOR

@@ -1,10 +1,12 @@
 -- What a well typed task asks suits it.
-use Rattle.std.proofs.Common.{◌≡◌, refl, sym, ap, ◌∙◌, subst, ℕ, ◌<◌, ◌^◌, Bool, true, false, ◌&&◌, nat_lt, List, length, Option, Some, None, is_some, slice_get, IsTrue, arith}
+use Rattle.std.proofs.Common.{◌≡◌, refl, sym, ap, ◌∙◌, subst, ℕ, ◌<◌, ◌^◌, Bool, true, false, ◌&&◌, nat_le, nat_lt, List, length, Option, Some, None, is_some, slice_get, IsTrue, arith}
 use Rattle.std.proofs.lemmas.List.{length-map}
-use Rattle.std.proofs.lemmas.Bool.{lt-ltb, and_from}
+use Rattle.std.proofs.lemmas.Bool.{and_from, and_parts, eqb-true, leb-true, lt-ltb}
 use Rattle.std.proofs.lemmas.Option.{slice_get_within}
 use Rattle.rapid_num.specs.Reach.{is_position}
+use Rattle.rapid_num.specs.declared.joints.Joints.{Joints}
 use Rattle.rapid_model.specs.CellData.{CellData}
+use Rattle.rapid_model.specs.Limits.{is_start, is_within}
 use Rattle.rapid_model.specs.Own.{is_trapped}
 use Rattle.rapid_model.specs.Paths.{fits_part, has_element, part_sort}
 use Rattle.rapid_model.specs.Requests.{can_watch, is_bool, of_pers, suits_task}
@@ -22,7 +24,7 @@ use Rattle.typed_trees.specs.Plain.{TypedPers, TypedTree}
 use Rattle.rapid_meaning.specs.Data.{Data}
 use Rattle.task_typing.specs.Asked.{CanWatch, IsAsked}
 use Rattle.task_typing.specs.Numbered.{IsOne, Numbered}
-use Rattle.task_typing.specs.Setting.{Setting}
+use Rattle.task_typing.specs.Setting.{Setting, has_arm}
 use Rattle.task_typing.specs.States.{IsPers}
 
 of_cell : (cell : CellData) (pers : ℕ) (test : PersCell → Bool) (row : PersCell) → slice_get cell.pers pers ≡ Some row → test row ≡ true → of_pers cell pers test ≡ true
@@ -50,34 +52,54 @@ watches cell number c (watched.Pers pers) same numbered can =
     let one : IsOne cell can.0 pers = numbered.pers can.1.row pers can.0 can.1.numbered can.1.there in
     lt-ltb pers (length cell.pers) (slice_get_within cell.pers pers one.cell_row one.there)
 
-pub suits : (cell : CellData) (number : ℕ) (row : TaskRow) (mine : List Event) (c : Setting) (d : Data) (request : Request) → c.signals ≡ length cell.signals → c.arm ≡ is_some row.arm
+-- an arm has axes, and where there is none there are none
+start_armed : (axes : ℕ) (arm : Option Joints) → is_start axes arm ≡ true → nat_lt 0 axes ≡ is_some arm
+start_armed axes None start = ap (nat_lt 0) (eqb-true axes 0 start)
+start_armed axes (Some arm) start =
+    let within = (and_parts (is_within 6 12 axes) (is_position axes arm) start).0 in
+    lt-ltb 0 axes (omega (arith, leb-true 6 axes (and_parts (nat_le 6 axes) (nat_le axes 12) within).0))
+
+one_row : (row other : TaskRow) (o : Option TaskRow) → o ≡ Some row → o ≡ Some other → row ≡ other
+one_row row other o is also = cc
+
+-- the task's row in the cell has as many axes as its tree, and an arm where there are some
+pub has_axes : (cell : CellData) (number : ℕ) (row : TaskRow) (tree : TypedTree) → slice_get cell.tasks number ≡ Some row → Numbered cell number tree → tree.axes ≡ row.axes
+has_axes cell number row tree there numbered =
+    numbered.axes ∙ ap (λ (r : TaskRow). r.axes) (one_row numbered.task_row row (slice_get cell.tasks number) numbered.there there)
+
+pub is_armed : (cell : CellData) (number : ℕ) (row : TaskRow) (tree : TypedTree) → slice_get cell.tasks number ≡ Some row → Numbered cell number tree → nat_lt 0 tree.axes ≡ is_some row.arm
+is_armed cell number row tree there numbered =
+    ap (nat_lt 0) numbered.axes ∙ start_armed numbered.task_row.axes numbered.task_row.arm numbered.starts
+    ∙ ap (λ (r : TaskRow). is_some r.arm) (one_row numbered.task_row row (slice_get cell.tasks number) numbered.there there)
+
+pub suits : (cell : CellData) (number : ℕ) (row : TaskRow) (mine : List Event) (c : Setting) (d : Data) (request : Request) → c.signals ≡ length cell.signals → has_arm c ≡ is_some row.arm → c.tree.axes ≡ row.axes
     → Numbered cell number c.tree → is_trapped mine ≡ d.trapped → IsAsked c d request → IsTrue (suits_task cell row mine request)
-suits cell number row mine c d (requests.ReadP pers path) signals arm numbered trapped asked =
+suits cell number row mine c d (requests.ReadP pers path) signals arm axes numbered trapped asked =
     of_row cell number c.tree pers asked.0 (λ sort len. has_element len path.index && is_some (part_sort sort path.part)) numbered asked.1
     (and_from (has_element asked.0.len path.index) (is_some (part_sort asked.0.sort path.part)) asked.2 asked.3)
-suits cell number row mine c d (requests.WriteP pers path value) signals arm numbered trapped asked =
+suits cell number row mine c d (requests.WriteP pers path value) signals arm axes numbered trapped asked =
     of_row cell number c.tree pers asked.0 (λ sort len. (has_element len path.index && is_some (part_sort sort path.part)) && fits_part sort path.part value) numbered asked.1
     (and_from (has_element asked.0.len path.index && is_some (part_sort asked.0.sort path.part)) (fits_part asked.0.sort path.part value)
     (and_from (has_element asked.0.len path.index) (is_some (part_sort asked.0.sort path.part)) asked.2 (fits_some asked.0.sort path.part value asked.3)) asked.3)
-suits cell number row mine c d (requests.TestSet pers path) signals arm numbered trapped asked =
+suits cell number row mine c d (requests.TestSet pers path) signals arm axes numbered trapped asked =
     of_row cell number c.tree pers asked.0 (λ sort len. (has_element len path.index && is_some (part_sort sort path.part)) && is_bool (part_sort sort path.part)) numbered asked.1
     (and_from (has_element asked.0.len path.index && is_some (part_sort asked.0.sort path.part)) (is_bool (part_sort asked.0.sort path.part))
     (and_from (has_element asked.0.len path.index) (is_some (part_sort asked.0.sort path.part)) asked.2 (ap is_some asked.3)) (ap is_bool asked.3))
-suits cell number row mine c d (requests.ReadS signal) signals arm numbered trapped asked = lt-ltb signal (length cell.signals) (omega (arith, asked, signals))
-suits cell number row mine c d (requests.WriteS signal value) signals arm numbered trapped asked = lt-ltb signal (length cell.signals) (omega (arith, asked, signals))
-suits cell number row mine c d requests.Position signals arm numbered trapped asked = sym arm ∙ asked
-suits cell number row mine c d (requests.Setpoint to) signals arm numbered trapped asked = and_from (is_some row.arm) (is_position to) (sym arm ∙ asked.0) asked.1
-suits cell number row mine c d (requests.Order n on single) signals arm numbered trapped asked = watches cell number c on signals numbered asked
-suits cell number row mine c d requests.Leave signals arm numbered trapped asked = trapped ∙ asked
-suits cell number row mine c d (requests.ZoneSet old temporary shape) signals arm numbered trapped asked = sym arm ∙ asked
-suits cell number row mine c d (requests.ZoneTie old temporary shape signal value) signals arm numbered trapped asked = absurd asked
-suits cell number row mine c d (requests.ZoneOn zone) signals arm numbered trapped asked = sym arm ∙ asked
-suits cell number row mine c d (requests.ZoneOff zone) signals arm numbered trapped asked = sym arm ∙ asked
-suits cell number row mine c d (requests.ZoneFree zone) signals arm numbered trapped asked = sym arm ∙ asked
-suits cell number row mine c d (requests.Arrive meeting tasks) signals arm numbered trapped asked =
+suits cell number row mine c d (requests.ReadS signal) signals arm axes numbered trapped asked = lt-ltb signal (length cell.signals) (omega (arith, asked, signals))
+suits cell number row mine c d (requests.WriteS signal value) signals arm axes numbered trapped asked = lt-ltb signal (length cell.signals) (omega (arith, asked, signals))
+suits cell number row mine c d requests.Position signals arm axes numbered trapped asked = sym arm ∙ asked
+suits cell number row mine c d (requests.Setpoint to) signals arm axes numbered trapped asked = and_from (is_some row.arm) (is_position row.axes to) (sym arm ∙ asked.0) (subst (λ (count : ℕ). is_position count to ≡ true) axes asked.1)
+suits cell number row mine c d (requests.Order n on single) signals arm axes numbered trapped asked = watches cell number c on signals numbered asked
+suits cell number row mine c d requests.Leave signals arm axes numbered trapped asked = trapped ∙ asked
+suits cell number row mine c d (requests.ZoneSet old temporary shape) signals arm axes numbered trapped asked = sym arm ∙ asked
+suits cell number row mine c d (requests.ZoneTie old temporary shape signal value) signals arm axes numbered trapped asked = absurd asked
+suits cell number row mine c d (requests.ZoneOn zone) signals arm axes numbered trapped asked = sym arm ∙ asked
+suits cell number row mine c d (requests.ZoneOff zone) signals arm axes numbered trapped asked = sym arm ∙ asked
+suits cell number row mine c d (requests.ZoneFree zone) signals arm axes numbered trapped asked = sym arm ∙ asked
+suits cell number row mine c d (requests.Arrive meeting tasks) signals arm axes numbered trapped asked =
     let as_many : length c.tree.tasks ≡ length cell.tasks = ap length numbered.tasks ∙ length-map cell.tasks (λ (r : TaskRow). r.name) in
     and_from (nat_lt meeting (length cell.meetings)) (nat_lt tasks (2 ^ length cell.tasks)) (lt-ltb meeting (length cell.meetings) (numbered.meetings asked.0 meeting asked.1))
     (lt-ltb tasks (2 ^ length cell.tasks) (subst (λ (n : ℕ). tasks < 2 ^ n) as_many asked.2))
-suits cell number row mine c d (requests.Input index) signals arm numbered trapped asked = absurd asked
-suits cell number row mine c d (requests.End fate) signals arm numbered trapped asked = asked
-suits cell number row mine c d request signals arm numbered trapped asked = refl
+suits cell number row mine c d (requests.Input index) signals arm axes numbered trapped asked = absurd asked
+suits cell number row mine c d (requests.End fate) signals arm axes numbered trapped asked = asked
+suits cell number row mine c d request signals arm axes numbered trapped asked = refl

@@ -1,11 +1,12 @@
 -- A task whose own events have answers that fit by the cell asks on until its End.
 use Rattle.std.proofs.Common.{◌≡◌, ◌⊎◌, inl, inr, ⊎_elim, refl, sym, ap, ap₂, ◌∙◌, subst, ℕ, Bool, true, false, not, List, [], ◌∷◌, ◌++◌, map, Option, Some, None, is_some, slice_get, IsTrue, append_assoc}
-use Rattle.std.specs.Prelude.{⊤}
+use Rattle.std.specs.Prelude.{⊤, unwrap_or}
 use Rattle.std.specs.Option.{option_map, option_or}
 use Rattle.std.proofs.lemmas.Bool.{and_from, and_parts}
 use Rattle.std.proofs.lemmas.List.{append-nil, map-append}
+use Rattle.rapid_num.specs.Reach.{is_position}
 use Rattle.rapid_model.specs.CellData.{CellData}
-use Rattle.rapid_model.specs.Fits.{fits_pers, fits_request, fitting_in}
+use Rattle.rapid_model.specs.Fits.{axes_of, fits_pers, fits_request, fitting_in}
 use Rattle.rapid_model.specs.Own.{end_of, fate_of, has_connected, has_ended, is_trapped}
 use Rattle.rapid_model.specs.declared.answer.Answer.{Answer}
 use Rattle.rapid_model.specs.declared.answer.Answer.TheVariants as answers
@@ -14,6 +15,7 @@ use Rattle.rapid_model.specs.declared.fate.Fate.{Fate}
 use Rattle.rapid_model.specs.declared.request.Request.{Request}
 use Rattle.rapid_model.specs.declared.request.Request.TheVariants as requests
 use Rattle.rapid_model.specs.declared.sort.Sort.{Sort}
+use Rattle.rapid_model.specs.declared.task_row.TaskRow.{TaskRow}
 use Rattle.typed_trees.specs.Plain.{TypedPers, TypedTree}
 use Rattle.rapid_meaning.specs.Answering.{Ended, fitting_of, is_trap_row, sort_of_pers}
 use Rattle.rapid_meaning.specs.Data.{Data}
@@ -36,22 +38,28 @@ use Rattle.task_typing.proofs.Whole.{asked, facts_of}
 same_sort : (t : Task) (pers : ℕ) (p : TypedPers) → IsPers t.tree pers p → option_map (λ row. row.sort) (slice_get t.cell.pers pers) ≡ sort_of_pers t.tree.pers_of t.tree.pers pers
 same_sort t pers p is =
     let one : IsOne t.cell p pers = t.numbered.pers is.row pers p is.numbered is.there in
-    ap (option_map (λ row. row.sort)) one.there ∙ ap Some one.same_sort ∙ sym ((facts_of t.signals t.arm t.cell t.number t.tree t.typed t.numbered).sorts pers p is)
+    ap (option_map (λ row. row.sort)) one.there ∙ ap Some one.same_sort ∙ sym ((facts_of t.signals t.cell t.number t.tree t.typed t.numbered).sorts pers p is)
+
+-- and as many axes of the arm
+same_axes : (t : Task) → axes_of t.cell t.number ≡ t.tree.axes
+same_axes t = ap (λ (o : Option TaskRow). unwrap_or (option_map (λ row. row.axes) o) 0) t.numbered.there ∙ sym t.numbered.axes
 
 tree_fits : (t : Task) (mine : List Event) (d : Data) (request : Request) (a : Answer) → IsAsked (setting_of t) d request → is_trapped mine ≡ d.trapped → AreTraps t.tree mine
-    → IsTrue (fits_request (fitting_in t.cell mine) request a) → IsTrue (fits_request (fitting_of t.tree d.trapped) request a)
+    → IsTrue (fits_request (fitting_in t.cell t.number mine) request a) → IsTrue (fits_request (fitting_of t.tree d.trapped) request a)
 tree_fits t mine d requests.Look (answers.Trap number trap) may trapped traps fits =
     let both = and_parts (has_connected mine trap) (not (is_trapped mine)) fits in
     and_from (is_trap_row (slice_get t.tree.routines trap)) (not d.trapped) (traps trap both.0) (ap not (sym trapped) ∙ both.1)
 tree_fits t mine d requests.Look a may trapped traps fits = fits
 tree_fits t mine d (requests.ReadP pers path) (answers.Val v) may trapped traps fits = subst (λ (o : Option Sort). IsTrue (fits_pers o path.part v)) (same_sort t pers may.0 may.1) fits
 tree_fits t mine d (requests.ReadP pers path) a may trapped traps fits = fits
+tree_fits t mine d requests.Position (answers.At position) may trapped traps fits = subst (λ (axes : ℕ). IsTrue (is_position axes position)) (same_axes t) fits
+tree_fits t mine d requests.Position a may trapped traps fits = fits
 tree_fits t mine d request a may trapped traps fits = fits
 
-told_fits : (t : Task) (before : List Answer) (mine : List Event) (tells : Tells t.tree before mine) (a : Answer) → IsTrue (fits_request (fitting_in t.cell mine) tells.request a)
+told_fits : (t : Task) (before : List Answer) (mine : List Event) (tells : Tells t.tree before mine) (a : Answer) → IsTrue (fits_request (fitting_in t.cell t.number mine) tells.request a)
     → IsTrue (fits_request (fitting_of t.tree tells.standing.trapped) tells.request a)
 told_fits t before mine tells a fits =
-    tree_fits t mine tells.standing tells.request a (asked t.signals t.arm t.cell t.number t.tree before tells.request tells.standing t.typed t.numbered tells.asking)
+    tree_fits t mine tells.standing tells.request a (asked t.signals t.cell t.number t.tree before tells.request tells.standing t.typed t.numbered tells.asking)
     (told_trapped mine tells.standing.trapped tells.balanced) tells.traps fits
 
 -- ---- along own events that fit
@@ -95,12 +103,12 @@ is_now : (t : Task) (mine first left : List Event) (e : Event) → mine ≡ firs
 is_now t mine first left e cut own tells =
     same_request tells.request e.request (sym (asks_it t.tree (answers_in first) tells.request tells.standing tells.asking) ∙ own.due first left e cut)
 
-stood_more : (t : Task) (mine first left : List Event) (e : Event) → mine ≡ first ++ e ∷ left → AreOwn t.number t.tree mine → AreFit t.cell mine → Tells t.tree (answers_in first) first
+stood_more : (t : Task) (mine first left : List Event) (e : Event) → mine ≡ first ++ e ∷ left → AreOwn t.number t.tree mine → AreFit t.cell t.number mine → Tells t.tree (answers_in first) first
     → Stood t (first ++ e ∷ [])
 stood_more t mine first left e cut own fit tells =
     let same : tells.request ≡ e.request = is_now t mine first left e cut own tells in
     let fits : IsTrue (fits_request (fitting_of t.tree tells.standing.trapped) tells.request e.answer) =
-    told_fits t (answers_in first) first tells e.answer (subst (λ (r : Request). IsTrue (fits_request (fitting_in t.cell first) r e.answer)) (sym same) (fit.at first left e cut)) in
+    told_fits t (answers_in first) first tells e.answer (subst (λ (r : Request). IsTrue (fits_request (fitting_in t.cell t.number first) r e.answer)) (sym same) (fit.at first left e cut)) in
     let it : event_now t (answers_in first) first tells e.answer ≡ e =
     ap₂ (λ (actor : ℕ) (r : Request). let x : Event = record { actor = actor; request = r; answer = e.answer } in x) (sym (own.its first left e cut)) same in
     subst (λ (x : Event). Stood t (first ++ x ∷ [])) it
@@ -110,7 +118,7 @@ no_more : (t : Task) (answers : List Answer) (d : Data) (request : Request) → 
 unfolding asked_after
 no_more t answers d request over due = let no : ended ≡ asks request = sym (ap next_of over) ∙ due in cc
 
-along : (t : Task) (mine left first : List Event) → mine ≡ first ++ left → AreOwn t.number t.tree mine → AreFit t.cell mine → Stood t first → Stood t mine
+along : (t : Task) (mine left first : List Event) → mine ≡ first ++ left → AreOwn t.number t.tree mine → AreFit t.cell t.number mine → Stood t first → Stood t mine
 along t mine [] first cut own fit stood = subst (λ (x : List Event). Stood t x) (sym (append-nil first) ∙ sym cut) stood
 along t mine (e ∷ left) first cut own fit stood = ⊎_elim
     (λ (tells : Tells t.tree (answers_in first) first).
@@ -118,20 +126,20 @@ along t mine (e ∷ left) first cut own fit stood = ⊎_elim
     (λ (over : (d : Data) × (state_after t.tree (answers_in first) ≡ Ended d) × (has_ended first ≡ true)). absurd (no_more t (answers_in first) over.0 e.request over.1 (own.due first left e cut)))
     stood
 
-stood_at : (t : Task) (mine : List Event) → AreOwn t.number t.tree mine → AreFit t.cell mine → Stood t mine
+stood_at : (t : Task) (mine : List Event) → AreOwn t.number t.tree mine → AreFit t.cell t.number mine → Stood t mine
 stood_at t mine own fit = along t mine mine [] refl own fit (inl (first_own_state t))
 
 -- the events before one are the task's own, and fit
 further : (mine first left before after : List Event) (e x : Event) → mine ≡ first ++ e ∷ left → first ≡ before ++ x ∷ after → mine ≡ before ++ x ∷ (after ++ e ∷ left)
 further mine first left before after e x cut inner = cut ∙ ap (λ (xs : List Event). xs ++ e ∷ left) inner ∙ append_assoc before (x ∷ after) (e ∷ left)
 
-told_at : (t : Task) (mine first left : List Event) (e : Event) → mine ≡ first ++ e ∷ left → AreOwn t.number t.tree mine → AreFit t.cell mine → Tells t.tree (answers_in first) first
+told_at : (t : Task) (mine first left : List Event) (e : Event) → mine ≡ first ++ e ∷ left → AreOwn t.number t.tree mine → AreFit t.cell t.number mine → Tells t.tree (answers_in first) first
 told_at t mine first left e cut own fit =
     let own_first : AreOwn t.number t.tree first = record {
       its = λ before after x inner. own.its before (after ++ e ∷ left) x (further mine first left before after e x cut inner);
       due = λ before after x inner. own.due before (after ++ e ∷ left) x (further mine first left before after e x cut inner);
     } in
-    let fit_first : AreFit t.cell first = record { at = λ before after x inner. fit.at before (after ++ e ∷ left) x (further mine first left before after e x cut inner) } in
+    let fit_first : AreFit t.cell t.number first = record { at = λ before after x inner. fit.at before (after ++ e ∷ left) x (further mine first left before after e x cut inner) } in
     ⊎_elim (λ (tells : Tells t.tree (answers_in first) first). tells)
     (λ (over : (d : Data) × (state_after t.tree (answers_in first) ≡ Ended d) × (has_ended first ≡ true)). absurd (no_more t (answers_in first) over.0 e.request over.1 (own.due first left e cut)))
     (stood_at t first own_first fit_first)
@@ -164,7 +172,7 @@ cut_of (e ∷ mine) (b ∷ before) after a same =
     let behind : answers_in mine ≡ before ++ a ∷ after = cc in
     cut_more mine e before after b a here (cut_of mine before after a behind)
 
-next_fits : (t : Task) (mine first left : List Event) (e : Event) → mine ≡ first ++ e ∷ left → AreOwn t.number t.tree mine → AreFit t.cell mine → FitsNext t.tree (answers_in first) e.answer
+next_fits : (t : Task) (mine first left : List Event) (e : Event) → mine ≡ first ++ e ∷ left → AreOwn t.number t.tree mine → AreFit t.cell t.number mine → FitsNext t.tree (answers_in first) e.answer
 next_fits t mine first left e cut own fit =
     let tells : Tells t.tree (answers_in first) first = told_at t mine first left e cut own fit in
     let same : tells.request ≡ e.request = is_now t mine first left e cut own tells in
@@ -172,28 +180,28 @@ next_fits t mine first left e cut own fit =
       request = tells.request;
       standing = tells.standing;
       asked = tells.asking;
-      fits = told_fits t (answers_in first) first tells e.answer (subst (λ (r : Request). IsTrue (fits_request (fitting_in t.cell first) r e.answer)) (sym same) (fit.at first left e cut));
+      fits = told_fits t (answers_in first) first tells e.answer (subst (λ (r : Request). IsTrue (fits_request (fitting_in t.cell t.number first) r e.answer)) (sym same) (fit.at first left e cut));
     }
 
-steps_of : (t : Task) (mine : List Event) → AreOwn t.number t.tree mine → AreFit t.cell mine → FitsSteps t.tree (answers_in mine)
+steps_of : (t : Task) (mine : List Event) → AreOwn t.number t.tree mine → AreFit t.cell t.number mine → FitsSteps t.tree (answers_in mine)
 steps_of t mine own fit = record {
   at = λ before after a same.
       let it : IsCut mine before after a = cut_of mine before after a same in
       subst (λ (x : Answer). FitsNext t.tree before x) it.is (subst (λ (xs : List Answer). FitsNext t.tree xs it.e.answer) it.is_before (next_fits t mine it.first it.left it.e it.cut own fit));
 }
 
-asks_until : (t : Task) (mine : List Event) → AreOwn t.number t.tree mine → AreFit t.cell mine → has_ended mine ≡ false → (request : Request) × (asked_after t.tree (answers_in mine) ≡ asks request)
+asks_until : (t : Task) (mine : List Event) → AreOwn t.number t.tree mine → AreFit t.cell t.number mine → has_ended mine ≡ false → (request : Request) × (asked_after t.tree (answers_in mine) ≡ asks request)
 asks_until t mine own fit going = ⊎_elim
     (λ (tells : Tells t.tree (answers_in mine) mine). (tells.request, asks_it t.tree (answers_in mine) tells.request tells.standing tells.asking))
     (λ (over : (d : Data) × (state_after t.tree (answers_in mine) ≡ Ended d) × (has_ended mine ≡ true)). let no : true ≡ false = sym over.2 ∙ going in absurd cc)
     (stood_at t mine own fit)
 
-pub fits_steps : (signals : ℕ) (arm : Bool) (cell : CellData) (number : ℕ) (tree : TypedTree) (mine : List Event) → WellTyped signals arm tree → Numbered cell number tree → AreOwn number tree mine
-    → AreFit cell mine → FitsSteps tree (map (λ (e : Event). e.answer) mine)
-fits_steps signals arm cell number tree mine typed numbered own fit =
-    steps_of (record { signals = signals; arm = arm; cell = cell; number = number; tree = tree; typed = typed; numbered = numbered }) mine own fit
+pub fits_steps : (signals : ℕ) (cell : CellData) (number : ℕ) (tree : TypedTree) (mine : List Event) → WellTyped signals tree → Numbered cell number tree → AreOwn number tree mine
+    → AreFit cell number mine → FitsSteps tree (map (λ (e : Event). e.answer) mine)
+fits_steps signals cell number tree mine typed numbered own fit =
+    steps_of (record { signals = signals; cell = cell; number = number; tree = tree; typed = typed; numbered = numbered }) mine own fit
 
-pub asks_on : (signals : ℕ) (arm : Bool) (cell : CellData) (number : ℕ) (tree : TypedTree) (mine : List Event) → WellTyped signals arm tree → Numbered cell number tree → AreOwn number tree mine
-    → AreFit cell mine → has_ended mine ≡ false → (request : Request) × (asked_after tree (map (λ (e : Event). e.answer) mine) ≡ asks request)
-asks_on signals arm cell number tree mine typed numbered own fit going =
-    asks_until (record { signals = signals; arm = arm; cell = cell; number = number; tree = tree; typed = typed; numbered = numbered }) mine own fit going
+pub asks_on : (signals : ℕ) (cell : CellData) (number : ℕ) (tree : TypedTree) (mine : List Event) → WellTyped signals tree → Numbered cell number tree → AreOwn number tree mine
+    → AreFit cell number mine → has_ended mine ≡ false → (request : Request) × (asked_after tree (map (λ (e : Event). e.answer) mine) ≡ asks request)
+asks_on signals cell number tree mine typed numbered own fit going =
+    asks_until (record { signals = signals; cell = cell; number = number; tree = tree; typed = typed; numbered = numbered }) mine own fit going

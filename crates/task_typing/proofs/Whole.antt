@@ -58,9 +58,9 @@ sort_found (n ∷ ns) (r ∷ rs) row number p one numbered there =
 one_row : (x y : PersCell) (o : Option PersCell) → o ≡ Some x → o ≡ Some y → x ≡ y
 one_row x y o e f = cc
 
-pub facts_of : (signals : ℕ) (arm : Bool) (cell : CellData) (number : ℕ) (tree : TypedTree) → WellTyped signals arm tree → Numbered cell number tree
-    → Facts (record { signals = signals; arm = arm; tree = tree })
-facts_of signals arm cell number tree typed numbered = record {
+pub facts_of : (signals : ℕ) (cell : CellData) (number : ℕ) (tree : TypedTree) → WellTyped signals tree → Numbered cell number tree
+    → Facts (record { signals = signals; tree = tree })
+facts_of signals cell number tree typed numbered = record {
   numbers = λ row p e. let few : row < length tree.pers = slice_get_within tree.pers row p e in there_is tree.pers_of row (omega (arith, few, numbered.as_many_pers));
   sorts = λ n p is.
       let own : IsOne cell p n = numbered.pers is.row n p is.numbered is.there in
@@ -75,18 +75,18 @@ facts_of signals arm cell number tree typed numbered = record {
       omega (arith, as_many, numbered.few_tasks);
 }
 
-initial_state : (signals : ℕ) (arm : Bool) (tree : TypedTree) → WellTyped signals arm tree → IsState tree false [] (initial tree)
-initial_state signals arm tree typed = record { slots = slots_in tree [] tree.slots typed.slots; frames_are = tt; in_trap = refl }
+initial_state : (signals : ℕ) (tree : TypedTree) → WellTyped signals tree → IsState tree false [] (initial tree)
+initial_state signals tree typed = record { slots = slots_in tree [] tree.slots typed.slots; frames_are = tt; called = tt; in_trap = refl }
 
 takes_none : (tree : TypedTree) (params : List TypedParam) → params ≡ [] → AreInCells tree [] (flat_map cells_of (map kind_of params)) []
 takes_none tree params e = subst (λ (ps : List TypedParam). AreInCells tree [] (flat_map cells_of (map kind_of ps)) []) (sym e) tt
 
-task_meets : (signals : ℕ) (arm : Bool) (tree : TypedTree) → WellTyped signals arm tree
-    → Meets (rules_of (record { signals = signals; arm = arm; tree = tree })) (λ (v : ⊤) d. ⊥) (λ n d. ⊥) (task tree) (calm (initial tree)) (initial tree)
-task_meets signals arm tree typed = (
+task_meets : (signals : ℕ) (tree : TypedTree) → WellTyped signals tree
+    → Meets (rules_of (record { signals = signals; tree = tree })) (λ (v : ⊤) d. ⊥) (λ n d. ⊥) (task tree) (calm (initial tree)) (initial tree)
+task_meets signals tree typed = (
   calm_itself (initial tree),
   record { trapped = false; frames = []; lists = [] },
-  ((typed.main.routine, typed.main.there, takes_none tree typed.main.routine.params typed.main.takes_nothing), initial_state signals arm tree typed),
+  ((typed.main.routine, typed.main.there, takes_none tree typed.main.routine.params typed.main.takes_nothing), initial_state signals tree typed),
   λ flow e ends. record { rises = refl; same = refl; asked = record { asked = refl; trapped = false; frames = []; state = ends.1 } },
   λ n e fails. record { rises = refl; same = refl; asked = record { asked = refl; trapped = false; frames = []; state = fails } },
 )
@@ -95,35 +95,35 @@ task_meets signals arm tree typed = (
 abbrev pub ComesTo : Setting → Outcome ⊤ → Type 0
 ComesTo c o = Comes (rules_of c) (λ (v : ⊤) d. ⊥) (λ n d. ⊥) o
 
-pub state_comes : (signals : ℕ) (arm : Bool) (cell : CellData) (number : ℕ) (tree : TypedTree) (answers : List Answer) → WellTyped signals arm tree → Numbered cell number tree
-    → ComesTo (record { signals = signals; arm = arm; tree = tree }) (state_after tree answers)
+pub state_comes : (signals : ℕ) (cell : CellData) (number : ℕ) (tree : TypedTree) (answers : List Answer) → WellTyped signals tree → Numbered cell number tree
+    → ComesTo (record { signals = signals; tree = tree }) (state_after tree answers)
 unfolding state_after
-state_comes signals arm cell number tree answers typed numbered =
-    let c : Setting = record { signals = signals; arm = arm; tree = tree } in
-    performed_comes (rules_of c) (deep tree (suc (length answers))) (deep_comes (rules_of c) (keeps c (facts_of signals arm cell number tree typed numbered)) (suc (length answers)))
-    (λ (v : ⊤) d. ⊥) (λ n d. ⊥) (task tree) (calm (initial tree)) (initial tree) answers (task_meets signals arm tree typed)
+state_comes signals cell number tree answers typed numbered =
+    let c : Setting = record { signals = signals; tree = tree } in
+    performed_comes (rules_of c) (deep tree (suc (length answers))) (deep_comes (rules_of c) (keeps c (facts_of signals cell number tree typed numbered)) (suc (length answers)))
+    (λ (v : ⊤) d. ⊥) (λ n d. ⊥) (task tree) (calm (initial tree)) (initial tree) answers (task_meets signals tree typed)
 
 -- with no answer it stands as it began, and with one answer more as its events then tell
-pub first_stands : (signals : ℕ) (arm : Bool) (cell : CellData) (number : ℕ) (tree : TypedTree) → WellTyped signals arm tree → Numbered cell number tree
-    → Stands (rules_of (record { signals = signals; arm = arm; tree = tree })) (λ (v : ⊤) d. ⊥) (λ n d. ⊥) (calm (initial tree)) (state_after tree [])
+pub first_stands : (signals : ℕ) (cell : CellData) (number : ℕ) (tree : TypedTree) → WellTyped signals tree → Numbered cell number tree
+    → Stands (rules_of (record { signals = signals; tree = tree })) (λ (v : ⊤) d. ⊥) (λ n d. ⊥) (calm (initial tree)) (state_after tree [])
 unfolding state_after
-first_stands signals arm cell number tree typed numbered =
-    let c : Setting = record { signals = signals; arm = arm; tree = tree } in
-    performed_stands (rules_of c) (deep tree 1) (deep_stands (rules_of c) (keeps c (facts_of signals arm cell number tree typed numbered)) 1)
-    (λ (v : ⊤) d. ⊥) (λ n d. ⊥) (task tree) (calm (initial tree)) (initial tree) (task_meets signals arm tree typed)
+first_stands signals cell number tree typed numbered =
+    let c : Setting = record { signals = signals; tree = tree } in
+    performed_stands (rules_of c) (deep tree 1) (deep_stands (rules_of c) (keeps c (facts_of signals cell number tree typed numbered)) 1)
+    (λ (v : ⊤) d. ⊥) (λ n d. ⊥) (task tree) (calm (initial tree)) (initial tree) (task_meets signals tree typed)
 
-pub next_follows : (signals : ℕ) (arm : Bool) (cell : CellData) (number : ℕ) (tree : TypedTree) (answers : List Answer) (a : Answer) → WellTyped signals arm tree → Numbered cell number tree
-    → Follows (rules_of (record { signals = signals; arm = arm; tree = tree })) (λ (v : ⊤) d. ⊥) (λ n d. ⊥) a (state_after tree answers) (state_after tree (answers ++ a ∷ []))
+pub next_follows : (signals : ℕ) (cell : CellData) (number : ℕ) (tree : TypedTree) (answers : List Answer) (a : Answer) → WellTyped signals tree → Numbered cell number tree
+    → Follows (rules_of (record { signals = signals; tree = tree })) (λ (v : ⊤) d. ⊥) (λ n d. ⊥) a (state_after tree answers) (state_after tree (answers ++ a ∷ []))
 unfolding state_after
-next_follows signals arm cell number tree answers a typed numbered =
-    let c : Setting = record { signals = signals; arm = arm; tree = tree } in
-    let kept : Keeps (rules_of c) = keeps c (facts_of signals arm cell number tree typed numbered) in
+next_follows signals cell number tree answers a typed numbered =
+    let c : Setting = record { signals = signals; tree = tree } in
+    let kept : Keeps (rules_of c) = keeps c (facts_of signals cell number tree typed numbered) in
     let n : ℕ = suc (length answers) in
     let longer : n ≡ length (answers ++ a ∷ []) = omega (arith, length-append answers (a ∷ [])) in
     subst (λ (k : ℕ). Follows (rules_of c) (λ (v : ⊤) d. ⊥) (λ m d. ⊥) a (performed (fitting_of tree) (deep tree n) (task tree) (initial tree) answers)
     (performed (fitting_of tree) (deep tree (suc k)) (task tree) (initial tree) (answers ++ a ∷ []))) longer
     (performed_follows (rules_of c) a (deep tree n) (deep tree (suc n)) (deep_follows (rules_of c) kept a n) (deep_stands (rules_of c) kept (suc n))
-    (λ (v : ⊤) d. ⊥) (λ m d. ⊥) (task tree) (calm (initial tree)) (initial tree) answers (task_meets signals arm tree typed))
+    (λ (v : ⊤) d. ⊥) (λ m d. ⊥) (task tree) (calm (initial tree)) (initial tree) answers (task_meets signals tree typed))
 
 goes_from : (c : Setting) (o : Outcome ⊤) → ComesTo c o → (o ≡ Unfit → ⊥) → (o ≡ NoFuel → ⊥) → Goes (next_of o)
 goes_from c (Asking request d) comes fit fuel = tt
@@ -134,15 +134,15 @@ goes_from c Misfits comes fit fuel = comes
 goes_from c Unfit comes fit fuel = fit refl
 goes_from c NoFuel comes fit fuel = absurd (fuel refl)
 
-pub goes : (signals : ℕ) (arm : Bool) (cell : CellData) (number : ℕ) (tree : TypedTree) (answers : List Answer) → WellTyped signals arm tree → Numbered cell number tree
+pub goes : (signals : ℕ) (cell : CellData) (number : ℕ) (tree : TypedTree) (answers : List Answer) → WellTyped signals tree → Numbered cell number tree
     → FitsSteps tree answers → Goes (asked_after tree answers)
 unfolding asked_after
-goes signals arm cell number tree answers typed numbered fits =
-    goes_from (record { signals = signals; arm = arm; tree = tree }) (state_after tree answers) (state_comes signals arm cell number tree answers typed numbered)
+goes signals cell number tree answers typed numbered fits =
+    goes_from (record { signals = signals; tree = tree }) (state_after tree answers) (state_comes signals cell number tree answers typed numbered)
     (fit_runs tree answers fits) (enough tree answers)
 
 due_typed : (c : Setting) (d : Data) (request : Request) → IsDue c d request → AreTyped c.tree d
-due_typed c d request due = record { frames = due.frames; state = record { slots = due.state.slots; frames_are = due.state.frames_are; in_trap = refl } }
+due_typed c d request due = record { frames = due.frames; state = record { slots = due.state.slots; frames_are = due.state.frames_are; called = due.state.called; in_trap = refl } }
 
 typed_from : (c : Setting) (o : Outcome ⊤) (d : Data) → ComesTo c o → data_in o ≡ Some d → AreTyped c.tree d
 typed_from c (Asking request e) d comes is = let same : e ≡ d = cc in subst (λ (x : Data). AreTyped c.tree x) same (due_typed c e request comes)
@@ -153,16 +153,16 @@ typed_from c Misfits d comes is = absurd cc
 typed_from c Unfit d comes is = absurd cc
 typed_from c NoFuel d comes is = absurd cc
 
-pub typed_data : (signals : ℕ) (arm : Bool) (cell : CellData) (number : ℕ) (tree : TypedTree) (answers : List Answer) (d : Data) → WellTyped signals arm tree → Numbered cell number tree
+pub typed_data : (signals : ℕ) (cell : CellData) (number : ℕ) (tree : TypedTree) (answers : List Answer) (d : Data) → WellTyped signals tree → Numbered cell number tree
     → data_after tree answers ≡ Some d → AreTyped tree d
 unfolding data_after
-typed_data signals arm cell number tree answers d typed numbered is =
-    typed_from (record { signals = signals; arm = arm; tree = tree }) (state_after tree answers) d (state_comes signals arm cell number tree answers typed numbered) is
+typed_data signals cell number tree answers d typed numbered is =
+    typed_from (record { signals = signals; tree = tree }) (state_after tree answers) d (state_comes signals cell number tree answers typed numbered) is
 
 asked_from : (c : Setting) (o : Outcome ⊤) (request : Request) (d : Data) → ComesTo c o → o ≡ Asking request d → IsAsked c d request
 asked_from c o request d comes is = let due : IsDue c d request = subst (λ (x : Outcome ⊤). ComesTo c x) is comes in due.asked
 
-pub asked : (signals : ℕ) (arm : Bool) (cell : CellData) (number : ℕ) (tree : TypedTree) (answers : List Answer) (request : Request) (d : Data) → WellTyped signals arm tree
-    → Numbered cell number tree → state_after tree answers ≡ Asking request d → IsAsked (record { signals = signals; arm = arm; tree = tree }) d request
-asked signals arm cell number tree answers request d typed numbered is =
-    asked_from (record { signals = signals; arm = arm; tree = tree }) (state_after tree answers) request d (state_comes signals arm cell number tree answers typed numbered) is
+pub asked : (signals : ℕ) (cell : CellData) (number : ℕ) (tree : TypedTree) (answers : List Answer) (request : Request) (d : Data) → WellTyped signals tree
+    → Numbered cell number tree → state_after tree answers ≡ Asking request d → IsAsked (record { signals = signals; tree = tree }) d request
+asked signals cell number tree answers request d typed numbered is =
+    asked_from (record { signals = signals; tree = tree }) (state_after tree answers) request d (state_comes signals cell number tree answers typed numbered) is

@@ -1,5 +1,5 @@
 -- What a well typed task asks.
-use Rattle.std.specs.Prelude.{◌≡◌, ℕ, ◌<◌, ◌^◌, length, true, IsTrue, is_some, Some, slice_get, ⊤}
+use Rattle.std.specs.Prelude.{◌≡◌, ℕ, ◌<◌, ◌^◌, length, true, false, IsTrue, is_some, Some, slice_get, ⊤}
 use Rattle.rapid_num.specs.Reach.{is_position}
 use Rattle.rapid_model.specs.Paths.{fits_part, has_element, part_sort}
 use Rattle.rapid_model.specs.Requests.{may_tell}
@@ -11,7 +11,7 @@ use Rattle.rapid_model.specs.declared.watched.Watched.TheVariants as watched
 use Rattle.typed_trees.specs.Plain.{TypedPers}
 use Rattle.rapid_meaning.specs.Answering.{is_trap_row}
 use Rattle.rapid_meaning.specs.Data.{Data}
-use Rattle.task_typing.specs.Setting.{Setting}
+use Rattle.task_typing.specs.Setting.{Setting, has_arm}
 use Rattle.task_typing.specs.States.{IsPers}
 
 -- a signal of the cell, or a persistent of the tree
@@ -20,23 +20,23 @@ CanWatch c (watched.Signal signal value) = signal < c.signals
 CanWatch c (watched.Pers pers) = (p : TypedPers) × IsPers c.tree pers p
 
 -- A request of what is there, with these data: elements and parts that a persistent has and values of their types, signals, an
--- arm's only where there is one, traps to connect, meetings and tasks that are listed, Leave only in a trap.
+-- arm's only where there is one, traps to connect, meetings and tasks that are listed, a setpoint in no trap, Leave only in one.
 abbrev pub IsAsked : Setting → Data → Request → Type 0
 IsAsked c d (requests.ReadP pers path) = (p : TypedPers) × IsPers c.tree pers p × IsTrue (has_element p.len path.index) × IsTrue (is_some (part_sort p.sort path.part))
 IsAsked c d (requests.WriteP pers path value) = (p : TypedPers) × IsPers c.tree pers p × IsTrue (has_element p.len path.index) × IsTrue (fits_part p.sort path.part value)
 IsAsked c d (requests.TestSet pers path) = (p : TypedPers) × IsPers c.tree pers p × IsTrue (has_element p.len path.index) × (part_sort p.sort path.part ≡ Some sorts.Bool)
 IsAsked c d (requests.ReadS signal) = signal < c.signals
 IsAsked c d (requests.WriteS signal value) = signal < c.signals
-IsAsked c d requests.Position = IsTrue c.arm
-IsAsked c d (requests.Setpoint to) = IsTrue c.arm × IsTrue (is_position to)
+IsAsked c d requests.Position = IsTrue (has_arm c)
+IsAsked c d (requests.Setpoint to) = IsTrue (has_arm c) × IsTrue (is_position c.tree.axes to) × (d.trapped ≡ false)
 IsAsked c d (requests.Connect old trap) = IsTrue (is_trap_row (slice_get c.tree.routines trap))
 IsAsked c d (requests.Order number on single) = CanWatch c on
 IsAsked c d requests.Leave = d.trapped ≡ true
-IsAsked c d (requests.ZoneSet old temporary shape) = IsTrue c.arm
+IsAsked c d (requests.ZoneSet old temporary shape) = IsTrue (has_arm c)
 IsAsked c d (requests.ZoneTie old temporary shape signal value) = ⊥
-IsAsked c d (requests.ZoneOn zone) = IsTrue c.arm
-IsAsked c d (requests.ZoneOff zone) = IsTrue c.arm
-IsAsked c d (requests.ZoneFree zone) = IsTrue c.arm
+IsAsked c d (requests.ZoneOn zone) = IsTrue (has_arm c)
+IsAsked c d (requests.ZoneOff zone) = IsTrue (has_arm c)
+IsAsked c d (requests.ZoneFree zone) = IsTrue (has_arm c)
 IsAsked c d (requests.Arrive meeting tasks) = (row : ℕ) × (slice_get c.tree.meeting_of row ≡ Some meeting) × (tasks < 2 ^ length c.tree.tasks)
 IsAsked c d (requests.Input index) = ⊥
 IsAsked c d (requests.End fate) = IsTrue (may_tell fate)

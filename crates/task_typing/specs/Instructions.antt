@@ -10,7 +10,7 @@ use Rattle.typed_trees.specs.Plain.{TypedArg, TypedArgs, TypedArgument, Optional
 use Rattle.rapid_meaning.specs.Instructions.{needed, options}
 use Rattle.task_typing.specs.Expressions.{IsArg}
 use Rattle.task_typing.specs.Kinds.{Kind}
-use Rattle.task_typing.specs.Setting.{Setting}
+use Rattle.task_typing.specs.Setting.{Setting, has_arm}
 
 -- the arguments but the options, in order
 abbrev pub AreNeeded : Setting → List Kind → List TypedArg → List Need → Type 0
@@ -39,10 +39,11 @@ abbrev pub AreChosen : Choice → List TypedArg → Type 0
 AreChosen choices.Any given = ⊤
 AreChosen choices.OneAtMost given = length given ≤ 1
 AreChosen choices.JustOne given = length given ≡ 1
+AreChosen choices.Never given = ⊥
 
 -- an instruction has what it needs, and an arm where it needs one
 pub record IsInstruction (c : Setting) (kinds : List Kind) (instruction : Instruction) (args : TypedArgs) : Type 0 where
-  pub arm : IsTrue (not (needs_arm instruction) || c.arm)
+  pub arm : IsTrue (not (needs_arm instruction) || has_arm c)
   pub are_needed : AreNeeded c kinds (needed args) (instruction_needs instruction)
   pub are_options : AreOptions c kinds (options args) (builtins.options instruction)
   pub chosen : AreChosen (choice instruction) (options args)

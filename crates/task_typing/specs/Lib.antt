@@ -9,4 +9,5 @@ pub mod Numbered
 pub mod States
 pub mod Asked
 pub mod Goes
+pub mod Constants
 pub mod OwnEvents

@@ -26,6 +26,6 @@ pub record AreOwn (actor : ℕ) (tree : TypedTree) (mine : List Event) : Type 0 
   pub its : (before after : List Event) (e : Event) → mine ≡ before ++ e ∷ after → e.actor ≡ actor
   pub due : (before after : List Event) (e : Event) → mine ≡ before ++ e ∷ after → asked_after tree (map (λ (x : Event). x.answer) before) ≡ asks e.request
 
--- each answer fits its request, by the cell and by the events before it
-pub record AreFit (cell : CellData) (mine : List Event) : Type 0 where
-  pub at : (before after : List Event) (e : Event) → mine ≡ before ++ e ∷ after → IsTrue (fits_request (fitting_in cell before) e.request e.answer)
+-- each answer fits its request, by the cell, the task's number and the events before it
+pub record AreFit (cell : CellData) (task : ℕ) (mine : List Event) : Type 0 where
+  pub at : (before after : List Event) (e : Event) → mine ≡ before ++ e ∷ after → IsTrue (fits_request (fitting_in cell task before) e.request e.answer)

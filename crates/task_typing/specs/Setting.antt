@@ -1,9 +1,12 @@
 -- Among what the forms of a task are typed.
-use Rattle.std.specs.Prelude.{ℕ, Bool}
+use Rattle.std.specs.Prelude.{ℕ, Bool, nat_lt}
 use Rattle.typed_trees.specs.Plain.{TypedTree}
 
--- how many signals the cell has, whether the task has an arm, and its tree
+-- how many signals the cell has, and the task's tree
 pub record Setting : Type 0 where
   pub signals : ℕ
-  pub arm : Bool
   pub tree : TypedTree
+
+-- the task has an arm
+abbrev pub has_arm : Setting → Bool
+has_arm c = nat_lt 0 c.tree.axes

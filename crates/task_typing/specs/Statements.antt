@@ -1,10 +1,10 @@
 -- When the typed forms of statements are well typed, one line a form.
-use Rattle.std.specs.Prelude.{◌≡◌, ◌⊎◌, ℕ, Bool, IsTrue, List, [], ◌∷◌, map, Option, Some, None, is_some, slice_get, ⊤}
+use Rattle.std.specs.Prelude.{◌≡◌, ◌⊎◌, ℕ, Bool, true, IsTrue, List, [], ◌∷◌, map, Option, Some, None, is_some, slice_get, ⊤}
 use Rattle.rapid_model.specs.Sorts.{has_values, is_compared}
 use Rattle.rapid_model.specs.declared.sort.Sort.{Sort}
 use Rattle.rapid_model.specs.declared.sort.Sort.TheVariants as sorts
-use Rattle.raw_trees.specs.declared.raw_routine.RoutineKind.{RoutineKind}
-use Rattle.raw_trees.specs.declared.raw_routine.RoutineKind.TheVariants as routines
+use Rattle.rapid_model.specs.declared.routine_kind.RoutineKind.{RoutineKind}
+use Rattle.rapid_model.specs.declared.routine_kind.RoutineKind.TheVariants as routines
 use Rattle.typed_trees.specs.Plain.{TypedArms, TypedCases, TypedElse, TypedExpr, TypedExprs, TypedRoutine, TypedStmt, TypedStmts, Assign, Instruct, Call, Label, Goto, Return, Exit, Raise, Retry, TryNext, Connect, If, IfOne, For, While, Test, NoExprs, MoreExprs, NoStmts, MoreStmts, NoArms, MoreArms, NoCases, MoreCases, NoElse, Else}
 use Rattle.rapid_meaning.specs.Lists.{behind}
 use Rattle.task_typing.specs.Expressions.{AreArgs, IsExpr, IsPlace}
@@ -47,7 +47,7 @@ AreCaseValues c kinds (MoreExprs e es) sort = IsExpr c kinds e sort × AreCaseVa
 
 abbrev mutual
   pub IsStmt : Setting → Around → TypedStmt → Type 0
-  IsStmt c around (Assign at p e) = (sort : Sort) × IsTrue (has_values sort) × IsPlace c around.places p sort × IsExpr c around.places e sort
+  IsStmt c around (Assign at p e) = (sort : Sort) × IsTrue (has_values sort) × IsPlace c around.places true p sort × IsExpr c around.places e sort
   IsStmt c around (Instruct at instruction args) = IsInstruction c around.places instruction args
   IsStmt c around (Call at called args) =
       (routine : TypedRoutine) × (slice_get c.tree.routines called ≡ Some routine) × (routine.kind ≡ routines.Proc)
@@ -62,7 +62,7 @@ abbrev mutual
   IsStmt c around (Retry at) = IsTrue around.handler
   IsStmt c around (TryNext at) = IsTrue around.handler
   IsStmt c around (Connect at p trap) =
-      IsPlace c around.places p sorts.IntNum × (routine : TypedRoutine) × (slice_get c.tree.routines trap ≡ Some routine) × (routine.kind ≡ routines.Trap)
+      IsPlace c around.places true p sorts.IntNum × (routine : TypedRoutine) × (slice_get c.tree.routines trap ≡ Some routine) × (routine.kind ≡ routines.Trap)
   IsStmt c around (If at arms other) = AreArms c around arms × IsElse c around other
   IsStmt c around (IfOne at e one) = IsExpr c around.places e sorts.Bool × IsStmt c around one
   IsStmt c around (For at local first last step list) =

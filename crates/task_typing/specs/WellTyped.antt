@@ -1,11 +1,12 @@
 -- When a task's tree is well typed.
 use Rattle.std.specs.Prelude.{◌≡◌, ℕ, Bool, true, false, IsTrue, List, [], ◌∷◌, length, Option, Some, None, slice_get, All, ⊤}
+use Rattle.rapid_model.specs.Limits.{is_axes}
 use Rattle.rapid_model.specs.Paths.{has_sort}
 use Rattle.rapid_model.specs.Sorts.{has_values, width}
 use Rattle.rapid_model.specs.declared.sort.Sort.{Sort}
 use Rattle.rapid_model.specs.declared.sort.Sort.TheVariants as sorts
-use Rattle.raw_trees.specs.declared.raw_routine.RoutineKind.{RoutineKind}
-use Rattle.raw_trees.specs.declared.raw_routine.RoutineKind.TheVariants as routines
+use Rattle.rapid_model.specs.declared.routine_kind.RoutineKind.{RoutineKind}
+use Rattle.rapid_model.specs.declared.routine_kind.RoutineKind.TheVariants as routines
 use Rattle.typed_trees.specs.Plain.{TypedLocal, TypedParam, TypedPers, TypedRoutine, TypedSlot, TypedStmts, TypedTree}
 use Rattle.typed_trees.specs.declared.datum.Datum.{Datum}
 use Rattle.typed_trees.specs.declared.datum.Datum.TheVariants as datums
@@ -58,9 +59,10 @@ pub record IsMain (tree : TypedTree) : Type 0 where
   pub procedure : routine.kind ≡ routines.Proc
   pub takes_nothing : routine.params ≡ []
 
--- a tree, with so many signals in its cell, and with an arm or without one
-pub record WellTyped (signals : ℕ) (arm : Bool) (tree : TypedTree) : Type 0 where
+-- a tree, with so many signals in its cell
+pub record WellTyped (signals : ℕ) (tree : TypedTree) : Type 0 where
   pub slots : All (λ (row : TypedSlot). AreFirst row.sort row.len row.first) tree.slots
   pub pers : All (λ (row : TypedPers). IsTrue (has_values row.sort)) tree.pers
-  pub routines : All (IsRoutine (record { signals = signals; arm = arm; tree = tree })) tree.routines
+  pub routines : All (IsRoutine (record { signals = signals; tree = tree })) tree.routines
   pub main : IsMain tree
+  pub axes : IsTrue (is_axes tree.axes)

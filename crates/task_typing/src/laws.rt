@@ -1,16 +1,19 @@
 ghost use Rattle.std.specs.Prelude.{◌≡◌, ℕ, Bool, false, IsTrue, List, length, map, is_some, Some, slice_get};
+ghost use Rattle.rapid_num.specs.declared.joints.Joints.{Joints};
 ghost use Rattle.rapid_model.specs.CellData.{CellData};
-ghost use Rattle.rapid_model.specs.Own.{has_ended};
+ghost use Rattle.rapid_model.specs.Own.{has_ended, is_trapped};
 ghost use Rattle.rapid_model.specs.Requests.{suits_actor};
 ghost use Rattle.rapid_model.specs.declared.answer.Answer.{Answer};
 ghost use Rattle.rapid_model.specs.declared.event.Event.{Event};
 ghost use Rattle.rapid_model.specs.declared.request.Request.{Request};
+ghost use Rattle.rapid_model.specs.declared.request.Request.TheVariants as requests;
 ghost use Rattle.rapid_model.specs.declared.task_row.TaskRow.{TaskRow};
 ghost use Rattle.typed_trees.specs.Plain.{TypedTree};
 ghost use Rattle.rapid_meaning.specs.Answering.{Asking};
 ghost use Rattle.rapid_meaning.specs.Data.{Data};
 ghost use Rattle.rapid_meaning.specs.Runs.{FitsSteps, asks, asked_after, data_after, state_after};
 ghost use Rattle.task_typing.specs.Asked.{IsAsked};
+ghost use Rattle.task_typing.specs.Constants.{KeepsConstants};
 ghost use Rattle.task_typing.specs.Goes.{AreTyped, Goes};
 ghost use Rattle.task_typing.specs.Numbered.{Numbered};
 ghost use Rattle.task_typing.specs.OwnEvents.{AreFit, AreOwn, own_events};
@@ -18,11 +21,11 @@ ghost use Rattle.task_typing.specs.WellTyped.{WellTyped};
 
 /// A law: a well typed task with its cell's numbers asks or has ended, after whatever answers fit step by step; its data are of
 /// the types that its tree names, values full and places that are lent included; and what it asks is there: elements and parts of
-/// persistents by their types, signals, an arm's only where it has one, and Leave only in a trap.
+/// persistents by their types, signals, an arm's only where it has one, a setpoint in no trap, and Leave only in one.
 pub fn well_typed_tasks_go_on()
-    ensures goes { (signals : ℕ) (arm : Bool) (cell : CellData) (number : ℕ) (tree : TypedTree) (answers : List Answer) → WellTyped signals arm tree → Numbered cell number tree → FitsSteps tree answers → Goes (asked_after tree answers) }
-    ensures typed { (signals : ℕ) (arm : Bool) (cell : CellData) (number : ℕ) (tree : TypedTree) (answers : List Answer) (d : Data) → WellTyped signals arm tree → Numbered cell number tree → data_after tree answers ≡ Some d → AreTyped tree d }
-    ensures asked { (signals : ℕ) (arm : Bool) (cell : CellData) (number : ℕ) (tree : TypedTree) (answers : List Answer) (request : Request) (d : Data) → WellTyped signals arm tree → Numbered cell number tree → state_after tree answers ≡ Asking request d → IsAsked (record { signals = signals; arm = arm; tree = tree }) d request }
+    ensures goes { (signals : ℕ) (cell : CellData) (number : ℕ) (tree : TypedTree) (answers : List Answer) → WellTyped signals tree → Numbered cell number tree → FitsSteps tree answers → Goes (asked_after tree answers) }
+    ensures typed { (signals : ℕ) (cell : CellData) (number : ℕ) (tree : TypedTree) (answers : List Answer) (d : Data) → WellTyped signals tree → Numbered cell number tree → data_after tree answers ≡ Some d → AreTyped tree d }
+    ensures asked { (signals : ℕ) (cell : CellData) (number : ℕ) (tree : TypedTree) (answers : List Answer) (request : Request) (d : Data) → WellTyped signals tree → Numbered cell number tree → state_after tree answers ≡ Asking request d → IsAsked (record { signals = signals; tree = tree }) d request }
 {}
 
 /// A law: what a task of a cell asks, well typed for its row and with its cell's numbers, is what it may ask by the cell and by its
@@ -30,13 +33,24 @@ pub fn well_typed_tasks_go_on()
 /// task's arm; Rise just after Hold and nothing else there, Leave only in a trap, and nothing after End. Own events are those of
 /// which each has the request that the tree asks after the answers before it.
 pub fn requests_suit_the_task()
-    ensures suits { (cell : CellData) (number : ℕ) (row : TaskRow) (tree : TypedTree) (answers : List Answer) (request : Request) → slice_get cell.tasks number ≡ Some row → WellTyped (length cell.signals) (is_some row.arm) tree → Numbered cell number tree → asked_after tree answers ≡ asks request → IsTrue (suits_actor cell number (own_events number tree answers) request) }
+    ensures suits { (cell : CellData) (number : ℕ) (row : TaskRow) (tree : TypedTree) (answers : List Answer) (request : Request) → slice_get cell.tasks number ≡ Some row → WellTyped (length cell.signals) tree → Numbered cell number tree → asked_after tree answers ≡ asks request → IsTrue (suits_actor cell number (own_events number tree answers) request) }
     ensures own { (number : ℕ) (tree : TypedTree) (mine : List Event) → AreOwn number tree mine → mine ≡ own_events number tree (map (λ (e : Event). e.answer) mine) }
 {}
 
 /// A law: where a well typed task with its cell's numbers has own events whose answers fit by the cell, they fit by its tree; and
 /// it asks on until its End.
 pub fn tasks_ask_until_their_end()
-    ensures fits { (signals : ℕ) (arm : Bool) (cell : CellData) (number : ℕ) (tree : TypedTree) (mine : List Event) → WellTyped signals arm tree → Numbered cell number tree → AreOwn number tree mine → AreFit cell mine → FitsSteps tree (map (λ (e : Event). e.answer) mine) }
-    ensures asks { (signals : ℕ) (arm : Bool) (cell : CellData) (number : ℕ) (tree : TypedTree) (mine : List Event) → WellTyped signals arm tree → Numbered cell number tree → AreOwn number tree mine → AreFit cell mine → has_ended mine ≡ false → (request : Request) × (asked_after tree (map (λ (e : Event). e.answer) mine) ≡ asks request) }
+    ensures fits { (signals : ℕ) (cell : CellData) (number : ℕ) (tree : TypedTree) (mine : List Event) → WellTyped signals tree → Numbered cell number tree → AreOwn number tree mine → AreFit cell number mine → FitsSteps tree (map (λ (e : Event). e.answer) mine) }
+    ensures asks { (signals : ℕ) (cell : CellData) (number : ℕ) (tree : TypedTree) (mine : List Event) → WellTyped signals tree → Numbered cell number tree → AreOwn number tree mine → AreFit cell number mine → has_ended mine ≡ false → (request : Request) × (asked_after tree (map (λ (e : Event). e.answer) mine) ≡ asks request) }
+{}
+
+/// A law: a well typed task of a cell asks for no setpoint between a Trap and its Leave, as its own events so far tell it.
+pub fn no_setpoint_in_a_trap()
+    ensures { (cell : CellData) (number : ℕ) (tree : TypedTree) (answers : List Answer) (to : Joints) → WellTyped (length cell.signals) tree → Numbered cell number tree → asked_after tree answers ≡ asks (requests.Setpoint to) → is_trapped (own_events number tree answers) ≡ false }
+{}
+
+/// A law: the data of a well typed task hold its constant arrays as they were declared, those of the modules and those of each routine
+/// under way, after whatever answers.
+pub fn constants_stay()
+    ensures { (signals : ℕ) (cell : CellData) (number : ℕ) (tree : TypedTree) (answers : List Answer) (d : Data) → WellTyped signals tree → Numbered cell number tree → data_after tree answers ≡ Some d → KeepsConstants tree d }
 {}

@@ -4,4 +4,7 @@
 
 mod laws;
 
-pub use laws::{requests_suit_the_task, tasks_ask_until_their_end, well_typed_tasks_go_on};
+pub use laws::{
+    constants_stay, no_setpoint_in_a_trap, requests_suit_the_task, tasks_ask_until_their_end,
+    well_typed_tasks_go_on,
+};

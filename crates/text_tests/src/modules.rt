@@ -6,9 +6,10 @@ use crate::refused::{
 use module_parser::parse_module;
 use rapid_forms::{SyntaxFault, SyntaxRule};
 use rapid_lexer::{LexFault, LexRule};
+use rapid_model::{Mode, RoutineKind};
 use raw_trees::{
-    DatumKind, Mode, RawDatum, RawExpr, RawExprForm, RawForm, RawItem, RawName, RawParam,
-    RawRoutine, RawStmt, RoutineKind,
+    DatumKind, RawDatum, RawExpr, RawExprForm, RawForm, RawItem, RawName, RawParam, RawRoutine,
+    RawStmt,
 };
 use std::alloc::{AllocError, Global};
 use std::test::Fail;

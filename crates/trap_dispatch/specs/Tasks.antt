@@ -1,6 +1,7 @@
 -- The interrupts of one task (RAPID Instructions: CONNECT, ISleep, IWatch, IDelete, IDisable, IEnable).
 use Rattle.std.specs.Prelude.{◌≡◌, ◌≤◌, ℕ, ◌+◌, ◌-◌, Bool, true, false, not, ◌||◌, ◌==◌, nat_lt, IsTrue, if◌then◌else◌, List, [], ◌∷◌, ◌++◌, length, take, map, filter, replicate, slice_set, Option, None, Some, is_some, is_none, Result, Ok, Err}
 use Rattle.std.specs.List.{list_all, position_from}
+use Rattle.rapid_limits.specs.declared.TheConstants.{LONGEST_QUEUE, MOST_INTERRUPTS}
 use Rattle.rapid_model.specs.declared.watched.Watched.{Watched}
 use Rattle.trap_dispatch.specs.declared.connect_fault.ConnectFault.{ConnectFault}
 use Rattle.trap_dispatch.specs.declared.connect_fault.ConnectFault.TheVariants as connect_faults
@@ -20,13 +21,13 @@ pub record TaskData : Type 0 where
 
 -- there are 64 numbers and room for 1,024 firings, and each number that waits is connected
 pub record IsTask (numbers : List (Option Connected)) (queue : List ℕ) : Type 0 where
-  pub count : length numbers ≡ 64
-  pub room : length queue ≤ 1_024
+  pub count : length numbers ≡ MOST_INTERRUPTS
+  pub room : length queue ≤ LONGEST_QUEUE
   pub connected : IsTrue (list_all (λ number. is_some (connected_at numbers number)) queue)
 
 -- no number is connected
 abbrev pub before_all : TaskData
-before_all = record { numbers = replicate 64 None; queue = []; flood = false; disabled = false; in_trap = false }
+before_all = record { numbers = replicate MOST_INTERRUPTS None; queue = []; flood = false; disabled = false; in_trap = false }
 
 -- the least free number, which comes from 1
 abbrev pub least_free : Option ℕ → Result ℕ ConnectFault
@@ -71,7 +72,7 @@ deleted t number = record t { numbers = slice_set t.numbers (number - 1) None; q
 abbrev pub after_changes : List Watched → TaskData → TaskData
 after_changes changes t =
     let fired = fired_numbers changes t.numbers in
-    record { numbers = map (after_firing changes) t.numbers; queue = take 1_024 (t.queue ++ fired); flood = t.flood || nat_lt 1_024 (length t.queue + length fired); disabled = t.disabled; in_trap = t.in_trap }
+    record { numbers = map (after_firing changes) t.numbers; queue = take LONGEST_QUEUE (t.queue ++ fired); flood = t.flood || nat_lt LONGEST_QUEUE (length t.queue + length fired); disabled = t.disabled; in_trap = t.in_trap }
 
 -- the trap of an interrupt
 abbrev pub trap_of : Option Connected → ℕ

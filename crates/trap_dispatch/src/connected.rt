@@ -3,6 +3,7 @@ ghost use Rattle.std.specs.List.{position_from};
 ghost use Rattle.trap_dispatch.specs.Firing.{connected_at};
 
 use crate::order::Order;
+use rapid_limits::MOST_INTERRUPTS;
 
 /// An interrupt number that is connected: its trap, by the routine's number in its task, its order, and whether it sleeps
 /// (RAPID Instructions: CONNECT, ISleep, IWatch).
@@ -14,18 +15,21 @@ pub struct Connected {
 }
 
 /// What the number is connected with, of the numbers from 1 to 64; no other number is connected.
-pub(crate) fn connected_at(numbers: &[Option<Connected>; 64], number: u8) -> Option<Connected>
+pub(crate) fn connected_at(
+    numbers: &[Option<Connected>; MOST_INTERRUPTS],
+    number: u8,
+) -> Option<Connected>
     ensures { result ≡ connected_at numbers.now number }
 {
-    if number == 0 || number > 64 {
+    if number == 0 || number as usize > MOST_INTERRUPTS {
         return None;
     }
     numbers[number as usize - 1]
 }
 
 /// The index of the first free number.
-pub(crate) fn free_index(numbers: &[Option<Connected>; 64]) -> Option<usize>
-    ensures there { IfSome result (λ index. index < 64) }
+pub(crate) fn free_index(numbers: &[Option<Connected>; MOST_INTERRUPTS]) -> Option<usize>
+    ensures there { IfSome result (λ index. index < MOST_INTERRUPTS) }
     ensures first { result ≡ position_from is_none 0 numbers.now }
 {
     numbers.iter().position(|entry| entry.is_none())

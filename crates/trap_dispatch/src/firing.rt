@@ -7,17 +7,18 @@ ghost use Rattle.trap_dispatch.specs.Firing.{after_firing, after_its_firing, fir
 use crate::connected::Connected;
 use crate::order::Order;
 use arrayvec::ArrayVec;
+use rapid_limits::MOST_INTERRUPTS;
 use rapid_model::Watched;
 
 /// The numbers that the changes fire, ascending.
 pub(crate) fn fired_numbers(
-    numbers: &[Option<Connected>; 64],
+    numbers: &[Option<Connected>; MOST_INTERRUPTS],
     changes: &[Watched],
-) -> ArrayVec<u8, 64>
+) -> ArrayVec<u8, MOST_INTERRUPTS>
     ensures { result.items ≡ fired_numbers changes.now numbers.now }
 {
     let mut fired = ArrayVec::new();
-    for index in 0..64 {
+    for index in 0..MOST_INTERRUPTS {
         if fires(numbers[index], changes) {
             fired.push(index as u8 + 1);
         }
@@ -26,10 +27,10 @@ pub(crate) fn fired_numbers(
 }
 
 /// Ends the Single orders that fire.
-pub(crate) fn end_fired(numbers: &mut [Option<Connected>; 64], changes: &[Watched])
+pub(crate) fn end_fired(numbers: &mut [Option<Connected>; MOST_INTERRUPTS], changes: &[Watched])
     ensures { numbers.new ≡ map (after_firing changes.now) numbers.old }
 {
-    for index in 0..64 {
+    for index in 0..MOST_INTERRUPTS {
         numbers[index] = after_firing(numbers[index], changes);
     }
 }

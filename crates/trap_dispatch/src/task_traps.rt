@@ -13,18 +13,16 @@ use crate::order::Order;
 use crate::order_fault::OrderFault;
 use crate::unknown::Unknown;
 use circular_buffer::HeapCircularBuffer;
+use rapid_limits::{LONGEST_QUEUE, MOST_INTERRUPTS};
 use rapid_model::Watched;
 use std::alloc::{AllocError, Global};
 use std::marker::Model;
 
-/// How many firings may wait for their traps.
-const ROOM: usize = 1024;
-
-/// The interrupts of one task. Contracts see its 64 entries, index n - 1 for the number n, the numbers that wait, and whether
+/// The interrupts of one task. Contracts see its entries, index n - 1 for the number n, the numbers that wait, and whether
 /// the queue was flooded, interrupts are disabled, and the task is in a trap.
 #[derive(Drop)]
 pub(crate) struct TaskTraps {
-    numbers: [Option<Connected>; 64],
+    numbers: [Option<Connected>; MOST_INTERRUPTS],
     queue: HeapCircularBuffer<u8>,
     flood: bool,
     disabled: bool,
@@ -34,13 +32,14 @@ pub(crate) struct TaskTraps {
 impl Model for TaskTraps {
     ghost use Rattle.std.specs.Prelude.{◌≡◌};
     ghost use Rattle.trap_dispatch.specs.Tasks.{TaskData, IsTask};
+    ghost use Rattle.rapid_limits.specs.declared.TheConstants.{LONGEST_QUEUE};
 
     ghost Value = { TaskData };
 
     ghost view = { λ t. record { numbers = t.numbers; queue = t.queue.items; flood = t.flood; disabled = t.disabled; in_trap = t.in_trap } };
 
     // The queue has its room, and each number in it is connected.
-    ghost invariant = { λ t. (t.queue.capacity ≡ 1024) × IsTask t.numbers t.queue.items };
+    ghost invariant = { λ t. (t.queue.capacity ≡ LONGEST_QUEUE) × IsTask t.numbers t.queue.items };
 }
 
 impl TaskTraps {
@@ -49,8 +48,8 @@ impl TaskTraps {
         ensures { IfOk result (λ t. t ≡ before_all) }
     {
         Ok(TaskTraps {
-            numbers: [None; 64],
-            queue: HeapCircularBuffer::with_capacity(alloc, ROOM)?,
+            numbers: [None; MOST_INTERRUPTS],
+            queue: HeapCircularBuffer::with_capacity(alloc, LONGEST_QUEUE)?,
             flood: false,
             disabled: false,
             in_trap: false,

@@ -2,6 +2,7 @@
 use Rattle.std.proofs.Common.{◌≡◌, Bool, true, false, ◌||◌, ◌&&◌, List, [], Option, Some, None, refl, sym, ap, subst, ◌∙◌, if◌then◌else◌, slice_get}
 use Rattle.std.proofs.lemmas.Bool.{and_parts}
 use Rattle.raw_trees.specs.Plain.{PlainExpr, PlainName, Number, Place, PlaceOf, NotHeld}
+use Rattle.rapid_model.specs.Paths.{part_sort}
 use Rattle.rapid_model.specs.Sorts.{has_values}
 use Rattle.rapid_model.specs.declared.part_name.PartName.TheVariants as parts
 use Rattle.rapid_model.specs.declared.sort.Sort.{Sort}
@@ -15,6 +16,7 @@ use Rattle.typed_trees.specs.declared.expr.TreeRoot.{TreeRoot}
 use Rattle.typed_trees.specs.declared.expr.TreeRoot.TheVariants as roots
 use Rattle.named_data.specs.declared.component.Part.{Part}
 use Rattle.named_data.specs.declared.named.Access.{Access}
+use Rattle.named_data.specs.declared.named.Access.TheVariants as accesses
 use Rattle.named_data.specs.declared.named.Source.{Source}
 use Rattle.named_data.specs.declared.named.Source.TheVariants as sources
 use Rattle.named_data.specs.declared.wanted.Wanted.{Wanted}
@@ -30,7 +32,7 @@ use Rattle.task_typing.specs.Expressions.{IsArg, IsArray, IsExpr, IsPlace, is_zo
 use Rattle.task_typing.specs.Kinds.{Kind}
 use Rattle.task_typing.specs.Setting.{Setting}
 use Rattle.tree_soundness.proofs.Named.{Right, Suits}
-use Rattle.tree_soundness.proofs.Places.{Holds, IsHeld, array_typed, part_typed, place_typed}
+use Rattle.tree_soundness.proofs.Places.{Holds, IsHeld, IsValued, array_typed, may_write, part_typed, place_read, place_typed, valued_part}
 
 -- whether a place has an index
 abbrev pub is_indexed : PlainExpr → Bool
@@ -49,6 +51,16 @@ directed : (output : Bool) (there : Option Bool) → has_direction output there 
 directed true None e = absurd cc
 directed false None e = absurd cc
 directed output (Some b) e = (b, refl)
+
+-- what is lent to be written may be written
+lends_written : (need : Need) (access : Access) → lends need access ≡ true → may_write access ≡ true
+lends_written (needs.Var sort) accesses.Fixed e = absurd cc
+lends_written (needs.Pers sort) accesses.Fixed e = absurd cc
+lends_written (needs.VarOrPers sort) accesses.Fixed e = absurd cc
+lends_written (needs.Written sort) accesses.Fixed e = absurd cc
+lends_written needs.WorldZone accesses.Fixed e = absurd cc
+lends_written need accesses.Fixed e = absurd cc
+lends_written need access e = refl
 
 zone_sort : (sort : Sort) → (same_sort sort sorts.WzTemporary || same_sort sort sorts.WzStationary) ≡ true → is_zone sort ≡ true
 zone_sort sorts.WzTemporary e = refl
@@ -80,37 +92,42 @@ module _ (c : Setting) (kinds : List Kind) (s : Site) (suits : Suits c kinds s) 
   -- a part at the place of its root
   pub part_right : (name : PlainName) (held : trees.TypedHeld) (indexed : Bool) (components : List PlainName) (p : NamedPart) (root : TreeRoot) (access : Access)
       → rules.IsPlace s false name indexed held components p → Stands p.source root access → IsHeld c kinds indexed held
-      → IsPlace c kinds (trees.PlaceOf root p.index p.part p.sort) p.sort
+      → IsPlace c kinds (may_write access) (trees.PlaceOf root p.index p.part p.sort) p.sort × IsValued access p.sort
   part_right name held indexed components p root access is stands index =
       let d = is.datum in
       let q : NamedPart = record { source = d.source; array = d.array; index = held; part = is.part.name; sort = is.part.sort } in
       let there : Stands d.source root access = subst (λ (x : NamedPart). Stands x.source root access) is.is_it stands in
       let holds : Holds c kinds (sources.Place root access) d.sort d.array = subst (λ (x : Source). Holds c kinds x d.sort d.array) (stood d.source root access there) (suits.data_are name d is.is_datum) in
-      subst (λ (x : NamedPart). IsPlace c kinds (trees.PlaceOf root x.index x.part x.sort) x.sort) (sym is.is_it)
-      (place_typed c kinds root access d.sort d.array indexed held is.part holds is.has_index is.is_array index (part_typed d.sort (whole_of d.sort) components is.part is.is_part refl))
+      let part : part_sort d.sort is.part.name ≡ Some is.part.sort = part_typed d.sort (whole_of d.sort) components is.part is.is_part refl in
+      subst (λ (x : NamedPart). IsPlace c kinds (may_write access) (trees.PlaceOf root x.index x.part x.sort) x.sort × IsValued access x.sort) (sym is.is_it)
+      (place_typed c kinds root access d.sort d.array indexed held is.part holds is.has_index is.is_array index part, valued_part access d.sort is.part.name is.part.sort holds.3 part)
 
   -- a place that is lent where this holds of it
   place_right : (P : TypedArg → Type 0) (fits : Access → NamedPart → Bool) (e : PlainExpr) (IsIndexed : Indexes) (arg : TypedArg) → RightIndex e IsIndexed
-      → ((place : TypedPlace) (access : Access) (p : NamedPart) → fits access p ≡ true → IsPlace c kinds place p.sort → P (Lent place))
+      → ((place : TypedPlace) (access : Access) (p : NamedPart) → fits access p ≡ true → IsPlace c kinds (may_write access) place p.sort → P (Lent place))
       → IsPlaceArg s false fits e IsIndexed arg → P arg
   place_right P fits (Place at (PlaceOf name held components)) IsIndexed arg right next (i, p, indexed, place, lent) =
       subst P (sym lent.is_it)
       (next (trees.PlaceOf lent.root p.index p.part p.sort) lent.access p lent.fitting
-      (part_right name i (is_held held) components p lent.root lent.access place lent.stands (right i indexed)))
+      (part_right name i (is_held held) components p lent.root lent.access place lent.stands (right i indexed)).0)
   place_right P fits _ IsIndexed arg right next h = absurd h
 
   -- a place of a type that the need names
   lent_right : (need : Need) (sort : Sort) (e : PlainExpr) (IsIndexed : Indexes) (arg : TypedArg) → RightIndex e IsIndexed
-      → ((own : Sort) → takes need own ≡ true → own ≡ sort) → ((place : TypedPlace) → IsPlace c kinds place sort → IsArg c kinds (Lent place) need)
+      → ((own : Sort) → takes need own ≡ true → own ≡ sort) → ((place : TypedPlace) → IsPlace c kinds true place sort → IsArg c kinds (Lent place) need)
       → IsReference s need e IsIndexed arg → IsArg c kinds arg need
   lent_right need sort e IsIndexed arg right same lent h =
       place_right (λ x. IsArg c kinds x need) (λ access p. lends need access && takes need p.sort) e IsIndexed arg right
-      (λ place access p fits typed. lent place (subst (IsPlace c kinds place) (same p.sort (and_parts (lends need access) (takes need p.sort) fits).1) typed)) h
+      (λ place access p fits typed.
+      let both = and_parts (lends need access) (takes need p.sort) fits in
+      lent place (subst (IsPlace c kinds true place) (same p.sort both.1) (subst (λ (w : Bool). IsPlace c kinds w place p.sort) (lends_written need access both.0) typed))) h
 
   zone_right : (e : PlainExpr) (IsIndexed : Indexes) (arg : TypedArg) → RightIndex e IsIndexed → IsReference s needs.WorldZone e IsIndexed arg → IsArg c kinds arg needs.WorldZone
   zone_right e IsIndexed arg right h =
       place_right (λ x. IsArg c kinds x needs.WorldZone) (λ access p. lends needs.WorldZone access && takes needs.WorldZone p.sort) e IsIndexed arg right
-      (λ place access p fits typed. (p.sort, zone_sort p.sort (and_parts (lends needs.WorldZone access) (takes needs.WorldZone p.sort) fits).1, typed)) h
+      (λ place access p fits typed.
+      let both = and_parts (lends needs.WorldZone access) (takes needs.WorldZone p.sort) fits in
+      (p.sort, zone_sort p.sort both.1, subst (λ (w : Bool). IsPlace c kinds w place p.sort) (lends_written needs.WorldZone access both.0) typed)) h
 
   -- an array without an index
   whole_right : (P : TypedArg → Type 0) (of_sort : Sort → Bool) (e : PlainExpr) (IsIndexed : Indexes) (arg : TypedArg) → RightIndex e IsIndexed
@@ -141,7 +158,7 @@ module _ (c : Setting) (kinds : List Kind) (s : Site) (suits : Suits c kinds s) 
   pers_right (Place at (PlaceOf name NotHeld [])) arg (d, number, access, is_datum, stands, is) =
       let holds : Holds c kinds (sources.Place (roots.Pers number) access) d.sort d.array =
       subst (λ (x : Source). Holds c kinds x d.sort d.array) (stood d.source (roots.Pers number) access stands) (suits.data_are name d is_datum) in
-      let (len, (p, there, same, long), array) = holds in
+      let (len, (p, there, same, long), array, valued) = holds in
       subst (λ (x : TypedArg). IsArg c kinds x needs.PersName) (sym is) (p, there, same)
   pers_right _ arg h = absurd h
 
@@ -157,7 +174,7 @@ module _ (c : Setting) (kinds : List Kind) (s : Site) (suits : Suits c kinds s) 
   argument_right needs.WorldZone e IsValue IsIndexed arg value index h = zone_right e IsIndexed arg index h
   argument_right (needs.Place sort) e IsValue IsIndexed arg value index h =
       place_right (λ x. IsArg c kinds x (needs.Place sort)) (λ access p. same_sort p.sort sort) e IsIndexed arg index
-      (λ place access p fits typed. subst (IsPlace c kinds place) (same_sort_is p.sort sort fits) typed) h
+      (λ place access p fits typed. subst (IsPlace c kinds false place) (same_sort_is p.sort sort fits) (place_read c kinds (may_write access) place p.sort typed)) h
   argument_right needs.Array e IsValue IsIndexed arg value index h =
       whole_right (λ x. IsArg c kinds x needs.Array) has_values e IsIndexed arg index (λ place sort valued typed. (sort, valued, typed)) h
   argument_right needs.TaskList e IsValue IsIndexed arg value index h =

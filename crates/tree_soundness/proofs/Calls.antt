@@ -1,9 +1,9 @@
 -- The arguments of calls of functions and procedures: as many as are needed, each as it is needed.
-use Rattle.std.proofs.Common.{◌≡◌, ℕ, ◌+◌, Bool, true, not, ◌||◌, ◌==◌, List, [], ◌∷◌, length, map, drop, Option, Some, refl, sym, subst, ◌∙◌, nat_le, slice_get, length-drop, arith}
+use Rattle.std.proofs.Common.{◌≡◌, ℕ, ◌+◌, Bool, true, not, ◌||◌, ◌==◌, List, [], ◌∷◌, length, map, drop, Option, Some, refl, sym, subst, ◌∙◌, nat_le, nat_lt, slice_get, length-drop, arith}
 use Rattle.std.proofs.lemmas.Bool.{and_parts, eqb-true}
 use Rattle.raw_trees.specs.Plain.{PlainArgs, PlainName, Needed, Optional, NoArgs, MoreArgs}
-use Rattle.raw_trees.specs.declared.raw_routine.RoutineKind.{RoutineKind}
-use Rattle.raw_trees.specs.declared.raw_routine.RoutineKind.TheVariants as routines
+use Rattle.rapid_model.specs.declared.routine_kind.RoutineKind.{RoutineKind}
+use Rattle.rapid_model.specs.declared.routine_kind.RoutineKind.TheVariants as routines
 use Rattle.rapid_model.specs.declared.function.Function.{Function}
 use Rattle.rapid_model.specs.declared.sort.Sort.{Sort}
 use Rattle.rapid_builtins.specs.Calls.{OptionRow, function_needs_arm, function_result, option_named}
@@ -57,7 +57,7 @@ module _ (c : Setting) (kinds : List Kind) where
     builtin_right f taken call = (
       refl,
       refl,
-      subst (λ (b : Bool). (not (function_needs_arm f) || b) ≡ true) suits.arm call.armed,
+      subst (λ (axes : ℕ). (not (function_needs_arm f) || nat_lt 0 axes) ≡ true) suits.axes call.armed,
       args_right args (taking (function_signature f)) us refl (counted (function_signature f) call) taken,
     )
 

@@ -4,10 +4,11 @@ use Rattle.std.specs.Option.{option_map}
 use Rattle.std.proofs.lemmas.List.{length-map}
 use Rattle.std.proofs.lemmas.Option.{slice_get_within, slice_get-map}
 use Rattle.rapid_model.specs.CellData.{CellData}
-use Rattle.rapid_model.specs.ScriptData.{ScriptData, row_of}
+use Rattle.rapid_model.specs.ScriptData.{IsScript, ScriptData, row_of}
 use Rattle.rapid_model.specs.declared.script_task.ScriptTask.{ScriptTask}
 use Rattle.rapid_model.specs.declared.task_row.TaskRow.{TaskRow}
 use Rattle.rapid_model.proofs.Lists.{there_is}
+use Rattle.rapid_model.proofs.Scripts.{few_tasks, script_starts}
 use Rattle.typed_trees.specs.Plain.{TypedPers, TypedTree}
 use Rattle.rule_checks.proofs.Steps.{behind, ok_same}
 use Rattle.cell_assembly.specs.Cells.{MeetingTables, PersInfo, cell_tables, tables, give_all, trees_meetings, trees_pers}
@@ -88,8 +89,9 @@ module _ (script : ScriptData) (trees : List TypedTree) (made : MadeCell) (made_
   tree_made k tree is = numbered_at trees all.lists met.lists k tree (ap (λ (m : MadeCell). slice_get m.trees k) (sym all.is) ∙ is)
 
   -- the numbers are those of the cell
-  pub made_right : (k : ℕ) (tree : TypedTree) → length script.tasks ≤ 8 → length trees ≡ length script.tasks → slice_get made.trees k ≡ Some tree → tree.tasks ≡ map (λ (task : ScriptTask). task.name) script.tasks → Numbered made.cell k tree
-  made_right k tree few as_many is named =
+  pub made_right : (k : ℕ) (tree : TypedTree) → IsScript script → length trees ≡ length script.tasks → slice_get made.trees k ≡ Some tree → tree.tasks ≡ map (λ (task : ScriptTask). task.name) script.tasks
+      → ((task : ScriptTask) → slice_get script.tasks k ≡ Some task → tree.axes ≡ task.axes) → Numbered made.cell k tree
+  made_right k tree is_script as_many is named counted =
       let t = tree_made k tree is in
       let p = partner (TreeOf all.pers) trees all.lists k t.before all.each t.is_tree in
       let m = partner (MeetingsOf (length met.names)) trees met.lists k t.before (meetings_numbered trees) t.is_tree in
@@ -104,7 +106,9 @@ module _ (script : ScriptData) (trees : List TypedTree) (made : MadeCell) (made_
         task_row = row_of task.0;
         there = slice_get-map row_of script.tasks k ∙ ap (option_map row_of) task.1;
         tasks = ap (λ (x : TypedTree). x.tasks) (sym t.is) ∙ named ∙ sym (names_same script.tasks);
-        few_tasks = omega (arith, few, length-map script.tasks row_of);
+        few_tasks = omega (arith, few_tasks script is_script, length-map script.tasks row_of);
+        axes = ap (λ (x : TypedTree). x.axes) (sym t.is) ∙ counted task.0 task.1;
+        starts = script_starts script k task.0 is_script task.1;
         as_many_pers = sym (each_length (IsOf all.pers) t.before.pers t.pers_of each);
         pers = λ row number pers is so.
             let found = partner (IsOf all.pers) t.before.pers t.pers_of row pers each so in
@@ -115,11 +119,16 @@ module _ (script : ScriptData) (trees : List TypedTree) (made : MadeCell) (made_
       }))
 
   -- and the trees stay well typed
-  pub made_typed : (signals : ℕ) (arm : Bool) (k : ℕ) (before tree : TypedTree) → slice_get trees k ≡ Some before → slice_get made.trees k ≡ Some tree → WellTyped signals arm before → WellTyped signals arm tree
-  made_typed signals arm k before tree there is typed =
+  pub made_typed : (signals : ℕ) (k : ℕ) (before tree : TypedTree) → slice_get trees k ≡ Some before → slice_get made.trees k ≡ Some tree → WellTyped signals before → WellTyped signals tree
+  made_typed signals k before tree there is typed =
       let t = tree_made k tree is in
       let same : before ≡ t.before = let e : Some before ≡ Some t.before = sym there ∙ t.is_tree in cc in
-      subst (WellTyped signals arm) (sym t.is) (stays signals arm t.before t.pers_of t.meeting_of (subst (WellTyped signals arm) same typed))
+      subst (WellTyped signals) (sym t.is) (stays signals t.before t.pers_of t.meeting_of (subst (WellTyped signals) same typed))
+
+  -- a numbered tree has the axes that it had
+  pub made_counted : (k : ℕ) (tree : TypedTree) (axes : ℕ) → slice_get made.trees k ≡ Some tree → ((before : TypedTree) → slice_get trees k ≡ Some before → before.axes ≡ axes) → tree.axes ≡ axes
+  made_counted k tree axes is counted =
+      let t = tree_made k tree is in ap (λ (x : TypedTree). x.axes) t.is ∙ counted t.before t.is_tree
 
   -- a numbered tree has the names that it had
   pub made_named : (k : ℕ) (tree : TypedTree) (names : List (List ℕ)) → slice_get made.trees k ≡ Some tree → ((before : TypedTree) → slice_get trees k ≡ Some before → before.tasks ≡ names) → tree.tasks ≡ names

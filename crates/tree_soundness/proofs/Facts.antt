@@ -1,12 +1,13 @@
 -- Names stand for what the tree of their modules has, at each spot.
-use Rattle.std.proofs.Common.{◌≡◌, ℕ, ◌+◌, ◌-◌, ◌<◌, Bool, true, false, List, [], length, map, Option, Some, None, is_some, slice_get, refl, sym, ap, subst, ◌∙◌, if◌then◌else◌, IsTrue, nat_lt, arith}
+use Rattle.std.proofs.Common.{◌≡◌, ℕ, ◌+◌, ◌-◌, ◌<◌, Bool, true, false, not, List, [], length, map, Option, Some, None, is_some, slice_get, refl, sym, ap, subst, ◌∙◌, if◌then◌else◌, IsTrue, nat_lt, arith}
 use Rattle.std.specs.Option.{option_and_then, option_map}
 use Rattle.std.proofs.Math.Logic.{⊎_elim}
 use Rattle.std.proofs.lemmas.Bool.{lt-ltb}
 use Rattle.std.proofs.lemmas.Option.{slice_get_within, same_Some}
 use Rattle.raw_trees.specs.Plain.{PlainModule}
-use Rattle.raw_trees.specs.declared.raw_routine.Mode.{Mode}
-use Rattle.raw_trees.specs.declared.raw_routine.RoutineKind.{RoutineKind}
+use Rattle.rapid_model.specs.declared.mode.Mode.{Mode}
+use Rattle.rapid_model.specs.declared.mode.Mode.TheVariants as modes
+use Rattle.rapid_model.specs.declared.routine_kind.RoutineKind.{RoutineKind}
 use Rattle.rapid_model.specs.Limits.{holds_where_there}
 use Rattle.rapid_model.specs.Paths.{has_sort}
 use Rattle.rapid_model.specs.declared.predefined.Predefined.{Predefined}
@@ -16,16 +17,20 @@ use Rattle.rapid_model.specs.declared.sort.Sort.{Sort}
 use Rattle.rapid_model.specs.declared.value.Value.{Value}
 use Rattle.rapid_builtins.specs.Data.{predefined_datum}
 use Rattle.typed_trees.specs.Plain.{TypedLocal, TypedParam, TypedRoutine, TypedTree}
+use Rattle.typed_trees.specs.declared.datum.Datum.{Datum}
 use Rattle.typed_trees.specs.declared.expr.TreeRoot.{TreeRoot}
 use Rattle.typed_trees.specs.declared.expr.TreeRoot.TheVariants as roots
 use Rattle.rule_checks.specs.declared.spot.Spot.{Spot}
 use Rattle.data_scopes.specs.declared.data_row.DatumRow.{DatumRow}
 use Rattle.data_scopes.specs.declared.data_row.ParamRow.{ParamRow}
+use Rattle.data_scopes.specs.declared.data_row.Since.{Since}
 use Rattle.data_scopes.specs.declared.meant.Meant.{Meant}
 use Rattle.data_scopes.specs.declared.meant.Meant.TheVariants as meants
 use Rattle.data_scopes.specs.Called.{kind_of, local_of, param_of, params_in, own_row, data_count_in, data_count_of, value_row}
 use Rattle.data_scopes.specs.Meetings.{is_meeting, meetings_before}
 use Rattle.data_scopes.specs.Scopes.{Names, RoutineRow, Rows, meaning}
+use Rattle.named_data.specs.Data.{access_by, access_of}
+use Rattle.named_data.specs.declared.named.Access.{Access}
 use Rattle.named_data.specs.declared.named.NamedDatum.{NamedDatum}
 use Rattle.named_data.specs.Rules.{Site}
 use Rattle.expr_types.specs.Calls as calls
@@ -34,15 +39,15 @@ use Rattle.name_laws.specs.Declared.{AreEach}
 use Rattle.name_laws.specs.Meant.{HasItsRow, Inside}
 use Rattle.name_laws.proofs.Tree.{each_length}
 use Rattle.name_laws.proofs.Means.{partner}
-use Rattle.task_typing.specs.Expressions.{IsRoot}
-use Rattle.task_typing.specs.Kinds.{Counts, Kind, Owns, Refers, kind_by, kind_of as kind_in, kinds_of}
+use Rattle.task_typing.specs.Expressions.{IsOwn, IsRoot}
+use Rattle.task_typing.specs.Kinds.{Counts, Kind, Owns, Refers, kind_by, kind_in as kind_of_row, kind_of as kind_in, kinds_of, local_kind}
 use Rattle.task_typing.specs.Setting.{Setting}
-use Rattle.tree_soundness.proofs.RowKinds.{local_kind, loop_kind, param_kind, reference_kind, value_kind}
+use Rattle.tree_soundness.proofs.RowKinds.{loop_kind, own_kind, param_kind, reference_kind, value_kind}
 use Rattle.tree_soundness.proofs.Lists.{origin}
 use Rattle.tree_soundness.proofs.Named.{IsCallable, Suits}
-use Rattle.tree_soundness.proofs.Places.{Holds}
+use Rattle.tree_soundness.proofs.Places.{Holds, IsValued, may_write}
 use Rattle.tree_soundness.proofs.Routines.{ParamAlike, RoutineAlike, needs_alike}
-use Rattle.tree_soundness.proofs.Rows.{IsLike, LocalAlike, PersAlike, SlotAlike, place_behind}
+use Rattle.tree_soundness.proofs.Rows.{IsFixed, IsLike, LocalAlike, PersAlike, SlotAlike, place_behind}
 
 -- a kept value is a full one of its CONST's type
 abbrev pub Kept : List DatumRow → List (Option Value) → Type 0
@@ -57,7 +62,7 @@ pub record Facts (modules : List PlainModule) (signals : List SignalRow) (c : Se
   pub meetings : (number : ℕ) → is_meeting (slice_get names.rows.slots number) ≡ true → meetings_before number names.rows.slots < length c.tree.meetings
   pub outputs : length names.outputs ≡ c.signals
   pub few : length signals ≡ c.signals
-  pub arm : names.arm ≡ c.arm
+  pub axes : names.axes ≡ c.tree.axes
 
 -- the kinds of the rows of the routine around, if there is one
 abbrev pub kinds_in : Option TypedRoutine → List Kind
@@ -76,6 +81,24 @@ fine : (name : Predefined) → is_fine (predefined_datum name)
 fine predefineds.V5 = refl
 fine _ = refl
 
+-- a row of data is written where it is no constant's
+own_row_typed : (since : Option Since) (variable : Bool) (own sort : Sort) (len : Option ℕ) (first : List Datum) → variable ≡ not (is_some since) → own ≡ sort
+    → IsOwn (may_write (access_of since)) (kind_of_row variable own len first) sort len
+own_row_typed None true own sort len first e same = (same, refl)
+own_row_typed None false own sort len first e same = absurd cc
+own_row_typed (Some since) true own sort len first e same = absurd cc
+own_row_typed (Some since) false own sort len first e same = (same, refl, refl)
+
+valued_row : (since : Option Since) (variable : Bool) (sort : Sort) → variable ≡ not (is_some since) → IsFixed variable sort → IsValued (access_of since) sort
+valued_row None variable sort e fixed = tt
+valued_row (Some since) variable sort e fixed = fixed e
+
+free_by : (mode : Mode) (sort : Sort) → IsValued (access_by mode) sort
+free_by modes.Value sort = tt
+free_by modes.Var sort = tt
+free_by modes.Pers sort = tt
+free_by modes.Inout sort = tt
+
 -- the first places of a routine are its parameters
 place_first : (row : RoutineRow) (k : ℕ) (p : ParamRow) → slice_get row.params k ≡ Some p → own_row row k ≡ Some (value_row p)
 place_first row k p is =
@@ -90,9 +113,9 @@ module _ (modules : List PlainModule) (signals : List SignalRow) (c : Setting) (
   abbrev kinds : List Kind
   kinds = kinds_at c.tree spot.routine
 
-  -- what is at a root, of a type, and an array or none
-  abbrev IsAt : TreeRoot → Sort → Bool → Type 0
-  IsAt root sort array = (len : Option ℕ) × IsRoot c.tree kinds root sort len × (is_some len ≡ array)
+  -- what is at a root, accessed so, of a type, and an array or none
+  abbrev IsAt : TreeRoot → Access → Sort → Bool → Type 0
+  IsAt root access sort array = (len : Option ℕ) × IsRoot c.tree kinds (may_write access) root sort len × (is_some len ≡ array) × IsValued access sort
 
   -- the routine around, and its row
   pub record Around (t : TypedRoutine) : Type 0 where
@@ -127,7 +150,7 @@ module _ (modules : List PlainModule) (signals : List SignalRow) (c : Setting) (
         sym (ap (λ (rs : Rows). param_of rs spot.routine place) like.rows ∙ ap (λ (o : Option ℕ). param_of names.rows o place) a.inside ∙ ap (λ (o : Option RoutineRow). slice_get (params_in o) place) a.has_row) ∙ e
 
     -- a parameter by value
-    value_at : (place : ℕ) (row : DatumRow) (p : TypedParam) → own_row a.row place ≡ Some row → slice_get t.params place ≡ Some p → kind_in p ≡ Owns p.sort None → IsAt (roots.Local place) row.sort row.array
+    value_at : (place : ℕ) (row : DatumRow) (p : TypedParam) → own_row a.row place ≡ Some row → slice_get t.params place ≡ Some p → kind_in p ≡ Owns p.sort None → IsAt (roots.Local place) (access_of row.since) row.sort row.array
     value_at place row p e is kind =
         let o = origin ParamAlike a.row.params t.params place p a.alike.params is in
         let same : value_row o.x ≡ row = same_Some (value_row o.x) row (sym (place_first a.row place o.x o.is) ∙ e) in
@@ -135,24 +158,30 @@ module _ (modules : List PlainModule) (signals : List SignalRow) (c : Setting) (
           None,
           (Owns p.sort None, ap (λ (ks : List Kind). slice_get ks place) a.kinds_are ∙ param_kind t place p is ∙ ap Some kind, (sort, refl)),
           ap (λ x. x.array) same,
+          subst (λ (x : DatumRow). IsValued (access_of x.since) x.sort) same tt,
         )
 
-    datum_at : (place k : ℕ) (row : DatumRow) (l : TypedLocal) → own_row a.row place ≡ Some row → place ≡ length t.params + k → slice_get t.locals k ≡ Some l → IsAt (roots.Local place) row.sort row.array
+    datum_at : (place k : ℕ) (row : DatumRow) (l : TypedLocal) → own_row a.row place ≡ Some row → place ≡ length t.params + k → slice_get t.locals k ≡ Some l → IsAt (roots.Local place) (access_of row.since) row.sort row.array
     datum_at place k row l e behind is =
         let o = origin LocalAlike a.row.locals t.locals k l a.alike.locals is in
         let long = each_length ParamAlike a.row.params t.params a.alike.params in
         let same : o.x ≡ row = same_Some o.x row (sym (place_behind a.row k place (omega (arith, behind, long)) ∙ o.is) ∙ e) in (
           l.len,
-          (Owns l.sort l.len, ap (λ (ks : List Kind). slice_get ks place) a.kinds_are ∙ local_kind t k place l behind is, (o.such.0 ∙ ap (λ x. x.sort) same, refl)),
+          (
+            local_kind l,
+            ap (λ (ks : List Kind). slice_get ks place) a.kinds_are ∙ own_kind t k place l behind is,
+            own_row_typed row.since l.variable l.sort row.sort l.len l.first (o.such.2 ∙ ap (λ x. not (is_some x.since)) same) (o.such.0 ∙ ap (λ x. x.sort) same),
+          ),
           o.such.1 ∙ ap (λ x. x.array) same,
+          valued_row row.since l.variable row.sort (o.such.2 ∙ ap (λ x. not (is_some x.since)) same) (subst (λ (x : DatumRow). IsFixed l.variable x.sort) same o.such.3),
         )
 
-    reference_at : (place : ℕ) (row : ParamRow) (p : TypedParam) → slice_get a.row.params place ≡ Some row → slice_get t.params place ≡ Some p → kind_in p ≡ Refers p.sort → IsAt (roots.Ref place) row.sort false
+    reference_at : (place : ℕ) (row : ParamRow) (p : TypedParam) → slice_get a.row.params place ≡ Some row → slice_get t.params place ≡ Some p → kind_in p ≡ Refers p.sort → IsAt (roots.Ref place) (access_by row.mode) row.sort false
     reference_at place row p e is kind =
         let o = origin ParamAlike a.row.params t.params place p a.alike.params is in
         let same : o.x ≡ row = same_Some o.x row (sym o.is ∙ e) in
         let sort : p.sort ≡ row.sort = o.such.1 ∙ ap (λ x. x.sort) same in
-        (None, (ap (λ (ks : List Kind). slice_get ks place) a.kinds_are ∙ param_kind t place p is ∙ ap Some kind ∙ ap (λ (x : Sort). Some (Refers x)) sort, refl), refl)
+        (None, (ap (λ (ks : List Kind). slice_get ks place) a.kinds_are ∙ param_kind t place p is ∙ ap Some kind ∙ ap (λ (x : Sort). Some (Refers x)) sort, refl), refl, free_by row.mode row.sort)
 
     pub loop_at : (k : ℕ) → k < t.loops → slice_get kinds (data_count_of other.rows spot.routine + k) ≡ Some Counts
     loop_at k few =
@@ -164,15 +193,19 @@ module _ (modules : List PlainModule) (signals : List SignalRow) (c : Setting) (
         ∙ loop_kind t k (data_count_of other.rows spot.routine + k) (omega (arith, many, params, rows)) few
 
   -- what has a place of its own
-  stored_holds : (root : TreeRoot) (row : Option DatumRow) (d : NamedDatum) → ((r : DatumRow) → row ≡ Some r → IsAt root r.sort r.array) → IsStored here root row d → Holds c kinds d.source d.sort d.array
+  stored_holds : (root : TreeRoot) (row : Option DatumRow) (d : NamedDatum) → ((r : DatumRow) → row ≡ Some r → IsAt root (access_of r.since) r.sort r.array) → IsStored here root row d → Holds c kinds d.source d.sort d.array
   stored_holds root None d at h = absurd h
   stored_holds root (Some r) d at (before, is) = subst (λ (x : NamedDatum). Holds c kinds x.source x.sort x.array) (sym is) (at r refl)
 
   slot_holds : (number : ℕ) (d : NamedDatum) → IsStored here (roots.Slot number) (slice_get other.rows.slots number) d → Holds c kinds d.source d.sort d.array
   slot_holds number d h =
       stored_holds (roots.Slot number) (slice_get other.rows.slots number) d (λ r is.
-      let p = partner SlotAlike names.rows.slots c.tree.slots number r facts.slots (ap (λ (rs : Rows). slice_get rs.slots number) (sym like.rows) ∙ is) in
-      (p.y.len, (p.y, p.is, p.such.0, refl), p.such.1)) h
+      let p = partner SlotAlike names.rows.slots c.tree.slots number r facts.slots (ap (λ (rs : Rows). slice_get rs.slots number) (sym like.rows) ∙ is) in (
+        p.y.len,
+        (p.y, p.is, own_row_typed r.since p.y.variable p.y.sort r.sort p.y.len p.y.first p.such.2 p.such.0),
+        p.such.1,
+        valued_row r.since p.y.variable r.sort p.such.2 p.such.3,
+      )) h
 
   local_holds : (place : ℕ) (name : List ℕ) (d : NamedDatum) → HasItsRow modules signals c.tree spot name (meants.Local place) → IsStored here (roots.Local place) (local_of other.rows spot.routine place) d
       → Holds c kinds d.source d.sort d.array
@@ -199,7 +232,7 @@ module _ (modules : List PlainModule) (signals : List SignalRow) (c : Setting) (
   pers_holds number None d e h = absurd h
   pers_holds number (Some r) d e is =
       let p = partner PersAlike names.rows.pers c.tree.pers number r facts.pers (ap (λ (rs : Rows). slice_get rs.pers number) (sym like.rows) ∙ e) in
-      subst (λ (x : NamedDatum). Holds c kinds x.source x.sort x.array) (sym is) (p.y.len, (p.y, p.is, p.such.0, refl), p.such.1)
+      subst (λ (x : NamedDatum). Holds c kinds x.source x.sort x.array) (sym is) (p.y.len, (p.y, p.is, p.such.0, refl), p.such.1, tt)
 
   constant_holds : (number : ℕ) (row : Option DatumRow) (value : Option (Option Value)) (d : NamedDatum) → slice_get other.rows.consts number ≡ row → slice_get other.kept number ≡ value → IsConstant here row value d
       → Holds c kinds d.source d.sort d.array
@@ -224,7 +257,7 @@ module _ (modules : List PlainModule) (signals : List SignalRow) (c : Setting) (
   counter_holds : (number : ℕ) (name : List ℕ) (d : NamedDatum) → HasItsRow modules signals c.tree spot name (meants.For number) → IsMeant here (Some (meants.For number)) d → Holds c kinds d.source d.sort d.array
   counter_holds number name d has is =
       let a = around name has.inside in
-      subst (λ (x : NamedDatum). Holds c kinds x.source x.sort x.array) (sym is) (None, (Counts, loop_at has.inside.row a number has.has_place, (refl, refl)), refl)
+      subst (λ (x : NamedDatum). Holds c kinds x.source x.sort x.array) (sym is) (None, (Counts, loop_at has.inside.row a number has.has_place, (refl, refl)), refl, refl)
 
   has_row : (name : List ℕ) (meant : Meant) → meaning other.tables spot name ≡ Some meant → HasItsRow modules signals c.tree spot name meant
   has_row name meant e = facts.meant spot name meant (ap (λ tables. meaning tables spot name) (sym like.tables) ∙ e)
@@ -267,5 +300,5 @@ module _ (modules : List PlainModule) (signals : List SignalRow) (c : Setting) (
         omega (arith, within, long, same);
     meetings = λ number is.
         subst (λ (rs : Rows). meetings_before number rs.slots < length c.tree.meetings) (sym like.rows) (facts.meetings number (subst (λ (rs : Rows). is_meeting (slice_get rs.slots number) ≡ true) like.rows is));
-    arm = like.arm ∙ facts.arm;
+    axes = like.axes ∙ facts.axes;
   }

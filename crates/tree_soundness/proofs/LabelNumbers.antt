@@ -75,8 +75,8 @@ routine_counts names locals number k r t (ts, middle, h, loops, are, is_handler,
     let counts : Counts 0 (numbered labels labels) = counted labels [] labels refl (first_append labels (labels_in list) (labels_in_else other) d.first e.1) apart in
     subst NumbersLabels (sym is) (subst (Counts 0) (sym all) counts)
 
-pub labels_count : (modules : List PlainModule) (tasks : List (List ℕ)) (signals : List SignalRow) (arm : Bool) (tree : TypedTree) → IsTyped modules tasks signals arm tree → All LabelsApart (routines_of modules) → All NumbersLabels tree.routines
-labels_count modules tasks signals arm tree typed apart =
+pub labels_count : (modules : List PlainModule) (tasks : List (List ℕ)) (signals : List SignalRow) (axes : ℕ) (tree : TypedTree) → IsTyped modules tasks signals axes tree → All LabelsApart (routines_of modules) → All NumbersLabels tree.routines
+labels_count modules tasks signals axes tree typed apart =
     let p = typed.data_are in
     let Of = IsTypedOf p.names p.locals in
     let same : tree.routines ≡ typed.routines = ap (λ (x : TypedTree). x.routines) typed.is_tree in

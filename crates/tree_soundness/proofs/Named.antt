@@ -1,7 +1,7 @@
 -- What expressions may use at a site of a tree that is checked.
 use Rattle.std.proofs.Common.{◌≡◌, ℕ, ◌<◌, true, Bool, List, length, map, Some, slice_get}
 use Rattle.raw_trees.specs.Plain.{PlainName}
-use Rattle.raw_trees.specs.declared.raw_routine.RoutineKind.{RoutineKind}
+use Rattle.rapid_model.specs.declared.routine_kind.RoutineKind.{RoutineKind}
 use Rattle.typed_trees.specs.Plain.{TypedExpr, TypedRoutine}
 use Rattle.data_scopes.specs.Called.{kind_of, params_of, result_of}
 use Rattle.data_scopes.specs.Meetings.{is_meeting, meetings_before}
@@ -32,7 +32,7 @@ pub record Suits (c : Setting) (kinds : List Kind) (s : Site) : Type 0 where
   pub routines : (number : ℕ) (kind : RoutineKind) → kind_of s.names.rows number ≡ Some kind → IsCallable c s.names.rows number kind
   pub signals : (signal : ℕ) (output : Bool) → slice_get s.names.outputs signal ≡ Some output → signal < c.signals
   pub meetings : (number : ℕ) → is_meeting (slice_get s.names.rows.slots number) ≡ true → meetings_before number s.names.rows.slots < length c.tree.meetings
-  pub arm : s.names.arm ≡ c.arm
+  pub axes : s.names.axes ≡ c.tree.axes
 
 -- a typed form is one of its own type, which is what is wanted
 abbrev pub Right : Setting → List Kind → Wanted → TypedExpr → Type 0

@@ -12,18 +12,21 @@ use Rattle.rapid_model.specs.declared.sort.Sort.TheVariants as sorts
 use Rattle.rapid_model.specs.declared.value.Value.{Value}
 use Rattle.rapid_values.specs.Components.{Component, component_of, components}
 use Rattle.rapid_values.specs.Values.{part_of}
-use Rattle.typed_trees.specs.Plain.{TypedExpr, TypedHeld, NotHeld, Held, PlaceOf}
+use Rattle.typed_trees.specs.Plain.{TypedExpr, TypedHeld, TypedPlace, NotHeld, Held, PlaceOf}
 use Rattle.typed_trees.specs.declared.expr.TreeRoot.{TreeRoot}
+use Rattle.typed_trees.specs.declared.expr.TreeRoot.TheVariants as roots
 use Rattle.named_data.specs.declared.component.Part.{Part}
 use Rattle.named_data.specs.declared.named.Access.{Access}
+use Rattle.named_data.specs.declared.named.Access.TheVariants as accesses
 use Rattle.named_data.specs.declared.named.Source.{Source}
 use Rattle.named_data.specs.declared.named.Source.TheVariants as sources
 use Rattle.named_data.specs.Data.{NamedPart, as_part, or_whole, value_from}
 use Rattle.expr_types.specs.Typing.{sort_of}
 use Rattle.typing_rules.specs.Names.{IsPart}
-use Rattle.task_typing.specs.Expressions.{IsArray, IsExpr, IsPlace, IsRoot}
-use Rattle.task_typing.specs.Kinds.{Kind}
+use Rattle.task_typing.specs.Expressions.{IsArray, IsExpr, IsOwn, IsPlace, IsRoot}
+use Rattle.task_typing.specs.Kinds.{Counts, Keeps, Kind, Owns, Refers, slot_kind}
 use Rattle.task_typing.specs.Setting.{Setting}
+use Rattle.task_typing.proofs.Data.{part_valued}
 use Rattle.task_typing.proofs.Parts.{value_part}
 
 -- each component is a part of the whole, and has its type
@@ -73,9 +76,19 @@ part_typed whole found [] p is e = subst (λ (x : Part). part_sort whole x.name 
 part_typed whole found (name ∷ names) p (c, is, rest) e =
     part_typed whole (as_part c) names p rest (component_typed whole name.text (components found.sort) c is (parts_of_part whole found.name found.sort e))
 
--- what a name stands for is there, of this type, and an array or none
+-- what is accessed so may be written
+abbrev pub may_write : Access → Bool
+may_write accesses.Fixed = false
+may_write _ = true
+
+-- what is never written has values
+abbrev pub IsValued : Access → Sort → Type 0
+IsValued accesses.Fixed sort = has_values sort ≡ true
+IsValued _ sort = Unit {0}
+
+-- what a name stands for is there, of this type, and an array or none, to write where it may be written
 abbrev pub Holds : Setting → List Kind → Source → Sort → Bool → Type 0
-Holds c kinds (sources.Place root access) sort array = (len : Option ℕ) × IsRoot c.tree kinds root sort len × (is_some len ≡ array)
+Holds c kinds (sources.Place root access) sort array = (len : Option ℕ) × IsRoot c.tree kinds (may_write access) root sort len × (is_some len ≡ array) × IsValued access sort
 Holds c kinds (sources.Value value) sort array = IsTrue (has_sort sort value)
 Holds c kinds sources.Errno sort array = sort ≡ sorts.Num
 Holds c kinds (sources.Signal signal) sort array = (sort ≡ sorts.Num) × (signal < c.signals)
@@ -85,31 +98,55 @@ abbrev pub IsHeld : Setting → List Kind → Bool → TypedHeld → Type 0
 IsHeld c kinds false i = i ≡ NotHeld
 IsHeld c kinds true i = (u : TypedExpr) × IsExpr c kinds u sorts.Num × (i ≡ Held u)
 
-module _ (c : Setting) (kinds : List Kind) where
-  element_typed : (root : TreeRoot) (sort : Sort) (len : Option ℕ) (e : TypedExpr) (part : Part) → IsRoot c.tree kinds root sort len → is_some len ≡ true → IsExpr c kinds e sorts.Num
-      → part_sort sort part.name ≡ Some part.sort → IsPlace c kinds (PlaceOf root (Held e) part.name part.sort) part.sort
-  element_typed root sort None e part is there num typed = absurd cc
-  element_typed root sort (Some n) e part is there num typed = (refl, sort, n, is, typed, num)
+-- a part of what has values has values
+pub valued_part : (access : Access) (whole : Sort) (part : PartName) (sort : Sort) → IsValued access whole → part_sort whole part ≡ Some sort → IsValued access sort
+valued_part accesses.Fixed whole part sort valued e = part_valued whole part sort valued e
+valued_part accesses.Var whole part sort valued e = tt
+valued_part accesses.Pers whole part sort valued e = tt
+valued_part accesses.Either whole part sort valued e = tt
 
-  datum_typed : (root : TreeRoot) (sort : Sort) (len : Option ℕ) (part : Part) → IsRoot c.tree kinds root sort len → is_some len ≡ false
-      → part_sort sort part.name ≡ Some part.sort → IsPlace c kinds (PlaceOf root NotHeld part.name part.sort) part.sort
-  datum_typed root sort None part is there typed = (refl, sort, is, typed)
-  datum_typed root sort (Some n) part is there typed = absurd cc
+module _ (c : Setting) (kinds : List Kind) where
+  -- what may be written may be read
+  own_read : (written : Bool) (kind : Kind) (sort : Sort) (len : Option ℕ) → IsOwn written kind sort len → IsOwn false kind sort len
+  own_read written (Owns own n) sort len is = is
+  own_read written (Keeps own n first) sort len is = (is.0, is.1, refl)
+  own_read written (Refers own) sort len is = is
+  own_read written Counts sort len is = is
+
+  root_read : (written : Bool) (root : TreeRoot) (sort : Sort) (len : Option ℕ) → IsRoot c.tree kinds written root sort len → IsRoot c.tree kinds false root sort len
+  root_read written (roots.Slot row) sort len is = (is.0, is.1, own_read written (slot_kind is.0) sort len is.2)
+  root_read written (roots.Local row) sort len is = (is.0, is.1, own_read written is.0 sort len is.2)
+  root_read written (roots.Ref row) sort len is = is
+  root_read written (roots.Pers row) sort len is = is
+
+  pub place_read : (written : Bool) (place : TypedPlace) (sort : Sort) → IsPlace c kinds written place sort → IsPlace c kinds false place sort
+  place_read written (PlaceOf root NotHeld part own) sort is = (is.0, is.1, root_read written root is.1 None is.2, is.3)
+  place_read written (PlaceOf root (Held e) part own) sort is = (is.0, is.1, is.2, root_read written root is.1 (Some is.2) is.3, is.4, is.5)
+
+  element_typed : (written : Bool) (root : TreeRoot) (sort : Sort) (len : Option ℕ) (e : TypedExpr) (part : Part) → IsRoot c.tree kinds written root sort len → is_some len ≡ true
+      → IsExpr c kinds e sorts.Num → part_sort sort part.name ≡ Some part.sort → IsPlace c kinds written (PlaceOf root (Held e) part.name part.sort) part.sort
+  element_typed written root sort None e part is there num typed = absurd cc
+  element_typed written root sort (Some n) e part is there num typed = (refl, sort, n, is, typed, num)
+
+  datum_typed : (written : Bool) (root : TreeRoot) (sort : Sort) (len : Option ℕ) (part : Part) → IsRoot c.tree kinds written root sort len → is_some len ≡ false
+      → part_sort sort part.name ≡ Some part.sort → IsPlace c kinds written (PlaceOf root NotHeld part.name part.sort) part.sort
+  datum_typed written root sort None part is there typed = (refl, sort, is, typed)
+  datum_typed written root sort (Some n) part is there typed = absurd cc
 
   -- an element of an array, or what is no array
   pub place_typed : (root : TreeRoot) (access : Access) (sort : Sort) (array indexed : Bool) (i : TypedHeld) (part : Part) → Holds c kinds (sources.Place root access) sort array
       → (indexed || not array) ≡ true → (array || not indexed) ≡ true → IsHeld c kinds indexed i → part_sort sort part.name ≡ Some part.sort
-      → IsPlace c kinds (PlaceOf root i part.name part.sort) part.sort
-  place_typed root access sort true true i part (len, is, there) some array (u, num, held) typed =
-      subst (λ (x : TypedHeld). IsPlace c kinds (PlaceOf root x part.name part.sort) part.sort) (sym held) (element_typed root sort len u part is there num typed)
-  place_typed root access sort false false i part (len, is, there) some array none typed =
-      subst (λ (x : TypedHeld). IsPlace c kinds (PlaceOf root x part.name part.sort) part.sort) (sym none) (datum_typed root sort len part is there typed)
+      → IsPlace c kinds (may_write access) (PlaceOf root i part.name part.sort) part.sort
+  place_typed root access sort true true i part (len, is, there, valued) some array (u, num, held) typed =
+      subst (λ (x : TypedHeld). IsPlace c kinds (may_write access) (PlaceOf root x part.name part.sort) part.sort) (sym held) (element_typed (may_write access) root sort len u part is there num typed)
+  place_typed root access sort false false i part (len, is, there, valued) some array none typed =
+      subst (λ (x : TypedHeld). IsPlace c kinds (may_write access) (PlaceOf root x part.name part.sort) part.sort) (sym none) (datum_typed (may_write access) root sort len part is there typed)
   place_typed root access sort true false i part h some array held typed = absurd cc
   place_typed root access sort false true i part h some array held typed = absurd cc
 
   pub array_typed : (root : TreeRoot) (access : Access) (sort : Sort) → Holds c kinds (sources.Place root access) sort true → IsArray c kinds (PlaceOf root NotHeld parts.Whole sort) sort
-  array_typed root access sort (None, is, there) = absurd cc
-  array_typed root access sort (Some n, is, there) = (refl, n, is)
+  array_typed root access sort (None, is, there, valued) = absurd cc
+  array_typed root access sort (Some n, is, there, valued) = (refl, n, root_read (may_write access) root sort (Some n) is)
 
   -- what has a type that is no record is the whole
   num_whole : (part : Part) → part_sort sorts.Num part.name ≡ Some part.sort → part.sort ≡ sorts.Num
@@ -132,7 +169,7 @@ module _ (c : Setting) (kinds : List Kind) where
       → (indexed || not array) ≡ true → (array || not indexed) ≡ true → IsHeld c kinds indexed i → part_sort sort part.name ≡ Some part.sort → has_values part.sort ≡ true
       → IsExpr c kinds (value_from at (record { source = source; array = array; index = i; part = part.name; sort = part.sort }) source) part.sort
   value_typed at (sources.Place root access) sort array indexed i part h some has held typed valued =
-      (refl, valued, place_typed root access sort array indexed i part h some has held typed)
+      (refl, valued, place_read (may_write access) (PlaceOf root i part.name part.sort) part.sort (place_typed root access sort array indexed i part h some has held typed))
   value_typed at (sources.Value v) sort array indexed i part h some has held typed valued = (refl, known_part v sort part h typed)
   value_typed at sources.Errno sort array indexed i part h some has held typed valued = (refl, num_part sort part h typed)
   value_typed at (sources.Signal signal) sort array indexed i part h some has held typed valued = (refl, num_part sort part h.0 typed, h.1)

@@ -3,7 +3,7 @@ use Rattle.std.proofs.Common.{◌≡◌, ℕ, suc, ◌+◌, Bool, true, false, L
 use Rattle.std.specs.Option.{option_and_then, option_map}
 use Rattle.std.proofs.lemmas.Option.{get_or_from_slice_get, slice_get_within}
 use Rattle.raw_trees.specs.Plain.{PlainItem, PlainModule, PlainParam, PlainRoutine, Datum, Routine}
-use Rattle.raw_trees.specs.declared.raw_routine.Mode.{Mode}
+use Rattle.rapid_model.specs.declared.mode.Mode.{Mode}
 use Rattle.rapid_builtins.specs.Parameters.{parameter_need}
 use Rattle.typed_trees.specs.Plain.{TypedLocal, TypedParam, TypedRoutine}
 use Rattle.data_scopes.specs.declared.data_row.DatumRow.{DatumRow}

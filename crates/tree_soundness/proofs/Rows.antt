@@ -1,24 +1,26 @@
 -- The rows of names and those of the tree's data are alike, declaration by declaration; what is true of the data so far stays so.
-use Rattle.std.proofs.Common.{◌≡◌, ℕ, ◌+◌, ◌-◌, ◌≤◌, Bool, true, false, ◌||◌, nat_lt, List, [], ◌∷◌, ◌++◌, length, Option, Some, None, is_some, slice_get, refl, sym, ap, subst, ◌∙◌, if◌then◌else◌, length-append, append_assoc, arith}
+use Rattle.std.proofs.Common.{◌≡◌, ℕ, ◌+◌, ◌-◌, ◌≤◌, Bool, true, false, not, ◌||◌, nat_lt, List, [], ◌∷◌, ◌++◌, length, Option, Some, None, is_some, slice_get, refl, sym, ap, subst, ◌∙◌, if◌then◌else◌, length-append, append_assoc, arith}
 use Rattle.std.specs.Option.{option_and_then, option_map}
 use Rattle.std.proofs.lemmas.Bool.{le-ltb}
 use Rattle.std.proofs.lemmas.List.{append-nil, length-replicate}
 use Rattle.raw_trees.specs.Plain.{PlainDatum, PlainExpr, PlainItem, PlainModule, PlainParam, PlainRoutine, Datum, Routine}
+use Rattle.rapid_model.specs.Sorts.{has_values}
 use Rattle.rapid_model.specs.declared.sort.Sort.{Sort}
 use Rattle.rapid_model.specs.declared.value.Value.{Value}
 use Rattle.typed_trees.specs.Plain.{TypedLocal, TypedPers, TypedSlot}
 use Rattle.constant_meaning.specs.Constants.{Elements}
 use Rattle.data_scopes.specs.declared.data_row.DatumRow.{DatumRow}
 use Rattle.data_scopes.specs.declared.data_row.ParamRow.{ParamRow}
+use Rattle.data_scopes.specs.declared.data_row.Since.{Since}
 use Rattle.data_scopes.specs.Called.{local_of, own_row, value_row}
 use Rattle.data_scopes.specs.Numbers.{is_const, is_pers, is_scalar_const}
-use Rattle.data_scopes.specs.Rows.{scalar_rows, since_of, with_routine, rows_by}
+use Rattle.data_scopes.specs.Rows.{scalar_rows, since_of, value_at, with_routine, rows_by}
 use Rattle.data_scopes.specs.Scopes.{Names, RoutineRow, Rows, Tables}
 use Rattle.data_scopes.proofs.Counted.{get_last}
 use Rattle.decl_types.specs.Data.{Inner, Progress, entered, inner_row, keeping, known_elements, left, of_modules, sort_in, with_const, with_local, with_pers, with_slot}
 use Rattle.decl_types.specs.Parts.{with_inner_const, with_inner_row}
-use Rattle.decl_types.specs.Values.{Initial}
-use Rattle.typing_rules.specs.Data.{AreItemsData, AreLocalsData, AreModulesData, ByKind, IsInitial, IsItemData, IsLen}
+use Rattle.decl_types.specs.Values.{Initial, site_of}
+use Rattle.typing_rules.specs.Data.{AreInitialValues, AreItemsData, AreLocalsData, AreModulesData, AreValues, ByKind, IsInitial, IsItemData, IsLen}
 use Rattle.typing_rules.specs.DeclaredNames.{AreItemRows, AreLocalRows, AreModuleRows, AreParamRows, IsItemRow, IsRoutineRow}
 use Rattle.name_laws.specs.Declared.{AreEach}
 use Rattle.name_laws.proofs.Items.{IsFront, front_more, stays, front_append}
@@ -27,14 +29,18 @@ use Rattle.task_typing.proofs.Rows.{at_right}
 use Rattle.tree_soundness.proofs.Lists.{between, each_more}
 use Rattle.tree_soundness.proofs.Scalars.{is_scalar, one_if, row_scalar, scalar_there, scalars_more}
 
+-- a constant has a value, so its type has some
+abbrev pub IsFixed : Bool → Sort → Type 0
+IsFixed variable sort = variable ≡ false → has_values sort ≡ true
+
 abbrev pub SlotAlike : DatumRow → TypedSlot → Type 0
-SlotAlike row slot = (slot.sort ≡ row.sort) × (is_some slot.len ≡ row.array)
+SlotAlike row slot = (slot.sort ≡ row.sort) × (is_some slot.len ≡ row.array) × (slot.variable ≡ not (is_some row.since)) × IsFixed slot.variable row.sort
 
 abbrev pub PersAlike : DatumRow → TypedPers → Type 0
 PersAlike row pers = (pers.sort ≡ row.sort) × (is_some pers.len ≡ row.array)
 
 abbrev pub LocalAlike : DatumRow → TypedLocal → Type 0
-LocalAlike row local = (local.sort ≡ row.sort) × (is_some local.len ≡ row.array)
+LocalAlike row local = (local.sort ≡ row.sort) × (is_some local.len ≡ row.array) × (local.variable ≡ not (is_some row.since)) × IsFixed local.variable row.sort
 
 abbrev pub LocalsAlike : RoutineRow → List TypedLocal → Type 0
 LocalsAlike row locals = AreEach LocalAlike row.locals locals
@@ -44,12 +50,12 @@ pub record IsLike (names other : Names) : Type 0 where
   pub tables : other.tables ≡ names.tables
   pub rows : other.rows ≡ names.rows
   pub outputs : other.outputs ≡ names.outputs
-  pub arm : other.arm ≡ names.arm
+  pub axes : other.axes ≡ names.axes
 
 keeping_like : (names other : Names) (constant : ℕ) (values : Option (List Value)) → IsLike names other → IsLike names (keeping other constant values)
 keeping_like names other constant None h = h
 keeping_like names other constant (Some []) h = h
-keeping_like names other constant (Some (v ∷ vs)) h = record { tables = h.tables; rows = h.rows; outputs = h.outputs; arm = h.arm }
+keeping_like names other constant (Some (v ∷ vs)) h = record { tables = h.tables; rows = h.rows; outputs = h.outputs; axes = h.axes }
 
 -- rows that more were put behind
 pub record Grows (rows more : Rows) : Type 0 where
@@ -122,6 +128,30 @@ len_alike names number routine known (Some e) len (n, is_length, is) = ap is_som
 initial_alike : (names : Names) (number : ℕ) (routine : Option ℕ) (known : Elements) (sort : Sort) (d : PlainDatum) (i : Initial) → IsInitial names number routine known sort d i → is_some i.len ≡ is_some d.len
 initial_alike names number routine known sort d i (has, is_len, are_values) = len_alike names number routine known d.len i.len is_len
 
+-- a datum is a constant where its row has a place since which it is known
+no_since : (constant : Bool) (since : Since) → not constant ≡ not (is_some (if constant then Some since else None))
+no_since true since = refl
+no_since false since = refl
+
+variable_row : (number : ℕ) (d : PlainDatum) (row : DatumRow) → row.since ≡ since_of number d → not (is_const d.kind) ≡ not (is_some row.since)
+variable_row number d row e =
+    no_since (is_const d.kind) (record { «module» = number; at = value_at d.name d.first }) ∙ ap (λ (o : Option Since). not (is_some o)) (sym e)
+
+has_some_values : (names : Names) (number : ℕ) (routine : Option ℕ) (known : Elements) (sort : Sort) (len : Option ℕ) (e : PlainExpr) (vs : List Value)
+    → AreInitialValues (site_of names number routine e) known sort len e vs → has_values sort ≡ true
+has_some_values names number routine known sort None e vs are = are.0
+has_some_values names number routine known sort (Some n) e vs are = are.0
+
+first_valued : (names : Names) (number : ℕ) (routine : Option ℕ) (known : Elements) (sort : Sort) (len : Option ℕ) (first : Option PlainExpr) (values : Option (List Value)) (constant : Bool)
+    → (is_some first || not constant) ≡ true → AreValues names number routine known sort len first values → not constant ≡ false → has_values sort ≡ true
+first_valued names number routine known sort len first values false some are e = absurd cc
+first_valued names number routine known sort len None values true some are e = absurd cc
+first_valued names number routine known sort len (Some first) values true some are e = has_some_values names number routine known sort len first are.0 are.1
+
+const_valued : (names : Names) (number : ℕ) (routine : Option ℕ) (known : Elements) (sort : Sort) (d : PlainDatum) (i : Initial) → IsInitial names number routine known sort d i
+    → IsFixed (not (is_const d.kind)) sort
+const_valued names number routine known sort d i (has, is_len, are_values) = first_valued names number routine known sort i.len d.first i.values (is_const d.kind) has are_values
+
 -- the type of the row that is put behind these
 sort_there : (rows all : List DatumRow) (row : DatumRow) (n : ℕ) → IsFront (rows ++ row ∷ []) all → n ≡ length rows → sort_in (slice_get all n) ≡ row.sort
 sort_there rows all row n front e = ap sort_in (ap (slice_get all) e ∙ front (length rows) row (get_last rows row))
@@ -154,9 +184,10 @@ module _ (tables : Tables) (names : Names) (K : Progress → Type 0) (L : List (
     pub consts : p.consts ≡ length rows.consts
     pub held : K p
 
-  datum_aligned : (number : ℕ) (own : Bool) (d : PlainDatum) (row : DatumRow) (rows : Rows) (p q : Progress) (scalar pers : Bool) → row.array ≡ is_some d.len → Grows (rows_by rows scalar pers row) names.rows
+  datum_aligned : (number : ℕ) (own : Bool) (d : PlainDatum) (row : DatumRow) (rows : Rows) (p q : Progress) (scalar pers : Bool) → row.array ≡ is_some d.len → row.since ≡ since_of number d
+      → Grows (rows_by rows scalar pers row) names.rows
       → ByKind scalar pers number own d p q → Aligned rows p → Aligned (rows_by rows scalar pers row) q
-  datum_aligned number own d row rows p q true pers array grows (i, initial, is) h =
+  datum_aligned number own d row rows p q true pers array since grows (i, initial, is) h =
       let there : slice_get names.rows.consts p.consts ≡ Some row = ap (slice_get names.rows.consts) h.consts ∙ grows.consts (length rows.consts) row (get_last rows.consts row) in
       let used : sort_in (slice_get p.names.rows.consts p.consts) ≡ row.sort = ap (λ (r : Rows). sort_in (slice_get r.consts p.consts)) h.like.rows ∙ ap sort_in there in
       let long = length-append rows.consts (row ∷ []) in
@@ -169,7 +200,7 @@ module _ (tables : Tables) (names : Names) (K : Progress → Type 0) (L : List (
         consts = omega (arith, before, long);
         held = visits.on_const number d p i row h.like there (subst (λ (s : Sort). IsInitial p.names number None (of_modules p) s d i) used initial) h.held;
       })
-  datum_aligned number own d row rows p q false true array grows (i, initial, is) h =
+  datum_aligned number own d row rows p q false true array since grows (i, initial, is) h =
       let sort : Sort = sort_in (slice_get p.names.rows.pers (length p.pers)) in
       let long : length p.pers ≡ length rows.pers = sym (each_length PersAlike rows.pers p.pers h.pers) in
       let used : sort ≡ row.sort = ap (λ (r : Rows). sort_in (slice_get r.pers (length p.pers))) h.like.rows ∙ sort_there rows.pers names.rows.pers row (length p.pers) grows.pers long in
@@ -181,13 +212,18 @@ module _ (tables : Tables) (names : Names) (K : Progress → Type 0) (L : List (
         consts = h.consts;
         held = visits.on_pers number own d p sort i h.held;
       })
-  datum_aligned number own d row rows p q false false array grows (i, initial, is) h =
+  datum_aligned number own d row rows p q false false array since grows (i, initial, is) h =
       let sort : Sort = sort_in (slice_get p.names.rows.slots (length p.slots)) in
       let long : length p.slots ≡ length rows.slots = sym (each_length SlotAlike rows.slots p.slots h.slots) in
       let used : sort ≡ row.sort = ap (λ (r : Rows). sort_in (slice_get r.slots (length p.slots))) h.like.rows ∙ sort_there rows.slots names.rows.slots row (length p.slots) grows.slots long in
       subst (Aligned (rows_by rows false false row)) (sym is) (record {
         like = h.like;
-        slots = each_more SlotAlike rows.slots p.slots row _ h.slots (used, initial_alike p.names number None (of_modules p) sort d i initial ∙ sym array);
+        slots = each_more SlotAlike rows.slots p.slots row _ h.slots (
+          used,
+          initial_alike p.names number None (of_modules p) sort d i initial ∙ sym array,
+          variable_row number d row since,
+          subst (IsFixed (not (is_const d.kind))) used (const_valued p.names number None (of_modules p) sort d i initial),
+        );
         pers = h.pers;
         routines = h.routines;
         consts = h.consts;
@@ -239,11 +275,11 @@ module _ (tables : Tables) (names : Names) (K : Progress → Type 0) (L : List (
         let first : IsInitial n.names number (Some routine) known f.sort d i = subst (λ (s : Sort). IsInitial n.names number (Some routine) known s d i) used initial in
         subst (λ (s : Sort). Within rows row slots (before ++ f ∷ []) (with_local n d s i)) (sym used)
         (next before f d n i h (local_added n d f.sort i (is_scalar_const d) h.like) (sym (ap one_if scalar))
-        (initial_alike n.names number (Some routine) known f.sort d i first ∙ sym array) (visits.on_local number routine slots d n i f h.like const_there first h.held))
+        (initial_alike n.names number (Some routine) known f.sort d i first ∙ sym array) (variable_row number d f since) (const_valued n.names number (Some routine) known f.sort d i first) (visits.on_local number routine slots d n i f h.like const_there first h.held))
       where
         next : (before : List DatumRow) (f : DatumRow) (d : PlainDatum) (n : Inner) (i : Initial) → Within rows row slots before n → Added n (inner_row d f.sort i) (one_if (is_scalar_const d)) (with_local n d f.sort i)
-            → one_if (is_scalar_const d) ≡ one_if (is_scalar f) → is_some i.len ≡ f.array → L slots (with_local n d f.sort i) → Within rows row slots (before ++ f ∷ []) (with_local n d f.sort i)
-        next before f d n i h added one array held =
+            → one_if (is_scalar_const d) ≡ one_if (is_scalar f) → is_some i.len ≡ f.array → not (is_const d.kind) ≡ not (is_some f.since) → IsFixed (not (is_const d.kind)) f.sort → L slots (with_local n d f.sort i) → Within rows row slots (before ++ f ∷ []) (with_local n d f.sort i)
+        next before f d n i h added one array variable fixed held =
             let t : TypedLocal = inner_row d f.sort i in
             let long = length-append before (f ∷ []) in
             let more = scalars_more before f in
@@ -253,7 +289,7 @@ module _ (tables : Tables) (names : Names) (K : Progress → Type 0) (L : List (
             let counted = added.consts in
             record {
               like = added.like;
-              each = subst (AreEach LocalAlike (before ++ f ∷ [])) (sym added.rows) (each_more LocalAlike before n.rows f t h.each (refl, array));
+              each = subst (AreEach LocalAlike (before ++ f ∷ [])) (sym added.rows) (each_more LocalAlike before n.rows f t h.each (refl, array, variable, fixed));
               places = omega (arith, places, longer, long);
               consts = omega (arith, consts, counted, more, one);
               held = held;
@@ -297,7 +333,7 @@ module _ (tables : Tables) (names : Names) (K : Progress → Type 0) (L : List (
   item_aligned : (number : ℕ) (item : PlainItem) (rows more : Rows) (p q : Progress) → IsItemRow tables number item rows more → Grows more names.rows → IsItemData number item p q → Aligned rows p → Aligned more q
   item_aligned number (Datum local task d at) rows more p q (row, (sort, is_sort, is_row), is) grows data_is h =
       subst (λ (m : Rows). Aligned m q) (sym is)
-      (datum_aligned number (local || task) d row rows p q (is_scalar_const d) (is_pers d.kind) (ap (λ x. x.array) is_row) (subst (λ (m : Rows). Grows m names.rows) is grows) data_is h)
+      (datum_aligned number (local || task) d row rows p q (is_scalar_const d) (is_pers d.kind) (ap (λ x. x.array) is_row) (ap (λ x. x.since) is_row) (subst (λ (m : Rows). Grows m names.rows) is grows) data_is h)
   item_aligned number (Routine r) rows more p q (row, is_row, is) grows data_is h =
       subst (λ (m : Rows). Aligned m q) (sym is) (routine_aligned number r row rows p q is_row (subst (λ (m : Rows). Grows m names.rows) is grows) data_is h)
 

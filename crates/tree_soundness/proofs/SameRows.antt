@@ -20,23 +20,23 @@ use Rattle.task_typing.specs.Setting.{Setting}
 use Rattle.task_typing.specs.Statements.{AreArms, AreCaseValues, AreCases, AreStmts, Around, IsElse, IsStep, IsStmt, into}
 use Rattle.task_typing.specs.WellTyped.{IsHandler, IsRoutine, WellTyped, around_in}
 
-module _ (signals : ℕ) (arm : Bool) (tree : TypedTree) (pers_of meeting_of : List ℕ) where
+module _ (signals : ℕ) (tree : TypedTree) (pers_of meeting_of : List ℕ) where
   abbrev c : Setting
-  c = record { signals = signals; arm = arm; tree = tree }
+  c = record { signals = signals; tree = tree }
 
   -- the same with other numbers
   abbrev d : Setting
-  d = record { signals = signals; arm = arm; tree = with_numbers tree pers_of meeting_of }
+  d = record { signals = signals; tree = with_numbers tree pers_of meeting_of }
 
   module _ (kinds : List Kind) where
-    root_same : (root : TreeRoot) (sort : Sort) (len : Option ℕ) → IsRoot c.tree kinds root sort len → IsRoot d.tree kinds root sort len
-    root_same (roots.Slot row) sort len h = h
-    root_same (roots.Local row) sort len h = h
-    root_same (roots.Ref row) sort len h = h
-    root_same (roots.Pers row) sort len h = h
+    root_same : (written : Bool) (root : TreeRoot) (sort : Sort) (len : Option ℕ) → IsRoot c.tree kinds written root sort len → IsRoot d.tree kinds written root sort len
+    root_same written (roots.Slot row) sort len h = h
+    root_same written (roots.Local row) sort len h = h
+    root_same written (roots.Ref row) sort len h = h
+    root_same written (roots.Pers row) sort len h = h
 
     array_same : (p : TypedPlace) (sort : Sort) → IsArray c kinds p sort → IsArray d kinds p sort
-    array_same (PlaceOf root NotHeld parts.Whole own) sort h = (h.0, h.1, root_same root sort (Some h.1) h.2)
+    array_same (PlaceOf root NotHeld parts.Whole own) sort h = (h.0, h.1, root_same false root sort (Some h.1) h.2)
     array_same _ sort h = absurd h
 
     name_same : (p : TypedPlace) → IsPersName c p → IsPersName d p
@@ -48,7 +48,7 @@ module _ (signals : ℕ) (arm : Bool) (tree : TypedTree) (pers_of meeting_of : L
       expr_same (Known at own v) sort h = h
       expr_same (ErrorNumber at own) sort h = h
       expr_same (SignalValue at own signal) sort h = h
-      expr_same (Stored at own p) sort h = (h.0, h.1, place_same p sort h.2)
+      expr_same (Stored at own p) sort h = (h.0, h.1, place_same false p sort h.2)
       expr_same (Group at own e) sort h = (h.0, expr_same e sort h.1)
       expr_same (Aggregate at own es) sort h = (h.0, h.1, components_same es (components own) h.2)
       expr_same (Builtin at own function args) sort h = (h.0, h.1, h.2, args_same args (function_needs function) h.3)
@@ -67,19 +67,19 @@ module _ (signals : ℕ) (arm : Bool) (tree : TypedTree) (pers_of meeting_of : L
       steps_same NoSteps first sort h = h
       steps_same (MoreSteps o e steps) first sort h = (h.0, h.1, expr_same e first h.2, steps_same steps h.0 sort h.3)
 
-      place_same : (p : TypedPlace) (sort : Sort) → IsPlace c kinds p sort → IsPlace d kinds p sort
-      place_same (PlaceOf root NotHeld part own) sort h = (h.0, h.1, root_same root h.1 None h.2, h.3)
-      place_same (PlaceOf root (Held e) part own) sort h = (h.0, h.1, h.2, root_same root h.1 (Some h.2) h.3, h.4, expr_same e sorts.Num h.5)
+      place_same : (written : Bool) (p : TypedPlace) (sort : Sort) → IsPlace c kinds written p sort → IsPlace d kinds written p sort
+      place_same written (PlaceOf root NotHeld part own) sort h = (h.0, h.1, root_same written root h.1 None h.2, h.3)
+      place_same written (PlaceOf root (Held e) part own) sort h = (h.0, h.1, h.2, root_same written root h.1 (Some h.2) h.3, h.4, expr_same e sorts.Num h.5)
 
       arg_same : (arg : TypedArg) (need : Need) → IsArg c kinds arg need → IsArg d kinds arg need
       arg_same (Given e) (needs.Value sort) h = expr_same e sort h
       arg_same (Given e) needs.One h = expr_same e sorts.Num h
-      arg_same (Lent p) (needs.Var sort) h = place_same p sort h
-      arg_same (Lent p) (needs.Pers sort) h = place_same p sort h
-      arg_same (Lent p) (needs.VarOrPers sort) h = place_same p sort h
-      arg_same (Lent p) (needs.Written sort) h = place_same p sort h
-      arg_same (Lent p) (needs.Place sort) h = place_same p sort h
-      arg_same (Lent p) needs.WorldZone h = (h.0, h.1, place_same p h.0 h.2)
+      arg_same (Lent p) (needs.Var sort) h = place_same true p sort h
+      arg_same (Lent p) (needs.Pers sort) h = place_same true p sort h
+      arg_same (Lent p) (needs.VarOrPers sort) h = place_same true p sort h
+      arg_same (Lent p) (needs.Written sort) h = place_same true p sort h
+      arg_same (Lent p) (needs.Place sort) h = place_same false p sort h
+      arg_same (Lent p) needs.WorldZone h = (h.0, h.1, place_same true p h.0 h.2)
       arg_same (Lent p) needs.Array h = (h.0, h.1, array_same p h.0 h.2)
       arg_same (Lent p) needs.TaskList h = array_same p sorts.Tasks h
       arg_same (Lent p) needs.PersName h = name_same p h
@@ -127,7 +127,7 @@ module _ (signals : ℕ) (arm : Bool) (tree : TypedTree) (pers_of meeting_of : L
 
   mutual
     stmt_same : (s : TypedStmt) (around : Around) → IsStmt c around s → IsStmt d around s
-    stmt_same (Assign at p e) around h = (h.0, h.1, place_same around.places p h.0 h.2, expr_same around.places e h.0 h.3)
+    stmt_same (Assign at p e) around h = (h.0, h.1, place_same around.places true p h.0 h.2, expr_same around.places e h.0 h.3)
     stmt_same (Instruct at instruction args) around h = record {
       arm = h.arm;
       are_needed = needed_same around.places (needed args) (instruction_needs instruction) h.are_needed;
@@ -144,7 +144,7 @@ module _ (signals : ℕ) (arm : Bool) (tree : TypedTree) (pers_of meeting_of : L
     stmt_same (Raise at (Some e)) around h = expr_same around.places e sorts.Num h
     stmt_same (Retry at) around h = h
     stmt_same (TryNext at) around h = h
-    stmt_same (Connect at p trap) around h = (place_same around.places p sorts.IntNum h.0, h.1, h.2, h.3)
+    stmt_same (Connect at p trap) around h = (place_same around.places true p sorts.IntNum h.0, h.1, h.2, h.3)
     stmt_same (If at arms other) around h = (arms_same arms around h.0, else_same other around h.1)
     stmt_same (IfOne at e one) around h = (expr_same around.places e sorts.Bool h.0, stmt_same one around h.1)
     stmt_same (For at local first last step list) around h = (
@@ -185,10 +185,11 @@ module _ (signals : ℕ) (arm : Bool) (tree : TypedTree) (pers_of meeting_of : L
     takes = h.takes;
   }
 
-  pub stays : WellTyped signals arm tree → WellTyped signals arm (with_numbers tree pers_of meeting_of)
+  pub stays : WellTyped signals tree → WellTyped signals (with_numbers tree pers_of meeting_of)
   stays h = record {
     slots = h.slots;
     pers = h.pers;
     routines = All-weaker (IsRoutine c) (IsRoutine d) routine_same tree.routines h.routines;
     main = record { routine = h.main.routine; there = h.main.there; procedure = h.main.procedure; takes_nothing = h.main.takes_nothing };
+    axes = h.axes;
   }

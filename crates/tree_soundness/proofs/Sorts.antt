@@ -1,12 +1,12 @@
 -- What is wanted of an expression, as a fact on its type.
 use Rattle.std.proofs.Common.{◌≡◌, inl, inr, true, false, refl}
-use Rattle.raw_trees.specs.declared.raw_expr.Operator.{Operator}
-use Rattle.raw_trees.specs.declared.raw_expr.Operator.TheVariants as operators
+use Rattle.rapid_model.specs.declared.operator.Operator.{Operator}
+use Rattle.rapid_model.specs.declared.operator.Operator.TheVariants as operators
 use Rattle.rapid_model.specs.declared.sort.Sort.{Sort}
 use Rattle.rapid_model.specs.declared.sort.Sort.TheVariants as sorts
 use Rattle.named_data.specs.declared.wanted.Wanted.{Wanted}
 use Rattle.named_data.specs.declared.wanted.Wanted.TheVariants.{Any, Brackets, Is, Same, Fits, Nothing, Reference, ReferenceTo, Meeting}
-use Rattle.named_data.specs.Wants.{comes_to, fits, hands_on, inside, needed_components, needed_sort, suits}
+use Rattle.named_data.specs.Wants.{comes_to, fits, inside, needed_components, needed_sort, suits}
 use Rattle.named_data.specs.Data.{is_empty}
 use Rattle.cell_assembly.proofs.SoundInfo.{same_sort_is}
 use Rattle.task_typing.specs.Operations.{Operates}

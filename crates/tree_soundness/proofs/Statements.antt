@@ -1,24 +1,31 @@
 -- A statement that is right is well typed.
-use Rattle.std.proofs.Common.{◌≡◌, ℕ, ◌+◌, ◌<◌, ◌≤◌, Bool, List, [], ◌∷◌, Option, Some, None, slice_get, refl, sym, subst, arith}
+use Rattle.std.proofs.Common.{◌≡◌, ℕ, ◌+◌, ◌<◌, ◌≤◌, Bool, true, false, List, [], ◌∷◌, Option, Some, None, slice_get, refl, sym, ap, subst, ◌∙◌, arith}
 use Rattle.raw_trees.specs.Plain.{PlainArgs, PlainArms, PlainCases, PlainElse, PlainExpr, PlainPlace, PlainStmt, PlainStmts, PlaceOf, Assign, Call, Label, Goto, Return, Exit, Raise, Retry, TryNext, Connect, If, IfOne, For, While, Test, NoStmts, MoreStmts, NoArms, MoreArms, NoCases, MoreCases, NoElse, Else}
-use Rattle.raw_trees.specs.declared.raw_expr.Operator.TheVariants as operators
-use Rattle.raw_trees.specs.declared.raw_routine.RoutineKind.{RoutineKind}
-use Rattle.raw_trees.specs.declared.raw_routine.RoutineKind.TheVariants as routines
+use Rattle.rapid_model.specs.declared.operator.Operator.TheVariants as operators
+use Rattle.rapid_model.specs.declared.routine_kind.RoutineKind.{RoutineKind}
+use Rattle.rapid_model.specs.declared.routine_kind.RoutineKind.TheVariants as routines
 use Rattle.rapid_model.specs.declared.sort.Sort.{Sort}
 use Rattle.rapid_model.specs.declared.sort.Sort.TheVariants as sorts
+use Rattle.rapid_model.specs.Sorts.{has_values}
 use Rattle.typed_trees.specs.Plain as trees
 use Rattle.typed_trees.specs.Plain.{TypedArms, TypedCases, TypedElse, TypedExpr, TypedExprs, TypedPlace, TypedStmt, TypedStmts}
 use Rattle.data_scopes.specs.declared.meant.Meant.{Meant}
 use Rattle.data_scopes.specs.declared.meant.Meant.TheVariants as meants
 use Rattle.data_scopes.specs.Called.{params_of, result_of}
+use Rattle.typed_trees.specs.declared.expr.TreeRoot.{TreeRoot}
+use Rattle.named_data.specs.declared.named.Access.{Access}
+use Rattle.named_data.specs.declared.named.Access.TheVariants as accesses
+use Rattle.named_data.specs.declared.named.Source.{Source}
+use Rattle.named_data.specs.declared.named.Source.TheVariants as sources
 use Rattle.named_data.specs.declared.wanted.Wanted.TheVariants.{Is, Same, Fits}
 use Rattle.named_data.specs.Data.{NamedPart, named}
 use Rattle.named_data.specs.Rules.{Site}
-use Rattle.expr_types.specs.Arguments.{is_held}
+use Rattle.expr_types.specs.Arguments.{is_fixed, is_held}
 use Rattle.expr_types.specs.Calls.{routine_signature, taking}
 use Rattle.expr_types.specs.Typing.{sort_of}
 use Rattle.body_types.specs.Bodies as bodies
 use Rattle.body_types.specs.Bodies.{Body, counter_index, into, into_loop, place_sort, site}
+use Rattle.typing_rules.specs.Calls.{Stands}
 use Rattle.typing_rules.specs.Expressions.{IsExpr as IsTypedExpr}
 use Rattle.typing_rules.specs.Statements.{AreBranches, AreCaseValues as AreTypedValues, AreChoices, AreStmts as AreTypedStmts, IsCalled, IsConnect, IsNamed, IsOtherwise, IsPlaceOf, IsRaise, IsReturn, IsReturnedValue, IsStep as IsTypedStep, IsStmt as IsTypedStmt, IsTarget}
 use Rattle.typing_rules.proofs.StatementLaws.{stmts_law}
@@ -32,6 +39,7 @@ use Rattle.tree_soundness.proofs.Arguments.{part_right, typed_as}
 use Rattle.tree_soundness.proofs.Calls.{procedure_right}
 use Rattle.tree_soundness.proofs.Expressions.{arguments_taken, expr_right, index_right}
 use Rattle.tree_soundness.proofs.Instructions.{instruction_right}
+use Rattle.tree_soundness.proofs.Places.{IsValued, may_write}
 use Rattle.tree_soundness.proofs.Labels.{owned, sees}
 use Rattle.tree_soundness.proofs.Named.{Right, Suits}
 
@@ -79,23 +87,44 @@ module _ (c : Setting) (kinds : List Kind) (body : Body) (loops : ℕ) (suits : 
   typed_expr around at e sort t h = typed_as c kinds sort t (expr_right c kinds (site body around at) (suits around at) e (Is sort) t h)
 
   -- the place of a name, its index and its components
-  record IsWritten (place : TypedPlace) (sort : Sort) : Type 0 where
-    pub typed : IsPlace c kinds place sort
-    pub own : place_sort place ≡ sort
+  record IsWritten (p : NamedPart) (place : TypedPlace) : Type 0 where
+    pub root : TreeRoot
+    pub access : Access
+    pub stands : Stands p.source root access
+    pub typed : IsPlace c kinds (may_write access) place p.sort
+    pub valued : IsValued access p.sort
+    pub own : place_sort place ≡ p.sort
 
-  written_right : (around : bodies.Around) (at : ℕ) (written : PlainPlace) (p : NamedPart) (place : TypedPlace) → IsNamed (site body around at) written p → IsPlaceOf p place → IsWritten place p.sort
+  written_right : (around : bodies.Around) (at : ℕ) (written : PlainPlace) (p : NamedPart) (place : TypedPlace) → IsNamed (site body around at) written p → IsPlaceOf p place → IsWritten p place
   written_right around at (PlaceOf name held names) p place (i, index, is_place) (root, access, stands, is) =
       let s : Site = site body around at in
-      subst (λ (x : TypedPlace). IsWritten x p.sort) (sym is) (record {
-        typed = part_right c kinds s (suits around at) name i (is_held held) names p root access is_place stands (index_right c kinds s (suits around at) held i index);
-        own = refl;
-      })
+      let right = part_right c kinds s (suits around at) name i (is_held held) names p root access is_place stands (index_right c kinds s (suits around at) held i index) in
+      subst (IsWritten p) (sym is) (record { root = root; access = access; stands = stands; typed = right.0; valued = right.1; own = refl })
+
+  -- what is not fixed may be written, and an interrupt's number is not
+  free_access : (root : TreeRoot) (access : Access) → is_fixed (sources.Place root access) ≡ false → may_write access ≡ true
+  free_access root accesses.Fixed free = absurd cc
+  free_access root accesses.Var free = refl
+  free_access root accesses.Pers free = refl
+  free_access root accesses.Either free = refl
+
+  free_written : (source : Source) (root : TreeRoot) (access : Access) → Stands source root access → is_fixed source ≡ false → may_write access ≡ true
+  free_written (sources.Place r a) root access (same, way) free = ap may_write way ∙ free_access r a free
+  free_written source root access stands free = absurd stands
+
+  number_written : (access : Access) (sort : Sort) → sort ≡ sorts.IntNum → IsValued access sort → may_write access ≡ true
+  number_written accesses.Fixed sort e valued = let none : has_values sorts.IntNum ≡ true = subst (λ (x : Sort). has_values x ≡ true) e valued in absurd cc
+  number_written access sort e valued = refl
 
   assign_right : (around : bodies.Around) (lists : List TypedStmts) (at : ℕ) (written : PlainPlace) (value : PlainExpr) (place : TypedPlace) (u : TypedExpr)
       → IsTarget (site body around at) written place → IsTypedExpr (site body around at) value (Is (place_sort place)) u → IsStmt c (inside around.handler lists) (trees.Assign at place u)
   assign_right around lists at written value place u (p, no_signal, is_named, valued, fixed, is_place) part =
-      let there : IsWritten place p.sort = written_right around at written p place is_named is_place in
-      (p.sort, valued, there.typed, subst (IsExpr c kinds u) there.own (typed_expr around at value (place_sort place) u part))
+      let there : IsWritten p place = written_right around at written p place is_named is_place in (
+        p.sort,
+        valued,
+        subst (λ (w : Bool). IsPlace c kinds w place p.sort) (free_written p.source there.root there.access there.stands fixed) there.typed,
+        subst (IsExpr c kinds u) there.own (typed_expr around at value (place_sort place) u part),
+      )
 
   call_right : (around : bodies.Around) (lists : List TypedStmts) (at : ℕ) (args : PlainArgs) (meant : Option Meant) (t : TypedStmt) → IsCalled (site body around at) at args meant t → IsStmt c (inside around.handler lists) t
   call_right around lists at args (Some (meants.Instruction i)) t (us, are, is) =
@@ -123,10 +152,11 @@ module _ (c : Setting) (kinds : List Kind) (body : Body) (loops : ℕ) (suits : 
 
   connect_right : (around : bodies.Around) (lists : List TypedStmts) (at : ℕ) (written : PlainPlace) (trap : _) (t : TypedStmt) → IsConnect (site body around at) at written trap t → IsStmt c (inside around.handler lists) t
   connect_right around lists at written trap t (p, place, number, no_signal, is_named, is_int, is_place, is_meant, is_kind, is) =
-      let there : IsWritten place p.sort = written_right around at written p place is_named is_place in
+      let there : IsWritten p place = written_right around at written p place is_named is_place in
+      let typed : IsPlace c kinds true place p.sort = subst (λ (w : Bool). IsPlace c kinds w place p.sort) (number_written there.access p.sort is_int there.valued) there.typed in
       let callable = (suits around at).routines number routines.Trap is_kind in
       subst (IsStmt c (inside around.handler lists)) (sym is)
-      (subst (IsPlace c kinds place) is_int there.typed, callable.routine, callable.there, callable.same_kind)
+      (subst (IsPlace c kinds true place) is_int typed, callable.routine, callable.there, callable.same_kind)
 
   step_right : (around : bodies.Around) (at : ℕ) (step : Option PlainExpr) (u : Option TypedExpr) → IsTypedStep (site body around at) step u → IsStep c kinds u
   step_right around at None u is = subst (IsStep c kinds) (sym is) tt

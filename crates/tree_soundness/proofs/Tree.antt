@@ -9,9 +9,9 @@ use Rattle.std.proofs.lemmas.List.Elements.{All-cons, All-head, All-nil, All-tai
 use Rattle.std.proofs.lemmas.Option.{slice_get_within}
 use Rattle.raw_trees.specs.Plain as Raw
 use Rattle.raw_trees.specs.Plain.{PlainModule, PlainParam, PlainRoutine, stmts_of}
-use Rattle.raw_trees.specs.declared.raw_routine.RoutineKind.{RoutineKind}
-use Rattle.raw_trees.specs.declared.raw_routine.RoutineKind.TheVariants as routines
-use Rattle.rapid_model.specs.Limits.{holds_where_there, is_within}
+use Rattle.rapid_model.specs.declared.routine_kind.RoutineKind.{RoutineKind}
+use Rattle.rapid_model.specs.declared.routine_kind.RoutineKind.TheVariants as routines
+use Rattle.rapid_model.specs.Limits.{holds_where_there, is_axes, is_within}
 use Rattle.rapid_model.specs.Sorts.{has_values}
 use Rattle.rapid_model.specs.declared.signal_row.SignalRow.{SignalRow}
 use Rattle.rapid_model.specs.declared.value.Value.{Value}
@@ -116,9 +116,9 @@ takes_right routines.Proc ps rows h = tt
 takes_right routines.Func ps rows h = tt
 takes_right routines.Trap ps rows h = no_params ps rows h
 
-module _ (modules : List PlainModule) (tasks : List (List ℕ)) (signals : List SignalRow) (arm : Bool) (tree : TypedTree) (typed : IsTyped modules tasks signals arm tree) where
+module _ (modules : List PlainModule) (tasks : List (List ℕ)) (signals : List SignalRow) (axes : ℕ) (tree : TypedTree) (typed : IsTyped modules tasks signals axes tree) where
   abbrev c : Setting
-  c = record { signals = length signals; arm = arm; tree = tree }
+  c = record { signals = length signals; tree = tree }
 
   abbrev names : Names
   names = typed.names
@@ -129,8 +129,8 @@ module _ (modules : List PlainModule) (tasks : List (List ℕ)) (signals : List 
   abbrev tables : Tables
   tables = tables_of modules signals
 
-  is_task : task_of modules tasks signals arm ≡ Ok tree
-  is_task = (task_law modules tasks signals arm tree).1 typed
+  is_task : task_of modules tasks signals axes ≡ Ok tree
+  is_task = (task_law modules tasks signals axes tree).1 typed
 
   rows_are : names.rows ≡ typed.are_names.rows
   rows_are = ap (λ n. n.rows) typed.are_names.are_names
@@ -140,7 +140,7 @@ module _ (modules : List PlainModule) (tasks : List (List ℕ)) (signals : List 
     aligned =
         let rows = typed.are_names.rows in
         let begin : Aligned tables names K L visits no_rows (beginning names) =
-        record { like = record { tables = refl; rows = refl; outputs = refl; arm = refl }; slots = tt; pers = tt; routines = tt; consts = refl; held = start } in
+        record { like = record { tables = refl; rows = refl; outputs = refl; axes = refl }; slots = tt; pers = tt; routines = tt; consts = refl; held = start } in
         let same = sym rows_are in
         let grows : Grows rows names.rows = subst (λ (r : Rows). Grows r names.rows) rows_are (record { consts = λ k x is. is; slots = λ k x is. is; pers = λ k x is. is; routines = λ k x is. is }) in
         subst (λ (r : Rows). Aligned tables names K L visits r p) same (modules_aligned tables names K L visits 0 modules no_rows rows (beginning names) p typed.are_names.are_rows grows typed.are_data begin)
@@ -171,15 +171,15 @@ module _ (modules : List PlainModule) (tasks : List (List ℕ)) (signals : List 
         (routines_alike p.names p.locals tables (routines_of modules) tree.routines
         (subst (λ (r : Rows). AreEach LocalsAlike r.routines p.locals) (sym shape.like.rows) shape.routines) of_rows of_typed);
     meant = λ spot name meant is.
-        has_its_row modules signals arm tree (task_checked modules tasks signals arm tree is_task) spot name meant
+        has_its_row modules signals axes tree (task_checked modules tasks signals axes tree is_task) spot name meant
         (ap (λ t. meaning t spot name) (sym (ap (λ n. n.tables) typed.are_names.are_names)) ∙ is);
     meetings = λ number meets.
-        let named = (names_law modules signals arm names).1 typed.are_names in
-        let there = meetings_checked modules tasks signals arm tree names named is_task number meets in
+        let named = (names_law modules signals axes names).1 typed.are_names in
+        let there = meetings_checked modules tasks signals axes tree names named is_task number meets in
         slice_get_within tree.meetings (meetings_before number names.rows.slots) there.row.name there.has_name;
     outputs = ap (λ n. length n.outputs) typed.are_names.are_names ∙ length-map signals (λ row. row.output);
     few = refl;
-    arm = ap (λ n. n.arm) typed.are_names.are_names;
+    axes = ap (λ n. n.axes) typed.are_names.are_names ∙ sym (ap (λ t. t.axes) typed.is_tree);
   }
 
   valued : Valued names.rows.consts p
@@ -210,7 +210,7 @@ module _ (modules : List PlainModule) (tasks : List (List ℕ)) (signals : List 
         (record { number = k; row = o.x; inside = refl; there = there; has_row = o.is; alike = o.such; kinds_are = ap kinds_in there }) n few
 
     lands : JumpsLand t
-    lands = (jumps_right modules tasks signals arm tree is_task k t there).lands
+    lands = (jumps_right modules tasks signals axes tree is_task k t there).lands
 
     -- what is around the statements of a list of it
     around_are : (handler : Bool) (list : TypedStmts) → t.kind ≡ r.kind → t.result ≡ result_of p.names.rows k → inside c kinds body t.loops here counts handler (list ∷ []) ≡ around_in t handler list
@@ -275,10 +275,11 @@ module _ (modules : List PlainModule) (tasks : List (List ℕ)) (signals : List 
         takes_nothing = ap (λ x. x.params) is ∙ no_params found.r.params _ (empty_params found.r.params main.1);
       }
 
-  pub tree_right : TrapsTakeNothing modules → WellTyped (length signals) arm tree
-  tree_right takes = record {
+  pub tree_right : TrapsTakeNothing modules → IsTrue (is_axes axes) → WellTyped (length signals) tree
+  tree_right takes counted = record {
     slots = subst (All SlotFirst) (sym (ap (λ t. t.slots) typed.is_tree)) valued.slots;
-    pers = sound_valued tree.pers (task_sound modules tasks signals arm tree is_task);
+    pers = sound_valued tree.pers (task_sound modules tasks signals axes tree is_task);
     routines = all_routines takes;
     main = is_main_right;
+    axes = subst (λ (count : ℕ). IsTrue (is_axes count)) (sym (ap (λ t. t.axes) typed.is_tree)) counted;
   }

@@ -2,8 +2,8 @@
 use Rattle.std.specs.Prelude.{◌≡◌, List, [], ⊤}
 use Rattle.std.specs.List.{All}
 use Rattle.raw_trees.specs.Plain.{PlainModule, PlainParam, PlainRoutine}
-use Rattle.raw_trees.specs.declared.raw_routine.RoutineKind.{RoutineKind}
-use Rattle.raw_trees.specs.declared.raw_routine.RoutineKind.TheVariants as routines
+use Rattle.rapid_model.specs.declared.routine_kind.RoutineKind.{RoutineKind}
+use Rattle.rapid_model.specs.declared.routine_kind.RoutineKind.TheVariants as routines
 use Rattle.stmt_types.specs.Task.{routines_of}
 
 abbrev pub TakesByKind : RoutineKind → List PlainParam → Type 0

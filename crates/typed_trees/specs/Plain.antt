@@ -6,9 +6,9 @@ use Rattle.rapid_model.specs.declared.instruction.Instruction.{Instruction}
 use Rattle.rapid_model.specs.declared.predefined.Predefined.{Predefined}
 use Rattle.rapid_model.specs.declared.sort.Sort.{Sort}
 use Rattle.rapid_model.specs.declared.value.Value.{Value}
-use Rattle.raw_trees.specs.declared.raw_expr.Operator.{Operator}
-use Rattle.raw_trees.specs.declared.raw_routine.Mode.{Mode}
-use Rattle.raw_trees.specs.declared.raw_routine.RoutineKind.{RoutineKind}
+use Rattle.rapid_model.specs.declared.operator.Operator.{Operator}
+use Rattle.rapid_model.specs.declared.mode.Mode.{Mode}
+use Rattle.rapid_model.specs.declared.routine_kind.RoutineKind.{RoutineKind}
 use Rattle.typed_trees.specs.declared.datum.Datum.{Datum}
 use Rattle.typed_trees.specs.declared.expr.TreeRoot.{TreeRoot}
 use Rattle.rapid_model.specs.declared.part_name.PartName.{PartName}
@@ -155,6 +155,7 @@ pub record TypedTree : Type 0 where
   pub main : ℕ
   pub pers_of : List ℕ
   pub meeting_of : List ℕ
+  pub axes : ℕ
 
 -- the trees of a list, in order
 abbrev pub exprs_of : List TypedExpr → TypedExprs

@@ -4,7 +4,7 @@ use Rattle.std.specs.declared.alloc.Global.{Global}
 use Rattle.std.specs.declared.vec.Vec.{Vec}
 use Rattle.rapid_model.specs.declared.sort.Sort.{Sort}
 use Rattle.rapid_model.specs.declared.value.Value.TheVariants.{Num}
-use Rattle.raw_trees.specs.declared.raw_expr.Operator.{Operator}
+use Rattle.rapid_model.specs.declared.operator.Operator.{Operator}
 use Rattle.typed_trees.specs.declared.expr.Expr.{Expr}
 use Rattle.typed_trees.specs.declared.expr.ExprForm.{ExprForm, Number, Const, Errno, Signal, Place, Group', Aggregate', Builtin', Call', Not', Signed', Chain', Row_of-Expr, end_of-Expr, more_of-Expr, Row_of-Arg, end_of-Arg, more_of-Arg, Row_of-ExprForm-Chain-1-2, end_of-ExprForm-Chain-1-2, more_of-ExprForm-Chain-1-2}
 use Rattle.typed_trees.specs.declared.expr.Arg.{Arg, Value', Place as Lent', Signal as OfSignal', Meeting, Known, Option', Held-Arg-Option-1, Arg-Option-1-None', Arg-Option-1-Some'}
@@ -169,4 +169,5 @@ view_tree t = record {
   main = t.main;
   pers_of = t.pers_of.items;
   meeting_of = t.meeting_of.items;
+  axes = t.axes;
 }

@@ -5,9 +5,8 @@ ghost use Rattle.typed_trees.specs.Plain;
 ghost use Rattle.typed_trees.specs.Plain.{args_of, exprs_of, held_of, steps_of};
 ghost use Rattle.typed_trees.specs.Views.{view_arg, view_expr, view_place, view_step};
 
-use rapid_model::{Function, NameText, PartName, Predefined, Sort, Value};
+use rapid_model::{Function, NameText, Operator, PartName, Predefined, Sort, Value};
 use rapid_num::Num;
-use raw_trees::Operator;
 use std::alloc::{AllocError, Global};
 
 /// An expression, the byte at which it begins, from 0, and its type (RAPID Kernel, expressions).

@@ -2,8 +2,7 @@
 
 use crate::first_data::FirstData;
 use crate::stmt::Stmt;
-use rapid_model::{NameText, Sort};
-use raw_trees::{Mode, RoutineKind};
+use rapid_model::{Mode, NameText, RoutineKind, Sort};
 
 /// A parameter: its name, how its argument is handed over, and its type.
 #[derive(Debug, Drop)]

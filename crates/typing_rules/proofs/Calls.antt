@@ -1,9 +1,9 @@
 -- What is called, options among arguments, and the rules of a call.
-use Rattle.std.proofs.Common.{◌≡◌, ◌↔◌, ℕ, Bool, false, not, ◌||◌, List, [], ◌∷◌, length, Option, Some, None, Ok, refl, subst}
+use Rattle.std.proofs.Common.{◌≡◌, ◌↔◌, ℕ, Bool, false, not, ◌||◌, nat_lt, List, [], ◌∷◌, length, Option, Some, None, Ok, refl, subst}
 use Rattle.std.proofs.lemmas.Bool.{not-true, not_from_false}
 use Rattle.raw_trees.specs.Plain.{PlainName, PlainExpr, PlainArgs}
-use Rattle.raw_trees.specs.declared.raw_routine.RoutineKind.{RoutineKind}
-use Rattle.raw_trees.specs.declared.raw_routine.RoutineKind.TheVariants as kinds
+use Rattle.rapid_model.specs.declared.routine_kind.RoutineKind.{RoutineKind}
+use Rattle.rapid_model.specs.declared.routine_kind.RoutineKind.TheVariants as kinds
 use Rattle.rapid_model.specs.declared.sort.Sort.{Sort}
 use Rattle.rapid_builtins.specs.Calls.{OptionRow}
 use Rattle.rapid_builtins.specs.declared.need.Need.{Need}
@@ -43,7 +43,7 @@ call_law s at signature args t =
     in_words
     (where_it_holds s (are_counted args (length signature.needs)) at ArgCount _ t (
     where_it_holds s (are_chosen signature.choice args) at ArgName _ t (
-    it_holds (not signature.arm || s.names.arm) (at_byte s at NoArm) t)))
+    it_holds (not signature.arm || nat_lt 0 s.names.axes) (at_byte s at NoArm) t)))
     (λ (counted, (chosen, armed)). record { counted = counted; chosen = chosen; armed = armed })
     (λ h. (h.counted, (h.chosen, h.armed)))
 

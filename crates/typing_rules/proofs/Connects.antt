@@ -1,8 +1,8 @@
 -- CONNECT: an interrupt's number, and a trap.
 use Rattle.std.proofs.Common.{◌≡◌, ◌↔◌, ℕ, Option, Some, None, Ok, refl, sym, ap, subst}
 use Rattle.raw_trees.specs.Plain.{PlainName, PlainPlace}
-use Rattle.raw_trees.specs.declared.raw_routine.RoutineKind.{RoutineKind}
-use Rattle.raw_trees.specs.declared.raw_routine.RoutineKind.TheVariants as kinds
+use Rattle.rapid_model.specs.declared.routine_kind.RoutineKind.{RoutineKind}
+use Rattle.rapid_model.specs.declared.routine_kind.RoutineKind.TheVariants as kinds
 use Rattle.rapid_model.specs.declared.sort.Sort.TheVariants as sorts
 use Rattle.typed_trees.specs.Plain
 use Rattle.typed_trees.specs.Plain.{TypedStmt}

@@ -1,8 +1,8 @@
 -- Procedures of the task and instructions, with their arguments.
 use Rattle.std.proofs.Common.{◌≡◌, ◌↔◌, ℕ, Option, Some, None, Ok, refl, sym, subst}
 use Rattle.raw_trees.specs.Plain.{PlainName, PlainArgs}
-use Rattle.raw_trees.specs.declared.raw_routine.RoutineKind.{RoutineKind}
-use Rattle.raw_trees.specs.declared.raw_routine.RoutineKind.TheVariants as kinds
+use Rattle.rapid_model.specs.declared.routine_kind.RoutineKind.{RoutineKind}
+use Rattle.rapid_model.specs.declared.routine_kind.RoutineKind.TheVariants as kinds
 use Rattle.typed_trees.specs.Plain
 use Rattle.typed_trees.specs.Plain.{TypedArgs, TypedStmt}
 use Rattle.data_scopes.specs.declared.meant.Meant.{Meant}

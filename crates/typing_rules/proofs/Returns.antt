@@ -1,8 +1,8 @@
 -- RETURN and RAISE.
 use Rattle.std.proofs.Common.{◌≡◌, ◌↔◌, ℕ, not, Option, Some, None, Ok}
 use Rattle.raw_trees.specs.Plain.{PlainExpr}
-use Rattle.raw_trees.specs.declared.raw_routine.RoutineKind.{RoutineKind}
-use Rattle.raw_trees.specs.declared.raw_routine.RoutineKind.TheVariants as kinds
+use Rattle.rapid_model.specs.declared.routine_kind.RoutineKind.{RoutineKind}
+use Rattle.rapid_model.specs.declared.routine_kind.RoutineKind.TheVariants as kinds
 use Rattle.rapid_model.specs.declared.sort.Sort.{Sort}
 use Rattle.rapid_model.specs.declared.sort.Sort.TheVariants as sorts
 use Rattle.typed_trees.specs.Plain

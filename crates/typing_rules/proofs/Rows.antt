@@ -67,8 +67,8 @@ modules_rows_law tables number [] before past = done before past
 modules_rows_law tables number (m ∷ ms) before past =
     then (items_rows tables number m.items before) _ past (items_rows_law tables number m.items before) (λ middle. modules_rows_law tables (number + 1) ms middle past)
 
-pub names_law : (modules : List PlainModule) (signals : List SignalRow) (arm : Bool) (names : Names) → (names_of modules signals arm ≡ Ok names) ↔ AreNames modules signals arm names
-names_law modules signals arm names =
+pub names_law : (modules : List PlainModule) (signals : List SignalRow) (axes : ℕ) (names : Names) → (names_of modules signals axes ≡ Ok names) ↔ AreNames modules signals axes names
+names_law modules signals axes names =
     let tables : Tables = tables_of modules signals in
     in_words
     (where_they_hold (modules_rules tables 0 [] no_counts modules) _ names (modules_law tables 0 [] no_counts modules) (

@@ -2,6 +2,7 @@
 use Rattle.std.proofs.Common.{◌≡◌, ◌↔◌, ℕ, ℤ, suc, Bool, true, not, ◌||◌, ◌==◌, List, [], ◌∷◌, length, Option, Some, None, is_some, Ok, refl, sym, ap, subst, ◌∙◌}
 use Rattle.std.proofs.lemmas.Bool.{eqb-true, eq-eqb, or_right}
 use Rattle.std.specs.List.{list_all}
+use Rattle.rapid_limits.specs.declared.TheConstants.{LONGEST_ARRAY}
 use Rattle.raw_trees.specs.Plain.{PlainDatum, PlainExpr, PlainExprs, Aggregate, Group, NoExprs, MoreExprs}
 use Rattle.rapid_model.specs.declared.sort.Sort.{Sort}
 use Rattle.rapid_model.specs.declared.sort.Sort.TheVariants as sorts
@@ -23,7 +24,7 @@ use Rattle.rapid_model.specs.Sorts.{has_values, is_value_of}
 use Rattle.named_data.specs.declared.wanted.Wanted.TheVariants.{Is, Nothing}
 use Rattle.named_data.specs.Rules.{Site}
 use Rattle.expr_types.specs.Typing.{typed}
-use Rattle.decl_types.specs.Values.{Initial, Brackets, longest_array, length_or_fault, whole_length, length_at, value_or_fault, single_value, array_elements, brackets, how_many, values_or_fault, array_values, no_value, initial_values, site_of, values_at, len_of, initial}
+use Rattle.decl_types.specs.Values.{Initial, Brackets, length_or_fault, whole_length, length_at, value_or_fault, single_value, array_elements, brackets, how_many, values_or_fault, array_values, no_value, initial_values, site_of, values_at, len_of, initial}
 use Rattle.typing_rules.proofs.Steps.{in_words, neither, done, never, then, both, never_after, where_it_holds}
 use Rattle.typing_rules.proofs.ExpressionLaws.{typed_law}
 use Rattle.typing_rules.specs.Data.{IsLength, IsLen, IsSingle, AreArrayElements, AreBrackets, AreArrayValues, AreInitialValues, AreValues, IsInitial}
@@ -50,12 +51,12 @@ found_length s at None n = (λ e. absurd (cc), λ e. absurd (cc))
 found_length s at (Some found) n = (λ e. ap Some (cc), λ e. ap Ok (cc))
 
 whole_length_law : (s : Site) (at : ℕ) (outcome : Outcome) (n : ℕ)
-    → (whole_length s at outcome ≡ Ok n) ↔ ((v : ℤ) × (outcome ≡ outcomes.Value (values.Num v)) × (element_number longest_array v ≡ Some n))
+    → (whole_length s at outcome ≡ Ok n) ↔ ((v : ℤ) × (outcome ≡ outcomes.Value (values.Num v)) × (element_number LONGEST_ARRAY v ≡ Some n))
 whole_length_law s at (outcomes.Value (values.Num v)) n =
     in_words
-    (found_length s at (element_number longest_array v) n)
+    (found_length s at (element_number LONGEST_ARRAY v) n)
     (λ is. (v, refl, is))
-    (λ (w, same, is). let e : w ≡ v = cc in subst (λ w. element_number longest_array w ≡ Some n) e is)
+    (λ (w, same, is). let e : w ≡ v = cc in subst (λ w. element_number LONGEST_ARRAY w ≡ Some n) e is)
 whole_length_law s at (outcomes.Value _) n = neither (never _ n) (λ (v, same, is). cc)
 whole_length_law s at other n = neither (never _ n) (λ (v, same, is). cc)
 

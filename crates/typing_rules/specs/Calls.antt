@@ -1,9 +1,9 @@
 -- Arguments and calls that are right, as facts. IsValue says which typed forms an argument has as a value, by what is wanted of it;
 -- IsIndexed which ones its index has.
-use Rattle.std.specs.Prelude.{◌≡◌, ℕ, Bool, true, false, not, ◌&&◌, ◌||◌, List, [], ◌∷◌, length, Option, Some, None, slice_get, codes}
+use Rattle.std.specs.Prelude.{◌≡◌, ℕ, Bool, true, false, not, ◌&&◌, nat_lt, ◌||◌, List, [], ◌∷◌, length, Option, Some, None, slice_get, codes}
 use Rattle.raw_trees.specs.Plain.{PlainName, PlainExpr, PlainArgs, Place, NotHeld, PlaceOf}
-use Rattle.raw_trees.specs.declared.raw_routine.RoutineKind.{RoutineKind}
-use Rattle.raw_trees.specs.declared.raw_routine.RoutineKind.TheVariants as kinds
+use Rattle.rapid_model.specs.declared.routine_kind.RoutineKind.{RoutineKind}
+use Rattle.rapid_model.specs.declared.routine_kind.RoutineKind.TheVariants as kinds
 use Rattle.rapid_model.specs.declared.predefined.Predefined.{Predefined}
 use Rattle.rapid_model.specs.declared.predefined.Predefined.TheVariants as predefineds
 use Rattle.rapid_model.specs.declared.sort.Sort.{Sort}
@@ -138,7 +138,7 @@ IsValuedOption s t (Some row) e IsValue IsIndexed arg =
 pub record IsCall (s : Site) (signature : Signature) (args : PlainArgs) : Type 0 where
   pub counted : are_counted args (length signature.needs) ≡ true
   pub chosen : are_chosen signature.choice args ≡ true
-  pub armed : (not signature.arm || s.names.arm) ≡ true
+  pub armed : (not signature.arm || nat_lt 0 s.names.axes) ≡ true
 
 -- a function of the task, or a predefined one
 abbrev pub IsRoutine : Site → ℕ → Option RoutineKind → Option Sort → Called → Type 0

@@ -1,6 +1,7 @@
 -- Which lengths and initial values of data are right, and the data of a task's modules with their first values.
 use Rattle.std.specs.Prelude.{◌≡◌, ℕ, ℤ, ◌+◌, Bool, true, false, not, ◌||◌, List, [], ◌∷◌, length, Option, Some, None, is_some, slice_get}
 use Rattle.std.specs.List.{list_all}
+use Rattle.rapid_limits.specs.declared.TheConstants.{LONGEST_ARRAY}
 use Rattle.raw_trees.specs.Plain.{PlainDatum, PlainItem, PlainModule, PlainExpr, PlainExprs, Aggregate, Group, NoExprs, MoreExprs, Datum, Routine}
 use Rattle.rapid_model.specs.declared.sort.Sort.{Sort}
 use Rattle.rapid_model.specs.declared.sort.Sort.TheVariants as sorts
@@ -17,7 +18,7 @@ use Rattle.data_scopes.specs.Scopes.{Names}
 use Rattle.rapid_model.specs.Sorts.{has_values, is_value_of}
 use Rattle.named_data.specs.declared.wanted.Wanted.TheVariants.{Is}
 use Rattle.named_data.specs.Rules.{Site}
-use Rattle.decl_types.specs.Values.{Initial, longest_array, site_of}
+use Rattle.decl_types.specs.Values.{Initial, site_of}
 use Rattle.decl_types.specs.Data.{Progress, Inner, sort_in, with_const, with_slot, with_pers, with_local, of_modules, entered, left}
 use Rattle.typing_rules.specs.Expressions.{IsExpr}
 
@@ -25,7 +26,7 @@ use Rattle.typing_rules.specs.Expressions.{IsExpr}
 abbrev pub IsLength : Site → Elements → PlainExpr → ℕ → Type 0
 IsLength s known e n =
     (t : TypedExpr) × (v : ℤ) × IsExpr s e (Is sorts.Num) t × (is_constant known t ≡ true) × (constant_value known t ≡ outcomes.Value (values.Num v))
-    × (element_number longest_array v ≡ Some n)
+    × (element_number LONGEST_ARRAY v ≡ Some n)
 
 abbrev pub IsLen : Names → ℕ → Option ℕ → Elements → Option PlainExpr → Option ℕ → Type 0
 IsLen names number routine known None len = len ≡ None

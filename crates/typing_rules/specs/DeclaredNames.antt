@@ -114,7 +114,7 @@ AreModuleRows tables number (m ∷ ms) before past =
     (middle : Rows) × AreItemRows tables number m.items before middle × AreModuleRows tables (number + 1) ms middle past
 
 -- the names of modules, whose declared names are right
-pub record AreNames (modules : List PlainModule) (signals : List SignalRow) (arm : Bool) (names : Names) : Type 0 where
+pub record AreNames (modules : List PlainModule) (signals : List SignalRow) (axes : ℕ) (names : Names) : Type 0 where
   pub rows : Rows
   pub right : AreModules (tables_of modules signals) 0 [] no_counts modules
   pub are_rows : AreModuleRows (tables_of modules signals) 0 modules no_rows rows
@@ -123,5 +123,5 @@ pub record AreNames (modules : List PlainModule) (signals : List SignalRow) (arm
     kept = replicate (length rows.consts) None;
     rows = rows;
     outputs = outputs_of signals;
-    arm = arm;
+    axes = axes;
   }

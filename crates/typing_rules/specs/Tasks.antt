@@ -1,6 +1,7 @@
 -- The typed trees of a task's modules: each declared name is right, each datum has its length and first values, each statement its
 -- typed form; there is a main, and the modules' data are not too many.
 use Rattle.std.specs.Prelude.{◌≡◌, ℕ, ◌+◌, Bool, true, false, List, [], ◌∷◌, ◌++◌, length, Option, Some, None, nat_le}
+use Rattle.rapid_limits.specs.declared.TheConstants.{MOST_VALUES}
 use Rattle.raw_trees.specs.Plain as Raw
 use Rattle.raw_trees.specs.Plain.{PlainRoutine, PlainItem, PlainModule, Datum, Routine, stmts_of}
 use Rattle.rapid_model.specs.declared.signal_row.SignalRow.{SignalRow}
@@ -9,7 +10,7 @@ use Rattle.data_scopes.specs.Called.{params_of, result_of}
 use Rattle.data_scopes.specs.Scopes.{Names, list_at}
 use Rattle.decl_types.specs.Data.{Progress, beginning}
 use Rattle.body_types.specs.Bodies.{Body, outside, into}
-use Rattle.stmt_types.specs.Task.{body_of, typed_params, main_among, routines_of, most_values, tree_of}
+use Rattle.stmt_types.specs.Task.{body_of, typed_params, main_among, routines_of, tree_of}
 use Rattle.typing_rules.specs.Statements.{AreStmts}
 use Rattle.typing_rules.specs.DeclaredNames.{AreNames}
 use Rattle.typing_rules.specs.Data.{AreModulesData}
@@ -51,15 +52,15 @@ AreRoutines names locals number [] before past = past ≡ before
 AreRoutines names locals number (m ∷ ms) before past =
     (middle : List TypedRoutine) × AreItemRoutines names locals number m.items before middle × AreRoutines names locals (number + 1) ms middle past
 
--- the typed tree of a task's modules, among these tasks and signals, with an arm or without one
-pub record IsTyped (modules : List PlainModule) (tasks : List (List ℕ)) (signals : List SignalRow) (arm : Bool) (tree : TypedTree) : Type 0 where
+-- the typed tree of a task's modules, among these tasks and signals, where its arm has so many axes, or none where it has no arm
+pub record IsTyped (modules : List PlainModule) (tasks : List (List ℕ)) (signals : List SignalRow) (axes : ℕ) (tree : TypedTree) : Type 0 where
   pub names : Names
   pub data_are : Progress
   pub routines : List TypedRoutine
   pub main : ℕ
-  pub are_names : AreNames modules signals arm names
+  pub are_names : AreNames modules signals axes names
   pub are_data : AreModulesData 0 modules (beginning names) data_are
   pub are_routines : AreRoutines data_are.names data_are.locals 0 modules [] routines
   pub has_main : main_among (routines_of modules) ≡ Some main
-  pub few_values : nat_le data_are.values most_values ≡ true
-  pub is_tree : tree ≡ tree_of modules tasks data_are routines main
+  pub few_values : nat_le data_are.values MOST_VALUES ≡ true
+  pub is_tree : tree ≡ tree_of modules tasks axes data_are routines main

@@ -9,10 +9,10 @@ ghost use Rattle.typing_rules.specs.Tasks.{IsTyped};
 
 /// The modules of a task are checked to a tree exactly where it is their typed tree.
 pub fn tasks_are_typed()
-    ensures { (modules : List PlainModule) (tasks : List (List ℕ)) (signals : List SignalRow) (arm : Bool) (tree : TypedTree) → (task_of modules tasks signals arm ≡ Ok tree) ↔ IsTyped modules tasks signals arm tree }
+    ensures { (modules : List PlainModule) (tasks : List (List ℕ)) (signals : List SignalRow) (axes : ℕ) (tree : TypedTree) → (task_of modules tasks signals axes ≡ Ok tree) ↔ IsTyped modules tasks signals axes tree }
 {}
 
 /// The modules of a task have at most one typed tree.
 pub fn tasks_have_one_tree()
-    ensures { (modules : List PlainModule) (tasks : List (List ℕ)) (signals : List SignalRow) (arm : Bool) (tree other : TypedTree) → IsTyped modules tasks signals arm tree → IsTyped modules tasks signals arm other → tree ≡ other }
+    ensures { (modules : List PlainModule) (tasks : List (List ℕ)) (signals : List SignalRow) (axes : ℕ) (tree other : TypedTree) → IsTyped modules tasks signals axes tree → IsTyped modules tasks signals axes other → tree ≡ other }
 {}

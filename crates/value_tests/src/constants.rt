@@ -1,9 +1,8 @@
 //! Trees made by hand, and what they come to.
 
 use constant_meaning::{Arrays, Outcome, constant_value, is_constant};
-use rapid_model::{PartName, Sort, Value};
+use rapid_model::{Operator, PartName, Sort, Value};
 use rapid_num::Num;
-use raw_trees::Operator;
 use std::alloc::{AllocError, Global};
 use std::test::*;
 use typed_trees::{Expr, TreePlace, TreeRoot};

@@ -2,14 +2,13 @@
 
 use Wanted::{Gives, OutOfRange, Raises, Unfit};
 use Written::{Bool, Ext, Num, Rob, Speed, Target, Text};
-use rapid_model::Value;
-use rapid_num::Joints;
-use rapid_operators::{Applied, apply, same_value, whole_index};
-use raw_trees::Operator;
-use raw_trees::Operator::{
+use rapid_model::Operator::{
     Add, And, Div, Equal, Greater, GreaterEqual, IntDiv, Less, LessEqual, Mod, Mul, NotEqual, Or,
     Sub, Xor,
 };
+use rapid_model::{Operator, Value};
+use rapid_num::Joints;
+use rapid_operators::{Applied, apply, same_value, whole_index};
 use std::test::Fail;
 
 /// A value of a row. Of axes and speeds only the last is written, in thousandths: the others are 0.

@@ -7,6 +7,7 @@ mod num;
 mod nums;
 mod parts;
 mod quoted;
+mod rooms;
 mod sorts;
 mod values;
 
@@ -14,5 +15,6 @@ pub use count::push_count;
 pub use name::push_name;
 pub use num::push_num;
 pub use parts::part_name;
+pub use rooms::{COUNT_BYTES, NUM_BYTES, VALUE_BYTES, WORD_BYTES};
 pub use sorts::sort_name;
 pub use values::{push_value, truth_name};

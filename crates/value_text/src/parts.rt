@@ -3,6 +3,7 @@
 ghost use Rattle.std.specs.Prelude.{◌≡◌, ◌≤◌, length};
 ghost use Rattle.value_text.specs.ValueText.{axis_text, part_text, speed_text};
 
+use crate::rooms::WORD_BYTES;
 use rapid_model::PartName;
 
 /// A part as it stands behind a datum: each component after a dot, and nothing for the whole. The words of an axis are the
@@ -10,7 +11,7 @@ use rapid_model::PartName;
 /// speeddata, tasks). At most 12 bytes.
 pub fn part_name(part: PartName) -> &'static str
     ensures name { result.now ≡ part_text part }
-    ensures short { length result.now ≤ 12 }
+    ensures short { length result.now ≤ WORD_BYTES }
 {
     match part {
         PartName::Whole => "",
@@ -25,7 +26,7 @@ pub fn part_name(part: PartName) -> &'static str
 /// An axis, from 0.
 fn axis_name(number: u8) -> &'static str
     ensures name { result.now ≡ axis_text number }
-    ensures short { length result.now ≤ 12 }
+    ensures short { length result.now ≤ WORD_BYTES }
 {
     match number {
         0 => ".robax.rax_1",
@@ -47,7 +48,7 @@ fn axis_name(number: u8) -> &'static str
 /// A part of a speed, from 0.
 fn speed_name(number: u8) -> &'static str
     ensures name { result.now ≡ speed_text number }
-    ensures short { length result.now ≤ 12 }
+    ensures short { length result.now ≤ WORD_BYTES }
 {
     match number {
         0 => ".v_tcp",

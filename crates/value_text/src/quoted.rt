@@ -3,14 +3,15 @@
 ghost use Rattle.std.specs.Prelude.{◌≡◌, ◌+◌, ◌<◌, ◌≤◌, ◌++◌, length};
 ghost use Rattle.value_text.specs.ValueText.{quoted_byte, quoted_text};
 
+use crate::rooms::QUOTED_BYTES;
 use arrayvec::ArrayString;
 use rapid_model::Text;
 
 /// Appends a text in quotes.
 pub(crate) fn push_quoted<const N: usize>(text: &Text, line: &mut ArrayString<N>)
-    requires room { length line.old.bytes + 162 ≤ N }
+    requires room { length line.old.bytes + QUOTED_BYTES ≤ N }
     ensures text { line.new.bytes ≡ line.old.bytes ++ quoted_text text.now }
-    ensures short { length line.new.bytes ≤ length line.old.bytes + 162 }
+    ensures short { length line.new.bytes ≤ length line.old.bytes + QUOTED_BYTES }
 {
     line.push('"');
     for byte in text.bytes() {

@@ -4,16 +4,17 @@ ghost use Rattle.value_text.specs.ValueText.{target_text, truth_text, value_text
 use crate::num::push_num;
 use crate::nums::push_nums;
 use crate::quoted::push_quoted;
+use crate::rooms::VALUE_BYTES;
 use arrayvec::ArrayString;
 use rapid_model::Value;
 use rapid_num::Joints;
 
 /// Appends a value as RAPID writes it, without spaces: a num without needless digits, TRUE, FALSE, a text in quotes, in which a
-/// quote and a backslash stand twice, or a list in brackets. At most 200 bytes.
+/// quote and a backslash stand twice, or a list in brackets.
 pub fn push_value<const N: usize>(value: &Value, line: &mut ArrayString<N>)
-    requires room { length line.old.bytes + 200 ≤ N }
+    requires room { length line.old.bytes + VALUE_BYTES ≤ N }
     ensures text { line.new.bytes ≡ line.old.bytes ++ value_text value.now }
-    ensures short { length line.new.bytes ≤ length line.old.bytes + 200 }
+    ensures short { length line.new.bytes ≤ length line.old.bytes + VALUE_BYTES }
 {
     match value {
         Value::Num(number) => push_num(*number, line),
@@ -36,9 +37,9 @@ pub fn truth_name(truth: bool) -> &'static str
 
 /// Appends a jointtarget: its robjoint and its extjoint in brackets.
 fn push_target<const N: usize>(joints: &Joints, line: &mut ArrayString<N>)
-    requires room { length line.old.bytes + 200 ≤ N }
+    requires room { length line.old.bytes + VALUE_BYTES ≤ N }
     ensures text { line.new.bytes ≡ line.old.bytes ++ target_text joints.now.axis }
-    ensures short { length line.new.bytes ≤ length line.old.bytes + 200 }
+    ensures short { length line.new.bytes ≤ length line.old.bytes + VALUE_BYTES }
 {
     let axes = &joints.axis[..];
     line.push('[');

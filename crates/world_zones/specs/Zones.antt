@@ -1,6 +1,7 @@
 -- Zones of arms by number, and zones of the cell (RAPID Instructions: WZLimSup, WZDisable, WZEnable, WZFree).
 use Rattle.std.specs.Prelude.{ℕ, ◌+◌, ◌-◌, Bool, true, false, ◌&&◌, ◌==◌, if◌then◌else◌, List, length, map, replicate, slice_index_or, slice_set, Option, None, Some, is_some, is_none, Result, Ok, Err}
 use Rattle.std.specs.List.{position_from}
+use Rattle.rapid_limits.specs.declared.TheConstants.{MOST_ZONES}
 use Rattle.rapid_num.specs.declared.shape.Shape.{Shape}
 use Rattle.rapid_model.specs.Truths.{same_truth}
 use Rattle.rapid_model.specs.CellData.{CellData}
@@ -21,7 +22,7 @@ zone_of row = record { task = row.task; shape = row.shape; signal = row.signal; 
 
 -- no arm has a zone
 abbrev pub no_zones : List (Option OwnZone)
-no_zones = replicate 10 None
+no_zones = replicate MOST_ZONES None
 
 abbrev pub before_all : CellData → ZonesData
 before_all cell = record { arms = replicate (length cell.tasks) no_zones; cell = map zone_of cell.zones }
@@ -43,9 +44,9 @@ least_free (Some index) = Ok (index + 1)
 abbrev pub set_answer : List (Option OwnZone) → ℕ → Result ℕ ZoneFault
 set_answer zones old = if is_some (zone_at zones old) then Err zone_faults.ZoneUsed else least_free (position_from is_none 0 zones)
 
--- given just now: on
+-- given just now: on, and stops the arm
 abbrev pub given : Bool → Shape → Option OwnZone
-given temporary shape = Some (record { temporary = temporary; on = true; shape = shape })
+given temporary shape = Some (record { temporary = temporary; on = true; shape = shape; output = None })
 
 abbrev pub is_temporary : Option OwnZone → Bool
 is_temporary None = false
@@ -64,10 +65,10 @@ arm_at zones task = slice_index_or zones.arms task no_zones
 abbrev pub with_arm : ZonesData → ℕ → List (Option OwnZone) → ZonesData
 with_arm zones task arm = record zones { arms = slice_set zones.arms task arm }
 
--- the shape of a zone, if there is one and it is on
+-- the shape of a zone, if there is one that is on and stops the arm
 abbrev pub own_shape : Option OwnZone → Option Shape
 own_shape None = None
-own_shape (Some zone) = if zone.on then Some zone.shape else None
+own_shape (Some zone) = if zone.on && is_none zone.output then Some zone.shape else None
 
 -- the shape of a zone of the cell, if it watches the task's arm: while its signal has its value
 abbrev pub cell_shape : ℕ → List Bool → CellZone → Option Shape

@@ -6,35 +6,39 @@ use crate::no_zone::NoZone;
 use crate::own_zone::{OwnZone, free_index, own_shape, zone_at};
 use crate::stopping::stops;
 use crate::zone_fault::ZoneFault;
+use rapid_limits::MOST_ZONES;
 use rapid_num::{Joints, Shape};
 use std::marker::Model;
 
 /// The zones of one arm. Contracts see its ten entries, index n - 1 for the number n.
 #[derive(Debug, Drop)]
 pub(crate) struct ArmZones {
-    zones: [Option<OwnZone>; 10],
+    zones: [Option<OwnZone>; MOST_ZONES],
 }
 
 impl Model for ArmZones {
     ghost use Rattle.std.specs.Prelude.{◌≡◌, length, List, Option};
     ghost use Rattle.world_zones.specs.declared.own_zone.OwnZone.{OwnZone};
+    ghost use Rattle.rapid_limits.specs.declared.TheConstants.{MOST_ZONES};
 
     ghost Value = { List (Option OwnZone) };
 
     ghost view = { λ a. a.zones };
 
-    ghost invariant = { λ a. length a.zones ≡ 10 };
+    ghost invariant = { λ a. length a.zones ≡ MOST_ZONES };
 }
 
 impl ArmZones {
     /// The arm has no zone.
     pub(crate) fn new() -> ArmZones
-        ensures { result ≡ replicate 10 None }
+        ensures { result ≡ replicate MOST_ZONES None }
     {
-        ArmZones { zones: [None; 10] }
+        ArmZones {
+            zones: [None; MOST_ZONES],
+        }
     }
 
-    /// Gives the arm a zone, which is on.
+    /// Gives the arm a zone that stops it, which is on.
     pub(crate) fn set(&mut self, old: u8, temporary: bool, shape: &Shape) -> Result<u8, ZoneFault>
         ensures answer { result ≡ set_answer self.old old }
         ensures ok { IfOk result (λ number. self.new ≡ with_zone self.old number (given temporary shape.now)) }
@@ -49,6 +53,7 @@ impl ArmZones {
                     temporary,
                     on: true,
                     shape: *shape,
+                    output: None,
                 });
                 Ok(index as u8 + 1)
             }
@@ -88,10 +93,10 @@ impl ArmZones {
 
     /// The index of the first zone that stops the segment.
     pub(crate) fn first_touched(&self, p: &Joints, q: &Joints) -> Option<usize>
-        ensures there { IfSome result (λ index. index < 10) }
+        ensures there { IfSome result (λ index. index < MOST_ZONES) }
         ensures first { IsFirstIndex (λ index. Stops p.now q.now (own_shape (slice_index_or self.now index None))) result }
     {
-        for index in 0..10 {
+        for index in 0..MOST_ZONES {
             if stops(own_shape(&self.zones[index]), p, q) {
                 return Some(index);
             }

@@ -4,6 +4,7 @@
 mod arm_zones;
 mod cell_zone;
 mod no_zone;
+mod output;
 mod own_zone;
 mod stopping;
 mod zone_fault;
@@ -11,6 +12,7 @@ mod zones;
 
 pub use cell_zone::CellZone;
 pub use no_zone::NoZone;
+pub use output::Output;
 pub use own_zone::OwnZone;
 pub use zone_fault::ZoneFault;
 pub use zones::Zones;

@@ -2,22 +2,25 @@ ghost use Rattle.std.specs.Prelude.{◌≡◌, ◌<◌, is_none, length, option_
 ghost use Rattle.std.specs.List.{position_from};
 ghost use Rattle.world_zones.specs.Zones.{own_shape, zone_at};
 
+use crate::output::Output;
+use rapid_limits::MOST_ZONES;
 use rapid_num::Shape;
 
-/// A zone that a task gave for its arm: temporary or stationary, switched on or off (RAPID Instructions: WZLimSup, WZDisable,
-/// WZEnable).
+/// A zone that a task gave for its arm: temporary or stationary, switched on or off. One without an output stops the arm (RAPID
+/// Instructions: WZLimSup, WZDisable, WZEnable, WZDOSet).
 #[derive(Clone, Copy, Debug, PartialEq, Eq)]
 pub struct OwnZone {
     pub temporary: bool,
     pub on: bool,
     pub shape: Shape,
+    pub output: Option<Output>,
 }
 
 /// The zone of the number, from 1 to 10; no other number has one.
-pub(crate) fn zone_at(zones: &[Option<OwnZone>; 10], number: u8) -> Option<OwnZone>
+pub(crate) fn zone_at(zones: &[Option<OwnZone>; MOST_ZONES], number: u8) -> Option<OwnZone>
     ensures { result ≡ zone_at zones.now number }
 {
-    if number == 0 || number > 10 {
+    if number == 0 || number as usize > MOST_ZONES {
         return None;
     }
     zones[number as usize - 1]
@@ -31,12 +34,12 @@ pub(crate) fn free_index(zones: &[Option<OwnZone>]) -> Option<usize>
     zones.iter().position(|zone| zone.is_none())
 }
 
-/// The shape of the zone, if there is one and it is on.
+/// The shape of the zone, if there is one that is on and stops the arm.
 pub(crate) fn own_shape(zone: &Option<OwnZone>) -> Option<&Shape>
     ensures { option_copied result ≡ own_shape zone.now }
 {
     match zone {
-        Some(zone) if zone.on => Some(&zone.shape),
+        Some(zone) if zone.on && zone.output.is_none() => Some(&zone.shape),
         _ => None,
     }
 }

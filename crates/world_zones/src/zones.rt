@@ -9,6 +9,7 @@ use crate::cell_zone::{CellZone, cell_shape};
 use crate::no_zone::NoZone;
 use crate::stopping::stops;
 use crate::zone_fault::ZoneFault;
+use rapid_limits::MOST_CELL_ZONES;
 use rapid_model::{Cell, SignalValues, ZoneName, ZoneRow};
 use rapid_num::{Joints, Memory, Shape};
 use std::alloc::{AllocError, Global};
@@ -26,13 +27,14 @@ pub struct Zones {
 impl Model for Zones {
     ghost use Rattle.std.specs.Prelude.{◌≤◌, length};
     ghost use Rattle.world_zones.specs.Zones.{ZonesData};
+    ghost use Rattle.rapid_limits.specs.declared.TheConstants.{MOST_CELL_ZONES};
 
     ghost Value = { ZonesData };
 
     ghost view = { λ z. record { arms = z.arms.items; cell = z.cell.items } };
 
     // A zone of the cell is named by a u8.
-    ghost invariant = { λ z. length z.cell.items ≤ 16 };
+    ghost invariant = { λ z. length z.cell.items ≤ MOST_CELL_ZONES };
 }
 
 impl Zones {
@@ -46,8 +48,8 @@ impl Zones {
         }
     }
 
-    /// Gives the task's arm a zone, which is on, with the least free number, from 1 to 10: `ZoneUsed` exactly where the old number
-    /// is a zone of the arm, else `ZoneFull` exactly where the arm has ten.
+    /// Gives the task's arm a zone that stops it, which is on, with the least free number, from 1 to 10: `ZoneUsed` exactly where
+    /// the old number is a zone of the arm, else `ZoneFull` exactly where the arm has ten.
     pub fn set(
         &mut self,
         task: u32,

@@ -1,4 +1,4 @@
-use Rattle.std.proofs.Common.{[], codes}
+use Rattle.std.proofs.Common.{[], codes, arith}
 use Rattle.toml.specs.View.{table_view}
 use Rattle.cell_script.specs.Keys.{Keys, at, value_of}
 use Rattle.cell_script.proofs.LimitsScript.{IsScript-from, signals_are, tasks_are}
@@ -12,7 +12,8 @@ zones_in-requires-clause-few_signals c =
 pub zones_in-requires-clause-few_tasks : goal.zones_in-requires-clause-few_tasks
 zones_in-requires-clause-few_tasks c =
     let keys : Keys = record { path = []; members = table_view c.args.table.now } in
-    rw c.deref-2.ensures.value ((tasks_are keys c.in_ok-tasks.tasks.items c.in_ok-tasks.ensures).at_most)
+    let most = (tasks_are keys c.in_ok-tasks.tasks.items c.in_ok-tasks.ensures).at_most in
+    rw c.deref-2.ensures.value (omega arith)
 
 pub inputs_in-requires-clause-few_signals : goal.inputs_in-requires-clause-few_signals
 inputs_in-requires-clause-few_signals c =
@@ -22,7 +23,8 @@ inputs_in-requires-clause-few_signals c =
 pub inputs_in-requires-clause-few_tasks : goal.inputs_in-requires-clause-few_tasks
 inputs_in-requires-clause-few_tasks c =
     let keys : Keys = record { path = []; members = table_view c.args.table.now } in
-    rw c.deref-4.ensures.value ((tasks_are keys c.in_ok-tasks.tasks.items c.in_ok-tasks.ensures).at_most)
+    let most = (tasks_are keys c.in_ok-tasks.tasks.items c.in_ok-tasks.ensures).at_most in
+    rw c.deref-4.ensures.value (omega arith)
 
 pub invariant_of-script : goal.invariant_of-script
 invariant_of-script c =
@@ -30,5 +32,5 @@ invariant_of-script c =
     let zones = rw (c.deref.ensures.value, c.deref-2.ensures.value) at c.in_ok-zones.ensures in
     let inputs = rw (c.deref-3.ensures.value, c.deref-4.ensures.value) at c.in_ok-inputs.ensures in
     rw (c.from_vec.ensures, c.from_vec-2.ensures, c.from_vec-3.ensures, c.from_vec-4.ensures, c.from_vec-5.ensures)
-    (IsScript-from keys c.in_ok-steps.steps c.in_ok-signals.signals.items c.in_ok-tasks.tasks.items c.in_ok-pers.pers.items c.in_ok-zones.zones.items c.in_ok-inputs.inputs.items
-    c.in_ok-steps.ensures c.in_ok-signals.ensures c.in_ok-tasks.ensures c.in_ok-pers.ensures zones inputs)
+    (IsScript-from keys c.in_ok-version.version c.in_ok-steps.steps c.in_ok-signals.signals.items c.in_ok-tasks.tasks.items c.in_ok-pers.pers.items c.in_ok-zones.zones.items c.in_ok-inputs.inputs.items
+    c.in_ok-version.ensures c.in_ok-steps.ensures c.in_ok-signals.ensures c.in_ok-tasks.ensures c.in_ok-pers.ensures zones inputs)

@@ -1,5 +1,6 @@
-use Rattle.std.proofs.Common.{sym, ◌∙◌, subst, length}
+use Rattle.std.proofs.Common.{sym, ◌∙◌, subst, length, IsTrue}
 use Rattle.std.proofs.lemmas.List.{length-map}
+use Rattle.rapid_model.specs.Limits.{is_axes}
 use Rattle.typed_trees.specs.Plain.{TypedTree}
 use Rattle.typed_trees.specs.Views.{view_tree}
 use Rattle.stack_code.specs.CodeData.{CodeData}
@@ -21,6 +22,7 @@ kept-requires c = record {
   tiled = subst (λ (code : CodeData). Tiles 0 (length code.ops) code.owners) (sym c.in_ok-linked.ensures) (tiled (view_tree c.args.tree.now));
   few_ops = c.is_counted.ensures.ops c.if-is_counted.true;
   few_slots = c.is_counted.ensures.slots c.if-is_counted.true;
+  axes = subst (λ (code : CodeData). IsTrue (is_axes code.axes)) (sym c.in_ok-linked.ensures) c.requires.typed.axes;
 }
 
 pub returns-then-is_counted-clause-asks : goal.returns-then-is_counted-clause-asks

@@ -5,4 +5,4 @@ pub returns-clause-stands : goal.returns-clause-stands
 returns-clause-stands c = λ tree orderly. simulates tree orderly
 
 pub returns-clause-goes : goal.returns-clause-goes
-returns-clause-goes c = λ signals arm cell number tree answers typed numbered labels fits. typed_stands signals arm cell number tree answers typed numbered labels fits
+returns-clause-goes c = λ signals cell number tree answers typed numbered labels fits. typed_stands signals cell number tree answers typed numbered labels fits

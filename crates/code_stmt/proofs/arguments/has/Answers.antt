@@ -4,7 +4,7 @@ use Rattle.std.specs.Borrow.{Bor}
 use Rattle.rapid_meaning.specs.Instructions.{has}
 use Rattle.typed_trees.specs.Views.{view_arg}
 use Rattle.typed_trees.specs.declared.expr.Arg.{Arg}
-use Rattle.code_stmt.specs.Given.{is_named}
+use Rattle.code_stmt.specs.Options.{is_named}
 use Rattle.code_stmt.specs.Views.{view_args}
 use Rattle.code_stmt.proofs.ArgumentLists.{has_more}
 use Rattle.code_stmt.proofs.arguments.has.Goals as goal

@@ -2,7 +2,6 @@ use Rattle.std.proofs.Common.{[], ◌∷◌, ap, refl, sym}
 use Rattle.std.proofs.lemmas.Result.{on_ok_weaker}
 use Rattle.stack_code.specs.StmtLayouts.{pieces_code}
 use Rattle.stack_code.specs.declared.op.Op.TheVariants as ops
-use Rattle.typed_trees.specs.declared.expr.TreePlace.{out-TreePlace}
 use Rattle.code_expr.specs.Contexts.{routine_of, tree_of}
 use Rattle.code_expr.proofs.Laid.{put_as}
 use Rattle.code_stmt.specs.Views.{view_own, view_piece}
@@ -32,14 +31,6 @@ returns-in-Args c =
     let routine = routine_of c.args.context.now in
     let own = view_own c.args.own.now in
     on_ok_weaker c.add_args.result (λ h. pieces_laid tree routine c.args.labels.now own _ _ (ap (λ p. view_piece p ∷ []) (sym c.in-Args.is)) (one_code tree routine c.args.labels.now own _ refl (h own))) c.add_args.ensures
-
-pub returns-in-Element : goal.returns-in-Element
-unfolding pieces_code
-returns-in-Element c =
-    let tree = tree_of c.args.context.now in
-    let routine = routine_of c.args.context.now in
-    let own = view_own c.args.own.now in
-    on_ok_weaker c.add_element.result (λ h. pieces_laid tree routine c.args.labels.now own _ _ (ap (λ p. view_piece p ∷ []) (sym c.in-Element.is)) (one_code tree routine c.args.labels.now own _ refl (h own (out-TreePlace c.in-Element.place.now).sort))) c.add_element.ensures
 
 pub returns-in-Does : goal.returns-in-Does
 unfolding pieces_code

@@ -10,7 +10,7 @@ use Rattle.controller.proofs.texts_cell.cell_of.Goals as goal
 
 pub returns-in-Ok-clause-script : goal.returns-in-Ok-clause-script
 returns-in-Ok-clause-script g c =
-    checked_has_script c.args.script.now (reads_in c.args.modules.now) (made_of c.in-Ok.accepted) c.steps.ensures.limits.few_tasks c.requires.spelled c.in-Ok.ensures.gives
+    checked_has_script c.args.script.now (reads_in c.args.modules.now) (made_of c.in-Ok.accepted) c.steps.ensures.limits c.requires.spelled c.in-Ok.ensures.gives
     (length-map c.in-Ok.accepted.trees.items view_tree ∙ c.in-Ok.ensures.one_each)
 
 pub returns-in-Err-clause-refused : goal.returns-in-Err-clause-refused

@@ -1,7 +1,7 @@
 use Rattle.std.proofs.Common.{◌≡◌, ◌∙◌, ◌+◌, List, [], ◌∷◌, ◌++◌, Ok, ap, arith, drop, false, refl, length, map, subst, sym, true}
 use Rattle.raw_trees.specs.Plain.{args_of as raw_args_of, exprs_of as raw_exprs_of, steps_of as raw_steps_of}
 use Rattle.raw_trees.specs.Views.{view_arg as view_raw_arg, view_expr as view_raw, view_name, view_step as view_raw_step}
-use Rattle.raw_trees.specs.declared.raw_expr.Operator.{Operator}
+use Rattle.rapid_model.specs.declared.operator.Operator.{Operator}
 use Rattle.typed_trees.specs.declared.expr.Arg.{Arg}
 use Rattle.typed_trees.specs.declared.expr.Expr.{Expr}
 use Rattle.rule_checks.specs.TypeChecks.{Fails, Checked}

@@ -1,4 +1,4 @@
-use Rattle.std.proofs.Common.{refl, sym, ◌∙◌, rules}
+use Rattle.std.proofs.Common.{refl, rules}
 use Rattle.history_text.specs.Named.{view_names}
 use Rattle.history_text.proofs.OneLine.{event_there, no_event_again, no_event_fits, no_event_read}
 use Rattle.history_text.proofs.one_line.read_event.Goals as goal

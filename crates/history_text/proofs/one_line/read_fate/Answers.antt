@@ -1,4 +1,4 @@
-use Rattle.std.proofs.Common.{sym, ◌∙◌, rules}
+use Rattle.std.proofs.Common.{rules}
 use Rattle.history_text.specs.Named.{view_names}
 use Rattle.history_text.proofs.OneLine.{fate_there, no_fate_again, no_fate_read, task_there}
 use Rattle.history_text.proofs.one_line.read_fate.Goals as goal

@@ -1,7 +1,6 @@
-use Rattle.std.proofs.Common.{◌≡◌, ℕ, ◌+◌, ◌<◌, ◌++◌, List, length, sym, ◌∙◌, rules}
+use Rattle.std.proofs.Common.{◌≡◌, ◌+◌, rules}
 use Rattle.history_text.specs.HistoryText.{IsFirstFault}
 use Rattle.history_text.specs.Named.{view_names}
-use Rattle.history_text.specs.NextLine.{AddsEvent, BeginsNoEvent}
 use Rattle.history_text.proofs.NextLines.{all_read, event_onto, fate_onto, fault_there, has_begun, spelled_has_no_fault}
 use Rattle.history_text.proofs.OneHistory.{read_once}
 use Rattle.history_text.proofs.reading.read_history.Goals as goal

@@ -7,9 +7,13 @@ pub loop-k-init : goal.loop-k-init
 unfolding greatest_change
 loop-k-init c = record { so_far = refl; at_most = omega arith }
 
+pub change_of-requires-clause-start : goal.change_of-requires-clause-start
+change_of-requires-clause-start c =
+    reach_at 0 c.args.axes c.loop-k.k c.args.start.now.axis _ c.requires.start (omega arith) (omega arith)
+
 pub change_of-requires-clause-target : goal.change_of-requires-clause-target
 change_of-requires-clause-target c =
-    reach_at 6 c.loop-k.k c.args.target.now.axis _ c.requires.target (omega arith) (omega arith)
+    reach_at 0 c.args.axes c.loop-k.k c.args.target.now.axis _ c.requires.target (omega arith) (omega arith)
 
 pub loop-k-preserved : goal.loop-k-preserved
 loop-k-preserved c =

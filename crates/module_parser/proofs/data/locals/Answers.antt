@@ -1,5 +1,6 @@
 use Rattle.std.proofs.Common.{map, sym, ◌∙◌}
 use Rattle.std.proofs.lemmas.Result.{err_from_is_err_and}
+use Rattle.rapid_limits.specs.declared.TheConstants.{MOST_LEVELS}
 use Rattle.raw_trees.specs.Views.{view_datum}
 use Rattle.rapid_forms.specs.Reading.{rest_from}
 use Rattle.rapid_forms.proofs.Loops.{front_none, loop_done, loop_fails, loop_smaller, loop_pushes}
@@ -15,15 +16,15 @@ pub returns-in_err-datum : goal.returns-in_err-datum
 returns-in_err-datum c =
     let p = err_from_is_err_and c.from_residual.result c.from_residual.ensures.1 in
     rw (p.1, p.2)
-    (loop_fails (datum_takes _ 64) _ (map view_datum c.loop-list.list.items) c.args.p.now.tokens _ c.loop-list.next _ (sym c.sees.ensures ∙ c.loop-list-test.true) c.loop-list.invariant c.in_err-datum.ensures)
+    (loop_fails (datum_takes _ MOST_LEVELS) _ (map view_datum c.loop-list.list.items) c.args.p.now.tokens _ c.loop-list.next _ (sym c.sees.ensures ∙ c.loop-list-test.true) c.loop-list.invariant c.in_err-datum.ensures)
 
 pub loop-list-smaller : goal.loop-list-smaller
-loop-list-smaller c = loop_smaller (datum_takes _ 64) c.args.p.now.tokens c.loop-list.next c.in_ok-datum.after (view_datum c.in_ok-datum.datum) c.in_ok-datum.ensures
+loop-list-smaller c = loop_smaller (datum_takes _ MOST_LEVELS) c.args.p.now.tokens c.loop-list.next c.in_ok-datum.after (view_datum c.in_ok-datum.datum) c.in_ok-datum.ensures
 
 pub loop-list-preserved : goal.loop-list-preserved
 loop-list-preserved c =
     rw c.in_ok-push.ensures.items
-    (loop_pushes (datum_takes _ 64) view_datum _ c.loop-list.list.items (rest_from c.args.p.now.tokens c.loop-list.next) c.in_ok-datum.datum _ (sym c.sees.ensures ∙ c.loop-list-test.true) c.in_ok-datum.ensures ∙ c.loop-list.invariant)
+    (loop_pushes (datum_takes _ MOST_LEVELS) view_datum _ c.loop-list.list.items (rest_from c.args.p.now.tokens c.loop-list.next) c.in_ok-datum.datum _ (sym c.sees.ensures ∙ c.loop-list-test.true) c.in_ok-datum.ensures ∙ c.loop-list.invariant)
 
 pub returns : goal.returns
 returns c = sym c.loop-list.invariant ∙ loop_done _ _ (map view_datum c.loop-list.list.items) (rest_from c.args.p.now.tokens c.loop-list.next) (sym c.sees.ensures ∙ c.loop-list-test.false)

@@ -9,15 +9,15 @@ unfolding after
 returns-in_default c = λ place.
     let middle = c.args.middle.now in
     let delta = c.args.delta.now in
-    bounds_there place c.args.inside middle delta None (on_axes home_high middle.axis delta.axis) (sym c.in_default.is ∙ c.on_axes.ensures) refl
+    bounds_there c.args.axes place c.args.inside middle delta None (on_axes home_high middle.axis delta.axis) (sym c.in_default.is ∙ c.on_axes.ensures) refl
 
 pub returns-in_default-on_axes : goal.returns-in_default-on_axes
 unfolding after
 returns-in_default-on_axes c = λ place.
-    bounds_there place c.args.inside c.args.middle.now c.args.delta.now (Some c.in-Some.low) None (sym c.in-Some.is ∙ c.on_axes.ensures) (sym c.in_default-on_axes.is ∙ c.on_axes-2.ensures)
+    bounds_there c.args.axes place c.args.inside c.args.middle.now c.args.delta.now (Some c.in-Some.low) None (sym c.in-Some.is ∙ c.on_axes.ensures) (sym c.in_default-on_axes.is ∙ c.on_axes-2.ensures)
 
 pub returns : goal.returns
 unfolding after
 returns c = λ place.
-    bounds_there place c.args.inside c.args.middle.now c.args.delta.now (Some c.in-Some.low) (Some c.in-Some-on_axes.high) (sym c.in-Some.is ∙ c.on_axes.ensures) (sym c.in-Some-on_axes.is ∙ c.on_axes-2.ensures)
+    bounds_there c.args.axes place c.args.inside c.args.middle.now c.args.delta.now (Some c.in-Some.low) (Some c.in-Some-on_axes.high) (sym c.in-Some.is ∙ c.on_axes.ensures) (sym c.in-Some-on_axes.is ∙ c.on_axes-2.ensures)
     ∙ c.between.ensures place

@@ -11,12 +11,12 @@ returns-clause-right c = λ script made number tree accepted there. let h = acce
 pub returns-clause-goes : goal.returns-clause-goes
 returns-clause-goes c = λ script made number tree answers accepted there fits.
     let h = accepted_right script made number tree accepted there in
-    whole.goes (length made.cell.signals) (is_some h.row.arm) made.cell number tree answers h.typed h.numbered fits
+    whole.goes (length made.cell.signals) made.cell number tree answers h.typed h.numbered fits
 
 pub returns-clause-until : goal.returns-clause-until
 returns-clause-until c = λ script made number tree mine accepted there own fit going.
     let h = accepted_right script made number tree accepted there in
-    asks_on (length made.cell.signals) (is_some h.row.arm) made.cell number tree mine h.typed h.numbered own fit going
+    asks_on (length made.cell.signals) made.cell number tree mine h.typed h.numbered own fit going
 
 pub returns-clause-suits : goal.returns-clause-suits
 returns-clause-suits c = λ script made number tree answers request accepted there asking.

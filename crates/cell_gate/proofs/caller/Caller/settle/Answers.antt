@@ -16,7 +16,7 @@ count-requires-clause-may c =
       slot = ap (λ (h : Hand). h.1) c.put.ensures.me;
       turn = subst (λ (h : Hand). InTurn h.0) (sym c.put.ensures.me) so.turn;
       grows = subst (λ (h : Hand). GainedIf h.0.actor h.0.seen c.args.core.history c.args.grew) (sym c.put.ensures.me) so.grows;
-      few = omega (arith, c.len-self.ensures.same);
+      few = omega (arith, c.len-self.ensures);
     }
 
 pub swap-requires : goal.swap-requires
@@ -33,4 +33,4 @@ pub returns-clause-between : goal.returns-clause-between
 returns-clause-between c =
     let is : c.count.new.place.me ≡ (after_count c.args.self.now.place.me.0 c.args.core.history, (0, Some c.args.core) ∷ []) = c.count.ensures.me ∙ ap counted_in c.put.ensures.me in
     let me = c.swap.ensures.2 ∙ ap (λ (h : Hand). (after_give h.0, rest h.1)) is in
-    between_again c.args.self.now _ c.args.core c.args.grew c.requires.may me refl c.len-self.ensures.same
+    between_again c.args.self.now _ c.args.core c.args.grew c.requires.may me refl c.len-self.ensures

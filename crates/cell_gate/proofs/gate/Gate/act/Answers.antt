@@ -7,12 +7,12 @@ try_act-acted-requires-clause-may g c = may_in_turn c.pass.inside.caller c.take-
 pub settle-requires-clause-may : goal.settle-requires-clause-may
 settle-requires-clause-may g c =
     let caller = c.pass.inside.caller in
-    let came = acts_grow c.take-core.result c.try_act-acted.new.core caller.actor c.args.request c.try_act-acted.result c.try_act-acted.ensures in
-    settles caller c.take-core.new.self c.take-core.result c.try_act-acted.new.core _ _ c.pass.invariant c.take-core.ensures.same c.take-core.ensures.taken c.is_done-grew.ensures came
+    let came = acts_grow c.take-core.result c.try_act-acted.new.self caller.actor c.args.request c.try_act-acted.result c.try_act-acted.ensures in
+    settles caller c.take-core.new.self c.take-core.result c.try_act-acted.new.self _ _ c.pass.invariant c.take-core.ensures.same c.take-core.ensures.taken c.is_done-grew.ensures came
 
 pub returns-clause-acted : goal.returns-clause-acted
 returns-clause-acted g c =
     let caller = c.pass.inside.caller in
-    let core = c.try_act-acted.new.core in
+    let core = c.try_act-acted.new.self in
     let turn = turned caller c.take-core.new.self c.settle.new.self c.take-core.result core c.pass.invariant c.take-core.ensures.taken c.settle.ensures.me in
     rw (← c.pass.view_is) (acted_as _ _ c.take-core.result core c.args.request c.try_act-acted.result turn c.try_act-acted.ensures)

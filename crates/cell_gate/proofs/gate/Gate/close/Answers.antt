@@ -45,12 +45,12 @@ unwrap-core-requires c = subst (λ (o : Option CoreData). IsSome o) (sym (found 
 pub returns-clause-cell : goal.returns-clause-cell
 returns-clause-cell c =
     let home = (goal.at.returns-clause-cell c).After-take in
-    let is = same_Some c.unwrap-core.result (core_of c.self.inside.table.shared.key (at_end home).history) (sym c.unwrap-core.ensures ∙ found home) in
+    let is = c.into_core-core.ensures ∙ same_Some c.unwrap-core.result (core_of c.self.inside.table.shared.key (at_end home).history) (sym c.unwrap-core.ensures ∙ found home) in
     ap (λ (core : CoreData). core.cell) is ∙ ap (λ (gate : GateData). gate.cell) c.self.view_is
 
 pub returns-clause-tell : goal.returns-clause-tell
 returns-clause-tell c =
     let home = (goal.at.returns-clause-tell c).After-take in
     let ended = at_end home in
-    let is = same_Some c.unwrap-core.result (core_of c.self.inside.table.shared.key ended.history) (sym c.unwrap-core.ensures ∙ found home) in
+    let is = c.into_core-core.ensures ∙ same_Some c.unwrap-core.result (core_of c.self.inside.table.shared.key ended.history) (sym c.unwrap-core.ensures ∙ found home) in
     subst (λ (h : List Event). AreOfHistory c.args.passes.items h) (sym (ap (λ (core : CoreData). core.history) is)) (all_tell ended.history ended.made c.args.passes.items (parts c.gather.new.place.me.0) ended.tell (told home))

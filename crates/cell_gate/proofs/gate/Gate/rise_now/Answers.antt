@@ -12,12 +12,12 @@ try_rise-now-requires-clause-held g c =
 pub settle-requires-clause-may : goal.settle-requires-clause-may
 settle-requires-clause-may g c =
     let caller = c.pass.inside.caller in
-    let came = rises_grow c.take-core.result c.try_rise-now.new.core caller.actor c.try_rise-now.result c.try_rise-now.ensures in
-    settles caller c.take-core.new.self c.take-core.result c.try_rise-now.new.core _ _ c.pass.invariant c.take-core.ensures.same c.take-core.ensures.taken c.is_woken-grew.ensures came
+    let came = rises_grow c.take-core.result c.try_rise-now.new.self caller.actor c.try_rise-now.result c.try_rise-now.ensures in
+    settles caller c.take-core.new.self c.take-core.result c.try_rise-now.new.self _ _ c.pass.invariant c.take-core.ensures.same c.take-core.ensures.taken c.is_woken-grew.ensures came
 
 pub returns-clause-rose : goal.returns-clause-rose
 returns-clause-rose g c =
     let caller = c.pass.inside.caller in
-    let core = c.try_rise-now.new.core in
+    let core = c.try_rise-now.new.self in
     let turn = turned caller c.take-core.new.self c.settle.new.self c.take-core.result core c.pass.invariant c.take-core.ensures.taken c.settle.ensures.me in
     rw (← c.pass.view_is) (rose_now _ _ c.take-core.result core c.try_rise-now.result turn c.try_rise-now.ensures)

@@ -1,4 +1,4 @@
-use Rattle.std.proofs.Common.{ap, ◌∙◌}
+use Rattle.std.proofs.Common.{ap, refl, ◌∙◌}
 use Rattle.stack_code.specs.CodeRuns.{fitting_by}
 use Rattle.task_steps.specs.Seen.{request_in}
 use Rattle.task_steps.specs.declared.phase.Phase.{Phase}
@@ -9,7 +9,7 @@ use Rattle.task_machine.proofs.course.Course.reply.Goals as goal
 pub reply-requires-clause-fits : goal.reply-requires-clause-fits
 reply-requires-clause-fits c =
     let asked = c.requires.asking in
-    (fitting_by c.args.self.now.code c.args.self.now.task.data'.trapped, asked.0, c.requires.fits asked.0 (ap (λ (p : Phase). request_in p) asked.2))
+    (fitting_by c.args.self.now.code c.args.self.now.task.data'.trapped, asked.0, c.requires.fits asked.0 (ap (λ (p : Phase). request_in p) asked.2), refl)
 
 pub reply-requires-clause-runs : goal.reply-requires-clause-runs
 reply-requires-clause-runs c = λ request then e.

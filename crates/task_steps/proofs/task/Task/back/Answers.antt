@@ -1,6 +1,5 @@
 use Rattle.std.proofs.Common.{◌≡◌, ap, ◌∷◌, Some, None}
-use Rattle.stack_code.specs.Confs.{Started, Called, Trapped}
-use Rattle.stack_code.specs.Placed.{own_of}
+use Rattle.task_steps.specs.Points.{Started, Called, Trapped}
 use Rattle.task_steps.specs.declared.left.Left.{Left}
 use Rattle.task_steps.proofs.Endings.{back_called, back_none, back_started, back_trapped}
 use Rattle.task_steps.proofs.task.Task.back.Goals as goal
@@ -13,14 +12,14 @@ returns-in-Some-Started-clause-turns c = λ code.
 pub returns-in-Some-clause-turns : goal.returns-in-Some-clause-turns
 returns-in-Some-clause-turns c = λ code.
     let after = c.leave.new.self.conf in
-    let saved : c.args.self.now.conf.saved ≡ Called after.pc (own_of c.in-Some-Called.field-0-0) after.stack after.frame ∷ after.saved = rw c.in-Some-Called.field-0-is at c.in-Some-Called.ensures.saved in
-    rw (c.in-Some.is, c.value.ensures) (back_called code _ after _ _ _ (Some c.in-Some.value) saved c.leave.ensures.data)
+    let saved : c.args.self.now.conf.saved ≡ Called after.pc after.stack after.frame ∷ after.saved = rw c.in-Some-Called.field-0-is at c.in-Some-Called.ensures.saved in
+    rw (c.in-Some.is, c.value.ensures) (back_called code _ after _ _ (Some c.in-Some.value) saved c.leave.ensures.data)
 
 pub returns-in-None-value-clause-turns : goal.returns-in-None-value-clause-turns
 returns-in-None-value-clause-turns c = λ code.
     let after = c.leave.new.self.conf in
-    let saved : c.args.self.now.conf.saved ≡ Called after.pc (own_of c.in-Some-Called.field-0-0) after.stack after.frame ∷ after.saved = rw c.in-Some-Called.field-0-is at c.in-Some-Called.ensures.saved in
-    rw c.in-None-value.is (back_called code _ after _ _ _ None saved c.leave.ensures.data)
+    let saved : c.args.self.now.conf.saved ≡ Called after.pc after.stack after.frame ∷ after.saved = rw c.in-Some-Called.field-0-is at c.in-Some-Called.ensures.saved in
+    rw c.in-None-value.is (back_called code _ after _ _ None saved c.leave.ensures.data)
 
 pub returns-in-Some-Trapped-clause-turns : goal.returns-in-Some-Trapped-clause-turns
 returns-in-Some-Trapped-clause-turns c = λ code.

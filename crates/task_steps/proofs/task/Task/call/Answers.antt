@@ -1,10 +1,9 @@
-use Rattle.std.proofs.Common.{◌≡◌, refl, sym, ap, subst, ◌∙◌, arith, ◌<◌, ◌≤◌, List, ◌∷◌, length, reverse, take, drop, Some, None, slice_get}
+use Rattle.std.proofs.Common.{◌≡◌, refl, sym, ap, ◌∙◌, arith, ◌<◌, ◌≤◌, List, ◌∷◌, length, reverse, take, drop, Some, None, slice_get}
 use Rattle.std.proofs.lemmas.Option.{slice_get_past, slice_get_read}
 use Rattle.typed_trees.specs.declared.datum.Datum.{Datum}
-use Rattle.stack_code.specs.CodeData.{CodeData}
-use Rattle.stack_code.specs.Confs.{Called, Saved}
 use Rattle.stack_code.specs.Entering.{entered}
-use Rattle.task_steps.specs.Doing.{here_of, own_at}
+use Rattle.task_steps.specs.Doing.{here_of}
+use Rattle.task_steps.specs.Points.{Called, Waiting, saved_in}
 use Rattle.task_steps.specs.Savings.{saved_row}
 use Rattle.task_steps.specs.Seen.{Seen}
 use Rattle.task_steps.proofs.Along.{alike_is, alike_then}
@@ -39,6 +38,7 @@ enter-requires-clause-row c =
     rows_of c.args.loaded.now c.code.result.now rows c.code.ensures c.routines.ensures c.args.routine (Some row) (slice_get_read rows (length rows) c.args.routine row refl c.in_ok-row.ensures.lookup.3.0 c.in_ok-row.ensures.lookup.1)
 
 pub returns-clause-turns : goal.returns-clause-turns
+unfolding saved_in
 returns-clause-turns c =
     let code = c.args.loaded.now in
     let s = c.args.self.now in
@@ -50,8 +50,7 @@ returns-clause-turns c =
     let enough : row.args ≤ length s.conf.stack = omega (arith, same) in
     let args : List Datum = reverse (take row.args s.conf.stack) in
     let rest : List Datum = drop row.args s.conf.stack in
-    let below : saved_row c.caller-below.result rest ≡ Called s.conf.pc (own_at code s.conf.pc) rest s.conf.frame =
-    subst (λ (x : CodeData). saved_row c.caller-below.result rest ≡ Called s.conf.pc (own_at x s.conf.pc) rest s.conf.frame) c.code-2.ensures (c.caller-below.ensures rest) in
+    let below : saved_row c.caller-below.result rest ≡ Called s.conf.pc rest s.conf.frame = c.caller-below.ensures rest in
     alike_then code _ _ _ _ _ _
-    (alike_is code _ _ s.data' (call_by (here_of code s.conf) c.args.routine row there enough ∙ ap (λ (x : Saved). entered code c.args.routine row args (x ∷ s.conf.saved)) (sym below)))
+    (alike_is code _ _ s.data' (call_by (here_of code s.conf) c.args.routine row there enough ∙ ap (λ (x : Waiting). entered code c.args.routine row args (saved_in code (x ∷ s.conf.saved))) (sym below)))
     c.enter.ensures.turns

@@ -1,0 +1,2 @@
+/// A line of a listing, in bytes.
+pub const LINE_BYTES: usize = 512;

@@ -1,0 +1,18 @@
+-- What stands since an event, told by the events of a history alone, whatever boards keep.
+use Rattle.std.specs.Prelude.{◌≡◌, ℕ, List, ◌∷◌, ◌++◌}
+use Rattle.rapid_model.specs.declared.answer.Answer.{Answer}
+use Rattle.rapid_model.specs.declared.event.Event.{Event}
+use Rattle.rapid_model.specs.declared.request.Request.{Request}
+
+-- An event after which no other undid it. What each of them is may depend on the events before it.
+pub record Since (Is Undoes : List Event → Event → Type 0) (history : List Event) : Type 0 where
+  pub before : List Event
+  pub event : Event
+  pub after : List Event
+  pub cut : history ≡ before ++ event ∷ after
+  pub is : Is before event
+  pub kept : (first later : List Event) (e : Event) → after ≡ first ++ e ∷ later → ¬ Undoes (before ++ event ∷ first) e
+
+-- a request of this task, with its answer
+abbrev pub IsEvent : ℕ → Request → Answer → Event → Type 0
+IsEvent task request answer e = e ≡ record { actor = task; request = request; answer = answer }

@@ -1,0 +1,48 @@
+-- What is answered to a verdict carries it out, where no write fails.
+use Rattle.std.proofs.Common.{◌≡◌, ◌⊎◌, inl, inr, refl, ap, ◌∙◌, subst, ℕ, Bool, true, false, List, length, Some, if◌then◌else◌}
+use Rattle.std.specs.List.{list_any}
+use Rattle.outside.specs.Told.{Told}
+use Rattle.rapid_model.specs.CellData.{CellData}
+use Rattle.rapid_model.specs.declared.event.Event.{Event}
+use Rattle.cell_meaning.specs.Fates.{all_ended, fates_after, is_spent}
+use Rattle.controller.specs.declared.refused.Refused.TheVariants.{Write}
+use Rattle.controller.specs.declared.report.Report.{Report}
+use Rattle.controller.specs.Accepted.{Accepted, Verdict, accepts, lists, refuses, runs, runs_free}
+use Rattle.controller.specs.Answered.{Answers, AnswersWords, IsOutOfMemory}
+use Rattle.controller.specs.Complete.{IsDone}
+use Rattle.controller.specs.Files.{told_reads}
+use Rattle.controller.specs.Printed.{Sunk}
+use Rattle.controller.specs.Runs.{is_fault, run_status}
+use Rattle.controller.proofs.OneVerdict.{OneText, verdict_one}
+
+carried_out : (verdict : Verdict) (report : Report) (out err : Sunk) → (report.refused ≡ Some Write → ⊥) → Answers verdict report out err → IsDone verdict report
+carried_out (refuses names refused) report out err whole is = (is.refused_is, is.status)
+carried_out (accepts names) report out err whole (inl is) = is.status
+carried_out (accepts names) report out err whole (inr part) = absurd (whole part.refused_is)
+carried_out (runs names shown cell trees) report out err whole (inl is) = is.status
+carried_out (runs names shown cell trees) report out err whole (inr part) = absurd (whole part.refused_is)
+carried_out (runs_free names shown cell trees) report out err whole (inl is) = is.status
+carried_out (runs_free names shown cell trees) report out err whole (inr part) = absurd (whole part.refused_is)
+carried_out (lists names cell trees) report out err whole (inl is) = is.status
+carried_out (lists names cell trees) report out err whole (inr part) = absurd (whole part.refused_is)
+
+pub complete : OneText → (words : List (List ℕ)) (files : Told) (verdict : Verdict) (report : Report) (out err : Sunk) → AnswersWords words (Some files) report out err
+    → (report.refused ≡ Some Write → ⊥) → Accepted words (told_reads files) verdict → IsOutOfMemory report out err ⊎ IsDone verdict report
+complete one words files verdict report out err (inl memory) whole accepted = inl memory
+complete one words files verdict report out err (inr w) whole accepted =
+    let same : w.0 ≡ verdict = verdict_one one words (told_reads files) w.0 verdict w.1 accepted in
+    inr (carried_out verdict report out err whole (subst (λ (v : Verdict). Answers v report out err) same w.2))
+
+pub statuses : (cell : CellData) (history : List Event)
+    → (run_status cell history ≡ 0) ⊎ ((run_status cell history ≡ 1) ⊎ ((run_status cell history ≡ 8) ⊎ (run_status cell history ≡ 9)))
+statuses cell history =
+    by (all_ended (length cell.tasks) history) (list_any is_fault (fates_after cell history (length cell.tasks))) (is_spent cell history)
+  where
+    status : Bool → Bool → Bool → ℕ
+    status ended fault spent = if ended then (if fault then 1 else 0) else if spent then 9 else 8
+
+    by : (ended fault spent : Bool) → (status ended fault spent ≡ 0) ⊎ ((status ended fault spent ≡ 1) ⊎ ((status ended fault spent ≡ 8) ⊎ (status ended fault spent ≡ 9)))
+    by true true spent = inr (inl refl)
+    by true false spent = inl refl
+    by false fault true = inr (inr (inr refl))
+    by false fault false = inr (inr (inl refl))

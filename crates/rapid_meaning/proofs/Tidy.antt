@@ -1,0 +1,812 @@
+-- What every doing of a task keeps: its frames have room, a Hold carries the count that a Look of its own routine found, and the task
+-- looks after it rose.
+use Rattle.std.proofs.Common.{◌≡◌, refl, ℕ, zero, suc, ◌+◌, ◌/◌, ◌%◌, ◌==◌, Bool, true, false, not, ℤ, pos, negsuc, int_lt, List, [], ◌∷◌, Option, None, Some, Result, Ok, Err, if◌then◌else◌, slice_get, position}
+use Rattle.std.specs.Prelude.{⊤, ◌&&◌, nat_le, nat_lt, ◌^◌, bytes_eq, codes}
+use Rattle.std.specs.Ordering.{int_eq}
+use Rattle.rapid_num.specs.Arithmetic.{difference_of, sum_of}
+use Rattle.rapid_num.specs.Reach.{is_reachable}
+use Rattle.rapid_num.specs.declared.joints.Joints.{Joints}
+use Rattle.rapid_num.specs.declared.shape.Shape.{Shape}
+use Rattle.joint_clip.specs.Shapes.{made_shape}
+use Rattle.joint_clip.specs.declared.shape_fault.ShapeFault.{ShapeFault}
+use Rattle.joint_planner.specs.Setpoints.{setpoint_count}
+use Rattle.rapid_model.specs.declared.answer.Answer.{Answer}
+use Rattle.rapid_model.specs.declared.answer.Answer.TheVariants as answers
+use Rattle.rapid_model.specs.declared.fate.Fate.{Fate}
+use Rattle.rapid_model.specs.declared.fate.Fault.{Fault}
+use Rattle.rapid_model.specs.declared.fate.Fault.TheVariants.{DepthLimit}
+use Rattle.rapid_model.specs.declared.function.Function.{Function}
+use Rattle.rapid_model.specs.declared.function.Function.TheVariants as functions
+use Rattle.rapid_model.specs.declared.instruction.Instruction.{Instruction}
+use Rattle.rapid_model.specs.declared.instruction.Instruction.TheVariants as instructions
+use Rattle.rapid_model.specs.declared.part_name.PartName.{PartName}
+use Rattle.rapid_model.specs.declared.request.Request.{Request}
+use Rattle.rapid_model.specs.declared.request.Request.TheVariants as requests
+use Rattle.rapid_model.specs.declared.value.Value.{Value}
+use Rattle.rapid_model.specs.declared.value.Value.TheVariants as values
+use Rattle.rapid_model.specs.declared.watched.Watched.{Watched}
+use Rattle.rapid_model.specs.declared.operator.Operator.{Operator}
+use Rattle.rapid_model.specs.declared.operator.Operator.TheVariants as operators
+use Rattle.rapid_model.specs.declared.routine_kind.RoutineKind.{RoutineKind}
+use Rattle.rapid_model.specs.declared.routine_kind.RoutineKind.TheVariants as kinds
+use Rattle.rapid_operators.specs.Operators.{apply}
+use Rattle.rapid_operators.specs.declared.applied.Applied.{Applied}
+use Rattle.rapid_operators.specs.declared.applied.Applied.TheVariants as applies
+use Rattle.typed_trees.specs.Plain as trees
+use Rattle.typed_trees.specs.Plain.{TypedArg, TypedArgs, TypedArms, TypedCases, TypedElse, TypedExpr, TypedExprs, TypedPlace, TypedRoutine, TypedSteps, TypedStmt, TypedStmts, TypedTree, NoExprs, MoreExprs, NoSteps, MoreSteps, NotHeld, Held, PlaceOf, Given, Lent, OfSignal, OfMeeting, Itself, Optional, Argument, NoArgs, MoreArgs, NoStmts, MoreStmts, NoArms, MoreArms, NoCases, MoreCases, NoElse, Else}
+use Rattle.typed_trees.specs.declared.datum.Datum.{Datum}
+use Rattle.typed_trees.specs.declared.datum.Datum.TheVariants as datums
+use Rattle.typed_trees.specs.declared.datum.Lvalue.{Lvalue}
+use Rattle.typed_trees.specs.declared.datum.Root.{Root}
+use Rattle.typed_trees.specs.declared.datum.Root.TheVariants as roots
+use Rattle.typed_trees.specs.declared.expr.TreeRoot.{TreeRoot}
+use Rattle.typed_trees.specs.declared.expr.TreeRoot.TheVariants as tree_roots
+use Rattle.rapid_meaning.specs.Calls.{called, part, result, within}
+use Rattle.rapid_meaning.specs.Data.{Data, Frame, datum_at, put_at, seen_in, with_seen}
+use Rattle.rapid_meaning.specs.Doings.{Doing, Gives, Raises, Asks, Ends, Misfit, Reads, Writes, Does, ◌>>=◌, ◌>>◌, after, calls, change, done, fault, goes_to, or_misfit, tells, when_ok}
+use Rattle.rapid_meaning.specs.Errors.{failed, failed_in, header, parted, raised_again}
+use Rattle.rapid_meaning.specs.Expressions as expressions
+use Rattle.rapid_meaning.specs.Expressions.{returned}
+use Rattle.rapid_meaning.specs.Flows.{Flow, Normal, Jumps, Returns, Retries, Skips, Errors, Unguarded, Guarded, InPart, Where, Part, Attempt, Turn, Rest, Call}
+use Rattle.rapid_meaning.specs.Frames.{enters, frame_of, has_room, leaves}
+use Rattle.rapid_meaning.specs.Functions.{of_array, of_nothing, of_place, of_signal, of_value, of_values, read_signal, when_at, when_bit}
+use Rattle.rapid_meaning.specs.Instructions as instructing
+use Rattle.rapid_meaning.specs.Instructions.{instructed, needed, options}
+use Rattle.rapid_meaning.specs.Interrupts.{asks_of_number, connect, number_at, order, pers_at, when_connected, when_known, when_ordered}
+use Rattle.rapid_meaning.specs.Lists as lists
+use Rattle.rapid_meaning.specs.Lists.{behind, ended, items, jumped}
+use Rattle.rapid_meaning.specs.Looks.{hold, interrupted, left, look, looked}
+use Rattle.rapid_meaning.specs.Loops.{bounds, counted, counter, counter_place, counts_on, has_passed, set_counter, turn_due}
+use Rattle.rapid_meaning.specs.Meetings.{arrive, task_or_fault, task_set, tasks_in, when_arrived, with_task, with_tasks}
+use Rattle.rapid_meaning.specs.Moves.{cap_of, move, move_from, setpoints, still, when_given}
+use Rattle.rapid_meaning.specs.Places.{at_element, element_or_fault, indexed, load, load_from, part_at, put_in, read_value, rooted, set_unless, store, store_at, test_and_set, test_at, when_read, when_tested, write_value, writes_at}
+use Rattle.rapid_meaning.specs.Signals.{has_value, when_written, write_signal}
+use Rattle.rapid_meaning.specs.Statements.{again_behind, and_then, assign, byte_of, call, chosen, connects, done_or_held, follows, goes_on, inner, inner_or_not, is_among, raised, selected, stmt, turn, turned}
+use Rattle.rapid_meaning.specs.Values.{applied, between, bit_in, in_range, mark_in, num_in, opposite, shape_in, target_in, text_in, tool_speed_in, truth_in, value_in, with_sign}
+use Rattle.rapid_meaning.specs.Zones.{asks_of_zone, define, define_home, defined, fault_of, home_high, home_low, on_axes, position_or_fault, shape_at, shaped, supervise, when_numbered, when_zoned}
+use Rattle.rapid_meaning.proofs.Room.{HasRoom, entered_room, left_room, put_room, seen_room}
+
+-- a Hold carries the count of the innermost frame
+abbrev pub Fair : Request → Data → Type 0
+Fair (requests.Hold seen) d = seen ≡ seen_in d.frames
+Fair _ d = ⊤
+
+-- every statement but a label looks
+abbrev pub Looks : TypedStmt → Type 0
+Looks (trees.Label at label) = ⊥
+Looks _ = ⊤
+
+-- it does a part that begins with a Look
+abbrev pub LooksNext : {A : Type 0} → Doing A → Type 0
+LooksNext (Does (Attempt w s) ended raised) = Looks s
+LooksNext (Does (Turn w s) ended raised) = ⊤
+LooksNext _ = ⊥
+
+abbrev pub AfterRise : {A : Type 0} → Request → Doing A → Type 0
+AfterRise requests.Rise m = LooksNext m
+AfterRise _ m = ⊤
+
+abbrev pub Tidy : {A : Type 0} → Doing A → Data → Type 0
+Tidy (Gives v) d = HasRoom d.frames
+Tidy (Raises n) d = HasRoom d.frames
+Tidy (Asks request answered) d = HasRoom d.frames × Fair request d × AfterRise request (answered answers.Ok) × ((a : Answer) → Tidy (answered a) d)
+Tidy (Ends fate) d = HasRoom d.frames
+Tidy Misfit d = ⊤
+Tidy (Reads with_data) d = Tidy (with_data d) d
+Tidy (Writes e more) d = Tidy more e
+Tidy (Does p ended raised) d =
+    HasRoom d.frames × ((flow : Flow) (e : Data) → HasRoom e.frames → Tidy (ended flow) e) × ((n : ℕ) (e : Data) → HasRoom e.frames → Tidy (raised n) e)
+
+-- from any data with room
+pub record IsTidy {A : Type 0} (m : Doing A) : Type 0 where
+  pub from : (d : Data) → HasRoom d.frames → Tidy m d
+
+-- ---- one doing after another
+
+still_looks : {A B : Type 0} (m : Doing A) (f : A → Doing B) (h : ℕ → Doing B) → LooksNext m → LooksNext (after m f h)
+unfolding after
+still_looks (Does (Attempt w s) k g) f h l = l
+still_looks (Does (Turn w s) k g) f h l = l
+still_looks (Does (Rest w list more) k g) f h l = absurd l
+still_looks (Does (Call routine args) k g) f h l = absurd l
+still_looks (Gives v) f h l = absurd l
+still_looks (Raises n) f h l = absurd l
+still_looks (Asks request k) f h l = absurd l
+still_looks (Ends fate) f h l = absurd l
+still_looks Misfit f h l = absurd l
+still_looks (Reads k) f h l = absurd l
+still_looks (Writes d m) f h l = absurd l
+
+still_after_rise : {A B : Type 0} (request : Request) (m : Doing A) (f : A → Doing B) (h : ℕ → Doing B) → AfterRise request m → AfterRise request (after m f h)
+still_after_rise requests.Rise m f h l = still_looks m f h l
+still_after_rise _ m f h l = tt
+
+tidy_after : {A B : Type 0} (m : Doing A) (f : A → Doing B) (h : ℕ → Doing B) (d : Data) → Tidy m d → ((v : A) → IsTidy (f v)) → ((n : ℕ) → IsTidy (h n)) → Tidy (after m f h) d
+unfolding after
+tidy_after (Gives v) f h d t tf th = (tf v).from d t
+tidy_after (Raises n) f h d t tf th = (th n).from d t
+tidy_after (Asks request k) f h d t tf th = (t.0, t.1, still_after_rise request (k answers.Ok) f h t.2, λ a. tidy_after (k a) f h d (t.3 a) tf th)
+tidy_after (Ends fate) f h d t tf th = t
+tidy_after Misfit f h d t tf th = tt
+tidy_after (Reads k) f h d t tf th = tidy_after (k d) f h d t tf th
+tidy_after (Writes e m) f h d t tf th = tidy_after m f h e t tf th
+tidy_after (Does p k g) f h d t tf th = (t.0, λ flow e room. tidy_after (k flow) f h e (t.1 flow e room) tf th, λ n e room. tidy_after (g n) f h e (t.2 n e room) tf th)
+
+t_after : {A B : Type 0} {m : Doing A} {f : A → Doing B} {h : ℕ → Doing B} → IsTidy m → ((v : A) → IsTidy (f v)) → ((n : ℕ) → IsTidy (h n)) → IsTidy (after m f h)
+t_after {m = m} {f = f} {h = h} t tf th = record { from = λ d room. tidy_after m f h d (t.from d room) tf th }
+
+t_gives : {A : Type 0} {v : A} → IsTidy (Gives v)
+t_gives = record { from = λ d room. room }
+
+t_raises : {A : Type 0} {n : ℕ} → IsTidy {A = A} (Raises n)
+t_raises = record { from = λ d room. room }
+
+t_ends : {A : Type 0} {fate : Fate} → IsTidy {A = A} (Ends fate)
+t_ends = record { from = λ d room. room }
+
+t_fault : {A : Type 0} {f : Fault} → IsTidy {A = A} (fault f)
+t_fault = record { from = λ d room. room }
+
+t_misfit : {A : Type 0} → IsTidy {A = A} Misfit
+t_misfit = record { from = λ d room. tt }
+
+t_then : {A B : Type 0} {m : Doing A} {f : A → Doing B} → IsTidy m → ((v : A) → IsTidy (f v)) → IsTidy (m >>= f)
+t_then t tf = t_after t tf (λ n. t_raises)
+
+t_next : {A B : Type 0} {m : Doing A} {k : Doing B} → IsTidy m → IsTidy k → IsTidy (m >> k)
+t_next t tk = t_after t (λ _. tk) (λ n. t_raises)
+
+t_reads : {A : Type 0} {k : Data → Doing A} → ((d : Data) → IsTidy (k d)) → IsTidy (Reads k)
+t_reads t = record { from = λ d room. (t d).from d room }
+
+t_change : (to : Data → Data) → ((d : Data) → HasRoom d.frames → HasRoom (to d).frames) → IsTidy (change to)
+t_change to keeps = record { from = λ d room. keeps d room }
+
+t_does : {A : Type 0} {p : Part} {k : Flow → Doing A} {h : ℕ → Doing A} → ((flow : Flow) → IsTidy (k flow)) → ((n : ℕ) → IsTidy (h n)) → IsTidy (Does p k h)
+t_does tk th = record { from = λ d room. (room, λ flow e later. (tk flow).from e later, λ n e later. (th n).from e later) }
+
+t_goes : {p : Part} → IsTidy (goes_to p)
+t_goes = t_does (λ flow. t_gives) (λ n. t_raises)
+
+t_asks : {A : Type 0} {request : Request} {k : Answer → Doing A} → ((d : Data) → Fair request d) → AfterRise request (k answers.Ok) → ((a : Answer) → IsTidy (k a)) → IsTidy (Asks request k)
+t_asks fair rises t = record { from = λ d room. (room, fair d, rises, λ a. (t a).from d room) }
+
+t_if : {A : Type 0} {m k : Doing A} (b : Bool) → IsTidy m → IsTidy k → IsTidy (if b then m else k)
+t_if true t u = t
+t_if false t u = u
+
+t_or : {A : Type 0} (o : Option A) → IsTidy (or_misfit o)
+t_or None = t_misfit
+t_or (Some v) = t_gives
+
+t_ok : (a : Answer) → IsTidy (when_ok a)
+t_ok answers.Ok = t_gives
+t_ok _ = t_misfit
+
+t_tells : {request : Request} → ((d : Data) → Fair request d) → AfterRise request done → IsTidy (tells request)
+t_tells fair rises = t_asks fair rises t_ok
+
+-- ---- values
+
+t_value_in : (x : Datum) → IsTidy (value_in x)
+t_value_in (datums.Plain v) = t_gives
+t_value_in _ = t_misfit
+
+t_mark_in : (x : Datum) → IsTidy (mark_in x)
+t_mark_in (datums.Mark n) = t_gives
+t_mark_in _ = t_misfit
+
+t_shape_in : (x : Datum) → IsTidy (shape_in x)
+t_shape_in (datums.Shape s) = t_gives
+t_shape_in _ = t_misfit
+
+t_num_in : (v : Value) → IsTidy (num_in v)
+t_num_in (values.Num n) = t_gives
+t_num_in _ = t_misfit
+
+t_truth_in : (v : Value) → IsTidy (truth_in v)
+t_truth_in (values.Bool b) = t_gives
+t_truth_in _ = t_misfit
+
+t_text_in : (v : Value) → IsTidy (text_in v)
+t_text_in (values.Text text) = t_gives
+t_text_in _ = t_misfit
+
+t_target_in : (v : Value) → IsTidy (target_in v)
+t_target_in (values.Target joints) = t_gives
+t_target_in _ = t_misfit
+
+t_tool_speed_in : (v : Value) → IsTidy (tool_speed_in v)
+t_tool_speed_in (values.Speed (tool ∷ others)) = t_gives
+t_tool_speed_in (values.Speed []) = t_misfit
+t_tool_speed_in _ = t_misfit
+
+t_bit_in : (v : Value) → IsTidy (bit_in v)
+t_bit_in (values.Num n) = t_if (int_eq n (pos 0)) t_gives (t_if (int_eq n (pos 1_000)) t_gives t_fault)
+t_bit_in _ = t_misfit
+
+t_in_range : (n : Option ℤ) → IsTidy (in_range n)
+t_in_range (Some n) = t_gives
+t_in_range None = t_fault
+
+t_applied : (a : Applied) → IsTidy (applied a)
+t_applied (applies.Gives v) = t_gives
+t_applied (applies.Raises n) = t_raises
+t_applied applies.OutOfRange = t_fault
+t_applied applies.Unfit = t_misfit
+
+t_between : (o : Operator) (v : Value) (right : Doing Value) → IsTidy right → IsTidy (between o v right)
+t_between operators.And (values.Bool false) right t = t_gives
+t_between operators.And (values.Bool true) right t = t_then t (λ w. t_applied (apply operators.And (values.Bool true) w))
+t_between operators.And _ right t = t_misfit
+t_between operators.Or (values.Bool true) right t = t_gives
+t_between operators.Or (values.Bool false) right t = t_then t (λ w. t_applied (apply operators.Or (values.Bool false) w))
+t_between operators.Or _ right t = t_misfit
+t_between o v right t = t_then t (λ w. t_applied (apply o v w))
+
+t_opposite : (v : Value) → IsTidy (opposite v)
+t_opposite (values.Bool b) = t_gives
+t_opposite _ = t_misfit
+
+t_with_sign : (minus : Bool) (v : Value) → IsTidy (with_sign minus v)
+t_with_sign minus (values.Num n) = t_gives
+t_with_sign minus _ = t_misfit
+
+-- ---- places
+
+t_rooted : (tree : TypedTree) (routine : TypedRoutine) (root : TreeRoot) → IsTidy (rooted tree routine root)
+t_rooted tree routine (tree_roots.Slot row) = t_gives
+t_rooted tree routine (tree_roots.Local row) = t_reads (λ d. t_or _)
+t_rooted tree routine (tree_roots.Ref row) = t_reads (λ d. t_or _)
+t_rooted tree routine (tree_roots.Pers row) = t_or _
+
+t_at_element : (p : Lvalue) (number : ℕ) → IsTidy (at_element p number)
+t_at_element p number = t_reads (λ d. t_or _)
+
+t_element_or_fault : (p : Lvalue) (number : Option ℕ) → IsTidy (element_or_fault p number)
+t_element_or_fault p None = t_fault
+t_element_or_fault p (Some number) = t_at_element p number
+
+t_indexed : (len : Option ℕ) (p : Lvalue) (v : Value) → IsTidy (indexed len p v)
+t_indexed None p v = t_misfit
+t_indexed (Some len) p v = t_then (t_num_in v) (λ n. t_element_or_fault p _)
+
+t_part_at : (part : PartName) (p : Lvalue) → IsTidy (part_at part p)
+t_part_at part p = t_or _
+
+t_when_read : (a : Answer) → IsTidy (when_read a)
+t_when_read (answers.Val v) = t_gives
+t_when_read _ = t_misfit
+
+t_load_from : (root : Root) (part : PartName) → IsTidy (load_from root part)
+t_load_from (roots.Pers pers index) part = t_asks (λ d. tt) tt t_when_read
+t_load_from (roots.Slot slot) part = t_reads (λ d. t_or _)
+t_load_from (roots.Frame frame at) part = t_reads (λ d. t_or _)
+
+t_load : (p : Lvalue) → IsTidy (load p)
+t_load p = t_load_from p.root p.part
+
+t_read_value : (p : Lvalue) → IsTidy (read_value p)
+t_read_value p = t_then (t_load p) t_value_in
+
+tidy_writes : (root : Root) (d : Data) (new : Option Datum) → HasRoom d.frames → Tidy (writes_at root d new) d
+tidy_writes root d None room = tt
+tidy_writes root d (Some x) room = put_room root x d room
+
+t_store_at : (root : Root) (part : PartName) (new : Datum) → IsTidy (store_at root part new)
+t_store_at (roots.Pers pers index) part new = t_then (t_value_in new) (λ v. t_tells (λ d. tt) tt)
+t_store_at (roots.Slot slot) part new = record { from = λ d room. tidy_writes (roots.Slot slot) d _ room }
+t_store_at (roots.Frame frame at) part new = record { from = λ d room. tidy_writes (roots.Frame frame at) d _ room }
+
+t_store : (p : Lvalue) (new : Datum) → IsTidy (store p new)
+t_store p new = t_store_at p.root p.part new
+
+t_write_value : (p : Lvalue) (v : Value) → IsTidy (write_value p v)
+t_write_value p v = t_store p (datums.Plain v)
+
+t_when_tested : (a : Answer) → IsTidy (when_tested a)
+t_when_tested (answers.Yes met) = t_gives
+t_when_tested _ = t_misfit
+
+t_set_unless : (p : Lvalue) (b : Bool) → IsTidy (set_unless p b)
+t_set_unless p true = t_gives
+t_set_unless p false = t_next (t_write_value p (values.Bool true)) t_gives
+
+t_test_at : (root : Root) (p : Lvalue) → IsTidy (test_at root p)
+t_test_at (roots.Pers pers index) p = t_asks (λ d. tt) tt t_when_tested
+t_test_at (roots.Slot slot) p = t_then (t_read_value p) (λ v. t_then (t_truth_in v) (λ b. t_set_unless p b))
+t_test_at (roots.Frame frame at) p = t_then (t_read_value p) (λ v. t_then (t_truth_in v) (λ b. t_set_unless p b))
+
+t_test_and_set : (p : Lvalue) → IsTidy (test_and_set p)
+t_test_and_set p = t_test_at p.root p
+
+-- ---- functions
+
+t_of_value : (function : Function) (v : Value) → IsTidy (of_value function v)
+t_of_value functions.Abs v = t_then (t_num_in v) (λ n. t_gives)
+t_of_value functions.Trunc v = t_then (t_num_in v) (λ n. t_gives)
+t_of_value functions.StrLen v = t_then (t_text_in v) (λ text. t_gives)
+t_of_value _ v = t_misfit
+
+t_of_values : (function : Function) (v w : Value) → IsTidy (of_values function v w)
+t_of_values functions.NumToStr v w = t_then (t_num_in v) (λ n. t_then (t_num_in w) (λ count. t_gives))
+t_of_values _ v w = t_misfit
+
+t_when_bit : (a : Answer) → IsTidy (when_bit a)
+t_when_bit (answers.Bit bit) = t_gives
+t_when_bit _ = t_misfit
+
+t_read_signal : (signal : ℕ) → IsTidy (read_signal signal)
+t_read_signal signal = t_asks (λ d. tt) tt t_when_bit
+
+t_of_signal : (function : Function) (signal : ℕ) → IsTidy (of_signal function signal)
+t_of_signal functions.TestDI signal = t_then (t_read_signal signal) (λ bit. t_gives)
+t_of_signal functions.DOutput signal = t_then (t_read_signal signal) (λ bit. t_gives)
+t_of_signal _ signal = t_misfit
+
+t_when_at : (a : Answer) → IsTidy (when_at a)
+t_when_at (answers.At position) = t_gives
+t_when_at _ = t_misfit
+
+t_of_nothing : (function : Function) → IsTidy (of_nothing function)
+t_of_nothing functions.CJointT = t_asks (λ d. tt) tt t_when_at
+t_of_nothing _ = t_misfit
+
+t_of_place : (function : Function) (p : Lvalue) → IsTidy (of_place function p)
+t_of_place functions.TestAndSet p = t_then (t_test_and_set p) (λ met. t_gives)
+t_of_place _ p = t_misfit
+
+t_of_array : (function : Function) (len : Option ℕ) → IsTidy (of_array function len)
+t_of_array functions.Dim (Some len) = t_gives
+t_of_array functions.Dim None = t_misfit
+t_of_array _ len = t_misfit
+
+-- ---- expressions
+
+t_returned : (flow : Flow) → IsTidy (returned flow)
+t_returned (Returns (Some v)) = t_gives
+t_returned (Returns None) = t_misfit
+t_returned _ = t_misfit
+
+mutual
+  t_expr : (tree : TypedTree) (routine : TypedRoutine) (e : TypedExpr) → IsTidy (expressions.expr tree routine e)
+  t_expr tree routine (trees.Known at sort v) = t_gives
+  t_expr tree routine (trees.ErrorNumber at sort) = t_reads (λ d. t_gives)
+  t_expr tree routine (trees.SignalValue at sort signal) = t_then (t_read_signal signal) (λ bit. t_gives)
+  t_expr tree routine (trees.Stored at sort p) = t_then (t_place tree routine p) t_read_value
+  t_expr tree routine (trees.Group at sort e) = t_expr tree routine e
+  t_expr tree routine (trees.Aggregate at sort es) = t_then (t_exprs tree routine es) (λ vs. t_or _)
+  t_expr tree routine (trees.Builtin at sort function args) = t_builtin tree routine function args
+  t_expr tree routine (trees.Invoke at sort called args) = t_then (t_arguments tree routine args) (λ xs. t_then t_goes t_returned)
+  t_expr tree routine (trees.Not at sort e) = t_then (t_expr tree routine e) t_opposite
+  t_expr tree routine (trees.Signed at sort minus e) = t_then (t_expr tree routine e) (t_with_sign minus)
+  t_expr tree routine (trees.Chain at sort e steps) = t_then (t_expr tree routine e) (t_along tree routine steps)
+
+  t_exprs : (tree : TypedTree) (routine : TypedRoutine) (es : TypedExprs) → IsTidy (expressions.exprs tree routine es)
+  t_exprs tree routine NoExprs = t_gives
+  t_exprs tree routine (MoreExprs e es) = t_then (t_expr tree routine e) (λ v. t_then (t_exprs tree routine es) (λ vs. t_gives))
+
+  t_along : (tree : TypedTree) (routine : TypedRoutine) (steps : TypedSteps) (v : Value) → IsTidy (expressions.along tree routine steps v)
+  t_along tree routine NoSteps v = t_gives
+  t_along tree routine (MoreSteps o e steps) v = t_then (t_between o v (expressions.expr tree routine e) (t_expr tree routine e)) (t_along tree routine steps)
+
+  t_place : (tree : TypedTree) (routine : TypedRoutine) (p : TypedPlace) → IsTidy (expressions.place tree routine p)
+  t_place tree routine (PlaceOf root NotHeld part sort) = t_then (t_rooted tree routine root) (t_part_at part)
+  t_place tree routine (PlaceOf root (Held e) part sort) = t_then (t_rooted tree routine root) (λ p. t_then (t_expr tree routine e) (λ v. t_then (t_indexed _ p v) (t_part_at part)))
+
+  t_arguments : (tree : TypedTree) (routine : TypedRoutine) (args : TypedArgs) → IsTidy (expressions.arguments tree routine args)
+  t_arguments tree routine NoArgs = t_gives
+  t_arguments tree routine (MoreArgs (Given e) more) = t_then (t_expr tree routine e) (λ v. t_then (t_arguments tree routine more) (λ xs. t_gives))
+  t_arguments tree routine (MoreArgs (Lent p) more) = t_then (t_place tree routine p) (λ q. t_then (t_arguments tree routine more) (λ xs. t_gives))
+  t_arguments tree routine (MoreArgs other more) = t_misfit
+
+  t_builtin : (tree : TypedTree) (routine : TypedRoutine) (function : Function) (args : TypedArgs) → IsTidy (expressions.builtin tree routine function args)
+  t_builtin tree routine function NoArgs = t_of_nothing function
+  t_builtin tree routine function (MoreArgs (Given e) NoArgs) = t_then (t_expr tree routine e) (t_of_value function)
+  t_builtin tree routine function (MoreArgs (Given e) (MoreArgs (Given f) NoArgs)) = t_then (t_expr tree routine e) (λ v. t_then (t_expr tree routine f) (t_of_values function v))
+  t_builtin tree routine function (MoreArgs (OfSignal signal) NoArgs) = t_of_signal function signal
+  t_builtin tree routine function (MoreArgs (Lent p) NoArgs) = t_then (t_place tree routine p) (t_of_place function)
+  t_builtin tree routine function (MoreArgs (Lent p) (MoreArgs one NoArgs)) = t_of_array function _
+  t_builtin tree routine function other = t_misfit
+
+-- ---- instructions
+
+t_num : (tree : TypedTree) (routine : TypedRoutine) (e : TypedExpr) → IsTidy (instructing.num tree routine e)
+t_num tree routine e = t_then (t_expr tree routine e) t_num_in
+
+t_truth : (tree : TypedTree) (routine : TypedRoutine) (e : TypedExpr) → IsTidy (instructing.truth tree routine e)
+t_truth tree routine e = t_then (t_expr tree routine e) t_truth_in
+
+t_text : (tree : TypedTree) (routine : TypedRoutine) (e : TypedExpr) → IsTidy (instructing.text tree routine e)
+t_text tree routine e = t_then (t_expr tree routine e) t_text_in
+
+t_target : (tree : TypedTree) (routine : TypedRoutine) (e : TypedExpr) → IsTidy (instructing.target tree routine e)
+t_target tree routine e = t_then (t_expr tree routine e) t_target_in
+
+t_bit : (tree : TypedTree) (routine : TypedRoutine) (e : TypedExpr) → IsTidy (instructing.bit tree routine e)
+t_bit tree routine e = t_then (t_expr tree routine e) t_bit_in
+
+t_tail_named : (tree : TypedTree) (routine : TypedRoutine) (b : Bool) (e : TypedExpr) → IsTidy (instructing.tail_named tree routine b e)
+t_tail_named tree routine true e = t_then (t_num tree routine e) (λ n. t_gives)
+t_tail_named tree routine false e = t_then (t_truth tree routine e) (λ b. t_gives)
+
+t_tail : (tree : TypedTree) (routine : TypedRoutine) (args : List TypedArg) → IsTidy (instructing.tail tree routine args)
+t_tail tree routine [] = t_gives
+t_tail tree routine (Optional name (Argument (Given e)) ∷ []) = t_tail_named tree routine _ e
+t_tail tree routine _ = t_misfit
+
+t_when_written : (a : Answer) → IsTidy (when_written a)
+t_when_written answers.Ok = t_gives
+t_when_written answers.Tied = t_fault
+t_when_written _ = t_misfit
+
+t_write_signal : (signal : ℕ) (value : Bool) → IsTidy (write_signal signal value)
+t_write_signal signal value = t_asks (λ d. tt) tt t_when_written
+
+t_has_value : (signal : ℕ) (value : Bool) → IsTidy (has_value signal value)
+t_has_value signal value = t_then (t_read_signal signal) (λ bit. t_gives)
+
+t_task_or_fault : (task : Option ℕ) → IsTidy (task_or_fault task)
+t_task_or_fault None = t_fault
+t_task_or_fault (Some task) = t_gives
+
+t_with_tasks : (names : List (List ℕ)) (list : Lvalue) (count number set : ℕ) → IsTidy (with_tasks names list count number set)
+unfolding with_tasks
+t_with_tasks names list zero number set = t_gives
+t_with_tasks names list (suc count) number set =
+    t_then (t_at_element list number) (λ p. t_then (t_read_value p) (λ v. t_then (t_text_in v) (λ name. t_then (t_task_or_fault _)
+    (λ task. t_then (t_if (nat_lt (with_task task set) (2 ^ 16)) t_gives t_misfit) (λ more. t_with_tasks names list count (number + 1) more)))))
+
+t_tasks_in : (names : List (List ℕ)) (list : Lvalue) (len : Option ℕ) → IsTidy (tasks_in names list len)
+t_tasks_in names list None = t_misfit
+t_tasks_in names list (Some len) = t_with_tasks names list len 1 0
+
+t_when_arrived : (a : Answer) → IsTidy (when_arrived a)
+t_when_arrived answers.Met = t_gives
+t_when_arrived answers.Apart = t_gives
+t_when_arrived _ = t_misfit
+
+t_arrive : (meeting tasks : ℕ) → IsTidy (arrive meeting tasks)
+t_arrive meeting tasks = t_asks (λ d. tt) tt t_when_arrived
+
+t_number_at : (p : Lvalue) → IsTidy (number_at p)
+t_number_at p = t_then (t_load p) t_mark_in
+
+t_when_connected : (p : Lvalue) (a : Answer) → IsTidy (when_connected p a)
+t_when_connected p (answers.Number number) = t_store p (datums.Mark number)
+t_when_connected p answers.Already = t_raises
+t_when_connected p answers.NoMore = t_raises
+t_when_connected p _ = t_misfit
+
+t_connect : (p : Lvalue) (old trap : ℕ) → IsTidy (connect p old trap)
+t_connect p old trap = t_asks (λ d. tt) tt (t_when_connected p)
+
+t_when_ordered : (a : Answer) → IsTidy (when_ordered a)
+t_when_ordered answers.Ok = t_gives
+t_when_ordered answers.Unknown = t_raises
+t_when_ordered answers.Already = t_raises
+t_when_ordered _ = t_misfit
+
+t_order : (number : ℕ) (on : Watched) (single : Bool) → IsTidy (order number on single)
+t_order number on single = t_asks (λ d. tt) tt t_when_ordered
+
+t_when_known : (a : Answer) → IsTidy (when_known a)
+t_when_known answers.Ok = t_gives
+t_when_known answers.Unknown = t_raises
+t_when_known _ = t_misfit
+
+t_pers_at : (root : Root) → IsTidy (pers_at root)
+t_pers_at (roots.Pers pers index) = t_gives
+t_pers_at _ = t_misfit
+
+t_shaped : (p : Lvalue) (made : Result Shape ShapeFault) → IsTidy (shaped p made)
+t_shaped p (Ok shape) = t_store p (datums.Shape (Some shape))
+t_shaped p (Err why) = t_fault
+
+t_define : (axes : ℕ) (p : Lvalue) (inside : Bool) (low high : Joints) → IsTidy (define axes p inside low high)
+t_define axes p inside low high = t_shaped p (made_shape inside low high axes)
+
+t_position_or_fault : (axes : Option (List ℤ)) → IsTidy (position_or_fault axes)
+t_position_or_fault None = t_fault
+t_position_or_fault (Some axes) = t_gives
+
+t_define_home : (axes : ℕ) (p : Lvalue) (inside : Bool) (middle delta : Joints) → IsTidy (define_home axes p inside middle delta)
+t_define_home axes p inside middle delta = t_then (t_position_or_fault _) (λ low. t_then (t_position_or_fault _) (λ high. t_define axes p inside low high))
+
+t_defined : (shape : Option Shape) → IsTidy (defined shape)
+t_defined None = t_fault
+t_defined (Some shape) = t_gives
+
+t_shape_at : (p : Lvalue) → IsTidy (shape_at p)
+t_shape_at p = t_then (t_load p) (λ held. t_then (t_shape_in held) t_defined)
+
+t_when_numbered : (p : Lvalue) (a : Answer) → IsTidy (when_numbered p a)
+t_when_numbered p (answers.Number number) = t_store p (datums.Mark number)
+t_when_numbered p answers.ZoneUsed = t_fault
+t_when_numbered p answers.ZoneFull = t_fault
+t_when_numbered p _ = t_misfit
+
+t_supervise : (p : Lvalue) (old : ℕ) (temporary : Bool) (shape : Shape) → IsTidy (supervise p old temporary shape)
+t_supervise p old temporary shape = t_asks (λ d. tt) tt (t_when_numbered p)
+
+t_when_zoned : (a : Answer) → IsTidy (when_zoned a)
+t_when_zoned answers.Ok = t_gives
+t_when_zoned answers.NoZone = t_fault
+t_when_zoned _ = t_misfit
+
+t_still : IsTidy still
+t_still = t_reads (λ d. t_if d.trapped t_fault t_gives)
+
+t_when_given : (next : Doing ⊤) (a : Answer) → IsTidy next → IsTidy (when_given next a)
+t_when_given next answers.Given t = t
+t_when_given next (answers.Stopped zone) t = t_fault
+t_when_given next _ t = t_misfit
+
+t_setpoints : (axes : ℕ) (start target : Joints) (n count : ℕ) → IsTidy (setpoints axes start target n count)
+unfolding setpoints
+t_setpoints axes start target n zero = t_gives
+t_setpoints axes start target n (suc count) = t_asks (λ d. tt) tt (λ a. t_when_given (setpoints axes start target n count) a (t_setpoints axes start target n count))
+
+t_move_from : (axes : ℕ) (target : Joints) (cap : ℕ) (a : Answer) → IsTidy (move_from axes target cap a)
+t_move_from axes target cap (answers.At start) = t_setpoints axes start target (setpoint_count axes start target cap) (setpoint_count axes start target cap)
+t_move_from axes target cap _ = t_misfit
+
+t_move : (axes : ℕ) (target : Joints) (speed : ℤ) → IsTidy (move axes target speed)
+t_move axes target speed = t_if (not (is_reachable axes target)) t_fault (t_if (not (int_lt (pos 0) speed)) t_fault (t_asks (λ d. tt) tt (t_move_from axes target (cap_of speed))))
+
+t_instructed : (tree : TypedTree) (routine : TypedRoutine) (instruction : Instruction) (args options : List TypedArg) → IsTidy (instructed tree routine instruction args options)
+t_instructed tree routine instructions.MoveAbsJ (Given to ∷ Given speed ∷ Itself _ ∷ Itself _ ∷ []) options =
+    t_next t_still (t_then (t_target tree routine to) (λ joints. t_then (t_expr tree routine speed) (λ v. t_then (t_tool_speed_in v) (λ n. t_next (t_move tree.axes joints n) t_gives))))
+t_instructed tree routine instructions.Set (OfSignal signal ∷ []) options = t_next (t_write_signal signal true) t_gives
+t_instructed tree routine instructions.Reset (OfSignal signal ∷ []) options = t_next (t_write_signal signal false) t_gives
+t_instructed tree routine instructions.SetDO (OfSignal signal ∷ Given e ∷ []) options = t_then (t_bit tree routine e) (λ b. t_next (t_write_signal signal b) t_gives)
+t_instructed tree routine instructions.WaitDI (OfSignal signal ∷ Given e ∷ []) options = t_then (t_bit tree routine e) (t_has_value signal)
+t_instructed tree routine instructions.WaitDO (OfSignal signal ∷ Given e ∷ []) options = t_then (t_bit tree routine e) (t_has_value signal)
+t_instructed tree routine instructions.WaitUntil (Given e ∷ []) options = t_truth tree routine e
+t_instructed tree routine instructions.WaitTime (Given e ∷ []) options = t_next (t_num tree routine e) t_gives
+t_instructed tree routine instructions.WaitTestAndSet (Lent p ∷ []) options = t_then (t_place tree routine p) t_test_and_set
+t_instructed tree routine instructions.WaitSyncTask (OfMeeting number ∷ Lent list ∷ []) options =
+    t_then (t_or _) (λ meeting. t_then (t_place tree routine list) (λ q. t_then (t_tasks_in tree.tasks q _) (t_arrive meeting)))
+t_instructed tree routine instructions.TPWrite (Given e ∷ []) options =
+    t_then (t_text tree routine e) (λ said. t_then (t_tail tree routine options) (λ more. t_next (t_tells (λ d. tt) tt) t_gives))
+t_instructed tree routine instructions.TPErase [] options = t_gives
+t_instructed tree routine instructions.ISignalDI (OfSignal signal ∷ Given e ∷ Lent p ∷ []) options =
+    t_then (t_bit tree routine e) (λ b. t_then (t_place tree routine p) (λ q. t_then (t_number_at q) (λ number. t_next (t_order number _ _) t_gives)))
+t_instructed tree routine instructions.ISignalDO (OfSignal signal ∷ Given e ∷ Lent p ∷ []) options =
+    t_then (t_bit tree routine e) (λ b. t_then (t_place tree routine p) (λ q. t_then (t_number_at q) (λ number. t_next (t_order number _ _) t_gives)))
+t_instructed tree routine instructions.IPers (Lent watch ∷ Lent p ∷ []) options =
+    t_then (t_place tree routine watch) (λ w. t_then (t_pers_at w.root) (λ pers. t_then (t_place tree routine p) (λ q. t_then (t_number_at q) (λ number. t_next (t_order number _ _) t_gives))))
+t_instructed tree routine instructions.ISleep (Lent p ∷ []) options =
+    t_then (t_place tree routine p) (λ q. t_then (t_number_at q) (λ number. t_next (t_asks (λ d. tt) tt t_when_known) t_gives))
+t_instructed tree routine instructions.IWatch (Lent p ∷ []) options =
+    t_then (t_place tree routine p) (λ q. t_then (t_number_at q) (λ number. t_next (t_asks (λ d. tt) tt t_when_known) t_gives))
+t_instructed tree routine instructions.IDelete (Lent p ∷ []) options =
+    t_then (t_place tree routine p) (λ q. t_then (t_number_at q) (λ number. t_next (t_asks (λ d. tt) tt t_when_known) t_gives))
+t_instructed tree routine instructions.IDisable [] options = t_next (t_tells (λ d. tt) tt) t_gives
+t_instructed tree routine instructions.IEnable [] options = t_next (t_tells (λ d. tt) tt) t_gives
+t_instructed tree routine instructions.WZLimJointDef (Lent shape ∷ Given low ∷ Given high ∷ []) options =
+    t_then (t_place tree routine shape) (λ q. t_then (t_target tree routine low) (λ l. t_then (t_target tree routine high) (λ h. t_next (t_define tree.axes q _ l h) t_gives)))
+t_instructed tree routine instructions.WZHomeJointDef (Lent shape ∷ Given middle ∷ Given delta ∷ []) options =
+    t_then (t_place tree routine shape) (λ q. t_then (t_target tree routine middle) (λ m. t_then (t_target tree routine delta) (λ d. t_next (t_define_home tree.axes q _ m d) t_gives)))
+t_instructed tree routine instructions.WZLimSup (Lent zone ∷ Lent shape ∷ []) options =
+    t_then (t_place tree routine zone) (λ q. t_then (t_number_at q) (λ old. t_then (t_place tree routine shape) (λ p. t_then (t_shape_at p) (λ s. t_next (t_supervise q old _ s) t_gives))))
+t_instructed tree routine instructions.WZDisable (Lent zone ∷ []) options =
+    t_then (t_place tree routine zone) (λ q. t_then (t_number_at q) (λ number. t_next (t_asks (λ d. tt) tt t_when_zoned) t_gives))
+t_instructed tree routine instructions.WZEnable (Lent zone ∷ []) options =
+    t_then (t_place tree routine zone) (λ q. t_then (t_number_at q) (λ number. t_next (t_asks (λ d. tt) tt t_when_zoned) t_gives))
+t_instructed tree routine instructions.WZFree (Lent zone ∷ []) options =
+    t_then (t_place tree routine zone) (λ q. t_then (t_number_at q) (λ number. t_next (t_asks (λ d. tt) tt t_when_zoned) (t_next (t_store q (datums.Mark 0)) t_gives)))
+t_instructed tree routine instructions.Incr (Lent p ∷ []) options =
+    t_then (t_place tree routine p) (λ q. t_then (t_read_value q) (λ v. t_then (t_num_in v) (λ n. t_then (t_in_range _) (λ w. t_next (t_write_value q w) t_gives))))
+t_instructed tree routine instructions.Decr (Lent p ∷ []) options =
+    t_then (t_place tree routine p) (λ q. t_then (t_read_value q) (λ v. t_then (t_num_in v) (λ n. t_then (t_in_range _) (λ w. t_next (t_write_value q w) t_gives))))
+t_instructed tree routine instructions.Clear (Lent p ∷ []) options = t_then (t_place tree routine p) (λ q. t_next (t_write_value q _) t_gives)
+t_instructed tree routine instructions.Add (Lent p ∷ Given e ∷ []) options =
+    t_then (t_place tree routine p) (λ q. t_then (t_num tree routine e) (λ m. t_then (t_read_value q) (λ v. t_then (t_num_in v) (λ n. t_then (t_in_range _) (λ w. t_next (t_write_value q w) t_gives)))))
+t_instructed tree routine instruction args options = t_misfit
+
+-- ---- loops
+
+t_counter_place : (routine : TypedRoutine) (local which : ℕ) → IsTidy (counter_place routine local which)
+t_counter_place routine local which = t_reads (λ d. t_or _)
+
+t_counter : (routine : TypedRoutine) (local which : ℕ) → IsTidy (counter routine local which)
+t_counter routine local which = t_then (t_counter_place routine local which) (λ p. t_then (t_read_value p) t_num_in)
+
+t_set_counter : (routine : TypedRoutine) (local which : ℕ) (n : ℤ) → IsTidy (set_counter routine local which n)
+t_set_counter routine local which n = t_then (t_counter_place routine local which) (λ p. t_write_value p (values.Num n))
+
+t_bounds : (tree : TypedTree) (routine : TypedRoutine) (local : ℕ) (first last : TypedExpr) (step : Option TypedExpr) → IsTidy (bounds tree routine local first last step)
+t_bounds tree routine local first last (Some step) =
+    t_then (t_counter_place routine local 0) (λ variable. t_then (t_num tree routine first) (λ from. t_then (t_counter_place routine local 1) (λ limit. t_then (t_num tree routine last)
+    (λ to. t_then (t_counter_place routine local 2) (λ increment. t_then (t_num tree routine step) (λ by. t_next (t_write_value increment (values.Num by))
+    (t_next (t_write_value limit (values.Num to)) (t_write_value variable (values.Num from)))))))))
+t_bounds tree routine local first last None =
+    t_then (t_counter_place routine local 0) (λ variable. t_then (t_num tree routine first) (λ from. t_then (t_counter_place routine local 1) (λ limit. t_then (t_num tree routine last)
+    (λ to. t_next (t_write_value limit (values.Num to)) (t_next (t_write_value variable (values.Num from)) (t_then (t_counter_place routine local 2)
+    (λ increment. t_then (t_counter routine local 0) (λ begins. t_then (t_counter routine local 1) (λ ends. t_write_value increment _)))))))))
+
+t_turn_due : (w : Where) (s : TypedStmt) (local : ℕ) → IsTidy (turn_due w s local)
+t_turn_due w s local =
+    t_then (t_counter w.routine local 0) (λ variable. t_then (t_counter w.routine local 1) (λ last. t_then (t_counter w.routine local 2) (λ step. t_if (has_passed variable last step) t_gives t_goes)))
+
+t_counted : (w : Where) (s : TypedStmt) (local : ℕ) (n : Option ℤ) → IsTidy (counted w s local n)
+t_counted w s local None = t_gives
+t_counted w s local (Some n) = t_next (t_set_counter w.routine local 0 n) (t_turn_due w s local)
+
+t_counts_on : (w : Where) (s : TypedStmt) (local : ℕ) → IsTidy (counts_on w s local)
+t_counts_on w s local = t_then (t_counter w.routine local 0) (λ variable. t_then (t_counter w.routine local 2) (λ step. t_counted w s local _))
+
+-- ---- looks and waits
+
+t_left : (again : Part) → IsTidy (left again)
+t_left again = t_next (t_tells (λ d. tt) tt) (t_next (t_change (λ d. record d { trapped = false }) (λ d room. room)) t_goes)
+
+t_interrupted : (again : Part) (trap : ℕ) → IsTidy (interrupted again trap)
+t_interrupted again trap = t_next (t_change (λ d. record d { trapped = true }) (λ d room. room)) (t_does (λ flow. t_left again) (λ n. t_fault))
+
+t_looked : (again : Part) (go : Doing Flow) (a : Answer) → IsTidy go → IsTidy (looked again go a)
+t_looked again go (answers.Go seen) t = t_next (t_change (λ d. record d { frames = with_seen seen d.frames }) (λ d room. seen_room seen d.frames room)) t
+t_looked again go (answers.Trap number trap) t = t_interrupted again trap
+t_looked again go answers.Flood t = t_fault
+t_looked again go _ t = t_misfit
+
+t_look : (w : Where) (byte : ℕ) (again : Part) (go : Doing Flow) → IsTidy go → IsTidy (look w byte again go)
+t_look w byte again go t = t_next (t_change _ (λ d room. room)) (t_asks (λ d. tt) tt (λ a. t_looked again go a t))
+
+-- a wait holds, rises, and looks
+t_hold : (w : Where) (s : TypedStmt) → Looks s → IsTidy (hold (Attempt w s))
+unfolding after
+t_hold w s looks = record { from = λ d room. (room, refl, tt, λ a. held d room a) }
+  where
+    risen : (d : Data) → HasRoom d.frames → (a : Answer) → Tidy (when_ok a >> goes_to (Attempt w s)) d
+    risen d room answers.Ok = (room, λ flow e later. later, λ n e later. later)
+    risen d room _ = tt
+
+    held : (d : Data) → HasRoom d.frames → (a : Answer) → Tidy (when_ok a >> (tells requests.Rise >> goes_to (Attempt w s))) d
+    held d room answers.Ok = (room, tt, looks, λ a. risen d room a)
+    held d room _ = tt
+
+-- ---- errors
+
+t_parted : (w : Where) (s : TypedStmt) (error : ℕ) (flow : Flow) → IsTidy (parted w s error flow)
+t_parted w s error Normal = t_raises
+t_parted w s error (Jumps label) = t_misfit
+t_parted w s error (Returns v) = t_gives
+t_parted w s error Retries = t_goes
+t_parted w s error Skips = t_gives
+
+t_failed_in : (errors : Errors) (w : Where) (s : TypedStmt) (error : ℕ) → IsTidy (failed_in errors w s error)
+t_failed_in Unguarded w s error = t_raises
+t_failed_in (Guarded list) w s error = t_next (t_change (λ d. record d { errno = error }) (λ d room. room)) (t_does (t_parted w s error) (λ n. t_raises))
+t_failed_in (InPart entered) w s error = t_raises
+
+t_header : {A : Type 0} {own : Doing A} {next : A → Doing Flow} (w : Where) (s : TypedStmt) → IsTidy own → ((v : A) → IsTidy (next v)) → IsTidy (header w s own next)
+t_header w s t tn = t_after t tn (t_failed_in w.errors w s)
+
+t_raised_again : (errors : Errors) → IsTidy (raised_again errors)
+t_raised_again (InPart entered) = t_raises
+t_raised_again _ = t_misfit
+
+-- ---- statements
+
+t_inner_or_not : (w : Where) (other : TypedElse) → IsTidy (inner_or_not w other)
+t_inner_or_not w NoElse = t_gives
+t_inner_or_not w (Else list) = t_goes
+
+t_and_then : (next : Doing Flow) (flow : Flow) → IsTidy next → IsTidy (and_then next flow)
+t_and_then next Normal t = t
+t_and_then next _ t = t_gives
+
+t_done_or_held : (w : Where) (s : TypedStmt) (b : Bool) → Looks s → IsTidy (done_or_held w s b)
+t_done_or_held w s true looks = t_gives
+t_done_or_held w s false looks = t_hold w s looks
+
+t_raised : (v : Value) → IsTidy (raised v)
+t_raised (values.Num (pos n)) = t_if (n % 1_000 == 0 && nat_le 1 (n / 1_000) && nat_le (n / 1_000) 90) t_raises t_fault
+t_raised (values.Num (negsuc n)) = t_fault
+t_raised _ = t_misfit
+
+t_chosen : (tree : TypedTree) (routine : TypedRoutine) (arms : TypedArms) (other : TypedElse) → IsTidy (chosen tree routine arms other)
+t_chosen tree routine NoArms other = t_gives
+t_chosen tree routine (MoreArms e list more) other = t_then (t_truth tree routine e) (λ b. t_if b t_gives (t_chosen tree routine more other))
+
+t_is_among : (tree : TypedTree) (routine : TypedRoutine) (v : Value) (es : TypedExprs) → IsTidy (is_among tree routine v es)
+t_is_among tree routine v NoExprs = t_gives
+t_is_among tree routine v (MoreExprs e es) =
+    t_then (t_expr tree routine e) (λ w. t_then (t_applied _) (λ equal. t_then (t_truth_in equal) (λ b. t_if b t_gives (t_is_among tree routine v es))))
+
+t_selected : (tree : TypedTree) (routine : TypedRoutine) (v : Value) (cases : TypedCases) (other : TypedElse) → IsTidy (selected tree routine v cases other)
+t_selected tree routine v NoCases other = t_gives
+t_selected tree routine v (MoreCases es list more) other = t_then (t_is_among tree routine v es) (λ b. t_if b t_gives (t_selected tree routine v more other))
+
+t_assign : (tree : TypedTree) (routine : TypedRoutine) (p : TypedPlace) (e : TypedExpr) → IsTidy (assign tree routine p e)
+t_assign tree routine p e = t_then (t_place tree routine p) (λ q. t_then (t_expr tree routine e) (t_write_value q))
+
+t_connects : (tree : TypedTree) (routine : TypedRoutine) (p : TypedPlace) (trap : ℕ) → IsTidy (connects tree routine p trap)
+t_connects tree routine p trap = t_then (t_place tree routine p) (λ q. t_then (t_number_at q) (λ old. t_connect q old trap))
+
+t_follows : (tree : TypedTree) (w : Where) (s form : TypedStmt) → Looks s → IsTidy (follows tree w s form)
+t_follows tree w s (trees.Assign at p e) looks = t_header w s (t_assign tree w.routine p e) (λ _. t_gives)
+t_follows tree w s (trees.Instruct at instruction args) looks = t_header w s (t_instructed tree w.routine instruction (needed args) (options args)) (λ b. t_done_or_held w s b looks)
+t_follows tree w s (trees.Call at called args) looks = t_header w s (t_then (t_arguments tree w.routine args) (λ xs. t_goes)) (λ _. t_gives)
+t_follows tree w s (trees.Label at label) looks = t_gives
+t_follows tree w s (trees.Goto at label) looks = t_gives
+t_follows tree w s (trees.Return at None) looks = t_gives
+t_follows tree w s (trees.Return at (Some e)) looks = t_header w s (t_expr tree w.routine e) (λ v. t_gives)
+t_follows tree w s (trees.Exit at) looks = t_ends
+t_follows tree w s (trees.Raise at None) looks = t_raised_again w.errors
+t_follows tree w s (trees.Raise at (Some e)) looks = t_header w s (t_then (t_expr tree w.routine e) t_raised) (λ _. t_gives)
+t_follows tree w s (trees.Retry at) looks = t_gives
+t_follows tree w s (trees.TryNext at) looks = t_gives
+t_follows tree w s (trees.Connect at p trap) looks = t_header w s (t_connects tree w.routine p trap) (λ _. t_gives)
+t_follows tree w s (trees.If at arms other) looks = t_header w s (t_chosen tree w.routine arms other) (t_inner_or_not w)
+t_follows tree w s (trees.IfOne at e one) looks = t_header w s (t_truth tree w.routine e) (λ b. t_if b t_goes t_gives)
+t_follows tree w s (trees.For at local first last step list) looks = t_header w s (t_bounds tree w.routine local first last step) (λ _. t_turn_due w s local)
+t_follows tree w s (trees.While at e list) looks =
+    t_header w s (t_truth tree w.routine e) (λ b. t_if b (t_then t_goes (λ flow. t_and_then (goes_to (Attempt w s)) flow t_goes)) t_gives)
+t_follows tree w s (trees.Test at e cases other) looks = t_header w s (t_then (t_expr tree w.routine e) (λ v. t_selected tree w.routine v cases other)) (t_inner_or_not w)
+
+t_stmt : (tree : TypedTree) (w : Where) (s : TypedStmt) → IsTidy (stmt tree w s)
+t_stmt tree w (trees.Label at label) = t_gives
+t_stmt tree w s = t_look w (byte_of s) (Attempt w s) (follows tree w s s) (t_follows tree w s s tt)
+
+t_turned : (w : Where) (s form : TypedStmt) → IsTidy (turned w s form)
+t_turned w s (trees.For at local first last step list) = t_then t_goes (λ flow. t_and_then (counts_on w s local) flow (t_counts_on w s local))
+t_turned w s _ = t_misfit
+
+t_turn : (w : Where) (s : TypedStmt) → IsTidy (turn w s)
+t_turn w s = t_look w (byte_of s) (Turn w s) (turned w s s) (t_turned w s s)
+
+-- ---- lists and routines
+
+t_items : (tree : TypedTree) (w : Where) (list : TypedStmts) → IsTidy (items tree w list)
+t_items tree w NoStmts = t_gives
+t_items tree w (MoreStmts s more) = t_then (t_stmt tree w s) (λ flow. t_and_then (items tree w more) flow (t_items tree w more))
+
+t_jumped : (w : Where) (list : TypedStmts) (label : ℕ) (more : Option TypedStmts) → IsTidy (jumped w list label more)
+t_jumped w list label None = t_gives
+t_jumped w list label (Some more) = t_goes
+
+t_ended : (w : Where) (list : TypedStmts) (flow : Flow) → IsTidy (ended w list flow)
+t_ended w list (Jumps label) = t_jumped w list label (behind label list)
+t_ended w list _ = t_gives
+
+t_rest : (tree : TypedTree) (w : Where) (list more : TypedStmts) → IsTidy (lists.rest tree w list more)
+t_rest tree w list more = t_then (t_items tree w more) (t_ended w list)
+
+t_enters : (frame : Frame) → IsTidy (enters frame)
+t_enters frame = record { from = λ d room. by d room (has_room d.frames frame) refl }
+  where
+    by : (d : Data) → HasRoom d.frames → (b : Bool) → has_room d.frames frame ≡ b
+        → Tidy (if b then Writes (record d { frames = frame ∷ d.frames }) done else fault DepthLimit) d
+    by d room true is = entered_room d.frames frame is
+    by d room false is = room
+
+t_leaves : IsTidy leaves
+t_leaves = t_change _ (λ d room. left_room d.frames room)
+
+t_result : (kind : RoutineKind) (flow : Flow) → IsTidy (result kind flow)
+t_result kinds.Func (Returns (Some v)) = t_next t_leaves t_gives
+t_result kinds.Func (Returns None) = t_misfit
+t_result kinds.Func Normal = t_fault
+t_result kinds.Func (Jumps label) = t_misfit
+t_result kinds.Func Retries = t_misfit
+t_result kinds.Func Skips = t_misfit
+t_result kinds.Proc Normal = t_next t_leaves t_gives
+t_result kinds.Trap Normal = t_next t_leaves t_gives
+t_result kinds.Proc (Returns None) = t_next t_leaves t_gives
+t_result kinds.Trap (Returns None) = t_next t_leaves t_gives
+t_result kinds.Proc _ = t_misfit
+t_result kinds.Trap _ = t_misfit
+
+t_called : (tree : TypedTree) (args : List Datum) (routine : Option TypedRoutine) → IsTidy (called tree args routine)
+t_called tree args None = t_misfit
+t_called tree args (Some routine) =
+    t_next (t_enters (frame_of routine args)) (t_after (t_rest tree (within routine) routine.list routine.list) (t_result routine.kind) (λ error. t_next t_leaves t_raises))
+
+pub t_part : (tree : TypedTree) (p : Part) → IsTidy (part tree p)
+t_part tree (Attempt w s) = t_stmt tree w s
+t_part tree (Turn w s) = t_turn w s
+t_part tree (Rest w list more) = t_rest tree w list more
+t_part tree (Call routine args) = t_called tree args (slice_get tree.routines routine)

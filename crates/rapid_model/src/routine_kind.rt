@@ -1,0 +1,7 @@
+/// What a routine is (RAPID Kernel, routine declarations).
+#[derive(Clone, Copy, Debug, PartialEq, Eq)]
+pub enum RoutineKind {
+    Proc,
+    Func,
+    Trap,
+}

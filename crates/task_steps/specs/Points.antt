@@ -1,0 +1,63 @@
+-- Where a task stands in its operations. What error recovery needs later is kept as places of operations; the code says which
+-- statements own them.
+use Rattle.std.specs.Prelude.{ℕ, List, map, Option, None, Some}
+use Rattle.std.specs.Option.{option_map, unwrap_or}
+use Rattle.typed_trees.specs.declared.datum.Datum.{Datum}
+use Rattle.stack_code.specs.CodeData.{CodeData}
+use Rattle.stack_code.specs.Confs as confs
+use Rattle.stack_code.specs.Confs.{Conf, Saved}
+use Rattle.stack_code.specs.Placed.{Own, own_of, owner_at}
+use Rattle.task_steps.specs.declared.failed.Failed.{Failed}
+use Rattle.task_steps.specs.declared.running.Running.{Running}
+
+-- What goes on when a routine is left. Started: nothing, the task is done. Called: the routine that called it, after the Call at
+-- this place, with these operands. Trapped: the routine that it interrupted, at the Look at this place.
+pub data Waiting : Type 0 where
+  Started : Waiting
+  Called : ℕ → List Datum → Running → Waiting
+  Trapped : ℕ → Running → Waiting
+
+-- the place of the next operation, the operands of the routine under way, the last one first, and the routine; and what waits
+-- below it, the innermost first
+pub record Point : Type 0 where
+  pub pc : ℕ
+  pub stack : List Datum
+  pub frame : Running
+  pub saved : List Waiting
+
+abbrev pub point : ℕ → List Datum → Running → List Waiting → Point
+point pc stack frame saved = record { pc = pc; stack = stack; frame = frame; saved = saved }
+
+-- a routine as it begins
+abbrev pub fresh : ℕ → Running
+fresh routine = record { routine = routine; failed = None }
+
+-- a routine that has left its ERROR part
+abbrev pub behind_part : Running → Running
+behind_part frame = record frame { failed = None }
+
+-- in code
+
+-- the owner of a place outside the code
+abbrev pub no_own : Own
+no_own = record { retry = 0; next = 0; at = record { «module» = 0; byte = 0 } }
+
+abbrev pub own_at : CodeData → ℕ → Own
+own_at code pc = unwrap_or (option_map own_of (owner_at code.owners pc)) no_own
+
+abbrev pub failed_in : CodeData → Failed → confs.Failed
+failed_in code failed = record { own = own_at code failed.place; error = failed.error }
+
+abbrev pub running_in : CodeData → Running → confs.Running
+running_in code frame = record { routine = frame.routine; failed = option_map (failed_in code) frame.failed }
+
+abbrev pub waiting_in : CodeData → Waiting → Saved
+waiting_in code Started = confs.Started
+waiting_in code (Called at stack frame) = confs.Called at (own_at code at) stack (running_in code frame)
+waiting_in code (Trapped at frame) = confs.Trapped at (running_in code frame)
+
+unfoldable pub saved_in : CodeData → List Waiting → List Saved
+saved_in code saved = map (waiting_in code) saved
+
+abbrev pub conf_in : CodeData → Point → Conf
+conf_in code p = record { pc = p.pc; stack = p.stack; frame = running_in code p.frame; saved = saved_in code p.saved }
