@@ -166,8 +166,7 @@ def try_stored_runs():
     """The run of the program that the gate tries is the first example, and the gate runs every example that has lines."""
     listed = (TOP / "crates/example_cells/stdin").read_text().splitlines()
     stored = [f"{file.stem} {file.parent.relative_to(EXAMPLES)}" for file in EXAMPLES.rglob("*.txt")]
-    # The whole histories are tried here alone.
-    compare("examples in the gate", sorted(listed), sorted(it for it in stored if not it.startswith("history ")))
+    compare("examples in the gate", sorted(listed), sorted(stored))
     compare("each as it stands", (TOP / "crates/example_cells/stdout").read_text().splitlines(), listed)
     for file in (EXAMPLES / "first_move").iterdir():
         if file.suffix != ".txt":
