@@ -1,5 +1,6 @@
-//! Puts segments against zones, and fires interrupts, so many times, and tells what it came to. The words are which of `touches`,
-//! `blocks` (`blocks_last` and `blocks_none`) and `firings`, and how many times; without words each is done once. For `bench/run`.
+//! Tests segments against zones, and fires interrupts, that many times, and prints the results. The words are one of
+//! `touches`, `blocks` (`blocks_last` and `blocks_none`) and `firings`, and how many times; without words each is done
+//! once. For `bench/run`.
 #![tactic(auto)]
 
 mod segments;
@@ -32,7 +33,7 @@ fn main(rt: HostRuntime) -> io::Result<()> {
     }
 }
 
-/// How many segments touch a zone, how many setpoints are stopped by one, or how many traps run; 0 for want of memory.
+/// How many segments touch a zone, how many setpoints a zone stops, or how many traps run; 0 if out of memory.
 fn told(alloc: Global, work: &str, times: u32) -> u32 {
     match work {
         "touches" => touching(times),

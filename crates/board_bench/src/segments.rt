@@ -1,7 +1,7 @@
 use crate::six_axes::{position, zone};
 use joint_clip::touches;
 
-/// Bounds of which each axis cuts more off at both ends than the one before.
+/// Bounds of which each axis cuts off more at both ends than the one before.
 const NARROWING: [(i32, i32); 6] = [
     (-6_000, 6_000),
     (-5_000, 5_000),
@@ -11,7 +11,7 @@ const NARROWING: [(i32, i32); 6] = [
     (-1_000, 1_000),
 ];
 
-/// How many of so many segments touch a zone, which all do, and which both bounds of each axis cut.
+/// How many of that many segments touch a zone: all do, and both bounds of each axis cut them.
 pub(crate) fn touching(times: u32) -> u32 {
     let shape = zone(NARROWING);
     let end = position([10_000; 6]);

@@ -1,11 +1,11 @@
-//! Moves of so many setpoints, and how many of these a zone stops, which none does.
+//! Moves of that many setpoints, and how many of these a zone stops: none.
 
 use crate::six_axes::{zone, zone_of_last};
 use crate::zoned_arm::ZonedArm;
 use rapid_num::Shape;
 use std::alloc::Global;
 
-/// Bounds within which axes 1 to 5 stay, so that axis 6 alone, the last one, is out of the zone.
+/// Bounds that axes 1 to 5 stay within, so that only axis 6, the last one, is outside the zone.
 const BESIDE: [(i32, i32); 6] = [
     (-720_000, 720_000),
     (-720_000, 720_000),
@@ -15,22 +15,22 @@ const BESIDE: [(i32, i32); 6] = [
     (60_000, 90_000),
 ];
 
-/// Under ten zones of six axes.
+/// With ten zones of six axes.
 pub(crate) fn under_zones_of_six(alloc: Global, setpoints: u32) -> u32 {
     stopped(alloc, 10, &zone(BESIDE), setpoints)
 }
 
-/// Under ten zones of axis 6 alone.
+/// With ten zones of axis 6 only.
 pub(crate) fn under_zones_of_last(alloc: Global, setpoints: u32) -> u32 {
     stopped(alloc, 10, &zone_of_last(BESIDE[5]), setpoints)
 }
 
-/// Under no zone.
+/// With no zone.
 pub(crate) fn under_no_zone(alloc: Global, setpoints: u32) -> u32 {
     stopped(alloc, 0, &zone(BESIDE), setpoints)
 }
 
-/// Under so many zones of a shape; 0 for want of memory.
+/// With that many zones of a shape; 0 if out of memory.
 fn stopped(alloc: Global, zones: u8, shape: &Shape, setpoints: u32) -> u32 {
     ZonedArm::new(alloc, zones, shape).map_or(0, |arm| arm.stops(setpoints))
 }

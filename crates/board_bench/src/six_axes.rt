@@ -24,7 +24,7 @@ pub(crate) fn zone(bounds: [(i32, i32); 6]) -> Shape {
     }
 }
 
-/// Inside these bounds of axis 6 alone, in thousandths of a degree.
+/// Inside these bounds of axis 6 only, in thousandths of a degree.
 pub(crate) fn zone_of_last(last: (i32, i32)) -> Shape {
     let mut of_axes = [None; 12];
     of_axes[5] = Some(bound(last));

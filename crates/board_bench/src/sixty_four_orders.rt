@@ -4,13 +4,13 @@ use std::alloc::Global;
 use std::marker::Model;
 use trap_dispatch::{Due, Traps};
 
-/// That signal 0 becomes 1.
+/// Signal 0 becomes 1.
 const ON: Watched = Watched::Signal {
     signal: 0,
     value: true,
 };
 
-/// A task whose 64 interrupts watch one signal.
+/// A task whose 64 interrupts all watch one signal.
 #[derive(Drop)]
 pub(crate) struct SixtyFourOrders {
     traps: Traps,
@@ -37,14 +37,14 @@ impl SixtyFourOrders {
         Ok(orders)
     }
 
-    /// Connects a number with a trap, and orders.
+    /// Connects a number with a trap, and gives it an order.
     fn order(&mut self, trap: u32) {
         if let Ok(number) = self.traps.connect(0, 0, trap) {
             let _ordered = self.traps.order(0, number, ON, false);
         }
     }
 
-    /// How many traps run after so many firings, each before the next firing.
+    /// How many traps run after that many firings, each before the next firing.
     pub(crate) fn traps(&mut self, firings: u32) -> u32 {
         let mut count = 0_u32;
         for _firing in 0..firings {
@@ -54,7 +54,7 @@ impl SixtyFourOrders {
         count
     }
 
-    /// Runs the traps that wait, at most 64.
+    /// Runs the waiting traps, at most 64.
     fn run_all(&mut self) -> u32 {
         for count in 0..64 {
             if !self.runs_one() {
@@ -64,7 +64,7 @@ impl SixtyFourOrders {
         64
     }
 
-    /// Runs the trap that waits first, if any does.
+    /// Runs the first waiting trap, if any.
     fn runs_one(&mut self) -> bool {
         let runs = matches!(self.traps.look(0), Due::Trap { .. });
         if runs {

@@ -9,7 +9,7 @@ use std::alloc::Global;
 use std::marker::Model;
 use world_zones::Zones;
 
-/// An arm with zones of its own.
+/// An arm with its own zones.
 #[derive(Drop)]
 pub(crate) struct ZonedArm {
     zones: Zones,
@@ -28,7 +28,7 @@ impl Model for ZonedArm {
 }
 
 impl ZonedArm {
-    /// With so many zones of one shape, ten at most.
+    /// With that many zones of one shape, at most ten.
     pub(crate) fn new(alloc: Global, count: u8, shape: &Shape) -> Result<ZonedArm, Memory> {
         let cell = one_arm(alloc)?;
         let zones = Zones::new(alloc, &cell)?;
@@ -44,7 +44,7 @@ impl ZonedArm {
         let _number = self.zones.set(0, 0, false, shape);
     }
 
-    /// How many of so many setpoints, a thousandth of a degree of axis 1 apart, a zone stops.
+    /// How many of that many setpoints, each a thousandth of a degree of axis 1 further, a zone stops.
     pub(crate) fn stops(&self, setpoints: u32) -> u32 {
         let mut count = 0_u32;
         let mut from = position([0; 6]);

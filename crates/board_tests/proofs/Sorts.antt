@@ -1,4 +1,4 @@
--- The types of the persistents of the tests' cell.
+-- The types of the persistents of the test cell.
 use Rattle.std.proofs.Common.{◌≡◌, ◌∙◌, ℕ, List, map, get_or, ap, sym}
 use Rattle.std.proofs.Math.ListN.{get_or-map}
 use Rattle.std.proofs.lemmas.Simd.{map-map}
@@ -12,6 +12,6 @@ pub sort_at : (rows : List PersData) (pers : ℕ) → sorts_of rows ≡ row_sort
 sort_at rows pers same =
     sym (get_or-map (λ row. row.sort) rows pers no_row) ∙ ap (λ all. get_or all pers sorts.Num) same
 
--- each persistent begins as one of its type
+-- each persistent starts with values of its type
 pub first_sorts : (rows : List PersCell) → sorts_of (map first_row rows) ≡ map (λ row. row.sort) rows
 first_sorts rows = map-map (λ row. row.sort) first_row rows

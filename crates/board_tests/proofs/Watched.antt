@@ -1,4 +1,4 @@
--- The boards of the tests' cell of two arms.
+-- The boards of the test cell with two arms.
 use Rattle.std.proofs.Common.{◌≡◌, ◌<◌, ◌∙◌, length, map, sym, subst, arith}
 use Rattle.std.specs.List.{All}
 use Rattle.std.proofs.lemmas.List.{length-map, length-replicate}

@@ -1,4 +1,4 @@
--- The types of the persistents of the tests' cell.
+-- The types of the persistents of the test cell.
 use Rattle.std.specs.Prelude.{ℕ, List, [], ◌∷◌, slice_index_or}
 use Rattle.rapid_model.specs.declared.sort.Sort.{Sort}
 use Rattle.rapid_model.specs.declared.sort.Sort.TheVariants as sorts

@@ -13,8 +13,8 @@ use rapid_num::{Joints, Num};
 use std::alloc::Global;
 use std::test::Fail;
 
-/// Signals 0 to 2 start at 0, 1, 0. Persistents 0 to 5: num 1.5; bool{3} FALSE, TRUE, FALSE; jointtarget of axes 1 to 12
-/// degrees; tasks{2} "T_A", "T_B"; speeddata 100, 200, 300, 400; extjoint 1 to 6.
+/// Signals 0 to 2 start at 0, 1, 0. Persistents 0 to 5: num 1.5; bool{3} FALSE, TRUE, FALSE; jointtarget with axes 1 to
+/// 12 at 1 to 12 degrees; tasks{2} "T_A", "T_B"; speeddata 100, 200, 300, 400; extjoint 1 to 6.
 pub(crate) fn board_cell(alloc: Global) -> Result<Cell, Fail>
     ensures signals { IfOk result (λ cell. length cell.signals ≡ 3) }
     ensures sorts { IfOk result (λ cell. map (λ row. row.sort) cell.pers ≡ row_sorts) }
@@ -44,7 +44,7 @@ pub(crate) fn board_cell(alloc: Global) -> Result<Cell, Fail>
     })
 }
 
-/// The name of this letter alone, a capital or a small one.
+/// The name that is this letter alone, in upper or lower case.
 pub(crate) fn name(letter: u8) -> NameText
     requires low { 65 ≤ letter }
     requires high { letter ≤ 122 }
@@ -55,7 +55,7 @@ pub(crate) fn name(letter: u8) -> NameText
     name
 }
 
-/// An output that starts so.
+/// An output with this initial value.
 pub(crate) fn signal(letter: u8, start: bool) -> SignalRow
     requires low { 65 ≤ letter }
     requires high { letter ≤ 122 }
@@ -92,7 +92,7 @@ fn persistents(alloc: Global) -> Result<Vec<PersCell>, Fail>
     ]?)
 }
 
-/// A persistent of this type and length, with its first values.
+/// A persistent with this type and length, and its first values.
 fn persistent(sort: Sort, len: Option<u16>, first: Vec<Value>) -> PersCell
     requires within { IsTrue (holds_where_there (is_within 1 1_000) len) }
     requires count { length first.items ≡ width len }
@@ -109,7 +109,7 @@ fn persistent(sort: Sort, len: Option<u16>, first: Vec<Value>) -> PersCell
     }
 }
 
-/// Axes 1 to 12 at as many degrees as their numbers.
+/// Axes 1 to 12, each at as many degrees as its number.
 fn twelve() -> Option<Joints> {
     let [a, b, c, d, e, f] = six([1_000, 2_000, 3_000, 4_000, 5_000, 6_000])?;
     let [g, h, i, j, k, l] = six([7_000, 8_000, 9_000, 10_000, 11_000, 12_000])?;

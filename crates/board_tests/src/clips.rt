@@ -1,4 +1,4 @@
-//! Segments against zones in joint space, and what two bound positions make.
+//! Segments against zones in joint space, and the shapes of bound positions.
 
 use joint_clip::{ShapeFault, make_shape, touches};
 use rapid_num::{Bound, Joints, Num, Shape};
@@ -12,7 +12,7 @@ const LEAST: i64 = -9_999_999_999_999;
 
 const GREATEST: i64 = 9_999_999_999_999;
 
-/// Inside or Outside of these bounds of axis 1, the ends of a segment of that axis, and whether it touches the zone.
+/// Inside or Outside these bounds of axis 1, the ends of a segment of that axis, and whether it touches the zone.
 static ONE_AXIS: [(bool, i64, i64, i64, i64, bool); 15] = [
     (true, 10_500, 11_500, 6_000, 12_000, true),
     (true, 10_500, 11_500, 12_000, 18_000, false),
@@ -31,7 +31,7 @@ static ONE_AXIS: [(bool, i64, i64, i64, i64, bool); 15] = [
     (false, 10_000, 20_000, 15_000, 15_000, false),
 ];
 
-/// The same where axes 1 and 2 have these bounds; each end has both angles.
+/// The same for axes 1 and 2 with these bounds; each end gives both angles.
 static TWO_AXES: [(bool, i64, i64, (i64, i64), (i64, i64), bool); 6] = [
     (true, 10_000, 20_000, (9_000, 11_000), (11_000, 9_000), true),
     (
@@ -55,7 +55,7 @@ static TWO_AXES: [(bool, i64, i64, (i64, i64), (i64, i64), bool); 6] = [
     ),
 ];
 
-/// Rows as of one axis, for the shape that two bound positions of an arm of six axes make.
+/// Rows like those for one axis, for the shape that two bound positions make for an arm with six axes.
 static MADE: [(bool, i64, i64, i64, i64, bool); 6] = [
     (true, NONE, 1_000, -720_000, -720_000, true),
     (true, NONE, 1_000, 1_001, 2_000, false),
@@ -65,7 +65,7 @@ static MADE: [(bool, i64, i64, i64, i64, bool); 6] = [
     (false, NONE, 1_000, 0, 1_001, true),
 ];
 
-/// Axes 1 and 2 at these angles, the others at a third.
+/// Axes 1 and 2 at these angles, the others at a third one.
 fn joints(first: i64, second: i64, others: i64) -> Option<Joints> {
     let mut axis = [Num::new(others)?; 12];
     axis[0] = Num::new(first)?;
@@ -103,8 +103,8 @@ fn touches_two(
     Some(touches(&joints(from.0, from.1, 0)?, &joints(to.0, to.1, 0)?, &shape))
 }
 
-/// Whether a segment of axis 1 touches the zone that two bound positions make for an arm of six axes, of which axis 1 alone
-/// has limits.
+/// Whether a segment of axis 1 touches the zone that two bound positions, with limits for axis 1 only, make for an arm
+/// with six axes.
 fn touches_made(inside: bool, low: i64, high: i64, from: i64, to: i64) -> Option<bool> {
     let limits = bound(low, high)?;
     let mut low = joints(NONE, NONE, NONE)?;
@@ -140,7 +140,7 @@ fn segments(rt: HostRuntime) {
     }
 }
 
-/// No axis has a bound; an axis has equal ones; of two axes the second has its low bound above the high one.
+/// No axis has a bound; an axis has two equal ones; the second of two axes has its low bound above the high one.
 #[test]
 fn no_shapes(rt: HostRuntime) -> Result<(), Fail> {
     let none = joints(NONE, NONE, NONE).ok_or("9E9 is a num")?;
@@ -158,7 +158,7 @@ fn no_shapes(rt: HostRuntime) -> Result<(), Fail> {
     Ok(())
 }
 
-/// Axis 7 has one bound: an arm of six axes has no such axis, and one of seven has.
+/// Axis 7 has a bound: an arm with six axes has no such axis, one with seven has.
 #[test]
 fn a_seventh_axis(rt: HostRuntime) -> Result<(), Fail> {
     let none = joints(NONE, NONE, NONE).ok_or("9E9 is a num")?;

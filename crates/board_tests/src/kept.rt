@@ -37,7 +37,7 @@ impl Kept {
         Ok(Kept { store })
     }
 
-    /// Whether the part of an element is this value; or, where none is wanted, whether there is no such element.
+    /// Whether the part of an element is this value, or, if no value is expected, whether there is no such element.
     #[tactic(auto, using(crate::proofs::Sorts::sort_at))]
     pub(crate) fn reads(&self, pers: u32, path: &Path, wanted: Option<Written>) -> bool {
         if !has_part(pers, path.part) {
@@ -50,7 +50,7 @@ impl Kept {
         }
     }
 
-    /// Puts a value into the part, which it fits. No where there is no such element.
+    /// Puts a value into the part, which it fits; returns false if there is no such element.
     pub(crate) fn puts(&mut self, pers: u32, path: &Path, value: Value) -> bool
         requires there { pers < 6 }
         requires fits { IsTrue (fits_part (row_sort pers) path.now.part value) }

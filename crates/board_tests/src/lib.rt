@@ -1,5 +1,5 @@
-//! Worked rows for what the boards of a cell answer: zones in joint space, persistents, signals, meetings, interrupts and the
-//! zones of arms. It holds only tests.
+//! Tests of the boards of a cell on examples worked by hand: zones in joint space, persistents, signals, meetings,
+//! interrupts, and the zones of arms.
 #![tactic(auto)]
 
 #[cfg(test)]

@@ -11,8 +11,8 @@ const B: u32 = 1;
 
 const C: u32 = 2;
 
-/// Arrivals in order: the task, whether it meets the others, and whether it did not wait before. A task that is not met
-/// arrives again until it is.
+/// Arrivals in order: the task, whether it meets the others, and whether it was not waiting. A task that does not meet
+/// them arrives again until it does.
 static ARRIVALS: [(u32, bool, bool); 10] = [
     (C, false, true),
     (A, false, true),

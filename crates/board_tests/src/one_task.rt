@@ -5,7 +5,7 @@ use std::marker::Model;
 use std::test::Fail;
 use trap_dispatch::{ConnectFault, Due, OrderFault, Traps};
 
-/// That signal 0 becomes 1.
+/// Signal 0 becomes 1.
 const ON: Watched = Watched::Signal {
     signal: 0,
     value: true,
@@ -34,7 +34,7 @@ impl OneTask {
         Ok(OneTask { traps })
     }
 
-    /// Takes a step, and tells whether what is wanted came of it.
+    /// Takes a step, and returns whether the result is as expected.
     pub(crate) fn does(&mut self, step: Step) -> bool {
         match step {
             Step::Connect { old, trap, wanted } => self.connect(old, trap) == wanted,
@@ -75,7 +75,7 @@ impl OneTask {
         self.traps.fired(&[ON]);
     }
 
-    /// What a look tells; where it is a trap, that is left. None where anything was due within the trap.
+    /// The answer to a look; a trap is left again. `None` if anything was due within the trap.
     fn look(&mut self) -> Option<Due> {
         let due = self.traps.look(0);
         if let Due::Trap { .. } = due {

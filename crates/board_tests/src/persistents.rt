@@ -8,7 +8,7 @@ use persist_store::IndexRange;
 use rapid_model::{PartName, Path, Value};
 use std::test::Fail;
 
-/// A persistent, an element and a part, with the value that is read; none where there is no such element.
+/// A persistent, an element and a part, with the value that is read; `None` if there is no such element.
 type Row = (u32, u16, PartName, Option<Written>);
 
 /// Axes 1 to 6 of persistent 2.

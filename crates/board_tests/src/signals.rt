@@ -13,7 +13,7 @@ fn are(signals: &Signals, wanted: [bool; 3]) -> bool
     [signals.get(0), signals.get(1), signals.get(2)] == wanted
 }
 
-/// Gives a signal a value, and tells whether it had the other one.
+/// Sets a signal, and returns whether that changed it.
 fn set(signals: &mut Signals, signal: u32, value: bool) -> bool
     requires three { length signals.old ≡ 3 }
     requires there { signal < 3 }

@@ -1,6 +1,6 @@
 use trap_dispatch::{ConnectFault, Due, OrderFault};
 
-/// A step of a task with interrupts, with what comes of it.
+/// A step of a task with interrupts, and its expected result.
 #[derive(Clone, Copy)]
 pub(crate) enum Step {
     /// A variable with this number is connected with a trap.
@@ -9,7 +9,7 @@ pub(crate) enum Step {
         trap: u32,
         wanted: Result<u8, ConnectFault>,
     },
-    /// The number watches that signal 0 becomes 1.
+    /// The number watches for signal 0 to become 1.
     Order {
         number: u8,
         single: bool,
@@ -17,7 +17,7 @@ pub(crate) enum Step {
     },
     /// The number, which is connected, is put to sleep.
     Sleep(u8),
-    /// It is woken.
+    /// It wakes up.
     Watch(u8),
     /// It is deleted.
     Delete(u8),
@@ -29,6 +29,6 @@ pub(crate) enum Step {
     Fire,
     /// Whether anything is due.
     Due(bool),
-    /// A look: where a trap comes, nothing is due within it, and it is left.
+    /// A look: if a trap is due, nothing is due within it, and it is left.
     Look(Due),
 }

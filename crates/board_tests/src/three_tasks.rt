@@ -3,7 +3,7 @@ use std::marker::Model;
 use std::test::Fail;
 use sync_tasks::{Arrived, Meetings};
 
-/// The one meeting of tasks 0, 1 and 2, and how many arrivals there were, of which at most 100 are taken.
+/// The one meeting of tasks 0, 1 and 2, and how many arrivals there were; at most 100 are made.
 #[derive(Drop)]
 pub(crate) struct ThreeTasks {
     meetings: Meetings,

@@ -16,7 +16,7 @@ const SECOND: Step = Look(trap_dispatch::Due::Trap { number: 2, trap: 6 });
 
 const FLOOD: Step = Look(trap_dispatch::Due::Flood);
 
-/// An interrupt is connected with trap 6, and has number 2.
+/// An interrupt is connected with trap 6, and gets number 2.
 const CONNECT_SECOND: Step = Connect {
     old: 0,
     trap: 6,
@@ -76,7 +76,7 @@ static STEPS: [Step; 31] = [
     Enable,
     Due(true),
     SECOND,
-    // An entry that waits goes with its number.
+    // A deleted number's queue entries go with it.
     Fire,
     Delete(2),
     Due(false),
@@ -85,7 +85,7 @@ static STEPS: [Step; 31] = [
     Due(false),
 ];
 
-/// A task with one interrupt, number 1, of trap 5, which fires each time.
+/// A task with one interrupt, number 1, with trap 5, which fires each time.
 static ONE_INTERRUPT: [Step; 2] = [
     Connect {
         old: 0,
@@ -122,7 +122,7 @@ fn sixty_four_numbers(rt: HostRuntime) -> Result<(), Fail> {
     Ok(())
 }
 
-/// 1,025 firings are one too many, even once their number is gone.
+/// 1,025 firings are one too many, even after the number is deleted.
 #[test]
 fn a_flood(rt: HostRuntime) -> Result<(), Fail> {
     let mut task = OneTask::new(rt.alloc())?;

@@ -35,7 +35,7 @@ impl TwoArms {
         Ok(TwoArms { zones, signals })
     }
 
-    /// Takes a step, and tells whether what is wanted came of it.
+    /// Takes a step, and returns whether the result is as expected.
     pub(crate) fn does(&mut self, step: ZoneStep) -> bool {
         match step {
             ZoneStep::Set(old, temporary, bounds, wanted) => {

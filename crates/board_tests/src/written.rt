@@ -1,7 +1,7 @@
 use rapid_model::{Text, Value};
 use rapid_num::Num;
 
-/// A value of a row, its nums in thousandths.
+/// A value in a row, with nums in thousandths.
 #[derive(Clone, Copy)]
 pub(crate) enum Written {
     Num(i64),

@@ -12,8 +12,8 @@ use rapid_num::{Bound, Joints, Num, Shape};
 use std::alloc::Global;
 use std::test::Fail;
 
-/// Signals 0 and 1 start at 0 and 1. Zones 0 and 1 watch the arm of task 0: axis 1 from 30 to 40 degrees while signal 0 is 1,
-/// and from 35 to 50 while signal 1 is 1. Zone 2 watches that of task 1: from 30 to 40 while signal 0 is 0.
+/// Signals 0 and 1 start at 0 and 1. Zones 0 and 1 watch the arm of task 0: axis 1 from 30 to 40 degrees while signal 0
+/// is 1, and from 35 to 50 while signal 1 is 1. Zone 2 watches the arm of task 1: from 30 to 40 while signal 0 is 0.
 pub(crate) fn zone_cell(alloc: Global) -> Result<Cell, Fail>
     ensures tasks { IfOk result (λ cell. length cell.tasks ≡ 2) }
     ensures signals { IfOk result (λ cell. length cell.signals ≡ 2) }
@@ -67,7 +67,7 @@ fn zone(task: u32, shape: Shape, signal: u32, value: bool) -> ZoneRow
     }
 }
 
-/// Axis 1 at so many degrees, the others at 0, no external axes.
+/// Axis 1 at that many degrees, the others at 0, no external axes.
 pub(crate) fn at(angle: u32) -> Joints
     ensures { angle ≤ 720 → IsTrue (is_position 6 result) }
 {

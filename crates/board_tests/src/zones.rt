@@ -13,7 +13,7 @@ const A: u32 = 0;
 
 const B: u32 = 1;
 
-/// There is no temporary zone of the number.
+/// There is no temporary zone with the number.
 const NONE: Result<(), NoZone> = Err(NoZone);
 
 const DONE: Result<(), NoZone> = Ok(());
@@ -26,7 +26,7 @@ static NUMBERS: [ZoneStep; 9] = [
     Set(0, false, (60, 70), Ok(3)),
     Free(1, DONE),
     Set(1, true, (10, 20), Ok(1)),
-    // A zone that is disabled is a zone of the arm.
+    // A disabled zone is still a zone of the arm.
     Disable(2, DONE),
     Set(2, true, (10, 20), Err(ZoneUsed)),
     Set(0, true, (10, 20), Ok(4)),
@@ -38,13 +38,13 @@ static NO_ZONES: [ZoneStep; 15] = [
     Disable(1, NONE),
     Enable(1, NONE),
     Free(1, NONE),
-    // One that is freed.
+    // A freed one.
     Set(0, true, (10, 20), Ok(2)),
     Free(2, DONE),
     Disable(2, NONE),
     Enable(2, NONE),
     Free(2, NONE),
-    // None of the number.
+    // No zone with the number.
     Disable(0, NONE),
     Enable(3, NONE),
     Free(10, NONE),
@@ -68,13 +68,13 @@ static OWN: [ZoneStep; 22] = [
     Go(A, (0, 30), None),
     Set(0, true, (20, 25), Ok(1)),
     Set(0, false, (10, 15), Ok(2)),
-    // Zone 2 comes first on the way.
+    // Zone 2 comes first along the way.
     Go(A, (0, 30), Some(Own(1))),
     Go(A, (0, 12), Some(Own(2))),
     Go(A, (0, 10), Some(Own(2))),
     Go(A, (0, 9), None),
     Go(A, (16, 19), None),
-    // Ways of no length.
+    // Moves of length zero.
     Go(A, (22, 22), Some(Own(1))),
     Go(A, (25, 25), Some(Own(1))),
     Go(A, (18, 18), None),
@@ -99,7 +99,7 @@ static OF_THE_CELL: [ZoneStep; 12] = [
     Go(B, (26, 34), Some(Cell(2))),
     Signal(true),
     Go(A, (26, 34), Some(Cell(0))),
-    // Zone 1 comes first on the way.
+    // Zone 1 comes first along the way.
     Go(A, (50, 26), Some(Cell(0))),
     Go(A, (41, 60), Some(Cell(1))),
     Go(B, (26, 60), None),
@@ -109,7 +109,7 @@ static OF_THE_CELL: [ZoneStep; 12] = [
     Go(A, (26, 34), None),
 ];
 
-/// How many steps come to what is wanted, before the first that does not.
+/// How many steps have their expected results, before the first that does not.
 fn steps_done(arms: &mut TwoArms, steps: &[ZoneStep]) -> usize {
     for (index, step) in steps.iter().enumerate() {
         if !arms.does(*step) {

@@ -1,4 +1,4 @@
--- The limits of a script are those of its cell.
+-- A cell is within limits if its script is.
 use Rattle.std.proofs.Common.{◌≡◌, ℕ, true, List, [], ◌∷◌, length, map, refl, ap, ◌∙◌}
 use Rattle.std.specs.List.{list_all}
 use Rattle.std.proofs.lemmas.Bool.{and_parts, and_from}
@@ -19,7 +19,7 @@ starts version (task ∷ tasks) e =
     and_from (starts_well (row_of task)) (list_all starts_well (map row_of tasks))
     (and_from (is_short_name task.name) (is_start task.axes task.arm) (task_named version task here) (task_starts version task here)) (starts version tasks more)
 
--- what a row has of its task
+-- what a row says about its task
 same_parts : {A : Type 0} (part : TaskRow → A) (tasks : List ScriptTask) → map part (map row_of tasks) ≡ map (λ task. part (row_of task)) tasks
 same_parts part [] = refl
 same_parts part (task ∷ tasks) = ap (λ parts. part (row_of task) ∷ parts) (same_parts part tasks)

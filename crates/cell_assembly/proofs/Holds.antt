@@ -1,4 +1,4 @@
--- What holds of all that is made.
+-- What holds of everything that is made.
 use Rattle.std.proofs.Common.{◌≡◌, Bool, true, false, refl, if◌then◌else◌}
 use Rattle.std.specs.Result.{IfOk}
 use Rattle.cell_assembly.specs.Cells.{Making}

@@ -1,4 +1,4 @@
--- One more declaration of a persistent that is there, and a value of the script for one.
+-- One more declaration of a known persistent, and a value of the script for one.
 use Rattle.std.proofs.Common.{◌≡◌, ℕ, ◌+◌, ◌<◌, ◌≤◌, Bool, true, false, not, ◌&&◌, nat_le, List, [], ◌∷◌, ◌++◌, length, map, set, get_or, Some, option_map, slice_get, Ok, Err, refl, ap, sym, ◌∙◌, if◌then◌else◌, arith}
 use Rattle.std.proofs.lemmas.Bool.{le-leb}
 use Rattle.std.proofs.lemmas.List.{length-map, map-set}
@@ -16,7 +16,7 @@ use Rattle.cell_assembly.specs.Cells.{CellBreak, Making, Clash}
 use Rattle.cell_assembly.specs.Views.{view_info}
 use Rattle.cell_assembly.proofs.Kept.{number_kept}
 
--- what a view shows of an element of a list
+-- what a view shows of a list's element
 info_there : (pers : List PersInfo) (k : ℕ) (info : PersInfo) → k < length pers → info ≡ get_or pers k info → slice_get (map view_info pers) k ≡ Some (view_info info)
 info_there pers k info within is = slice_get-map view_info pers k ∙ ap (option_map view_info) (slice_get_read pers (length pers) k info refl within is)
 
@@ -42,7 +42,7 @@ clash_there pers ps numbers task k row old seen within is differ =
     ∙ ap (Cells.join n task row k) (info_there pers k old within is)
     ∙ ap (λ t. let made : Making Cells.Numbered = if t then Ok (Cells.joined n k (Cells.with_declared (view_info old) row)) else Err (Clash task row.«module» row.at) in made) differ
 
--- the table of the persistents' names stays theirs
+-- the table of the persistents' names stays correct
 pub table_joined : (table : NameList ℕ) (pers : List PersInfo) (k : ℕ) (row : TypedPers) (old new : PersInfo) → k < length pers → old ≡ get_or pers k old → view_info new ≡ Cells.with_declared (view_info old) row
     → Finds table (λ name. Cells.global_number name (map view_info pers)) → Finds table (λ name. Cells.global_number name (map view_info (set pers k new)))
 table_joined table pers k row old new within is declared found name =

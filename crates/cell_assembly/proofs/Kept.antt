@@ -1,4 +1,4 @@
--- A table of the numbers of global persistents, as persistents change.
+-- A table of the numbers of global persistents, while persistents change.
 use Rattle.std.proofs.Common.{◌≡◌, ℕ, ◌+◌, not, ◌&&◌, nat_le, List, set, slice_get, Option, Some, None, is_none, Ok, refl, ap, sym, ◌∙◌}
 use Rattle.std.specs.Result.{IfOk}
 use Rattle.std.specs.Str.{str_eq_ignore_ascii_case}
@@ -18,7 +18,7 @@ same_number name ps k old new at same =
     let first = position_or_len-set (is_global name) ps k new old (same ∙ ap (is_global name) (sym (get_or_from_slice_get ps k old old at))) in
     rw (first, length-set ps k new) refl
 
--- a persistent that keeps its name and its owner
+-- a persistent keeps its name and its owner
 pub number_kept : (name : List ℕ) (ps : List PersInfo) (k : ℕ) (old new : PersInfo) → slice_get ps k ≡ Some old → new.name ≡ old.name → new.owner ≡ old.owner
     → global_number name (set ps k new) ≡ global_number name ps
 number_kept name ps k old new at named owned =
@@ -40,7 +40,7 @@ give_global_keeps : (name : List ℕ) (ps : List PersInfo) (number : ℕ) (row :
 give_global_keeps name ps number row None = tt
 give_global_keeps name ps number row (Some k) = give_to_keeps name ps number row k (slice_get ps k) refl
 
--- the script's values change no name
+-- the script's values change no names
 pub table_given : (table : NameList ℕ) (ps qs : List PersInfo) (number : ℕ) (row : PersValue) (k : Option ℕ) → Finds table (λ name. global_number name ps) → give_global ps number row k ≡ Ok qs → Finds table (λ name. global_number name qs)
 table_given table ps qs number row k is given name =
     is name ∙ sym (IfOk-at_ok (λ qs. global_number name qs ≡ global_number name ps) given (give_global_keeps name ps number row k))

@@ -1,4 +1,4 @@
--- The tables of persistents' and meetings' numbers by name, as one more is entered.
+-- The tables of persistents' and meetings' numbers by name, with one more entry.
 use Rattle.std.proofs.Common.{◌≡◌, ℕ, suc, ◌+◌, Bool, true, false, cond, not, ◌&&◌, nat_lt, List, [], ◌∷◌, ◌++◌, length, Option, Some, None, is_none, is_some, option_map, if◌then◌else◌, refl, ap, sym, ◌∙◌, true≢false, arith}
 use Rattle.std.specs.List.{position, position_or_len}
 use Rattle.std.specs.Option.{option_or}
@@ -17,7 +17,7 @@ pub enters_global : (table new : NameList ℕ) (p : Cells.PersInfo) (number : �
 enters_global table new p number shared is name =
     ap (found_in name) is ∙ enters p.name number table name ∙ sym (ap (λ none. option_or (found_in name table) (if none && str_eq_ignore_ascii_case name p.name then Some number else None)) (is_shared p.owner shared))
 
--- the first place of what passes, past one more element
+-- the first index that passes, past one more element
 one_later : (n m : ℕ) → (if nat_lt (1 + n) (suc m) then Some (1 + n) else None) ≡ option_map suc (if nat_lt n m then Some n else None)
 one_later n m = grind (arith, nat_tests)
 
@@ -28,7 +28,7 @@ position_cons p x xs = by (p x)
     by true = ap (λ (t : Bool). cond {A = Option ℕ} t (Some 0) None) (lt-ltb 0 (suc (length xs)) (omega arith))
     by false = one_later (position_or_len p xs) (length xs)
 
--- one more persistent, and the table that it is entered in
+-- one more persistent, and its entry in the table
 pub pers_entered : (table new : NameList ℕ) (ps : List Cells.PersInfo) (p : Cells.PersInfo) (number : ℕ) → Finds table (λ name. Cells.global_number name ps) → Enters table new (λ name. Cells.is_global name p) number → number ≡ length ps
     → Finds new (λ name. Cells.global_number name (ps ++ p ∷ []))
 pers_entered table new ps p number = index_entered table new Cells.global_number Cells.is_global ps p number (λ name. index_last (Cells.global_number name) (Cells.is_global name) refl (position_cons (Cells.is_global name)) ps p)

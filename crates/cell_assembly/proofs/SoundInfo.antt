@@ -1,4 +1,4 @@
--- Persistents of sound declarations, and that they are persistents of a cell.
+-- Persistents of sound declarations are persistents of a cell.
 use Rattle.std.proofs.Common.{◌≡◌, ℕ, suc, Bool, true, ◌&&◌, ◌==◌, nat_lt, List, [], ◌∷◌, length, replicate, set, Option, None, Some, refl, ap, ◌∙◌, arith}
 use Rattle.std.specs.Option.{option_or}
 use Rattle.std.specs.List.{list_all}
@@ -19,7 +19,7 @@ use Rattle.typed_trees.specs.Sound.{fits, is_sound}
 use Rattle.cell_assembly.specs.Cells.{PersInfo, new_pers, with_declared, same_len, is_script_value, with_given}
 use Rattle.cell_assembly.specs.Made.{start_of, declared_values, over, pers_cell}
 
--- with so many tasks
+-- with that many tasks
 pub record IsSoundInfo (tasks : ℕ) (p : PersInfo) : Type 0 where
   pub owner : holds_where_there (λ task. nat_lt task tasks) p.owner ≡ true
   pub valued : has_values p.sort ≡ true
@@ -72,13 +72,13 @@ either_declared : (test : List Value → Bool) (one more : Option (List Value)) 
 either_declared test (Some vs) more here there = here
 either_declared test None more here there = there
 
--- what fits a declaration fits a persistent of its type and its length
+-- what fits a declaration fits a persistent with its type and length
 right_there : (sort other : Sort) (len long : Option ℕ) (first : Option (List Value)) → sort ≡ other → len ≡ long → holds_where_there (are_values_of other long) first ≡ true
     → holds_where_there (are_values_of sort len) first ≡ true
 right_there sort other len long first same alike right =
     ap (λ s. holds_where_there (are_values_of s len) first) same ∙ ap (λ l. holds_where_there (are_values_of other l) first) alike ∙ right
 
--- one more declaration, with its type and its length
+-- one more declaration, of the same type and length
 pub declared_sound : (tasks : ℕ) (p : PersInfo) (row : TypedPers) → same_sort p.sort row.sort && same_len p.len row.len ≡ true → is_sound row ≡ true → IsSoundInfo tasks p → IsSoundInfo tasks (with_declared p row)
 declared_sound tasks p row alike sound is =
     let (sort, len) = and_parts (same_sort p.sort row.sort) (same_len p.len row.len) alike in

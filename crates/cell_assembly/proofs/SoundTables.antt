@@ -23,7 +23,7 @@ use Rattle.rule_checks.proofs.Keeps.{Keeps-then, Keeps-must}
 use Rattle.cell_assembly.proofs.Holds.{either_holds}
 use Rattle.cell_assembly.proofs.SoundInfo.{IsSoundInfo, new_sound, declared_sound, given_sound, cell_sound}
 
--- with so many tasks
+-- with that many tasks
 abbrev pub AreSound : ℕ → List PersInfo → Type 0
 AreSound tasks ps = All (IsSoundInfo tasks) ps
 
@@ -58,7 +58,7 @@ all_sound tasks n task (row ∷ rows) is_task sound all =
     Keeps-then (λ (m : Numbered). AreSound tasks m.pers) (λ (m : Numbered). AreSound tasks m.pers) (one_pers n task row) (λ m. all_pers m task rows) (one_sound tasks n task row is_task here all)
     (λ m is. all_sound tasks m task rows is_task more is)
 
--- the persistents of sound trees, of so many tasks
+-- the persistents of sound trees, for that many tasks
 pub record AreSoundPers (tasks : ℕ) (t : PersTables) : Type 0 where
   pub pers : AreSound tasks t.pers
   pub as_many : length t.lists ≡ tasks
@@ -102,7 +102,7 @@ cells_sound : (tasks : ℕ) (ps : List PersInfo) → AreSound tasks ps → list_
 cells_sound tasks ps all =
     list_all-map (is_pers_cell tasks) pers_cell ps ∙ list_all-from_AllPass (λ p. is_pers_cell tasks (pers_cell p)) ps (λ k d within. cell_sound tasks _ (all k d within))
 
--- with so many tasks
+-- with that many tasks
 pub record AreRight (tasks : ℕ) (t : CellTables) : Type 0 where
   pub pers : list_all (is_pers_cell tasks) (map pers_cell t.pers) ≡ true
   pub pers_of : length t.pers_of ≡ tasks

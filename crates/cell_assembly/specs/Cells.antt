@@ -1,5 +1,5 @@
--- The persistents and meetings of a cell: which of its tasks' trees are one, their numbers, and the first values of persistents
--- (RAPID Overview, persistent data; RAPID Instructions, WaitSyncTask).
+-- The persistents and meetings of a cell: which of its tasks' trees are the same, their numbers, and the first values
+-- of persistents (RAPID Overview, persistent data; RAPID Instructions, WaitSyncTask).
 use Rattle.std.specs.Prelude.{ℕ, ◌+◌, ◌-◌, Bool, true, false, not, ◌&&◌, ◌==◌, nat_le, List, [], ◌∷◌, ◌++◌, codes, length, position, set, replicate, Option, Some, None, is_some, is_none, slice_get, Result, Ok, Err, if◌then◌else◌}
 use Rattle.std.specs.Option.{option_or}
 use Rattle.std.specs.Str.{str_eq_ignore_ascii_case}
@@ -16,8 +16,8 @@ use Rattle.rule_checks.specs.Checks.{◌>>=◌, ◌>>◌, must}
 use Rattle.cell_script.specs.Break.{element_key}
 use Rattle.named_data.specs.Wants.{same_sort}
 
--- why no cell is made: two declarations of one persistent differ, the later one being here; or a rule of the script is broken at
--- a key
+-- why no cell is made: two declarations of one persistent differ, and the later one is here; or a rule of the script is
+-- broken at a key
 pub data CellBreak : Type 0 where
   Clash : ℕ → ℕ → ℕ → CellBreak
   InScript : List ℕ → ScriptRule → CellBreak
@@ -25,8 +25,8 @@ pub data CellBreak : Type 0 where
 abbrev pub Making : Type 0 → Type 0
 Making A = Result A CellBreak
 
--- A persistent of the cell: its name as it is first spelled, the task that it belongs to unless it is global, its type, its length
--- where it is an array, the values that a declaration gives, if any does, and those that the script gives to its elements.
+-- A persistent of the cell: its name as first spelled, its task unless it is global, its type, its length if it is an
+-- array, the values that a declaration gives, if any, and those that the script gives to its elements.
 pub record PersInfo : Type 0 where
   pub name : List ℕ
   pub owner : Option ℕ
@@ -40,11 +40,11 @@ same_len None None = true
 same_len (Some m) (Some n) = m == n
 same_len _ _ = false
 
--- a global persistent of this name
+-- a global persistent with this name
 abbrev pub is_global : List ℕ → PersInfo → Bool
 is_global name p = is_none p.owner && str_eq_ignore_ascii_case name p.name
 
--- the number of the first global persistent of this name
+-- the number of the first global persistent with this name
 abbrev pub global_number : List ℕ → List PersInfo → Option ℕ
 global_number name ps = position (is_global name) ps
 
@@ -58,7 +58,7 @@ new_pers owner row = record {
   given = replicate (width row.len) None;
 }
 
--- the first declaration that gives values gives them
+-- the first declaration that gives values wins
 abbrev pub with_declared : PersInfo → TypedPers → PersInfo
 with_declared p row = record {
   name = p.name;
@@ -69,7 +69,7 @@ with_declared p row = record {
   given = p.given;
 }
 
--- the persistents so far, and the numbers of those of the tree at hand
+-- the persistents so far, and the numbers of those of the current tree
 pub record Numbered : Type 0 where
   pub pers : List PersInfo
   pub numbers : List ℕ
@@ -80,7 +80,7 @@ added n p = record { pers = n.pers ++ p ∷ []; numbers = n.numbers ++ length n.
 abbrev pub joined : Numbered → ℕ → PersInfo → Numbered
 joined n number p = record { pers = set n.pers number p; numbers = n.numbers ++ number ∷ [] }
 
--- one more declaration of a global persistent has its type and its length
+-- one more declaration of a global persistent has the same type and length
 abbrev pub join : Numbered → ℕ → TypedPers → ℕ → Option PersInfo → Making Numbered
 join n task row number None = Ok (added n (new_pers None row))
 join n task row number (Some p) =
@@ -107,24 +107,24 @@ pub record PersTables : Type 0 where
 abbrev pub with_list : PersTables → Numbered → PersTables
 with_list t n = record { pers = n.pers; lists = t.lists ++ n.numbers ∷ [] }
 
--- the trees, the first of which is that of the task of this number
+-- the trees; the first is that of the task with this number
 abbrev pub trees_pers : PersTables → ℕ → List TypedTree → Making PersTables
 trees_pers t task [] = Ok t
 trees_pers t task (tree ∷ trees) =
     all_pers (record { pers = t.pers; numbers = [] }) task tree.pers >>= (λ n. trees_pers (with_list t n) (task + 1) trees)
 
--- a value that a script may give to what has this type
+-- a value that a script may give to data of this type
 abbrev pub is_script_value : Sort → Value → Bool
 is_script_value sorts.Num (values.Num n) = true
 is_script_value sorts.Bool (values.Bool b) = true
 is_script_value sorts.Text (values.Text t) = true
 is_script_value _ _ = false
 
--- an element of an array, or what is no array
+-- an element of an array, or a whole persistent that is not an array
 abbrev pub fits_index : Option ℕ → Option ℕ → Bool
 fits_index len index = if is_some len then is_some index else is_none index
 
--- which element, from 0, an index from 1 names
+-- the element, from 0, that an index from 1 names
 abbrev pub element : Option ℕ → ℕ
 element None = 0
 element (Some index) = index - 1
@@ -132,7 +132,7 @@ element (Some index) = index - 1
 abbrev pub key_of : ℕ → List ℕ
 key_of number = element_key (codes "pers") number
 
--- a rule that the value of this number breaks
+-- a rule that the value with this number breaks
 abbrev pub at_value : ℕ → ScriptRule → CellBreak
 at_value number rule = InScript (key_of number) rule
 
@@ -150,7 +150,7 @@ with_given p index value = record {
   given = set p.given index (Some value);
 }
 
--- the value of this number in the script, for the persistent that it names
+-- the script's value with this number, for the persistent that it names
 abbrev pub give_to : List PersInfo → ℕ → PersValue → ℕ → Option PersInfo → Making (List PersInfo)
 give_to ps number row k None = Err (at_value number NoSuch)
 give_to ps number row k (Some p) =
@@ -166,16 +166,16 @@ give_global ps number row (Some k) = give_to ps number row k (slice_get ps k)
 abbrev pub give : List PersInfo → ℕ → PersValue → Making (List PersInfo)
 give ps number row = give_global ps number row (global_number row.name ps)
 
--- the values of the script, the first of which has this number
+-- the values of the script; the first has this number
 abbrev pub give_all : List PersInfo → ℕ → List PersValue → Making (List PersInfo)
 give_all ps number [] = Ok ps
 give_all ps number (row ∷ rows) = give ps number row >>= (λ qs. give_all qs (number + 1) rows)
 
--- the number of the first meeting of this name
+-- the number of the first meeting with this name
 abbrev pub meeting_number : List ℕ → List (List ℕ) → Option ℕ
 meeting_number name names = position (str_eq_ignore_ascii_case name) names
 
--- meetings so far, and the numbers of those of the tree at hand
+-- meetings so far, and the numbers of those of the current tree
 pub record Meetings : Type 0 where
   pub names : List (List ℕ)
   pub numbers : List ℕ
@@ -195,7 +195,7 @@ pub record MeetingTables : Type 0 where
 abbrev pub meetings_with : MeetingTables → Meetings → MeetingTables
 meetings_with t m = record { names = m.names; lists = t.lists ++ m.numbers ∷ [] }
 
--- meetings of one name are one
+-- meetings with the same name are the same
 abbrev pub trees_meetings : MeetingTables → List TypedTree → MeetingTables
 trees_meetings t [] = t
 trees_meetings t (tree ∷ trees) =
@@ -211,7 +211,7 @@ pub record CellTables : Type 0 where
 abbrev pub tables : PersTables → List PersInfo → MeetingTables → CellTables
 tables t ps m = record { pers = ps; pers_of = t.lists; meetings = m.names; meeting_of = m.lists }
 
--- of a script with these values of persistents, and the trees of its tasks
+-- for a script with these values of persistents, and the trees of its tasks
 abbrev pub cell_tables : List PersValue → List TypedTree → Making CellTables
 cell_tables rows trees =
     trees_pers (record { pers = []; lists = [] }) 0 trees >>= (λ t.

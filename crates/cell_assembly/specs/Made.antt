@@ -1,4 +1,4 @@
--- The cell of a script and of the trees of its tasks, and the trees with the cell's numbers of what is their own.
+-- The cell of a script and of its tasks' trees, and the trees with the cell's numbers for what is their own.
 use Rattle.std.specs.Prelude.{ℕ, pos, List, [], ◌∷◌, map, replicate, Option, Some, None, Ok}
 use Rattle.rapid_model.specs.CellData.{CellData}
 use Rattle.rapid_model.specs.ScriptData.{ScriptData, row_of}
@@ -12,7 +12,7 @@ use Rattle.typed_trees.specs.Plain.{TypedTree}
 use Rattle.rule_checks.specs.Checks.{◌>>=◌}
 use Rattle.cell_assembly.specs.Cells.{Making, PersInfo, CellTables, cell_tables}
 
--- what an element begins with; each persistent's type has values
+-- the initial value of an element; each persistent's type has values
 abbrev pub start_of : Sort → Value
 start_of sort = or_zero (start_value sort)
   where
@@ -20,7 +20,7 @@ start_of sort = or_zero (start_value sort)
     or_zero (Some v) = v
     or_zero None = values.Num (pos 0)
 
--- what a declaration gives the elements, else what they begin with
+-- what a declaration gives the elements, otherwise their initial values
 abbrev pub declared_values : PersInfo → List Value
 declared_values p = or_start p.declared
   where
@@ -28,7 +28,7 @@ declared_values p = or_start p.declared
     or_start (Some vs) = vs
     or_start None = replicate (width p.len) (start_of p.sort)
 
--- what the script gives the elements, over these values
+-- what the script gives the elements, in place of these values
 abbrev pub over : List (Option Value) → List Value → List Value
 over (Some given ∷ more) (v ∷ vs) = given ∷ over more vs
 over (None ∷ more) (v ∷ vs) = v ∷ over more vs

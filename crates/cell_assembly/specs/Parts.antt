@@ -1,4 +1,4 @@
--- How contracts see what is made on the way to the persistents and meetings of a cell.
+-- How contracts see what leads up to the persistents and meetings of a cell.
 use Rattle.std.specs.Prelude.{ℕ, List, Option, map, option_map}
 use Rattle.std.specs.declared.alloc.Global.{Global}
 use Rattle.std.specs.declared.vec.Vec.{Vec}

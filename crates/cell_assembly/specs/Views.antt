@@ -22,11 +22,11 @@ view_tables t = record {
   meeting_of = map (λ v. v.items) t.meeting_of.items;
 }
 
--- a cell, with the trees that have their numbers
+-- a cell, with the trees that have its numbers
 abbrev pub view_made : List TypedTree → CellData → MadeCell
 view_made trees cell = record { cell = cell; trees = trees }
 
--- why no cell is made, as a fault says; want of memory says nothing
+-- why no cell is made, as a fault says; out of memory says nothing
 abbrev pub broken_rule : CellFault → Option CellBreak
 broken_rule (faults.Clash task «module» at) = Some (Clash task «module» at)
 broken_rule (faults.Script key rule) = Some (InScript key rule)

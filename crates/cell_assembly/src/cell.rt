@@ -19,11 +19,12 @@ use rapid_model::{Cell, NameText, Script, Sequence};
 use std::alloc::Global;
 use typed_trees::Tree;
 
-/// The cell of a script and of the trees of its tasks: persistents are numbered by task, module and place, meetings by their
-/// first names, and each tree is given the cell's numbers of its own, `pers_of` and `meeting_of`. A persistent begins with the
-/// script's values, else with those of the first declaration that gives any, else with what its type begins with. `Clash`
-/// where two declarations of a global persistent differ in type or length, at the later one; `Script` where a value of the
-/// script fits no persistent, by its key and rule; the trees are as before then, and after want of memory.
+/// The cell of a script and of its tasks' trees. Persistents are numbered by task, module and place, meetings by the
+/// first use of their names, and each tree is given the cell's numbers of its own, `pers_of` and `meeting_of`. A
+/// persistent starts with the script's values, otherwise with those of the first declaration that gives any, otherwise
+/// with the initial values of its type. `Clash` if two declarations of a global persistent differ in type or length, at
+/// the later one; `Script` if a value of the script fits no persistent, with its key and rule. Then, and after out of
+/// memory, the trees stay the same.
 pub fn make_cell(alloc: Global, script: &Script, trees: &mut [Tree]) -> Result<Cell, CellFault>
     requires one_each { length trees.old ≡ length script.now.tasks }
     requires sound { IsTrue (list_all has_sound_pers (map view_tree trees.old)) }
@@ -41,7 +42,7 @@ pub fn make_cell(alloc: Global, script: &Script, trees: &mut [Tree]) -> Result<C
     Ok(cell)
 }
 
-/// The cell of a script, with these persistents and meetings. Its error is want of memory.
+/// The cell of a script, with these persistents and meetings. Fails only if an allocation fails.
 fn cell_of(
     alloc: Global,
     script: &Script,

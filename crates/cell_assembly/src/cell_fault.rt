@@ -5,15 +5,15 @@ use name_tables::NotEntered;
 use rapid_model::{ScriptRule, Text};
 use std::alloc::{AllocError, AllocFailed};
 
-/// Why no cell is made of a script and the trees of its tasks.
+/// Why no cell is made of a script and its tasks' trees.
 #[derive(Debug, Drop)]
 pub enum CellFault {
-    /// Two declarations of one persistent differ in type or length: the later one, by its task, the module's number in it, and
-    /// the byte of its name.
+    /// Two declarations of one persistent differ in type or length. The later one is here: its task, the number of its
+    /// module there, and the byte of its name.
     Clash { task: u32, module: u32, at: usize },
-    /// A value of a persistent in the script: its key, and the rule that it breaks.
+    /// A value of a persistent in the script: its key, and the broken rule.
     Script { key: Text, rule: ScriptRule },
-    /// Memory was refused.
+    /// An allocation failed.
     Memory,
 }
 

@@ -1,4 +1,4 @@
-//! What the script says of persistents.
+//! What the script says about persistents.
 
 ghost use Rattle.std.specs.Prelude.{◌≡◌, ◌&&◌, slice_get};
 ghost use Rattle.cell_assembly.specs.declared.cell_fault.CellFault.TheVariants.{Script};
@@ -12,7 +12,7 @@ use crate::persistents::Persistents;
 use itoa::Buffer;
 use rapid_model::{PersValue, ScriptRule, Sort, Text, Value, show, width};
 
-/// Whether a script may give the value to what has the type.
+/// Whether a script may give the value to data of the type.
 fn is_script_value(sort: Sort, value: &Value) -> bool
     ensures { result ≡ Cells.is_script_value sort value.now }
 {
@@ -24,7 +24,7 @@ fn is_script_value(sort: Sort, value: &Value) -> bool
     }
 }
 
-/// Whether what is named is an element of an array, or what is no array.
+/// Whether this names an element of an array, or a whole persistent that is not an array.
 fn fits_index(len: Option<u16>, index: Option<u16>) -> bool
     ensures { result ≡ Cells.fits_index len index }
 {
@@ -35,7 +35,7 @@ fn fits_index(len: Option<u16>, index: Option<u16>) -> bool
     }
 }
 
-/// Which element, from 0, an index from 1 names.
+/// The element, from 0, that an index from 1 names.
 fn element(index: Option<u16>) -> usize
     ensures { result ≡ Cells.element index }
 {
@@ -45,7 +45,7 @@ fn element(index: Option<u16>) -> usize
     }
 }
 
-/// The key of the value of this number in the script.
+/// The key of the value with this number in the script.
 fn key_of(number: usize) -> Text
     ensures { result ≡ Cells.key_of number }
 {
@@ -57,7 +57,7 @@ fn key_of(number: usize) -> Text
     text
 }
 
-/// The value of this number in the script breaks a rule.
+/// The value with this number in the script breaks a rule.
 fn in_script(number: usize, rule: ScriptRule) -> CellFault
     ensures { result ≡ Script (Cells.key_of number) rule }
 {
@@ -67,7 +67,7 @@ fn in_script(number: usize, rule: ScriptRule) -> CellFault
     }
 }
 
-/// Whether the script has given a value to the element of this index.
+/// Whether the script has already given a value to the element at this index.
 fn is_given(given: &[Option<Value>], index: usize) -> bool
     ensures { result ≡ Cells.is_given (slice_get given.now index) }
 {
@@ -77,7 +77,7 @@ fn is_given(given: &[Option<Value>], index: usize) -> bool
     }
 }
 
-/// The element of this index has this value; nothing changes where there is none.
+/// Sets the value of the element at this index; nothing changes if there is none.
 fn with_given(info: &mut PersInfo, index: usize, value: Value)
     ensures { view_info info.new ≡ Cells.with_given (view_info info.old) index value }
 {
@@ -86,14 +86,14 @@ fn with_given(info: &mut PersInfo, index: usize, value: Value)
     }
 }
 
-/// Whether a value of the script is of a persistent's type, and for an element where the persistent is an array.
+/// Whether a value of the script has a persistent's type, and names an element exactly if the persistent is an array.
 fn suits(info: &PersInfo, row: &PersValue) -> bool
     ensures { result ≡ (Cells.is_script_value info.now.sort row.now.value && Cells.fits_index info.now.len row.now.index) }
 {
     is_script_value(info.sort, &row.value) && fits_index(info.len, row.index)
 }
 
-/// A value of the script for the persistent of this number.
+/// A value of the script for the persistent with this number.
 fn give_to(
     infos: Vec<PersInfo>,
     number: usize,
@@ -122,7 +122,7 @@ fn give_to(
     Ok(infos)
 }
 
-/// A value of the script for the global persistent of this number, if there is one.
+/// A value of the script for the global persistent with this number, if there is one.
 fn give_global(
     infos: Vec<PersInfo>,
     number: usize,
@@ -137,7 +137,7 @@ fn give_global(
     }
 }
 
-/// The value of this number in the script.
+/// The value with this number in the script.
 fn give(pers: Persistents, number: usize, row: &PersValue) -> Result<Persistents, CellFault>
     ensures { Gives (λ given. given) result (Cells.give pers number row.now) }
 {

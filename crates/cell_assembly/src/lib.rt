@@ -1,4 +1,4 @@
-//! Which persistents and meetings of a cell's tasks are one, what the script says of persistents, and the cell itself.
+//! Which persistents and meetings of a cell's tasks are the same, what the script says about persistents, and the cell.
 #![tactic(auto)]
 
 mod cell;

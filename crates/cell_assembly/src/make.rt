@@ -14,7 +14,7 @@ use rapid_model::PersValue;
 use std::alloc::Global;
 use typed_trees::Tree;
 
-/// The persistents and meetings of a cell of these trees, one a task in script order, with the script's values of persistents.
+/// The persistents and meetings of a cell of these trees, one per task in script order, with the script's values.
 pub fn cell_tables(
     alloc: Global,
     values: &[PersValue],

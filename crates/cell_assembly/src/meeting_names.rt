@@ -9,7 +9,7 @@ use rapid_model::NameText;
 use std::alloc::Global;
 use std::marker::Model;
 
-/// The meetings of the cell so far, and a table of their numbers by name. Contracts see it as the list of the names.
+/// The meetings of the cell so far, and a table of their numbers by name. Contracts see the list of the names.
 #[derive(Drop)]
 pub(crate) struct MeetingNames {
     names: Vec<NameText>,
@@ -25,7 +25,7 @@ impl Model for MeetingNames {
 
     ghost view = { λ m. m.names.items };
 
-    // The table finds the first meeting of each name.
+    // The table finds the first meeting with each name.
     ghost invariant = { λ m. Finds m.numbers (λ name. Cells.meeting_number name m.names.items) };
 }
 
@@ -47,14 +47,14 @@ impl MeetingNames {
         self.names.len()
     }
 
-    /// The number of the first meeting of this name, letters of either case being the same.
+    /// The number of the first meeting with this name, case-insensitively.
     pub(crate) fn meeting_number(&self, name: &NameText) -> Option<u32>
         ensures { result ≡ Cells.meeting_number name.now self.now }
     {
         self.numbers.find(name.bytes())
     }
 
-    /// One more meeting. Its error is want of memory.
+    /// Adds a meeting. Fails only if an allocation fails.
     pub(crate) fn with_name(self, name: NameText) -> Result<MeetingNames, CellFault>
         ensures { Gives (λ meetings. meetings) result (Ok (self ++ name ∷ [])) }
     {
@@ -67,7 +67,7 @@ impl MeetingNames {
         Ok(MeetingNames { names, numbers })
     }
 
-    /// The names in order.
+    /// The names, in order.
     pub(crate) fn into_names(self) -> Vec<NameText>
         ensures { result.items ≡ self }
     {

@@ -15,7 +15,7 @@ use rapid_model::NameText;
 use std::alloc::Global;
 use typed_trees::Tree;
 
-/// One more name of a meeting, that of this number where there is one. Its error is want of memory.
+/// One more name of a meeting, which has this number if it is known. Fails only if an allocation fails.
 fn met(before: Met, name: &NameText, number: Option<u32>) -> Result<Met, CellFault>
     ensures { Gives view_meetings result (Ok (Cells.met (view_meetings before) name.now number)) }
 {
@@ -34,7 +34,7 @@ fn met(before: Met, name: &NameText, number: Option<u32>) -> Result<Met, CellFau
     }
 }
 
-/// The meetings of a tree, in order. Its error is want of memory.
+/// The meetings of a tree, in order. Fails only if an allocation fails.
 fn meet_all(before: Met, names: &[NameText]) -> Result<Met, CellFault>
     ensures { Gives view_meetings result (Ok (Cells.meet_all (view_meetings before) names.now)) }
 {
@@ -46,7 +46,7 @@ fn meet_all(before: Met, names: &[NameText]) -> Result<Met, CellFault>
     Ok(more)
 }
 
-/// The numbers of one more tree's meetings. Its error is want of memory.
+/// The numbers of one more tree's meetings. Fails only if an allocation fails.
 fn meetings_with(lists: Vec<Vec<u32>>, tree: Met) -> Result<MeetingTables, CellFault>
     ensures { Gives view_meeting_tables result (Ok (Cells.meetings_with (record { names = []; lists = view_lists lists }) (view_meetings tree))) }
 {
@@ -56,7 +56,8 @@ fn meetings_with(lists: Vec<Vec<u32>>, tree: Met) -> Result<MeetingTables, CellF
     Ok(MeetingTables { names, lists })
 }
 
-/// The meetings of the trees, one a task: meetings of one name are one. Its error is want of memory.
+/// The meetings of the trees, one per task: meetings with the same name are the same. Fails only if an allocation
+/// fails.
 pub(crate) fn trees_meetings(alloc: Global, trees: &[Tree]) -> Result<MeetingTables, CellFault>
     ensures { Gives view_meeting_tables result (Ok (Cells.trees_meetings (record { names = []; lists = [] }) (map view_tree trees.now))) }
 {

@@ -1,6 +1,6 @@
 use crate::meeting_names::MeetingNames;
 
-/// The meetings of the cell so far, and the numbers of those of the tree at hand.
+/// The meetings of the cell so far, and the numbers of those of the current tree.
 #[derive(Drop)]
 pub(crate) struct Met {
     pub(crate) names: MeetingNames,

@@ -6,7 +6,7 @@ ghost use Rattle.cell_assembly.specs.Views.{Gives};
 
 use crate::cell_fault::CellFault;
 
-/// An index as a number. One that is none is want of memory.
+/// An index as a number. An index that is too large counts as out of memory.
 pub(crate) fn number_of(index: usize) -> Result<u32, CellFault>
     ensures { Gives (λ number. number) result (Ok index) }
 {
@@ -16,7 +16,7 @@ pub(crate) fn number_of(index: usize) -> Result<u32, CellFault>
     }
 }
 
-/// The number of the task behind this one.
+/// The number of the next task.
 pub(crate) fn next(task: u32) -> Result<u32, CellFault>
     ensures ok { IfOk result (λ n. n ≡ task + 1) }
     ensures err { IfErr result (λ fault. fault ≡ Memory) }

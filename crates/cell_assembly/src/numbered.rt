@@ -8,14 +8,14 @@ use crate::number::number_of;
 use crate::pers_info::PersInfo;
 use crate::persistents::Persistents;
 
-/// The persistents of the cell so far, and the numbers of those of the tree at hand.
+/// The persistents of the cell so far, and the numbers of those of the current tree.
 #[derive(Drop)]
 pub(crate) struct Numbered {
     pub(crate) pers: Persistents,
     pub(crate) numbers: Vec<u32>,
 }
 
-/// One more persistent, the tree's own. Its error is want of memory.
+/// One more persistent, the tree's own. Fails only if an allocation fails.
 pub(crate) fn added(before: Numbered, info: PersInfo) -> Result<Numbered, CellFault>
     ensures { Gives view_numbered result (Ok (Cells.added (view_numbered before) (view_info info))) }
 {

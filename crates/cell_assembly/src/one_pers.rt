@@ -1,4 +1,4 @@
-//! Declarations of persistents: which of them are one.
+//! Declarations of persistents: which of them are the same.
 
 ghost use Rattle.std.specs.Prelude.{◌≡◌, ◌&&◌, None, Ok, map, option_map, replicate, slice_get, OnOk, IfErr};
 ghost use Rattle.named_data.specs.Wants.{same_sort};
@@ -27,7 +27,7 @@ fn same_len(a: Option<u16>, b: Option<u16>) -> bool
     }
 }
 
-/// Equal values.
+/// A copy of the values.
 pub(crate) fn copy_values(alloc: Global, values: &[Value]) -> Result<Vec<Value>, CellFault>
     ensures { Gives (λ copy. copy.items) result (Ok values.now) }
 {
@@ -38,7 +38,7 @@ pub(crate) fn copy_values(alloc: Global, values: &[Value]) -> Result<Vec<Value>,
     Ok(copy)
 }
 
-/// Equal values, where there are any.
+/// A copy of the values, if there are any.
 fn copy_first(alloc: Global, first: &Option<Vec<Value>>) -> Result<Option<Vec<Value>>, CellFault>
     ensures { Gives view_values result (Ok (view_values first.now)) }
 {
@@ -48,7 +48,7 @@ fn copy_first(alloc: Global, first: &Option<Vec<Value>>) -> Result<Option<Vec<Va
     }
 }
 
-/// So many elements to which the script gives nothing.
+/// That many elements to which the script gives nothing.
 fn nothing_given(alloc: Global, width: usize) -> Result<Vec<Option<Value>>, CellFault>
     ensures { Gives (λ given. given.items) result (Ok (replicate width None)) }
 {
@@ -59,7 +59,7 @@ fn nothing_given(alloc: Global, width: usize) -> Result<Vec<Option<Value>>, Cell
     Ok(given)
 }
 
-/// The persistent of a declaration, of this task unless it is global. Its error is want of memory.
+/// The persistent of a declaration; it belongs to this task unless it is global. Fails only if an allocation fails.
 fn new_pers(alloc: Global, owner: Option<u32>, row: &PersRow) -> Result<PersInfo, CellFault>
     ensures { Gives view_info result (Ok (Cells.new_pers owner (view_pers row.now))) }
 {
@@ -73,7 +73,7 @@ fn new_pers(alloc: Global, owner: Option<u32>, row: &PersRow) -> Result<PersInfo
     })
 }
 
-/// Gives the values of one more declaration, where none before it gave any.
+/// Takes the values of one more declaration, if none before gave any.
 fn with_declared(alloc: Global, info: &mut PersInfo, row: &PersRow) -> Result<(), CellFault>
     ensures ok { OnOk result (view_info info.new ≡ Cells.with_declared (view_info info.old) (view_pers row.now)) }
     ensures err { IfErr result (λ fault. fault ≡ Memory) }
@@ -91,7 +91,7 @@ fn is_alike(info: &PersInfo, row: &PersRow) -> bool
     same_sort(info.sort, row.sort) && same_len(info.len, row.len)
 }
 
-/// One more declaration of the global persistent of this number, which has its type and its length.
+/// One more declaration of the global persistent with this number, with its type and length.
 fn join(
     alloc: Global,
     before: Numbered,
@@ -123,7 +123,7 @@ fn join(
     Ok(Numbered { pers, numbers })
 }
 
-/// A declaration of a global persistent, that of this number where there is one.
+/// A declaration of a global persistent, which has this number if it is known.
 fn global_pers(
     alloc: Global,
     before: Numbered,

@@ -1,4 +1,4 @@
-//! What trees are told of the cell's numbers.
+//! The cell's numbers in the trees.
 
 ghost use Rattle.std.specs.Prelude.{◌≡◌, length, map};
 ghost use Rattle.typed_trees.specs.Views.{view_tree};
@@ -15,7 +15,7 @@ fn number(tree: &mut Tree, pers_of: Vec<u32>, meeting_of: Vec<u32>)
     tree.meeting_of = meeting_of;
 }
 
-/// Gives each tree the cell's numbers of its own persistents and meetings. Takes no memory.
+/// Gives each tree the cell's numbers of its own persistents and meetings. Allocates nothing.
 pub(crate) fn number_trees(trees: &mut [Tree], pers_of: Vec<Vec<u32>>, meeting_of: Vec<Vec<u32>>)
     requires pers { length pers_of.items ≡ length trees.old }
     requires meetings { length meeting_of.items ≡ length trees.old }

@@ -12,7 +12,7 @@ use rapid_num::Num;
 use rapid_values::start_value;
 use std::alloc::Global;
 
-/// What an element begins with. Each persistent's type has values.
+/// The initial value of an element. Each persistent's type has values.
 fn start_of(sort: Sort) -> Value
     ensures { result ≡ Made.start_of sort }
 {
@@ -22,7 +22,7 @@ fn start_of(sort: Sort) -> Value
     }
 }
 
-/// What so many elements begin with.
+/// The initial values of that many elements.
 fn start_values(alloc: Global, sort: Sort, width: usize) -> Result<Vec<Value>, CellFault>
     ensures { Gives (λ values. values.items) result (Ok (replicate width (Made.start_of sort))) }
 {
@@ -33,7 +33,7 @@ fn start_values(alloc: Global, sort: Sort, width: usize) -> Result<Vec<Value>, C
     Ok(values)
 }
 
-/// What a declaration gives the elements, else what they begin with.
+/// What a declaration gives the elements, otherwise their initial values.
 fn declared_values(alloc: Global, info: &PersInfo) -> Result<Vec<Value>, CellFault>
     ensures { Gives (λ values. values.items) result (Ok (Made.declared_values (view_info info.now))) }
 {
@@ -43,7 +43,7 @@ fn declared_values(alloc: Global, info: &PersInfo) -> Result<Vec<Value>, CellFau
     }
 }
 
-/// What the script gives an element, else this value.
+/// What the script gives an element, otherwise this value.
 fn given_or(given: &Option<Value>, value: &Value) -> Value
     ensures { result ≡ unwrap_or given.now value.now }
 {
@@ -53,7 +53,7 @@ fn given_or(given: &Option<Value>, value: &Value) -> Value
     }
 }
 
-/// What the script gives the elements, over these values.
+/// What the script gives the elements, in place of these values.
 fn over(alloc: Global, given: &[Option<Value>], values: &[Value]) -> Result<Vec<Value>, CellFault>
     ensures { Gives (λ first. first.items) result (Ok (Made.over given.now values.now)) }
 {
@@ -64,7 +64,7 @@ fn over(alloc: Global, given: &[Option<Value>], values: &[Value]) -> Result<Vec<
     Ok(first)
 }
 
-/// A persistent with its first values. Its error is want of memory.
+/// A persistent with its first values. Fails only if an allocation fails.
 fn pers_cell(alloc: Global, info: &PersInfo) -> Result<PersCell, CellFault>
     ensures { Gives (λ cell. cell) result (Ok (Made.pers_cell (view_info info.now))) }
 {
@@ -79,7 +79,7 @@ fn pers_cell(alloc: Global, info: &PersInfo) -> Result<PersCell, CellFault>
     })
 }
 
-/// Persistents with their first values. Its error is want of memory.
+/// Persistents with their first values. Fails only if an allocation fails.
 pub(crate) fn pers_cells(alloc: Global, pers: &[PersInfo]) -> Result<Vec<PersCell>, CellFault>
     ensures { Gives (λ cells. cells.items) result (Ok (map Made.pers_cell (map view_info pers.now))) }
 {

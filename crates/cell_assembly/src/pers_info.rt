@@ -1,7 +1,7 @@
 use rapid_model::{NameText, Sort, Value};
 
-/// A persistent of the cell: its name as it is first spelled, the task that it belongs to unless it is global, its type, its
-/// length where it is an array, the values that a declaration gives, if any does, and those that the script gives to its elements.
+/// A persistent of the cell: its name as first spelled, its task unless it is global, its type, its length if it is an
+/// array, the values that a declaration gives, if any, and those that the script gives to its elements.
 #[derive(Debug, Drop)]
 pub struct PersInfo {
     pub name: NameText,

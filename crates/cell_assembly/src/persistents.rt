@@ -12,7 +12,8 @@ use rapid_model::NameText;
 use std::alloc::Global;
 use std::marker::Model;
 
-/// The persistents of the cell so far, and a table of the global ones' names. Contracts see it as the list of the persistents.
+/// The persistents of the cell so far, and a table of the global ones by name. Contracts see the list of the
+/// persistents.
 #[derive(Drop)]
 pub(crate) struct Persistents {
     pub(crate) infos: Vec<PersInfo>,
@@ -29,11 +30,11 @@ impl Model for Persistents {
 
     ghost view = { λ p. map view_info p.infos.items };
 
-    // The table finds the first global persistent of each name.
+    // The table finds the first global persistent with each name.
     ghost invariant = { λ p. Finds p.globals (λ name. Cells.global_number name (map view_info p.infos.items)) };
 }
 
-/// Enters a persistent of this number where it is global and the first of its name. Its error is want of memory.
+/// Enters a persistent with this number if it is global and the first of its name. Fails only if an allocation fails.
 fn enter_global(table: &mut NameTable<u32>, info: &PersInfo, number: u32) -> Result<(), CellFault>
     ensures ok { OnOk result (Enters table.old table.new (λ name. Cells.is_global name (view_info info.now)) number) }
     ensures err { IfErr result (λ fault. fault ≡ Memory) }
@@ -63,14 +64,14 @@ impl Persistents {
         self.infos.len()
     }
 
-    /// The number of the first global persistent of this name.
+    /// The number of the first global persistent with this name.
     pub(crate) fn global_number(&self, name: &NameText) -> Option<u32>
         ensures { result ≡ Cells.global_number name.now self.now }
     {
         self.globals.find(name.bytes())
     }
 
-    /// One more persistent. Its error is want of memory.
+    /// Adds a persistent. Fails only if an allocation fails.
     pub(crate) fn with_info(self, info: PersInfo) -> Result<Persistents, CellFault>
         ensures { Gives (λ pers. pers) result (Ok (self ++ view_info info ∷ [])) }
     {
@@ -83,7 +84,7 @@ impl Persistents {
         Ok(Persistents { infos, globals })
     }
 
-    /// The persistents in order.
+    /// The persistents, in order.
     pub(crate) fn into_infos(self) -> Vec<PersInfo>
         ensures { map view_info result.items ≡ self }
     {

@@ -1,4 +1,4 @@
-//! Rows of a script, in its cell. The only error is want of memory.
+//! Copies of a script's rows for its cell. They fail only if an allocation fails.
 
 ghost use Rattle.std.specs.Prelude.{◌≡◌, Ok, map};
 ghost use Rattle.rapid_model.specs.ScriptData.{row_of};
@@ -28,7 +28,7 @@ pub(crate) fn task_rows(alloc: Global, tasks: &[ScriptTask]) -> Result<Vec<TaskR
     Ok(rows)
 }
 
-/// An equal signal.
+/// A copy of a signal.
 fn copy_signal(signal: &SignalRow) -> SignalRow
     ensures { result ≡ signal.now }
 {
@@ -39,7 +39,7 @@ fn copy_signal(signal: &SignalRow) -> SignalRow
     }
 }
 
-/// Equal signals.
+/// A copy of the signals.
 pub(crate) fn copy_signals(
     alloc: Global,
     signals: &[SignalRow],
@@ -53,7 +53,7 @@ pub(crate) fn copy_signals(
     Ok(copy)
 }
 
-/// An equal zone.
+/// A copy of a zone.
 fn copy_zone(zone: &ZoneRow) -> ZoneRow
     ensures { result ≡ zone.now }
 {
@@ -66,7 +66,7 @@ fn copy_zone(zone: &ZoneRow) -> ZoneRow
     }
 }
 
-/// Equal zones.
+/// A copy of the zones.
 pub(crate) fn copy_zones(alloc: Global, zones: &[ZoneRow]) -> Result<Vec<ZoneRow>, CellFault>
     ensures { Gives (λ copy. copy.items) result (Ok zones.now) }
 {

@@ -15,7 +15,7 @@ use crate::persistents::Persistents;
 use std::alloc::Global;
 use typed_trees::Tree;
 
-/// The numbers of one more tree's persistents. Its error is want of memory.
+/// The numbers of one more tree's persistents. Fails only if an allocation fails.
 fn with_list(lists: Vec<Vec<u32>>, tree: Numbered) -> Result<PersTables, CellFault>
     ensures { Gives view_pers_tables result (Ok (Cells.with_list (record { pers = []; lists = view_lists lists }) (view_numbered tree))) }
 {
@@ -25,7 +25,7 @@ fn with_list(lists: Vec<Vec<u32>>, tree: Numbered) -> Result<PersTables, CellFau
     Ok(PersTables { pers, lists })
 }
 
-/// The persistents of the trees, one a task.
+/// The persistents of the trees, one per task.
 pub(crate) fn trees_pers(alloc: Global, trees: &[Tree]) -> Result<PersTables, CellFault>
     ensures { Gives view_pers_tables result (Cells.trees_pers (record { pers = []; lists = [] }) 0 (map view_tree trees.now)) }
 {

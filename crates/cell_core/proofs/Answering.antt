@@ -26,7 +26,7 @@ use Rattle.cell_core.specs.Boards.{BoardData}
 use Rattle.cell_core.specs.Keeping.{Keeps}
 use Rattle.cell_core.specs.Answering.{made_by_others, answer_on, IsMoveAnswerOn, IsAnswerOn}
 
--- the changes that an actor did not make are others'
+-- the changes that an actor did not make were made by others
 pub others_made : (cell : CellData) (history : List Event) (boards : BoardData) (steps actor : ℕ) → Keeps cell history boards steps → actor ≤ length cell.tasks
     → made_by_others boards actor ≡ changes_by_others cell history actor
 others_made cell history boards steps actor keeps within = omega (arith, (keeps.actors actor within).made)

@@ -1,7 +1,9 @@
 -- What a core keeps before the first event.
-use Rattle.std.proofs.Common.{◌≡◌, ℕ, zero, suc, ◌+◌, ◌≤◌, cond, List, [], ◌∷◌, length, map, Option, Some, None, refl, sym, ◌∙◌, ap, subst, arith, length-append}
+use Rattle.std.proofs.Common.{◌≡◌, ℕ, zero, suc, ◌+◌, ◌≤◌, Bool, cond, List, [], ◌∷◌, length, map, replicate, Option, Some, None, Result, Ok, Err, refl, sym, ◌∙◌, ap, subst, arith, length-append}
 use Rattle.std.specs.Prelude.{is_some, slice_get}
 use Rattle.std.specs.Option.{option_and_then}
+use Rattle.std.specs.Result.{IfOk, OkIff, result_ok}
+use Rattle.std.proofs.lemmas.Option.{none-some, same_Some}
 use Rattle.std.proofs.lemmas.List.{length-map}
 use Rattle.std.proofs.lemmas.List.Sums.{sum_by-cons}
 use Rattle.rapid_num.specs.declared.joints.Joints.{Joints}
@@ -11,6 +13,9 @@ use Rattle.rapid_model.specs.declared.sort.Sort.{Sort}
 use Rattle.rapid_model.specs.declared.task_row.TaskRow.{TaskRow}
 use Rattle.rapid_model.specs.declared.value.Value.{Value}
 use Rattle.persist_store.specs.Stores.{PersData, first_row}
+use Rattle.sync_tasks.specs.Meetings.{MeetingsData, before_all as no_stands}
+use Rattle.trap_dispatch.specs.Tasks.{TaskData, before_all as no_interrupts}
+use Rattle.world_zones.specs.Zones.{ZonesData, before_all as no_own_zones}
 use Rattle.cell_meaning.specs.Premises.{StartsFull}
 use Rattle.rapid_model.proofs.Cuts.{cut_none}
 use Rattle.cell_core.specs.Actors.{before, actor_at}
@@ -18,6 +23,22 @@ use Rattle.cell_core.specs.Boards.{BoardData, actors_of, boards_of}
 use Rattle.cell_core.specs.Keeping.{Tells, Keeps, fates_count}
 use Rattle.cell_core.specs.Soundness.{IsServed}
 use Rattle.cell_core.specs.declared.actor.Actor.{Actor}
+
+-- what a call that succeeded gave
+pub gave : {T E : Type 0} (r : Result T E) (x : T) (P : T → Type 0) → Some x ≡ result_ok r → IfOk r P → P x
+gave (Ok y) x P is so = subst P (sym (same_Some x y is)) so
+gave (Err e) x P is so = absurd (none-some x (sym is))
+
+pub converted : {T E : Type 0} (r : Result T E) (x v : T) (P : Type 0) → Some x ≡ result_ok r → OkIff r P v → x ≡ v
+converted (Ok y) x v P is so = same_Some x y is ∙ so.1
+converted (Err e) x v P is so = absurd (none-some x (sym is))
+
+-- boards that begin as a cell does are those before the first event
+pub begun : (cell : CellData) (store : List PersData) (signals : List Bool) (meetings : MeetingsData) (traps : List TaskData) (zones : ZonesData) (actors : List Actor)
+    → store ≡ map first_row cell.pers → signals ≡ map (λ row. row.start) cell.signals → meetings ≡ no_stands (length cell.tasks) (length cell.meetings)
+    → traps ≡ replicate (length cell.tasks) no_interrupts → zones ≡ no_own_zones cell → actors ≡ actors_of cell.tasks
+    → ◌≡◌ {A = BoardData} (record { store = store; signals = signals; meetings = meetings; traps = traps; zones = zones; actors = actors; counted = 0; changes = 0 }) (boards_of cell)
+begun cell store signals meetings traps zones actors s g m t z a = rw (s, g, m, t, z, a) refl
 
 -- where an arm is at the start, if the task has one
 abbrev start_of : List TaskRow → ℕ → Option Joints

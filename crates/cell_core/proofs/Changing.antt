@@ -1,4 +1,4 @@
--- What an event changes, read off the boards, is what it changes of the cell.
+-- What an event changes according to the boards is what it changes of the cell.
 use Rattle.std.proofs.Common.{◌≡◌, ℕ, ◌<◌, Bool, true, false, List, [], ◌∷◌, length, get_or, Option, None, Some, refl, sym, ◌∙◌, ap, arith}
 use Rattle.std.specs.Prelude.{◌||◌, nat_lt, not, slice_get, if◌then◌else◌}
 use Rattle.std.specs.Cmp.Lexicographic.{pointwise}
@@ -18,7 +18,7 @@ use Rattle.rapid_model.specs.declared.value.Value.{Value}
 use Rattle.rapid_model.specs.declared.value.Value.TheVariants as values
 use Rattle.rapid_model.specs.declared.watched.Watched.{Watched}
 use Rattle.rapid_model.specs.declared.watched.Watched.TheVariants as watched
-use Rattle.rapid_operators.specs.Equality.{same}
+use Rattle.rapid_values.specs.Equality.{same}
 use Rattle.persist_store.specs.Stores.{PersData, row_at}
 use Rattle.sync_tasks.specs.Meetings.{MeetingsData, stand_at}
 use Rattle.cell_meaning.specs.Changes.{changes_of, arrives_anew, is_change}
@@ -82,7 +82,7 @@ change_watched cell history boards steps actor (requests.Arrive meeting tasks) a
 change_watched cell history boards steps actor request answer keeps can =
     sym (changes_of-none cell history (record { actor = actor; request = request; answer = answer }) refl)
 
--- it is a change where it changes a value, or is an arrival of a task that was not waiting
+-- it is a change if it changes a value, or is an arrival of a task that was not waiting
 abbrev is_arrival : Request → Bool
 is_arrival (requests.Arrive meeting tasks) = true
 is_arrival _ = false

@@ -1,5 +1,5 @@
--- The boards on worked examples, in the cell of cell_meaning's: two tasks, A and B, whose arms are at 0, an input that is off, an
--- output that is on, two nums that are kept, a meeting, and an input script of one step.
+-- The boards on worked examples, in the example cell of cell_meaning: two tasks, A and B, whose arms are at 0, an input
+-- that is off, an output that is on, two persistent nums, a meeting, and an input script of one step.
 use Rattle.std.proofs.Common.{◌≡◌, true, false, List, [], ◌∷◌, ◌++◌, Some, None, refl}
 use Rattle.std.specs.Prelude.{pos}
 use Rattle.std.specs.List.{fold}
@@ -34,7 +34,7 @@ first_look = refl
 first_position : answer_on (after []) 0 requests.Position ≡ answers.At (joints_at (pos 0))
 first_position = refl
 
--- a setpoint that was given takes its own task's arm there; one that a zone stopped takes none
+-- a setpoint that was given moves its own task's arm; one that a zone stopped moves none
 arm_moves : answer_on (after (went ∷ [])) 0 requests.Position ≡ answers.At (joints_at (pos 1000))
 arm_moves = refl
 
@@ -44,14 +44,14 @@ other_arm_stays = refl
 stopped_stays : answer_on (after (event 0 (requests.Setpoint (joints_at (pos 1000))) (answers.Stopped (zones.Cell 0)) ∷ [])) 0 requests.Position ≡ answers.At (joints_at (pos 0))
 stopped_stays = refl
 
--- what was written is read, by any task
+-- any task reads what was written
 output_cleared : answer_on (after (cleared ∷ [])) 0 (requests.ReadS 1) ≡ answers.Bit false
 output_cleared = refl
 
 element_written : answer_on (after (written ∷ [])) 0 (requests.ReadP 0 second) ≡ answers.Val (values.Num (pos 3000))
 element_written = refl
 
--- another value is a change; the same value, or a setpoint, is none
+-- a new value is a change; the same value, or a setpoint, is none
 cleared_changes : change [] cleared ≡ changes.Value (watched.Signal 1 false)
 cleared_changes = refl
 
@@ -93,7 +93,7 @@ arrival_changes = refl
 counts_once : change (arrived ∷ []) arrived ≡ changes.Nothing
 counts_once = refl
 
--- task A orders that the output is watched for one clearing
+-- task A orders a single interrupt on the output going off
 abbrev watches : List Event
 watches = event 0 (requests.Connect 0 7) (answers.Number 1) ∷ event 0 (requests.Order 1 (watched.Signal 1 false) true) answers.Ok ∷ []
 
@@ -106,7 +106,7 @@ not_of_b = refl
 equal_write : answer_on (after (watches ++ event 1 (requests.WriteS 1 true) answers.Ok ∷ [])) 0 requests.Look ≡ answers.Go 0
 equal_write = refl
 
--- a held task goes on after a change by another that it had not seen, or with a trap that is due
+-- a held task goes on after a change by another that it had not seen, or if a trap is due
 abbrev held : Event
 held = event 0 (requests.Hold 0) answers.Ok
 
@@ -125,7 +125,7 @@ seen_before = refl
 own_trap : can_go_on (after (watches ++ event 0 (requests.WriteS 1 false) answers.Ok ∷ held ∷ [])) 0 ≡ true
 own_trap = refl
 
--- this step waits for the output to be off, for a setpoint of task A, and for two counted events
+-- this step waits until the output is off, task A was given a setpoint, and two events are counted
 abbrev gated : InputRow
 gated = record { signal = 0; value = true; when = Some (1, false); given = Some (0, 1); after = Some 2 }
 
@@ -141,7 +141,7 @@ one_counted = refl
 passes : is_passed (after (cleared ∷ went ∷ [])) gated ≡ true
 passes = refl
 
--- a task that answer_on its fate stands so; another is cut where the steps are spent, and else held
+-- a task that has ended stands with its fate; another is cut if the steps are spent, and otherwise held
 told_stands : standing true (Some fates.Done) ≡ fates.Done
 told_stands = refl
 

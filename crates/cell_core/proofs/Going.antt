@@ -14,7 +14,7 @@ use Rattle.cell_meaning.proofs.Lists.{from_front}
 use Rattle.cell_meaning.proofs.MoreEvents.{end_of-more, part_of-other, part_of-own}
 use Rattle.cell_core.specs.Soundness.{IsSound}
 
--- a Hold tells no fate
+-- a Hold has no fate
 hold_tells_none : (request : Request) → is_hold request ≡ true → fate_of request ≡ None
 hold_tells_none (requests.Hold seen) hold = refl
 hold_tells_none _ hold = absurd (false≢true hold)

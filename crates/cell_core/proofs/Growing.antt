@@ -37,8 +37,9 @@ use Rattle.cell_meaning.specs.Zones.{zones_with}
 use Rattle.cell_meaning.proofs.Asked.{TaskMay, ScriptMay, who_may}
 use Rattle.rapid_model.proofs.Cuts.{cut_more}
 use Rattle.rapid_model.proofs.OwnEvents.{is_held-more}
+use Rattle.rapid_model.specs.Truths.{one_if}
 use Rattle.cell_meaning.proofs.MoreEvents.{part_of-own, part_of-other, end_of-more, arm_after-own, arm_after-other, count_more, counted-more, setpoints_given-own, setpoints_given-other, seen_after-own, seen_after-other, signals_after-more, persistents_after-more, stands_after-more, zones_after-more, interrupts_after-more, changes_by_others-more}
-use Rattle.cell_core.specs.Actors.{one_if, actor_with, actor_at, before}
+use Rattle.cell_core.specs.Actors.{actor_with, actor_at, before}
 use Rattle.cell_core.specs.Boards.{BoardData, elements_of, put_in, store_with, change_on, boards_with}
 use Rattle.cell_core.specs.Changes.{watched_of, is_some_change}
 use Rattle.cell_core.specs.Keeping.{Tells, Keeps, fates_count}
@@ -51,7 +52,7 @@ use Rattle.cell_core.proofs.Parts.{elements_row}
 IsSound-more : (cell : CellData) (history : List Event) (e : Event) → IsSound cell history → IsServed cell history e → IsSound cell (history ++ e ∷ [])
 IsSound-more cell history e sound now = record { at = cut_more (λ before f. IsServed cell before f) history e sound.at now }
 
--- what the event tells of its own actor
+-- what the event says of its own actor
 own_none : (k : ℕ) (x : Bool) → one_if (not (k == k) && x) ≡ 0
 own_none k x = ap (λ (b : Bool). one_if (not b && x)) (eq-eqb k k refl)
 
@@ -149,7 +150,7 @@ pub no_fate : (told : Option Fate) → is_some told ≡ false → told ≡ None
 no_fate None h = refl
 no_fate (Some fate) h = cc
 
--- how many ends are told, and how many steps the input script did
+-- how many ends there are, and how many steps the input script did
 pub record Counts (actors after : List Actor) (script : ℕ) (request : Request) (inputs : ℕ) : Type 0 where
   pub script_on : (actor_at after script).end ≡ None
   pub inputs_within : (actor_at after script).events ≤ inputs
@@ -251,7 +252,7 @@ Keeps-more cell history boards steps e keeps now can =
     actor_within (inl task) = omega (arith, task.within)
     actor_within (inr script) = omega (arith, script.script)
 
--- no more than one event for each step of the run, each task and each step of the input script, which tells no fate
+-- at most one event for each step of the run, each task and each step of the input script, which has no fate
 few_ends : (actors : List Actor) (tasks : ℕ) → length actors ≡ tasks + 1 → (actor_at actors tasks).end ≡ None → fates_count actors ≤ tasks
 few_ends actors tasks count on =
     let told : Actor = record (before None) { end = Some fates.Done } in
@@ -262,7 +263,7 @@ pub few_events : (cell : CellData) (history : List Event) (boards : BoardData) (
 few_events cell history boards steps keeps =
     omega (arith, keeps.events, keeps.within, keeps.steps_same, keeps.inputs_within, few_ends boards.actors (length cell.tasks) keeps.actor_count keeps.script_on)
 
--- there is room for one more event, whatever its answer is
+-- there is room for one more event, whatever its answer
 pub room_for_event : (cell : CellData) (history : List Event) (boards : BoardData) (steps actor : ℕ) (request : Request) → Keeps cell history boards steps
     → IsTrue (may_ask cell actor (part_of actor history) request) → IsTrue (can_be_served cell history request) → length history < cell.steps + length cell.tasks + length cell.inputs
 room_for_event cell history boards steps actor request keeps may left =

@@ -1,4 +1,4 @@
--- What the boards tell of one more task, what a request leaves of them, and what an event made of them is.
+-- What the boards say of one more task, what a request leaves of them, and what an event makes of them.
 use Rattle.std.proofs.Common.{◌≡◌, ℕ, suc, ◌+◌, ◌<◌, ◌≤◌, Bool, List, [], ◌∷◌, ◌++◌, length, refl, sym, ap, subst, arith, length-set}
 use Rattle.std.specs.Prelude.{IsTrue, ◌&&◌, ◌||◌, not, is_some}
 use Rattle.std.specs.List.{All}
@@ -9,6 +9,7 @@ use Rattle.rapid_model.specs.declared.answer.Answer.TheVariants as answers
 use Rattle.rapid_model.specs.declared.event.Event.{Event}
 use Rattle.rapid_model.specs.declared.request.Request.{Request}
 use Rattle.rapid_model.specs.declared.request.Request.TheVariants as requests
+use Rattle.rapid_model.proofs.Lists.{filter_short}
 use Rattle.trap_dispatch.specs.Tasks.{TaskData, before_all, in_first_trap}
 use Rattle.trap_dispatch.specs.Traps.{task_at}
 use Rattle.cell_meaning.specs.Answers.{is_enabled}
@@ -27,7 +28,7 @@ use Rattle.cell_core.specs.Soundness.{IsServed}
 use Rattle.cell_core.specs.Answering.{IsAnswerOn}
 use Rattle.cell_core.specs.declared.actor.Actor.{Actor}
 use Rattle.cell_core.proofs.Answering.{answer_is}
-use Rattle.cell_core.proofs.Ready.{all_answered, actor_there, filter_short}
+use Rattle.cell_core.proofs.Ready.{all_answered, actor_there}
 
 next : (n : ℕ) → n + 1 ≡ suc n
 next n = omega arith

@@ -20,7 +20,7 @@ use Rattle.cell_core.specs.Reading.{is_passed}
 use Rattle.cell_core.specs.Ready.{CanPass}
 use Rattle.cell_core.proofs.Reading.{gate_is}
 
--- none but a task rises
+-- only a task rises
 pub rises : (cell : CellData) (actor : ℕ) (mine : List Event) (request : Request) → request ≡ requests.Rise → IsTrue (may_ask cell actor mine request) → actor < length cell.tasks
 rises cell actor mine request is may = by (who_may cell actor mine request may)
   where
@@ -28,7 +28,7 @@ rises cell actor mine request is may = by (who_may cell actor mine request may)
     by (inl task) = task.within
     by (inr script) = (let no : requests.Rise ≡ requests.Input (length mine) = sym is ∙ script.next in cc)
 
--- none but the input script does a step of it, the next one
+-- only the input script does a step of it, and only the next one
 next_step : (cell : CellData) (history : List Event) (actor index : ℕ) → IsTrue (may_ask cell actor (part_of actor history) (requests.Input index)) → index ≡ inputs_done cell history
 next_step cell history actor index may = by (who_may cell actor (part_of actor history) (requests.Input index) may)
   where
@@ -44,7 +44,7 @@ input_enabled cell history actor request index is may =
     let next = next_step cell history actor index (subst (λ (r : Request). IsTrue (may_ask cell actor (part_of actor history) r)) is may) in
     ap (λ (k : ℕ). is_open cell history k) (sym next) ∙ sym (ap (λ (r : Request). is_enabled cell history actor r) is)
 
--- the next step is open where its gate lets it pass, a task has not ended, and steps are left
+-- the next step is open if its gate holds, a task has not ended, and steps are left
 pub open_is : (cell : CellData) (history : List Event) (boards : BoardData) (steps : ℕ) (row : InputRow) → Keeps cell history boards steps → slice_get cell.inputs (inputs_done cell history) ≡ Some row → CanPass boards row
     → (is_passed boards row && not (all_ended (length cell.tasks) history) && nat_lt boards.counted steps) ≡ is_open cell history (inputs_done cell history)
 open_is cell history boards steps row keeps at can =
@@ -56,7 +56,7 @@ open_is cell history boards steps row keeps at can =
     ∙ sym (ap (λ (o : Option InputRow). is_gate_open cell history o && not over && nat_lt (counted history) cell.steps) at)
     ∙ sym (ap (λ (b : Bool). b && is_gate_open cell history (slice_get cell.inputs done) && not over && nat_lt (counted history) cell.steps) (eq-eqb done done refl))
 
--- after the last step none is open
+-- after the last step, none is open
 pub closed_is : (cell : CellData) (history : List Event) → slice_get cell.inputs (inputs_done cell history) ≡ None → false ≡ is_open cell history (inputs_done cell history)
 closed_is cell history at =
     let done = inputs_done cell history in

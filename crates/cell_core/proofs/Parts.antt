@@ -9,7 +9,7 @@ use Rattle.rapid_model.specs.declared.path.Path.{Path}
 use Rattle.rapid_model.specs.declared.pers_cell.PersCell.{PersCell}
 use Rattle.rapid_model.specs.declared.value.Value.{Value}
 use Rattle.rapid_model.specs.declared.value.Value.TheVariants as values
-use Rattle.rapid_operators.specs.Equality.{same}
+use Rattle.rapid_values.specs.Equality.{same}
 use Rattle.rapid_values.specs.Values.{part_of}
 use Rattle.persist_store.specs.Stores.{PersData, IsPut, IsStored, element_of, row_at}
 use Rattle.persist_store.proofs.Elements.{within_width}
@@ -43,7 +43,7 @@ put_elements old new path value within put =
     ∙ ap (λ (o : Option Value). set old.values (path.index - 1) (unwrap_or o (element_of old path.index))) put.part in
     ap (λ (row : PersData). row.values) put.others ∙ sym made
 
--- a store in which a value was stored
+-- a store to which a value was written
 pub part_stored : (old new : List PersData) (pers : ℕ) (path : Path) (value : Value) → HasPart old pers path → IsStored old new pers path value → new ≡ put_in old pers path value
 part_stored old new pers path value has stored =
     let was = row_at old pers in
@@ -54,7 +54,7 @@ part_stored old new pers path value has stored =
     let row : now ≡ record was { values = with_part was.values path value } = shape ∙ ap (λ (vs : List Value). record was { values = vs }) made in
     stored.others ∙ ap (λ (r : PersData). set old pers r) row
 
--- the elements stay as they were just where the part does
+-- the elements stay as they were exactly if the part does
 pub part_stays : (rows : List PersData) (pers : ℕ) (path : Path) (old new : Value) → HasPart rows pers path → IsTrue (fits_part (row_at rows pers).sort path.part new)
     → value_at (elements_at rows pers) path ≡ Some old → same old new ≡ stays_same (row_at rows pers) path new
 part_stays rows pers path old new has fits at =

@@ -1,4 +1,4 @@
--- What is read off the boards in place of the history.
+-- What is read off the boards instead of the history.
 use Rattle.std.proofs.Common.{◌≡◌, ℕ, zero, suc, ◌<◌, ◌≤◌, Bool, false, List, [], ◌∷◌, ◌++◌, length, Option, None, Some, refl, ◌∙◌, ap, arith}
 use Rattle.std.specs.Prelude.{not, ◌&&◌, ◌||◌, nat_le, nat_lt, is_some, IfSome, slice_index_or}
 use Rattle.rapid_model.specs.CellData.{CellData}
@@ -53,7 +53,7 @@ all_rest_is cell history boards steps (suc tasks) keeps within =
     ∙ ap (λ (b : Bool). all_rest cell tasks history && (has_ended (part_of tasks history) || (b && not (can_go_on boards tasks)))) (keeps.actors tasks (omega arith)).held
     ∙ ap (λ (b : Bool). all_rest cell tasks history && (has_ended (part_of tasks history) || (is_held (part_of tasks history) && not b))) (can_rise_is cell history boards steps tasks keeps (omega arith))
 
--- the parts of a gate
+-- the conditions of a gate
 given_is : (cell : CellData) (history : List Event) (boards : BoardData) (steps : ℕ) (given : Option (ℕ × ℕ)) → Keeps cell history boards steps → IfSome given (λ g. g.0 < length boards.actors)
     → holds_where_there (λ g. nat_le g.1 (actor_at boards.actors g.0).given) given ≡ holds_where_there (λ g. nat_le g.1 (setpoints_given history g.0)) given
 given_is cell history boards steps None keeps there = refl
@@ -69,7 +69,7 @@ gate_is cell history boards steps row keeps can =
     ∙ ap (λ (b : Bool). when_on (signals_after cell history) && b && holds_where_there (λ (count : ℕ). nat_le count boards.counted) row.after) (given_is cell history boards steps row.given keeps can.given)
     ∙ ap (λ (n : ℕ). when_on (signals_after cell history) && given_now && holds_where_there (λ (count : ℕ). nat_le count n) row.after) keeps.counted_same
 
--- a task stands as the fate that its end and the spent steps make
+-- a task stands with the fate that its end and the spent steps give it
 pub fate_is : (cell : CellData) (history : List Event) (boards : BoardData) (steps task : ℕ) → Keeps cell history boards steps → task ≤ length cell.tasks
     → standing (is_spent cell history) (actor_at boards.actors task).end ≡ fate_after cell history task
 fate_is cell history boards steps task keeps within = ap (λ (end : Option Fate). standing (is_spent cell history) end) (keeps.actors task within).end

@@ -1,4 +1,4 @@
--- The boards have what a request needs that an actor may ask.
+-- The boards have what a request needs if an actor may ask it.
 use Rattle.std.proofs.Common.{◌≡◌, ◌⊎◌, inl, inr, ℕ, zero, suc, ◌+◌, ◌*◌, ◌<◌, ◌≤◌, ◌^◌, Bool, true, false, cond, List, [], ◌∷◌, ◌++◌, length, map, get_or, Option, None, Some, refl, sym, ◌∙◌, ap, subst, arith, length-append, length-set}
 use Rattle.std.specs.Prelude.{IsTrue, IfSome, not, ◌&&◌, ◌==◌, nat_lt, nat_le, is_some, slice_get, count_by, replicate}
 use Rattle.std.specs.List.{All, filter, list_all}
@@ -27,6 +27,7 @@ use Rattle.rapid_model.specs.declared.sort.Sort.TheVariants as sorts
 use Rattle.rapid_model.specs.declared.task_row.TaskRow.{TaskRow}
 use Rattle.rapid_model.specs.declared.value.Value.{Value}
 use Rattle.rapid_model.specs.declared.zone_row.ZoneRow.{ZoneRow}
+use Rattle.rapid_model.proofs.Lists.{filter_short}
 use Rattle.persist_store.specs.Stores.{PersData, IsKept, no_row, row_at}
 use Rattle.persist_store.proofs.Elements.{holds_at}
 use Rattle.sync_tasks.specs.declared.stand.Stand.{Stand}
@@ -74,7 +75,7 @@ zones_stand cell history =
     from_front (λ h. ZonesStand cell (zones_after cell h)) history (record { arms = length-replicate (length cell.tasks) no_zones; same = refl })
     (λ before after e is stand. subst (ZonesStand cell) (sym (zones_after-more cell before e)) (stand_with cell (zones_after cell before) e.actor e.request e.answer stand))
 
--- each signal that a zone of the cell names is there
+-- each signal that a zone of the cell names exists
 zone_signals : (cell : CellData) (rows : List ZoneRow) → list_all (is_zone cell.signals (map (λ row. row.axes) cell.tasks)) rows ≡ true
     → All (λ zone. zone.signal < length cell.signals) (map zone_of rows)
 zone_signals cell [] all k d lt = absurd (omega arith)
@@ -86,7 +87,7 @@ zone_signals cell (row ∷ rows) all (suc k) d lt =
     let arms : List ℕ = map (λ (row : TaskRow). row.axes) cell.tasks in
     zone_signals cell rows (and_parts (is_zone cell.signals arms row) (list_all (is_zone cell.signals arms) rows) all).1 k d (omega arith)
 
--- the stands, none of which went on more often than there were events
+-- the stands: none went on more often than there were events
 record StandsCount (cell : CellData) (stands : MeetingsData) (events : ℕ) : Type 0 where
   tasks : stands.tasks ≡ length cell.tasks
   meetings : stands.meetings ≡ length cell.meetings
@@ -118,7 +119,7 @@ stands_count cell history =
     (λ before after e is count. subst (λ (n : ℕ). StandsCount cell (stands_after cell (before ++ e ∷ [])) n) (sym (length-append before (e ∷ [])))
     (subst (λ (m : MeetingsData). StandsCount cell m (length before + 1)) (sym (stands_after-more cell before e)) (count_with cell (stands_after cell before) e.actor e.request e.answer (length before) count)))
 
--- the persistent of a number, of which a test holds
+-- the persistent with this number, of which a test holds
 pub record Found (cell : CellData) (pers : ℕ) (test : PersCell → Bool) : Type 0 where
   pub row : PersCell
   pub at : slice_get cell.pers pers ≡ Some row
@@ -163,7 +164,7 @@ bool_there : (sort : Option Sort) → is_bool sort ≡ true → sort ≡ Some so
 bool_there (Some sorts.Bool) h = refl
 bool_there _ h = absurd (false≢true h)
 
--- a task is in a trap where it left fewer than it began
+-- a task is in a trap if it left fewer than it began
 in_trap_so : (b : Bool) (begun left : ℕ) → begun ≡ left + cond b 1 0 → not (begun == left) ≡ true → b ≡ true
 in_trap_so true begun left is trapped = refl
 in_trap_so false begun left is trapped =
@@ -312,21 +313,13 @@ ready cell history boards steps actor request keeps may = by (who_may cell actor
     by (inl task) = task_ready cell history boards steps actor request keeps task (asked_offered cell actor (part_of actor history) request may) (known cell history boards steps actor keeps task.within)
     by (inr script) = script_ready cell history boards steps actor request keeps script
 
--- an actor that may ask something is there
+-- an actor that may ask something exists
 pub actor_there : (cell : CellData) (actor : ℕ) (mine : List Event) (request : Request) → IsTrue (may_ask cell actor mine request) → actor ≤ length cell.tasks
 actor_there cell actor mine request may = by (who_may cell actor mine request may)
   where
     by : TaskMay cell actor mine request ⊎ ScriptMay cell actor mine request → actor ≤ length cell.tasks
     by (inl task) = omega (arith, task.within)
     by (inr script) = omega (arith, script.script)
-
-pub filter_short : {A : Type 0} (f : A → Bool) (xs : List A) → length (filter f xs) ≤ length xs
-filter_short f [] = omega arith
-filter_short {A = A} f (x ∷ xs) = by (filter f xs) (filter_short f xs) (f x)
-  where
-    by : (kept : List A) → length kept ≤ length xs → (b : Bool) → length (cond b (x ∷ kept) kept) ≤ suc (length xs)
-    by kept rest true = omega arith
-    by kept rest false = omega arith
 
 -- no count is near the end of its range
 room_so : (cell : CellData) (history : List Event) (boards : BoardData) (steps : ℕ) → Keeps cell history boards steps → All (λ task. length task.queue ≤ 1_024) boards.traps

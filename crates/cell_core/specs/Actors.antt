@@ -1,23 +1,20 @@
--- What an actor's own events have come to.
+-- What an actor's own events amount to.
 use Rattle.std.specs.Prelude.{ℕ, ◌+◌, Bool, false, List, Option, None, option_map, slice_index_or, if◌then◌else◌}
 use Rattle.std.specs.Option.{option_or}
 use Rattle.rapid_num.specs.declared.joints.Joints.{Joints}
 use Rattle.rapid_model.specs.Own.{fate_of, is_hold, is_leave, is_trap}
 use Rattle.rapid_model.specs.declared.answer.Answer.{Answer}
 use Rattle.rapid_model.specs.declared.request.Request.{Request}
+use Rattle.rapid_model.specs.Truths.{one_if}
 use Rattle.cell_meaning.specs.Motion.{moved, is_given}
 use Rattle.cell_meaning.specs.Rising.{seen_with}
 use Rattle.cell_core.specs.declared.actor.Actor.{Actor}
 
--- one where it holds
-abbrev pub one_if : Bool → ℕ
-one_if b = if b then 1 else 0
-
--- before its first event, with an arm that starts there, if it has one
+-- before its first event, with its arm at the start, if it has one
 abbrev pub before : Option Joints → Actor
 before arm = record { arm = arm; end = None; held = false; seen = 0; given = 0; begun = 0; left = 0; events = 0; made = 0 }
 
--- after one more event of its own, which changed something that tasks wait for, or did not
+-- after one more event of its own, which may have changed something that tasks wait for
 abbrev pub actor_with : Actor → Bool → Request → Answer → Actor
 actor_with actor changes request answer = record {
   arm = option_map (λ position. moved position request answer) actor.arm;
@@ -31,6 +28,6 @@ actor_with actor changes request answer = record {
   made = actor.made + one_if changes;
 }
 
--- the actor of a number
+-- the actor with this number
 abbrev pub actor_at : List Actor → ℕ → Actor
 actor_at actors number = slice_index_or actors number (before None)

@@ -23,7 +23,7 @@ use Rattle.cell_core.specs.declared.outcome.Outcome.{Outcome}
 abbrev pub made_by_others : BoardData → ℕ → ℕ
 made_by_others boards actor = boards.changes - (actor_at boards.actors actor).made
 
--- the answer to a request, but to a setpoint
+-- the answer to a request other than a setpoint
 abbrev pub answer_on : BoardData → ℕ → Request → Answer
 answer_on boards actor requests.Look = look_of (look_answer (task_at boards.traps actor)) (made_by_others boards actor)
 answer_on boards actor (requests.ReadP pers path) = value_of (value_at (elements_at boards.store pers) path)
@@ -53,7 +53,7 @@ abbrev pub IsAnswerOn : BoardData → ℕ → Request → Answer → Type 0
 IsAnswerOn boards actor (requests.Setpoint to) answer = IsMoveAnswerOn boards.zones boards.signals actor to (actor_at boards.actors actor).arm answer
 IsAnswerOn boards actor request answer = answer ≡ answer_on boards actor request
 
--- the boards' answer to a request, what it changes that tasks wait for, and what it leaves of the boards
+-- the boards' answer to a request, what it changes that tasks wait for, and the boards afterwards
 pub record Answers (cell : CellData) (old : BoardData) (actor : ℕ) (request : Request) (outcome : Outcome) (new : BoardData) : Type 0 where
   pub answer : IsAnswerOn old actor request outcome.answer
   pub change : outcome.change ≡ change_on cell old actor request outcome.answer

@@ -1,4 +1,4 @@
--- What a core reads off its boards in place of the whole history, and what one event changes of it.
+-- What a core reads off its boards instead of the whole history, and how one event changes it.
 use Rattle.std.specs.Prelude.{ℕ, ◌+◌, Bool, true, List, [], ◌∷◌, ◌++◌, length, map, replicate, None, slice_get, slice_index_or, slice_set}
 use Rattle.rapid_model.specs.CellData.{CellData}
 use Rattle.rapid_model.specs.declared.answer.Answer.{Answer}
@@ -10,6 +10,7 @@ use Rattle.rapid_model.specs.declared.request.Request.TheVariants.{WriteP, TestS
 use Rattle.rapid_model.specs.declared.task_row.TaskRow.{TaskRow}
 use Rattle.rapid_model.specs.declared.value.Value.{Value}
 use Rattle.rapid_model.specs.declared.value.Value.TheVariants as values
+use Rattle.rapid_model.specs.Truths.{one_if}
 use Rattle.persist_store.specs.Stores.{PersData, first_row, row_at}
 use Rattle.sync_tasks.specs.Meetings.{MeetingsData, stand_at, before_all as no_stands}
 use Rattle.trap_dispatch.specs.Tasks.{TaskData, after_changes, before_all as no_interrupts}
@@ -19,14 +20,15 @@ use Rattle.cell_meaning.specs.Interrupts.{asked_with}
 use Rattle.cell_meaning.specs.Meetings.{stands_with}
 use Rattle.cell_meaning.specs.Stored.{signals_with, with_part}
 use Rattle.cell_meaning.specs.Zones.{zones_with}
-use Rattle.cell_core.specs.Actors.{one_if, before, actor_with, actor_at}
+use Rattle.cell_core.specs.Actors.{before, actor_with, actor_at}
 use Rattle.cell_core.specs.Changes.{watched_of, is_some_change, signal_change, input_change, pers_change, arrival_change}
 use Rattle.cell_core.specs.declared.actor.Actor.{Actor}
 use Rattle.cell_core.specs.declared.change.Change.{Change}
 use Rattle.cell_core.specs.declared.change.Change.TheVariants as changes
 
--- The persistents, the signals, the meetings, the interrupts of each task, the zones, what each actor's own events have come
--- to (the tasks in script order, and then the input script), how many events are counted, and how many changes there were.
+-- The persistents, the signals, the meetings, the interrupts of each task, the zones, what each actor's own events
+-- amount to (the tasks in script order, then the input script), the number of counted events, and the number of
+-- changes.
 pub record BoardData : Type 0 where
   pub store : List PersData
   pub signals : List Bool
@@ -58,11 +60,11 @@ boards_of cell = record {
 abbrev pub elements_of : List PersData → List (List Value)
 elements_of rows = map (λ row. row.values) rows
 
--- the elements of the persistent of a number
+-- the elements of the persistent with this number
 abbrev pub elements_at : List PersData → ℕ → List Value
 elements_at rows pers = slice_index_or (elements_of rows) pers []
 
--- with a value put in as the part of one persistent
+-- with a value written to a part of one persistent
 abbrev pub put_in : List PersData → ℕ → Path → Value → List PersData
 put_in rows pers path value = slice_set rows pers (record (row_at rows pers) { values = with_part (row_at rows pers).values path value })
 
@@ -71,7 +73,7 @@ store_with rows (WriteP pers path value) answers.Ok = put_in rows pers path valu
 store_with rows (TestSet pers path) (answers.Yes true) = put_in rows pers path (values.Bool true)
 store_with rows _ _ = rows
 
--- the boards after the request of an actor was answered so, before what it changed fires interrupts and is counted
+-- the boards after a request and its answer, before the change fires interrupts and the event is counted
 abbrev pub asked_on : CellData → BoardData → ℕ → Request → Answer → BoardData
 asked_on cell boards actor request answer = record {
   store = store_with boards.store request answer;
@@ -93,7 +95,7 @@ change_on cell boards actor (TestSet pers path) (answers.Yes true) = pers_change
 change_on cell boards actor (Arrive meeting tasks) _ = arrival_change (stand_at boards.meetings actor meeting).waits
 change_on cell boards actor _ _ = changes.Nothing
 
--- the boards after what an event changed fired interrupts, and the event is counted
+-- the boards after the change of an event has fired interrupts and the event is counted
 abbrev pub tallied : BoardData → ℕ → Request → Answer → Change → BoardData
 tallied boards actor request answer change = record {
   store = boards.store;

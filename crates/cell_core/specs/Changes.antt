@@ -7,13 +7,13 @@ use Rattle.rapid_model.specs.declared.path.Path.{Path}
 use Rattle.rapid_model.specs.declared.value.Value.{Value}
 use Rattle.rapid_model.specs.declared.watched.Watched.{Watched}
 use Rattle.rapid_model.specs.declared.watched.Watched.TheVariants as watched
-use Rattle.rapid_operators.specs.Equality.{same}
+use Rattle.rapid_values.specs.Equality.{same}
 use Rattle.persist_store.specs.Stores.{PersData, row_at}
 use Rattle.cell_meaning.specs.Stored.{with_part}
 use Rattle.cell_core.specs.declared.change.Change.{Change}
 use Rattle.cell_core.specs.declared.change.Change.TheVariants as changes
 
--- the signal or persistent that has another value
+-- the signal or persistent that has a new value
 abbrev pub watched_of : Change → List Watched
 watched_of (changes.Value on) = on ∷ []
 watched_of _ = []
@@ -23,7 +23,7 @@ abbrev pub is_some_change : Change → Bool
 is_some_change changes.Nothing = false
 is_some_change _ = true
 
--- of what has the same value, or another one
+-- a new value, or nothing if the value is still the same
 abbrev pub value_change : Bool → Watched → Change
 value_change still on = if still then changes.Nothing else changes.Value on
 
@@ -34,13 +34,13 @@ abbrev pub input_change : List Bool → Option InputRow → Change
 input_change signals None = changes.Nothing
 input_change signals (Some row) = signal_change signals row.signal row.value
 
--- whether a value put in as a part leaves all elements of a persistent as they were
+-- whether a value written to a part leaves all elements of a persistent as they were
 abbrev pub stays_same : PersData → Path → Value → Bool
 stays_same row path value = pointwise same row.values (with_part row.values path value)
 
 abbrev pub pers_change : List PersData → ℕ → Path → Value → Change
 pers_change rows pers path value = value_change (stays_same (row_at rows pers) path value) (watched.Pers pers)
 
--- of an arrival of a task that waits at the meeting already, or does not
+-- an arrival, or nothing if the task already waits at the meeting
 abbrev pub arrival_change : Bool → Change
 arrival_change waits = if waits then changes.Nothing else changes.Arrival

@@ -1,4 +1,4 @@
--- What the boards of a core keep of its history.
+-- What the boards of a core keep from its history.
 use Rattle.std.specs.Prelude.{◌≡◌, ℕ, ◌+◌, ◌≤◌, List, length, map, None, is_some, count_by}
 use Rattle.rapid_model.specs.CellData.{CellData, IsCell}
 use Rattle.rapid_model.specs.Own.{part_of, end_of, is_held, is_trap, is_leave}
@@ -17,7 +17,7 @@ use Rattle.cell_core.specs.Boards.{BoardData, elements_of}
 use Rattle.cell_core.specs.Soundness.{IsSound}
 use Rattle.cell_core.specs.declared.actor.Actor.{Actor}
 
--- an actor's board tells what the history tells of it; of so many changes those that it did not make are others'
+-- an actor's board agrees with the history; the changes that the actor did not make were made by others
 pub record Tells (cell : CellData) (history : List Event) (number : ℕ) (actor : Actor) (changes : ℕ) : Type 0 where
   pub arm : actor.arm ≡ arm_after cell history number
   pub end : actor.end ≡ end_of (part_of number history)
@@ -38,7 +38,7 @@ AreOfCell cell boards =
 abbrev pub fates_count : List Actor → ℕ
 fates_count actors = count_by (λ actor. is_some actor.end) actors
 
--- each board tells what the history tells; each event is counted, or an input, or ended its task
+-- each board agrees with the history; each event is counted, is an input, or ended its task
 pub record Keeps (cell : CellData) (history : List Event) (boards : BoardData) (steps : ℕ) : Type 0 where
   pub limits : IsCell cell
   pub full : StartsFull cell
@@ -59,7 +59,7 @@ pub record Keeps (cell : CellData) (history : List Event) (boards : BoardData) (
   pub inputs_within : (actor_at boards.actors (length cell.tasks)).events ≤ length cell.inputs
   pub events : length history ≡ boards.counted + fates_count boards.actors + (actor_at boards.actors (length cell.tasks)).events
 
--- room for every event of a run, and for a fate of each task, none of which is there yet
+-- room for every event of a run, and for the fate of each task
 pub record HasRoom (cell : CellData) (event_room fate_room : ℕ) : Type 0 where
   pub events : cell.steps + length cell.tasks + length cell.inputs ≤ event_room
   pub fates : length cell.tasks ≤ fate_room

@@ -15,26 +15,26 @@ use Rattle.cell_core.specs.Actors.{actor_at}
 use Rattle.cell_core.specs.Boards.{BoardData}
 use Rattle.cell_core.specs.declared.actor.Actor.{Actor}
 
--- the persistent is there, with the element and the part that the path names
+-- the persistent exists, with the element and the part that the path names
 pub record HasPart (rows : List PersData) (pers : ℕ) (path : Path) : Type 0 where
   pub there : pers < length rows
   pub part : IsTrue (is_some (part_sort (row_at rows pers).sort path.part))
   pub element : IsTrue (has_element (row_at rows pers).len path.index)
   pub kept : IsKept (row_at rows pers)
 
--- the task and the meeting are there, and no count is near the end of its range
+-- the task and the meeting exist, and no count is near the end of its range
 pub record CanArrive (meetings : MeetingsData) (task meeting : ℕ) : Type 0 where
   pub task_there : task < meetings.tasks
   pub meeting_there : meeting < meetings.meetings
   pub few : (stand_at meetings task meeting).passed < 2 ^ 31
 
--- the task and its arm's zones are there, and each signal that a zone of the cell names
+-- the task and its arm's zones exist, and so does each signal that a zone of the cell names
 pub record CanMove (boards : BoardData) (task : ℕ) : Type 0 where
   pub actor : task < length boards.actors
   pub arm : task < length boards.zones.arms
   pub signals : All (λ zone. zone.signal < length boards.signals) boards.zones.cell
 
--- the step of the input script and its signal are there
+-- the step of the input script and its signal exist
 pub record CanFeed (cell : CellData) (boards : BoardData) (index : ℕ) : Type 0 where
   pub row : InputRow
   pub there : slice_get cell.inputs index ≡ Some row
@@ -74,7 +74,7 @@ pub record IsFew (actor : Actor) : Type 0 where
   pub events : actor.events < 2 ^ 31
   pub made : actor.made < 2 ^ 31
 
--- the actor is there, each queue has its room, and no count is near the end of its range
+-- the actor exists, each queue has room, and no count is near the end of its range
 pub record CanCount (boards : BoardData) (actor : ℕ) : Type 0 where
   pub there : actor < length boards.actors
   pub room : All (λ task. length task.queue ≤ LONGEST_QUEUE) boards.traps
@@ -82,7 +82,7 @@ pub record CanCount (boards : BoardData) (actor : ℕ) : Type 0 where
   pub counted : boards.counted < 2 ^ 31
   pub changes : boards.changes < 2 ^ 31
 
--- the signal and the actor that the gate of a step names are there
+-- the signal and the actor that the gate of a step names exist
 pub record CanPass (boards : BoardData) (row : InputRow) : Type 0 where
   pub when : IfSome row.when (λ w. w.0 < length boards.signals)
   pub given : IfSome row.given (λ g. g.0 < length boards.actors)

@@ -1,4 +1,4 @@
--- What every history of a core keeps.
+-- What holds of every history of a core.
 use Rattle.std.specs.Prelude.{◌≡◌, List, ◌∷◌, ◌++◌, IsTrue}
 use Rattle.rapid_model.specs.CellData.{CellData}
 use Rattle.rapid_model.specs.Own.{part_of}
@@ -8,7 +8,8 @@ use Rattle.cell_meaning.specs.Counted.{can_be_served}
 use Rattle.cell_meaning.specs.Histories.{is_fit}
 use Rattle.cell_meaning.specs.MayAsk.{may_ask}
 
--- the actor might ask the request of an event, it was enabled and could be served, and it got the cell's answer, which fits
+-- the actor was allowed to ask the event's request, which was enabled and could be served, and it got the cell's
+-- answer, which fits
 pub record IsServed (cell : CellData) (before : List Event) (e : Event) : Type 0 where
   pub asked : IsTrue (may_ask cell e.actor (part_of e.actor before) e.request)
   pub enabled : IsTrue (is_enabled cell before e.actor e.request)

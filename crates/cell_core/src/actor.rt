@@ -1,17 +1,18 @@
 ghost use Rattle.std.specs.Prelude.{◌≡◌, ◌+◌, ◌<◌, ◌^◌, option_map};
 ghost use Rattle.std.specs.Option.{option_or};
 ghost use Rattle.rapid_model.specs.Own.{fate_of, is_hold, is_leave, is_trap};
+ghost use Rattle.rapid_model.specs.Truths.{one_if};
 ghost use Rattle.cell_meaning.specs.Motion.{is_given, moved};
 ghost use Rattle.cell_meaning.specs.Rising.{seen_with};
-ghost use Rattle.cell_core.specs.Actors.{actor_with, before, one_if};
+ghost use Rattle.cell_core.specs.Actors.{actor_with, before};
 ghost use Rattle.cell_core.specs.Ready.{IsFew};
 
 use rapid_model::{Answer, Fate, Request};
 use rapid_num::Joints;
 
-/// What an actor's own events have come to: where its arm is, the fate that it ended with, whether its last event is a Hold,
-/// how many changes it had seen at its last Hold, how many setpoints its arm was given, how many traps it began and left, how
-/// many events it has, and how many of them changed something that tasks wait for.
+/// What an actor's own events amount to: the position of its arm, the fate that it ended with, whether its last event
+/// is a Hold, how many changes it had seen at its last Hold, how many setpoints its arm was given, how many traps it
+/// began and left, how many events it has, and how many of them changed something that tasks wait for.
 #[derive(Clone, Copy, Debug)]
 pub(crate) struct Actor {
     pub(crate) arm: Option<Joints>,
@@ -26,7 +27,7 @@ pub(crate) struct Actor {
 }
 
 impl Actor {
-    /// Before its first event.
+    /// An actor before its first event.
     pub(crate) fn new(arm: Option<Joints>) -> Actor
         ensures { result ≡ before arm }
     {
@@ -43,7 +44,7 @@ impl Actor {
         }
     }
 
-    /// Counts one more event of its own, which changed something or did not.
+    /// Counts one more event of the actor. `changes`: whether it changed something that tasks wait for.
     pub(crate) fn count(&mut self, changes: bool, request: &Request, answer: &Answer)
         requires { IsFew self.old }
         ensures { self.new ≡ actor_with self.old changes request.now answer.now }
@@ -60,7 +61,7 @@ impl Actor {
     }
 }
 
-/// One more where it holds.
+/// One more if `more` holds.
 pub(crate) fn one_more(count: u32, more: bool) -> u32
     requires { count < 2 ^ 31 }
     ensures { result ≡ count + one_if more }
@@ -68,7 +69,7 @@ pub(crate) fn one_more(count: u32, more: bool) -> u32
     if more { count + 1 } else { count }
 }
 
-/// An arm goes on to a setpoint that it was given.
+/// Moves an arm to a setpoint that it was given.
 fn go_on(arm: &mut Option<Joints>, request: &Request, answer: &Answer)
     ensures { arm.new ≡ option_map (λ position. moved position request.now answer.now) arm.old }
 {

@@ -27,9 +27,9 @@ use sync_tasks::Meetings;
 use trap_dispatch::Traps;
 use world_zones::Zones;
 
-/// What the history has come to so far: the values of persistents and signals, how the tasks stand at their meetings, their
-/// interrupts, the zones, what each actor's own events have come to (the tasks in script order, and then the input script),
-/// how many events are counted, and how many changes there were. Contracts see each board as its plain data.
+/// What the history amounts to so far: the values of persistents and signals, how the tasks stand at their meetings,
+/// their interrupts, the zones, what each actor's own events amount to (the tasks in script order, then the input
+/// script), the number of counted events, and the number of changes. Contracts see each board as its plain data.
 #[derive(Drop)]
 pub(crate) struct Boards {
     store: Store,
@@ -51,14 +51,14 @@ impl Model for Boards {
 }
 
 impl Boards {
-    /// The boards before the first event. None for want of memory alone.
+    /// The boards before the first event. None only if an allocation fails.
     pub(crate) fn new(alloc: Global, cell: &Cell) -> Option<Boards>
         ensures { IfSome result (λ boards. boards ≡ boards_of cell.now) }
     {
-        // Tells the limits of cells.
+        // Its contract states the limits of cells.
         let _steps = cell.steps();
         let tasks = cell.tasks().len() as u32;
-        // No memory has room for more meetings than that.
+        // More meetings than that do not fit in memory.
         let meetings = u32::try_from(cell.meetings().len()).ok()?;
         Some(Boards {
             store: Store::new(alloc, cell).ok()?,
@@ -72,7 +72,7 @@ impl Boards {
         })
     }
 
-    /// Answers a request of an actor, for which the boards have what it needs, and counts the two as one event.
+    /// Answers a request of an actor, and counts the two as one event. The boards have what the request needs.
     pub(crate) fn take(&mut self, cell: &Cell, actor: u32, request: &Request) -> Answer
         requires ready { CanAnswer cell.now self.old actor request.now }
         requires few { CanCount self.old actor }
@@ -84,7 +84,7 @@ impl Boards {
         answer
     }
 
-    /// The answer to a request, and what it changes of the boards.
+    /// Answers a request, and changes the boards as it asks.
     fn answer(&mut self, cell: &Cell, actor: u32, request: &Request) -> Outcome
         requires { CanAnswer cell.now self.old actor request.now }
         ensures { Answers cell.now self.old actor request.now result self.new }
@@ -164,7 +164,7 @@ impl Boards {
         }
     }
 
-    /// Fires the interrupts whose order is on what an event changed, and counts the event.
+    /// Fires the interrupts that are ordered on what an event changed, and counts the event.
     fn tally(&mut self, actor: u32, request: &Request, answer: &Answer, change: Change)
         requires { CanCount self.old actor }
         ensures { self.new ≡ tallied self.old actor request.now answer.now change }
@@ -176,7 +176,7 @@ impl Boards {
         self.changes = one_more(self.changes, changes);
     }
 
-    /// What an actor's own events have come to.
+    /// What an actor's own events amount to.
     pub(crate) fn actor(&self, actor: u32) -> Actor
         requires { actor < length self.now.actors }
         ensures { result ≡ actor_at self.now.actors actor }
@@ -184,7 +184,7 @@ impl Boards {
         self.actors[actor as usize]
     }
 
-    /// How many events are counted.
+    /// The number of counted events.
     pub(crate) fn counted(&self) -> u32
         ensures { result ≡ self.now.counted }
     {
@@ -199,7 +199,7 @@ impl Boards {
         read(&self.store, pers, path)
     }
 
-    /// Whether each of so many tasks has ended.
+    /// Whether each of this many tasks, from 0, has ended.
     #[tactic(auto, using(crate::proofs::Looks::more_have_fates))]
     pub(crate) fn all_have_fates(&self, tasks: u32) -> bool
         requires { tasks ≤ length self.now.actors }
@@ -219,7 +219,7 @@ impl Boards {
         self.actor(task).end.is_some()
     }
 
-    /// Whether others made changes since the task was held last, or a trap is to run.
+    /// Whether others have made changes since the task's last Hold, or a trap is due.
     pub(crate) fn can_go_on(&self, task: u32) -> bool
         requires actor { task < length self.now.actors }
         requires trap { task < length self.now.traps }
@@ -228,7 +228,7 @@ impl Boards {
         self.actor(task).seen < self.made_by_others(task) || self.traps.due(task)
     }
 
-    /// How many changes others made.
+    /// The number of changes made by others.
     fn made_by_others(&self, actor: u32) -> u32
         requires { actor < length self.now.actors }
         ensures { result ≡ made_by_others self.now actor }
@@ -237,7 +237,7 @@ impl Boards {
             .saturating_sub(self.actors[actor as usize].made)
     }
 
-    /// Whether each of so many tasks has ended, or is held and cannot go on.
+    /// Whether each of this many tasks, from 0, has ended, or is held and cannot go on.
     #[tactic(auto, using(crate::proofs::Looks::stand_more))]
     pub(crate) fn all_stand(&self, tasks: u32) -> bool
         requires actors { tasks ≤ length self.now.actors }
@@ -261,7 +261,7 @@ impl Boards {
         own.end.is_some() || own.held && !self.can_go_on(task)
     }
 
-    /// Whether each part of the gate of a step of the input script that is there holds.
+    /// Whether every condition in the gate of a step of the input script holds.
     pub(crate) fn is_passed(&self, row: &InputRow) -> bool
         requires { CanPass self.now row.now }
         ensures { result ≡ is_passed self.now row.now }
@@ -310,7 +310,7 @@ fn unchanged(answer: Answer) -> Outcome
     }
 }
 
-/// A request was done, and changed this.
+/// The outcome of a request that is done and changed this.
 fn done(change: Change) -> Outcome
     ensures answer { result.answer ≡ Answer.Ok }
     ensures change { result.change ≡ change }

@@ -9,12 +9,12 @@ pub(crate) enum Change {
     Nothing,
     /// A task arrived at a meeting where it was not waiting.
     Arrival,
-    /// This signal or persistent has another value.
+    /// This signal or persistent has a new value.
     Value(Watched),
 }
 
 impl Change {
-    /// Of what still has its value, or has another one.
+    /// A new value, or nothing if the value is still the same.
     pub(crate) fn of_value(still: bool, on: Watched) -> Change
         ensures { result ≡ value_change still on }
     {
@@ -25,7 +25,7 @@ impl Change {
         }
     }
 
-    /// Of an arrival of a task that waits at the meeting already, or does not.
+    /// An arrival, or nothing if the task already waits at the meeting.
     pub(crate) fn of_arrival(waits: bool) -> Change
         ensures { result ≡ arrival_change waits }
     {

@@ -10,7 +10,8 @@ ghost use Rattle.cell_meaning.specs.MayAsk.{is_offered};
 use crate::paths::{fits_part, has_path, is_bool_part};
 use rapid_model::{Cell, Fate, Path, PersCell, Request, TaskRow, Value, Watched};
 
-/// Whether the cell offers the request, and it suits a task of this row, in a trap or not.
+/// Whether the cell offers the request, and the request suits a task of this row. `trapped`: whether the task is in a
+/// trap.
 pub(crate) fn allows(cell: &Cell, row: &TaskRow, trapped: bool, request: &Request) -> bool
     ensures { (mine : List Event) → trapped ≡ is_trapped mine → result ≡ (is_offered request.now && suits_task cell.now row.now mine request.now) }
 {
@@ -46,7 +47,7 @@ pub(crate) fn goes_with(held: bool, request: &Request) -> bool
     }
 }
 
-/// Whether the input script asks this after so many of its steps.
+/// Whether the input script asks this after this many of its steps.
 pub(crate) fn feeds(cell: &Cell, done: u32, request: &Request) -> bool
     ensures { (mine : List Event) → done ≡ length mine → result ≡ suits_inputs cell.now mine request.now }
 {
@@ -98,11 +99,11 @@ fn can_watch(cell: &Cell, on: Watched) -> bool
     }
 }
 
-/// Whether the meeting is there, and each listed task.
+/// Whether the meeting and each listed task exist.
 fn may_meet(cell: &Cell, meeting: u32, tasks: u16) -> bool
     ensures { result ≡ (nat_lt meeting (length cell.now.meetings) && nat_lt tasks (2 ^ length cell.now.tasks)) }
 {
-    // Tells the limits of cells.
+    // Its contract states the limits of cells.
     let _steps = cell.steps();
     let count = cell.tasks().len() as u32;
     (meeting as usize) < cell.meetings().len() && u32::from(tasks) < 2_u32.pow(count)

@@ -9,7 +9,7 @@ use crate::values::set_signal;
 use rapid_model::InputRow;
 use signal_board::Signals;
 
-/// Gives the signal of a step its value.
+/// Sets the signal of a step to the step's value.
 pub(crate) fn feed(signals: &mut Signals, row: &InputRow) -> Change
     requires { row.now.signal < length signals.old }
     ensures change { result ≡ input_change signals.old (Some row.now) }

@@ -15,7 +15,7 @@ use rapid_limits::LONGEST_QUEUE;
 use rapid_model::{Answer, Watched};
 use trap_dispatch::{ConnectFault, Due, OrderFault, Traps, Unknown};
 
-/// Whether a trap is to run first. If none is, so many changes by others were seen.
+/// The trap that is to run first, if one is due; otherwise how many changes by others the task has now seen.
 pub(crate) fn look(traps: &mut Traps, actor: u32, seen: u32) -> Answer
     requires { actor < length traps.old }
     ensures answer { result ≡ look_of (look_answer (task_at traps.old actor)) seen }
@@ -128,7 +128,7 @@ pub(crate) fn leave(traps: &mut Traps, actor: u32) -> Answer
     Answer::Ok
 }
 
-/// Fires the interrupts, of every task, whose order is on what changed. Each queue has its room.
+/// Fires the interrupts of all tasks that are ordered on what changed. Each queue has room.
 pub(crate) fn fire(traps: &mut Traps, change: Change)
     requires { All (λ task. length task.queue ≤ LONGEST_QUEUE) traps.old }
     ensures { traps.new ≡ map (after_changes (watched_of change)) traps.old }

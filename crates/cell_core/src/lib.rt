@@ -1,4 +1,4 @@
-//! One shared cell: it answers one request at a time, and keeps the history of all.
+//! The shared cell: it answers one request at a time and keeps the history.
 #![tactic(auto)]
 
 mod actor;

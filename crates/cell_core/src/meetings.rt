@@ -12,7 +12,7 @@ use crate::outcome::Outcome;
 use rapid_model::Answer;
 use sync_tasks::Meetings;
 
-/// The task arrives at the meeting with the tasks of a set, and goes on where it meets them all.
+/// The task arrives at the meeting with the tasks of a set, and goes on if it meets them all.
 pub(crate) fn arrive(meetings: &mut Meetings, actor: u32, meeting: u32, tasks: u16) -> Outcome
     requires { CanArrive meetings.old actor meeting }
     ensures answer { result.answer ≡ (if meets meetings.old actor meeting tasks then Answer.Met else Answer.Apart) }

@@ -19,8 +19,8 @@ pub(crate) fn position_of(arm: &Option<Joints>) -> Answer
     }
 }
 
-/// Whether the arm goes on to a setpoint, or a zone on the way stops it: the first that it touches. Each signal that a zone of
-/// the cell names is there.
+/// Whether the arm goes on to a setpoint, or a zone on the way stops it, the first that it touches. Each signal that a
+/// zone of the cell names exists.
 pub(crate) fn go(
     zones: &Zones,
     signals: &Signals,

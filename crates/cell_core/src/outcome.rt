@@ -1,7 +1,7 @@
 use crate::change::Change;
 use rapid_model::Answer;
 
-/// What a request comes to: its answer, and what it changed that tasks wait for.
+/// The outcome of a request: its answer, and what it changed that tasks wait for.
 #[derive(Debug, Drop)]
 pub(crate) struct Outcome {
     pub(crate) answer: Answer,

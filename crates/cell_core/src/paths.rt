@@ -1,4 +1,4 @@
-//! What a path names of a persistent (RAPID Kernel, data references).
+//! What a path names in a persistent (RAPID Kernel, data references).
 
 ghost use Rattle.std.specs.Prelude.{◌≡◌, is_some};
 ghost use Rattle.rapid_model.specs.Paths.{fits_part, has_element, has_path, num_where, part_sort};
@@ -15,7 +15,7 @@ pub(crate) fn has_path(row: &PersCell, path: &Path) -> bool
     has_element(row.len, path.index) && part_sort(row.sort, path.part).is_some()
 }
 
-/// Whether the value is one of the part of a value of this type.
+/// Whether the value can be this part of a value of this type.
 pub(crate) fn fits_part(sort: Sort, part: PartName, value: &Value) -> bool
     ensures { result ≡ fits_part sort part value.now }
 {
@@ -36,7 +36,7 @@ pub(crate) fn is_bool_part(sort: Sort, part: PartName) -> bool
     }
 }
 
-/// Whether a datum of this length has an element of this number.
+/// Whether a datum of this length has an element with this number.
 fn has_element(len: Option<u16>, index: u16) -> bool
     ensures { result ≡ has_element len index }
 {
@@ -46,7 +46,7 @@ fn has_element(len: Option<u16>, index: u16) -> bool
     }
 }
 
-/// The type of a part of a value of this type, where it has the part.
+/// The type of a part of a value of this type, if it has the part.
 fn part_sort(sort: Sort, part: PartName) -> Option<Sort>
     ensures { result ≡ part_sort sort part }
 {

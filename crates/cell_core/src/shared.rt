@@ -25,8 +25,8 @@ use rapid_model::{Answer, Cell, Event, Fate, InputRow, Path, Request, Value};
 use std::alloc::Global;
 use std::marker::Model;
 
-/// The cell that tasks and its input script share, and the history of what they asked of it. Contracts see it as these two.
-/// What the history has come to stands on boards, so that no call costs more for a longer history.
+/// The cell that the tasks and the input script share, and the history of their requests. Contracts see these two.
+/// Boards keep what the history amounts to so far, so no call costs more as the history grows.
 #[derive(Drop)]
 pub struct Core {
     cell: Cell,
@@ -50,8 +50,8 @@ impl Model for Core {
 }
 
 impl Core {
-    /// A core without events, with room for all events of a run and for its report. The cell comes back for want of
-    /// memory alone.
+    /// A core with an empty history, and with room for all events of a run and for its report. Fails only if an
+    /// allocation fails, and then returns the cell.
     pub fn new(alloc: Global, cell: Cell) -> Result<Core, Cell>
         ensures ok { IfOk result (λ core. core ≡ record { cell = cell; history = [] }) }
         ensures err { IfErr result (λ back. back ≡ cell) }
@@ -79,10 +79,10 @@ impl Core {
         })
     }
 
-    /// Answers a request of an actor: a task by its number from 0 in script order, or the input script, whose number is the
-    /// next. The answer is the cell's after its history (`IsAnswer` of cell_meaning), and makes the request one more event.
-    /// Spent comes exactly where the request would be counted and no steps are left; else NotYet exactly where it is a Rise or
-    /// an Input and not enabled. Nothing changes then.
+    /// Answers a request of an actor: a task, by its number from 0 in script order, or the input script, which has the
+    /// next number. The answer is the cell's after the history (`IsAnswer` of cell_meaning); the request and its answer
+    /// become one more event. Returns Spent exactly if the request would be counted and no steps are left; otherwise
+    /// NotYet exactly if it is a Rise or an Input that is not enabled. Neither changes anything.
     pub fn serve(&mut self, actor: u32, request: Request) -> Served
         requires { IsTrue (may_ask self.old.cell actor (part_of actor self.old.history) request) }
         ensures cell { self.new.cell ≡ self.old.cell }
@@ -99,7 +99,7 @@ impl Core {
         Served::Answered(self.take(actor, request))
     }
 
-    /// Whether the request is not counted, or steps are left.
+    /// Whether the request is uncounted, or steps are left.
     fn can_be_served(&self, request: &Request) -> bool
         ensures { result ≡ can_be_served self.now.cell self.now.history request.now }
     {
@@ -119,7 +119,7 @@ impl Core {
         }
     }
 
-    /// Answers a request that can be served and is enabled: one more event.
+    /// Answers a request that can be served and is enabled, as one more event.
     fn take(&mut self, actor: u32, request: Request) -> Answer
         requires asked { IsTrue (may_ask self.old.cell actor (part_of actor self.old.history) request) }
         requires served { IsTrue (can_be_served self.old.cell self.old.history request) }
@@ -130,7 +130,8 @@ impl Core {
         ensures fits { IsTrue (fits_request (fitting_in self.old.cell actor (part_of actor self.old.history)) request result) }
     {
         let index = self.events.len();
-        // The request is long: it is moved once, to its place in the history, where the boards read it. Then comes the answer.
+        // A request is large: it is moved once, to its place in the history, where the boards read it. Its answer
+        // follows.
         self.events.push_reserved(Event {
             actor,
             request,
@@ -143,9 +144,10 @@ impl Core {
         answer
     }
 
-    /// Whether the actor may ask this now: the input script its next step alone; a task that has not ended whatever suits the
-    /// cell and the task as it stands (held, in a trap, with an arm or without), but no ZoneTie, which no cell offers, and no
-    /// Input.
+    /// Whether the actor may ask this now. The input script may ask for its next step only. A task that has not ended
+    /// may ask whatever suits the cell and its own state (held, in a trap, with or without an arm), except a ZoneTie,
+    /// which no cell offers, or an Input. No crate here calls it; a caller of `serve` that cannot know what its actor
+    /// may ask tests with it.
     pub fn fits(&self, actor: u32, request: &Request) -> bool
         ensures { result ≡ may_ask self.now.cell actor (part_of actor self.now.history) request.now }
     {
@@ -162,7 +164,8 @@ impl Core {
         }
     }
 
-    /// Whether a held task can go on: others made more changes than its last Hold had seen, or a trap is to run.
+    /// Whether a held task can go on: others have made more changes than its last Hold had seen, or a trap is due. No
+    /// other crate calls it; it is for tools that show why a task waits.
     pub fn can_rise(&self, task: u32) -> bool
         requires { task < length self.now.cell.tasks }
         ensures { result ≡ can_rise self.now.cell self.now.history task }
@@ -170,8 +173,9 @@ impl Core {
         self.boards.can_go_on(task)
     }
 
-    /// Whether the next step of the input script is open: there is one, its gate holds, a task has not ended, and steps of the
-    /// run are left (docs/CELL_SCRIPT.md, keys of an input).
+    /// Whether the next step of the input script is open: the step exists, its gate holds, a task has not ended, and
+    /// steps of the run are left (docs/CELL_SCRIPT.md, keys of an input). No other crate calls it; it is for tools that
+    /// show why the input script waits.
     pub fn can_feed(&self) -> bool
         ensures { result ≡ is_open self.now.cell self.now.history (inputs_done self.now.cell self.now.history) }
     {
@@ -182,14 +186,14 @@ impl Core {
         }
     }
 
-    /// How many steps of the input script were done.
+    /// How many steps of the input script are done.
     pub fn inputs_done(&self) -> u32
         ensures { result ≡ inputs_done self.now.cell self.now.history }
     {
         self.boards.actor(self.tasks).events
     }
 
-    /// Whether each step of the input script was done.
+    /// Whether every step of the input script is done.
     pub fn all_inputs_done(&self) -> bool
         ensures { result ≡ nat_le (length self.now.cell.inputs) (inputs_done self.now.cell self.now.history) }
     {
@@ -197,8 +201,8 @@ impl Core {
         self.cell.inputs().as_slice().len() <= done as usize
     }
 
-    /// Whether the next step of the input script, which is there, is open: its gate holds, a task has not ended, and steps of
-    /// the run are left.
+    /// Whether the next step of the input script, which exists, is open: its gate holds, a task has not ended, and
+    /// steps of the run are left.
     fn lets_pass(&self, row: &InputRow) -> bool
         requires { slice_get self.now.cell.inputs (inputs_done self.now.cell self.now.history) ≡ Some row.now }
         ensures { result ≡ is_open self.now.cell self.now.history (inputs_done self.now.cell self.now.history) }
@@ -233,15 +237,15 @@ impl Core {
         self.boards.all_have_fates(self.tasks)
     }
 
-    /// Whether a task has not ended, and no steps are left.
+    /// Whether some task has not ended and no steps are left.
     pub fn spent(&self) -> bool
         ensures { result ≡ is_spent self.now.cell self.now.history }
     {
         !self.all_ended() && self.steps <= self.boards.counted()
     }
 
-    /// Whether the tasks wait for one another: steps are left and a task has not ended, each such task is held and cannot go
-    /// on, and no step of the input script is open.
+    /// Whether the tasks wait for one another: steps are left, some task has not ended, each such task is held and
+    /// cannot go on, and no step of the input script is open.
     pub fn stalled(&self) -> bool
         ensures { result ≡ is_stalled self.now.cell self.now.history }
     {
@@ -255,7 +259,7 @@ impl Core {
         self.boards.all_stand(self.tasks)
     }
 
-    /// How a task stands: the fate that it ended with, else cut where the steps are spent, else held.
+    /// How a task stands: with the fate that it ended with, otherwise cut if the steps are spent, otherwise held.
     pub fn fate(&self, task: u32) -> Fate
         requires { task < length self.now.cell.tasks }
         ensures { result ≡ fate_after self.now.cell self.now.history task }
@@ -263,8 +267,8 @@ impl Core {
         standing(self.spent(), self.boards.actor(task).end)
     }
 
-    /// How many events there are: at most one for each step of the run, each task and each step of the input script. Each was
-    /// served after those before it.
+    /// The number of events: at most one for each step of the run, each task and each step of the input script. Each
+    /// was served after those before it.
     pub fn len(&self) -> u32
         ensures same { result ≡ length self.now.history }
         ensures few { result ≤ self.now.cell.steps + length self.now.cell.tasks + length self.now.cell.inputs }
@@ -289,7 +293,7 @@ impl Core {
         &self.events[k as usize]
     }
 
-    /// How many tasks there are.
+    /// The number of tasks.
     pub fn task_count(&self) -> u32
         ensures same { result ≡ length self.now.cell.tasks }
         ensures few { result ≤ MOST_TASKS }
@@ -312,7 +316,7 @@ impl Core {
         self.boards.value(pers, path)
     }
 
-    /// The events in order, the oldest first, and how each task stands, in script order. Takes no memory.
+    /// The events, oldest first, and how each task stands, in script order. Allocates nothing.
     pub fn into_report(self) -> (Vec<Event>, Vec<Fate>)
         ensures history { result.0.items ≡ self.history }
         ensures fates { result.1.items ≡ fates_after self.cell self.history (length self.cell.tasks) }
@@ -347,7 +351,7 @@ fn standing(spent: bool, end: Option<Fate>) -> Fate
     }
 }
 
-/// Appends how each of so many tasks stands, in the room that there is.
+/// Appends how each of this many tasks stands, in the room reserved for it.
 #[tactic(auto, using(crate::proofs::Looks::fates_more))]
 fn tell(boards: &Boards, tasks: u32, spent: bool, fates: &mut Vec<Fate>)
     requires none { fates.old.items ≡ [] }

@@ -23,7 +23,7 @@ pub(crate) fn actors_of(alloc: Global, rows: &[TaskRow]) -> Result<Vec<Actor>, A
     Ok(actors)
 }
 
-/// The first values of a cell's persistents are values of a program, whose lists are as long as their types say.
+/// The initial values of a cell's persistents are values of a program: their lists have the lengths of their types.
 pub(crate) fn starts_full(cell: &Cell)
     ensures { StartsFull cell.now }
 {

@@ -15,7 +15,7 @@ use crate::change::Change;
 use crate::outcome::Outcome;
 use persist_store::Store;
 use rapid_model::{Answer, Path, Value, Watched};
-use rapid_operators::same_value;
+use rapid_values::same_value;
 use signal_board::Signals;
 
 /// The value of a part of a persistent.
@@ -27,7 +27,7 @@ pub(crate) fn read(store: &Store, pers: u32, path: &Path) -> Value
     store.get(pers, path).unwrap()
 }
 
-/// The same as an answer.
+/// The same, as an answer.
 pub(crate) fn value_of(store: &Store, pers: u32, path: &Path) -> Answer
     requires { HasPart store.now pers path.now }
     ensures { result ≡ value_of (value_at (elements_at store.now pers) path.now) }
@@ -35,7 +35,7 @@ pub(crate) fn value_of(store: &Store, pers: u32, path: &Path) -> Answer
     Answer::Val(read(store, pers, path))
 }
 
-/// Puts a value in as a part of a persistent, which it fits.
+/// Writes a value to a part of a persistent, which it fits.
 pub(crate) fn write(store: &mut Store, pers: u32, path: &Path, value: &Value) -> Change
     requires part { HasPart store.old pers path.now }
     requires fits { IsTrue (fits_part (row_at store.old pers).sort path.now.part value.now) }
@@ -47,7 +47,7 @@ pub(crate) fn write(store: &mut Store, pers: u32, path: &Path, value: &Value) ->
     Change::of_value(still, Watched::Pers { pers })
 }
 
-/// Gives a part of a persistent, a bool, the value TRUE where it is FALSE.
+/// Sets a bool part of a persistent to TRUE if it is FALSE.
 pub(crate) fn test_set(store: &mut Store, pers: u32, path: &Path) -> Outcome
     requires part { HasPart store.old pers path.now }
     requires bool { part_sort (row_at store.old pers).sort path.now.part ≡ Some sorts.Bool }
@@ -78,7 +78,7 @@ fn put(store: &mut Store, pers: u32, path: &Path, value: Value)
     }
 }
 
-/// Gives a signal a value.
+/// Sets a signal to a value.
 pub(crate) fn set_signal(signals: &mut Signals, signal: u32, value: bool) -> Change
     requires { signal < length signals.old }
     ensures change { result ≡ signal_change signals.old signal value }

@@ -1,4 +1,4 @@
--- A machine amid a run: what an event of its own task makes of it.
+-- A machine during a run, and what an event of its own task makes of it.
 use Rattle.std.proofs.Common.{◌≡◌, true, false, cond, List, [], ◌∷◌, ◌++◌, Option, Some, None, refl, ap, sym, ◌∙◌, subst}
 use Rattle.std.specs.Prelude.{IsSome, is_some, is_none, filter}
 use Rattle.std.specs.Option.{option_or}
@@ -22,12 +22,12 @@ answers_in-append mine later = map-append (λ e. e.answer) mine later
 pub answers_in-more : (mine : List Event) (e : Event) → answers_in (mine ++ e ∷ []) ≡ answers_in mine ++ e.answer ∷ []
 answers_in-more mine e = answers_in-append mine (e ∷ [])
 
--- none of some events is an End
+-- none of these events is an End
 neither : {A : Type 0} (told later : Option A) → is_some (option_or told later) ≡ false → (told ≡ None) × (is_some later ≡ false)
 neither (Some x) later p = cc
 neither None later p = (refl, p)
 
--- the answer of an event and those after it, where it told no fate
+-- the answer of an event and those after it, if the event had no fate
 abbrev and_answer : Answer → List Answer → Option Fate → List Answer
 and_answer answer later told = cond (is_none told) (answer ∷ later) later
 

@@ -1,4 +1,4 @@
--- Courses: how they grow, and that a task's own events in a legal history are one.
+-- Courses: how they grow, and why a task's own events in a legal history are one.
 use Rattle.std.proofs.Common.{◌≡◌, inl, inr, ℕ, ◌<◌, List, [], ◌∷◌, ◌++◌, length, subst, arith}
 use Rattle.std.specs.Prelude.{◌==◌, IsTrue}
 use Rattle.std.proofs.lemmas.Bool.{eqb-true}
@@ -20,7 +20,7 @@ use Rattle.cell_meaning.proofs.Lists.{from_front}
 use Rattle.cell_crew.specs.Courses.{IsCourse, IsStep, SuitTasks, answers_in}
 use Rattle.cell_crew.specs.Crew.{AskAsPrograms, AsksAsProgram}
 
--- what a task asks beside the input script, it asks
+-- what a task asks beside the input script, it asks itself
 of_task : (asks : Asking) (cell : CellData) (actor task : ℕ) (answers : List Answer) (request : Request) → task < length cell.tasks → actor ≡ task → with_inputs asks cell actor answers request
     → asks actor answers request
 of_task asks cell actor task answers request within same (inl it) = it.asked
@@ -33,14 +33,14 @@ module _ {P : Type 0} (program_asks : P → List Answer → Request → Type 0) 
   pub course_more : (mine : List Event) (e : Event) → IsCourse program_asks cell task program mine → IsStep program_asks cell task program mine e → IsCourse program_asks cell task program (mine ++ e ∷ [])
   course_more mine e course step = record { at = cut_more (λ before x. IsStep program_asks cell task program before x) mine e course.at step }
 
-  -- the first events of a course are one
+  -- the first events of a course are a course
   pub course_before : (mine first left : List Event) → mine ≡ first ++ left → IsCourse program_asks cell task program mine → IsCourse program_asks cell task program first
   course_before mine first left cut course = record { at = cut_before (λ before e. IsStep program_asks cell task program before e) mine first left cut course.at }
 
-  -- A task that asks as its program, where the answers of each course fit the program, in a legal history.
+  -- A task that asks as its program does, if the answers of each course fit the program, in a legal history.
   module _ (fits : P → List Answer → Type 0) (asks : Asking) (within : task < length cell.tasks) (same : AsksAsProgram fits program_asks asks task program)
       (fit : (mine : List Event) → IsCourse program_asks cell task program mine → fits program (answers_in mine)) (history : List Event) (legal : IsLegal (with_inputs asks cell) cell history) where
-    -- its next event after those of a course
+    -- its next event after a course
     its_step : (before : List Event) (e : Event) → IsCutBy (λ (f : Event). f.actor == task) history before e → IsCourse program_asks cell task program before → IsStep program_asks cell task program before e
     its_step before e c course = record { own = own; asked = asked; fits = fitting }
       where
@@ -66,7 +66,7 @@ module _ {P : Type 0} (program_asks : P → List Answer → Request → Type 0) 
         from_front (λ (es : List Event). IsCourse program_asks cell task program es) (part_of task history) course_none
         (λ before after e cut course. course_more before e course (its_step before e (cut_by (λ (f : Event). f.actor == task) history before after e cut) course))
 
-    -- so what it was answered fits its program
+    -- so the answers that it got fit its program
     pub own_fit : fits program (answers_of task history)
     own_fit = fit (part_of task history) own_course
 

@@ -1,4 +1,4 @@
--- Machines in a row.
+-- Lists of machines.
 use Rattle.std.proofs.Common.{◌≡◌, ℕ, zero, suc, ◌+◌, ◌<◌, ◌≤◌, List, [], ◌∷◌, length, map, Option, Some, refl, ap, sym, ◌∙◌, subst, inl, inr, ◌⊎◌, arith}
 use Rattle.std.specs.Prelude.{slice_get, slice_set}
 use Rattle.std.specs.List.{AllByRecursion}
@@ -14,7 +14,7 @@ use Rattle.cell_meaning.specs.Turns.{TakesTurn}
 use Rattle.cell_meaning.proofs.MoreEvents.{part_of-other}
 use Rattle.cell_crew.specs.UnderWay.{UnderWay, AreUnderWay}
 
--- an element after a write is the one written, or it was there
+-- an element after a write is the one written, or was there before
 get_set : {A : Type 0} (xs : List A) (k j : ℕ) (v x : A) → slice_get (slice_set xs k v) j ≡ Some x → ((k ≡ j) × (x ≡ v)) ⊎ ((k ≡ j → ⊥) × (slice_get xs j ≡ Some x))
 get_set [] k j v x p = cc
 get_set (y ∷ xs) zero zero v x p = let same : v ≡ x = cc in inl (refl, sym same)
@@ -26,7 +26,7 @@ get_set (y ∷ xs) (suc k) (suc j) v x p =
       | inr w ↦ inr (λ q. w.0 (omega arith), w.1)
     ]
 
--- what is written over an element and has the same image changes no image
+-- an element written over one with the same image changes no image
 pub map_set : {M P : Type 0} (f : M → P) (xs : List M) (k : ℕ) (m later : M) → slice_get xs k ≡ Some m → f later ≡ f m → map f (slice_set xs k later) ≡ map f xs
 map_set f [] k m later at same = refl
 map_set {P = P} f (x ∷ xs) zero m later at same = let is : x ≡ m = cc in ap (λ (y : P). y ∷ map f xs) (same ∙ ap f (sym is))
@@ -44,7 +44,7 @@ turn_others asks cell actor other before after (inl s) apart =
     ap (λ (h : List Event). part_of other h) s.added ∙ part_of-other other before s.event (λ own. apart (sym s.by ∙ own))
 turn_others asks cell actor other before after (inr r) apart = ap (λ (h : List Event). part_of other h) r.same
 
--- what holds of all elements holds of the one at a place
+-- what holds of all elements holds of each
 pub all_at : {A : Type 0} (Q : A → Type 0) (xs : List A) (j : ℕ) (x : A) → AllByRecursion Q xs → slice_get xs j ≡ Some x → Q x
 all_at Q [] j x all at = cc
 all_at Q (y ∷ xs) zero x all at = let is : y ≡ x = cc in subst (λ z. Q z) is all.0
@@ -62,7 +62,7 @@ module _ {M : Type 0} (stands_for : M → List Answer → Type 0) (due : M → O
         ];
   }
 
-  -- the machines after a turn of one that is none of theirs
+  -- the machines after a turn of an actor that is none of their tasks
   pub under_way_other : (asks : Asking) (cell : CellData) (machines : List M) (actor : ℕ) (before after : List Event) → length machines ≤ actor → AreUnderWay stands_for due machines before
       → TakesTurn asks cell actor before after → AreUnderWay stands_for due machines after
   under_way_other asks cell machines actor before after none ways turn = record {
@@ -72,7 +72,7 @@ module _ {M : Type 0} (stands_for : M → List Answer → Type 0) (due : M → O
   }
 
 module _ {M P : Type 0} (program : M → P) (is_fresh : M → Type 0) (stands_for : M → List Answer → Type 0) (due : M → Option Request) where
-  -- the machines before this place have asked their first request, and those from it on nothing
+  -- the machines before this place have asked their first request, and the others nothing
   pub record HaveAsked (start machines : List M) (k : ℕ) : Type 0 where
     pub programs : map program machines ≡ map program start
     pub asked : (j : ℕ) (m : M) → j < k → slice_get machines j ≡ Some m → UnderWay stands_for due m []
@@ -101,7 +101,7 @@ module _ {M P : Type 0} (program : M → P) (is_fresh : M → Type 0) (stands_fo
         ];
   }
 
-  -- once each has, they are under way
+  -- once all have, they are under way
   pub have_asked_all : (start machines : List M) (k : ℕ) → HaveAsked start machines k → length machines ≤ k → AreUnderWay stands_for due machines []
   have_asked_all start machines k have all = record {
     each = λ task m at. have.asked task m (let lt : task < length machines = slice_get_within machines task m at in omega (arith, lt, all)) at;

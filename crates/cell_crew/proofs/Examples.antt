@@ -1,4 +1,4 @@
--- The definitions on a task that looks and ends, and a machine of it that counts the answers that it got.
+-- The definitions on a task that looks and ends, and a machine of it that counts the answers it got.
 use Rattle.std.proofs.Common.{◌≡◌, ℕ, zero, suc, List, [], ◌∷◌, length, Option, Some, refl}
 use Rattle.rapid_model.specs.declared.answer.Answer.{Answer}
 use Rattle.rapid_model.specs.declared.answer.Answer.TheVariants as answers
@@ -27,7 +27,7 @@ the_end_is_left_out : answers_before_end (looked ∷ told ∷ []) ≡ answers.Go
 unfolding looked told
 the_end_is_left_out = refl
 
--- after its Look the machine has asked its End, and stays so when that was answered
+-- after its Look the machine has asked its End, and stays so when that is answered
 under_way : UnderWay counts due 1 (looked ∷ [])
 unfolding looked counts due
 under_way = record { stands = refl; goes_on = λ going. refl }

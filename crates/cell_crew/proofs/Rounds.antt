@@ -1,4 +1,4 @@
--- Turns after turns, and rounds after rounds.
+-- Sequences of turns, and of rounds.
 use Rattle.std.proofs.Common.{◌≡◌, ℕ, zero, suc, ◌+◌, ◌≤◌, List, [], length, map, Option, Some, refl, ap, sym, ◌∙◌, subst, arith}
 use Rattle.std.proofs.lemmas.Bool.{ltb-false}
 use Rattle.std.proofs.lemmas.List.{length-map}
@@ -21,7 +21,7 @@ no_turns : (asks : Asking) (cell : CellData) (history : List Event) → TakeTurn
 unfolding TakeTurns
 no_turns asks cell history = refl
 
--- the turn of the actor after those that took theirs
+-- the turn of the next actor
 more_from : (asks : Asking) (cell : CellData) (actor left : ℕ) (before between after : List Event) → TakeTurns asks cell actor left before between → TakesTurn asks cell (actor + left) between after
     → TakeTurns asks cell actor (suc left) before after
 unfolding TakeTurns
@@ -40,7 +40,7 @@ turns_more asks cell k before between after turns turn =
     subst (λ (n : ℕ). TakeTurns asks cell 0 n before after) next
     (more_from asks cell 0 k before between after turns (subst (λ (j : ℕ). TakesTurn asks cell j between after) (sym here) turn))
 
--- a round that leaves the history no longer than it was leaves it as it was
+-- a round that leaves the history no longer leaves it as it was
 round_same : (asks : Asking) (cell : CellData) (before between after : List Event) → TakeTurns asks cell 0 (length cell.tasks) before between → TakesTurn asks cell (length cell.tasks) between after
     → length after ≤ length before → after ≡ before
 round_same asks cell before between after turns turn short =
@@ -56,7 +56,7 @@ pub round_kept : (asks : Asking) (first cell : CellData) (before between after :
 round_kept asks first cell before between after same turns turn short =
     round_same (with_inputs asks first) first before between after turns (subst (λ (c : CellData). TakesTurn (with_inputs asks c) c (length c.tasks) between after) same turn) short
 
--- rounds that led to a history
+-- the rounds that led to a history
 pub record AreRounds (asks : Asking) (cell : CellData) (history : List Event) : Type 0 where
   pub rounds : ℕ
   pub made : AfterRounds asks cell rounds history
@@ -82,7 +82,7 @@ module _ {M P : Type 0} (program : M → P) (stands_for : M → List Answer → 
       → HaveTurned asks machines machines cell cell history history 0
   none_turned asks machines cell history legal ways = record { same_cell = refl; programs = refl; legal = legal; ways = ways; turns = no_turns (with_inputs asks cell) cell history }
 
-  -- the program of a machine is the one that it had at the start
+  -- a machine has the same program as at the start
   program_at : (start machines : List M) (k : ℕ) (m : M) → map program machines ≡ map program start → slice_get machines k ≡ Some m → slice_get (map program start) k ≡ Some (program m)
   program_at start machines k m same at = ap (λ (ps : List P). slice_get ps k) (sym same) ∙ map_at program machines k m at
 

@@ -39,7 +39,7 @@ pub answered_turn : (asks : Asking) (cell : CellData) (actor : ℕ) (history aft
     → TakesTurn asks cell actor history after
 answered_turn asks cell actor history after request answer came = inl (record { event = event_of actor request answer; by = refl; follows = came.0; added = came.1 })
 
--- what comes of asking the one request that an actor asks is its turn
+-- the outcome of the one request that an actor asks is its turn
 pub came_turn : (asks : Asking) (cell : CellData) (actor : ℕ) (history after : List Event) (request : Request) (answer : Option Answer)
     → ((other : Request) → asks actor (answers_of actor history) other → other ≡ request)
     → CameOf asks cell history actor request after answer → TakesTurn asks cell actor history after
@@ -51,7 +51,7 @@ came_turn asks cell actor history after request None one came =
     })
 
 module _ {M P : Type 0} (program : M → P) (fits : P → List Answer → Type 0) (program_asks : P → List Answer → Request → Type 0) (stands_for : M → List Answer → Type 0) (due : M → Option Request) where
-  -- what holds of the machine of a task that has not ended, in its turn
+  -- what holds of the machine of a task that has not ended, during its turn
   pub record AtTurn (asks : Asking) (cell : CellData) (task : ℕ) (m : M) (history : List Event) (request : Request) : Type 0 where
     pub asks_due : (x : M) (answers : List Answer) (r other : Request) → stands_for x answers → due x ≡ Some r → program_asks (program x) answers other ↔ (other ≡ r)
     pub within : task < length cell.tasks
@@ -62,12 +62,12 @@ module _ {M P : Type 0} (program : M → P) (fits : P → List Answer → Type 0
     pub going : has_ended (part_of task history) ≡ false
     pub is_due : due m ≡ Some request
 
-  -- what the task was answered fits its program
+  -- the answers that the task got fit its program
   fit_after : (asks : Asking) (cell : CellData) (task : ℕ) (m : M) (history after : List Event) (request : Request) → AtTurn asks cell task m history request → IsLegal (with_inputs asks cell) cell after
       → fits (program m) (answers_of task after)
   fit_after asks cell task m history after request at legal = own_fit program_asks cell task (program m) fits asks at.within at.asks_as at.suits.fit after legal
 
-  -- the program asks just what is due
+  -- the program asks exactly what is due
   asks_just : (asks : Asking) (cell : CellData) (task : ℕ) (m : M) (history : List Event) (request : Request) → AtTurn asks cell task m history request
       → (other : Request) → asks task (answers_of task history) other ↔ (other ≡ request)
   asks_just asks cell task m history request at other =
@@ -98,20 +98,20 @@ module _ {M P : Type 0} (program : M → P) (fits : P → List Answer → Type 0
   ends_it asks cell task m history after request answer at is =
       ap (λ (es : List Event). has_ended es) (own_more task history after request answer is) ∙ ended_more (part_of task history) (event_of task request answer) at.going
 
-  -- where it has not, its End was not due
+  -- if it has not, its End was not due
   pub goes_on_it : (asks : Asking) (cell : CellData) (task : ℕ) (m : M) (history after : List Event) (request : Request) (answer : Answer) → AtTurn asks cell task m history request
       → after ≡ history ++ event_of task request answer ∷ [] → has_ended (part_of task after) ≡ false → IsSomeAnd (due m) (λ r. fate_of r ≡ None)
   goes_on_it asks cell task m history after request answer at is going =
       subst (λ (o : Option Request). IsSomeAnd o (λ r. fate_of r ≡ None)) (sym at.is_due) (no_fate (fate_of request) (sym (ends_it asks cell task m history after request answer at is) ∙ going))
 
-  -- where it has, its machine is under way as it is
+  -- if it has, its machine is under way as it is
   pub way_ends : (asks : Asking) (cell : CellData) (task : ℕ) (m : M) (history after : List Event) (request : Request) (answer : Answer) → AtTurn asks cell task m history request
       → after ≡ history ++ event_of task request answer ∷ [] → has_ended (part_of task after) ≡ true → UnderWay stands_for due m (part_of task after)
   way_ends asks cell task m history after request answer at is end =
       subst (λ (es : List Event). UnderWay stands_for due m es) (sym (own_more task history after request answer is))
       (way_ended stands_for due m (part_of task history) (event_of task request answer) (sym (ends_it asks cell task m history after request answer at is) ∙ end) at.going at.way)
 
-  -- and where it has not, the machine is once it has gone on with the answer
+  -- and if it has not, the machine is under way once it has gone on with the answer
   pub way_goes_on : (asks : Asking) (cell : CellData) (task : ℕ) (m later : M) (history after : List Event) (request : Request) (answer : Answer) → AtTurn asks cell task m history request
       → after ≡ history ++ event_of task request answer ∷ [] → has_ended (part_of task after) ≡ false → IsSome (due later)
       → ((before : List Answer) → stands_for m before → stands_for later (before ++ answer ∷ [])) → UnderWay stands_for due later (part_of task after)

@@ -13,7 +13,7 @@ pub record IsCrew {M : Type 0} (is_fresh : M → Type 0) (machines : List M) (ce
   pub one_each : length machines ≡ length cell.tasks
   pub fresh : AllByRecursion is_fresh machines
 
--- A task asks what its program asks: after answers that fit the program it asks what the program asks, and nothing else.
+-- A task asks what its program asks: after answers that fit the program, it asks that and nothing else.
 pub record AsksAsProgram {P : Type 0} (fits : P → List Answer → Type 0) (program_asks : P → List Answer → Request → Type 0) (asks : Asking) (task : ℕ) (program : P) : Type 0 where
   pub same : (answers : List Answer) (request : Request) → fits program answers → asks task answers request ↔ program_asks program answers request
 
@@ -21,10 +21,10 @@ pub record AsksAsProgram {P : Type 0} (fits : P → List Answer → Type 0) (pro
 pub record AskAsPrograms {P : Type 0} (fits : P → List Answer → Type 0) (program_asks : P → List Answer → Request → Type 0) (asks : Asking) (programs : List P) : Type 0 where
   pub each : (task : ℕ) (program : P) → slice_get programs task ≡ Some program → AsksAsProgram fits program_asks asks task program
 
--- the answers that a task got, but that to its End
+-- the answers that a task got, except that to its End
 abbrev pub answers_before_end : List Event → List Answer
 answers_before_end mine = map (λ e. e.answer) (filter (λ e. is_none (fate_of e.request)) mine)
 
--- each machine stands for its task's answers in the history, the answer to its End left out
+-- each machine stands for its task's answers in the history, except that to its End
 pub record Stand {M : Type 0} (stands_for : M → List Answer → Type 0) (machines : List M) (history : List Event) : Type 0 where
   pub each : (task : ℕ) (m : M) → slice_get machines task ≡ Some m → stands_for m (answers_before_end (part_of task history))

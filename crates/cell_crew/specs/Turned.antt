@@ -1,4 +1,4 @@
--- What asking a core once comes to.
+-- The outcome of one request to a core.
 use Rattle.std.specs.Prelude.{◌≡◌, ◌⊎◌, ℕ, false, List, [], ◌∷◌, ◌++◌, Option, Some, None}
 use Rattle.rapid_model.specs.CellData.{CellData}
 use Rattle.rapid_model.specs.declared.answer.Answer.{Answer}
@@ -14,7 +14,7 @@ use Rattle.cell_core.specs.Serving.{event_of}
 abbrev pub CannotFollow : CellData → List Event → ℕ → Request → Type 0
 CannotFollow cell history actor request = (can_be_served cell history request ≡ false) ⊎ (is_enabled cell history actor request ≡ false)
 
--- an event that follows came with the answer; or nothing came, where none can follow
+-- an event with the answer was added, and it may follow; or none was, and none can follow
 abbrev pub CameOf : Asking → CellData → List Event → ℕ → Request → List Event → Option Answer → Type 0
 CameOf asks cell before actor request after (Some answer) =
     Follows asks cell before (event_of actor request answer) × (after ≡ before ++ event_of actor request answer ∷ [])

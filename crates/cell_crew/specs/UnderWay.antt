@@ -1,4 +1,4 @@
--- Machines amid a run: each has asked what its task asks next.
+-- Machines during a run: each has asked what its task asks next.
 use Rattle.std.specs.Prelude.{◌≡◌, ℕ, false, List, Option, Some, IsSome, slice_get}
 use Rattle.rapid_model.specs.Own.{part_of, has_ended}
 use Rattle.rapid_model.specs.declared.answer.Answer.{Answer}
@@ -11,6 +11,6 @@ pub record UnderWay {M : Type 0} (stands_for : M → List Answer → Type 0) (du
   pub stands : stands_for m (answers_before_end mine)
   pub goes_on : has_ended mine ≡ false → IsSome (due m)
 
--- each machine is that of its task after the history
+-- each machine is under way for its task after the history
 pub record AreUnderWay {M : Type 0} (stands_for : M → List Answer → Type 0) (due : M → Option Request) (machines : List M) (history : List Event) : Type 0 where
   pub each : (task : ℕ) (m : M) → slice_get machines task ≡ Some m → UnderWay stands_for due m (part_of task history)

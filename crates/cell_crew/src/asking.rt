@@ -1,4 +1,4 @@
-//! What passes between a machine and the core.
+//! Requests of machines to the core.
 ghost use Rattle.std.specs.Prelude.{◌≡◌, [], map};
 ghost use Rattle.std.specs.List.{AllByRecursion};
 ghost use Rattle.rapid_model.specs.Own.{answers_of};
@@ -8,12 +8,12 @@ ghost use Rattle.cell_meaning.specs.Premises.{AsksWhatItMay};
 ghost use Rattle.cell_crew.specs.UnderWay.{AreUnderWay};
 ghost use Rattle.cell_crew.specs.Turned.{CameOf};
 
+use crate::TaskMachine;
 use cell_core::{Core, Served};
 use cell_meaning::Askers;
 use rapid_model::{Answer, Request};
-use task_programs::TaskMachine;
 
-/// Has each machine, which has asked nothing, ask its first request.
+/// Has each machine, none of which has asked anything, ask its first request.
 pub fn ask_first<M: TaskMachine>(machines: &mut [M])
     requires { AllByRecursion M.is_fresh machines.old }
     ensures programs { map M.program machines.new ≡ map M.program machines.old }
@@ -24,7 +24,7 @@ pub fn ask_first<M: TaskMachine>(machines: &mut [M])
     }
 }
 
-/// Asks the core what an actor asks: the answer, or none where it cannot be answered now.
+/// Serves an actor's request: the answer, or None if it cannot be answered now.
 pub(crate) fn ask<A: Askers>(core: &mut Core, actor: u32, request: Request) -> Option<Answer>
     requires asked { with_inputs A.asks core.old.cell actor (answers_of actor core.old.history) request }
     requires may { AsksWhatItMay (with_inputs A.asks core.old.cell) core.old.cell }

@@ -7,18 +7,18 @@ ghost use Rattle.cell_crew.specs.Courses.{SuitTasks};
 ghost use Rattle.cell_crew.specs.Crew.{AskAsPrograms, IsCrew, Stand};
 ghost use Rattle.cell_crew.specs.UnderWay.{AreUnderWay};
 
+use crate::TaskMachine;
 use crate::asking::ask_first;
 use crate::ran::Ran;
 use crate::script::feed;
 use crate::turn::turn;
 use cell_core::Core;
 use cell_meaning::Askers;
-use task_programs::TaskMachine;
 
-/// Lets the tasks take turns in script order, and after them the input script, one event a turn, until a whole round adds none
-/// (`IsByTurns` of cell_meaning). What has ended, is not enabled, or has no steps left adds none. The core has no events yet, and
-/// there is a machine for each task, which has asked nothing: the task asks as the machine's program, which suits it. Takes no
-/// memory.
+/// Lets the tasks take turns in script order, and then the input script, one event a turn, until a whole round adds
+/// none (`IsByTurns` of cell_meaning). An actor that has ended, is not enabled, or has no steps left adds none. The
+/// core's history is empty, and there is a machine for each task, which has asked nothing; the task asks what the
+/// machine's program asks, which suits it. Allocates nothing.
 pub fn run_round<A: Askers, M: TaskMachine>(mut core: Core, mut machines: Vec<M>) -> Ran<M>
     requires no_events { core.history ≡ [] }
     requires crew { IsCrew M.is_fresh machines.items core.cell }
@@ -33,7 +33,7 @@ pub fn run_round<A: Askers, M: TaskMachine>(mut core: Core, mut machines: Vec<M>
     Ran { core, machines }
 }
 
-// Rounds until one adds no event.
+// Runs rounds until one adds no event.
 fn run<A: Askers, M: TaskMachine>(core: &mut Core, machines: &mut [M])
     requires no_events { core.old.history ≡ [] }
     requires crew { IsCrew M.is_fresh machines.old core.old.cell }
@@ -49,7 +49,7 @@ fn run<A: Askers, M: TaskMachine>(core: &mut Core, machines: &mut [M])
     'rounds: while round::<A, M>(core, machines) {}
 }
 
-// A turn of each task in order and then of the input script; and whether any added an event.
+// A turn of each task in order, then of the input script. Returns whether any added an event.
 fn round<A: Askers, M: TaskMachine>(core: &mut Core, machines: &mut [M]) -> bool
     requires one_each { length machines.old ≡ length core.old.cell.tasks }
     requires programs { AskAsPrograms M.fits M.asks A.asks (map M.program machines.old) }

@@ -10,7 +10,7 @@ use cell_core::Core;
 use cell_meaning::Askers;
 use rapid_model::Request;
 
-/// The turn of the input script: it does the next step where there is one and it is open.
+/// The turn of the input script: it does the next step if there is one and it is open.
 pub(crate) fn feed<A: Askers>(core: &mut Core)
     requires may { AsksWhatItMay (with_inputs A.asks core.old.cell) core.old.cell }
     requires legal { IsLegal (with_inputs A.asks core.old.cell) core.old.cell core.old.history }

@@ -9,12 +9,12 @@ ghost use Rattle.cell_crew.specs.Courses.{SuitsTask};
 ghost use Rattle.cell_crew.specs.Crew.{AsksAsProgram};
 ghost use Rattle.cell_crew.specs.UnderWay.{UnderWay};
 
+use crate::TaskMachine;
 use crate::asking::ask;
 use cell_core::Core;
 use cell_meaning::Askers;
-use task_programs::TaskMachine;
 
-/// The turn of a task, by its number from 0 in script order: it adds its event where it can.
+/// The turn of a task, by its number from 0 in script order: it adds its event if it can.
 pub(crate) fn turn<A: Askers, M: TaskMachine>(core: &mut Core, machine: &mut M, task: u32)
     requires task { task < length core.old.cell.tasks }
     requires program { AsksAsProgram M.fits M.asks A.asks task (M.program machine.old) }
@@ -32,7 +32,7 @@ pub(crate) fn turn<A: Askers, M: TaskMachine>(core: &mut Core, machine: &mut M, 
         return;
     }
     if let Some(answer) = ask::<A>(core, task, machine.last()) {
-        // A machine is not handed the answer to its End.
+        // A machine gets no answer to its End.
         if !core.ended(task) {
             machine.next(answer);
         }

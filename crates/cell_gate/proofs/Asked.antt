@@ -20,11 +20,11 @@ use Rattle.cell_meaning.proofs.InputScript.{script_may}
 use Rattle.cell_core.specs.CoreData.{CoreData}
 use Rattle.cell_gate.specs.Causes.{is_over, may_wait}
 
--- a core whose cell and history stay stays as it is
+-- a core with the same cell and history is the same
 pub same_core : (old new : CoreData) → new.cell ≡ old.cell → new.history ≡ old.history → new ≡ old
 same_core old new cell history = λ i. record { cell = cell i; history = history i }
 
--- what never waits is enabled
+-- a request that never waits is enabled
 pub never_waits : (cell : CellData) (history : List Event) (actor : ℕ) (request : Request) → may_wait request ≡ false → is_enabled cell history actor request ≡ true
 never_waits cell history actor requests.Rise plain = absurd (true≢false plain)
 never_waits cell history actor (requests.Input index) plain = absurd (true≢false plain)

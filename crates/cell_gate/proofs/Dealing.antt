@@ -49,7 +49,7 @@ made_kept cell = record {
     alone zero (suc other) actor v w at_v at_w live_v live_w speaks_v speaks_w = absurd (some-ne-none w (sym at_w))
     alone (suc seat) other actor v w at_v at_w live_v live_w speaks_v speaks_w = absurd (some-ne-none v (sym at_v))
 
--- the first view makes one more, while not all actors have one
+-- the first view makes one more while some actor has none
 pub deal_allowed : (cell : CellData) (id : ℕ) (v : View) → v.spent ≡ false → v.made ≢ 0 → v.made ≤ length v.cell.tasks → Splits (Kept cell) id v (after_deal v) (dealt v)
 deal_allowed cell id v live first left s kept here =
     let h = kept.history in
@@ -101,12 +101,12 @@ deal_allowed cell id v live first left s kept here =
       out = λ some_has. some_end (λ u. u.holds ≡ true) (set s.views id dealer) next (some_set (λ u. u.holds ≡ true) s.views id v dealer here live (λ holds. holds) (kept.out some_has));
     }
   where
-    -- the new view speaks for its own actor alone, which is not known yet
+    -- the new view speaks only for its own actor, which is not known yet
     unknown : (actor made next : ℕ) → next ≡ made → actor < made → (next ≡ actor) ⊎ ⊥ → ⊥
     unknown actor made next is lt (inl same) = omega (arith, is, lt, same)
     unknown actor made next is lt (inr never) = never
 
--- passes in order, with one more behind
+-- passes in order, with one more at the end
 pub fresh_more : (gate : GateData) (actor others : ℕ) → fresh_passes gate actor (others + 1) ≡ fresh_passes gate actor others ++ fresh_pass gate (actor + others) ∷ []
 fresh_more gate actor zero = let last : actor ≡ actor + 0 = omega arith in ap (λ (k : ℕ). fresh_pass gate k ∷ []) last
 fresh_more gate actor (suc others) =

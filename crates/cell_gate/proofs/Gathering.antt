@@ -1,4 +1,4 @@
--- Taking in the views of all passes, and what the last of them tells.
+-- Merging the views of all passes, and what the last view states.
 use Rattle.std.proofs.Common.{◌≡◌, ◌≢◌, ◌⊎◌, inl, inr, ⊎_elim, ℕ, zero, suc, ◌<◌, ◌≤◌, true, false, List, [], ◌∷◌, ◌++◌, length, get_or, set, Option, Some, refl, sym, ◌∙◌, ap, subst, arith}
 use Rattle.std.specs.Prelude.{All, Contains}
 use Rattle.std.specs.List.{AllByRecursion}
@@ -27,13 +27,13 @@ use Rattle.cell_gate.proofs.Histories.{tell_both, speak_either, saw_left, saw_ri
 use Rattle.cell_gate.proofs.Keeps.{Table}
 use Rattle.cell_gate.proofs.Views.{set_at}
 
--- the views after one took in another
+-- the views after one was merged into another
 abbrev gathered : ℕ → View → ℕ → View → List View → List View
 gathered id v other w views = set (set views id (after_gather v w)) other spent_view
 
 -- a view without the turn takes in another, of another seat
 module _ (id : ℕ) (v : View) (other : ℕ) (w : View) (views : List View) (here : get_elem? views id ≡ some v) (there : get_elem? views other ≡ some w) (different : other ≢ id) (live : v.spent ≡ false) (live_w : w.spent ≡ false) where
-  -- what stands there afterwards stood there before, or is the view that took the other in
+  -- the view there afterwards is the one before, or the one that took the other in
   before : (j : ℕ) (u : View) → get_elem? (gathered id v other w views) j ≡ some u → u.spent ≡ false → (j ≢ other) × (((j ≡ id) × (after_gather v w ≡ u)) ⊎ ((j ≢ id) × (get_elem? views j ≡ some u)))
   before j u at live_u =
       ⊎_elim
@@ -77,7 +77,7 @@ module _ (id : ℕ) (v : View) (other : ℕ) (w : View) (views : List View) (her
   here_after : get_elem? (gathered id v other w views) id ≡ some (after_gather v w)
   here_after = set_else (set views id (after_gather v w)) other id spent_view (λ same. different (sym same)) ∙ set_at views id v (after_gather v w) here
 
-  -- P holds of the view that took the other in where it held of either
+  -- P holds of the view that took the other in if it held of either
   pub some_gathered : (P : View → Type 0) → (P v → P (after_gather v w)) → (P w → P (after_gather v w)) → SomeView P views → SomeView P (gathered id v other w views)
   some_gathered P ours theirs it = elim (cases_eq it.seat other) [
     | inl same ↦ (
@@ -169,7 +169,7 @@ all_known all others first v w is told known kept =
     let ours : Contains (parts v) (part_told first) = subst (λ (part : Part). Contains (parts v) part) told (All-head (λ part. Contains (parts v) part) (own_part w) w.joined kept) in
     subst (λ (ps : List PassData). All (λ p. Contains (parts v) (part_told p)) ps) (sym is) (All-push (λ p. Contains (parts v) (part_told p)) others first known ours)
 
--- what a pass tells is its view's own part
+-- what a pass states is its view's own part
 pub told_by : (caller : Caller) (p : PassData) → IsBetweenCalls caller → pass_of caller ≡ p → own_part caller.place.me.0 ≡ part_told p
 told_by caller p between is = (λ i. record { actor = between.actor_is i; seen = caller.place.me.0.seen; mine = caller.place.me.0.mine }) ∙ ap part_told is
 
@@ -184,7 +184,7 @@ pub ends : (cell : CellData) (id : ℕ) (v : View) (s : Table) → Kept cell s �
 ends cell id v s kept here live idle speaks =
     record { history = kept.history; made = kept.made; home = kept.home nobody; tell = (kept.each id v here live).tell }
   where
-    -- who has the turn would be this view
+    -- this view would have the turn
     not_had : SomeView (λ u. u.holds ≡ true) s.views → ⊥
     not_had it =
         let theirs = kept.each it.seat it.view it.at it.live in
@@ -210,14 +210,14 @@ speaks_among [] k part lt is = absurd (omega arith)
 speaks_among (p ∷ ps) zero part lt is = inl (ap (λ (q : Part). q.actor) is)
 speaks_among (p ∷ ps) (suc k) part lt is = inr (speaks_among ps k part (omega (arith, lt)) is)
 
--- where the parts of all passes are told, each actor is spoken for
+-- if the parts of all passes are stated, each actor is spoken for
 pub all_spoken : (gate : GateData) (passes : List PassData) (ps : List Part) → AreAllPasses gate passes → All (λ p. Contains ps (part_told p)) passes → (actor : ℕ) → actor ≤ length gate.cell.tasks → SpeakFor actor ps
 all_spoken gate passes ps are all actor le =
     let it = are.every actor le in
     let told : Contains ps (part_told it.1) = All-contains (λ p. Contains ps (part_told p)) passes it.1 all (it.0, it.2, it.3) in
     subst (λ (k : ℕ). SpeakFor k ps) it.4 (speaks_among ps told.0 (part_told it.1) told.1 told.2)
 
--- where the parts of all passes are told, each pass tells of the history
+-- if the parts of all passes are stated, each pass is of the history
 pub all_tell : (history : List Event) (made : ℕ) (passes : List PassData) (ps : List Part) → AllByRecursion (KnowsPart history made) ps → All (λ p. Contains ps (part_told p)) passes → AreOfHistory passes history
 all_tell history made passes ps tell all =
     let each : (p : PassData) → Contains ps (part_told p) → KnowsPart history made (part_told p) = λ p told. All-contains (KnowsPart history made) ps (part_told p) (All-from_recursion (KnowsPart history made) ps tell) told in

@@ -1,4 +1,4 @@
--- Beginnings of histories, and what parts tell of them.
+-- Prefixes of histories, and what parts say of them.
 use Rattle.std.proofs.Common.{◌≡◌, ◌⊎◌, inl, inr, ℕ, ◌<◌, ◌≤◌, List, [], ◌∷◌, ◌++◌, sym, ◌∙◌, ap, arith, append_assoc, append-nil}
 use Rattle.std.specs.List.{AllByRecursion}
 use mathlib.Core.List.{IsPrefix}
@@ -17,14 +17,14 @@ prefix_trans a b c p q = (p.0 ++ q.0, sym (append_assoc a p.0 q.0) ∙ ap (λ (e
 pub prefix_as : (a b c : List Event) → IsPrefix a b → b ≡ c → IsPrefix a c
 prefix_as a b c p same = (p.0, p.1 ∙ same)
 
--- what parts tell holds where more views were made
+-- what parts say still holds when more views were made
 pub tell_made : (history : List Event) (made more : ℕ) (parts : List Part) → made ≤ more → AllByRecursion (KnowsPart history made) parts → AllByRecursion (KnowsPart history more) parts
 tell_made history made more [] le tell = tt
 tell_made history made more (part ∷ rest) le tell =
     let known = tell.0.known in
     (record { begins = tell.0.begins; mine = tell.0.mine; known = omega (arith, known, le) }, tell_made history made more rest le tell.1)
 
--- what parts tell holds after an event of an actor for which they do not speak
+-- what parts say still holds after an event of an actor for which they do not speak
 pub tell_more : (history later : List Event) (e : Event) (made : ℕ) (parts : List Part) → later ≡ history ++ e ∷ [] → (SpeakFor e.actor parts → ⊥) → AllByRecursion (KnowsPart history made) parts
     → AllByRecursion (KnowsPart later made) parts
 tell_more history later e made [] more apart tell = tt
@@ -37,13 +37,13 @@ tell_more history later e made (part ∷ rest) more apart tell = (
   tell_more history later e made rest more (λ speaks. apart (inr speaks)) tell.1,
 )
 
--- an actor for which parts speak is one of the first so many
+-- an actor for which parts speak is one of the first `made`
 pub spoken_known : (history : List Event) (made actor : ℕ) (parts : List Part) → AllByRecursion (KnowsPart history made) parts → SpeakFor actor parts → actor < made
 spoken_known history made actor (part ∷ rest) tell (inl is) = let known = tell.0.known in omega (arith, known, is)
 spoken_known history made actor (part ∷ rest) tell (inr later) = spoken_known history made actor rest tell.1 later
 spoken_known history made actor [] tell speaks = absurd speaks
 
--- what parts tell and what more parts tell holds of them together
+-- what two lists of parts say holds of both together
 pub tell_both : (history : List Event) (made : ℕ) (parts more : List Part) → AllByRecursion (KnowsPart history made) parts → AllByRecursion (KnowsPart history made) more → AllByRecursion (KnowsPart history made) (parts ++ more)
 tell_both history made [] more tell rest = rest
 tell_both history made (part ∷ parts) more tell rest = (tell.0, tell_both history made parts more tell.1 rest)

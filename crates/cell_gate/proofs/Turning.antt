@@ -1,4 +1,4 @@
--- A turn of a pass: it takes the core, asks it, and gives it back. What the core then tells, the pass knows.
+-- A turn of a pass: it takes the core, asks it, and gives it back. Then the pass knows what the core has stated.
 use Rattle.std.proofs.Common.{◌≡◌, ℕ, ◌+◌, ◌<◌, Bool, true, false, List, [], ◌∷◌, ◌++◌, length, Option, Some, None, refl, sym, ◌∙◌, ap, subst, subst₂, arith}
 use Rattle.std.specs.Prelude.{IsSome, IsTrue}
 use Rattle.std.proofs.lemmas.Bool.{false≢true, true≢false}
@@ -67,13 +67,13 @@ taken_out start hand last found core no_slot took out is read =
       mine = took.mine ∙ ap (λ (h : List Event). part_of start.0.actor h) history;
     }
 
--- nothing is counted where the core gained no event
+-- nothing is counted if the core gained no event
 pub counts_none : (hand : Hand) → MayCount hand false → hand ≡ counted_in hand
 counts_none hand counting =
     let history : history_out hand.1 ≡ hand.0.seen = ap history_out counting.slot ∙ counting.grows.same refl in
     λ i. (record hand.0 { seen = sym history i; mine = (counting.turn.mine ∙ ap (λ (h : List Event). part_of hand.0.actor h) (sym history)) i }, hand.1)
 
--- an actor that took the core, and what the core then came to
+-- an actor that took the core, and what the core then reached
 pub settles : (old mid : Caller) (before after : CoreData) (grew gains : Bool) → IsBetweenCalls old → IsSameCaller old mid → HasTaken old.place.me before mid.place.me → grew ≡ gains
     → (after.cell ≡ before.cell) × GainedIf old.actor before.history after.history gains → MaySettle mid after grew
 settles old mid before after grew gains between same out is came =
@@ -99,7 +99,7 @@ between_again old new core grew so me actor len = record {
   len = ap (λ (h : Hand). length h.0.seen) me ∙ sym len;
 }
 
--- a turn of a pass, in which the core came from one history to another
+-- a turn of a pass, in which the core went from one history to another
 pub record Turned (old : PassData) (before after : CoreData) (new : PassData) : Type 0 where
   pub cell : before.cell ≡ old.gate.cell
   pub begins : IsPrefix old.seen before.history
@@ -142,7 +142,7 @@ held_in_turn old taken core between out task held =
 pub script_in_turn : (old : Caller) (taken : Hand) (core : CoreData) → HasTaken old.place.me core taken → (pass_of old).actor ≡ length (pass_of old).gate.cell.tasks → old.actor ≡ length core.cell.tasks
 script_in_turn old taken core out is = is ∙ ap (λ (c : CellData). length c.tasks) (sym out.cell)
 
--- what the core gained in a turn, the pass did
+-- the pass gained what the core gained in a turn
 pub pass_gained : (old new : PassData) (before after : CoreData) (request : Request) (answer : Answer) → Turned old before after new → CoreGained before old.actor request answer after → PassGained old before.history request answer new
 pass_gained old new before after request answer turn gains =
     let e = event_of old.actor request answer in
@@ -166,11 +166,11 @@ looked old new before after turn same =
       looks = turn.looks;
     }
 
--- what held of the core then holds of what the pass has seen
+-- what held of the core holds of what the pass has seen
 seen_as : (P : CellData → List Event → Type 0) (old new : PassData) (before after : CoreData) → Turned old before after new → after ≡ before → P before.cell before.history → P old.gate.cell new.seen
 seen_as P old new before after turn same so = subst₂ P turn.cell (sym (ap (λ (core : CoreData). core.history) same) ∙ sym turn.seen) so
 
--- what came of asking tells whether the core gained an event
+-- the outcome of a request says whether the core gained an event
 gains_grow : (before after : CoreData) (actor : ℕ) (request : Request) (answer : Answer) → CoreGained before actor request answer after → (after.cell ≡ before.cell) × GainedIf actor before.history after.history true
 gains_grow before after actor request answer gains =
     (gains.cell, record { gained = λ yes_it. (event_of actor request answer, refl, gains.history); same = λ not_it. absurd (true≢false not_it) })
@@ -196,7 +196,7 @@ feeds_grow before after script fed.Given is so =
 feeds_grow before after script fed.NotYet is so = same_grow before after script so.0
 feeds_grow before after script fed.Over is so = same_grow before after script so.0
 
--- what the core tells in a turn, the call does
+-- what the core states in a turn, the call states
 pub acted_as : (old new : PassData) (before after : CoreData) (request : Request) (a : Acted) → Turned old before after new → Acts before old.actor request a after → ActedAs old request a new
 acted_as old new before after request (acted.Done answer) turn gains = (before.history, pass_gained old new before after request answer turn gains)
 acted_as old new before after request acted.Spent turn so =

@@ -1,4 +1,4 @@
--- Rows of views of which one changes, or to which one is added.
+-- Lists of views of which one changes, or to which one is added.
 use Rattle.std.proofs.Common.{◌≡◌, ◌≢◌, ◌⊎◌, inl, inr, ⊎_elim, ℕ, zero, suc, false, List, [], ◌∷◌, ◌++◌, length, set, refl, sym, ◌∙◌, ap, subst}
 use Rattle.std.proofs.lemmas.Bool.{cases_eq}
 use mathlib.Core.Option.{some, some-injective, some-ne-none}
@@ -14,7 +14,7 @@ set_at [] seat v w at = absurd (some-ne-none v (sym at))
 set_at (u ∷ views) zero v w at = refl
 set_at (u ∷ views) (suc seat) v w at = set_at views seat v w at
 
--- what stands behind a row
+-- what stands after a list
 pub at_end : (views : List View) (last v : View) (seat : ℕ) → get_elem? (views ++ last ∷ []) seat ≡ some v → (get_elem? views seat ≡ some v) ⊎ ((seat ≡ length views) × (last ≡ v))
 at_end [] last v zero at = inr (refl, some-injective last v at)
 at_end [] last v (suc seat) at = absurd (some-ne-none v (sym at))
@@ -36,7 +36,7 @@ each_end P views w here others j u at live =
     (λ (t : (j ≡ length views) × (w ≡ u)). subst (λ (x : ℕ × View). P x.0 x.1) (λ i. (sym t.0 i, t.1 i)) here)
     (at_end views w u j at)
 
--- a view that speaks for no other actors than before
+-- a view that speaks for no more actors than before
 pub apart_set : (views : List View) (seat : ℕ) (v w : View) → get_elem? views seat ≡ some v → v.spent ≡ false → ((actor : ℕ) → SpeakFor actor (parts w) → SpeakFor actor (parts v)) → Apart views → Apart (set views seat w)
 apart_set views seat v w here live less apart j k actor a b at_a at_b live_a live_b speaks_a speaks_b =
     ⊎_elim

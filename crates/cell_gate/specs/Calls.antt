@@ -1,4 +1,4 @@
--- What the calls of a gate make of a pass, and what the passes tell of the history.
+-- What the calls of a gate make of a pass, and what the passes say of the history.
 use Rattle.std.specs.Prelude.{◌≡◌, ℕ, zero, suc, ◌+◌, ◌<◌, ◌≤◌, false, List, [], ◌∷◌, ◌++◌, length, IsTrue, All, Any}
 use mathlib.Core.List.{IsPrefix}
 use Rattle.rapid_model.specs.Fits.{fits_request, fitting_in}
@@ -23,7 +23,7 @@ use Rattle.cell_gate.specs.Causes.{StaysHeld, FeedsNone, is_over}
 use Rattle.cell_gate.specs.GateData.{GateData}
 use Rattle.cell_gate.specs.PassData.{PassData}
 
--- the actor may ask this, as its own events tell
+-- the actor may ask this, by its own events
 abbrev pub MayAsk : PassData → Request → Type 0
 MayAsk p request = IsTrue (may_ask p.gate.cell p.actor p.mine request)
 
@@ -32,8 +32,8 @@ pub record IsSameHolder (old new : PassData) : Type 0 where
   pub gate_is : new.gate ≡ old.gate
   pub actor_is : new.actor ≡ old.actor
 
--- The call is one event, which came after these, among them all that the pass had seen. It has the core's answer, which fits the
--- request after the actor's own events. Now the pass has seen it, and it is the last of its own.
+-- The call is one event, which came after these, among them all that the pass had seen. It has the core's answer, which
+-- fits the request after the actor's own events. Now the pass has seen it, and it is the last of the pass's own events.
 pub record PassGained (old : PassData) (before : List Event) (request : Request) (answer : Answer) (new : PassData) : Type 0 where
   pub begins : IsPrefix old.seen before
   pub answered : IsAnswered old.gate.cell before old.actor request answer
@@ -42,7 +42,7 @@ pub record PassGained (old : PassData) (before : List Event) (request : Request)
   pub mine : new.mine ≡ old.mine ++ event_of old.actor request answer ∷ []
   pub own : new.mine ≡ part_of old.actor new.seen
 
--- The call added no event. It took the turn since, so what the pass has seen is the whole history at a step of this call.
+-- The call added no event. It did take the turn, so what the pass has seen is the whole history at a step of this call.
 pub record Looked (old new : PassData) : Type 0 where
   pub begins : IsPrefix old.seen new.seen
   pub mine : new.mine ≡ old.mine
@@ -70,11 +70,11 @@ abbrev pub FedNow : PassData → Fed → PassData → Type 0
 FedNow old fed.Given new = (before : List Event) × PassGained old before (requests.Input (length old.mine)) answers.Ok new × (is_over old.gate.cell before ≡ false)
 FedNow old other new = Looked old new × FeedsNone old.gate.cell new.seen (length old.mine) other
 
--- the pass of an actor that has neither seen nor done anything
+-- the pass of an actor that has seen and done nothing
 abbrev pub fresh_pass : GateData → ℕ → PassData
 fresh_pass gate actor = record { gate = gate; actor = actor; seen = []; mine = []; looks = 0 }
 
--- the fresh passes of so many actors in order, the first of them this one
+-- the fresh passes of this many actors in order, starting with this one
 abbrev pub fresh_passes : GateData → ℕ → ℕ → List PassData
 fresh_passes gate actor zero = []
 fresh_passes gate actor (suc others) = fresh_pass gate actor ∷ fresh_passes gate (actor + 1) others
@@ -84,7 +84,7 @@ pub record AreAllPasses (gate : GateData) (passes : List PassData) : Type 0 wher
   pub of_gate : All (λ p. p.gate ≡ gate) passes
   pub every : (actor : ℕ) → actor ≤ length gate.cell.tasks → Any (λ p. p.actor ≡ actor) passes
 
--- each pass has seen a beginning of the history, and has its actor's events in it
+-- each pass has seen a prefix of the history, and has its actor's events in it
 pub record AreOfHistory (passes : List PassData) (history : List Event) : Type 0 where
   pub begins : All (λ p. IsPrefix p.seen history) passes
   pub mine : All (λ p. p.mine ≡ part_of p.actor history) passes

@@ -21,7 +21,7 @@ IsSized table = (table.words ≡ 2) × (table.slots ≡ 1)
 abbrev pub IsPlaceOf : TableId → Seat (Option CoreData) View → Type 0
 IsPlaceOf table place = (place.table_id ≡ table) × IsSized table
 
--- the place has the same number at the same table
+-- the same place at the same table
 pub record IsSamePlace (old new : Seat (Option CoreData) View) : Type 0 where
   pub table_is : new.table_id ≡ old.table_id
   pub id_is : new.id ≡ old.id
@@ -30,7 +30,7 @@ pub record IsSamePlace (old new : Seat (Option CoreData) View) : Type 0 where
 abbrev pub gate_of : Seat (Option CoreData) View → GateData
 gate_of place = record { cell = place.me.0.cell; table = place.table_id }
 
--- the caller has the same place, speaks for the same actor, and has seen as much
+-- the caller has the same place, speaks for the same actor, and has seen as many events
 pub record IsSameCaller (old new : Caller) : Type 0 where
   pub place : IsSamePlace old.place new.place
   pub actor_is : new.actor ≡ old.actor
@@ -45,13 +45,13 @@ pass_of caller =
 abbrev pub part_told : PassData → Part
 part_told p = record { actor = p.actor; seen = p.seen; mine = p.mine }
 
--- who has this in hand has neither the turn nor the slot
+-- in hand are neither the turn nor the slot
 pub record IsIdle (hand : Hand) : Type 0 where
   pub no_turn : hand.0.holds ≡ false
   pub live : hand.0.spent ≡ false
   pub no_slot : hand.1 ≡ []
 
--- what the place of an actor has in hand that has neither seen nor done anything
+-- what is in hand at the place of an actor that has seen and done nothing
 pub record IsNew (actor : ℕ) (hand : Hand) : Type 0 where
   pub idle : IsIdle hand
   pub actor_is : hand.0.actor ≡ actor
@@ -60,7 +60,7 @@ pub record IsNew (actor : ℕ) (hand : Hand) : Type 0 where
   pub mine : hand.0.mine ≡ []
   pub looks : hand.0.looks ≡ 0
 
--- an actor between two calls: its view is its own alone, and it has counted what it has seen
+-- an actor between two calls: nothing was merged into its view, and it has counted what it has seen
 pub record IsBetweenCalls (caller : Caller) : Type 0 where
   pub idle : IsIdle caller.place.me
   pub actor_is : caller.place.me.0.actor ≡ caller.actor
@@ -82,7 +82,7 @@ pub record InTurn (v : View) : Type 0 where
   pub alone : v.joined ≡ []
   pub mine : v.mine ≡ part_of v.actor v.seen
 
--- an actor in its turn with the slot empty, and the core, which gained an event of the actor or did not
+-- an actor in its turn, with the slot empty, and the core, which gained an event of the actor if `grew`
 pub record MaySettle (caller : Caller) (core : CoreData) (grew : Bool) : Type 0 where
   pub turn : InTurn caller.place.me.0
   pub slot : caller.place.me.1 ≡ (0, None) ∷ []
@@ -90,7 +90,7 @@ pub record MaySettle (caller : Caller) (core : CoreData) (grew : Bool) : Type 0 
   pub cell : core.cell ≡ caller.place.me.0.cell
   pub grows : GainedIf caller.place.me.0.actor caller.place.me.0.seen core.history grew
 
--- what is in hand in a turn, with the core in the slot, which gained an event of the actor or did not
+-- what is in hand during a turn, with the core in the slot, which gained an event of the actor if `grew`
 pub record MayCount (hand : Hand) (grew : Bool) : Type 0 where
   pub core : CoreData
   pub slot : hand.1 ≡ (0, Some core) ∷ []

@@ -1,5 +1,5 @@
--- What holds of the gate's table between any two steps. There is one history, and nothing holds it but the core: each view tells
--- its beginning and its actor's events.
+-- What holds of the gate's table between any two steps. There is one history, and only the core holds it: each view
+-- states a prefix of it and its actor's events.
 use Rattle.std.specs.Prelude.{◌≡◌, ◌≢◌, ◌⊎◌, ℕ, ◌+◌, ◌<◌, ◌≤◌, Bool, true, false, List, [], ◌∷◌, length, Option, None, Some}
 use Rattle.std.specs.List.{AllByRecursion}
 use mathlib.Core.List.{IsPrefix}
@@ -18,7 +18,7 @@ use Rattle.cell_gate.specs.Views.{parts}
 abbrev pub core_of : CellData → List Event → CoreData
 core_of cell history = record { cell = cell; history = history }
 
--- the part has seen a beginning of the history, and has its actor's events in it; the actor is one of the first so many
+-- the part has seen a prefix of the history, and has its actor's events in it; the actor is one of the first `made`
 pub record KnowsPart (history : List Event) (made : ℕ) (part : Part) : Type 0 where
   pub begins : IsPrefix part.seen history
   pub mine : part.mine ≡ part_of part.actor history
@@ -34,19 +34,19 @@ abbrev pub SawAll : List Event → List Part → Type 0
 SawAll history [] = ⊥
 SawAll history (part ∷ rest) = (part.seen ≡ history) ⊎ SawAll history rest
 
--- the slot where a view has the turn: it is out, or, before the gate is open, at home and empty
+-- the slot while a view has the turn: taken, or, before the gate is open, at home and empty
 abbrev pub slot_away : Bool → maybe.Option (Option CoreData)
 slot_away true = some None
 slot_away false = none
 
--- the view has the turn, and has seen the whole history, which has no event before the gate is open
+-- the view has the turn, and has seen the whole history, which is empty before the gate is open
 pub record HasTurn (turn : ℕ) (homes : List (maybe.Option (Option CoreData))) (history : List Event) (v : View) : Type 0 where
   pub turn_is : turn ≡ v.actor + 1
   pub whole : v.seen ≡ history
   pub away : homes ≡ slot_away v.fresh ∷ []
   pub empty : v.fresh ≡ true → history ≡ []
 
--- what holds of a view, by the number of its seat: the first one knows how many there are
+-- what holds of a view, by the number of its seat; only the first knows how many there are
 pub record Knows (cell : CellData) (turn : ℕ) (homes : List (maybe.Option (Option CoreData))) (history : List Event) (made seat : ℕ) (v : View) : Type 0 where
   pub cell_is : v.cell ≡ cell
   pub tell : AllByRecursion (KnowsPart history made) (parts v)
@@ -71,10 +71,11 @@ pub record SomeView (P : View → Type 0) (views : List View) : Type 0 where
   pub live : view.spent ≡ false
   pub so : P view
 
--- The words are the turn, which is 0 while nobody has it, and the length of the history. The first views made are those of the
--- first actors, and no other actor has an event (`late`). A view that is not spent has seen the whole history, or a part that it
--- took in has (`longest`). While nobody has the turn, the core is at home, with the whole history (`home`). Otherwise a view that
--- is not spent has it (`out`). That view is one alone, since the turn tells its actor, and no two views speak for one (`apart`).
+-- The words are the turn, which is 0 while nobody has it, and the length of the history. The first views made are those
+-- of the first actors, and no other actor has an event (`late`). Some view that is not spent has seen the whole
+-- history, or has taken in a part that has (`longest`). While nobody has the turn, the core is at home, with the whole
+-- history (`home`). Otherwise a view that is not spent has the turn (`out`). Only one view has it, since the turn names
+-- its actor, and no two views speak for one actor (`apart`).
 pub record Kept (cell : CellData) (s : State (Option CoreData) View) : Type 0 where
   pub history : List Event
   pub made : ℕ

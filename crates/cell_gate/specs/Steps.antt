@@ -1,4 +1,4 @@
--- What each step tells who takes it: of what was in hand, the number found, and what is in hand afterwards.
+-- What each step ensures for its caller, from what was in hand, the number found, and what is in hand afterwards.
 use Rattle.std.specs.Prelude.{◌≡◌, ◌≢◌, ℕ, List, [], ◌∷◌, Option, None, Some}
 use mathlib.Core.List.{IsPrefix}
 use Rattle.atomic_table.specs.Table.{Me, rest}
@@ -9,11 +9,11 @@ use Rattle.cell_gate.specs.declared.view.View.{View}
 use Rattle.cell_gate.specs.Rule.{core_of}
 use Rattle.cell_gate.specs.Views.{after_take, after_count, after_give, after_open}
 
--- a seat's view, and the slots that are out with it
+-- a seat's view, and the slots that it has taken
 abbrev pub Hand : Type 0
 Hand = Me (Option CoreData) View
 
--- the turn was free, and is taken: the slot is out, and has the core with the whole history, which is now seen
+-- the turn was free and is taken: the slot is out, and has the core with the whole history, which is now seen
 pub record Took (before after : Hand) : Type 0 where
   pub view : after.0 ≡ after_take before.0 after.0.seen
   pub slot : after.1 ≡ (0, Some (core_of before.0.cell after.0.seen)) ∷ before.1
@@ -36,7 +36,7 @@ history_out (slot ∷ slots) = history_in slot.1
 abbrev pub counted_in : Hand → Hand
 counted_in hand = (after_count hand.0 (history_out hand.1), hand.1)
 
--- A play says what its step tells by the number found in the word. These steps tell the same whatever it is.
+-- A play's effect may depend on the number found in the word. These plays do the same whatever it is.
 abbrev pub Counts : Hand → ℕ → Hand → Type 0
 Counts before found after = after ≡ counted_in before
 

@@ -3,10 +3,10 @@ ghost use Rattle.cell_gate.specs.Turn.{is_done};
 
 use rapid_model::Answer;
 
-/// How a call was served that never waits for anything but its turn.
+/// The outcome of a call that waits only for its turn.
 #[derive(Debug, PartialEq, Eq, Drop)]
 pub enum Acted {
-    /// The request has this answer, and is the last of the pass's own events now.
+    /// The request got this answer, and is now the last of the pass's own events.
     Done(Answer),
     /// The request would be counted, and no steps of the run are left (docs/CELL_SCRIPT.md, `steps`).
     Spent,

@@ -11,7 +11,7 @@ use crate::now::Now;
 use cell_core::{Core, Served};
 use rapid_model::Request;
 
-/// Asks what is always enabled.
+/// Makes a request that is always enabled.
 pub(crate) fn try_act(core: &mut Core, actor: u32, request: Request) -> Acted
     requires may { IsTrue (may_ask core.old.cell actor (part_of actor core.old.history) request) }
     requires plain { IsFalse (may_wait request) }
@@ -24,13 +24,13 @@ pub(crate) fn try_act(core: &mut Core, actor: u32, request: Request) -> Acted
     }
 }
 
-/// Asks that a held task may go on.
+/// Asks for a held task to go on.
 pub(crate) fn try_rise(core: &mut Core, task: u32) -> Now
     requires task { task < length core.old.cell.tasks }
     requires held { IsTrue (is_held (part_of task core.old.history)) }
     ensures { Rises core.old task result core.new }
 {
-    // Tells that the task has not ended, since it is held.
+    // Its contract states that the task has not ended, since it is held.
     let _held = core.held(task);
     match core.serve(task, Request::Rise) {
         Served::Answered(_) => Now::Woken,
@@ -61,7 +61,7 @@ pub(crate) fn try_feed(core: &mut Core) -> Fed
     }
 }
 
-/// Whether no step of the input script will be done any more.
+/// Whether no step of the input script will ever be done.
 fn is_over(core: &Core) -> bool
     ensures { result ≡ is_over core.now.cell core.now.history }
 {

@@ -6,16 +6,16 @@ use std::sync::atomic::AtomicU64;
 use std::thread::yield_now;
 use std::time::Duration;
 
-/// So many pauses spin twice as often as the one before. Each later one that spins also yields the processor.
+/// This many pauses spin twice as often as the one before. Each later one that spins also yields the processor.
 const SPINS_DOUBLED: u32 = 6;
 
-/// So many pauses spin. Each later one sleeps.
+/// This many pauses spin. Each later one sleeps.
 const AWAKE: u32 = 26;
 
 /// The shortest sleep, in microseconds.
 const SHORTEST: u64 = 60;
 
-/// So many sleeps are twice as long as the one before. Each later one is as long as the last of these.
+/// This many sleeps are twice as long as the one before. Each later one is as long as the last of these.
 const SLEEPS_DOUBLED: u32 = 3;
 
 /// The pauses of a thread that waits. They grow from a few nanoseconds to about half a millisecond.
@@ -30,7 +30,7 @@ impl Backoff {
         Backoff { pauses: 0 }
     }
 
-    /// The same pauses, or none where the wait is over.
+    /// The same pauses, or none if the wait is over.
     pub(crate) fn until(self, over: bool) -> Backoff {
         if over { Backoff::new() } else { self }
     }
@@ -55,9 +55,9 @@ fn spin(times: u32) {
     }
 }
 
-/// Sleeps, after so many sleeps.
+/// Sleeps, after this many sleeps.
 fn sleep<R: Wait>(rt: &R, sleeps: u32) {
     let micros = SHORTEST << sleeps.min(SLEEPS_DOUBLED);
-    // No other thread has the word, so the sleep ends by its time.
+    // No other thread has the word, so only the timeout ends the sleep.
     AtomicU64::new(0).park_timeout(rt, 0, Duration::from_micros(micros));
 }

@@ -1,4 +1,4 @@
-ghost use Rattle.std.specs.Prelude.{◌≡◌, ◌+◌, ◌<◌, ◌≤◌, length, IfOk, IfErr, IsFalse, IsTrue};
+ghost use Rattle.std.specs.Prelude.{◌≡◌, ◌<◌, length, IfOk, IfErr, IsFalse, IsTrue};
 ghost use Rattle.rapid_model.specs.Own.{is_held, part_of};
 ghost use Rattle.cell_meaning.specs.MayAsk.{may_ask};
 ghost use Rattle.cell_gate.specs.Causes.{may_wait};
@@ -13,7 +13,7 @@ use rapid_model::Request;
 use std::alloc::Global;
 use std::marker::Model;
 
-/// A core that stays in its place in memory: who takes the turn takes a pointer. Contracts see it as the core.
+/// A core that stays in place in memory: taking the turn takes a pointer. Contracts see the core.
 #[derive(Drop)]
 pub struct BoxedCore {
     core: Box<Core>,
@@ -39,7 +39,7 @@ impl BoxedCore {
         }
     }
 
-    /// The core, out of its place.
+    /// The core itself.
     pub(crate) fn into_core(self) -> Core
         ensures { result ≡ self }
     {
@@ -47,14 +47,14 @@ impl BoxedCore {
         Box::into_inner(core)
     }
 
-    /// How many events there are.
+    /// The number of events.
     pub(crate) fn len(&self) -> u32
         ensures { result ≡ length self.now.history }
     {
         self.core.len()
     }
 
-    /// As `try_act`.
+    /// As `try_act` of asking.
     pub(crate) fn try_act(&mut self, actor: u32, request: Request) -> Acted
         requires may { IsTrue (may_ask self.old.cell actor (part_of actor self.old.history) request) }
         requires plain { IsFalse (may_wait request) }
@@ -63,7 +63,7 @@ impl BoxedCore {
         try_act(&mut self.core, actor, request)
     }
 
-    /// As `try_rise`.
+    /// As `try_rise` of asking.
     pub(crate) fn try_rise(&mut self, task: u32) -> Now
         requires task { task < length self.old.cell.tasks }
         requires held { IsTrue (is_held (part_of task self.old.history)) }
@@ -72,7 +72,7 @@ impl BoxedCore {
         try_rise(&mut self.core, task)
     }
 
-    /// As `try_feed`.
+    /// As `try_feed` of asking.
     pub(crate) fn try_feed(&mut self) -> Fed
         ensures { Feeds self.old result self.new }
     {

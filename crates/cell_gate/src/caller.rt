@@ -13,7 +13,7 @@ use std::sync::Wait;
 pub struct Caller {
     pub place: Place,
     pub actor: u32,
-    /// How many events it has seen.
+    /// The number of events that it has seen.
     pub len: u32,
     /// Its pauses since its last event.
     pub backoff: Backoff,
@@ -38,7 +38,7 @@ impl Caller {
         unreachable!()
     }
 
-    /// Puts the core back, which gained an event or did not, counts the event, and gives the turn on.
+    /// Puts the core back, counts its new event if it gained one, and gives the turn on.
     pub(crate) fn settle(&mut self, top: &Top, core: BoxedCore, grew: bool)
         requires place { IsPlaceOf top.now.table_id self.old.place }
         requires may { MaySettle self.old core grew }

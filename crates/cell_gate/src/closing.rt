@@ -1,4 +1,4 @@
-//! How a gate is closed.
+//! Closing a gate.
 ghost use Rattle.std.specs.Prelude.{◌≡◌, All, Contains};
 ghost use Rattle.cell_core.specs.Soundness.{IsSound};
 ghost use Rattle.cell_gate.specs.Calls.{AreAllPasses, AreOfHistory};
@@ -12,8 +12,8 @@ use crate::rule::{Gather, Place, Top};
 use cell_core::Core;
 
 impl Gate {
-    /// Closes the gate, by all its passes: its core. Each pass has seen a beginning of the core's history, and has its actor's
-    /// events in it; each event was served after those before it.
+    /// Closes the gate with all its passes, and returns its core. Each pass has seen a prefix of the core's history,
+    /// and has its actor's events in it; each event was served after those before it.
     pub fn close(self, mut passes: Vec<Pass>) -> Core
         requires { AreAllPasses self passes.items }
         ensures cell { result.cell ≡ self.cell }
@@ -32,13 +32,13 @@ impl Gate {
         let core = closed.take(0).unwrap();
         closed.free();
         let core = core.into_core();
-        // Tells that its history is sound.
+        // Its contract states that the history is sound.
         let _events = core.len();
         core
     }
 }
 
-/// Takes in the views of all passes.
+/// Merges the views of all passes into the place's.
 fn gather(top: &Top, place: &mut Place, mut passes: Vec<Pass>)
     requires place { IsPlaceOf top.now.table_id place.old }
     requires idle { IsIdle place.old.me }

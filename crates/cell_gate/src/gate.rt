@@ -19,12 +19,12 @@ use std::alloc::Global;
 use std::marker::Model;
 use std::sync::Wait;
 
-/// A core that threads share, each by the passes that it has. Contracts see it as its cell, and which gate it is. A call with a
-/// pass waits for its turn. Then it asks the core: what all passes ask stands in one history, each call once.
+/// A core that threads share, each by the passes that it has. Contracts see its cell, and which gate it is. A call with
+/// a pass waits for its turn, then asks the core: the requests of all passes stand in one history, once for each call.
 #[derive(Drop)]
 pub struct Gate {
     pub(crate) table: Table<Option<BoxedCore>, View, Cell, Turns, Global>,
-    /// How many tasks the cell has.
+    /// The number of tasks of the cell.
     pub(crate) tasks: u32,
 }
 
@@ -42,7 +42,7 @@ impl Model for Gate {
 }
 
 impl Gate {
-    /// How many tasks the cell has.
+    /// The number of tasks of the cell.
     pub fn task_count(&self) -> u32
         ensures same { result ≡ length self.now.cell.tasks }
         ensures few { result ≤ MOST_TASKS }
@@ -50,9 +50,9 @@ impl Gate {
         self.tasks
     }
 
-    /// Asks what the pass's actor may ask, other than a Rise or an Input. Done comes with the answer of the core after the
-    /// history then, and the call is one more event of it; Spent comes exactly where the request would be counted and no steps
-    /// are left, and adds nothing.
+    /// Makes a request that the pass's actor may make, other than a Rise or an Input. Done has the core's answer after
+    /// the history at that moment, and the call is one more event of it. Returns Spent, and adds no event, exactly if
+    /// the request would be counted and no steps are left.
     pub fn act<R: Wait>(&self, rt: &R, pass: &mut Pass, request: Request) -> Acted
         requires gate { pass.old.gate ≡ self.now }
         requires may { MayAsk pass.old request }
@@ -69,9 +69,9 @@ impl Gate {
         acted
     }
 
-    /// Lets the pass's task, which is held, go on if it can now: Spent exactly where a task has not ended and no steps are left,
-    /// else Woken exactly where the task can rise, else Stalled exactly where the cell is stalled, else NotYet. Woken alone adds
-    /// an event, the Rise.
+    /// Lets the pass's task, which is held, go on if it can now: Spent exactly if a task has not ended and no steps are
+    /// left; otherwise Woken exactly if the task can rise; otherwise Stalled exactly if the cell is stalled; otherwise
+    /// NotYet. Only Woken adds an event, the Rise.
     pub fn rise_now<R: Wait>(&self, rt: &R, pass: &mut Pass) -> Now
         requires gate { pass.old.gate ≡ self.now }
         requires task { pass.old.actor < length pass.old.gate.cell.tasks }
@@ -88,7 +88,8 @@ impl Gate {
         now
     }
 
-    /// Waits until the pass's task, which is held, goes on, or nothing will wake it, or no steps are left: each as in `rise_now`.
+    /// Waits until the pass's task, which is held, goes on, nothing will wake it, or no steps are left, each as in
+    /// `rise_now`. No crate of the program calls it: it is for a thread that has only this task.
     pub fn rise<R: Wait>(&self, rt: &R, pass: &mut Pass) -> Rose
         requires gate { pass.old.gate ≡ self.now }
         requires task { pass.old.actor < length pass.old.gate.cell.tasks }
@@ -107,9 +108,9 @@ impl Gate {
         unreachable!()
     }
 
-    /// Does the next step of the input script if it is open, by the script's pass: Over exactly where none is left, all tasks
-    /// ended, a task has not and no steps are left, or the cell is stalled; else Given exactly where the gate of the next step
-    /// holds, else NotYet. Given alone adds an event, the Input.
+    /// Does the next step of the input script if it is open, with the script's pass. Returns Over exactly if none is
+    /// left, all tasks have ended, some task has not ended and no steps are left, or the cell is stalled; otherwise
+    /// Given exactly if the gate of the next step holds; otherwise NotYet. Only Given adds an event, the Input.
     pub fn feed_now<R: Wait>(&self, rt: &R, pass: &mut Pass) -> Fed
         requires gate { pass.old.gate ≡ self.now }
         requires script { pass.old.actor ≡ length pass.old.gate.cell.tasks }
@@ -124,7 +125,7 @@ impl Gate {
         fed
     }
 
-    /// Waits while the history is no longer than the pass last saw.
+    /// Waits until the history is longer than the pass last saw.
     pub fn rest<R: Wait>(&self, rt: &R, pass: &mut Pass)
         requires gate { pass.old.gate ≡ self.now }
         ensures { pass.new ≡ pass.old }

@@ -1,4 +1,5 @@
-//! One core for many threads. Each actor has a pass, and asks the core in its turn: so the calls of all passes make one history.
+//! One core shared by many threads. Each actor has a pass and asks the core in its turn, so the calls of all passes
+//! make one history.
 #![tactic(auto)]
 
 mod acted;

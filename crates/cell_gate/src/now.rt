@@ -6,9 +6,10 @@ ghost use Rattle.cell_gate.specs.Turn.{is_woken};
 pub enum Now {
     /// The task goes on: its Rise is the last of the pass's own events.
     Woken,
-    /// Nothing has changed that the task waits for.
+    /// Nothing that the task waits for has changed.
     NotYet,
-    /// Nothing will change that the task waits for: the tasks wait for one another, and no step of the input script is open.
+    /// Nothing that the task waits for will change: the tasks wait for one another, and no step of the input script is
+    /// open.
     Stalled,
     /// No steps of the run are left.
     Spent,

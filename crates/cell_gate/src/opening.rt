@@ -1,4 +1,4 @@
-//! How a gate is opened.
+//! Opening a gate.
 ghost use Rattle.std.specs.Prelude.{◌≡◌, ◌+◌, ◌<◌, ◌≤◌, [], length, IfOk, IfErr, vec_len, vec_capacity};
 ghost use Rattle.cell_gate.specs.Calls.{fresh_pass, fresh_passes};
 ghost use Rattle.cell_gate.specs.Hands.{IsNew, IsPlaceOf, IsSamePlace, gate_of};
@@ -18,8 +18,8 @@ use rapid_limits::MOST_TASKS;
 use rapid_model::Cell;
 use std::alloc::Global;
 
-/// Opens a gate to a core that has no event yet: the gate, and a pass for each task in script order and then the input script's.
-/// The core comes back for want of memory alone. No other call of a gate takes memory.
+/// Opens a gate to a core whose history is empty: the gate, a pass for each task in script order, and then the input
+/// script's. Fails only if an allocation fails, and then returns the core. No other call of a gate allocates.
 pub fn open_gate(alloc: Global, core: Core) -> Result<(Gate, Vec<Pass>), Core>
     requires { core.history ≡ [] }
     ensures ok { IfOk result (λ r. (r.0.cell ≡ core.cell) × (r.1.items ≡ fresh_passes r.0 0 (length core.cell.tasks + 1))) }
@@ -51,7 +51,7 @@ pub fn open_gate(alloc: Global, core: Core) -> Result<(Gate, Vec<Pass>), Core>
     Ok((Gate { table, tasks }, passes))
 }
 
-/// Puts the core, which has no event, into the slot of a new table, and gives the first turn on.
+/// Puts the core, whose history is empty, into the slot of a new table, and gives the first turn on.
 fn install(top: &Top, place: &mut Place, core: BoxedCore)
     requires place { IsPlaceOf top.now.table_id place.old }
     requires first { place.old.me ≡ (first_view core.cell, []) }
@@ -64,7 +64,7 @@ fn install(top: &Top, place: &mut Place, core: BoxedCore)
     top.swap::<Give>(place, 0, 0);
 }
 
-/// Makes the passes of so many actors that follow the first.
+/// Makes the passes of this many actors after the first.
 fn deal(top: &Top, place: &mut Place, tasks: u32, passes: &mut Vec<Pass>)
     requires place { IsPlaceOf top.now.table_id place.old }
     requires first { place.old.me ≡ (dealer place.old.me.0.cell 1, []) }
@@ -84,7 +84,7 @@ fn deal(top: &Top, place: &mut Place, tasks: u32, passes: &mut Vec<Pass>)
     }
 }
 
-/// The pass of an actor that has neither seen nor done anything.
+/// The pass of an actor that has seen and done nothing.
 fn new_pass(place: Place, actor: u32) -> Pass
     requires { IsNew actor place.me }
     ensures { result ≡ fresh_pass (gate_of place) actor }

@@ -1,7 +1,8 @@
 use rapid_model::Event;
 use std::collections::LinkedList;
 
-/// What an actor has seen of the history, from its beginning, and its own events in all of it. No value of it is made.
+/// The prefix of the history that an actor has seen, and its own events in the whole history. Ghost data: no value of
+/// it is ever made.
 pub struct Part {
     pub actor: u64,
     pub seen: LinkedList<Event>,

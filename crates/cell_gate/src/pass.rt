@@ -1,8 +1,8 @@
 use crate::caller::Caller;
 use std::marker::Model;
 
-/// The right of one actor of a cell to ask the core at its gate. Contracts see it as its gate, its actor, what it has seen of the
-/// history, its actor's own events, and how often it took the turn. Threads may hand it on.
+/// The right of one actor of a cell to ask the core at its gate. Contracts see its gate, its actor, the prefix of the
+/// history that it has seen, its actor's events, and how often it took the turn. Threads may hand it on.
 #[derive(Drop)]
 pub struct Pass {
     pub(crate) caller: Caller,

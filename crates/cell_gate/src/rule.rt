@@ -1,5 +1,5 @@
-//! The rule of the gate's table, and what each step on it tells its caller. The table has two words, the turn (0, or one more
-//! than the actor that has it) and the length of the history, and one slot, for the core.
+//! The rule of the gate's table, and what each step on it ensures for its caller. The table has two words, the turn (0,
+//! or one more than the actor that has it) and the length of the history, and one slot, for the core.
 use crate::boxed_core::BoxedCore;
 use crate::view::View;
 use atomic_table::{Join, Play, Seat, Shared, Split, TableRule};
@@ -23,7 +23,7 @@ impl TableRule<Option<BoxedCore>, View, Cell> for Turns {
     ghost first = { first_view };
 }
 
-/// Takes the turn and the core, or finds the turn taken.
+/// Takes the turn and the core, unless the turn is taken.
 pub(crate) struct Take;
 
 impl Play<Option<BoxedCore>, View> for Take {
@@ -41,7 +41,7 @@ impl Play<Option<BoxedCore>, View> for Count {
     ghost then = { λ step. Counts };
 }
 
-/// Gives the turn and the core.
+/// Gives the turn and the core back.
 pub(crate) struct Give;
 
 impl Play<Option<BoxedCore>, View> for Give {
@@ -79,7 +79,7 @@ impl Split<View> for Deal {
     ghost right = { dealt };
 }
 
-/// Takes in the view of another pass.
+/// Merges in the view of another pass.
 pub(crate) struct Gather;
 
 impl Join<View> for Gather {

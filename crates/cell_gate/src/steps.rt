@@ -9,10 +9,10 @@ use crate::rule::{Count, Place, Rest, Top};
 use std::hint::spin_loop;
 use std::sync::Wait;
 
-/// The turn is mostly free again after fewer looks.
+/// The turn is usually free again after fewer looks.
 const LOOKS: u32 = 32;
 
-/// Puts the core into the slot, which is out with the place.
+/// Puts the core into the slot, which the place has taken.
 pub(crate) fn put(top: &Top, place: &mut Place, core: BoxedCore)
     requires place { IsPlaceOf top.now.table_id place.old }
     requires slot { place.old.me.1 ≡ (0, None) ∷ [] }
@@ -22,7 +22,7 @@ pub(crate) fn put(top: &Top, place: &mut Place, core: BoxedCore)
     drop(top.exchange(place, 0, Some(core)));
 }
 
-/// Counts the event that the core in the slot gained, if it did.
+/// Counts the event that the core in the slot gained, if it gained one.
 pub(crate) fn count(top: &Top, place: &mut Place, grew: bool)
     requires place { IsPlaceOf top.now.table_id place.old }
     requires may { MayCount place.old.me grew }
@@ -34,7 +34,7 @@ pub(crate) fn count(top: &Top, place: &mut Place, grew: bool)
     }
 }
 
-/// Waits until the turn seems to be free. Another may take it first.
+/// Waits until the turn seems to be free. Another thread may take it first.
 pub(crate) fn await_turn<R: Wait>(rt: &R, top: &Top)
     requires { IsSized top.now.table_id }
 {
@@ -50,7 +50,7 @@ pub(crate) fn await_turn<R: Wait>(rt: &R, top: &Top)
     }
 }
 
-/// Waits while the history has so many events at most.
+/// Waits until the history has more than `len` events.
 pub(crate) fn wait_past<R: Wait>(
     rt: &R,
     top: &Top,

@@ -2,24 +2,24 @@ use crate::part::Part;
 use rapid_model::{Cell, Event};
 use std::collections::LinkedList;
 
-/// What a seat at the gate's table knows. No value of it is made.
+/// What a seat at the gate's table knows. Ghost data: no value of it is ever made.
 pub struct View {
     pub cell: Cell,
     pub actor: u64,
-    /// What it has seen of the history, from its beginning.
+    /// The prefix of the history that it has seen.
     pub seen: LinkedList<Event>,
-    /// Its actor's events in all of it.
+    /// Its actor's events in the whole history.
     pub mine: LinkedList<Event>,
-    /// How often it took the turn, which alone raises this number, and shows it the whole history.
+    /// How often it took the turn. Only that raises this number, and it shows the whole history.
     pub looks: u64,
     /// Whether it has the turn.
     pub holds: bool,
-    /// Whether the gate is not open yet, in the first view.
+    /// In the first view, whether the gate is not open yet.
     pub fresh: bool,
-    /// Whether another view took it in.
+    /// Whether it was merged into another view.
     pub spent: bool,
-    /// How many views there are, in the first one; else 0.
+    /// In the first view, the number of views; otherwise 0.
     pub made: u64,
-    /// The parts of the views that it took in.
+    /// The parts of the views merged into it.
     pub joined: LinkedList<Part>,
 }

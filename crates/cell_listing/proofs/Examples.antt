@@ -16,7 +16,7 @@ shared : pers_line tasks 0 (record { name = codes "k"; owner = None; sort = sort
 unfolding digits tasks
 shared = refl
 
--- an array of the second task's own
+-- an array that the second task owns
 own : pers_line tasks 12 (record { name = codes "Names"; owner = Some 1; sort = sorts.Text; len = Some 2; first = values.Text [] ∷ values.Text [] ∷ [] }) ≡ codes "P12 Right string{2} Names\n"
 unfolding digits tasks
 own = refl

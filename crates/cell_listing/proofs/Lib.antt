@@ -1,1 +1,2 @@
+mod OpExamples
 mod Examples

@@ -1,1 +1,2 @@
+pub mod OpListing
 pub mod Listing

@@ -1,4 +1,4 @@
--- The lines that tell of a cell and of the code of its tasks. Each ends with 0A.
+-- The lines of a cell's tables and of its tasks' code. Each ends with 0A.
 use Rattle.std.specs.Prelude.{ℕ, ◌+◌, Bool, true, false, List, [], ◌∷◌, ◌++◌, Option, None, Some, codes, decimal}
 use Rattle.rapid_model.specs.CellData.{CellData}
 use Rattle.rapid_model.specs.declared.pers_cell.PersCell.{PersCell}
@@ -8,9 +8,9 @@ use Rattle.history_text.specs.Lines.{task_name}
 use Rattle.value_text.specs.ValueText.{sort_text}
 use Rattle.stack_code.specs.CodeData.{CodeData}
 use Rattle.stack_code.specs.declared.op.Op.{Op}
-use Rattle.code_listing.specs.Listing.{op_text}
+use Rattle.cell_listing.specs.OpListing.{op_text}
 
--- whose a persistent is: a task's own, or all tasks'
+-- the owner of a persistent: a task, or all tasks
 abbrev pub owner_text : List TaskRow → Option ℕ → List ℕ
 owner_text tasks None = codes "*"
 owner_text tasks (Some task) = task_name tasks task
@@ -37,11 +37,11 @@ signal_line number row = codes "D" ++ (decimal number ++ (32 ∷ kind_text row.o
 abbrev pub meeting_line : ℕ → List ℕ → List ℕ
 meeting_line number name = codes "G" ++ (decimal number ++ (32 ∷ name ++ codes "\n"))
 
--- C, the task, the place in its code, and the operation
+-- C, the task, the place in its code, and the operation there
 abbrev pub code_line : List ℕ → ℕ → Op → List ℕ
 code_line task pc op = codes "C " ++ (task ++ (32 ∷ decimal pc ++ (32 ∷ op_text op ++ codes "\n")))
 
--- a line for each element, with its number, the first one's being this
+-- a line for each element, numbered from this number on
 unfoldable pub numbered : {A : Type 0} → (ℕ → A → List ℕ) → ℕ → List A → List (List ℕ)
 numbered line number [] = []
 numbered line number (x ∷ more) = line number x ∷ numbered line (number + 1) more

@@ -8,7 +8,7 @@ use arrayvec::ArrayString;
 use rapid_model::NameText;
 use value_text::{push_count, push_name};
 
-/// Writes `G` and the number of a meeting, from 0, and its name as it is first spelled. Takes no memory.
+/// Writes `G` and the number of a meeting, from 0, and its name as first spelled. Takes no memory.
 pub fn write_meeting(number: usize, name: &NameText, line: &mut ArrayString<LINE_BYTES>)
     requires { line.old.bytes ≡ [] }
     ensures { line.new.bytes ≡ meeting_line number name.now }

@@ -3,16 +3,16 @@
 ghost use Rattle.std.specs.Prelude.{◌≡◌, ◌+◌, ◌<◌, ◌≤◌, ◌++◌, [], length, slice_get, Some};
 ghost use Rattle.std.specs.Option.{option_map};
 ghost use Rattle.cell_listing.specs.Listing.{code_line};
-ghost use Rattle.code_listing.specs.Listing.{op_text};
+ghost use Rattle.cell_listing.specs.OpListing.{op_text};
 
 use crate::rooms::LINE_BYTES;
+use crate::{OPERATION_BYTES, listing_line};
 use arrayvec::ArrayString;
-use code_listing::{OPERATION_BYTES, listing_line};
 use rapid_model::NameText;
 use stack_code::Op;
 use value_text::{push_count, push_name};
 
-/// Writes `C`, the name of a task, a place of its code, from 0, and the operation that stands there. Takes no memory.
+/// Writes `C`, the name of a task, a place in its code, from 0, and the operation there. Takes no memory.
 pub fn write_operation(task: &NameText, ops: &[Op], pc: u32, line: &mut ArrayString<LINE_BYTES>)
     requires in_code { pc < length ops.now }
     requires empty { line.old.bytes ≡ [] }

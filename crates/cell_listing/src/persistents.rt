@@ -9,8 +9,8 @@ use rapid_limits::LONGEST_NAME;
 use rapid_model::{PersCell, TaskRow};
 use value_text::{COUNT_BYTES, push_count, push_name, sort_name};
 
-/// Writes `P` and the number of a persistent, from 0; its owner, `*` where it is all tasks'; its type, with the length in braces
-/// where it is an array; and its name as it is first spelled. Takes no memory.
+/// Writes `P` and the number of a persistent, from 0; its owner, `*` if all tasks share it; its type, with the length
+/// in braces for an array; and its name as first spelled. Takes no memory.
 pub fn write_persistent(
     tasks: &[TaskRow],
     number: usize,
@@ -32,7 +32,7 @@ pub fn write_persistent(
     line.push('\n');
 }
 
-/// Appends whose a persistent is.
+/// Appends the owner of a persistent.
 fn push_owner(tasks: &[TaskRow], owner: Option<u32>, line: &mut ArrayString<LINE_BYTES>)
     requires room { length line.old.bytes + LONGEST_NAME ≤ LINE_BYTES }
     ensures text { line.new.bytes ≡ line.old.bytes ++ owner_text tasks.now owner }

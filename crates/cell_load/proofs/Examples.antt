@@ -25,7 +25,7 @@ modules_of_two_moves : module_files 2
 unfolding digits
 modules_of_two_moves = refl
 
--- as many moves as there may be
+-- the greatest number of moves
 script_of_the_most_moves : script_text 1000 ≡ codes "version = 1\nsteps = 500500\n[[task]]\nname = \"L1\"\nmodules = [\"l1.mod\"]\narm = [0,0,0,0,0,0]\n[[task]]\nname = \"L2\"\nmodules = [\"l2.mod\"]\narm = [0,0,0,0,0,0]\n[[task]]\nname = \"L3\"\nmodules = [\"l3.mod\"]\narm = [0,0,0,0,0,0]\n[[task]]\nname = \"L4\"\nmodules = [\"l4.mod\"]\narm = [0,0,0,0,0,0]\n"
 unfolding digits
 script_of_the_most_moves = refl

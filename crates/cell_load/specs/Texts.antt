@@ -1,4 +1,4 @@
--- The texts of the load cell of so many moves. Each line ends with 0A.
+-- The texts of the load cell with that many moves. Each line ends with 0A.
 use Rattle.std.specs.Prelude.{ℕ, ◌+◌, ◌*◌, List, [], ◌∷◌, ◌++◌, map, codes, decimal}
 use Rattle.std.specs.List.{flat_map}
 
@@ -6,7 +6,7 @@ use Rattle.std.specs.List.{flat_map}
 abbrev pub task_numbers : List ℕ
 task_numbers = 1 ∷ 2 ∷ 3 ∷ 4 ∷ []
 
--- a task of the script, with an arm that begins at 0
+-- a task of the script, with an arm that starts at 0
 abbrev pub task_text : ℕ → List ℕ
 task_text task =
     codes "[[task]]\n"

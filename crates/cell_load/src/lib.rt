@@ -1,4 +1,4 @@
-//! The texts of the load cell: a script and its modules, by how often each task moves its arm.
+//! The texts of the load cell, its script and its modules, by how often each task moves its arm.
 #![tactic(auto)]
 
 mod load;

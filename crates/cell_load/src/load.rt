@@ -16,9 +16,9 @@ pub struct Load {
     pub modules: Vec<(String, Vec<u8>)>,
 }
 
-/// The load cell of so many moves, 1 to 1000. Each of its tasks L1 to L4 has an arm and a module of its own, `l1.mod` to `l4.mod`:
-/// it moves axis 1 of the arm so many times, and after each move adds 1 to `total`, a persistent of all tasks. Fails only if an
-/// allocation fails.
+/// The load cell with that many moves, 1 to 1000. Each of its tasks L1 to L4 has an arm and its own module, `l1.mod` to
+/// `l4.mod`: it moves axis 1 of the arm that many times, and after each move adds 1 to `total`, a persistent of all
+/// tasks. Fails only if an allocation fails.
 pub fn make_load(alloc: Global, moves: u32) -> Result<Load, Memory>
     requires least { 1 ≤ moves }
     requires most { moves ≤ 1000 }

@@ -6,7 +6,7 @@ ghost use Rattle.cell_load.specs.Texts.{script_text, task_text};
 use crate::TASKS;
 use std::alloc::{AllocError, Global};
 
-/// The script of the tasks of so many moves.
+/// The script of the tasks with that many moves.
 pub(crate) fn make_script(alloc: Global, moves: u32) -> Result<Vec<u8>, AllocError>
     requires { moves ≤ 1000 }
     ensures { IfOk result (λ script. script.items ≡ script_text moves) }

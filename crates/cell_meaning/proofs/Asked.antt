@@ -1,4 +1,4 @@
--- What is known of an actor that may ask something, and of its request.
+-- What is known of an actor that may make a request, and of the request.
 use Rattle.std.proofs.Common.{◌≡◌, ◌⊎◌, inl, inr, ℕ, ◌<◌, Bool, true, false, List, length, Option, Some, None, refl, ap, arith}
 use Rattle.std.specs.Prelude.{IsTrue, not, ◌&&◌, ◌==◌, nat_lt, slice_get}
 use Rattle.std.proofs.lemmas.Bool.{and_parts, eqb-true, ltb-true, false≢true, not-true}
@@ -12,7 +12,7 @@ use Rattle.rapid_model.specs.declared.request.Request.TheVariants as requests
 use Rattle.rapid_model.specs.declared.task_row.TaskRow.{TaskRow}
 use Rattle.cell_meaning.specs.MayAsk.{is_offered, may_ask}
 
--- a task of the cell that has not ended asks what suits it: Rise where it is held, and nothing else
+-- a task of the cell that has not ended makes a request that suits it: Rise if it is held, and nothing else
 pub record TaskMay (cell : CellData) (actor : ℕ) (mine : List Event) (request : Request) : Type 0 where
   pub row : TaskRow
   pub at : slice_get cell.tasks actor ≡ Some row
@@ -59,6 +59,6 @@ pub who_may : (cell : CellData) (actor : ℕ) (mine : List Event) (request : Req
 who_may cell actor mine request may =
     who cell actor mine request (slice_get cell.tasks actor) refl (and_parts (is_offered request) (suits_by cell actor mine request (slice_get cell.tasks actor)) may).1
 
--- what may be asked is offered
+-- what may be asked, the cell offers
 pub asked_offered : (cell : CellData) (actor : ℕ) (mine : List Event) (request : Request) → IsTrue (may_ask cell actor mine request) → IsTrue (is_offered request)
 asked_offered cell actor mine request may = (and_parts (is_offered request) (suits_by cell actor mine request (slice_get cell.tasks actor)) may).0

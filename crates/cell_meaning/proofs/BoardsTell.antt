@@ -1,4 +1,4 @@
--- What the boards tell, in the words of the looks back over a history.
+-- What the boards say, in terms of the looks back over a history.
 use Rattle.std.proofs.Common.{◌≡◌, inl, inr, ℕ, zero, suc, ◌+◌, ◌-◌, ◌≤◌, ◌<◌, Bool, true, false, not, ◌||◌, nat_lt, length, get_or, Option, Some, refl, sym, ◌∙◌, ap, subst, arith}
 use Rattle.std.specs.Prelude.{◌↔◌, IsTrue}
 use Rattle.std.specs.List.{list_all, range_with_len}
@@ -14,7 +14,7 @@ use Rattle.sync_tasks.specs.Meetings.{MeetingsData, Meets, stand_at, arrivals, i
 use Rattle.cell_meaning.specs.Meetings.{meets}
 use Rattle.cell_meaning.specs.Stored.{value_at}
 
--- a test of all numbers from one on
+-- a test of all numbers from one number on
 each_number : (p : ℕ → Bool) (from count : ℕ) → list_all p (range_with_len from count) ≡ true → (k : ℕ) → from ≤ k → k < from + count → p k ≡ true
 each_number p from zero all k low high = absurd (omega arith)
 each_number p from (suc count) all k low high =
@@ -30,7 +30,7 @@ all_numbers p from (suc count) each =
     and_from (p from) (list_all p (range_with_len (from + 1) count)) (each from (omega arith) (omega arith))
     (all_numbers p (from + 1) count (λ k low high. each k (omega arith) (omega arith)))
 
--- an arrival meets the others just where the board says so
+-- an arrival meets the others exactly if the board says so
 abbrev has_come : MeetingsData → ℕ → ℕ → ℕ → ℕ → Bool
 has_come m task meeting tasks k = not (is_listed tasks k) || nat_lt (stand_at m task meeting).passed (arrivals (stand_at (come m task meeting) k meeting))
 
@@ -59,7 +59,7 @@ meets_decides m task meeting tasks = (there, back)
         (λ k low high. came_if_listed (is_listed tasks k) (nat_lt (stand_at m task meeting).passed (arrivals (stand_at (come m task meeting) k meeting)))
         (λ listed. lt-ltb (stand_at m task meeting).passed (arrivals (stand_at (come m task meeting) k meeting)) (each.all k (omega arith) listed)))
 
--- the part of an element of a persistent that a path names
+-- the part of a persistent's element that a path names
 pub kept_value : (row : PersData) (path : Path) (value : Value) → path.index - 1 < length row.values → part_of (element_of row path.index) path.part ≡ Some value → value_at row.values path ≡ Some value
 kept_value row path value within is =
     ap (λ (o : Option Value). option_and_then (λ v. part_of v path.part) o) (slice_get-get_or row.values (path.index - 1) (values.Bool false) within) ∙ is

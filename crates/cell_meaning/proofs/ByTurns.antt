@@ -1,4 +1,4 @@
--- A run by turns is legal and whole, and there is one at most.
+-- A round-robin run is legal and complete, and there is at most one.
 use Rattle.std.proofs.Common.{◌≡◌, ℕ, zero, suc, ◌+◌, ◌-◌, ◌≤◌, ◌<◌, List, [], ◌∷◌, ◌++◌, length, ap, inl, inr, sym, ◌∙◌, subst, arith, length-append, zero-add}
 use Rattle.std.specs.Prelude.{IsTrue}
 use Rattle.std.proofs.lemmas.Bool.{cases_lt}
@@ -31,7 +31,7 @@ legal_answered asks cell history may legal = record {
 pub legal_none : (asks : Asking) (cell : CellData) → IsLegal asks cell []
 legal_none asks cell = record { at = cut_none (λ before e. Follows asks cell before e); fits = cut_none (λ before e. IsTrue (is_fit cell before e)) }
 
--- what those who ask have to keep for a run to be legal
+-- what those who ask must satisfy for a run to be legal
 record Keeping (asks : Asking) (cell : CellData) : Type 0 where
   limits : IsCell cell
   full : StartsFull cell
@@ -74,7 +74,7 @@ pub by_turns_legal : (asks : Asking) (cell : CellData) (history : List Event) �
     → IsLegal asks cell history
 by_turns_legal asks cell history limits full may run = legal_rounds asks cell run.rounds history (record { limits = limits; full = full; may = may }) run.made
 
--- a turn makes no history shorter
+-- a turn never makes a history shorter
 pub turn_grows : (asks : Asking) (cell : CellData) (actor : ℕ) (before after : List Event) → TakesTurn asks cell actor before after → length before ≤ length after
 turn_grows asks cell actor before after (inl s) = subst (λ (h : List Event). length before ≤ length h) (sym s.added) (omega (arith, length-append before (s.event ∷ [])))
 turn_grows asks cell actor before after (inr r) = subst (λ (h : List Event). length before ≤ length h) (sym r.same) (omega arith)
@@ -85,7 +85,8 @@ turns_grow asks cell actor zero before after same = let e : length after ≡ len
 turns_grow asks cell actor (suc left) before after t =
     omega (arith, turn_grows asks cell actor before t.0 t.1, turns_grow asks cell (actor + 1) left t.0 after t.2)
 
--- where a turn adds nothing, no event of its actor follows; and if none follows of later ones either, none does at all
+-- if a turn adds nothing, no event of its actor follows; and if none of a later actor follows either, none follows at
+-- all
 still_rests : (asks : Asking) (cell : CellData) (actor : ℕ) (before between : List Event) → TakesTurn asks cell actor before between → length between ≤ length before
     → (e : Event) → actor ≤ e.actor → Follows asks cell before e → (actor < e.actor → Follows asks cell between e → ⊥) → ⊥
 still_rests asks cell actor before between (inl s) short e low follows later =
@@ -97,7 +98,7 @@ still_rests asks cell actor before between (inr r) short e low follows later =
       | inr ge ↦ let same : e.actor ≡ actor = omega arith in r.none e same follows
     ]
 
--- where turns leave the history as long as it was, no event of their actors follows
+-- if turns leave the history as long as it was, no event of their actors follows
 turns_rest : (asks : Asking) (cell : CellData) (actor left : ℕ) (before after : List Event) → TakeTurns asks cell actor left before after → length after ≤ length before
     → (e : Event) → actor ≤ e.actor → e.actor < actor + left → Follows asks cell before e → ⊥
 unfolding TakeTurns
@@ -108,7 +109,7 @@ turns_rest asks cell actor (suc left) before after t short e low high follows =
     still_rests asks cell actor before t.0 t.1 (omega arith) e low follows
     (λ lt f. turns_rest asks cell (actor + 1) left t.0 after t.2 (omega arith) e (omega arith) (omega arith) f)
 
--- turns that leave the history as long as it was leave it as it was
+-- turns that leave the history as long as it was leave it unchanged
 pub turn_same : (asks : Asking) (cell : CellData) (actor : ℕ) (before after : List Event) → TakesTurn asks cell actor before after → length after ≤ length before → after ≡ before
 turn_same asks cell actor before after (inl s) short =
     let grown : length after ≡ length before + 1 = ap length s.added ∙ length-append before (s.event ∷ []) in
@@ -123,7 +124,7 @@ turns_same asks cell actor (suc left) before after t short =
     let first_grow : length before ≤ length t.0 = turn_grows asks cell actor before t.0 t.1 in
     turns_same asks cell (actor + 1) left t.0 after t.2 (omega arith) ∙ turn_same asks cell actor before t.0 t.1 (omega arith)
 
--- where a round adds nothing, no event of any actor follows
+-- if a round adds nothing, no event of any actor follows
 round_rests : (asks : Asking) (cell : CellData) (history : List Event) (e : Event) → IsRound asks cell history history → e.actor ≤ length cell.tasks → Follows asks cell history e → ⊥
 round_rests asks cell history e (between, turns, last) low follows =
     let turns_longer : length history ≤ length between = turns_grow asks cell 0 (length cell.tasks) history between turns in
@@ -139,7 +140,7 @@ by_turns_whole asks cell history only run = record {
   over = λ e follows. round_rests asks cell history e run.over (only.within e.actor _ e.request follows.asked) follows;
 }
 
--- so one event at most follows of each actor
+-- so at most one event of each actor follows
 one_follows : (asks : Asking) (cell : CellData) (before : List Event) (actor : ℕ) (r r' : Request) (x x' : Answer) → AsksOne asks
     → Follows asks cell before (record { actor = actor; request = r; answer = x }) → Follows asks cell before (record { actor = actor; request = r'; answer = x' })
     → (r ≡ r') × (x ≡ x')

@@ -1,4 +1,4 @@
--- How the tasks stand after a whole history.
+-- How the tasks stand after a complete history.
 use Rattle.std.proofs.Common.{◌≡◌, ℕ, zero, suc, ◌<◌, Bool, true, false, List, length, refl, sym, ◌∙◌, ap, inl, inr, arith}
 use Rattle.std.specs.Prelude.{IsTrue, not, ◌&&◌, ◌||◌, nat_lt, nat_le}
 use Rattle.std.proofs.lemmas.Bool.{cases_eq, ltb-false, le-leb, false≢true}
@@ -15,7 +15,7 @@ use Rattle.cell_meaning.specs.Over.{IsOver}
 use Rattle.cell_meaning.specs.Premises.{AsksUntilItsEnd}
 use Rattle.cell_meaning.proofs.OneAnswer.{some_answer}
 
--- where a task has not ended, not all have
+-- if one task has not ended, not all have
 pub one_going : (tasks task : ℕ) (history : List Event) → task < tasks → has_ended (part_of task history) ≡ false → all_ended tasks history ≡ false
 one_going zero task history lt going = absurd (omega arith)
 one_going (suc tasks) task history lt going = elim (cases_eq task tasks) [
@@ -27,19 +27,19 @@ one_going (suc tasks) task history lt going = elim (cases_eq task tasks) [
     both_false true b h = h
     both_false false b h = refl
 
--- what is not served is counted, and the steps are too
+-- a request that is not served is counted, and the steps are used up
 not_served : (is_counted : Bool) (n steps : ℕ) → (not is_counted || nat_lt n steps) ≡ false → nat_le steps n ≡ true
 not_served false n steps h = absurd (false≢true (sym h))
 not_served true n steps h = le-leb steps n (omega (arith, ltb-false n steps h))
 
--- a task that has not ended is not served only where the steps are spent
+-- a request of a task that has not ended is refused only if the steps are used up
 pub spent_so : (cell : CellData) (history : List Event) (task : ℕ) (request : Request) → task < length cell.tasks → has_ended (part_of task history) ≡ false
     → can_be_served cell history request ≡ false → IsTrue (is_spent cell history)
 spent_so cell history task request lt going unserved =
     ap (λ (b : Bool). not b && nat_le cell.steps (counted history)) (one_going (length cell.tasks) task history lt going)
     ∙ not_served (is_counted request) (counted history) cell.steps unserved
 
--- after a whole history no actor asks what is enabled and can be served
+-- after a complete history no actor makes a request that is enabled and can be served
 pub none_follows : (asks : Asking) (cell : CellData) (history : List Event) (actor : ℕ) (request : Request) → IsWhole asks cell history → asks actor (answers_of actor history) request
     → IsTrue (is_enabled cell history actor request) → IsTrue (can_be_served cell history request) → ⊥
 none_follows asks cell history actor request whole asked enabled served =
@@ -48,7 +48,7 @@ none_follows asks cell history actor request whole asked enabled served =
     let follows : Follows asks cell history next = record { asked = asked; enabled = enabled; served = served; answered = is } in
     whole.over next follows)
 
--- a task that asks this has no way on
+-- a task that makes this request cannot go on
 asking_over : (asks : Asking) (cell : CellData) (history : List Event) (task : ℕ) (request : Request) (enabled served : Bool) → task < length cell.tasks → IsWhole asks cell history
     → has_ended (part_of task history) ≡ false → asks task (answers_of task history) request
     → is_enabled cell history task request ≡ enabled → can_be_served cell history request ≡ served → IsOver asks cell history task

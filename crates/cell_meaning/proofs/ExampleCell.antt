@@ -1,5 +1,5 @@
--- The cell of the worked examples: two tasks whose arms are at 0, an input and an output, a num that is kept, a meeting, and
--- one step of an input script.
+-- The cell of the worked examples: two tasks whose arms are at 0, an input and an output, a persistent num, a meeting,
+-- and an input script of one step.
 use Rattle.std.proofs.Common.{true, false, [], ◌∷◌, ◌++◌, Some, None, replicate}
 use Rattle.std.specs.Prelude.{ℤ, pos, codes}
 use Rattle.rapid_num.specs.Reach.{absent_axes}
@@ -14,7 +14,7 @@ use Rattle.rapid_model.specs.declared.sort.Sort.TheVariants as sorts
 use Rattle.rapid_model.specs.declared.value.Value.TheVariants as values
 use Rattle.cell_meaning.proofs.MoreEvents.{event}
 
--- axis 1 at this angle, the other five at 0
+-- axis 1 at this angle, the other axes at 0
 abbrev pub joints_at : ℤ → Joints
 joints_at angle = record { axis = angle ∷ replicate 5 (pos 0) ++ absent_axes 6 }
 

@@ -19,7 +19,7 @@ use Rattle.cell_meaning.proofs.MoreEvents.{event}
 signal_written : signal_after cell (cleared ∷ []) 1 ≡ false
 signal_written = refl
 
--- a write that was refused changes nothing
+-- a refused write changes nothing
 signal_tied : signal_after cell (event 1 (requests.WriteS 1 false) answers.Tied ∷ []) 1 ≡ true
 signal_tied = refl
 
@@ -32,7 +32,7 @@ element_written = refl
 element_read : answer_after cell (written ∷ []) 0 (requests.ReadP 0 second) ≡ answers.Val (values.Num (pos 3000))
 element_read = refl
 
--- a write of another value is a change, and one of the same value none
+-- a write of another value is a change, a write of the same value is not
 what_changed : changes_of cell [] cleared ≡ watched.Signal 1 false ∷ []
 what_changed = refl
 
@@ -48,7 +48,7 @@ same_value = refl
 same_element : is_change cell (written ∷ []) written ≡ false
 same_element = refl
 
--- an actor sees the changes of others alone
+-- an actor sees only the changes of others
 two_changes : answer_after cell (cleared ∷ cleared ∷ written ∷ []) 0 requests.Look ≡ answers.Go 2
 two_changes = refl
 
@@ -58,14 +58,14 @@ no_own_change = refl
 moves : answer_after cell (went ∷ []) 0 requests.Position ≡ answers.At (joints_at (pos 1000))
 moves = refl
 
--- an arm that a zone stopped has not moved
+-- an arm stopped by a zone has not moved
 stopped : answer_after cell (event 0 (requests.Setpoint (joints_at (pos 1000))) (answers.Stopped (zones.Cell 0)) ∷ []) 0 requests.Position ≡ answers.At (joints_at (pos 0))
 stopped = refl
 
 not_counted : counted (event 2 (requests.Input 0) answers.Ok ∷ event 0 (requests.End fates.Done) answers.Ok ∷ cleared ∷ []) ≡ 1
 not_counted = refl
 
--- one task ended, and the four steps are counted
+-- one task has ended, and the four steps are counted
 abbrev four : List Event
 four = event 0 (requests.End fates.Exit) answers.Ok ∷ cleared ∷ cleared ∷ cleared ∷ cleared ∷ []
 

@@ -1,8 +1,8 @@
--- Where the elements that a test keeps are cut, the whole list is cut.
+-- If the filtered elements are cut, the whole list is cut.
 use Rattle.std.proofs.Common.{◌≡◌, refl, ap, ap₂, ◌∙◌, subst, Bool, true, false, cond, List, [], ◌∷◌, ◌++◌}
 use Rattle.std.specs.Prelude.{filter}
 
--- the list is cut at this element, which the test keeps, as it does those that stand before
+-- the list is cut at this element, which passes the test; so do those before it that are kept
 pub record IsCutBy {A : Type 0} (keeps : A → Bool) (xs before : List A) (e : A) : Type 0 where
   pub front : List A
   pub back : List A
@@ -10,7 +10,7 @@ pub record IsCutBy {A : Type 0} (keeps : A → Bool) (xs before : List A) (e : A
   pub kept : filter keeps front ≡ before
   pub passes : keeps e ≡ true
 
--- each cut of the kept elements is one of the list
+-- each cut of the filtered elements is a cut of the list
 abbrev AreCut : {A : Type 0} → (A → Bool) → List A → Type 0
 AreCut {A} keeps xs = (before after : List A) (e : A) → filter keeps xs ≡ before ++ e ∷ after → IsCutBy keeps xs before e
 

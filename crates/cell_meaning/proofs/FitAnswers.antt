@@ -1,4 +1,4 @@
--- What the cell answers to one who may ask fits the request.
+-- The cell's answer to an actor that may ask fits the request.
 use Rattle.std.proofs.Common.{◌≡◌, ◌⊎◌, inl, inr, ℕ, ◌-◌, ◌≤◌, Bool, true, false, not, List, length, Option, None, Some, is_some, nat_le, refl, sym, ◌∙◌, ap, subst, arith}
 use Rattle.std.specs.Prelude.{◌&&◌, IsTrue, Result, Ok, Err, count_by, slice_get, if◌then◌else◌}
 use Rattle.std.specs.List.{list_all}
@@ -19,6 +19,7 @@ use Rattle.rapid_model.specs.declared.path.Path.{Path}
 use Rattle.rapid_model.specs.declared.pers_cell.PersCell.{PersCell}
 use Rattle.rapid_model.specs.declared.request.Request.{Request}
 use Rattle.rapid_model.specs.declared.request.Request.TheVariants as requests
+use Rattle.rapid_model.specs.Truths.{one_if}
 use Rattle.trap_dispatch.specs.declared.connect_fault.ConnectFault.{ConnectFault}
 use Rattle.trap_dispatch.specs.declared.connect_fault.ConnectFault.TheVariants as connect_faults
 use Rattle.trap_dispatch.specs.declared.connected.Connected.{Connected}
@@ -39,16 +40,16 @@ use Rattle.cell_meaning.specs.Stored.{persistent_after, value_at}
 use Rattle.cell_meaning.specs.Zones.{zones_after}
 use Rattle.cell_meaning.proofs.Asked.{TaskMay, ScriptMay, who_may, asked_offered}
 use Rattle.cell_meaning.proofs.InterruptsKept.{first_is_due, free_number, tasks_kept}
-use Rattle.cell_meaning.proofs.TaskKept.{KeptTask, one_if, has_entry}
+use Rattle.cell_meaning.proofs.TaskKept.{KeptTask, has_entry}
 use Rattle.cell_meaning.proofs.Positions.{arm_well, row_axes}
 use Rattle.cell_meaning.proofs.ValuesKept.{test_of, value_there, values_kept}
 use Rattle.cell_meaning.proofs.ZonesKept.{free_zone, zones_kept}
 
--- the answer fits the request of an actor with these events of its own
+-- the answer fits the request of an actor with these own events
 abbrev Fits : CellData → ℕ → List Event → Request → Answer → Type 0
 Fits cell actor mine request answer = fits_request (fitting_in cell actor mine) request answer ≡ true
 
--- a trap that is to run is one that the task named, and it is in none
+-- a trap that is to run is one that the task named, and the task is in none
 first_fits : (mine : List Event) (t : TaskData) (number trap : ℕ) → look_answer t ≡ dues.Trap number trap → KeptTask mine t → (has_connected mine trap && not (is_trapped mine)) ≡ true
 first_fits mine t number trap is kept =
     let first = first_is_due t number trap is in
@@ -79,7 +80,7 @@ number_fits cell actor mine t old trap (Ok number) is entries = let bounds = fre
 number_fits cell actor mine t old trap (Err connect_faults.Already) is entries = refl
 number_fits cell actor mine t old trap (Err connect_faults.NoMore) is entries = refl
 
--- a value of the persistent that the path names
+-- the value of the persistent's part that the path names
 value_fits : (cell : CellData) (history : List Event) (pers : ℕ) (path : Path) (actor : ℕ) (mine : List Event) → IsCell cell → StartsFull cell → AllAnswered cell history
     → of_pers cell pers (λ p. has_path p path) ≡ true → Fits cell actor mine (requests.ReadP pers path) (value_of (value_at (persistent_after cell history pers) path))
 value_fits cell history pers path actor mine limits full asked suits = by (slice_get cell.pers pers) refl
@@ -180,7 +181,7 @@ script_fits cell history actor index request answer next is =
     let ok : answer ≡ answers.Ok = subst (λ (r : Request). IsAnswer cell history actor r answer) next is in
     subst (λ (r : Request). Fits cell actor (part_of actor history) r answer) (sym next) (subst (λ (a : Answer). Fits cell actor (part_of actor history) (requests.Input index) a) (sym ok) refl)
 
--- what the cell answers fits the request of one who may ask it
+-- the cell's answer fits the request of an actor that may make it
 pub answer_fits : (cell : CellData) (history : List Event) (actor : ℕ) (request : Request) (answer : Answer) → IsCell cell → StartsFull cell → AllAnswered cell history
     → IsTrue (may_ask cell actor (part_of actor history) request) → IsAnswer cell history actor request answer → IsTrue (fits_request (fitting_in cell actor (part_of actor history)) request answer)
 answer_fits cell history actor request answer limits full asked may is = by (who_may cell actor (part_of actor history) request may)

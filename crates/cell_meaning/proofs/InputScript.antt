@@ -1,4 +1,4 @@
--- The input script is an actor as the tasks are.
+-- The input script is an actor like the tasks.
 use Rattle.std.proofs.Common.{◌≡◌, inl, inr, ℕ, ◌<◌, ◌≤◌, Bool, true, List, length, Option, None, refl, sym, ◌∙◌, ap, subst, arith}
 use Rattle.std.specs.Prelude.{◌&&◌, ◌==◌, IsTrue, nat_lt, slice_get}
 use Rattle.std.proofs.lemmas.Bool.{eq-eqb, lt-ltb}
@@ -47,7 +47,7 @@ script_may cell mine left =
     all_three : (a b c : Bool) → a ≡ true → b ≡ true → c ≡ true → (true && (a && (b && c))) ≡ true
     all_three a b c p q r = rw (p, q, r) refl
 
--- what the tasks and the input script ask they may, where the tasks may ask what they do
+-- the tasks and the input script ask only what they may, if the tasks do
 pub may_with_inputs : (asks : Asking) (cell : CellData)
     → ((history : List Event) (task : ℕ) (request : Request) → task < length cell.tasks → IsLegal (with_inputs asks cell) cell history → asks task (answers_of task history) request → IsTrue (may_ask cell task (part_of task history) request))
     → AsksWhatItMay (with_inputs asks cell) cell

@@ -17,7 +17,7 @@ to_a history request = answer_after cell history 0 request
 abbrev connected : Event
 connected = event 0 (requests.Connect 0 7) (answers.Number 1)
 
--- for one firing, where the output is cleared
+-- once, as the output is cleared
 abbrev ordered : Event
 ordered = event 0 (requests.Order 1 (watched.Signal 1 false) true) answers.Ok
 
@@ -42,33 +42,33 @@ one_order = refl
 fires : to_a (both ++ cleared ∷ []) requests.Look ≡ answers.Trap 1 7
 fires = refl
 
--- of the task that ordered it alone
+-- only for the task that ordered it
 not_of_b : answer_after cell (both ++ cleared ∷ []) 1 requests.Look ≡ answers.Go 0
 not_of_b = refl
 
--- an equal value fires nothing
+-- writing the same value fires nothing
 no_change : to_a (both ++ event 1 (requests.WriteS 1 true) answers.Ok ∷ []) requests.Look ≡ answers.Go 0
 no_change = refl
 
--- nor does what was ordered by one that sleeps, nor is it queued
+-- nor does an interrupt that sleeps, nor is it queued
 asleep : to_a (both ++ event 0 (requests.Sleep 1) answers.Ok ∷ cleared ∷ event 0 (requests.Watch 1) answers.Ok ∷ []) requests.Look ≡ answers.Go 1
 asleep = refl
 
--- what is disabled is held back, and not lost
+-- disabled interrupts are held back, not lost
 disabled : to_a (both ++ event 0 requests.Disable answers.Ok ∷ cleared ∷ []) requests.Look ≡ answers.Go 1
 disabled = refl
 
 enabled_later : to_a (both ++ event 0 requests.Disable answers.Ok ∷ cleared ∷ event 0 requests.Enable answers.Ok ∷ []) requests.Look ≡ answers.Trap 1 7
 enabled_later = refl
 
--- the trap takes it off the queue, and the Single order has ended
+-- the trap takes the number off the queue, and the Single order has ended
 in_trap : to_a (both ++ cleared ∷ event 0 requests.Look (answers.Trap 1 7) ∷ []) requests.Look ≡ answers.Go 1
 in_trap = refl
 
 order_ended : to_a (both ++ cleared ∷ []) (requests.Order 1 (watched.Pers 0) false) ≡ answers.Ok
 order_ended = refl
 
--- a number that was deleted waits no longer
+-- a deleted number no longer waits
 deleted : to_a (both ++ cleared ∷ event 0 (requests.Delete 1) answers.Ok ∷ []) requests.Look ≡ answers.Go 1
 deleted = refl
 

@@ -1,4 +1,4 @@
--- The interrupts of each task along a history in which the cell answered.
+-- The interrupts of each task along an answered history.
 use Rattle.std.proofs.Common.{◌≡◌, ◌⊎◌, inl, inr, ℕ, zero, suc, ◌+◌, ◌-◌, ◌<◌, ◌≤◌, Bool, true, false, not, List, [], ◌∷◌, ◌++◌, length, get_or, replicate, Option, None, Some, is_some, refl, sym, ◌∙◌, ap, subst, arith, IfSome}
 use Rattle.std.specs.Prelude.{is_none, Result, Ok, Err, count_by, if◌then◌else◌}
 use Rattle.std.specs.List.{list_all, position_from}
@@ -13,6 +13,7 @@ use Rattle.rapid_model.specs.declared.event.Event.{Event}
 use Rattle.rapid_model.specs.declared.request.Request.{Request}
 use Rattle.rapid_model.specs.declared.request.Request.TheVariants as requests
 use Rattle.rapid_model.specs.declared.value.Value.{Value}
+use Rattle.rapid_model.specs.Truths.{one_if}
 use Rattle.trap_dispatch.specs.declared.connect_fault.ConnectFault.{ConnectFault}
 use Rattle.trap_dispatch.specs.declared.connect_fault.ConnectFault.TheVariants as connect_faults
 use Rattle.trap_dispatch.specs.declared.connected.Connected.{Connected}
@@ -35,11 +36,11 @@ use Rattle.cell_meaning.specs.Premises.{AllAnswered}
 use Rattle.cell_meaning.specs.Stored.{persistent_after, value_at}
 use Rattle.cell_meaning.specs.Zones.{zones_after}
 use Rattle.cell_meaning.proofs.Asked.{TaskMay, ScriptMay, who_may}
-use Rattle.cell_meaning.proofs.TaskKept.{KeptTask, one_if, has_entry, kept_same, kept_written, kept_deleted, kept_fired, still_named, just_named}
+use Rattle.cell_meaning.proofs.TaskKept.{KeptTask, has_entry, kept_same, kept_written, kept_deleted, kept_fired, still_named, just_named}
 use Rattle.cell_meaning.proofs.Lists.{from_front}
 use Rattle.cell_meaning.proofs.MoreEvents.{event, count_more, part_of-own, part_of-other, interrupts_after-more}
 
--- a trap that is to run is that of the first number that waits, and none is under way
+-- a trap that is to run is that of the first waiting number, and none is running
 pub record FirstDue (t : TaskData) (number trap : ℕ) : Type 0 where
   pub rest : List ℕ
   pub queue : t.queue ≡ number ∷ rest
@@ -60,7 +61,7 @@ first_parts numbers (first ∷ rest) false false false number trap is =
 pub first_is_due : (t : TaskData) (number trap : ℕ) → look_answer t ≡ dues.Trap number trap → FirstDue t number trap
 first_is_due t number trap is = first_parts t.numbers t.queue t.flood t.disabled t.in_trap number trap is
 
--- no answer but that to a Look begins a trap
+-- only the answer to a Look begins a trap
 abbrev is_look : Request → Bool
 is_look requests.Look = true
 is_look _ = false
@@ -125,7 +126,7 @@ trapless cell history actor (requests.ZoneFree zone) answer is other = ap is_tra
 trapless cell history actor (requests.Arrive meeting tasks) answer is other = ap is_trap is ∙ met_trapless (is_met cell history actor meeting tasks)
 trapless cell history actor _ answer is other = ap is_trap is
 
--- the interrupts of the task after its own request was answered so, before any fires
+-- the interrupts of the task after its own request and this answer, before any fires
 abbrev pub own_with : TaskData → Request → Answer → TaskData
 own_with t requests.Look (answers.Trap number trap) = in_first_trap t t.queue
 own_with t (requests.Connect old trap) (answers.Number number) = with_number t number (fresh trap)
@@ -150,7 +151,7 @@ asked_own tasks actor requests.Enable answers.Ok = refl
 asked_own tasks actor requests.Leave answers.Ok = refl
 asked_own tasks actor _ _ = sym (set-get_or tasks actor before_all)
 
--- each request leaves the interrupts of its task in order
+-- each request keeps the interrupts of its task well formed
 look_kept : (mine : List Event) (t : TaskData) (actor seen : ℕ) (due : Due) → look_answer t ≡ due → KeptTask mine t
     → KeptTask (mine ++ event actor requests.Look (look_of due seen) ∷ []) (own_with t requests.Look (look_of due seen))
 look_kept mine t actor seen dues.None is kept = kept_same mine t (event actor requests.Look (answers.Go seen)) kept refl refl
@@ -195,7 +196,7 @@ connect_kept mine t actor old trap (Ok number) is kept =
 connect_kept mine t actor old trap (Err connect_faults.Already) is kept = kept_same mine t (event actor (requests.Connect old trap) answers.Already) kept refl refl
 connect_kept mine t actor old trap (Err connect_faults.NoMore) is kept = kept_same mine t (event actor (requests.Connect old trap) answers.NoMore) kept refl refl
 
--- a connected interrupt is changed, and keeps its trap
+-- a connected interrupt is changed but keeps its trap
 changed_kept : (mine : List Event) (t : TaskData) (e : Event) (number : ℕ) (c new : Connected) → KeptTask mine t → is_trap e.answer ≡ false → is_leave e.request ≡ false
     → connected_at t.numbers number ≡ Some c → new.trap ≡ c.trap → KeptTask (mine ++ e ∷ []) (with_number t number (Some new))
 changed_kept mine t e number c new kept no_trap no_leave at same =
@@ -235,7 +236,7 @@ delete_kept mine t actor number (Some c) at kept =
     let e = event actor (requests.Delete number) answers.Ok in
     kept_deleted (mine ++ e ∷ []) t number (kept_same mine t e kept refl refl) (has_entry t.numbers number c at).some
 
--- a task leaves a trap only while one is under way
+-- a task leaves a trap only while one is running
 leave_kept : (mine : List Event) (t : TaskData) (actor : ℕ) → is_trapped mine ≡ true → KeptTask mine t
     → KeptTask (mine ++ event actor requests.Leave answers.Ok ∷ []) (record t { in_trap = false })
 leave_kept mine t actor trapped kept =
@@ -321,7 +322,7 @@ none_kept cell = record {
     none_there (suc count) zero c is = cc
     none_there (suc count) (suc k) c is = none_there count k c is
 
--- what one event leaves of the interrupts of a task, before any fires
+-- what one event does to the interrupts of a task, before any fires
 asked_kept : (cell : CellData) (history : List Event) (e : Event) (task : ℕ) → TaskMay cell e.actor (part_of e.actor history) e.request ⊎ ScriptMay cell e.actor (part_of e.actor history) e.request
     → IsAnswer cell history e.actor e.request e.answer → KeptTasks cell history → task < length cell.tasks
     → KeptTask (part_of task (history ++ e ∷ [])) (task_at (asked_with (interrupts_after cell history) e.actor e.request e.answer) task)

@@ -1,4 +1,4 @@
--- The interrupts of tasks, told by the events alone.
+-- The interrupts of tasks, from the events alone.
 use Rattle.std.proofs.Common.{◌≡◌, ◌⊎◌, inl, inr, ◌<◌, ◌≤◌, ℕ, zero, suc, ◌+◌, ◌-◌, ◌==◌, not, Bool, true, false, List, [], ◌∷◌, ◌++◌, length, map, get_or, replicate, Option, Some, None, is_some, slice_index_or, slice_set, refl, sym, ◌∙◌, ap, subst, arith, if◌then◌else◌}
 use Rattle.std.specs.Prelude.{⊤, ◌↔◌, ◌&&◌, is_none, Result, Ok, Err}
 use Rattle.std.specs.List.{list_any, position_from}
@@ -64,7 +64,7 @@ entry_by (sleeps asleep) entry = with_sleep asleep entry
 entry_by deletes entry = None
 entry_by leaves entry = entry
 
--- the request and the answer that are meant
+-- the request and the answer of each act
 abbrev IsAct : ℕ → Request → Answer → Act → Type 0
 IsAct number request answer (connects trap) = (old : ℕ) × (request ≡ requests.Connect old trap) × (answer ≡ answers.Number number)
 IsAct number request answer (orders on single) = (request ≡ requests.Order number on single) × (answer ≡ answers.Ok)
@@ -101,7 +101,7 @@ meant number (requests.Delete k) answers.Ok = by (k == number) refl
     by false is = tt
 meant number _ _ = tt
 
--- the same of a task's event
+-- the same for a task's event
 abbrev IsActs : ℕ → ℕ → Event → Act → Type 0
 IsActs task number e leaves = ⊤
 IsActs task number e a = (e.actor ≡ task) × IsAct number e.request e.answer a
@@ -124,7 +124,7 @@ sure : (task number : ℕ) (a : Act) → (if task == task then (if number == num
 sure task number a =
     ap (λ (b : Bool). if b then (if number == number then a else leaves) else leaves) (eq-eqb task task refl) ∙ ap (λ (b : Bool). if b then a else leaves) (eq-eqb number number refl)
 
--- an event by its parts
+-- an event from its parts
 its_parts : (task : ℕ) (request : Request) (answer : Answer) (e : Event) → e.actor ≡ task → e.request ≡ request → e.answer ≡ answer → e ≡ event task request answer
 its_parts task request answer e actor asked told =
     ap (λ (a : ℕ). event a e.request e.answer) actor ∙ ap (λ (r : Request). event task r e.answer) asked ∙ ap (λ (x : Answer). event task request x) told
@@ -184,7 +184,7 @@ NamesIts t (requests.Watch k) answers.Ok = Names t k
 NamesIts t (requests.Delete k) answers.Ok = Names t k
 NamesIts t _ _ = ⊤
 
--- an entry is written
+-- an entry is written by an act
 by_act : (numbers : List (Option Connected)) (k number : ℕ) (a : Act) (new : Option Connected) → 1 ≤ k → k - 1 < length numbers
     → (k ≡ number → new ≡ entry_by a (connected_at numbers number)) → connected_at (slice_set numbers (k - 1) new) number ≡ entry_by (if k == number then a else leaves) (connected_at numbers number)
 by_act numbers k number a new some within same = entry_written numbers k number new some within ∙ by (k == number) refl
@@ -263,7 +263,7 @@ names_its cell h actor (requests.Watch k) answers.Ok entries is = let w = is_kno
 names_its cell h actor (requests.Delete k) answers.Ok entries is = let w = is_known (connected_at (interrupts_of cell h actor).numbers k) is in named (interrupts_of cell h actor) k w.0 w.1
 names_its cell h actor _ _ entries is = tt
 
--- ---- the number after one event more
+-- -- the number after one more event
 
 abbrev entry_of : CellData → ℕ → ℕ → List Event → Option Connected
 entry_of cell task number h = connected_at (interrupts_of cell h task).numbers number
@@ -294,7 +294,7 @@ asked_more cell task number h e few asked is = elim (cases_eq task e.actor) [
       ∙ sym (ap (λ (b : Bool). entry_by (if b then act number e.request e.answer else leaves) (entry_of cell task number h)) (ne_eqb e.actor task (λ same. other (sym same))))
 ]
 
--- the last event apart
+-- without the last event
 front : (cell : CellData) (h : List Event) (e : Event) → AllAnswered cell (h ++ e ∷ []) → AllAnswered cell h
 front cell h e asked = answered_fronts cell h (e ∷ []) asked
 
@@ -333,7 +333,7 @@ no_changes : (cell : CellData) (task number : ℕ) (h : List Event) (e : Event) 
 no_changes cell task number h e a is some =
     changes_of-none cell h e (quiet number e.request e.answer a (own_act task number e a (subst (IsActs task number e) is (all_meant task number e)) some) some)
 
--- what an act makes of it
+-- what an act does to the entry
 entry_with : (cell : CellData) (task number : ℕ) (h : List Event) (e : Event) (a : Act) → task < length cell.tasks → AllAnswered cell (h ++ e ∷ []) → acts_of task number e ≡ a → (a ≡ leaves → ⊥)
     → entry_of cell task number (h ++ e ∷ []) ≡ entry_by a (entry_of cell task number h)
 entry_with cell task number h e a few asked is some =
@@ -385,7 +385,7 @@ none_first cell task number = ap (λ (t : TaskData). connected_at t.numbers numb
 
 -- ---- forms of entries
 
--- what an entry was that has an order or a sleep now
+-- the entry before an order or a sleep was set
 from_order : (order : Option Order) (entry : Option Connected) (c : Connected) → with_order order entry ≡ Some c
     → (old : Connected) × (entry ≡ Some old) × (old.trap ≡ c.trap) × (old.asleep ≡ c.asleep) × (order ≡ c.order)
 from_order order None c is = absurd cc
@@ -405,7 +405,7 @@ from_fresh trap c is =
     let same : record { trap = trap; order = None; asleep = false } ≡ c = cc in
     (ap (λ (x : Connected). x.trap) same, sym (ap (λ (x : Connected). x.asleep) same), sym (ap (λ (x : Connected). x.order) same))
 
--- a firing leaves all but an order, and that too where none fires
+-- a firing leaves all but the order, and the order too if nothing fires
 record Fired (changes : List Watched) (entry : Option Connected) (c : Connected) : Type 0 where
   old : Connected
   is : entry ≡ Some old
@@ -425,7 +425,7 @@ from_firing changes (Some old) c is = by (fires changes (Some old)) refl is
         let same : old ≡ c = cc in
         record { old = old; is = refl; trap = ap (λ (x : Connected). x.trap) same; asleep = ap (λ (x : Connected). x.asleep) same; order = inr (f, ap (λ (x : Connected). x.order) same) }
 
--- and the other way
+-- and conversely
 to_firing : (changes : List Watched) (c : Connected) → (new : Connected) × (after_firing changes (Some c) ≡ Some new) × Fired changes (Some c) new
 to_firing changes c = by (fires changes (Some c)) refl
   where
@@ -533,7 +533,7 @@ slept_told cell task number few = record {
   was = λ h e asked w. slept_was cell task number h e few asked w (acts_of task number e) refl;
 }
 
--- an entry of none stays none, but where it is connected
+-- an empty entry stays empty unless it is connected
 stays_gone : (cell : CellData) (task number : ℕ) (h : List Event) (e : Event) → task < length cell.tasks → AllAnswered cell (h ++ e ∷ []) → entry_of cell task number h ≡ None → (a : Act)
     → acts_of task number e ≡ a → ((trap : ℕ) → a ≡ connects trap → ⊥) → entry_of cell task number (h ++ e ∷ []) ≡ None
 stays_gone cell task number h e few asked gone (connects trap) is none = absurd (none trap refl)
@@ -604,7 +604,7 @@ OrderedOrGone cell task number on single h = (entry_of cell task number h ≡ No
 abbrev no_order : Option Order
 no_order = None
 
--- an order that a firing left was not for one firing
+-- an order that survived a firing is not Single
 order_left : (order : Option Order) (o : Order) → after_its_firing order ≡ Some o → (order ≡ Some o) × (o.single ≡ false)
 order_left None o is = absurd cc
 order_left (Some x) o is = by x.single refl is
@@ -613,13 +613,13 @@ order_left (Some x) o is = by x.single refl is
     by true s e = absurd cc
     by false s e = let same : x ≡ o = cc in (e, sym (ap (λ (y : Order). y.single) same) ∙ s)
 
--- nothing of what is asked about interrupts ends an order
+-- no request about interrupts ends an order
 no_end : (cell : CellData) (task number : ℕ) (on : Watched) (single : Bool) (h : List Event) (e : Event) (a : Act) → acts_of task number e ≡ a → (a ≡ leaves → ⊥) → ((trap : ℕ) → a ≡ connects trap → ⊥)
     → ¬ EndsOrder cell task number on single h e
 no_end cell task number on single h e a is some not_connected (inl any) = not_connected any.0 (sym is ∙ connects_acts task number any.0 h e any.1)
 no_end cell task number on single h e a is some not_connected (inr w) = false≢true (sym (ap (list_any (is_change on)) (no_changes cell task number h e a is some)) ∙ w.1.0)
 
--- it fires where what it is ordered for changes and it is awake
+-- it fires if what it watches changes while it is awake
 fires_so : (changes : List Watched) (c : Connected) (on : Watched) (single : Bool) → c.order ≡ Some (record { on = on; single = single }) → list_any (is_change on) changes ≡ true → c.asleep ≡ false
     → fires changes (Some c) ≡ true
 fires_so changes c on single order changed awake =

@@ -10,7 +10,7 @@ use Rattle.cell_meaning.specs.Meetings.{is_waiting}
 use Rattle.cell_meaning.proofs.ExampleCell.{cell}
 use Rattle.cell_meaning.proofs.MoreEvents.{event}
 
--- an arrival at the meeting of both tasks, answered so
+-- an arrival at the meeting of both tasks, with this answer
 abbrev arrival : ℕ → Answer → Event
 arrival task answer = event task (requests.Arrive 0 3) answer
 
@@ -26,11 +26,11 @@ second_meets = refl
 first_goes_on : arrives (arrival 0 answers.Apart ∷ arrival 1 answers.Met ∷ []) 0 ≡ answers.Met
 first_goes_on = refl
 
--- who waits has come once, however often it asks
+-- a task that waits has come once, however often it asks
 comes_once : arrives (arrival 0 answers.Apart ∷ arrival 0 answers.Apart ∷ arrival 1 answers.Met ∷ []) 1 ≡ answers.Apart
 comes_once = refl
 
--- the next time both have to come again
+-- next time both have to come again
 next_time : arrives (arrival 0 answers.Apart ∷ arrival 1 answers.Met ∷ arrival 0 answers.Met ∷ []) 0 ≡ answers.Apart
 next_time = refl
 
@@ -40,7 +40,7 @@ waits = refl
 met : is_waiting cell (arrival 0 answers.Apart ∷ arrival 0 answers.Met ∷ []) 0 0 ≡ false
 met = refl
 
--- the first arrival is a change, one of a task that waits is none
+-- the first arrival is a change; an arrival of a task that waits is not
 new_arrival : is_change cell [] (arrival 0 answers.Apart) ≡ true
 new_arrival = refl
 

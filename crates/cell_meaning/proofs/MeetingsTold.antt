@@ -1,4 +1,4 @@
--- The meetings of tasks, told by the events alone.
+-- The meetings of tasks, from the events alone.
 use Rattle.std.proofs.Common.{◌≡◌, ◌⊎◌, inl, inr, ◌<◌, ◌≤◌, ◌^◌, ℕ, zero, suc, ◌+◌, ◌*◌, ◌/◌, ◌==◌, Bool, true, false, cond, List, [], ◌∷◌, ◌++◌, length, get_or, set, replicate, refl, sym, ◌∙◌, ap, subst, arith, if◌then◌else◌, append_assoc}
 use Rattle.std.specs.Prelude.{◌&&◌, ◌↔◌, IsTrue, count_by, nat_lt}
 use Rattle.std.proofs.lemmas.Bool.{and_from, and_parts, cases_eq, eq-eqb, eqb-true, false≢true, ltb-true, ne_eqb, true≢false}
@@ -25,9 +25,9 @@ use Rattle.cell_meaning.proofs.Lists.{from_front}
 use Rattle.cell_meaning.proofs.MoreEvents.{count_more, event, part_of-other, part_of-own, stands_after-more}
 use Rattle.cell_meaning.proofs.Since.{Told, Tells, answered_fronts, told, tells}
 
--- ---- the stands
+-- -- the states at meetings
 
--- there is a stand for each task and meeting
+-- there is a state for each task and meeting
 record Even (cell : CellData) (m : MeetingsData) : Type 0 where
   meetings : m.meetings ≡ length cell.meetings
   stands : length m.stands ≡ length cell.tasks * length cell.meetings
@@ -45,7 +45,7 @@ evens cell history =
     from_front (λ h. Even cell (stands_after cell h)) history (record { meetings = refl; stands = length-replicate (length cell.tasks * length cell.meetings) at_start })
     (λ before after e is even. subst (Even cell) (sym (stands_after-more cell before e)) (even_more cell (stands_after cell before) e.actor e.request e.answer even))
 
--- stands of other tasks or meetings are others
+-- states of other tasks or meetings stay
 apart : (a b g h m : ℕ) → g < m → h < m → a * m + g ≡ b * m + h → (a ≡ b) × (g ≡ h)
 apart a b g h m few_g few_h is =
     let same : a ≡ b = sym (div-mul-add a m g few_g) ∙ ap (λ (n : ℕ). n / m) is ∙ div-mul-add b m h few_h in
@@ -80,7 +80,7 @@ stand_set cell m a g task meeting s even few_a few_g few = by (a == task) (g == 
         get_or-set_other m.stands (a * m.meetings + g) (task * m.meetings + meeting) s at_start
         (λ is. true≢false (sym (eq-eqb a task (sym (apart task a meeting g m.meetings few_there few_here is).0)) ∙ p))
 
--- ---- what an event does to a stand
+-- -- what an event does to a state
 
 abbrev here : ℕ → ℕ → ℕ → Request → Bool
 here task meeting actor (requests.Arrive g tasks) = (actor == task) && (g == meeting)
@@ -91,7 +91,7 @@ arrived answers.Met s = record { passed = s.passed + 1; waits = false }
 arrived answers.Apart s = record { passed = s.passed; waits = true }
 arrived _ s = s
 
--- who may arrive is a task, and there is the meeting
+-- an actor that may arrive is a task, and the meeting exists
 record May (cell : CellData) (actor meeting : ℕ) : Type 0 where
   task : actor < length cell.tasks
   there : meeting < length cell.meetings
@@ -128,7 +128,7 @@ may_arrive cell h e asked g tasks is = elim (who_may cell e.actor (part_of e.act
   | inr s ↦ let next = s.next in absurd cc
 ]
 
--- the stand after one event more
+-- the state after one more event
 stand_more : (cell : CellData) (h : List Event) (e : Event) (task meeting : ℕ) → meeting < length cell.meetings → AllAnswered cell (h ++ e ∷ [])
     → stand_at (stands_after cell (h ++ e ∷ [])) task meeting
     ≡ cond (here task meeting e.actor e.request) (arrived e.answer (stand_at (stands_after cell h) task meeting)) (stand_at (stands_after cell h) task meeting)
@@ -203,7 +203,7 @@ here_is task meeting actor (requests.Arrive g tasks) is =
     (tasks, ap (λ (k : ℕ). requests.Arrive k tasks) (eqb-true g meeting w.1), eqb-true actor task w.0)
 here_is task meeting actor _ is = absurd (false≢true is)
 
--- an event by its parts
+-- an event from its parts
 its_parts : (task : ℕ) (request : Request) (e : Event) → e.actor ≡ task → e.request ≡ request → e ≡ event task request e.answer
 its_parts task request e actor asked = ap (λ (a : ℕ). event a e.request e.answer) actor ∙ ap (λ (r : Request). event task r e.answer) asked
 
@@ -219,7 +219,7 @@ met_or_apart cell h e meeting tasks is asked = by (is_met cell h e.actor meeting
     by true same = inl same
     by false same = inr same
 
--- the stand after an event, where it is an arrival here, and where it is none
+-- the state after an event, if it is an arrival here, and if it is not
 after_here : (cell : CellData) (task meeting : ℕ) (h : List Event) (e : Event) (b : Bool) → meeting < length cell.meetings → AllAnswered cell (h ++ e ∷ [])
     → here task meeting e.actor e.request ≡ b → is_waiting cell (h ++ e ∷ []) task meeting ≡ (cond b (arrived e.answer (stand_at (stands_after cell h) task meeting)) (stand_at (stands_after cell h) task meeting)).waits
 after_here cell task meeting h e b few asked is =

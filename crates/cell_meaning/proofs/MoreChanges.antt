@@ -1,4 +1,4 @@
--- What one event changes of the values of signals and persistents.
+-- What one event changes among the values of signals and persistents.
 use Rattle.std.proofs.Common.{◌≡◌, ℕ, zero, suc, ◌+◌, ◌<◌, Bool, true, false, List, [], ◌∷◌, ◌++◌, length, get_or, set, Option, None, Some, refl, ◌∙◌, ap, arith}
 use Rattle.std.specs.Prelude.{◌&&◌, if◌then◌else◌, slice_get}
 use Rattle.std.specs.Cmp.Lexicographic.{pointwise}
@@ -17,19 +17,19 @@ use Rattle.rapid_model.specs.declared.value.Value.{Value}
 use Rattle.rapid_model.specs.declared.value.Value.TheVariants as values
 use Rattle.rapid_model.specs.declared.watched.Watched.{Watched}
 use Rattle.rapid_model.specs.declared.watched.Watched.TheVariants as watched
-use Rattle.rapid_operators.specs.Equality.{same}
-use Rattle.rapid_operators.proofs.Equalities.{same_decides}
+use Rattle.rapid_values.specs.Equality.{same}
+use Rattle.rapid_values.proofs.Equalities.{same_decides}
 use Rattle.cell_meaning.specs.Changes.{changed_signals, changed_persistents, changes_of}
 use Rattle.cell_meaning.specs.Stored.{with_input, signals_with, signals_after, signal_after, with_part, persistents_with, persistents_after, persistent_after}
 use Rattle.cell_meaning.proofs.Lists.{from_front}
 use Rattle.cell_meaning.proofs.MoreEvents.{signals_after-more, persistents_after-more}
 
--- a list is equal to itself
+-- a list equals itself
 pub all_same : {A : Type 0} (test : A → A → Bool) → ((x : A) → test x x ≡ true) → (xs : List A) → pointwise test xs xs ≡ true
 all_same test each [] = refl
 all_same test each (x ∷ xs) = ap (λ b. b && pointwise test xs xs) (each x) ∙ all_same test each xs
 
--- and to the list with one element written just where that one is equal
+-- and equals the list with one element written exactly if that element is equal
 pub same_but_one : {A : Type 0} (test : A → A → Bool) → ((x : A) → test x x ≡ true) → (xs : List A) (i : ℕ) (a d : A) → i < length xs → pointwise test xs (set xs i a) ≡ test (get_or xs i d) a
 same_but_one test each [] i a d lt = absurd (omega arith)
 same_but_one test each (x ∷ xs) zero a d lt = ap (λ b. test x a && b) (all_same test each xs) ∙ and_true (test x a)
@@ -88,7 +88,7 @@ one_persistent first (suc at) number (r ∷ old) row lt is =
     ap (λ (c : List Watched). c ++ changed_persistents (first + 1) old (set old at row)) (none_where (pointwise same r r) (watched.Pers first) (elements_same r))
     ∙ one_persistent (first + 1) at number old row (omega arith) (omega arith)
 
--- there are as many signals and persistents as the cell has
+-- there are as many values as signals and persistents of the cell
 length-input : (signals : List Bool) (row : Option InputRow) → length (with_input signals row) ≡ length signals
 length-input signals None = refl
 length-input signals (Some row) = length-set signals row.signal row.value
@@ -137,13 +137,13 @@ persistent_alone cell before pers row lt =
     ap (λ (c : List Watched). c ++ changed_persistents 0 (persistents_after cell before) (set (persistents_after cell before) pers row)) (no_signal 0 (signals_after cell before))
     ∙ one_persistent 0 pers pers (persistents_after cell before) row (omega (arith, many, lt)) (omega arith)
 
--- a write of a signal changes it alone, where it has another value
+-- a write of a signal changes only that signal, if it has another value
 pub changes_of-WriteS : (cell : CellData) (before : List Event) (actor signal : ℕ) (value : Bool) → signal < length cell.signals
     → changes_of cell before (record { actor = actor; request = requests.WriteS signal value; answer = answers.Ok }) ≡ (if same_truth (signal_after cell before signal) value then [] else watched.Signal signal value ∷ [])
 changes_of-WriteS cell before actor signal value lt =
     changes_so cell before (record { actor = actor; request = requests.WriteS signal value; answer = answers.Ok }) ∙ signal_alone cell before signal value lt
 
--- and so does a step of the input script
+-- so does a step of the input script
 pub changes_of-Input : (cell : CellData) (before : List Event) (actor index : ℕ) (row : InputRow) → slice_get cell.inputs index ≡ Some row → row.signal < length cell.signals
     → changes_of cell before (record { actor = actor; request = requests.Input index; answer = answers.Ok }) ≡ (if same_truth (signal_after cell before row.signal) row.value then [] else watched.Signal row.signal row.value ∷ [])
 changes_of-Input cell before actor index row at lt =
@@ -151,7 +151,7 @@ changes_of-Input cell before actor index row at lt =
     ∙ ap (λ (o : Option InputRow). changed cell before (with_input (signals_after cell before) o) (persistents_after cell before)) at
     ∙ signal_alone cell before row.signal row.value lt
 
--- a write of a part changes the persistent alone, where an element has another value
+-- a write of a part changes only its persistent, if an element has another value
 pub changes_of-WriteP : (cell : CellData) (before : List Event) (actor pers : ℕ) (path : Path) (value : Value) → pers < length cell.pers
     → changes_of cell before (record { actor = actor; request = requests.WriteP pers path value; answer = answers.Ok })
     ≡ (if pointwise same (persistent_after cell before pers) (with_part (persistent_after cell before pers) path value) then [] else watched.Pers pers ∷ [])
@@ -166,7 +166,7 @@ changes_of-TestSet cell before actor pers path lt =
     changes_so cell before (record { actor = actor; request = requests.TestSet pers path; answer = answers.Yes true })
     ∙ persistent_alone cell before pers (with_part (persistent_after cell before pers) path (values.Bool true)) lt
 
--- a request that was answered so may change a value
+-- a request with this answer may change a value
 abbrev pub may_change : Request → Answer → Bool
 may_change (requests.WriteS signal value) answers.Ok = true
 may_change (requests.Input index) answers.Ok = true
@@ -184,7 +184,7 @@ persistents_kept rows (requests.WriteP pers path value) answers.Ok never = absur
 persistents_kept rows (requests.TestSet pers path) (answers.Yes true) never = absurd (true≢false never)
 persistents_kept rows _ _ never = refl
 
--- any other changes none
+-- any other changes nothing
 pub changes_of-none : (cell : CellData) (before : List Event) (e : Event) → may_change e.request e.answer ≡ false → changes_of cell before e ≡ []
 changes_of-none cell before e never =
     changes_so cell before e

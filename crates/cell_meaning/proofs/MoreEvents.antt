@@ -1,4 +1,4 @@
--- What one more event changes of what a history comes to.
+-- What one more event changes in what a history means.
 use Rattle.std.proofs.Common.{◌≡◌, ℕ, ◌+◌, Bool, cond, List, [], ◌∷◌, ◌++◌, length, map, Option, Some, None, refl, sym, ◌∙◌, ap, arith, zero-add, append_assoc}
 use Rattle.std.specs.Prelude.{not, ◌&&◌, ◌==◌, count_by, option_map, replicate, slice_get}
 use Rattle.std.specs.List.{fold}
@@ -26,20 +26,20 @@ use Rattle.cell_meaning.specs.Rising.{seen_with, seen_after}
 use Rattle.cell_meaning.specs.Stored.{signals_with, signals_after, persistents_with, persistents_after}
 use Rattle.cell_meaning.specs.Zones.{zones_with, zones_after}
 
--- an event by its parts
+-- an event from its parts
 abbrev pub event : ℕ → Request → Answer → Event
 event actor request answer = record { actor = actor; request = request; answer = answer }
 
--- the event where it passes
+-- the event, if it passes
 abbrev kept_if : Event → Bool → List Event
 kept_if e passes = cond passes (e ∷ []) []
 
--- the event is one more of its own actor's events
+-- the event adds to its own actor's events
 pub part_of-own : (actor : ℕ) (history : List Event) (e : Event) → e.actor ≡ actor → part_of actor (history ++ e ∷ []) ≡ part_of actor history ++ e ∷ []
 part_of-own actor history e own =
     filter-append (λ f. f.actor == actor) history (e ∷ []) ∙ ap (λ (b : Bool). part_of actor history ++ kept_if e b) (eq-eqb e.actor actor own)
 
--- and none of another's
+-- and not to another's
 pub part_of-other : (actor : ℕ) (history : List Event) (e : Event) → (e.actor ≡ actor → ⊥) → part_of actor (history ++ e ∷ []) ≡ part_of actor history
 part_of-other actor history e other =
     filter-append (λ f. f.actor == actor) history (e ∷ []) ∙ ap (λ (b : Bool). part_of actor history ++ kept_if e b) (ne_eqb e.actor actor other)
@@ -63,7 +63,7 @@ pub arm_along-more : (position : Joints) (es : List Event) (e : Event) → arm_a
 arm_along-more position [] e = refl
 arm_along-more position (f ∷ es) e = arm_along-more (moved position f.request f.answer) es e
 
--- where an arm is that started so, after these events of its task
+-- where an arm that started here is after these events of its task
 abbrev arm_from : Option Joints → List Event → Option Joints
 arm_from start mine = option_and_then (λ position. Some (arm_along position mine)) start
 
@@ -74,7 +74,7 @@ arm_from-more (Some start) mine e = ap (λ (position : Joints). Some position) (
 abbrev start_of : CellData → ℕ → Option Joints
 start_of cell task = option_and_then (λ row. row.arm) (slice_get cell.tasks task)
 
--- an event moves the arm of its own task alone
+-- an event moves only the arm of its own task
 pub arm_after-own : (cell : CellData) (history : List Event) (e : Event) → arm_after cell (history ++ e ∷ []) e.actor ≡ option_map (λ position. moved position e.request e.answer) (arm_after cell history e.actor)
 arm_after-own cell history e =
     ap (λ (mine : List Event). arm_from (start_of cell e.actor) mine) (part_of-own e.actor history e refl) ∙ arm_from-more (start_of cell e.actor) (part_of e.actor history) e
@@ -82,7 +82,7 @@ arm_after-own cell history e =
 pub arm_after-other : (cell : CellData) (history : List Event) (e : Event) (task : ℕ) → (e.actor ≡ task → ⊥) → arm_after cell (history ++ e ∷ []) task ≡ arm_after cell history task
 arm_after-other cell history e task other = ap (λ (mine : List Event). arm_from (start_of cell task) mine) (part_of-other task history e other)
 
--- how many pass a test, of a list with one more
+-- how many elements pass a test, in a list with one more
 pub count_more : (passes : Event → Bool) (es : List Event) (e : Event) → count_by passes (es ++ e ∷ []) ≡ count_by passes es + cond (passes e) 1 0
 count_more passes es e =
     sum_by-append (λ f. cond (passes f) 1 0) es (e ∷ []) ∙ ap (λ (n : ℕ). count_by passes es + n) (zero-add (cond (passes e) 1 0))
@@ -146,7 +146,7 @@ changes_from-more cell actor before (f ∷ es) e =
     let same : by_another cell actor ((before ++ f ∷ []) ++ es) e ≡ by_another cell actor (before ++ f ∷ es) e = ap (λ (b : List Event). by_another cell actor b e) (append_assoc before (f ∷ []) es) in
     omega (arith, rest, same)
 
--- an actor sees one change more where another made it
+-- an actor sees one more change if another actor made it
 pub changes_by_others-more : (cell : CellData) (history : List Event) (e : Event) (actor : ℕ)
     → changes_by_others cell (history ++ e ∷ []) actor ≡ changes_by_others cell history actor + cond (not (e.actor == actor) && is_change cell history e) 1 0
 changes_by_others-more cell history e actor = changes_from-more cell actor [] history e

@@ -1,4 +1,4 @@
--- What firings and looks leave of the interrupts.
+-- What firings and looks do to the interrupts.
 use Rattle.std.proofs.Common.{◌≡◌, ℕ, zero, suc, ◌+◌, ◌≤◌, Bool, true, false, not, cond, ◌||◌, nat_lt, List, [], ◌∷◌, ◌++◌, length, map, take, Option, None, Some, refl, ◌∙◌, ap, arith}
 use Rattle.std.specs.Prelude.{if◌then◌else◌}
 use Rattle.std.specs.List.{All, filter, range_with_len}
@@ -59,14 +59,14 @@ after_changes-none t room =
     ∙ ap (λ (flood : Bool). made (map (after_firing []) t.numbers) t.queue flood) (no_flood t.flood (length t.queue + 0) (omega arith))
     ∙ ap (λ (numbers : List (Option Connected)). made numbers t.queue t.flood) (all_stay t.numbers)
 
--- without a change the interrupts of all tasks stay, whose queues have their room
+-- without a change, the interrupts of all tasks stay the same, if their queues fit
 pub fired-none : (tasks : List TaskData) → All (λ t. length t.queue ≤ 1_024) tasks → map (after_changes []) tasks ≡ tasks
 fired-none [] room = refl
 fired-none (t ∷ tasks) room =
     ap (λ (u : TaskData). u ∷ map (after_changes []) tasks) (after_changes-none t (room zero t (omega arith)))
     ∙ ap (λ (us : List TaskData). t ∷ us) (fired-none tasks (λ k d lt. room (suc k) d (omega arith)))
 
--- a Look leaves the interrupts of its task as the board says
+-- a Look does to the interrupts of its task what the board says
 look_parts : (numbers : List (Option Connected)) (queue : List ℕ) (flood disabled in_trap : Bool) (seen : ℕ)
     → let t : TaskData = record { numbers = numbers; queue = queue; flood = flood; disabled = disabled; in_trap = in_trap } in own_with t requests.Look (look_of (look_answer t) seen) ≡ after_look t
 look_parts numbers queue true disabled in_trap seen = refl

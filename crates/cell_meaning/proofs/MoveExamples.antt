@@ -1,4 +1,5 @@
--- Setpoints on worked examples: while the output is set, a zone of the cell from 0.5 to 1.5 degrees watches axis 1 of task A.
+-- Setpoints on worked examples: while the output is set, a zone of the cell from 0.5 to 1.5 degrees watches axis 1 of
+-- task A.
 use Rattle.std.proofs.Common.{◌≡◌, ℕ, zero, suc, ◌-◌, Bool, true, false, [], ◌∷◌, get_or, replicate, Some, None, refl, subst, arith}
 use Rattle.std.specs.Prelude.{IsTrue, ◌==◌, codes, pos, if◌then◌else◌}
 use Rattle.std.proofs.lemmas.Bool.{ltb-true}
@@ -27,7 +28,7 @@ near_one = record { inside = true; bounds = Some (record { low = pos 500; high =
 abbrev zoned : CellData
 zoned = record cell { zones = record { name = codes "z1"; task = 0; shape = near_one; signal = 1; value = true } ∷ [] }
 
--- the end of the way from 0 to 1 degree lies in the zone
+-- the end of the way from 0 to 1 degree is in the zone
 end_inside : LiesInside near_one.bounds (point_at (joints_at (pos 0)) (joints_at (pos 1000)) 1 1) 1
 end_inside zero b named =
     let bound : Bound = record { low = pos 500; high = pos 1500 } in
@@ -48,7 +49,7 @@ no_own number = by (number == 0)
     by true = refl
     by false = nowhere 10 (number - 1)
 
--- a way that ends in the zone is stopped by it
+-- a move that ends in the zone is stopped by it
 stops : IsAnswer zoned [] 0 (requests.Setpoint (joints_at (pos 1000))) (answers.Stopped (Cell 0))
 stops = record {
   touched = record { shape = near_one; is = refl; touched = record { k = 1; m = 1; whole = omega arith; on_the_way = omega arith; holds = end_inside } };
@@ -59,7 +60,7 @@ stops = record {
     earlier (Own number) before touched = let none = no_own number in let is = touched.is in let no : ⊥ = cc in no
     earlier (Cell number) before touched = let below = ltb-true number 0 before in absurd (omega arith)
 
--- after the output is cleared the zone watches no longer
+-- once the output is cleared, the zone no longer watches
 goes : IsAnswer zoned (cleared ∷ []) 0 (requests.Setpoint (joints_at (pos 1000))) answers.Given
 goes = untouched
   where
@@ -68,7 +69,7 @@ goes = untouched
     untouched (Cell zero) touched = let is = touched.is in let no : ⊥ = cc in no
     untouched (Cell (suc number)) touched = let is = touched.is in let no : ⊥ = cc in no
 
--- where a zone of the task's own and one of the cell are both touched, the task's own stops the way
+-- if the move touches both a zone of the task's own and one of the cell, the task's own stops it
 abbrev supervised_too : Event
 supervised_too = event 0 (requests.ZoneSet 0 true near_one) (answers.Number 1)
 

@@ -1,4 +1,4 @@
--- Entries that are found by their numbers, which count from 1.
+-- Entries by number, counted from 1.
 use Rattle.std.proofs.Common.{◌≡◌, inl, inr, ◌<◌, ◌≤◌, ℕ, zero, suc, ◌+◌, ◌-◌, ◌==◌, Bool, true, false, cond, List, [], ◌∷◌, length, Option, Some, None, slice_index_or, slice_set, refl, sym, ◌∙◌, ap, subst, arith, if◌then◌else◌}
 use Rattle.std.specs.Prelude.{is_none}
 use Rattle.std.specs.List.{position_from}
@@ -6,14 +6,14 @@ use Rattle.std.proofs.Math.Dec.{eqb-suc-zero}
 use Rattle.std.proofs.lemmas.Bool.{cases_eq, eq-eqb, ne_eqb}
 use Rattle.std.proofs.lemmas.List.{get_or-set_same, get_or-set_other}
 
--- the entry of a number, and none of zero
+-- the entry of a number; zero has none
 abbrev pub entry_at : {A : Type 0} → List (Option A) → ℕ → Option A
 entry_at xs number = if number == 0 then None else slice_index_or xs (number - 1) None
 
 pub entry_at-next : {A : Type 0} (xs : List (Option A)) (k : ℕ) → entry_at xs (suc k) ≡ slice_index_or xs k None
 entry_at-next xs k = let same : suc k - 1 ≡ k = omega arith in rw (eqb-suc-zero k, same) refl
 
--- where an entry is written, each number has the entry that it had, but for that one
+-- after a write each number keeps its entry, except the one written
 written_next : {A : Type 0} (xs : List (Option A)) (i j : ℕ) (x : Option A) → i < length xs → slice_index_or (slice_set xs i x) j None ≡ (if suc i == suc j then x else slice_index_or xs j None)
 written_next xs i j x few = elim (cases_eq j i) [
   | inl same ↦
@@ -33,7 +33,7 @@ entry_written xs (suc i) (suc j) x some few =
     ap (λ (k : ℕ). entry_at (slice_set xs k x) (suc j)) pred ∙ entry_at-next (slice_set xs i x) j ∙ written_next xs i j x (omega (arith, few))
     ∙ ap (λ (o : Option _). if suc i == suc j then x else o) (sym (entry_at-next xs j))
 
--- a number that has an entry is one of them
+-- a number with an entry is within the list
 has_some : {A : Type 0} (xs : List (Option A)) (k : ℕ) (c : A) → slice_index_or xs k None ≡ Some c → k < length xs
 has_some [] k c is = cc
 has_some (x ∷ xs) zero c is = omega arith
@@ -45,7 +45,7 @@ entry_within xs (suc k) c is =
     let few : k < length xs = has_some xs k c (sym (entry_at-next xs k) ∙ is) in
     (omega arith, omega (arith, few))
 
--- the first that is none is none
+-- the first empty entry is empty
 first_none : {A : Type 0} (xs : List (Option A)) (at index : ℕ) → position_from is_none at xs ≡ Some index → (at ≤ index) × (slice_index_or xs (index - at) None ≡ None)
 first_none [] at index is = absurd cc
 first_none (None ∷ xs) at index is =

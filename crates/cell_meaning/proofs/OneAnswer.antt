@@ -18,7 +18,7 @@ use Rattle.cell_meaning.specs.Motion.{arm_after}
 use Rattle.cell_meaning.specs.Stored.{signals_after}
 use Rattle.cell_meaning.specs.Zones.{zones_after}
 
--- of two names one comes before the other, or they are the same
+-- of two names one comes before the other, or they are equal
 by_number : (m n : ℕ) → (nat_lt m n ≡ true) ⊎ (m ≡ n) ⊎ (nat_lt n m ≡ true)
 by_number m n = elim (cases_lt m n) [
   | inl lt ↦ inl (lt-ltb m n lt)
@@ -42,7 +42,7 @@ in_order (Cell m) (Cell n) = elim (by_number m n) [
   | inr (inr gt) ↦ inr (inr gt)
 ]
 
--- one zone is the first that is touched
+-- only one zone is the first that is touched
 one_first : (zones : ZonesData) (task : ℕ) (signals : List Bool) (p q : Joints) (a b : ZoneName) → IsFirstTouched zones task signals p q a → IsFirstTouched zones task signals p q b → a ≡ b
 one_first zones task signals p q a b first second = elim (in_order a b) [
   | inl before ↦ absurd (second.first a before first.touched)
@@ -65,7 +65,7 @@ pub one_answer : (cell : CellData) (history : List Event) (actor : ℕ) (request
 one_answer cell history actor (requests.Setpoint to) a b x y = one_move cell history actor to (arm_after cell history actor) a b x y
 one_answer cell history actor _ a b x y = x ∙ sym y
 
--- where no zone is the first that is touched, none is: own zones by number, and then those of the cell
+-- if no zone is the first that is touched, none is touched: own zones by number, and then those of the cell
 earlier_own : (zones : ZonesData) (task : ℕ) (signals : List Bool) (p q : Joints) (k : ℕ) → ((m : ℕ) → m < k → ¬ IsTouched zones task signals p q (Own m))
     → (other : ZoneName) → IsTrue (comes_before other (Own k)) → ¬ IsTouched zones task signals p q other
 earlier_own zones task signals p q k none (Own m) before touched = none m (ltb-true m k before) touched

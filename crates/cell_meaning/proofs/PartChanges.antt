@@ -1,4 +1,4 @@
--- A persistent changes by a write just where the part that is written has another value.
+-- A write changes a persistent exactly if the part has another value.
 use Rattle.std.proofs.Common.{◌≡◌, ℕ, ◌-◌, Bool, true, false, List, set, take, drop, Option, None, Some, refl, sym, ◌∙◌, ap, subst}
 use Rattle.std.specs.Prelude.{if◌then◌else◌, nat_lt, slice_get, ℤ}
 use Rattle.std.specs.Cmp.Lexicographic.{pointwise}
@@ -16,8 +16,8 @@ use Rattle.rapid_model.specs.declared.pers_cell.PersCell.{PersCell}
 use Rattle.rapid_model.specs.declared.sort.Sort.{Sort}
 use Rattle.rapid_model.specs.declared.value.Value.{Value}
 use Rattle.rapid_model.specs.declared.value.Value.TheVariants as values
-use Rattle.rapid_operators.specs.Equality.{same}
-use Rattle.rapid_operators.proofs.Equalities.{same_decides}
+use Rattle.rapid_values.specs.Equality.{same}
+use Rattle.rapid_values.proofs.Equalities.{same_decides}
 use Rattle.rapid_values.specs.Values.{num_at, part_of, put_part, with_axes, with_num}
 use Rattle.rapid_values.proofs.Changed.{put_there}
 use Rattle.rapid_values.proofs.Lists.{num_written}
@@ -26,7 +26,7 @@ use Rattle.cell_meaning.specs.Stored.{value_at, with_part}
 use Rattle.cell_meaning.proofs.MoreChanges.{same_but_one, value_same}
 use Rattle.cell_meaning.proofs.ValuesKept.{row_with, part_written}
 
--- a num put where it is changes nothing
+-- putting a num where it already is changes nothing
 num_back : (nums : List ℤ) (index : ℕ) (old : Value) → num_at nums index ≡ Some old → with_num nums index old ≡ Some nums
 num_back nums index old is = by (slice_get nums index) refl is
   where
@@ -41,7 +41,7 @@ high_back : (low : Bool) (axes : List ℤ) (index : ℕ) (old : Value) → (if l
 high_back true axes index old is = cc
 high_back false axes index old is = ap (λ (ns : Option (List ℤ)). option_map values.Ext ns) (num_back axes index old is)
 
--- nor does a part
+-- nor does putting a part
 put_back : (v : Value) (part : PartName) (old : Value) → part_of v part ≡ Some old → put_part v part old ≡ Some v
 put_back v parts.Whole old is = sym is
 put_back (values.Target joints) parts.Robax old is =
@@ -64,7 +64,7 @@ same_tests true y there back = sym (there refl)
 same_tests false true there back = back refl
 same_tests false false there back = refl
 
--- a value is as it was just where the part put in is
+-- a value is unchanged exactly if the part put in is the same
 pub same_by_part : (v w old new : Value) (part : PartName) → is_full v ≡ true → is_full new ≡ true → part_of v part ≡ Some old → put_part v part new ≡ Some w → same v w ≡ same old new
 same_by_part v w old new part full full_new is put = same_tests (same v w) (same old new) there back
   where
@@ -94,7 +94,7 @@ full_part sort part new fits = by (part_sort sort part) refl
     by None e = absurd (false≢true (sym (ap (fits_by new) e) ∙ fits))
     by (Some inner) e = (and_parts (is_value_of inner new) (is_full new) (sym (ap (fits_by new) e) ∙ fits)).1
 
--- the elements are as they were just where the part written is
+-- the elements are unchanged exactly if the written part is the same
 pub elements_by_part : (row : PersCell) (elements : List Value) (path : Path) (old new : Value) → IsKept (row_with row elements) → has_path row path ≡ true → fits_part row.sort path.part new ≡ true
     → value_at elements path ≡ Some old → pointwise same elements (with_part elements path new) ≡ same old new
 elements_by_part row elements path old new kept there fits at =

@@ -1,4 +1,4 @@
--- Each arm stands at a position.
+-- Each arm is at a position.
 use Rattle.std.proofs.Common.{◌≡◌, ◌⊎◌, inl, inr, ℕ, zero, suc, Bool, true, false, cond, List, [], ◌∷◌, Option, Some, None, refl, sym, ◌∙◌, ap, subst}
 use Rattle.std.specs.Prelude.{IsTrue, ◌==◌, is_some, slice_get, unwrap_or}
 use Rattle.std.specs.Option.{option_and_then, option_map}
@@ -23,7 +23,7 @@ use Rattle.cell_meaning.specs.Premises.{AllAnswered}
 use Rattle.cell_meaning.proofs.Asked.{TaskMay, ScriptMay, who_may}
 use Rattle.rapid_model.proofs.Cuts.{AtEachCut, cut_if, cut_none, cut_tail}
 
--- a setpoint's target is a position of an arm with so many axes
+-- the target of a setpoint is a position of an arm with that many axes
 abbrev goes_well : ℕ → Request → Bool
 goes_well axes (requests.Setpoint to) = is_position axes to
 goes_well axes _ = true
@@ -32,7 +32,7 @@ suited_well : (cell : CellData) (row : TaskRow) (mine : List Event) (request : R
 suited_well cell row mine (requests.Setpoint to) h = (and_parts (is_some row.arm) (is_position row.axes to) h).1
 suited_well cell row mine _ h = refl
 
--- an actor's axes are its row's
+-- an actor's axes are those of its row
 pub row_axes : (cell : CellData) (task : ℕ) (row : TaskRow) → slice_get cell.tasks task ≡ Some row → axes_of cell task ≡ row.axes
 row_axes cell task row at = ap (λ (o : Option TaskRow). unwrap_or (option_map (λ (r : TaskRow). r.axes) o) 0) at
 
@@ -44,7 +44,7 @@ may_well cell actor mine request (inr script) = ap (goes_well (axes_of cell acto
 abbrev AllWell : CellData → List Event → Type 0
 AllWell cell history = AtEachCut (λ before e. goes_well (axes_of cell e.actor) e.request ≡ true) history
 
--- the setpoints of one arm, which has so many axes
+-- the setpoints of one arm, with that many axes
 abbrev ArmWell : ℕ → List Event → Type 0
 ArmWell axes mine = AtEachCut (λ before e. goes_well axes e.request ≡ true) mine
 
@@ -81,7 +81,7 @@ starts_at (r ∷ rows) zero row h e =
     subst P same (and_parts (is_short_name r.name) (is_start r.axes r.arm) (and_parts (starts_well r) (list_all starts_well rows) h).0).1
 starts_at (r ∷ rows) (suc k) row h e = starts_at rows k row (and_parts (starts_well r) (list_all starts_well rows) h).1 e
 
--- where an arm with so many axes is that starts so
+-- where an arm with that many axes is, if it starts so
 pub record Stands (axes : ℕ) (arm : Option Joints) : Type 0 where
   pub position : Joints
   pub there : arm ≡ Some position
@@ -92,7 +92,7 @@ arm_stands axes None mine has starts well = absurd (false≢true has)
 arm_stands axes (Some start) mine has starts well =
     record { position = arm_along start mine; there = refl; well = along_well axes start mine (and_parts (is_within 6 12 axes) (is_position axes start) starts).1 well }
 
--- the arm of a task that has one stands at a position
+-- the arm of a task that has one is at a position
 pub arm_well : (cell : CellData) (history : List Event) (task : ℕ) (row : TaskRow) → IsCell cell → AllAnswered cell history → slice_get cell.tasks task ≡ Some row → is_some row.arm ≡ true
     → Stands row.axes (arm_after cell history task)
 arm_well cell history task row limits asked at has =

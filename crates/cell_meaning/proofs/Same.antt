@@ -1,4 +1,4 @@
--- Those who ask the same have the same histories.
+-- Whoever asks the same has the same histories.
 use Rattle.std.proofs.Common.{ℕ, zero, suc, ◌+◌, inl, inr, List, length}
 use Rattle.rapid_model.specs.CellData.{CellData}
 use Rattle.rapid_model.specs.Own.{answers_of}

@@ -1,4 +1,4 @@
--- What has stood since an event stands, and what stands has stood since one.
+-- What has held since an event holds, and what holds has held since an event.
 use Rattle.std.proofs.Common.{◌≡◌, ◌⊎◌, inl, inr, List, [], ◌∷◌, ◌++◌, refl, sym, ◌∙◌, ap, subst, append_assoc}
 use Rattle.std.proofs.lemmas.List.{append-nil}
 use Rattle.rapid_model.specs.CellData.{CellData}
@@ -11,7 +11,7 @@ no_end : {A : Type 0} (first : List A) (x : A) (later : List A) → [] ≡ first
 no_end [] x later is = cc
 no_end (f ∷ first) x later is = cc
 
--- a list with one more element, cut at one: at that element, or before it
+-- a list with one more element, cut at an element: at the new one, or before it
 snoc_cut : {A : Type 0} (after first later : List A) (e x : A) → after ++ e ∷ [] ≡ first ++ x ∷ later
     → ((after ≡ first) × (e ≡ x)) ⊎ ((rest : List A) × (after ≡ first ++ x ∷ rest))
 snoc_cut [] [] later e x is = inl (refl, cc)
@@ -25,7 +25,7 @@ snoc_cut (a ∷ after) (f ∷ first) later e x is =
       | inr w ↦ inr (w.0, ap (λ (y : _). y ∷ after) head ∙ ap (λ (ys : List _). f ∷ ys) w.1)
     ]
 
--- one event more, which does not undo it
+-- one more event, which does not undo it
 since_more : (Is Undoes : List Event → Event → Type 0) (history : List Event) (e : Event) → Since Is Undoes history → ¬ Undoes history e → Since Is Undoes (history ++ e ∷ [])
 since_more Is Undoes history e s none = record {
   before = s.before;
@@ -41,16 +41,17 @@ since_more Is Undoes history e s none = record {
   ];
 }
 
--- it stands after no events at no time, and what stands after an event was begun by it, or stood before and was not undone by it
+-- it does not hold after no events; if it holds after an event, the event began it, or it held before and the event did
+-- not undo it
 pub record Told (G State : List Event → Type 0) (Is Undoes : List Event → Event → Type 0) : Type 0 where
   pub nothing : State [] → ⊥
   pub was : (h : List Event) (e : Event) → G (h ++ e ∷ []) → State (h ++ e ∷ []) → Is h e ⊎ (State h × ¬ Undoes h e)
 
--- what holds of a history holds of each beginning of it
+-- what holds of a history holds of each prefix of it
 abbrev pub FrontsToo : (List Event → Type 0) → Type 0
 FrontsToo G = (xs ys : List Event) → G (xs ++ ys) → G xs
 
--- of the beginning with an event
+-- of the prefix that ends with an event
 with_event : (G : List Event → Type 0) → FrontsToo G → (history before after : List Event) (e : Event) → history ≡ before ++ e ∷ after → G history → G (before ++ e ∷ [])
 with_event G fronts history before after e is good =
     fronts (before ++ e ∷ []) after (subst G (is ∙ sym (append_assoc before (e ∷ []) after)) good)
@@ -63,7 +64,7 @@ told G State Is Undoes history fronts good t =
       | inr w ↦ since_more Is Undoes before e (since w.0) w.1
     ])
 
--- what an event begins stands after it, and stands on after each event that does not undo it
+-- what an event begins holds after it, and after each later event that does not undo it
 pub record Tells (G State : List Event → Type 0) (Is Undoes : List Event → Event → Type 0) : Type 0 where
   pub made : (h : List Event) (e : Event) → G (h ++ e ∷ []) → Is h e → State (h ++ e ∷ [])
   pub keeps : (h : List Event) (e : Event) → G (h ++ e ∷ []) → State h → ¬ Undoes h e → State (h ++ e ∷ [])

@@ -1,4 +1,4 @@
--- A cell is stalled exactly where its history is whole, a task has not ended, and steps are left.
+-- A cell is stalled exactly if its history is complete, a task has not ended, and steps are left.
 use Rattle.std.proofs.Common.{◌≡◌, ◌⊎◌, inl, inr, ℕ, zero, suc, ◌<◌, Bool, true, false, not, List, length, Option, None, Some, refl, sym, ◌∙◌, ap, subst, arith}
 use Rattle.std.specs.Prelude.{◌&&◌, ◌||◌, ◌==◌, IsTrue, nat_lt, slice_get}
 use Rattle.std.proofs.lemmas.Bool.{and_parts, cases_eq, false≢true, true≢false, not-true}
@@ -24,7 +24,7 @@ use Rattle.cell_meaning.specs.Stalled.{is_stuck, all_rest, is_stalled}
 use Rattle.cell_meaning.proofs.Asked.{TaskMay, ScriptMay, who_may}
 use Rattle.cell_meaning.proofs.Ending.{none_follows, whole_over}
 
--- what a stalled cell comes to
+-- what a stalled cell is
 record Stall (cell : CellData) (history : List Event) : Type 0 where
   steps_left : is_spent cell history ≡ false
   one_going : all_ended (length cell.tasks) history ≡ false
@@ -108,7 +108,7 @@ stalled_whole asks cell history may legal stalled = (
   (stall cell history stalled).steps_left,
 )
 
--- a task that may ask what is not enabled is stuck
+-- a task that may make a request that is not enabled is stuck
 waits_stuck : (cell : CellData) (history : List Event) (task : ℕ) (request : Request) → TaskMay cell task (part_of task history) request → is_enabled cell history task request ≡ false → is_stuck cell history task ≡ true
 waits_stuck cell history task requests.Rise may never = by (is_held (part_of task history)) (can_rise cell history task) may.goes never
   where
@@ -119,7 +119,7 @@ waits_stuck cell history task requests.Rise may never = by (is_held (part_of tas
 waits_stuck cell history task (requests.Input index) may never = absurd (false≢true may.suits)
 waits_stuck cell history task _ may never = absurd (true≢false never)
 
--- after a whole history each task has ended, or is stuck
+-- after a complete history each task has ended or is stuck
 one_rests : (asks : Asking) (cell : CellData) (history : List Event) (task : ℕ) → task < length cell.tasks → AsksWhatItMay asks cell → IsLegal asks cell history → is_spent cell history ≡ false
     → IsOver asks cell history task → (has_ended (part_of task history) || is_stuck cell history task) ≡ true
 one_rests asks cell history task within may legal left (inl ended) = ap (λ (b : Bool). b || is_stuck cell history task) ended

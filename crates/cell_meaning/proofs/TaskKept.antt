@@ -1,5 +1,6 @@
--- What the interrupts of a task keep along a history: there are as many entries as a task has and the queue has its room, what
--- waits is connected, with traps that the task named, and a trap is under way where one more was begun than left.
+-- What holds of the interrupts of a task along a history: there are as many entries as a task has and the queue is
+-- within its limit; whatever waits is connected, to traps that the task named; and a trap is running if one more was
+-- begun than left.
 use Rattle.std.proofs.Common.{◌≡◌, ℕ, zero, suc, ◌+◌, ◌-◌, ◌<◌, ◌≤◌, Bool, true, false, not, cond, List, [], ◌∷◌, ◌++◌, length, get_or, Option, None, Some, refl, sym, ◌∙◌, ap, subst, arith}
 use Rattle.std.specs.Prelude.{◌||◌, ◌==◌, count_by, if◌then◌else◌}
 use Rattle.std.proofs.lemmas.Bool.{false≢true}
@@ -9,19 +10,17 @@ use Rattle.std.proofs.Math.ListN.{get_or-map}
 use Rattle.rapid_model.specs.Own.{is_trap, is_leave, connects_with, has_connected}
 use Rattle.rapid_model.specs.declared.event.Event.{Event}
 use Rattle.rapid_model.specs.declared.watched.Watched.{Watched}
+use Rattle.rapid_model.specs.Truths.{one_if}
+use Rattle.rapid_model.proofs.Lists.{filter_short}
 use Rattle.trap_dispatch.specs.declared.connected.Connected.{Connected}
 use Rattle.trap_dispatch.specs.Firing.{connected_at, fires, fired_numbers, after_its_firing, after_firing}
 use Rattle.trap_dispatch.specs.Tasks.{TaskData, IsTask, with_number, deleted, after_changes, trap_of}
 use Rattle.trap_dispatch.proofs.Fired.{connected_at-next}
-use Rattle.trap_dispatch.proofs.Queued.{queued-with, queued-without, queued-after, length-filter-le}
+use Rattle.trap_dispatch.proofs.Queued.{queued-with, queued-without, queued-after}
 use Rattle.cell_meaning.proofs.Lists.{written_keeps}
 use Rattle.cell_meaning.proofs.MoreEvents.{count_more}
 
--- one where it holds
-abbrev pub one_if : Bool → ℕ
-one_if b = cond b 1 0
-
--- what an entry has is connected with a trap that the task named
+-- what is in an entry is connected with a trap that the task named
 abbrev pub HasItsTrap : List Event → Option Connected → Type 0
 HasItsTrap mine entry = (c : Connected) → entry ≡ Some c → has_connected mine c.trap ≡ true
 
@@ -30,13 +29,13 @@ pub record KeptTask (mine : List Event) (t : TaskData) : Type 0 where
   pub traps : (k : ℕ) → HasItsTrap mine (get_or t.numbers k None)
   pub begun : count_by (λ e. is_trap e.answer) mine ≡ count_by (λ e. is_leave e.request) mine + one_if t.in_trap
 
--- an entry that has something is there
+-- an entry that is not empty is within the list
 some_within : (numbers : List (Option Connected)) (k : ℕ) (c : Connected) → get_or numbers k None ≡ Some c → k < length numbers
 some_within [] k c is = cc
 some_within (x ∷ xs) zero c is = omega arith
 some_within (x ∷ xs) (suc k) c is = let later = some_within xs k c is in omega arith
 
--- a number that is connected has an entry
+-- a connected number has an entry
 pub record HasEntry (numbers : List (Option Connected)) (number : ℕ) (c : Connected) : Type 0 where
   pub some : 1 ≤ number
   pub within : number - 1 < length numbers
@@ -53,7 +52,7 @@ or_left : (a b : Bool) → a ≡ true → (a || b) ≡ true
 or_left true b h = refl
 or_left false b h = absurd (false≢true h)
 
--- a task that named a trap has named it for good
+-- a task that named a trap has named it forever
 pub still_named : (mine : List Event) (e : Event) (trap : ℕ) → has_connected mine trap ≡ true → has_connected (mine ++ e ∷ []) trap ≡ true
 still_named mine e trap named =
     list_any-append (λ (f : Event). connects_with trap f.request) mine (e ∷ []) ∙ or_left (has_connected mine trap) (has_connected (e ∷ []) trap) named
@@ -77,7 +76,7 @@ kept_same mine t e kept no_trap no_leave = record {
       omega (arith, begun, left, kept.begun);
 }
 
--- an entry gets another interrupt, of a trap that the task named
+-- an entry gets another interrupt, with a trap that the task named
 pub kept_written : (mine : List Event) (t : TaskData) (number : ℕ) (c : Connected) → KeptTask mine t → number - 1 < length t.numbers → has_connected mine c.trap ≡ true
     → KeptTask mine (with_number t number (Some c))
 kept_written mine t number c kept within named = record {
@@ -95,14 +94,14 @@ pub kept_deleted : (mine : List Event) (t : TaskData) (number : ℕ) → KeptTas
 kept_deleted mine t number kept some = record {
   sound = record {
     count = length-set t.numbers (number - 1) None ∙ kept.sound.count;
-    room = let shorter = length-filter-le (λ n. not (n == number)) t.queue in let old = kept.sound.room in omega arith;
+    room = let shorter = filter_short (λ n. not (n == number)) t.queue in let old = kept.sound.room in omega arith;
     connected = queued-without t.numbers t.queue number some kept.sound.connected;
   };
   traps = λ k. written_keeps (HasItsTrap mine) t.numbers (number - 1) k None None (kept.traps k) (λ same d is. let no : ⊥ = cc in absurd no);
   begun = kept.begun;
 }
 
--- a firing leaves each entry with its trap
+-- a firing keeps each entry's trap
 fired_trap : (changes : List Watched) (entry : Option Connected) (c : Connected) → after_firing changes entry ≡ Some c → (old : Connected) × (entry ≡ Some old) × (old.trap ≡ c.trap)
 fired_trap changes None c is = let no : ⊥ = cc in absurd no
 fired_trap changes (Some old) c is = (old, refl, either (fires changes (Some old)) is)

@@ -1,4 +1,4 @@
--- Each persistent keeps its type and its length along a history, so each of its parts has a value of the part's type.
+-- Each persistent keeps its type and length along a history, so each of its parts has a value of the part's type.
 use Rattle.std.proofs.Common.{◌≡◌, ◌<◌, ◌⊎◌, inl, inr, ℕ, zero, suc, ◌-◌, Bool, true, false, List, [], ◌∷◌, ◌++◌, length, get_or, set, map, Option, None, Some, is_some, refl, sym, ◌∙◌, ap, subst}
 use Rattle.std.specs.Prelude.{◌&&◌, ◌==◌, IsTrue, IsSomeAnd, nat_lt, slice_get}
 use Rattle.std.specs.List.{list_all}
@@ -60,7 +60,7 @@ rows_kept tasks (r ∷ rows) is full (suc pers) row at =
     rows_kept tasks rows (and_parts (is_pers_cell tasks r) (list_all (is_pers_cell tasks) rows) is).1
     (and_parts (list_all is_full r.first) (list_all (λ (x : PersCell). list_all is_full x.first) rows) full).1 pers row at
 
--- what holds of the persistent of this number
+-- a condition on the persistent with this number
 abbrev pub test_of : (PersCell → Bool) → Option PersCell → Bool
 test_of test None = false
 test_of test (Some row) = test row
@@ -68,7 +68,7 @@ test_of test (Some row) = test row
 pers_there : (cell : CellData) (pers : ℕ) (row : PersCell) (test : PersCell → Bool) → slice_get cell.pers pers ≡ Some row → of_pers cell pers test ≡ true → test row ≡ true
 pers_there cell pers row test at holds = sym (ap (test_of test) at) ∙ holds
 
--- an element that a path names is there, and has the type
+-- an element that a path names exists, and has the type
 record HasElement (row : PersCell) (elements : List Value) (path : Path) : Type 0 where
   value : Value
   there : slice_get elements (element_index path) ≡ Some value
@@ -86,7 +86,7 @@ element_there row elements path kept there =
       typed = holds_at (has_sort row.sort) elements (path.index - 1) (values.Bool false) kept.sorts within;
     }
 
--- a value that fits its path is put into an element
+-- a value that fits its path is written into an element
 pub record IsWritten (row : PersCell) (elements : List Value) (path : Path) (new : Value) : Type 0 where
   pub old : Value
   pub within : path.index - 1 < length elements
@@ -118,7 +118,7 @@ part_written row elements path new kept path_there fits =
           ap (λ (o : Option Value). part_put elements path new o) element.there ∙ ap (λ (o : Option Value). set elements (element_index path) (unwrap_or o element.value)) is;
     }
 
--- and keeps the persistent
+-- and the persistent stays well formed
 put_kept : (row : PersCell) (elements : List Value) (path : Path) (new : Value) → IsKept (row_with row elements) → has_path row path ≡ true → fits_part row.sort path.part new ≡ true
     → IsKept (row_with row (with_part elements path new))
 put_kept row elements path new kept path_there fits =
@@ -166,14 +166,14 @@ values_kept_more cell history e may kept =
     by (inl task) = kept_with cell (persistents_after cell history) task.row (part_of e.actor history) e.request e.answer task.suits kept
     by (inr script) = subst (λ (r : Request). AllKept cell (persistents_with (persistents_after cell history) r e.answer)) (sym script.next) kept
 
--- each persistent is of its type, as long as it is
+-- each persistent has values of its type, as many as its length says
 pub values_kept : (cell : CellData) (history : List Event) → IsCell cell → StartsFull cell → AllAnswered cell history
     → (pers : ℕ) (row : PersCell) → slice_get cell.pers pers ≡ Some row → IsKept (record { sort = row.sort; len = row.len; values = persistent_after cell history pers })
 values_kept cell history limits full asked =
     from_front (λ h. AllKept cell (persistents_after cell h)) history (rows_kept (length cell.tasks) cell.pers limits.pers full.full)
     (λ before after e is kept. values_kept_more cell before e (who_may cell e.actor (part_of e.actor before) e.request (asked.might before after e is)) kept)
 
--- a part of a persistent that a path names has a value of the part's type
+-- the part of a persistent that a path names has a value of the part's type
 pub record HasValue (row : PersCell) (elements : List Value) (path : Path) : Type 0 where
   pub value : Value
   pub there : value_at elements path ≡ Some value

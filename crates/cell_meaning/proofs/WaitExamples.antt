@@ -27,11 +27,11 @@ waits = refl
 rises : is_enabled cell (held ∷ cleared ∷ []) 0 requests.Rise ≡ true
 rises = refl
 
--- a change that the task had seen before it was held does not wake it
+-- a change that the task had seen before it was held does not wake it up
 seen : is_enabled cell (cleared ∷ event 0 (requests.Hold 1) answers.Ok ∷ []) 0 requests.Rise ≡ false
 seen = refl
 
--- a step without a gate is open at once, and done once
+-- a step without a gate is open at once, and is done once
 open_at_once : is_enabled cell [] 2 (requests.Input 0) ≡ true
 open_at_once = refl
 
@@ -57,7 +57,7 @@ one_event = refl
 all_hold : is_enabled gated (cleared ∷ went ∷ []) 2 (requests.Input 0) ≡ true
 all_hold = refl
 
--- A waits, B has ended, and the input was given before A looked; while it was not, the cell is not stalled
+-- A waits, B has ended, and the input was given before A looked; until then the cell was not stalled
 stalls : is_stalled cell (fed ∷ event 0 (requests.Hold 1) answers.Ok ∷ ended ∷ []) ≡ true
 stalls = refl
 
@@ -67,14 +67,14 @@ input_left = refl
 one_rises : is_stalled cell (held ∷ fed ∷ ended ∷ []) ≡ false
 one_rises = refl
 
--- of four steps three are counted, and then all
+-- of four steps three are counted, then all
 last_step : is_enabled cell (cleared ∷ went ∷ cleared ∷ []) 2 (requests.Input 0) ≡ true
 last_step = refl
 
 no_step_left : is_enabled cell (cleared ∷ went ∷ cleared ∷ went ∷ []) 2 (requests.Input 0) ≡ false
 no_step_left = refl
 
--- a second step of the script waits for two counted events: neither an input is one, nor an End
+-- a second step of the script waits for two counted events: neither an input nor an End is one
 abbrev twice : CellData
 twice = record cell { inputs = record { signal = 0; value = true; when = None; given = None; after = None } ∷ record { signal = 0; value = false; when = None; given = None; after = Some 2 } ∷ [] }
 

@@ -21,7 +21,7 @@ to_a history request = answer_after cell history 0 request
 abbrev watching : List Event → Option Shape
 watching history = supervised (zones_after cell history) 0 (signals_after cell history) (names.Own 1)
 
--- no bound of axis 1 to 6 is needed here
+-- the bounds of axis 1 to 6 do not matter here
 abbrev shape : Shape
 shape = record { inside = true; bounds = replicate 12 None }
 
@@ -43,7 +43,7 @@ used = refl
 freed : to_a (temporary ∷ event 0 (requests.ZoneFree 1) answers.Ok ∷ []) (requests.ZoneSet 1 true shape) ≡ answers.Number 1
 freed = refl
 
--- each arm has zones of its own
+-- each arm has its own zones
 not_of_b : answer_after cell (temporary ∷ []) 1 (requests.ZoneSet 1 true shape) ≡ answers.Number 1
 not_of_b = refl
 
@@ -56,7 +56,7 @@ switched_off = refl
 switched_on : watching (temporary ∷ off ∷ event 0 (requests.ZoneOn 1) answers.Ok ∷ []) ≡ Some shape
 switched_on = refl
 
--- a zone that is not temporary is not switched
+-- a stationary zone is not switched
 stays : to_a (stationary ∷ []) (requests.ZoneOff 1) ≡ answers.NoZone
 stays = refl
 

@@ -1,4 +1,4 @@
--- Each arm has entries for ten zones, and the least free number is one of them.
+-- Each arm has ten entries for zones, and the least free number is one of them.
 use Rattle.std.proofs.Common.{◌≡◌, ℕ, zero, suc, ◌+◌, ◌-◌, ◌≤◌, ◌<◌, Bool, true, false, List, length, get_or, replicate, Option, None, Some, is_some, refl, sym, ◌∙◌, subst, arith, IfSome}
 use Rattle.std.specs.Prelude.{is_none, Ok, Err, if◌then◌else◌}
 use Rattle.std.specs.List.{position_from}

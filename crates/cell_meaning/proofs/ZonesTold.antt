@@ -1,4 +1,4 @@
--- The zones of arms, told by the events alone.
+-- The zones of arms, from the events alone.
 use Rattle.std.proofs.Common.{◌≡◌, ◌⊎◌, inl, inr, ◌<◌, ◌≤◌, ℕ, zero, suc, ◌+◌, ◌-◌, ◌==◌, Bool, true, false, ◌&&◌, List, [], ◌∷◌, ◌++◌, length, get_or, replicate, Option, Some, None, is_some, refl, sym, ◌∙◌, ap, subst, arith, if◌then◌else◌}
 use Rattle.std.specs.Prelude.{⊤, ◌↔◌, is_none, Result, Ok, Err}
 use Rattle.std.specs.List.{position_from}
@@ -35,7 +35,7 @@ use Rattle.cell_meaning.proofs.ZonesKept.{free_zone, zones_kept}
 
 -- ---- what an event does to a zone
 
--- what a task did to the zone of a number: gave, switched or freed it, or none of these
+-- what a task did to the zone with a number: gave, switched or freed it, or none of these
 data Act : Type 0 where
   gives : Bool → Shape → Act
   switches : Bool → Act
@@ -58,7 +58,7 @@ zone_by (switches on) held = switched on held
 zone_by frees held = None
 zone_by leaves held = held
 
--- the request and the answer that are meant
+-- the request and the answer of each act
 abbrev IsAct : ℕ → Request → Answer → Act → Type 0
 IsAct number request answer (gives temporary shape) = (old : ℕ) × (request ≡ requests.ZoneSet old temporary shape) × (answer ≡ answers.Number number)
 IsAct number request answer (switches true) = (request ≡ requests.ZoneOn number) × (answer ≡ answers.Ok)
@@ -89,7 +89,7 @@ meant number (requests.ZoneFree k) answers.Ok = by (k == number) refl
     by false is = tt
 meant number _ _ = tt
 
--- the same of a task's event
+-- the same for a task's event
 abbrev IsActs : ℕ → ℕ → Event → Act → Type 0
 IsActs task number e leaves = ⊤
 IsActs task number e a = (e.actor ≡ task) × IsAct number e.request e.answer a
@@ -126,7 +126,7 @@ off_acts task number h e w = ap (acts_of task number) w ∙ sure task number (sw
 on_acts : (task number : ℕ) (e : Event) → e ≡ event task (requests.ZoneOn number) answers.Ok → acts_of task number e ≡ switches true
 on_acts task number e w = ap (acts_of task number) w ∙ sure task number (switches true)
 
--- an event by its parts
+-- an event from its parts
 its_parts : (task : ℕ) (request : Request) (answer : Answer) (e : Event) → e.actor ≡ task → e.request ≡ request → e.answer ≡ answer → e ≡ event task request answer
 its_parts task request answer e actor asked told =
     ap (λ (a : ℕ). event a e.request e.answer) actor ∙ ap (λ (r : Request). event task r e.answer) asked ∙ ap (λ (x : Answer). event task request x) told
@@ -151,12 +151,12 @@ acts_on task number e is =
     let w : IsActs task number e (switches true) = subst (IsActs task number e) is (all_meant task number e) in
     its_parts task (requests.ZoneOn number) answers.Ok e w.0 w.1.0 w.1.1
 
--- ---- the zone after one event more
+-- -- the zone after one more event
 
 abbrev zone_of : CellData → ℕ → ℕ → List Event → Option OwnZone
 zone_of cell task number h = zone_at (arm_at (zones_after cell h) task) number
 
--- each task has an arm's zones
+-- each task has its arm's zones
 arms_with : (zones : ZonesData) (task : ℕ) (request : Request) (answer : Answer) → length (zones_with zones task request answer).arms ≡ length zones.arms
 arms_with zones task (requests.ZoneSet old temporary shape) (answers.Number number) = length-set zones.arms task (with_zone (arm_at zones task) number (given temporary shape))
 arms_with zones task (requests.ZoneOn zone) answers.Ok = length-set zones.arms task (with_zone (arm_at zones task) zone (switched true (zone_at (arm_at zones task) zone)))
@@ -268,7 +268,7 @@ was_free zones old k e = by (is_some (zone_at zones old)) e
     by true h = absurd cc
     by false h = least (position_from is_none 0 zones) refl h
 
--- who asks of zones is a task
+-- only a task makes requests about zones
 is_task : (cell : CellData) (h : List Event) (e : Event) → AllAnswered cell (h ++ e ∷ []) → ((index : ℕ) → e.request ≡ requests.Input index → ⊥) → e.actor < length cell.tasks
 is_task cell h e asked no_input = elim (who_may cell e.actor (part_of e.actor h) e.request (asked.might h [] e refl)) [
   | inl t ↦ t.within
@@ -295,12 +295,12 @@ zone_more cell task number h e asked =
     ap (λ (z : ZonesData). zone_at (arm_at z task) number) (zones_after-more cell h e)
     ∙ stepped (zones_after cell h) e.actor task number e.request e.answer (names_its cell h e asked)
 
--- where the act is known
+-- if the act is known
 zone_with : (cell : CellData) (task number : ℕ) (h : List Event) (e : Event) (a : Act) → AllAnswered cell (h ++ e ∷ []) → acts_of task number e ≡ a
     → zone_of cell task number (h ++ e ∷ []) ≡ zone_by a (zone_of cell task number h)
 zone_with cell task number h e a asked is = zone_more cell task number h e asked ∙ ap (λ (x : Act). zone_by x (zone_of cell task number h)) is
 
--- a zone is given by a number that was free
+-- a zone is given a number that was free
 free_before : (cell : CellData) (task number : ℕ) (temporary : Bool) (shape : Shape) (h : List Event) (e : Event) → AllAnswered cell (h ++ e ∷ []) → acts_of task number e ≡ gives temporary shape
     → zone_of cell task number h ≡ None
 free_before cell task number temporary shape h e asked is =
@@ -331,7 +331,7 @@ none_first cell task number = ap (λ (arm : List (Option OwnZone)). zone_at arm 
     by true = refl
     by false = nowhere MOST_ZONES (number - 1)
 
--- ---- a zone of a shape is there, and has no output
+-- -- a zone with a shape exists, and has no output
 
 abbrev IsThere : CellData → ℕ → ℕ → Shape → List Event → Type 0
 IsThere cell task number shape h = (z : OwnZone) × (zone_of cell task number h ≡ Some z) × (z.shape ≡ shape) × (z.output ≡ None)

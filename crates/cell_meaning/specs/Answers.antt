@@ -30,19 +30,19 @@ use Rattle.cell_meaning.specs.Rising.{can_rise}
 use Rattle.cell_meaning.specs.Stored.{signal_after, signals_after, persistent_after, value_at}
 use Rattle.cell_meaning.specs.Zones.{zones_after}
 
--- the request may be answered now: Rise and Input wait, all others never do
+-- the request can be answered now: only Rise and Input ever wait
 abbrev pub is_enabled : CellData → List Event → ℕ → Request → Bool
 is_enabled cell history actor requests.Rise = can_rise cell history actor
 is_enabled cell history actor (requests.Input index) = is_open cell history index
 is_enabled cell history actor _ = true
 
--- a marked flood, or the trap that is to run, or else how many changes others made
+-- the marked flood, else the trap that is to run, else how many changes others made
 abbrev pub look_of : Due → ℕ → Answer
 look_of dues.Flood seen = answers.Flood
 look_of (dues.Trap number trap) seen = answers.Trap number trap
 look_of dues.None seen = answers.Go seen
 
--- the value of a part; what names none is not asked
+-- the value of a part; a path that names no part is never asked for
 abbrev pub value_of : Option Value → Answer
 value_of (Some value) = answers.Val value
 value_of None = answers.Ok
@@ -51,7 +51,7 @@ abbrev pub is_false : Option Value → Bool
 is_false (Some (values.Bool false)) = true
 is_false _ = false
 
--- where the arm is; a task without an arm does not ask
+-- the arm's position; a task without an arm does not ask
 abbrev pub position_of : Option Joints → Answer
 position_of (Some position) = answers.At position
 position_of None = answers.Ok
@@ -61,7 +61,7 @@ number_of (Ok number) = answers.Number number
 number_of (Err connect_faults.Already) = answers.Already
 number_of (Err connect_faults.NoMore) = answers.NoMore
 
--- an interrupt has one order at most
+-- an interrupt has at most one order
 abbrev pub order_of : Option Connected → Answer
 order_of None = answers.Unknown
 order_of (Some connected) = if is_some connected.order then answers.Already else answers.Ok
@@ -75,32 +75,49 @@ zone_number_of (Ok number) = answers.Number number
 zone_number_of (Err zone_faults.ZoneUsed) = answers.ZoneUsed
 zone_number_of (Err zone_faults.ZoneFull) = answers.ZoneFull
 
--- a stationary zone stays as it is
+-- a stationary zone stays
 abbrev pub temporary_of : Bool → Answer
 temporary_of true = answers.Ok
 temporary_of false = answers.NoZone
 
--- the cell's answer to a request after a history, but to a setpoint
+-- the cell's answer to a request after a history
 abbrev pub answer_after : CellData → List Event → ℕ → Request → Answer
 answer_after cell history actor requests.Look = look_of (due_after cell history actor) (changes_by_others cell history actor)
+-- persistents and signals
 answer_after cell history actor (requests.ReadP pers path) = value_of (value_at (persistent_after cell history pers) path)
+answer_after cell history actor (requests.WriteP pers path value) = answers.Ok
 answer_after cell history actor (requests.TestSet pers path) = answers.Yes (is_false (value_at (persistent_after cell history pers) path))
 answer_after cell history actor (requests.ReadS signal) = answers.Bit (signal_after cell history signal)
+answer_after cell history actor (requests.WriteS signal value) = answers.Ok
+-- the arm; IsMoveAnswer has the answer to a setpoint
 answer_after cell history actor requests.Position = position_of (arm_after cell history actor)
+answer_after cell history actor (requests.Setpoint to) = answers.Ok
+-- interrupts
 answer_after cell history actor (requests.Connect old trap) = number_of (connect_answer (interrupts_of cell history actor) old)
 answer_after cell history actor (requests.Order number on single) = order_of (connected_at (interrupts_of cell history actor).numbers number)
 answer_after cell history actor (requests.Sleep number) = known_of (connected_at (interrupts_of cell history actor).numbers number)
 answer_after cell history actor (requests.Watch number) = known_of (connected_at (interrupts_of cell history actor).numbers number)
 answer_after cell history actor (requests.Delete number) = known_of (connected_at (interrupts_of cell history actor).numbers number)
+answer_after cell history actor requests.Disable = answers.Ok
+answer_after cell history actor requests.Enable = answers.Ok
+answer_after cell history actor requests.Leave = answers.Ok
+-- zones; no task asks to tie an output to a zone
 answer_after cell history actor (requests.ZoneSet old temporary shape) = zone_number_of (set_answer (arm_at (zones_after cell history) actor) old)
+answer_after cell history actor (requests.ZoneTie old temporary shape signal value) = answers.Ok
 answer_after cell history actor (requests.ZoneOn zone) = temporary_of (is_temporary (zone_at (arm_at (zones_after cell history) actor) zone))
 answer_after cell history actor (requests.ZoneOff zone) = temporary_of (is_temporary (zone_at (arm_at (zones_after cell history) actor) zone))
 answer_after cell history actor (requests.ZoneFree zone) = temporary_of (is_temporary (zone_at (arm_at (zones_after cell history) actor) zone))
+-- meetings and waits; is_enabled says when Rise and Input are answered
 answer_after cell history actor (requests.Arrive meeting tasks) = if is_met cell history actor meeting tasks then answers.Met else answers.Apart
-answer_after cell history actor _ = answers.Ok
+answer_after cell history actor (requests.Hold seen) = answers.Ok
+answer_after cell history actor requests.Rise = answers.Ok
+answer_after cell history actor (requests.Input index) = answers.Ok
+-- texts, and the end
+answer_after cell history actor (requests.Say text tail) = answers.Ok
+answer_after cell history actor (requests.End fate) = answers.Ok
 
--- The answer to a setpoint, from where the arm is: given exactly where the way there touches no zone, else stopped by the
--- first zone that it touches. A task without an arm does not ask.
+-- The answer to a setpoint, from the arm's position: given exactly if the way there touches no zone, otherwise stopped
+-- by the first zone that it touches. A task without an arm does not ask.
 abbrev pub IsMoveAnswer : CellData → List Event → ℕ → Joints → Option Joints → Answer → Type 0
 IsMoveAnswer cell history task to None answer = answer ≡ answers.Ok
 IsMoveAnswer cell history task to (Some from) answers.Given = (name : ZoneName) → ¬ IsTouched (zones_after cell history) task (signals_after cell history) from to name

@@ -7,16 +7,16 @@ use Rattle.rapid_model.specs.declared.fate.Fate.{Fate}
 use Rattle.rapid_model.specs.declared.fate.Fate.TheVariants.{Held, Cut}
 use Rattle.cell_meaning.specs.Counted.{counted}
 
--- each of so many tasks, from 0, has ended
+-- each of the first tasks, from 0, has ended
 abbrev pub all_ended : ℕ → List Event → Bool
 all_ended zero history = true
 all_ended (suc tasks) history = all_ended tasks history && has_ended (part_of tasks history)
 
--- a task has not ended, and the steps are counted
+-- a task has not ended, and the steps are used up
 abbrev pub is_spent : CellData → List Event → Bool
 is_spent cell history = not (all_ended (length cell.tasks) history) && nat_le cell.steps (counted history)
 
--- how a task stands after a whole history: the fate that it ended with, else cut where the steps are spent, else held
+-- a task's fate after a complete history: the one it ended with; otherwise Cut if the steps are used up, else Held
 abbrev pub fate_after : CellData → List Event → ℕ → Fate
 fate_after cell history task = or_standing (end_of (part_of task history))
   where
@@ -24,7 +24,7 @@ fate_after cell history task = or_standing (end_of (part_of task history))
     or_standing (Some fate) = fate
     or_standing None = if is_spent cell history then Cut else Held
 
--- the fates of the first so many tasks
+-- the fates of that many tasks, from 0
 abbrev pub fates_after : CellData → List Event → ℕ → List Fate
 fates_after cell history zero = []
 fates_after cell history (suc tasks) = fates_after cell history tasks ++ fate_after cell history tasks ∷ []

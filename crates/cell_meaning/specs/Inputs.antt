@@ -11,11 +11,11 @@ use Rattle.cell_meaning.specs.Fates.{all_ended}
 use Rattle.cell_meaning.specs.Motion.{setpoints_given}
 use Rattle.cell_meaning.specs.Stored.{signal_after}
 
--- how many steps of the input script were done: the script is the actor whose number is the next after the tasks'
+-- how many steps of the input script are done; the script is the actor whose number follows the tasks'
 abbrev pub inputs_done : CellData → List Event → ℕ
 inputs_done cell history = length (part_of (length cell.tasks) history)
 
--- each part of the gate that is there holds: a signal's value, setpoints given to a task's arm, counted events
+-- each given part of the gate holds: a signal's value, setpoints given to a task's arm, counted events
 abbrev pub gate_holds : CellData → List Event → InputRow → Bool
 gate_holds cell history row =
     holds_where_there (λ w. same_truth (signal_after cell history w.0) w.1) row.when
@@ -26,7 +26,7 @@ abbrev pub is_gate_open : CellData → List Event → Option InputRow → Bool
 is_gate_open cell history None = false
 is_gate_open cell history (Some row) = gate_holds cell history row
 
--- the step is the next, its gate holds, a task has not ended, and steps of the run are left
+-- the step is the next one, its gate holds, a task has not ended, and steps of the run are left
 abbrev pub is_open : CellData → List Event → ℕ → Bool
 is_open cell history index =
     index == inputs_done cell history && is_gate_open cell history (slice_get cell.inputs index)

@@ -12,7 +12,7 @@ use Rattle.trap_dispatch.specs.Tasks.{TaskData, before_all, with_number, fresh, 
 use Rattle.trap_dispatch.specs.Traps.{task_at, with_task}
 use Rattle.cell_meaning.specs.Changes.{changes_of}
 
--- the interrupts after a request of this actor was answered so, where these were the interrupts before it
+-- the interrupts after a request of this actor and its answer, from those before it
 abbrev pub asked_with : List TaskData → ℕ → Request → Answer → List TaskData
 asked_with tasks actor Look (answers.Trap number trap) = with_task tasks actor (in_first_trap (task_at tasks actor) (task_at tasks actor).queue)
 asked_with tasks actor (Connect old trap) (answers.Number number) = with_task tasks actor (with_number (task_at tasks actor) number (fresh trap))
@@ -25,11 +25,11 @@ asked_with tasks actor Enable answers.Ok = with_task tasks actor (record (task_a
 asked_with tasks actor Leave answers.Ok = with_task tasks actor (record (task_at tasks actor) { in_trap = false })
 asked_with tasks actor _ _ = tasks
 
--- and after what the event changed fired interrupts of every task
+-- and after the event's changes fired interrupts of every task
 abbrev pub interrupts_with : CellData → List Event → Event → List TaskData → List TaskData
 interrupts_with cell before e tasks = map (after_changes (changes_of cell before e)) (asked_with tasks e.actor e.request e.answer)
 
--- after these events, and those later ones
+-- after these events and the later ones
 abbrev pub interrupts_from : CellData → List TaskData → List Event → List Event → List TaskData
 interrupts_from cell tasks before [] = tasks
 interrupts_from cell tasks before (e ∷ es) = interrupts_from cell (interrupts_with cell before e tasks) (before ++ e ∷ []) es
@@ -42,6 +42,6 @@ interrupts_after cell history = interrupts_from cell (replicate (length cell.tas
 abbrev pub interrupts_of : CellData → List Event → ℕ → TaskData
 interrupts_of cell history task = task_at (interrupts_after cell history) task
 
--- whether a trap of the task is to run
+-- whether a trap of the task is due
 abbrev pub due_after : CellData → List Event → ℕ → Due
 due_after cell history task = look_answer (interrupts_of cell history task)

@@ -1,5 +1,5 @@
--- The interrupts of a task, told by the events of a history alone (RAPID Instructions: CONNECT, ISignalDI, IPers, ISleep, IWatch,
--- IDelete).
+-- The interrupts of a task, from the events of a history alone (RAPID Instructions: CONNECT, ISignalDI, IPers, ISleep,
+-- IWatch, IDelete).
 use Rattle.std.specs.Prelude.{◌≡◌, ◌⊎◌, ℕ, Bool, true, IsTrue, List}
 use Rattle.std.specs.List.{list_any}
 use Rattle.rapid_model.specs.CellData.{CellData}
@@ -25,21 +25,21 @@ Deletes task number before e = IsEvent task (Delete number) answers.Ok e
 abbrev pub Sleeps : ℕ → ℕ → List Event → Event → Type 0
 Sleeps task number before e = IsEvent task (Sleep number) answers.Ok e
 
--- it is awake after IWatch, and where it is connected
+-- it is awake after IWatch, and once it is connected
 abbrev pub Wakes : ℕ → ℕ → List Event → Event → Type 0
 Wakes task number before e = IsEvent task (Watch number) answers.Ok e ⊎ ConnectsAny task number before e
 
--- asleep: since an ISleep there was neither an IWatch nor a CONNECT
+-- asleep: after an ISleep came neither an IWatch nor a CONNECT
 abbrev pub IsAsleep : ℕ → ℕ → List Event → Type 0
 IsAsleep task number history = Since (Sleeps task number) (Wakes task number) history
 
 abbrev pub Orders : ℕ → ℕ → Watched → Bool → List Event → Event → Type 0
 Orders task number on single before e = IsEvent task (Order number on single) answers.Ok e
 
--- what it is ordered for changes while it is awake
+-- what it watches changes while it is awake
 abbrev pub Fires : CellData → ℕ → ℕ → Watched → List Event → Event → Type 0
 Fires cell task number on before e = IsTrue (list_any (is_change on) (changes_of cell before e)) × ¬ IsAsleep task number before
 
--- an order ends with its connection, and where it is for one firing as it fires
+-- an order ends with its connection, and a Single order as it fires
 abbrev pub EndsOrder : CellData → ℕ → ℕ → Watched → Bool → List Event → Event → Type 0
 EndsOrder cell task number on single before e = ConnectsAny task number before e ⊎ ((single ≡ true) × Fires cell task number on before e)

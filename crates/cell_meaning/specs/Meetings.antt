@@ -9,7 +9,7 @@ use Rattle.rapid_model.specs.declared.request.Request.{Request}
 use Rattle.rapid_model.specs.declared.request.Request.TheVariants.{Arrive}
 use Rattle.sync_tasks.specs.Meetings.{MeetingsData, before_all, stand_at, arrivals, is_listed, come, gone_on}
 
--- the stands after an event of a task, where these were the stands before it
+-- the states after an event of a task, from those before it
 abbrev pub stands_with : MeetingsData → ℕ → Request → Answer → MeetingsData
 stands_with stands task (Arrive meeting tasks) answers.Met = gone_on stands task meeting
 stands_with stands task (Arrive meeting tasks) answers.Apart = come stands task meeting

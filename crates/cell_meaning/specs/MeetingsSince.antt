@@ -1,4 +1,4 @@
--- The arrivals of a task at a meeting, told by the events of a history alone (RAPID Instructions: WaitSyncTask).
+-- The arrivals of a task at a meeting, from the events of a history alone (RAPID Instructions: WaitSyncTask).
 use Rattle.std.specs.Prelude.{ℕ, Bool, false, ◌==◌, List}
 use Rattle.rapid_model.specs.declared.answer.Answer.{Answer}
 use Rattle.rapid_model.specs.declared.answer.Answer.TheVariants as answers
@@ -7,7 +7,7 @@ use Rattle.rapid_model.specs.declared.request.Request.{Request}
 use Rattle.rapid_model.specs.declared.request.Request.TheVariants.{Arrive}
 use Rattle.cell_meaning.specs.Since.{IsEvent}
 
--- the task arrives, and has not met the others
+-- the task arrives and does not meet the others
 abbrev pub ComesApart : ℕ → ℕ → List Event → Event → Type 0
 ComesApart task meeting before e = (tasks : ℕ) × IsEvent task (Arrive meeting tasks) answers.Apart e
 

@@ -10,17 +10,17 @@ use Rattle.rapid_model.specs.declared.event.Event.{Event}
 use Rattle.rapid_model.specs.declared.request.Request.{Request}
 use Rattle.rapid_model.specs.declared.request.Request.TheVariants.{Setpoint}
 
--- the position to which an event takes the arm of its task, which was there before it
+-- where an event takes the arm of its task, from its position before
 abbrev pub moved : Joints → Request → Answer → Joints
 moved position (Setpoint to) answers.Given = to
 moved position _ _ = position
 
--- the last setpoint given in a task's own events, else where the arm was
+-- the last setpoint given in a task's own events, otherwise where the arm was
 abbrev pub arm_along : Joints → List Event → Joints
 arm_along position [] = position
 arm_along position (e ∷ es) = arm_along (moved position e.request e.answer) es
 
--- the position of a task's arm after a history; a task without an arm has none
+-- the position of a task's arm after a history; none if the task has no arm
 abbrev pub arm_after : CellData → List Event → ℕ → Option Joints
 arm_after cell history task = arm_from (option_and_then (λ row. row.arm) (slice_get cell.tasks task))
   where

@@ -14,10 +14,10 @@ abbrev pub seen_with : ℕ → Request → ℕ
 seen_with seen (Hold number) = number
 seen_with seen _ = seen
 
--- how many changes the task had seen when it was held last
+-- how many changes the task had seen when it was last held
 abbrev pub seen_after : List Event → ℕ → ℕ
 seen_after history task = fold (λ seen e. seen_with seen e.request) 0 (part_of task history)
 
--- others made changes since then, or a trap is to run
+-- others have made changes since then, or a trap is due
 abbrev pub can_rise : CellData → List Event → ℕ → Bool
 can_rise cell history task = nat_lt (seen_after history task) (changes_by_others cell history task) || is_due (due_after cell history task)

@@ -1,10 +1,10 @@
--- What stands since an event, told by the events of a history alone, whatever boards keep.
+-- What has held since an event, from the events of a history alone, whatever the boards keep.
 use Rattle.std.specs.Prelude.{◌≡◌, ℕ, List, ◌∷◌, ◌++◌}
 use Rattle.rapid_model.specs.declared.answer.Answer.{Answer}
 use Rattle.rapid_model.specs.declared.event.Event.{Event}
 use Rattle.rapid_model.specs.declared.request.Request.{Request}
 
--- An event after which no other undid it. What each of them is may depend on the events before it.
+-- An event that no later one undid. What begins and what undoes may depend on the events before.
 pub record Since (Is Undoes : List Event → Event → Type 0) (history : List Event) : Type 0 where
   pub before : List Event
   pub event : Event

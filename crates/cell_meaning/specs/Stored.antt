@@ -18,7 +18,7 @@ abbrev pub with_input : List Bool → Option InputRow → List Bool
 with_input signals (Some row) = slice_set signals row.signal row.value
 with_input signals None = signals
 
--- the values of the signals after an event, where these were their values before it
+-- the values of the signals after an event, from those before it
 abbrev pub signals_with : CellData → List Bool → Request → Answer → List Bool
 signals_with cell signals (WriteS signal value) answers.Ok = slice_set signals signal value
 signals_with cell signals (Input index) answers.Ok = with_input signals (slice_get cell.inputs index)
@@ -27,11 +27,11 @@ signals_with cell signals _ _ = signals
 abbrev pub signals_after : CellData → List Event → List Bool
 signals_after cell history = fold (λ signals e. signals_with cell signals e.request e.answer) (map (λ row. row.start) cell.signals) history
 
--- the value of the signal of this number
+-- the value of the signal with this number
 abbrev pub signal_after : CellData → List Event → ℕ → Bool
 signal_after cell history signal = slice_index_or (signals_after cell history) signal false
 
--- the index of the element that a path names: what is no array has one
+-- the index of the element that a path names; a persistent that is not an array has one element
 abbrev pub element_index : Path → ℕ
 element_index path = path.index - 1
 
@@ -46,7 +46,7 @@ with_part elements path new = part_put elements path new (slice_get elements (el
 abbrev pub put_at : List (List Value) → ℕ → Path → Value → List (List Value)
 put_at rows pers path new = slice_set rows pers (with_part (slice_index_or rows pers []) path new)
 
--- the elements of each persistent after an event, where these were its elements before it
+-- the elements of each persistent after an event, from those before it
 abbrev pub persistents_with : List (List Value) → Request → Answer → List (List Value)
 persistents_with rows (WriteP pers path value) answers.Ok = put_at rows pers path value
 persistents_with rows (TestSet pers path) (answers.Yes true) = put_at rows pers path (values.Bool true)
@@ -55,10 +55,10 @@ persistents_with rows _ _ = rows
 abbrev pub persistents_after : CellData → List Event → List (List Value)
 persistents_after cell history = fold (λ rows e. persistents_with rows e.request e.answer) (map (λ row. row.first) cell.pers) history
 
--- the elements of the persistent of this number
+-- the elements of the persistent with this number
 abbrev pub persistent_after : CellData → List Event → ℕ → List Value
 persistent_after cell history pers = slice_index_or (persistents_after cell history) pers []
 
--- the part of a persistent that a path names, of these elements
+-- the part that a path names, of a persistent with these elements
 abbrev pub value_at : List Value → Path → Option Value
 value_at elements path = option_and_then (λ value. part_of value path.part) (slice_get elements (element_index path))

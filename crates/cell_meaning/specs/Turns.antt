@@ -1,4 +1,4 @@
--- The run by turns: the actors go round in order, and each adds its event where it can.
+-- The round-robin run: the actors take turns in order, and each adds its event if it can.
 use Rattle.std.specs.Prelude.{◌≡◌, ℕ, zero, suc, ◌+◌, ◌⊎◌, List, [], ◌∷◌, ◌++◌, length}
 use Rattle.rapid_model.specs.CellData.{CellData}
 use Rattle.rapid_model.specs.declared.event.Event.{Event}
@@ -12,7 +12,7 @@ pub record Steps (asks : Asking) (cell : CellData) (actor : ℕ) (before after :
   pub follows : Follows asks cell before event
   pub added : after ≡ before ++ event ∷ []
 
--- no event of the actor follows, and it adds none
+-- no event of the actor follows, and it adds nothing
 pub record Rests (asks : Asking) (cell : CellData) (actor : ℕ) (before after : List Event) : Type 0 where
   pub none : (e : Event) → e.actor ≡ actor → Follows asks cell before e → ⊥
   pub same : after ≡ before
@@ -20,18 +20,18 @@ pub record Rests (asks : Asking) (cell : CellData) (actor : ℕ) (before after :
 abbrev pub TakesTurn : Asking → CellData → ℕ → List Event → List Event → Type 0
 TakesTurn asks cell actor before after = Steps asks cell actor before after ⊎ Rests asks cell actor before after
 
--- so many actors take their turns in order, the first of them this one
+-- that many actors take their turns in order, starting with this one
 unfoldable pub TakeTurns : Asking → CellData → ℕ → ℕ → List Event → List Event → Type 0
 TakeTurns asks cell actor zero before after = after ≡ before
 TakeTurns asks cell actor (suc left) before after =
     (between : List Event) × TakesTurn asks cell actor before between × TakeTurns asks cell (actor + 1) left between after
 
--- a turn of each task in order, and then of the input script
+-- a turn for each task in order, and then for the input script
 abbrev pub IsRound : Asking → CellData → List Event → List Event → Type 0
 IsRound asks cell before after =
     (between : List Event) × TakeTurns asks cell 0 (length cell.tasks) before between × TakesTurn asks cell (length cell.tasks) between after
 
--- what so many rounds make of the empty history
+-- the result of that many rounds from the empty history
 unfoldable pub AfterRounds : Asking → CellData → ℕ → List Event → Type 0
 AfterRounds asks cell zero history = history ≡ []
 AfterRounds asks cell (suc rounds) history =

@@ -9,7 +9,7 @@ use Rattle.rapid_model.specs.declared.request.Request.{Request}
 use Rattle.rapid_model.specs.declared.request.Request.TheVariants.{ZoneSet, ZoneOn, ZoneOff, ZoneFree}
 use Rattle.world_zones.specs.Zones.{ZonesData, before_all, arm_at, with_arm, zone_at, with_zone, given, switched}
 
--- the zones after an event of a task, where these were the zones before it
+-- the zones after an event of a task, from those before it
 abbrev pub zones_with : ZonesData → ℕ → Request → Answer → ZonesData
 zones_with zones task (ZoneSet old temporary shape) (answers.Number number) = with_arm zones task (with_zone (arm_at zones task) number (given temporary shape))
 zones_with zones task (ZoneOn zone) answers.Ok = with_arm zones task (with_zone (arm_at zones task) zone (switched true (zone_at (arm_at zones task) zone)))

@@ -2,8 +2,8 @@ ghost use Rattle.cell_meaning.specs.Asking.{Asking};
 
 use std::marker::Brand;
 
-/// Who asks what of a cell. A law or a run is one over any relation of asking, and who calls it picks the relation
-/// (`Brand`), as the one of source trees or that of compiled code.
+/// Who asks what of a cell. A law or a run holds for any relation of asking; its caller picks the relation (`Brand`),
+/// such as that of source trees or that of compiled code.
 pub trait Askers {
     ghost asks: { Asking };
 }

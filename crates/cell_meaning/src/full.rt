@@ -6,7 +6,7 @@ ghost use Rattle.cell_meaning.specs.Premises.{StartsFull};
 use rapid_model::{Cell, Value};
 use rapid_values::value_is_full;
 
-/// A law on a cell at hand: the lists of its persistents' first values are as long as their types say.
+/// A law for a given cell: its persistents' first values are as long as their types say.
 pub fn starts_full(cell: &Cell)
     ensures { StartsFull cell.now }
 {

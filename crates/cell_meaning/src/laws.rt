@@ -33,51 +33,53 @@ ghost use Rattle.cell_meaning.specs.ZonesSince.{Watches};
 
 use crate::askers::Askers;
 
-/// A law: the cell has one answer to a request at most.
+/// A law: the cell has at most one answer to a request.
 pub fn answer_is_one()
     ensures { (cell : CellData) (history : List Event) (actor : ℕ) (request : Request) (answer other : Answer) → IsAnswer cell history actor request answer → IsAnswer cell history actor request other → answer ≡ other }
 {}
 
-/// A law: an answer of the cell fits its request, where each actor might ask what it asked and got the cell's answers.
+/// A law: an answer of the cell fits its request, if each actor may ask what it asked and got the cell's answers.
 pub fn answers_fit()
     ensures { (cell : CellData) (history : List Event) (actor : ℕ) (request : Request) (answer : Answer) → IsCell cell → StartsFull cell → AllAnswered cell history → IsTrue (may_ask cell actor (part_of actor history) request) → IsAnswer cell history actor request answer → IsTrue (fits_request (fitting_in cell actor (part_of actor history)) request answer) }
 {}
 
-/// A law: what a run by turns makes is legal, and nothing follows it.
+/// A law: a round-robin run is legal, and nothing follows it.
 pub fn run_by_turns_is_legal_and_whole<A: Askers>()
     ensures legal { (cell : CellData) (history : List Event) → IsCell cell → StartsFull cell → AsksWhatItMay A.asks cell → IsByTurns A.asks cell history → IsLegal A.asks cell history }
     ensures whole { (cell : CellData) (history : List Event) → OnlyActorsAsk A.asks cell → IsByTurns A.asks cell history → IsWhole A.asks cell history }
 {}
 
-/// A law: two runs by turns of the same actors in the same cell are one history.
+/// A law: two round-robin runs of the same actors in the same cell are the same history.
 pub fn run_by_turns_is_one<A: Askers>()
     ensures { (cell : CellData) (history other : List Event) → AsksOne A.asks → IsByTurns A.asks cell history → IsByTurns A.asks cell other → history ≡ other }
 {}
 
-/// A law: where a history is legal and whole, each task has ended, or waits for what is not enabled, or the steps are spent.
+/// A law: after a legal and complete history, each task has ended, or waits for something that is not enabled, or the
+/// steps are used up.
 pub fn whole_history_is_over<A: Askers>()
     ensures { (cell : CellData) (history : List Event) (task : ℕ) → task < length cell.tasks → AsksUntilItsEnd A.asks cell → IsLegal A.asks cell history → IsWhole A.asks cell history → IsOver A.asks cell history task }
 {}
 
-/// A law: where two ask the same, what is legal, whole or the run by turns for one is so for the other.
+/// A law: if two ask the same, a history that is legal, complete or the round-robin run for one is so for the other.
 pub fn who_ask_the_same_have_the_same_histories<A: Askers, B: Askers>()
     ensures legal { (cell : CellData) (history : List Event) → AskTheSame A.asks B.asks → IsLegal A.asks cell history → IsLegal B.asks cell history }
     ensures whole { (cell : CellData) (history : List Event) → AskTheSame A.asks B.asks → IsWhole A.asks cell history → IsWhole B.asks cell history }
     ensures by_turns { (cell : CellData) (history : List Event) → AskTheSame A.asks B.asks → IsByTurns A.asks cell history → IsByTurns B.asks cell history }
 {}
 
-/// A law: in a stalled cell each task that has not ended asks a Rise that is not enabled.
+/// A law: in a stalled cell each task that has not ended asks for a Rise that is not enabled.
 pub fn stalled_tasks_wait<A: Askers>()
     ensures { (cell : CellData) (history : List Event) (task : ℕ) (request : Request) → task < length cell.tasks → AsksWhatItMay A.asks cell → IsLegal A.asks cell history → IsTrue (is_stalled cell history) → A.asks task (answers_of task history) request → (request ≡ requests.Rise) × (is_enabled cell history task request ≡ false) }
 {}
 
-/// A law: after a legal history the cell is stalled exactly where nothing follows, a task has not ended, and steps are left.
+/// A law: after a legal history the cell is stalled exactly if nothing follows, a task has not ended, and steps are
+/// left.
 pub fn stalled_history_is_whole<A: Askers>()
     ensures whole { (cell : CellData) (history : List Event) → AsksWhatItMay A.asks cell → IsLegal A.asks cell history → IsTrue (is_stalled cell history) → IsWhole A.asks cell history × (all_ended (length cell.tasks) history ≡ false) × (is_spent cell history ≡ false) }
     ensures stalled { (cell : CellData) (history : List Event) → AsksWhatItMay A.asks cell → AsksUntilItsEnd A.asks cell → AsksInputs A.asks cell → IsLegal A.asks cell history → IsWhole A.asks cell history → all_ended (length cell.tasks) history ≡ false → is_spent cell history ≡ false → IsTrue (is_stalled cell history) }
 {}
 
-/// A law: the tasks and the input script together ask as the other laws take it, where the tasks do.
+/// A law: the tasks and the input script together ask as the other laws require, if the tasks do.
 pub fn input_script_is_an_actor<A: Askers, B: Askers>()
     ensures only { (cell : CellData) → OnlyActorsAsk (with_inputs A.asks cell) cell }
     ensures one { (cell : CellData) → AsksOne A.asks → AsksOne (with_inputs A.asks cell) }
@@ -87,22 +89,23 @@ pub fn input_script_is_an_actor<A: Askers, B: Askers>()
     ensures same { (cell : CellData) → AskTheSame A.asks B.asks → AskTheSame (with_inputs A.asks cell) (with_inputs B.asks cell) }
 {}
 
-/// A law: where each actor might ask what it asked and got the cell's answers, the meetings are as the events alone tell them: a task
-/// went on from a meeting as often as it met the others there, and waits where its last arrival there found it apart from them.
+/// A law: if each actor may ask what it asked and got the cell's answers, the meetings are as the events alone say: a
+/// task went on from a meeting as often as it met the others there, and it waits if its last arrival there did not meet
+/// them.
 pub fn meetings_are_as_arrived()
     ensures passed { (cell : CellData) (history : List Event) (task meeting : ℕ) → AllAnswered cell history → task < length cell.tasks → meeting < length cell.meetings → (stand_at (stands_after cell history) task meeting).passed ≡ count_by (λ e. is_met_at meeting e.request e.answer) (part_of task history) }
     ensures waits { (cell : CellData) (history : List Event) (task meeting : ℕ) → AllAnswered cell history → task < length cell.tasks → meeting < length cell.meetings → IsTrue (is_waiting cell history task meeting) ↔ Since (ComesApart task meeting) (Comes task meeting) history }
 {}
 
-/// A law: the same of the zones of arms. A task's own zone watches its arm where a ZoneSet gave it, none freed it since, and its last
-/// switch, the ZoneSet being one, is not ZoneOff.
+/// A law: the same for the zones of arms. A task's own zone watches its arm if a ZoneSet gave it, no ZoneFree has freed
+/// it since, and its last switch, counting the ZoneSet, is not ZoneOff.
 pub fn zones_are_as_given()
     ensures { (cell : CellData) (history : List Event) (task number : ℕ) (shape : Shape) → AllAnswered cell history → task < length cell.tasks → (supervised (zones_after cell history) task (signals_after cell history) (Own number) ≡ Some shape) ↔ Watches task number shape history }
 {}
 
-/// A law: the same of interrupts. A number is connected with a trap since the Connect that it answered, until it is deleted. A connected
-/// number sleeps where the last of its Connect, Sleep and Watch is a Sleep. It has an order since the one that was answered Ok, until
-/// a firing ends it that is for one firing.
+/// A law: the same for interrupts. A number is connected with a trap from the Connect that it answered until it is
+/// deleted. A connected number sleeps if the last of its Connect, Sleep and Watch is a Sleep. It has an order from the
+/// Order that was answered Ok until the number is connected anew or, if the order is Single, it fires.
 pub fn interrupts_are_as_asked()
     ensures connected { (cell : CellData) (history : List Event) (task number trap : ℕ) → AllAnswered cell history → task < length cell.tasks → ((c : Connected) × (connected_at (interrupts_of cell history task).numbers number ≡ Some c) × (c.trap ≡ trap)) ↔ Since (Connects task number trap) (Deletes task number) history }
     ensures asleep { (cell : CellData) (history : List Event) (task number : ℕ) (c : Connected) → AllAnswered cell history → task < length cell.tasks → connected_at (interrupts_of cell history task).numbers number ≡ Some c → (c.asleep ≡ true) ↔ IsAsleep task number history }

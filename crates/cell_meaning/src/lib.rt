@@ -1,4 +1,5 @@
-//! What a cell answers, and what histories are: the definitions that the run theorem cites, and the laws on whole histories.
+//! What a cell answers, and what a history is: the definitions that the run theorem cites, and the laws on whole
+//! histories.
 #![tactic(auto)]
 
 mod askers;

@@ -1,4 +1,4 @@
--- Which declarations are one, and what is alike of them.
+-- Which declarations are the same persistent, and in what they agree.
 use Rattle.std.proofs.Common.{◌≡◌, ℕ, List, length, Option, Some, None, is_some, slice_get, refl, ap, sym, subst, ◌∙◌, arith, inl, inr}
 use Rattle.std.specs.Str.{str_to_ascii_lowercase}
 use Rattle.std.proofs.lemmas.Bool.{cases_order}
@@ -26,7 +26,7 @@ alike_symmetric : (row other : TypedPers) → AreAlike row other → AreAlike ot
 alike_symmetric row other alike = record { sort = sym alike.sort; len = sym alike.len }
 
 module _ (ds : List Declared) (alike : AreAlikeBefore (length ds) ds) where
-  -- declarations that are one are alike, wherever they stand
+  -- declarations of the same persistent agree, wherever they are
   pub alike_there : (i j : ℕ) (d e : Declared) → slice_get ds i ≡ Some d → slice_get ds j ≡ Some e → AreOne d e → AreAlike d.row e.row
   alike_there i j d e is_d is_e one =
       elim (cases_order i j) [
@@ -37,7 +37,7 @@ module _ (ds : List Declared) (alike : AreAlikeBefore (length ds) ds) where
         ]
       ]
 
-  -- whichever declaration of a persistent a value finds, they are alike
+  -- whichever declaration of a persistent a value finds, they agree
   pub found_alike : (value : PersValue) (row other : TypedPers) → Finds ds value row → Finds ds value other → AreAlike row other
   found_alike value row other found also =
       let alike_rows = alike_there found.index also.index found.d also.d found.there also.there (for_both value found.d also.d found.is_for also.is_for) in
@@ -49,7 +49,7 @@ suits_alike value row other alike suits = record { sort = suits.sort ∙ ap Some
 pub inside_alike : (value : PersValue) (row other : TypedPers) → AreAlike row other → IsInside value.index row.len → IsInside value.index other.len
 inside_alike value row other alike is = subst (IsInside value.index) alike.len is
 
--- two indexes of one element, where both are there or none is
+-- two indexes of the same element, if both are given or neither is
 pub same_index : (a b : Option ℕ) (element : ℕ) → IsIndexOf a element → IsIndexOf b element → is_some a ≡ is_some b → a ≡ b
 same_index None None element is other both = refl
 same_index (Some a) None element is other both = absurd (cc both)
@@ -57,7 +57,7 @@ same_index None (Some b) element is other both = absurd (cc both)
 same_index (Some a) (Some b) element is other both = ap Some (is ∙ sym other)
 
 module _ (ds : List Declared) (ks : List ℕ) (count : ℕ) (is : AreNumbered AreOne ds ks count) where
-  -- declarations of one number have one name
+  -- declarations with the same number have the same name
   pub one_named : (k i j : ℕ) (d e : Declared) → HasNumber ds ks k i d → HasNumber ds ks k j e → IsOneName d.row.name e.row.name
   one_named k i j d e has other =
       elim (cases_order i j) [
@@ -68,7 +68,7 @@ module _ (ds : List Declared) (ks : List ℕ) (count : ℕ) (is : AreNumbered Ar
         ]
       ]
 
-  -- what is one with a declaration of a number has that number
+  -- the declaration of a persistent that has a number has that number too
   pub one_number : (k i j : ℕ) (d e : Declared) → HasNumber ds ks k i d → slice_get ds j ≡ Some e → AreOne d e → HasNumber ds ks k j e
   one_number k i j d e has there one =
       let (l, at) = there_is ks j (omega (arith, is.as_many, slice_get_within ds j e there)) in

@@ -1,4 +1,4 @@
--- One more declaration: it clashes, or the persistents are made of the declarations with it.
+-- One more declaration: it clashes, or the persistents are made of the declarations including it.
 use Rattle.std.proofs.Common.{◌≡◌, ℕ, ◌+◌, true, false, ◌&&◌, List, [], ◌∷◌, ◌++◌, length, set, replicate, Option, Some, None, slice_get, Ok, Err, if◌then◌else◌, refl, ap, sym, subst, ◌∙◌, arith, inl, inr}
 use Rattle.std.specs.Option.{option_or}
 use Rattle.std.proofs.lemmas.Bool.{and_parts, and_from, both_ways, eq-eqb}
@@ -9,7 +9,7 @@ use Rattle.rapid_model.specs.declared.pers_value.PersValue.{PersValue}
 use Rattle.rapid_model.specs.declared.sort.Sort.{Sort}
 use Rattle.rapid_model.specs.declared.sort.Sort.TheVariants as sorts
 use Rattle.rapid_model.specs.declared.value.Value.{Value}
-use Rattle.rapid_model.proofs.Lists.{there_is}
+use Rattle.rapid_model.proofs.Lists.{between, in_front, there_is}
 use Rattle.typed_trees.specs.Plain.{TypedPers}
 use Rattle.named_data.specs.Wants.{same_sort}
 use Rattle.cell_assembly.specs.Cells.{PersInfo, Numbered, same_len, is_global, global_number, new_pers, with_declared, added, joined, join, global_pers, one_pers, Clash}
@@ -20,7 +20,7 @@ use Rattle.cell_rules.specs.Numbering.{AreNumbered, HasNumber}
 use Rattle.cell_rules.specs.Refused.{IsClash, IsRefusal}
 use Rattle.cell_rules.proofs.Alike.{one_symmetric, one_transitive}
 use Rattle.cell_rules.proofs.Infos.{AreDeclared, AreInfos, IsInfo, info_global, info_one}
-use Rattle.cell_rules.proofs.Lists.{same_there, in_front, at_end, front_there, earlier_or_last, one_longer, put_there, position_there, position_nowhere}
+use Rattle.cell_rules.proofs.Lists.{same_there, front_there, earlier_or_last, one_longer, put_there, position_there, position_nowhere}
 use Rattle.cell_rules.proofs.Numbers.{new_numbered, joined_numbered, first_stays, first_new, earlier_number}
 use Rattle.cell_rules.proofs.Outcomes.{Outcome, chosen}
 
@@ -49,7 +49,7 @@ are_tested p row sort len =
     and_from (same_sort p.sort row.sort) (same_len p.len row.len)
     (subst (λ s. same_sort p.sort s ≡ true) sort (sort_same p.sort)) (subst (λ l. same_len p.len l ≡ true) len (len_same p.len))
 
--- so far declarations are alike where they are one
+-- the declarations so far agree if they are of the same persistent
 pub alike_so_far : (ds : List Declared) (ks : List ℕ) (ps : List PersInfo) → AreInfos ds ks ps → AreAlikeBefore (length ds) ds
 alike_so_far ds ks ps are i j e f before few is_e is_f one =
     let (k, at) = there_is ks i (omega (arith, are.numbered.as_many, before, few)) in
@@ -62,7 +62,7 @@ alike_so_far ds ks ps are i j e f before few is_e is_f one =
     record { sort = sym (is.sort i e here) ∙ is.sort j f also; len = sym (is.len i e here) ∙ is.len j f also }
 
 module _ (ds : List Declared) (ks : List ℕ) (ps : List PersInfo) (are : AreInfos ds ks ps) (d : Declared) where
-  -- a persistent of another number than the last is as it was
+  -- a persistent whose number is not the last declaration's stays the same
   info_stays : (k m : ℕ) (p : PersInfo) → (m ≡ k → ⊥) → IsInfo ds ks k p → IsInfo (ds ++ d ∷ []) (ks ++ m ∷ []) k p
   info_stays k m p differ is =
       let before : (index : ℕ) (e : Declared) → HasNumber (ds ++ d ∷ []) (ks ++ m ∷ []) k index e → HasNumber ds ks k index e =
@@ -88,7 +88,7 @@ module _ (ds : List Declared) (ks : List ℕ) (ps : List PersInfo) (are : AreInf
         none_before = λ other e early has. given.none_before other e early (before other e has);
       }
 
-  -- what the last declaration gives, where no earlier one of its number gives anything
+  -- what the last declaration gives, if no earlier one with its number gives anything
   module _ (k index : ℕ) (is_last : index ≡ length ds) (has_number : HasNumber (ds ++ d ∷ []) (ks ++ k ∷ []) k index d) (none_earlier : (other : ℕ) (e : Declared) → HasNumber ds ks k other e → e.row.first ≡ None) where
     last_gives : (first : Option (List Value)) → d.row.first ≡ first → AreDeclared (ds ++ d ∷ []) (ks ++ k ∷ []) k first
     last_gives None gives = λ other e has.
@@ -103,7 +103,7 @@ module _ (ds : List Declared) (ks : List ℕ) (ps : List PersInfo) (are : AreInf
     }
 
   last_has : (k : ℕ) → HasNumber (ds ++ d ∷ []) (ks ++ k ∷ []) k (length ds) d
-  last_has k = record { there = at_end ds d []; numbered = ap (slice_get (ks ++ k ∷ [])) (sym are.numbered.as_many) ∙ at_end ks k [] }
+  last_has k = record { there = between ds [] d; numbered = ap (slice_get (ks ++ k ∷ [])) (sym are.numbered.as_many) ∙ between ks [] k }
 
   -- a new persistent
   module _ (apart : (i : ℕ) (e : Declared) → slice_get ds i ≡ Some e → AreOne e d → ⊥) (owner : Option ℕ) (is_owner : owner ≡ owner_of d) where
@@ -137,7 +137,7 @@ module _ (ds : List Declared) (ks : List ℕ) (ps : List PersInfo) (are : AreInf
       ];
     }
 
-  -- one more declaration of a persistent that is there
+  -- one more declaration of a known persistent
   module _ (k : ℕ) (p : PersInfo) (at : slice_get ps k ≡ Some p) (own : d.row.own ≡ false) (global : is_global d.row.name p ≡ true) where
     first_one : AreOne (are.infos k p at).d d
     first_one = let one = info_one ds ks (length ps) are.numbered k p d.row.name (are.infos k p at) global in record { global = one.0; other_global = own; named = sym one.1 }
@@ -186,13 +186,13 @@ module _ (ds : List Declared) (ks : List ℕ) (ps : List PersInfo) (are : AreInf
             ];
           }
 
--- and also where they stand in a longer list
+-- and also within a longer list
 alike_in_front : (ds rest : List Declared) → AreAlikeBefore (length ds) ds → AreAlikeBefore (length ds) (ds ++ rest)
 alike_in_front ds rest alike i j e f before few is_e is_f one = alike i j e f before few (front_there ds rest i e (omega (arith, before, few)) is_e) (front_there ds rest j f few is_f) one
 
--- numbered persistents are made of the declarations so far, with these numbers in front
+-- numbered persistents are made of the declarations so far, after these numbers
 module _ (given : List PersValue) (whole ds rest : List Declared) (front : List ℕ) (task : ℕ) (row : TypedPers) (is_whole : whole ≡ ds ++ of_task task row ∷ rest) (n : Numbered) (are : AreInfos ds (front ++ n.numbers) n.pers) where
-  -- numbers so far, with one more
+  -- the numbers so far, with one more
   More : Numbered → Type 0
   More m = (length m.numbers ≡ length n.numbers + 1) × AreInfos (ds ++ of_task task row ∷ []) (front ++ m.numbers) m.pers
 
@@ -222,7 +222,7 @@ module _ (given : List PersValue) (whole ds rest : List Declared) (front : List 
       (record {
         index = length ds;
         d = of_task task row;
-        there = at_end ds (of_task task row) rest;
+        there = between ds rest (of_task task row);
         before = first.index;
         e = is.d;
         earlier = few;
@@ -258,7 +258,7 @@ module _ (given : List PersValue) (whole ds rest : List Declared) (front : List 
   own_right : row.own ≡ true → More (added n (new_pers (Some task) row))
   own_right own = is_new (Some task) (ap (λ o. let owner : Option ℕ = if o then Some task else None in owner) (sym own)) (λ i e there one. both_ways row.own one.other_global own)
 
-  -- a declaration more
+  -- one more declaration
   pub one_right : Outcome (λ m. (length m.numbers ≡ length n.numbers + 1) × AreInfos (ds ++ of_task task row ∷ []) (front ++ m.numbers) m.pers) (IsRefusal whole given) (one_pers n task row)
   unfolding More
   one_right =

@@ -1,5 +1,6 @@
--- Two tasks that share an array and a meeting: the first declares the array without values, the second with values and in capitals, and
--- the script gives the second element another one. Each task has a persistent of its own of one name.
+-- Two tasks that share an array and a meeting: the first declares the array without values, the second with values and
+-- in capitals, and the script gives the second element another value. Each task has its own persistent, with the same
+-- name.
 use Rattle.std.proofs.Common.{◌≡◌, ℕ, refl, ap, true, false, pos, List, [], ◌∷◌, Option, Some, None, Ok, Err, codes, arith}
 use Rattle.rapid_model.specs.CellData.{CellData}
 use Rattle.rapid_model.specs.ScriptData.{ScriptData}
@@ -34,7 +35,7 @@ tree pers meetings pers_of meeting_of = record { modules = 1; tasks = codes "A" 
 abbrev first_task : List ℕ → List ℕ → TypedTree
 first_task pers_of meeting_of = tree (parts (codes "parts") 12 2 None ∷ seen 30 ∷ []) (codes "go" ∷ []) pers_of meeting_of
 
--- its array has so many elements, and these values
+-- its array has that many elements, and these values
 abbrev second_task : ℕ → Option (List Value) → List ℕ → List ℕ → TypedTree
 second_task len first pers_of meeting_of = tree (seen 12 ∷ parts (codes "PARTS") 40 len first ∷ []) (codes "stop" ∷ codes "Go" ∷ []) pers_of meeting_of
 
@@ -70,7 +71,7 @@ numbered = first_task (0 ∷ 1 ∷ []) (0 ∷ []) ∷ second_task 2 two (2 ∷ 0
 abbrev given : List PersValue
 given = gives (codes "Parts") (Some 2) (num 7_000) ∷ []
 
--- the script's value is the second element's, and the first element has that of the one declaration with values
+-- the second element has the script's value, the first that of the one declaration with values
 pub example_right : IsCellOf (script given) tasks (cell (num 7_000)) numbered
 example_right = (made_right (script given) tasks refl refl (cell (num 7_000)) numbered).0 refl
 
@@ -87,16 +88,17 @@ second_of (Ok made) = of_pers made.cell.pers
     of_pers (p ∷ ps) = of_first p.first
 second_of (Err broken) = 0
 
--- and not that of the declaration
+-- and not the declaration's
 pub not_declared : IsCellOf (script given) tasks (cell (num 2_000)) numbered → ⊥
 unfolding second_of
 not_declared is = let e : 7_000 ≡ 2_000 = ap second_of ((made_right (script given) tasks refl refl (cell (num 2_000)) numbered).1 is) in omega (arith, e)
 
--- an array of another length clashes, at the later declaration, though the script is wrong too
+-- an array of another length clashes, at the later declaration, even though the script is wrong too
 pub example_clash : IsRefused (script (gives (codes "seen") None (values.Bool true) ∷ [])) (first_task [] [] ∷ second_task 3 None [] [] ∷ []) (Clash 1 0 40)
 example_clash = (refused_right (script (gives (codes "seen") None (values.Bool true) ∷ [])) (first_task [] [] ∷ second_task 3 None [] [] ∷ []) refl refl (Clash 1 0 40)).0 refl
 
--- values of the script that break a rule: of no global persistent, of another type, of no element, and a second one of one element
+-- values of the script that break a rule: for no global persistent, of another type, for no element, and a second one
+-- for the same element
 pub example_no_such : IsRefused (script (gives (codes "seen") None (values.Bool true) ∷ [])) tasks (InScript (element_key (codes "pers") 0) NoSuch)
 example_no_such = (refused_right (script (gives (codes "seen") None (values.Bool true) ∷ [])) tasks refl refl (InScript (element_key (codes "pers") 0) NoSuch)).0 refl
 

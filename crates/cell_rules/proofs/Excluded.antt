@@ -1,4 +1,4 @@
--- There is one refusal of a script and of trees, and none where they have a cell.
+-- A script and trees have at most one refusal, and none if they have a cell.
 use Rattle.std.proofs.Common.{◌≡◌, ℕ, ◌<◌, List, length, Some, codes, slice_get, refl, ap, sym, subst, ◌∙◌, inl, inr}
 use Rattle.std.proofs.lemmas.Bool.{cases_order}
 use Rattle.std.proofs.lemmas.Option.{slice_get_within}
@@ -22,7 +22,7 @@ module _ (ds : List Declared) (given : List PersValue) where
     inside_there : (row other : TypedPers) → Finds ds value row → Finds ds value other → IsInside value.index row.len → IsInside value.index other.len
     inside_there row other found also is = inside_alike value row other (found_alike ds alike value row other found also) is
 
-    -- a value that keeps the rules breaks none
+    -- a value that keeps the rules breaks none of them
     right_breaks_none : (rule : ScriptRule) → IsRight ds given number value → Breaks ds given number value rule → ⊥
     right_breaks_none NoSuch right broken = broken right.row right.finds
     right_breaks_none Kind right broken = broken.other (suits_there right.row broken.row right.finds broken.finds right.suits)
@@ -54,7 +54,7 @@ module _ (ds : List Declared) (given : List PersValue) where
     same_rule Twice _ a b = absurd b
     same_rule _ other a b = absurd a
 
-  -- where declarations are alike so far, none of them clashes
+  -- if declarations agree so far, none of them clashes
   no_clash : (task «module» at index : ℕ) → AreAlikeBefore index ds → (clash : IsClash ds task «module» at) → clash.index < index → ⊥
   no_clash task «module» at index alike clash earlier = clash.differ (alike clash.before clash.index clash.e clash.d clash.earlier earlier clash.stands clash.there clash.one)
 
@@ -88,14 +88,14 @@ module _ (ds : List Declared) (given : List PersValue) where
         ]
       ]
 
-  -- there is one refusal
+  -- there is only one refusal
   pub same_refusal : (a b : CellBreak) → IsRefusal ds given a → IsRefusal ds given b → a ≡ b
   same_refusal (Clash task «module» at) (Clash task' module' at') is other = same_clash task «module» at task' module' at' is other
   same_refusal (Clash task «module» at) (InScript key rule) is other = absurd (no_clash task «module» at (length ds) other.alike is (slice_get_within ds is.index is.d is.there))
   same_refusal (InScript key rule) (Clash task «module» at) is other = absurd (no_clash task «module» at (length ds) is.alike other (slice_get_within ds other.index other.d other.there))
   same_refusal (InScript key rule) (InScript key' rule') is other = same_broken key key' rule rule' is other
 
-  -- and none where declarations are alike and the script's values keep the rules
+  -- and none if declarations agree and the script's values keep the rules
   pub not_refused : AreAlikeBefore (length ds) ds → ((number : ℕ) (value : PersValue) → slice_get given number ≡ Some value → IsRight ds given number value) → (broken : CellBreak) → IsRefusal ds given broken → ⊥
   not_refused alike right (Clash task «module» at) is = no_clash task «module» at (length ds) alike is (slice_get_within ds is.index is.d is.there)
   not_refused alike right (InScript key rule) is = right_breaks_none alike is.number is.value rule (right is.number is.value is.there) is.breaks

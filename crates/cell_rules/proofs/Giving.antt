@@ -1,4 +1,4 @@
--- One more value of the script: it breaks a rule, or it is the first value of an element.
+-- One more value of the script: it breaks a rule, or it is the first value for an element.
 use Rattle.std.proofs.Common.{◌≡◌, ℕ, ◌+◌, ◌<◌, ◌≤◌, true, false, not, ◌&&◌, nat_le, List, [], ◌∷◌, ◌++◌, length, set, Option, Some, None, is_some, slice_get, Ok, refl, ap, sym, subst, ◌∙◌, arith, inl, inr, ◌⊎◌}
 use Rattle.std.specs.List.{list_all}
 use Rattle.std.proofs.lemmas.Bool.{and_parts, and_from, both_ways, leb-true, leb-false, not-true, not-false}
@@ -15,7 +15,7 @@ use Rattle.rapid_model.specs.declared.sort.Sort.{Sort}
 use Rattle.rapid_model.specs.declared.sort.Sort.TheVariants as sorts
 use Rattle.rapid_model.specs.declared.value.Value.{Value}
 use Rattle.rapid_model.specs.declared.value.Value.TheVariants as values
-use Rattle.rapid_model.proofs.Lists.{there_is}
+use Rattle.rapid_model.proofs.Lists.{between, in_front, there_is}
 use Rattle.cell_assembly.specs.Cells.{PersInfo, is_script_value, fits_index, element, is_given, with_given, at_value, key_of, is_global, global_number, give_to, give_global, give, give_all}
 use Rattle.cell_rules.specs.Declared.{Declared, AreOne, AreAlikeBefore}
 use Rattle.cell_rules.specs.First.{IsIndexOf, IsGiven, IsNotGiven}
@@ -24,7 +24,7 @@ use Rattle.cell_rules.specs.Numbering.{AreNumbered}
 use Rattle.cell_rules.specs.Refused.{IsBroken, IsRefusal}
 use Rattle.cell_rules.proofs.Alike.{for_both, found_alike, one_named, one_number, same_index, suits_alike}
 use Rattle.cell_rules.proofs.Infos.{IsInfo, info_global, info_one}
-use Rattle.cell_rules.proofs.Lists.{same_there, in_front, at_end, front_there, earlier_or_last, one_longer, put_there, position_there, position_nowhere}
+use Rattle.cell_rules.proofs.Lists.{same_there, front_there, earlier_or_last, one_longer, put_there, position_there, position_nowhere}
 use Rattle.cell_rules.proofs.Outcomes.{Outcome, followed, ruled}
 
 -- the type of a value
@@ -43,7 +43,7 @@ given_has sort (values.Ext axes) e = absurd (cc e)
 given_has sort (values.Target joints) e = absurd (cc e)
 given_has sort (values.Speed nums) e = absurd (cc e)
 
--- an index exactly on an array
+-- an index exactly if it is an array
 index_fits : (len index : Option ℕ) → fits_index len index ≡ true → is_some index ≡ is_some len
 index_fits None None e = refl
 index_fits None (Some index) e = absurd (cc e)
@@ -56,7 +56,7 @@ fits_from None (Some index) e = absurd (cc e)
 fits_from (Some len) None e = absurd (cc e)
 fits_from (Some len) (Some index) e = refl
 
--- an index is from 1
+-- an index counts from 1
 abbrev pub FromOne : Option ℕ → Type 0
 FromOne None = Unit {0}
 FromOne (Some index) = 1 ≤ index
@@ -91,7 +91,7 @@ none_given None e = refl
 none_given (Some v) e = absurd (cc e)
 
 module _ (ds : List Declared) (ks : List ℕ) (count : ℕ) (numbered : AreNumbered AreOne ds ks count) (alike : AreAlikeBefore (length ds) ds) (whole : List PersValue) where
-  -- The persistents, with what the values so far say of their elements; and these values keep the rules.
+  -- The persistents, with what the values so far say about their elements; and these values keep the rules.
   pub record AreGiven (done : List PersValue) (ps : List PersInfo) : Type 0 where
     pub as_many : length ps ≡ count
     pub infos : (k : ℕ) (p : PersInfo) → slice_get ps k ≡ Some p → IsInfo ds ks k p
@@ -100,11 +100,11 @@ module _ (ds : List Declared) (ks : List ℕ) (count : ℕ) (numbered : AreNumbe
     pub not_given : (k : ℕ) (p : PersInfo) → slice_get ps k ≡ Some p → (index : ℕ) → slice_get p.given index ≡ Some None → IsNotGiven done ds ks k index
     pub right : (number : ℕ) (value : PersValue) → slice_get done number ≡ Some value → IsRight ds whole number value
 
-  -- what was given before is given with one value more
+  -- what was given before is still given with one more value
   given_more : (done : List PersValue) (row : PersValue) (k index : ℕ) (v : Value) → IsGiven done ds ks k index v → IsGiven (done ++ row ∷ []) ds ks k index v
   given_more done row k index v t = record { number = t.number; row = t.row; there = in_front done (row ∷ []) t.number t.row t.there; index = t.index; d = t.d; has_number = t.has_number; is_for = t.is_for; at_element = t.at_element; gives = t.gives }
 
-  -- what is given with one value more was given before, or is given by that
+  -- what is given with one more value was given before, or is given by that one
   given_by : (done : List PersValue) (row : PersValue) (k index : ℕ) (v : Value) (t : IsGiven (done ++ row ∷ []) ds ks k index v) → IsGiven done ds ks k index v ⊎ (row ≡ t.row)
   given_by done row k index v t = elim (earlier_or_last done row t.number t.row t.there) [
     | inl early ↦ inl (record { number = t.number; row = t.row; there = early; index = t.index; d = t.d; has_number = t.has_number; is_for = t.is_for; at_element = t.at_element; gives = t.gives })
@@ -113,7 +113,7 @@ module _ (ds : List Declared) (ks : List ℕ) (count : ℕ) (numbered : AreNumbe
 
   module _ (done rest : List PersValue) (row : PersValue) (is_whole : whole ≡ done ++ row ∷ rest) (one : FromOne row.index) (ps : List PersInfo) (are : AreGiven done ps) where
     there : slice_get whole (length done) ≡ Some row
-    there = ap (λ vs. slice_get vs (length done)) is_whole ∙ at_end done row rest
+    there = ap (λ vs. slice_get vs (length done)) is_whole ∙ between done rest row
 
     right_before : (before : ℕ) (other : PersValue) → before < length done → slice_get whole before ≡ Some other → IsRight ds whole before other
     right_before before other early at = are.right before other (front_there done (row ∷ rest) before other early (ap (λ vs. slice_get vs before) (sym is_whole) ∙ at))
@@ -209,7 +209,7 @@ module _ (ds : List Declared) (ks : List ℕ) (count : ℕ) (numbered : AreNumbe
                 let no = not-true (is_given (slice_get p.given (element row.index))) fresh in
                 at_o ∙ ap Some (none_given o (ap is_given (sym at_o) ∙ no))
 
-            -- a value for the element was none that is given
+            -- a value for the element was not given before
             given_from : (before : ℕ) (other : PersValue) → before < length done → slice_get whole before ≡ Some other → AreForOne other row → IsGiven done ds ks k (element row.index) other.value
             given_from before other early at_other for_one =
                 let i = are.infos k p at in
@@ -240,7 +240,7 @@ module _ (ds : List Declared) (ks : List ℕ) (count : ℕ) (numbered : AreNumbe
                 record {
                   number = length done;
                   row = row;
-                  there = at_end done row [];
+                  there = between done [] row;
                   index = i.is_first.index;
                   d = i.d;
                   has_number = i.is_first.has_number;
@@ -249,7 +249,7 @@ module _ (ds : List Declared) (ks : List ℕ) (count : ℕ) (numbered : AreNumbe
                   gives = refl;
                 }
 
-            -- a value that the last one gives is of this number and this element
+            -- the values that the last one gives are for this number and this element
             given_number : (j index : ℕ) (v : Value) (t : IsGiven (done ++ row ∷ []) ds ks j index v) → row ≡ t.row → (j ≡ k) × (index ≡ element row.index)
             given_number j index v t same =
                 let i = are.infos k p at in

@@ -1,4 +1,4 @@
--- Persistents as they are made of declarations so far: their numbers, and what is known of each.
+-- Persistents as made of the declarations so far: their numbers, and what is known about each.
 use Rattle.std.proofs.Common.{◌≡◌, ℕ, Bool, true, false, ◌&&◌, List, length, replicate, Option, Some, None, is_none, slice_get, if◌then◌else◌, refl, ap, sym, ◌∙◌, inl, inr}
 use Rattle.std.specs.Str.{str_eq_ignore_ascii_case, str_to_ascii_lowercase}
 use Rattle.std.proofs.lemmas.Bool.{and_parts, cases_order}
@@ -13,19 +13,19 @@ use Rattle.cell_rules.specs.Numbering.{AreNumbered, HasNumber, IsFirst}
 use Rattle.cell_rules.proofs.Alike.{one_named}
 use Rattle.cell_rules.proofs.Lists.{same_there}
 
--- names are one by the language's test
+-- names are the same, as RAPID compares them
 pub one_name : (name other : List ℕ) → str_eq_ignore_ascii_case name other ≡ true → IsOneName name other
 one_name name other is = (bytes_eq-Decides (str_to_ascii_lowercase name) (str_to_ascii_lowercase other)).0 is
 
 pub named_alike : (name other : List ℕ) → IsOneName name other → str_eq_ignore_ascii_case name other ≡ true
 named_alike name other one = (bytes_eq-Decides (str_to_ascii_lowercase name) (str_to_ascii_lowercase other)).1 one
 
--- what declarations say of first values
+-- what declarations say about first values
 abbrev pub AreDeclared : List Declared → List ℕ → ℕ → Option (List Value) → Type 0
 AreDeclared ds ks k None = IsUndeclared ds ks k
 AreDeclared ds ks k (Some first) = IsDeclared ds ks k first
 
--- a persistent that is made of the declarations of its number
+-- a persistent made of the declarations with its number
 pub record IsInfo (ds : List Declared) (ks : List ℕ) (k : ℕ) (p : PersInfo) : Type 0 where
   pub d : Declared
   pub is_first : IsFirst ds ks k d
@@ -35,13 +35,13 @@ pub record IsInfo (ds : List Declared) (ks : List ℕ) (k : ℕ) (p : PersInfo) 
   pub len : (index : ℕ) (e : Declared) → HasNumber ds ks k index e → p.len ≡ e.row.len
   pub declared : AreDeclared ds ks k p.declared
 
--- so are all, and the script has said nothing of them yet
+-- all are made so, and the script has said nothing about them yet
 pub record AreInfos (ds : List Declared) (ks : List ℕ) (ps : List PersInfo) : Type 0 where
   pub numbered : AreNumbered AreOne ds ks (length ps)
   pub infos : (k : ℕ) (p : PersInfo) → slice_get ps k ≡ Some p → IsInfo ds ks k p
   pub not_given : (k : ℕ) (p : PersInfo) → slice_get ps k ≡ Some p → p.given ≡ replicate (width p.len) None
 
--- a global persistent of a name
+-- a global persistent with a name
 pub global_is : (name : List ℕ) (p : PersInfo) → is_global name p ≡ true → (p.owner ≡ None) × IsOneName name p.name
 global_is name p is = let (free, named) = and_parts (is_none p.owner) (str_eq_ignore_ascii_case name p.name) is in (no_owner p.owner free, one_name name p.name named)
   where
@@ -63,7 +63,7 @@ global_owner : (d : Declared) → d.row.own ≡ false → owner_of d ≡ None
 global_owner d own = ap (λ o. let owner : Option ℕ = if o then Some d.task else None in owner) own
 
 module _ (ds : List Declared) (ks : List ℕ) (count : ℕ) (numbered : AreNumbered AreOne ds ks count) where
-  -- the persistent of a global declaration is global, and of its name
+  -- the persistent of a global declaration is global and has its name
   pub info_global : (k index : ℕ) (p : PersInfo) (e : Declared) → IsInfo ds ks k p → HasNumber ds ks k index e → e.row.own ≡ false → (name : List ℕ) → IsOneName name e.row.name → is_global name p ≡ true
   info_global k index p e is has own name named =
       let first = is.is_first in
@@ -80,7 +80,7 @@ module _ (ds : List Declared) (ks : List ℕ) (count : ℕ) (numbered : AreNumbe
             ]
           ]
 
-  -- and a global persistent of a name is of global declarations of that name
+  -- and a global persistent with a name has global declarations with that name
   pub info_one : (k : ℕ) (p : PersInfo) (name : List ℕ) → (is : IsInfo ds ks k p) → is_global name p ≡ true → (is.d.row.own ≡ false) × IsOneName name is.d.row.name
   info_one k p name is global =
       let (free, named) = global_is name p global in

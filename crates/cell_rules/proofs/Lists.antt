@@ -1,4 +1,4 @@
--- Lists by their elements, and with one element more.
+-- Lists by their elements, and with one more element.
 use Rattle.std.proofs.Common.{◌≡◌, ◌⊎◌, inl, inr, ℕ, zero, suc, ◌+◌, ◌<◌, ◌≤◌, Bool, true, false, List, [], ◌∷◌, ◌++◌, length, get_or, set, replicate, Option, Some, None, slice_get, refl, ap, sym, ◌∙◌, arith}
 use Rattle.std.specs.List.{position, position_or_len}
 use Rattle.std.proofs.lemmas.Grind.{common_steps}
@@ -20,22 +20,13 @@ same_list (x ∷ xs) (y ∷ ys) same =
     let tail = same_list xs ys (λ i. same (suc i)) in
     ap (λ z. z ∷ xs) head ∙ ap (λ zs. y ∷ zs) tail
 
-pub in_front : {A : Type 0} (xs ys : List A) (i : ℕ) (x : A) → slice_get xs i ≡ Some x → slice_get (xs ++ ys) i ≡ Some x
-in_front [] ys i x is = absurd (cc)
-in_front (y ∷ xs) ys zero x is = is
-in_front (y ∷ xs) ys (suc i) x is = in_front xs ys i x is
-
-pub at_end : {A : Type 0} (xs : List A) (y : A) (ys : List A) → slice_get (xs ++ y ∷ ys) (length xs) ≡ Some y
-at_end [] y ys = refl
-at_end (x ∷ xs) y ys = at_end xs y ys
-
--- what is at a place of the front
+-- the element at an index of the front
 pub front_there : {A : Type 0} (xs ys : List A) (i : ℕ) (x : A) → i < length xs → slice_get (xs ++ ys) i ≡ Some x → slice_get xs i ≡ Some x
 front_there [] ys i x front is = absurd (omega (arith, front))
 front_there (y ∷ xs) ys zero x front is = is
 front_there (y ∷ xs) ys (suc i) x front is = front_there xs ys i x (omega (arith, front)) is
 
--- an element of a list with one more is an earlier one, or that one
+-- an element of a list with one more is an earlier one, or the last
 pub earlier_or_last : {A : Type 0} (xs : List A) (y : A) (i : ℕ) (x : A) → slice_get (xs ++ y ∷ []) i ≡ Some x → (slice_get xs i ≡ Some x) ⊎ ((i ≡ length xs) × (y ≡ x))
 earlier_or_last [] y zero x is = inr (refl, cc)
 earlier_or_last [] y (suc i) x is = absurd (cc)
@@ -46,7 +37,7 @@ pub one_longer : {A : Type 0} (xs : List A) (x : A) → length (xs ++ x ∷ []) 
 one_longer [] x = refl
 one_longer (y ∷ xs) x = omega (arith, one_longer xs x)
 
--- a list with another element at a place
+-- a list with another element at an index
 pub put_there : {A : Type 0} (xs : List A) (k : ℕ) (y : A) (i : ℕ) (x : A) → slice_get (set xs k y) i ≡ Some x → ((i ≡ k) × (y ≡ x)) ⊎ ((i ≡ k → ⊥) × (slice_get xs i ≡ Some x))
 put_there [] k y i x is = absurd (cc is)
 put_there (z ∷ xs) zero y zero x is = inl (refl, cc is)
@@ -59,14 +50,14 @@ all_alike zero y i x is = absurd (cc is)
 all_alike (suc n) y zero x is = cc is
 all_alike (suc n) y (suc i) x is = all_alike n y i x is
 
--- where a test first passes
+-- the first index that passes a test
 pub position_there : {A : Type 0} (test : A → Bool) (xs : List A) (k : ℕ) → position test xs ≡ Some k → (x : A) × (slice_get xs k ≡ Some x) × (test x ≡ true)
 position_there test [] k is = absurd (cc is)
 position_there test (x ∷ xs) k is =
     let (inside_list, passes, _) = position-Some test (x ∷ xs) k x is in
     (get_or (x ∷ xs) k x, slice_get-get_or (x ∷ xs) k x inside_list, passes)
 
--- or passes nowhere
+-- or none passes
 pub position_nowhere : {A : Type 0} (test : A → Bool) (xs : List A) → position test xs ≡ None → (k : ℕ) (x : A) → slice_get xs k ≡ Some x → test x ≡ false
 position_nowhere test xs is k x at =
     let all : length xs ≤ position_or_len test xs = grind (arith, common_steps) in

@@ -1,13 +1,13 @@
--- Numbers of declarations: one more declaration, and that there is one numbering.
+-- Numbers of declarations: one more declaration, and uniqueness of the numbering.
 use Rattle.std.proofs.Common.{◌≡◌, ◌⊎◌, ◌↔◌, inl, inr, ℕ, zero, suc, ◌+◌, ◌<◌, List, [], ◌∷◌, ◌++◌, length, Some, slice_get, refl, ap, sym, subst, ◌∙◌, arith}
 use Rattle.std.proofs.lemmas.Bool.{cases_lt, cases_order}
 use Rattle.std.proofs.lemmas.Option.{slice_get_within, slice_get_past}
-use Rattle.rapid_model.proofs.Lists.{there_is}
+use Rattle.rapid_model.proofs.Lists.{between, in_front, there_is}
 use Rattle.cell_rules.specs.Numbering.{AreNumbered, HasNumber, IsFirst}
-use Rattle.cell_rules.proofs.Lists.{same_there, same_list, in_front, at_end, earlier_or_last, one_longer}
+use Rattle.cell_rules.proofs.Lists.{same_there, same_list, earlier_or_last, one_longer}
 
 module _ {A : Type 0} (AreOne : A → A → Type 0) where
-  -- where two numberings agree so far, the next number of one is no smaller
+  -- if two numberings agree so far, the next number of one is no smaller
   no_smaller : (ds : List A) (ks ls : List ℕ) (m n : ℕ) → AreNumbered AreOne ds ks m → AreNumbered AreOne ds ls n → (j k l : ℕ) → ((i : ℕ) → i < j → slice_get ks i ≡ slice_get ls i)
       → slice_get ks j ≡ Some k → slice_get ls j ≡ Some l → k < l → ⊥
   no_smaller ds ks ls m n is other j k l before here there less =
@@ -41,14 +41,14 @@ module _ {A : Type 0} (AreOne : A → A → Type 0) where
   same_before ds ks ls m n is other (suc j) i earlier =
       same_here ds ks ls m n is other i (λ h before. same_before ds ks ls m n is other j h (omega (arith, before, earlier)))
 
-  -- there is one numbering of declarations
+  -- declarations have only one numbering
   pub same_numbers : (ds : List A) (ks ls : List ℕ) (m n : ℕ) → AreNumbered AreOne ds ks m → AreNumbered AreOne ds ls n → ks ≡ ls
   same_numbers ds ks ls m n is other = same_list ks ls (λ i. same_before ds ks ls m n is other (suc i) i (omega arith))
 
   not_more : (ds : List A) (ks : List ℕ) (m n : ℕ) → AreNumbered AreOne ds ks m → AreNumbered AreOne ds ks n → m < n → ⊥
   not_more ds ks m n is other less = let (i, at) = other.each m less in omega (arith, is.below i m at)
 
-  -- and one count of numbers
+  -- and only one count of numbers
   pub same_count : (ds : List A) (ks : List ℕ) (m n : ℕ) → AreNumbered AreOne ds ks m → AreNumbered AreOne ds ks n → m ≡ n
   same_count ds ks m n is other =
       elim (cases_order m n) [
@@ -56,7 +56,7 @@ module _ {A : Type 0} (AreOne : A → A → Type 0) where
         | inr differ ↦ elim differ [ inl less ↦ absurd (not_more ds ks m n is other less) | inr more ↦ absurd (not_more ds ks n m other is more) ]
       ]
 
-  -- there is one first declaration of a number
+  -- a number has only one first declaration
   pub same_first : (ds : List A) (ks : List ℕ) (k : ℕ) (d e : A) → IsFirst ds ks k d → IsFirst ds ks k e → d ≡ e
   same_first ds ks k d e is other =
       let equal : is.index ≡ other.index = omega (arith, is.first other.index other.has_number.numbered, other.first is.index is.has_number.numbered) in
@@ -76,11 +76,11 @@ module _ {A : Type 0} (AreOne : A → A → Type 0) where
     as_many_more : (k : ℕ) → length (ks ++ k ∷ []) ≡ length (ds ++ d ∷ [])
     as_many_more k = omega (arith, one_longer ks k, one_longer ds d, is.as_many)
 
-    -- a number of an earlier declaration is the number of one with one more behind it
+    -- the number of an earlier declaration is its number with one more after it
     earlier_one : (k : ℕ) (i l : ℕ) → slice_get ks i ≡ Some l → slice_get (ks ++ k ∷ []) i ≡ Some l
     earlier_one k i l at = in_front ks (k ∷ []) i l at
 
-    -- a declaration that is one with no earlier one has a new number
+    -- a declaration that is the same as no earlier one has a new number
     module _ (apart : (i : ℕ) (e : A) → slice_get ds i ≡ Some e → AreOne e d → ⊥) where
       new_one : (i j : ℕ) (e f : A) (k l : ℕ) → i < j → slice_get (ds ++ d ∷ []) i ≡ Some e → slice_get (ds ++ d ∷ []) j ≡ Some f → slice_get (ks ++ n ∷ []) i ≡ Some k → slice_get (ks ++ n ∷ []) j ≡ Some l
           → (k ≡ l) ↔ AreOne e f
@@ -112,7 +112,7 @@ module _ {A : Type 0} (AreOne : A → A → Type 0) where
       new_each k few =
           elim (cases_lt k n) [
             | inl less ↦ let (i, at) = is.each k less in (i, earlier_one n i k at)
-            | inr past ↦ let equal : n ≡ k = omega (arith, few, past) in (length ks, at_end ks n [] ∙ ap Some equal)
+            | inr past ↦ let equal : n ≡ k = omega (arith, few, past) in (length ks, between ks [] n ∙ ap Some equal)
           ]
 
       new_in_order : (j k l : ℕ) → slice_get (ks ++ n ∷ []) j ≡ Some l → k < l → (i : ℕ) × (i < j) × (slice_get (ks ++ n ∷ []) i ≡ Some k)
@@ -125,9 +125,9 @@ module _ {A : Type 0} (AreOne : A → A → Type 0) where
       pub new_numbered : AreNumbered AreOne (ds ++ d ∷ []) (ks ++ n ∷ []) (n + 1)
       new_numbered = record { as_many = as_many_more n; one = new_one; below = new_below; each = new_each; in_order = new_in_order }
 
-    -- a declaration that is one with an earlier one has its number
+    -- a declaration that is the same as an earlier one has its number
     module _ (symmetric : (e f : A) → AreOne e f → AreOne f e) (transitive : (e f g : A) → AreOne e f → AreOne f g → AreOne e g) (index k : ℕ) (of : A) (has_number : HasNumber ds ks k index of) (with : AreOne of d) where
-      -- the declarations of the number are those that are one with it
+      -- the declarations with the number are those that are the same as it
       joined_last : (i : ℕ) (e : A) (l : ℕ) → slice_get ds i ≡ Some e → slice_get ks i ≡ Some l → (l ≡ k) ↔ AreOne e d
       joined_last i e l is_e at =
           elim (cases_order i index) [
@@ -202,14 +202,14 @@ module _ {A : Type 0} (AreOne : A → A → Type 0) where
     pub first_new : IsFirst (ds ++ d ∷ []) (ks ++ n ∷ []) n d
     first_new = record {
       index = length ds;
-      has_number = record { there = at_end ds d []; numbered = ap (slice_get (ks ++ n ∷ [])) (sym is.as_many) ∙ at_end ks n [] };
+      has_number = record { there = between ds [] d; numbered = ap (slice_get (ks ++ n ∷ [])) (sym is.as_many) ∙ between ks [] n };
       first = λ other at. elim (earlier_or_last ks n other n at) [
         | inl front ↦ absurd (omega (arith, is.below other n front))
         | inr last ↦ omega (arith, last.0, is.as_many)
       ];
     }
 
-    -- a declaration of a number is an earlier one, or the last
+    -- a declaration with a number is an earlier one, or the last
     pub earlier_number : (k m index : ℕ) (e : A) → HasNumber (ds ++ d ∷ []) (ks ++ m ∷ []) k index e → HasNumber ds ks k index e ⊎ ((index ≡ length ds) × (d ≡ e) × (m ≡ k))
     earlier_number k m index e has =
         elim (earlier_or_last ds d index e has.there) [

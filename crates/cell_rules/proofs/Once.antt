@@ -1,4 +1,4 @@
--- There is one cell of a script and of trees.
+-- A script and trees have at most one cell.
 use Rattle.std.proofs.Common.{◌≡◌, ℕ, suc, List, [], ◌∷◌, ◌++◌, length, Some, slice_get, refl, ap, sym, subst, ◌∙◌, arith, inl, inr}
 use Rattle.std.proofs.lemmas.Bool.{cases_lt}
 use Rattle.std.proofs.lemmas.Option.{slice_get_past}
@@ -16,7 +16,7 @@ use Rattle.cell_rules.proofs.Lists.{same_list}
 use Rattle.cell_rules.proofs.Numbers.{same_numbers, same_count, same_first}
 use Rattle.cell_rules.proofs.Rows.{same_persistent}
 
--- lists with the same front, and what is behind it
+-- lists with the same front, and what comes after it
 same_ends : {A : Type 0} (xs ys zs ws : List A) → length xs ≡ length ys → xs ++ zs ≡ ys ++ ws → (xs ≡ ys) × (zs ≡ ws)
 same_ends [] [] zs ws long same = (refl, same)
 same_ends [] (y ∷ ys) zs ws long same = absurd (omega (arith, long))
@@ -46,7 +46,7 @@ same_trees (tree ∷ trees) (t ∷ a) (u ∷ b) many also is other pers meetings
     ap (λ h. h ∷ a) head ∙ ap (λ hs. u ∷ hs) tail
 
 module _ (script : ScriptData) (trees : List TypedTree) where
-  -- declarations of a cell are alike where they are one
+  -- declarations of a cell agree if they are of the same persistent
   pub cell_alike : (cell : CellData) (numbered : List TypedTree) → IsCellOf script trees cell numbered → AreAlikeBefore (length (declared_by trees)) (declared_by trees)
   cell_alike cell numbered is i j d e before few is_d is_e one =
       let ks = pers_numbers numbered in
@@ -112,6 +112,6 @@ module _ (script : ScriptData) (trees : List TypedTree) where
     same_numbered : numbered ≡ also
     same_numbered = same_trees trees numbered also is.as_many too.as_many is.each_tree too.each_tree same_pers_numbers same_meeting_numbers
 
-    -- there is one cell of a script and of trees, and the trees have one numbering
+    -- a script and trees have only one cell, and the trees only one numbering
     pub same_made : ◌≡◌ {A = MadeCell} (record { cell = cell; trees = numbered }) (record { cell = other; trees = also })
     same_made = let c = same_cell in let t = same_numbered in λ i. record { cell = c i; trees = t i }

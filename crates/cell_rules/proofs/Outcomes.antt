@@ -1,4 +1,4 @@
--- What a check comes to: what is true of its value, or of the rule that is broken.
+-- The outcome of a check: what holds of its value, or of the broken rule.
 use Rattle.std.proofs.Common.{◌≡◌, Bool, true, false, Result, Ok, Err, if◌then◌else◌, refl}
 use Rattle.rule_checks.specs.Checks.{◌>>=◌, ◌>>◌, must}
 

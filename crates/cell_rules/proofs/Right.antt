@@ -1,4 +1,4 @@
--- A script and trees make a cell exactly where it is theirs, and are refused exactly where a rule is broken.
+-- A script and trees make exactly their cell, and are refused exactly if a rule is broken.
 use Rattle.std.proofs.Common.{◌≡◌, ◌↔◌, true, List, [], length, map, Some, None, slice_get, Ok, Err, refl, ap, sym, subst, ◌∙◌}
 use Rattle.std.specs.List.{concat, list_all}
 use Rattle.std.proofs.lemmas.List.{length-map, length-replicate}

@@ -1,4 +1,4 @@
--- There is one persistent of a number, and one numbering of trees.
+-- A number has one persistent, and trees have one numbering.
 use Rattle.std.proofs.Common.{◌≡◌, ℕ, List, length, Some, is_some, slice_get, ap, sym, subst, ◌∙◌, arith, inl, inr}
 use Rattle.std.proofs.lemmas.Bool.{cases_lt, cases_order}
 use Rattle.std.proofs.lemmas.Option.{slice_get_past}
@@ -18,7 +18,7 @@ use Rattle.cell_rules.proofs.Lists.{same_there, same_list}
 use Rattle.cell_rules.proofs.Numbers.{same_first}
 
 module _ (ds : List Declared) (ks : List ℕ) (count : ℕ) (numbered : AreNumbered AreOne ds ks count) (alike : AreAlikeBefore (length ds) ds) (given : List PersValue) (right : (number : ℕ) (value : PersValue) → slice_get given number ≡ Some value → IsRight ds given number value) where
-  -- a value that the script gives has an index exactly where the declaration is an array
+  -- a value that the script gives has an index exactly if the declaration is an array
   index_there : (k number index : ℕ) (row : PersValue) (d : Declared) → slice_get given number ≡ Some row → HasNumber ds ks k index d → IsFor row d → is_some row.index ≡ is_some d.row.len
   index_there k number index row d there has is_for =
       let is = right number row there in
@@ -26,7 +26,7 @@ module _ (ds : List Declared) (ks : List ℕ) (count : ℕ) (numbered : AreNumbe
       let one = alike_there ds alike found.index index found.d d found.there has.there (for_both row found.d d found.is_for is_for) in
       is.suits.index ∙ ap is_some (ap (λ row. row.len) found.is_row ∙ one.len)
 
-  -- values that are given to one element are for one
+  -- values given to the same element are for the same one
   for_one : (k element : ℕ) (v w : Value) → (t : IsGiven given ds ks k element v) → (u : IsGiven given ds ks k element w) → AreForOne t.row u.row
   for_one k element v w t u =
       let same = alike_there ds alike t.index u.index t.d u.d t.has_number.there u.has_number.there in
@@ -65,7 +65,7 @@ module _ (ds : List Declared) (ks : List ℕ) (count : ℕ) (numbered : AreNumbe
   not_both : (k : ℕ) (vs : List Value) → IsDeclared ds ks k vs → IsUndeclared ds ks k → ⊥
   not_both k vs a none = let e = sym a.gives ∙ none a.index a.d a.has_number in absurd (cc e)
 
-  -- an element has one first value
+  -- an element has only one first value
   same_value : (k : ℕ) (sort : Sort) (element : ℕ) (v w : Value) → IsFirstValue given ds ks k sort element v → IsFirstValue given ds ks k sort element w → v ≡ w
   same_value k sort element v w (ByScript t) (ByScript u) = same_given k element v w t u
   same_value k sort element v w (ByScript t) (ByDeclaration not_given first declared at) = absurd (not_given v t)
@@ -102,7 +102,7 @@ module _ (ds : List Declared) (ks : List ℕ) (count : ℕ) (numbered : AreNumbe
           | inr past ↦ slice_get_past p.first element past ∙ sym (slice_get_past q.first element (omega (arith, past, as_many)))
         ]
 
-    -- there is one persistent of a number
+    -- a number has only one persistent
     pub same_persistent : p ≡ q
     same_persistent =
         let name : p.name ≡ q.name = is.name ∙ ap (λ (x : Declared). x.row.name) same_declaration ∙ sym other.name in

@@ -21,7 +21,7 @@ use Rattle.cell_rules.proofs.Lists.{same_there, earlier_or_last, one_longer, pos
 use Rattle.cell_rules.proofs.Numbers.{none_numbered, new_numbered, joined_numbered, first_stays, first_new}
 use Rattle.cell_rules.proofs.Outcomes.{Outcome, followed}
 
--- the numbers of lists, with one list more
+-- the numbers of lists, with one more list
 concat_more : (lists : List (List ℕ)) (list : List ℕ) → concat (lists ++ list ∷ []) ≡ concat lists ++ list
 concat_more [] list = append-nil list
 concat_more (l ∷ lists) list = ap (λ ns. l ++ ns) (concat_more lists list) ∙ sym (append_assoc l (concat lists) list)
@@ -31,7 +31,7 @@ lengths_more [] list = refl
 lengths_more (l ∷ lists) list = ap (λ ns. length l ∷ ns) (lengths_more lists list)
 
 module _ (given : List PersValue) (whole : List Declared) where
-  -- the declarations of a tree, behind those before it
+  -- the declarations of a tree, after those before it
   module _ (front : List ℕ) (task : ℕ) (rest : List Declared) where
     all_right : (ds : List Declared) (rows : List TypedPers) (n : Numbered) → whole ≡ ds ++ (map (of_task task) rows ++ rest) → AreInfos ds (front ++ n.numbers) n.pers
         → Outcome (λ m. (length m.numbers ≡ length n.numbers + length rows) × AreInfos (ds ++ map (of_task task) rows) (front ++ m.numbers) m.pers) (IsRefusal whole given) (all_pers n task rows)
@@ -49,7 +49,7 @@ module _ (given : List PersValue) (whole : List Declared) where
         weaker m more (Ok o) is = (omega (arith, more.0, is.0), subst (λ xs. AreInfos xs (front ++ o.numbers) o.pers) (append_assoc ds (of_task task row ∷ []) (map (of_task task) rows)) is.1)
         weaker m more (Err broken) is = is
 
-  -- the persistents of the declarations so far, and the numbers of the trees so far, as many as each one has
+  -- the persistents of the declarations so far, and the numbers of the trees so far, one for each declaration
   pub record AreTables (ds : List Declared) (lengths : List ℕ) (t : PersTables) : Type 0 where
     pub infos : AreInfos ds (concat t.lists) t.pers
     pub lengths_are : map length t.lists ≡ lengths
@@ -74,7 +74,7 @@ module _ (given : List PersValue) (whole : List Declared) where
         lengths_are = lengths_more t.lists n.numbers ∙ ap (λ ls. ls ++ length n.numbers ∷ []) are.lengths_are ∙ ap (λ l. lengths ++ l ∷ []) (omega (arith, here.0));
       })))
 
--- the first meeting of a name is one
+-- a name has only one first meeting
 found_meeting : (name : List ℕ) (names : List (List ℕ)) (k : ℕ) → meeting_number name names ≡ Some k → (m : List ℕ) × (slice_get names k ≡ Some m) × IsOneName name m
 found_meeting name names k is =
     let (m, at, named) = position_there (str_eq_ignore_ascii_case name) names k is in
@@ -83,7 +83,7 @@ found_meeting name names k is =
 no_meeting : (name : List ℕ) (names : List (List ℕ)) → meeting_number name names ≡ None → (k : ℕ) (m : List ℕ) → slice_get names k ≡ Some m → IsOneName name m → ⊥
 no_meeting name names is k m at one = both_ways (str_eq_ignore_ascii_case name m) (position_nowhere (str_eq_ignore_ascii_case name) names is k m at) (named_alike name m one)
 
--- the meetings of the names so far, each by its first name
+-- the meetings of the names so far, each from its first name
 pub record AreMeetings (named : List (List ℕ)) (ks : List ℕ) (names : List (List ℕ)) : Type 0 where
   pub are_numbered : AreNumbered IsOneName named ks (length names)
   pub firsts : (k : ℕ) (name : List ℕ) → slice_get names k ≡ Some name → IsFirst named ks k name
@@ -127,7 +127,7 @@ module _ (named : List (List ℕ)) (ks : List ℕ) (names : List (List ℕ)) (ar
                 ]
               ]
 
--- one more name, behind numbers of earlier trees
+-- one more name, after numbers of earlier trees
 met_right : (front : List ℕ) (named : List (List ℕ)) (m : Meetings) (name : List ℕ) (number : Option ℕ) → meeting_number name m.names ≡ number → AreMeetings named (front ++ m.numbers) m.names
     → (length (met m name number).numbers ≡ length m.numbers + 1) × AreMeetings (named ++ name ∷ []) (front ++ (met m name number).numbers) (met m name number).names
 met_right front named m name (Some k) is are =
@@ -178,7 +178,7 @@ meetings_right named lengths t (tree ∷ trees) are =
 pub no_meetings : AreMeetingTables [] [] (record { names = []; lists = [] })
 no_meetings = record { are = record { are_numbered = none_numbered IsOneName; firsts = λ k name at. absurd (cc at) }; lengths_are = refl }
 
--- trees with lists of numbers, as many as each has persistents and meetings
+-- trees with lists of numbers, one for each persistent and meeting
 pub record AreNumberedTrees (trees made : List TypedTree) (pers meetings : List (List ℕ)) : Type 0 where
   pub as_many : length made ≡ length trees
   pub each : (task : ℕ) (tree with_them : TypedTree) → slice_get trees task ≡ Some tree → slice_get made task ≡ Some with_them → IsNumberedTree tree with_them

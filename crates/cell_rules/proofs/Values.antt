@@ -20,7 +20,7 @@ use Rattle.cell_rules.specs.First.{IsFirstValue, IsPersistent, IsGiven, IsNotGiv
 use Rattle.cell_rules.proofs.Infos.{AreDeclared, IsInfo}
 use Rattle.cell_rules.proofs.Lists.{all_alike}
 
--- an element is what the script gives, or it is what stands below
+-- an element is what the script gives, or else what it has otherwise
 over_there : (given : List (Option Value)) (vs : List Value) (element : ℕ) (v : Value) → slice_get (over given vs) element ≡ Some v
     → (slice_get given element ≡ Some (Some v)) ⊎ ((slice_get given element ≡ Some None) × (slice_get vs element ≡ Some v))
 over_there [] [] element v at = absurd (cc at)
@@ -32,7 +32,7 @@ over_there (None ∷ given) (w ∷ vs) zero v at = inr (refl, at)
 over_there (Some t ∷ given) (w ∷ vs) (suc element) v at = over_there given vs element v at
 over_there (None ∷ given) (w ∷ vs) (suc element) v at = over_there given vs element v at
 
--- what an element of a type with values begins with
+-- the initial value of an element of a type with values
 starts : (sort : Sort) → has_values sort ≡ true → start_value sort ≡ Some (start_of sort)
 starts sorts.Num e = refl
 starts sorts.Bool e = refl
@@ -57,7 +57,7 @@ sound_there task (tree ∷ trees) all i d at =
     let (here, more) = and_parts (has_sound_pers tree) (list_all has_sound_pers trees) all in
     sound_in task tree.pers (declared_from (task + 1) trees) here (sound_there (task + 1) trees more) i d at
 
--- a sound declaration's type has values, and those that it gives are as many as its elements
+-- a sound declaration's type has values, and it gives as many as its elements
 sound_values : (row : TypedPers) → is_sound row ≡ true → has_values row.sort ≡ true
 sound_values row sound =
     let (front, _) = and_parts (has_values row.sort && holds_where_there (is_within 1 1_000) row.len) (holds_where_there (fits row) row.first) sound in

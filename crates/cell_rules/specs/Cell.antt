@@ -1,4 +1,4 @@
--- Which cell is that of a script and of the trees of its tasks, and which numbers the trees are given.
+-- Which cell belongs to a script and its tasks' trees, and which numbers the trees are given.
 use Rattle.std.specs.Prelude.{◌≡◌, ℕ, List, length, map, flat_map, Some, slice_get}
 use Rattle.rapid_model.specs.CellData.{CellData}
 use Rattle.rapid_model.specs.ScriptData.{ScriptData, row_of}
@@ -24,8 +24,8 @@ pers_numbers trees = flat_map (λ tree. tree.pers_of) trees
 abbrev pub meeting_numbers : List TypedTree → List ℕ
 meeting_numbers trees = flat_map (λ tree. tree.meeting_of) trees
 
--- The rows of the cell are the script's. Its persistents are those that the trees declare, each one once; each value that the script
--- gives keeps the rules; and its meetings are the names of the trees' meetings, each once, as it is first spelled.
+-- The rows of the cell are the script's. Its persistents are those that the trees declare, each once; each value that
+-- the script gives keeps the rules; and its meetings are the names of the trees' meetings, each once, as first spelled.
 pub record IsCellOf (script : ScriptData) (trees : List TypedTree) (cell : CellData) (numbered : List TypedTree) : Type 0 where
   pub steps : cell.steps ≡ script.steps
   pub tasks : cell.tasks ≡ map row_of script.tasks

@@ -1,5 +1,5 @@
--- What a persistent of a cell is, by all of its declarations and by the script: its first values are the script's, else those of the
--- first declaration that gives any, else what its type begins with.
+-- What a persistent of a cell is, by all of its declarations and by the script: its first values are the script's,
+-- otherwise those of the first declaration that gives any, otherwise the initial values of its type.
 use Rattle.std.specs.Prelude.{◌≡◌, ℕ, ◌+◌, ◌<◌, List, length, Option, Some, None, if◌then◌else◌, slice_get}
 use Rattle.rapid_model.specs.Sorts.{width}
 use Rattle.rapid_model.specs.declared.pers_cell.PersCell.{PersCell}
@@ -11,7 +11,7 @@ use Rattle.cell_rules.specs.Declared.{Declared}
 use Rattle.cell_rules.specs.Given.{IsFor}
 use Rattle.cell_rules.specs.Numbering.{HasNumber, IsFirst}
 
--- an index, from 1, is that of this element, from 0; without an index there is one element
+-- an index, counted from 1, is that of this element, counted from 0; without an index there is one element
 abbrev pub IsIndexOf : Option ℕ → ℕ → Type 0
 IsIndexOf None element = element ≡ 0
 IsIndexOf (Some index) element = index ≡ element + 1
@@ -21,7 +21,7 @@ abbrev pub owner_of : Declared → Option ℕ
 owner_of d = if d.row.own then Some d.task else None
 
 module _ (declared : List Declared) (numbers : List ℕ) (k : ℕ) where
-  -- the first of the persistent's declarations that gives values gives these
+  -- the first of the persistent's declarations with values gives these
   pub record IsDeclared (first : List Value) : Type 0 where
     pub index : ℕ
     pub d : Declared
@@ -49,14 +49,14 @@ module _ (given : List PersValue) (declared : List Declared) (numbers : List ℕ
   abbrev pub IsNotGiven : ℕ → Type 0
   IsNotGiven element = (value : Value) → IsGiven element value → ⊥
 
-  -- the first value of an element of the persistent, which is of this type
+  -- the first value of an element of the persistent, which has this type
   pub data IsFirstValue (sort : Sort) (element : ℕ) (value : Value) : Type 0 where
     ByScript : IsGiven element value → IsFirstValue sort element value
     ByDeclaration : IsNotGiven element → (first : List Value) → IsDeclared declared numbers k first → slice_get first element ≡ Some value → IsFirstValue sort element value
     ByType : IsNotGiven element → IsUndeclared declared numbers k → start_value sort ≡ Some value → IsFirstValue sort element value
 
-  -- the persistent has the name and the owner of its first declaration, the type and the length of each of them, and so many first
-  -- values
+  -- the persistent has the name and the owner of its first declaration, the type and the length of each of them, and
+  -- that many first values
   pub record IsPersistent (p : PersCell) : Type 0 where
     pub d : Declared
     pub is_first : IsFirst declared numbers k d

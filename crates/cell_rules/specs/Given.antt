@@ -1,4 +1,5 @@
--- What a script says of persistents: which values fit the declarations of a cell, and which rule another one breaks.
+-- What a script says about persistents: which values fit the declarations of a cell, and which rule any other one
+-- breaks.
 use Rattle.std.specs.Prelude.{◌≡◌, ℕ, ◌<◌, ◌≤◌, false, List, Option, Some, None, is_some, slice_get}
 use Rattle.rapid_model.specs.declared.pers_value.PersValue.{PersValue}
 use Rattle.rapid_model.specs.declared.script_rule.ScriptRule.{ScriptRule}
@@ -11,7 +12,7 @@ use Rattle.rapid_model.specs.Names.{IsOneName}
 use Rattle.typed_trees.specs.Plain.{TypedPers}
 use Rattle.cell_rules.specs.Declared.{Declared}
 
--- a script gives nums, truths and texts, each to a persistent of just that type
+-- a script gives nums, truth values and texts, each to a persistent of exactly that type
 abbrev pub given_sort : Value → Option Sort
 given_sort (values.Num n) = Some sorts.Num
 given_sort (values.Bool b) = Some sorts.Bool
@@ -31,23 +32,23 @@ pub record Finds (declared : List Declared) (value : PersValue) (row : TypedPers
   pub is_for : IsFor value d
   pub is_row : row ≡ d.row
 
--- a value of the type, for an element of an array or for what is no array
+-- a value of the type, for an element of an array or for a persistent that is not an array
 pub record Suits (value : PersValue) (row : TypedPers) : Type 0 where
   pub sort : given_sort value.value ≡ Some row.sort
   pub index : is_some value.index ≡ is_some row.len
 
--- the index, from 1, is that of one of so many elements
+-- the index, counted from 1, is that of one of that many elements
 abbrev pub IsInside : Option ℕ → Option ℕ → Type 0
 IsInside (Some index) (Some len) = index ≤ len
 IsInside _ _ = Unit {0}
 
--- the values are for one element of persistents of one name
+-- the values are for the same element of persistents with the same name
 pub record AreForOne (value other : PersValue) : Type 0 where
   pub named : IsOneName value.name other.name
   pub index : value.index ≡ other.index
 
 module _ (declared : List Declared) (given : List PersValue) (number : ℕ) (value : PersValue) where
-  -- the value of this number keeps the rules
+  -- the value with this number keeps the rules
   pub record IsRight : Type 0 where
     pub row : TypedPers
     pub finds : Finds declared value row
@@ -55,11 +56,11 @@ module _ (declared : List Declared) (given : List PersValue) (number : ℕ) (val
     pub inside : IsInside value.index row.len
     pub once : (before : ℕ) (other : PersValue) → before < number → slice_get given before ≡ Some other → AreForOne other value → ⊥
 
-  -- no such persistent is global
+  -- there is no such global persistent
   abbrev pub IsNoSuch : Type 0
   IsNoSuch = (row : TypedPers) → Finds declared value row → ⊥
 
-  -- the persistent is of another type, or an array without an index, or no array with one
+  -- the persistent has another type, or is an array without an index, or has an index but is not an array
   pub record IsOtherKind : Type 0 where
     pub row : TypedPers
     pub finds : Finds declared value row
@@ -83,7 +84,7 @@ module _ (declared : List Declared) (given : List PersValue) (number : ℕ) (val
     pub there : slice_get given before ≡ Some other
     pub for_one : AreForOne other value
 
-  -- the value of this number breaks the rule
+  -- the value with this number breaks the rule
   abbrev pub Breaks : ScriptRule → Type 0
   Breaks NoSuch = IsNoSuch
   Breaks Kind = IsOtherKind

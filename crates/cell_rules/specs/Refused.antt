@@ -1,4 +1,4 @@
--- Why there is no cell of a script and of the trees of its tasks.
+-- Why a script and its tasks' trees have no cell.
 use Rattle.std.specs.Prelude.{◌≡◌, ℕ, ◌<◌, List, length, Some, codes, slice_get}
 use Rattle.rapid_model.specs.ScriptData.{ScriptData}
 use Rattle.rapid_model.specs.declared.pers_value.PersValue.{PersValue}
@@ -9,8 +9,8 @@ use Rattle.cell_assembly.specs.Cells.{CellBreak, Clash, InScript}
 use Rattle.cell_rules.specs.Declared.{AreAlike, AreAlikeBefore, AreOne, Declared, declared_by}
 use Rattle.cell_rules.specs.Given.{Breaks, IsRight}
 
--- the first declaration that differs in type or length from an earlier one of the same persistent: its task, its module and the byte
--- of its name
+-- the first declaration that differs in type or length from an earlier one of the same persistent: its task, its module
+-- and the byte of its name
 pub record IsClash (declared : List Declared) (task «module» at : ℕ) : Type 0 where
   pub index : ℕ
   pub d : Declared
@@ -26,7 +26,7 @@ pub record IsClash (declared : List Declared) (task «module» at : ℕ) : Type 
   pub is_module : «module» ≡ d.row.«module»
   pub is_at : at ≡ d.row.at
 
--- declarations are alike where they are one, and the first of the script's values that breaks a rule breaks this one
+-- declarations of the same persistent agree, and the first of the script's values that breaks a rule breaks this one
 pub record IsBroken (declared : List Declared) (given : List PersValue) (key : List ℕ) (rule : ScriptRule) : Type 0 where
   pub alike : AreAlikeBefore (length declared) declared
   pub number : ℕ
@@ -36,7 +36,7 @@ pub record IsBroken (declared : List Declared) (given : List PersValue) (key : L
   pub breaks : Breaks declared given number value rule
   pub right_before : (before : ℕ) (other : PersValue) → before < number → slice_get given before ≡ Some other → IsRight declared given before other
 
--- clashes come before the script's values
+-- clashes take precedence over the script's values
 abbrev pub IsRefusal : List Declared → List PersValue → CellBreak → Type 0
 IsRefusal declared given (Clash task «module» at) = IsClash declared task «module» at
 IsRefusal declared given (InScript key rule) = IsBroken declared given key rule

@@ -1,5 +1,5 @@
-//! Laws alone: the cell of a script and of the trees of its tasks is the one that its declarations and the script say, and a
-//! refusal is the first thing that stands in its way.
+//! Theorems only: the cell of a script and of its tasks' trees is the one that the declarations and the script say, and
+//! a refusal names the first thing that is wrong.
 #![tactic(auto)]
 
 mod laws;

@@ -1,4 +1,4 @@
--- The arm of six angles.
+-- The arm at six angles.
 use Rattle.std.proofs.Common.{◌≡◌, ℤ, List, [], ◌∷◌, ◌++◌, length, get_or, Some, None, ◌==◌, if◌then◌else◌, refl, arith}
 use Rattle.std.specs.Prelude.{pos, Option}
 use Rattle.rapid_num.specs.Reach.{absent_axes}

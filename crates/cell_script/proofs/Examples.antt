@@ -1,4 +1,4 @@
--- The definitions on small scripts, worked by hand.
+-- The definitions on small scripts, worked out by hand.
 use Rattle.std.proofs.Common.{◌≡◌, [], ◌∷◌, codes, None, Ok, Err, refl}
 use Rattle.std.specs.Fmt.{digits}
 use Rattle.std.specs.Prelude.{pos}
@@ -7,7 +7,7 @@ use Rattle.rapid_model.specs.declared.script_rule.ScriptRule.TheVariants.{NoKey,
 use Rattle.cell_script.specs.Rows.{task_of}
 use Rattle.cell_script.specs.ScriptOf.{script_of_keys, script_of}
 
--- a task with these further keys, of which each comes before `modules`
+-- a task with these further keys, each of which is checked before `modules`
 abbrev task : (Members → Members) → Data
 task more = table (more (member (codes "modules") (array (item (string (codes "a.mod")) no_items)) (member (codes "name") (string (codes "A")) no_members)))
 
@@ -30,7 +30,7 @@ an_unknown_key : script_of (script (task nothing_more) (member (codes "zones") (
 unfolding script_of_keys task_of
 an_unknown_key = refl
 
--- the key of an element comes before the script's own unknown ones
+-- an element's key is reported before the script's own unknown keys
 an_unknown_key_of_a_task : script_of (script (task (member (codes "base") (integer (pos 1)))) (member (codes "zones") (integer (pos 1)))) ≡ Err (record { key = codes "task[0].base"; rule = UnknownKey })
 unfolding digits script_of_keys task_of
 an_unknown_key_of_a_task = refl

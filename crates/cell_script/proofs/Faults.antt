@@ -6,6 +6,6 @@ use Rattle.cell_script.specs.declared.fault.ScriptFault.TheVariants.{Rule}
 use Rattle.cell_script.specs.Break.{Read, shown, at_key}
 use Rattle.cell_script.specs.Gives.{Fails}
 
--- the fault of a rule that is broken at a key
+-- the fault of a rule broken at a key
 pub Fails-broken : {A : Type 0} (fault : ScriptFault) (key : List ℕ) (rule : ScriptRule) (read : Read A) → fault ≡ Rule (shown key) rule → read ≡ Err (at_key key rule) → Fails fault read
 Fails-broken fault key rule read is at = rw (is, at) refl

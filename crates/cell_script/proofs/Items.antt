@@ -9,7 +9,7 @@ pub items_list-view : (items : List Value) → items_list (items_view items) ≡
 items_list-view [] = refl
 items_list-view (item ∷ items) = ap (λ ds. view item ∷ ds) (items_list-view items)
 
--- what is there already, and what is still read
+-- what is already collected, and what is still to be read
 abbrev pub with_front : {A : Type 0} → List A → Option (List A) → Option (List A)
 with_front front None = None
 with_front front (Some xs) = Some (front ++ xs)

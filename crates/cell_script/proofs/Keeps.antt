@@ -1,4 +1,4 @@
--- What is true of each value that keys may be read as.
+-- What holds of each value that keys may be read as.
 use Rattle.std.proofs.Common.{List, ℕ, Option, Some, None}
 use Rattle.toml.specs.Data.{Data}
 use Rattle.rule_checks.proofs.Keeps.{Keeps}

@@ -1,4 +1,4 @@
--- Names that are read keep their form and differ; numbers that are read are those of rows.
+-- Names that are read are well formed and distinct; numbers that are read are numbers of rows.
 use Rattle.std.proofs.Common.{◌≡◌, ℕ, Bool, true, false, not, ◌&&◌, ◌||◌, nat_lt, List, [], ◌∷◌, ◌++◌, length, map, Some, None, Ok, if◌then◌else◌, refl, sym, ◌∙◌}
 use Rattle.std.specs.List.{position, position_or_len}
 use Rattle.std.specs.Char.{to_ascii_lowercase}
@@ -49,7 +49,7 @@ found_below test xs n e = by_test (position_or_len test xs) (nat_lt (position_or
     by_test m true is e = let same : m ≡ n = cc in rw (← same) is
     by_test m false is e = absurd cc
 
--- a number of one of so many rows
+-- a number below that many rows
 abbrev pub IsOf : {A : Type 0} → List A → ℕ → Type 0
 IsOf rows n = nat_lt n (length rows) ≡ true
 
@@ -59,7 +59,7 @@ number_keeps key name rows d =
     Keeps-found (IsOf rows) (position (str_eq_ignore_ascii_case text) (map name rows)) (at_key key NoSuch) (λ n e.
     rw length-map at (found_below (str_eq_ignore_ascii_case text) (map name rows) n e)))
 
--- two names are the same in either order
+-- equality of two names does not depend on their order
 same_names : (a b : List ℕ) → str_eq_ignore_ascii_case a b ≡ str_eq_ignore_ascii_case b a
 same_names a b =
     let one = bytes_eq-Decides (map to_ascii_lowercase a) (map to_ascii_lowercase b) in
@@ -76,7 +76,7 @@ and_not a b e h = rw e h
 both_not : (a b : Bool) → a ≡ false → b ≡ false → (a || b) ≡ false
 both_not a b e h = rw e h
 
--- one name more at the end
+-- one more name at the end
 among_more : (name : List ℕ) (names : List (List ℕ)) (last : List ℕ) → is_among name names ≡ false → str_eq_ignore_ascii_case name last ≡ false → is_among name (names ++ (last ∷ [])) ≡ false
 among_more name [] last none other = both_not (str_eq_ignore_ascii_case name last) false other refl
 among_more name (n ∷ names) last none other =

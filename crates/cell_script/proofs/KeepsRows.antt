@@ -1,4 +1,4 @@
--- Rows that are read in turn.
+-- Rows that are read one after another.
 use Rattle.std.proofs.Common.{◌≡◌, ℕ, ◌+◌, ◌≤◌, Bool, true, ◌&&◌, nat_le, List, [], ◌∷◌, ◌++◌, length, map, Ok, Err, refl, ap, ◌∙◌, arith}
 use Rattle.std.specs.List.{list_all}
 use Rattle.std.proofs.lemmas.Bool.{and_parts, and_from, leb-true}
@@ -18,7 +18,7 @@ use Rattle.cell_script.proofs.KeepsNames.{IsNew, differ_more}
 abbrev pub IsAt : {A : Type 0} → (A → Bool) → A → Type 0
 IsAt test x = test x ≡ true
 
--- each row is so, and there are as many as elements
+-- each row satisfies this, and there are as many as elements
 pub record Rows {A : Type 0} (test : A → Bool) (count : ℕ) (rows : List A) : Type 0 where
   pub each : list_all test rows ≡ true
   pub count_is : length rows ≡ count
@@ -42,7 +42,7 @@ each_differs {A} name read before (d ∷ ds) row so_far =
     Keeps-then P Q (read before d) (λ x. each_row read (before ++ (x ∷ [])) ds) (row before d) (λ x new.
     each_differs name read (before ++ (x ∷ [])) ds row (ap differ (map-append name before (x ∷ [])) ∙ differ_more (map name before) (name x) so_far new))
 
--- the rows of an array of so many
+-- the rows of an array of bounded length
 pub record SoMany {A : Type 0} (test : A → Bool) (low high : ℕ) (rows : List A) : Type 0 where
   pub each : list_all test rows ≡ true
   pub at_least : low ≤ length rows

@@ -1,4 +1,4 @@
--- The keys of a table that are not known.
+-- The unknown keys of a table.
 use Rattle.std.proofs.Common.{◌≡◌, ℕ, Bool, List, [], ◌∷◌, map, Option, Some, if◌then◌else◌, String, Global, string_bytes, Bor, refl, sym, ap, ◌∙◌}
 use Rattle.std.specs.Prelude.{bytes_eq}
 use Rattle.std.specs.List.{list_any}
@@ -12,7 +12,7 @@ pub keys_of-view : (entries : List (String Global × Value)) → map string_byte
 keys_of-view [] = refl
 keys_of-view (e ∷ entries) = ap (λ keys. string_bytes e.0 ∷ keys) (keys_of-view entries)
 
--- one key more
+-- one more key
 pub unknown_more : (known : List (Bor (List ℕ))) (text : List ℕ) (rest : List (String Global)) (left : List (String Global)) (first : String Global) (found : Bool)
     → left ≡ first ∷ rest → text ≡ string_bytes first → found ≡ list_any (λ word. bytes_eq text word.now) known
     → first_unknown (map (λ word. word.now) known) (map string_bytes left) ≡ (if found then first_unknown (map (λ word. word.now) known) (map string_bytes rest) else Some text)

@@ -54,7 +54,7 @@ files_keep key d =
     let Q : List (List ℕ) → Type 0 = λ files. (is_within 1 16 (length files) && list_all is_file_name files) ≡ true in
     Keeps-any Q (list_at key as_str d) _ (λ files. Keeps-must Q (is_within 1 16 (length files) && list_all is_file_name files) (at_key key Range) (Ok files) (λ e. e))
 
--- axes 1 to 6 reach equally far
+-- axes 1 to 6 all reach equally far
 six_in_reach : (angles : List ℤ) → length angles ≡ 6 → are_in_reach 0 angles ≡ list_all (is_in_reach 0) angles
 six_in_reach [] six = absurd (omega arith)
 six_in_reach (a ∷ []) six = absurd (omega arith)
@@ -81,7 +81,7 @@ arm_keeps key d =
     let parts = and_parts (length angles == 6) (list_all (is_in_reach 0) angles) e in
     position angles (record { axis = angles ++ absent_axes 6 }) parts.1 (eqb-true (length angles) 6 parts.0) refl))
 
--- an arm of version 1 has six axes, and starts at a position
+-- an arm of version 1 has six axes, and starts from a position
 record Starts (arm : Option Joints) : Type 0 where
   pub few : takes_axes 1 (axes_of arm) ≡ true
   pub start : is_start (axes_of arm) arm ≡ true
@@ -135,7 +135,7 @@ given_keeps keys (Some d) None (Some f) = tt
 given_keeps keys None (Some e) (Some f) = tt
 given_keeps keys (Some d) (Some e) (Some f) = tt
 
--- a whole number where it is there
+-- an optional whole number
 pub optional_whole_keeps : (key : List ℕ) (low high : ℕ) (o : Option Data) → Keeps (λ n. holds_where_there (is_within low high) n ≡ true) (optional None (λ d. whole_at key low high d >>= (λ n. Ok (Some n))) o)
 optional_whole_keeps key low high o =
     let Q : Option ℕ → Type 0 = λ n. holds_where_there (is_within low high) n ≡ true in

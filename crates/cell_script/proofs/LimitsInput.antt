@@ -22,7 +22,7 @@ signal_is_input key signals d =
     let Q : ℕ → Type 0 = λ n. is_input_signal signals n ≡ true in
     Keeps-any Q (number_at key (map (λ row. row.name) signals) d) _ (λ n. Keeps-must Q (is_input_signal signals n) (at_key key NoSuch) (Ok n) (λ e. e))
 
--- a pair, of two values that are each so
+-- a pair of values that both satisfy their conditions
 pair_keeps : {A B : Type 0} (test : A × B → Bool) (P : A → Type 0) (Q : B → Type 0) (first second : List ℕ) (read_first : Data → Read A) (read_second : Data → Read B) (o p : Option Data)
     → ((d : Data) → Keeps P (read_first d)) → ((e : Data) → Keeps Q (read_second e)) → ((x : A) (y : B) → P x → Q y → test (x, y) ≡ true)
     → Keeps (λ pair. holds_where_there test pair ≡ true) (both_at first second read_first read_second o p)

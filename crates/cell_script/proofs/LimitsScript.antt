@@ -23,7 +23,7 @@ use Rattle.cell_script.proofs.Limits.{whole_keeps, signal_keeps, task_keeps, per
 use Rattle.cell_script.proofs.LimitsZone.{zone_keeps}
 use Rattle.cell_script.proofs.LimitsInput.{input_keeps}
 
--- the first of two facts, and the second
+-- two facts, one after the other
 first_kept : {A : Type 0} (P Q : A → Type 0) (read : Read A) → Keeps (λ x. P x × Q x) read → Keeps P read
 first_kept P Q (Ok x) both = both.0
 first_kept P Q (Err b) both = tt
@@ -32,7 +32,7 @@ second_kept : {A : Type 0} (P Q : A → Type 0) (read : Read A) → Keeps (λ x.
 second_kept P Q (Ok x) both = both.1
 second_kept P Q (Err b) both = tt
 
--- the rows of an array that may be left out
+-- the rows of an optional array
 optional_rows : {A : Type 0} (test : A → Bool) (key : List ℕ) (high : ℕ) (read : List A → Data → Read A) (o : Option Data) → ((b : List A) (e : Data) → Keeps (IsAt test) (read b e))
     → Keeps (SoMany test 0 high) (optional [] (rows_in key 0 high read) o)
 optional_rows test key high read o row =

@@ -41,7 +41,7 @@ axes_keep key d =
     Keeps-must AreAxes (not (length axes == 0) && are_axes axes) (at_key key Range) (Ok axes) (λ e.
     let parts = and_parts (not (length axes == 0)) (are_axes axes) e in record { some = parts.0; ascend = parts.1 }))
 
--- so many bounds in reach
+-- that many bounds in reach
 record AreBounds (count : ℕ) (bounds : List ℤ) : Type 0 where
   pub count_is : length bounds ≡ count
   pub reach : list_all (is_in_reach 0) bounds ≡ true
@@ -62,7 +62,7 @@ highs_keep key lows d =
     Keeps-then (AreBounds (length lows)) (AreHighs lows) (bounds_at key (length lows) d) _ (bounds_keep key (length lows) d) (λ highs are.
     Keeps-must (AreHighs lows) (each_below lows highs) (at_key key Range) (Ok highs) (λ e. record { count_is = are.count_is; reach = are.reach; below = e }))
 
--- the bound of an axis, where it is there, is one
+-- the bound of an axis, if there is one, is one of the bounds
 bounded : (axis : ℕ) (axes lows highs : List ℤ) → list_all (is_in_reach 0) lows ≡ true → list_all (is_in_reach 0) highs ≡ true → each_below lows highs ≡ true
     → holds_where_there (is_bounded 0) (bound_of axis axes lows highs) ≡ true
 bounded axis [] lows highs low high below = refl
@@ -79,11 +79,11 @@ bounded axis (a ∷ axes) (l ∷ lows) (h ∷ highs) low high below =
     by_test true here more = here
     by_test false here more = more
 
--- one more axis is bounded
+-- one more axis has a bound
 bounded_more : (axis : ℕ) (bound : Option Bound) (bounds : List (Option Bound)) → holds_where_there (is_bounded axis) bound ≡ true → are_bounded (axis + 1) bounds ≡ true → are_bounded axis (bound ∷ bounds) ≡ true
 bounded_more axis bound bounds here more = and_from (holds_where_there (is_bounded axis) bound) (are_bounded (axis + 1) bounds) here more
 
--- axes 1 to 6 reach equally far
+-- axes 1 to 6 all reach equally far
 six_all : (f : ℕ → Option Bound) → ((n : ℕ) → holds_where_there (is_bounded 0) (f n) ≡ true) → are_bounded 0 (f 1 ∷ f 2 ∷ f 3 ∷ f 4 ∷ f 5 ∷ f 6 ∷ []) ≡ true
 six_all f each =
     let sixth : are_bounded 5 (f 6 ∷ []) ≡ true = bounded_more 5 (f 6) [] (each 6) refl in
@@ -128,7 +128,7 @@ shape_keeps inside axes lows highs are low high =
     (and_from (list_any is_some (f 1 ∷ f 2 ∷ f 3 ∷ f 4 ∷ f 5 ∷ f 6 ∷ [])) (are_bounded 0 (f 1 ∷ f 2 ∷ f 3 ∷ f 4 ∷ f 5 ∷ f 6 ∷ []))
     (some_bound axes lows highs are low.count_is high.count_is) (six_all f (λ n. bounded n axes lows highs low.reach high.reach high.below))) refl
 
--- an arm of version 1 that is there has six axes
+-- an arm of version 1, if there is one, has six axes
 six_axes : (axes : ℕ) (arm : Option Joints) → takes_axes 1 axes ≡ true → is_start axes arm ≡ true → nat_lt 0 axes ≡ true → axes ≡ 6
 six_axes axes None few start there = absurd (omega (arith, eqb-true axes 0 start, ltb-true 0 axes there))
 six_axes axes (Some arm) few start there =

@@ -17,7 +17,7 @@ pub list_any-map : {A B : Type 0} (test : B → Bool) (f : A → B) (xs : List A
 list_any-map test f [] = refl
 list_any-map test f (x ∷ xs) = ap (λ more. test (f x) || more) (list_any-map test f xs)
 
--- a name by its form, and by the words
+-- a name, by its form and by the words of checks
 pub name_of_form : (key : List ℕ) (d : Data) (text bytes : List ℕ) (form word : Bool) → text_at key d ≡ Ok text → bytes ≡ text → form ≡ is_short_name bytes → word ≡ is_reserved bytes
     → name_at key d ≡ (must (form && not word) (at_key key Name) >> Ok bytes)
 name_of_form key d text bytes form word read same is_form is_word = rw (read, is_form, is_word, same) refl
@@ -36,12 +36,12 @@ number_of_row key name rows d text bytes found read same is =
     let at : position (str_eq_ignore_ascii_case text) (map name rows) ≡ found = position-map (str_eq_ignore_ascii_case text) name rows ∙ sym (rw same at is) in
     rw (read, at) refl
 
--- a name, and whether it is another row's
+-- a name, and whether another row has it
 pub new_name : {A : Type 0} (key : List ℕ) (name : A → List ℕ) (rows : List A) (text bytes : List ℕ) (twice : Bool) → bytes ≡ text
     → twice ≡ list_any (λ row. str_eq_ignore_ascii_case bytes (name row)) rows → is_among text (map name rows) ≡ twice
 new_name key name rows text bytes twice same is = list_any-map (str_eq_ignore_ascii_case text) name rows ∙ sym (rw same at is)
 
--- the name of a signal by what is asked of it
+-- the name of a signal, by what is required of it
 pub signal_name_by : (key : List ℕ) (names : List (List ℕ)) (d : Data) (name : List ℕ) (known twice : Bool) → name_at key d ≡ Ok name → known ≡ is_predefined name → twice ≡ is_among name names
     → signal_name_at key names d ≡ (must (not known) (at_key key Name) >> (must (not twice) (at_key key Twice) >> Ok name))
 signal_name_by key names d name known twice read is_known is_twice = rw (read, is_known, is_twice) refl

@@ -1,4 +1,4 @@
--- What is shown of a key, byte by byte.
+-- How a key is shown, byte by byte.
 use Rattle.std.proofs.Common.{◌+◌, get_or, ◌≡◌, ℕ, ◌<◌, Bool, true, false, nat_lt, List, [], ◌∷◌, ◌++◌, length, map, take, if◌then◌else◌, inl, inr, refl, sym, ap, ◌∙◌, arith, append_assoc}
 use Rattle.std.proofs.lemmas.Bool.{cases_lt, lt-ltb, le-ltb}
 use Rattle.std.proofs.lemmas.List.{map-append, take-append-le, take_all, length-take-le, length-append, take_more}
@@ -28,7 +28,7 @@ printable_shown b = by_test (is_printable b) refl
 pub shown_more : (front : List ℕ) (b : ℕ) → shown (front ++ b ∷ []) ≡ (if takes 80 (shown front) (shown_byte b) then shown front ++ shown_byte b ∷ [] else shown front)
 shown_more front b = rw (map-append shown_byte front (b ∷ []), printable_shown b) (take_one 80 (map shown_byte front) (shown_byte b))
 
--- one byte more of some bytes
+-- one more byte
 pub shown_next : (front bytes text : List ℕ) (i d : ℕ) (taken : Bool) (now : List ℕ) → i < length bytes → text ≡ shown (front ++ take i bytes)
     → taken ≡ takes 80 text (shown_byte (get_or bytes i d)) → now ≡ (if taken then text ++ shown_byte (get_or bytes i d) ∷ [] else text)
     → now ≡ shown (front ++ take (i + 1) bytes)

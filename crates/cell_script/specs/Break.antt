@@ -1,4 +1,4 @@
--- A rule of the script that is broken, and the key at which it is.
+-- A broken rule of the script, and the key where it is broken.
 use Rattle.std.specs.Prelude.{ℕ, List, [], ◌∷◌, ◌++◌, map, take, decimal, Result, if◌then◌else◌}
 use Rattle.rapid_limits.specs.declared.TheConstants.{LONGEST_STRING}
 use Rattle.rapid_num.specs.Characters.{is_printable}
@@ -11,7 +11,7 @@ pub record ScriptBreak : Type 0 where
 abbrev pub Read : Type 0 → Type 0
 Read A = Result A ScriptBreak
 
--- a key of the table at a path, the script's own path being empty: `steps`, `task[0].arm`
+-- a key of the table at a path; the script's own path is empty: `steps`, `task[0].arm`
 abbrev pub key_in : List ℕ → List ℕ → List ℕ
 key_in [] key = key
 key_in (b ∷ bs) key = (b ∷ bs) ++ (46 ∷ key)
@@ -23,7 +23,7 @@ element_key key index = key ++ (91 ∷ decimal index ++ (93 ∷ []))
 abbrev pub shown_byte : ℕ → ℕ
 shown_byte b = if is_printable b then b else 63
 
--- how a refusal shows a key: a question mark for a byte that is not printable, and 80 bytes at most
+-- how a refusal shows a key: a question mark for an unprintable byte, and at most 80 bytes
 abbrev pub shown : List ℕ → List ℕ
 shown key = take LONGEST_STRING (map shown_byte key)
 

@@ -7,22 +7,22 @@ use Rattle.rule_checks.specs.Checks.{◌>>=◌}
 use Rattle.cell_script.specs.Break.{Read}
 use Rattle.cell_script.specs.Keys.{Keys, at, needed, optional, whole_at, list_at, rows_at, each_row}
 
--- what is read of a value, where it is there
+-- what an optional value is read as
 abbrev pub where_there : {A : Type 0} → (Data → Read A) → Option Data → Read (Option A)
 where_there read value = optional None (λ d. read d >>= (λ x. Ok (Some x))) value
 
--- the rows of an array of so many tables
+-- the rows of an array of that many tables
 abbrev pub rows_in : {A : Type 0} → List ℕ → ℕ → ℕ → (List A → Data → Read A) → Data → Read (List A)
 rows_in key low high read d = rows_at key low high d >>= each_row read []
 
--- the same at a key that is needed
+-- the same for a required key
 abbrev pub needed_rows : {A : Type 0} → Keys → List ℕ → ℕ → ℕ → (List A → Data → Read A) → Read (List A)
 needed_rows keys key low high read = needed keys key >>= rows_at (at keys key) low high >>= each_row read []
 
--- integers, where each is within 720 degrees
+-- integers, each within 720 degrees
 abbrev pub angles_in : List ℕ → Data → Read (Option (List ℤ))
 angles_in key d = list_at key as_integer d >>= (λ angles. Ok (if list_all (is_in_reach 0) angles then Some angles else None))
 
--- a whole number in a range at a key that is needed
+-- a whole number in a range, for a required key
 abbrev pub needed_whole : Keys → List ℕ → ℕ → ℕ → Read ℕ
 needed_whole keys key low high = needed keys key >>= whole_at (at keys key) low high

@@ -1,5 +1,5 @@
--- The rows of a script: a signal, a task, a persistent's value, a zone, an input. The keys of each stand in the order in
--- which they are checked; a key that is not known is found last.
+-- The rows of a script: a signal, a task, a persistent's value, a zone, an input. The keys of each are listed in the
+-- order in which they are checked; an unknown key is reported last.
 use Rattle.std.specs.Prelude.{ℕ, Bool, true, false, not, ◌&&◌, nat_le, ℤ, pos, negsuc, neg_ℤ, int_lt, List, [], ◌∷◌, ◌++◌, length, map, replicate, codes, Option, Some, None, Ok, Err, ◌==◌, if◌then◌else◌}
 use Rattle.std.specs.List.{list_all}
 use Rattle.std.specs.Option.{option_map}
@@ -27,7 +27,7 @@ use Rattle.rule_checks.specs.Checks.{◌>>=◌, ◌>>◌, must, found_or}
 use Rattle.cell_script.specs.Break.{Read, at_key}
 use Rattle.cell_script.specs.Keys.{Keys, at, value_of, needed, optional, only_keys, text_at, whole_at, bit_at, word_at, name_at, number_at, list_at, table_at, pair_at}
 
--- the name of a signal is no predefined name and no other signal's
+-- a signal's name is not predefined and not another signal's
 abbrev pub signal_name_at : List ℕ → List (List ℕ) → Data → Read (List ℕ)
 signal_name_at key others d = do
   name ← name_at key d
@@ -43,7 +43,7 @@ signal_of before d = do
   start ← optional false (bit_at (at keys (codes "start"))) (value_of keys (codes "start"))
   only_keys keys (codes "name" ∷ codes "kind" ∷ codes "start" ∷ []) (Ok (record { name = name; output = output; start = start }))
 
--- the name of a task is no other task's
+-- a task's name is not another task's
 abbrev pub task_name_at : List ℕ → List (List ℕ) → Data → Read (List ℕ)
 task_name_at key others d = do
   name ← name_at key d
@@ -57,14 +57,14 @@ files_at key d = do
   must (is_within 1 MOST_MODULES (length files) && list_all is_file_name files) (at_key key Range)
   Ok files
 
--- six angles within 720 degrees, in thousandths; external axes are not there, which come with version 2
+-- six angles within 720 degrees, in thousandths; there are no external axes, which come with version 2
 abbrev pub arm_at : List ℕ → Data → Read Joints
 arm_at key d = do
   angles ← list_at key as_integer d
   must (length angles == 6 && list_all (is_in_reach 0) angles) (at_key key Range)
   Ok (record { axis = angles ++ absent_axes 6 })
 
--- how many axes an arm has where there is one
+-- how many axes an arm has, if there is one
 abbrev pub axes_of : Option Joints → ℕ
 axes_of None = 0
 axes_of (Some arm) = 6
@@ -77,7 +77,7 @@ task_of before d = do
   arm ← optional None (λ a. arm_at (at keys (codes "arm")) a >>= (λ arm. Ok (Some arm))) (value_of keys (codes "arm"))
   only_keys keys (codes "name" ∷ codes "modules" ∷ codes "arm" ∷ []) (Ok (record { name = name; modules = modules; arm = arm; axes = axes_of arm }))
 
--- the number of a numerical literal with an optional minus before it, which is not one of its 30 bytes
+-- the num of a numeric literal of at most 30 bytes, optionally after a minus sign
 abbrev pub signed_literal : List ℕ → Option ℤ
 signed_literal [] = None
 signed_literal (b ∷ bs) = if b == 45 then option_map neg_ℤ (literal_value bs) else literal_value (b ∷ bs)
@@ -93,14 +93,14 @@ truth_value_at key d = do
   truth ← found_or (as_bool d) (at_key key Kind)
   Ok (values.Bool truth)
 
--- a text of at most 80 bytes from 20 to 7E hexadecimal
+-- a text of at most 80 bytes, each 20 to 7E hexadecimal
 abbrev pub text_value_at : List ℕ → Data → Read Value
 text_value_at key d = do
   text ← text_at key d
   must (nat_le (length text) LONGEST_STRING && list_all is_printable text) (at_key key Range)
   Ok (values.Text text)
 
--- the value at the one of the keys num, bool and text that is there
+-- the value of whichever of the keys num, bool and text is given
 abbrev pub given_value : Keys → Option Data → Option Data → Option Data → Read Value
 given_value keys (Some d) None None = number_value_at (at keys (codes "num")) d
 given_value keys None (Some d) None = truth_value_at (at keys (codes "bool")) d
@@ -128,7 +128,7 @@ abbrev pub is_axis : ℤ → Bool
 is_axis (pos a) = is_within 1 6 a
 is_axis (negsuc a) = false
 
--- the integers ascend, each from 1 to 6
+-- the integers are ascending, each from 1 to 6
 abbrev pub are_axes : List ℤ → Bool
 are_axes [] = true
 are_axes (a ∷ []) = is_axis a
@@ -152,7 +152,7 @@ abbrev pub each_below : List ℤ → List ℤ → Bool
 each_below (l ∷ ls) (h ∷ hs) = int_lt l h && each_below ls hs
 each_below _ _ = true
 
--- high bounds: as low ones, and each above its low one
+-- high bounds: like the low ones, and each above its low one
 abbrev pub high_bounds_at : List ℕ → List ℤ → Data → Read (List ℤ)
 high_bounds_at key lows d = do
   highs ← bounds_at key (length lows) d
@@ -163,7 +163,7 @@ abbrev pub is_axis_number : ℤ → ℕ → Bool
 is_axis_number (pos a) axis = a == axis
 is_axis_number (negsuc a) axis = false
 
--- the bound of an axis, from 1, where it is one of these axes
+-- the bound of an axis, counted from 1, if it is one of these axes
 abbrev pub bound_of : ℕ → List ℤ → List ℤ → List ℤ → Option Bound
 bound_of axis (a ∷ axes) (low ∷ lows) (high ∷ highs) =
     if is_axis_number a axis then Some (record { low = low; high = high }) else bound_of axis axes lows highs

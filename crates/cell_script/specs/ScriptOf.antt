@@ -1,4 +1,4 @@
--- What the text of a cell script stands for.
+-- What the text of a cell script means.
 use Rattle.std.specs.Prelude.{◌≡◌, ◌⊎◌, ℕ, List, [], ◌∷◌, codes, Some, None, Ok, Err}
 use Rattle.std.specs.Str.{IsUtf8}
 use Rattle.rapid_limits.specs.declared.TheConstants.{DEFAULT_STEPS, MOST_CELL_ZONES, MOST_INPUTS, MOST_PERS_VALUES, MOST_SIGNALS, MOST_STEPS, MOST_TASKS_AT_FIRST}
@@ -13,7 +13,7 @@ use Rattle.cell_script.specs.Break.{ScriptBreak, Read}
 use Rattle.cell_script.specs.Keys.{Keys, needed, optional, value_of, only_keys, whole_at, rows_at, each_row}
 use Rattle.cell_script.specs.Rows.{signal_of, task_of, pers_of, zone_of, input_of}
 
--- the script that a table stands for, or the first rule that it breaks, by the order of its keys
+-- the script that a table spells, or the first rule that it breaks, in the order of its keys
 unfoldable pub script_of_keys : Keys → Read ScriptData
 script_of_keys keys = do
   version ← needed keys (codes "version") >>= whole_at (codes "version") 1 1
@@ -34,7 +34,7 @@ pub record IsTable (text : List ℕ) (members : Members) : Type 0 where
   pub utf8 : IsUtf8 text
   pub table : parse_document text ≡ Some members
 
--- the text is no TOML, which is said of the script as a whole: its key is empty
+-- the text is not TOML, which is reported for the script as a whole: the key is empty
 pub record IsNoToml (text : List ℕ) (broken : ScriptBreak) : Type 0 where
   pub is : broken ≡ record { key = []; rule = NotToml }
   pub refused : IsUtf8 text → parse_document text ≡ None
@@ -44,7 +44,7 @@ abbrev pub ScriptOf : List ℕ → Read ScriptData → Type 0
 ScriptOf text (Ok script) = (members : Members) × IsTable text members × (script_of members ≡ Ok script)
 ScriptOf text (Err broken) = IsNoToml text broken ⊎ ((members : Members) × IsTable text members × (script_of members ≡ Err broken))
 
--- why a text was refused: the rule that it breaks, and its key; want of memory says nothing of the text
+-- why a text was refused: the broken rule and its key; out of memory says nothing about the text
 abbrev pub FaultOf : List ℕ → ScriptFault → Type 0
 FaultOf text (Rule key rule) = ScriptOf text (Err (record { key = key; rule = rule }))
 FaultOf text Memory = Unit {0}

@@ -16,7 +16,7 @@ use rapid_num::Num;
 use std::alloc::{AllocError, Global};
 use toml::Value;
 
-/// An array of integers, as angles: `None` where one is past 720 degrees.
+/// An array of integers, as angles: `None` if one is past 720 degrees.
 pub(crate) fn angles_at(
     alloc: Global,
     keys: &TableKeys<'_>,

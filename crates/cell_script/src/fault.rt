@@ -7,9 +7,9 @@ use std::alloc::{AllocError, AllocFailed};
 /// Why a script was refused.
 #[derive(Debug, Drop)]
 pub enum ScriptFault {
-    /// The rule that is broken first, and the key at which it is; the empty key is the script as a whole.
+    /// The first broken rule, and the key where it is broken; the empty key means the script as a whole.
     Rule { key: Text, rule: ScriptRule },
-    /// Memory was refused.
+    /// An allocation failed.
     Memory,
 }
 

@@ -19,7 +19,7 @@ use rapid_model::{InputRow, ScriptRule, ScriptTask, SignalRow};
 use std::alloc::Global;
 use toml::Value;
 
-/// The steps of the input script: none where the key is not there.
+/// The steps of the input script: none if the key is missing.
 pub(crate) fn inputs_in(
     alloc: Global,
     keys: &TableKeys<'_>,
@@ -123,7 +123,7 @@ fn is_input_signal(signals: &[SignalRow], number: u32) -> bool
     }
 }
 
-/// The signal and its value for which the step waits, if it waits for one.
+/// The signal and its value that the step waits for, if any.
 fn when_of(keys: &TableKeys<'_>, signals: &[SignalRow]) -> Result<Option<(u32, bool)>, ScriptFault>
     requires { length signals.now ≤ MOST_SIGNALS }
     ensures { Gives (λ pair. pair) result (pair_at (view_keys keys.now) (codes "when") (codes "is") (number_at (at (view_keys keys.now) (codes "when")) (map (λ row. row.name) signals.now)) (bit_at (at (view_keys keys.now) (codes "is")))) }
@@ -142,7 +142,7 @@ fn when_of(keys: &TableKeys<'_>, signals: &[SignalRow]) -> Result<Option<(u32, b
     }
 }
 
-/// The task and the count of its setpoints for which the step waits, if it waits for one.
+/// The task and the number of its setpoints that the step waits for, if any.
 fn given_of(keys: &TableKeys<'_>, tasks: &[ScriptTask]) -> Result<Option<(u32, u32)>, ScriptFault>
     requires { length tasks.now ≤ MOST_TASKS }
     ensures { Gives (λ pair. pair) result (pair_at (view_keys keys.now) (codes "task") (codes "setpoints") (number_at (at (view_keys keys.now) (codes "task")) (map (λ task. task.name) tasks.now)) (whole_at (at (view_keys keys.now) (codes "setpoints")) 0 MOST_STEPS)) }
@@ -161,7 +161,7 @@ fn given_of(keys: &TableKeys<'_>, tasks: &[ScriptTask]) -> Result<Option<(u32, u
     }
 }
 
-/// How many counted events the step waits for, if it waits for any.
+/// How many counted events the step waits for, if any.
 fn after_of(keys: &TableKeys<'_>) -> Result<Option<u32>, ScriptFault>
     ensures { Gives (λ after. after) result (where_there (whole_at (at (view_keys keys.now) (codes "after")) 0 MOST_STEPS) (value_of (view_keys keys.now) (codes "after"))) }
 {

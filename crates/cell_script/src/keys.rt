@@ -13,7 +13,7 @@ use crate::path::{Path, shown_element};
 use rapid_model::ScriptRule;
 use toml::{Table, Value};
 
-/// A table of the script, and where it stands.
+/// A table of the script, and where it is.
 #[derive(Clone, Copy)]
 pub(crate) struct TableKeys<'a> {
     pub(crate) path: Path,
@@ -21,14 +21,14 @@ pub(crate) struct TableKeys<'a> {
 }
 
 impl<'a> TableKeys<'a> {
-    /// The value at a key.
+    /// The value of a key.
     pub(crate) fn value(&self, key: &str) -> Option<&'a Value>
         ensures { option_map (λ v. view v.now) result ≡ value_of (view_keys self.now) key.now }
     {
         self.table.get(key)
     }
 
-    /// A rule that is broken at a key.
+    /// A rule broken at a key.
     pub(crate) fn broken(&self, key: &str, rule: ScriptRule) -> ScriptFault
         ensures { result ≡ Rule (shown (at (view_keys self.now) key.now)) rule }
     {
@@ -48,7 +48,7 @@ impl<'a> TableKeys<'a> {
         }
     }
 
-    /// The value at a key that is needed.
+    /// The value of a required key.
     pub(crate) fn needed(&self, key: &str) -> Result<&'a Value, ScriptFault>
         ensures { Gives (λ v. view v.now) result (needed (view_keys self.now) key.now) }
     {
@@ -57,7 +57,7 @@ impl<'a> TableKeys<'a> {
             None => Err(self.broken(key, ScriptRule::NoKey)),
         }
     }
-    /// What follows, where there are no other keys than these.
+    /// Passes the value on if the table has no other keys.
     pub(crate) fn only<T: Drop>(&self, known: &[&str], next: T) -> Result<T, ScriptFault>
         ensures { Gives (λ next. next) result (only_keys (view_keys self.now) (map (λ key. key.now) known.now) (Ok next)) }
     {

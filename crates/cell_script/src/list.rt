@@ -1,4 +1,4 @@
-//! Arrays: of plain values, and of tables.
+//! Arrays of plain values, and of tables.
 
 ghost use Rattle.std.specs.Prelude.{◌≡◌, map, option_map};
 ghost use Rattle.toml.specs.Data.{as_array, as_str, as_integer};
@@ -20,7 +20,7 @@ fn items_of(value: &Value) -> Option<&[Value]>
     Some(array.as_slice())
 }
 
-/// An array of texts alone, as names of files.
+/// An array that holds only texts, such as file names.
 pub(crate) fn texts_at(
     alloc: Global,
     keys: &TableKeys<'_>,
@@ -42,7 +42,7 @@ pub(crate) fn texts_at(
     Ok(texts)
 }
 
-/// An array of integers alone.
+/// An array that holds only integers.
 pub(crate) fn integers_at(
     alloc: Global,
     keys: &TableKeys<'_>,

@@ -1,4 +1,4 @@
-//! Names of the script: their form, and the rows that they name.
+//! Names in the script: their form, and the rows that they refer to.
 
 ghost use Rattle.std.specs.Prelude.{◌≡◌, IsTrue, map, position};
 ghost use Rattle.std.specs.List.{list_all, list_any};
@@ -17,7 +17,7 @@ use rapid_limits::LONGEST_NAME;
 use rapid_model::{NameText, ScriptRule};
 use toml::Value;
 
-/// A name that is no reserved word.
+/// A name that is not a reserved word.
 pub(crate) fn name_at(
     keys: &TableKeys<'_>,
     key: &str,
@@ -47,7 +47,8 @@ fn copy_name(bytes: &[u8]) -> NameText
     name
 }
 
-/// Whether bytes are a name (RAPID Kernel, identifiers): a letter, then letters, digits and underscores, at most 32 in all.
+/// Whether bytes are a name (RAPID Kernel, identifiers): a letter, then letters, digits and underscores, at most 32 in
+/// all.
 fn is_short_name(bytes: &[u8]) -> bool
     ensures { result ≡ is_short_name bytes.now }
 {
@@ -65,7 +66,7 @@ fn are_name_bytes(bytes: &[u8]) -> bool
     bytes.iter().all(|byte| is_name_byte(*byte))
 }
 
-/// Whether a text is this name, its letters in either case.
+/// Whether a text is this name, case-insensitively.
 pub(crate) fn is_same_name(text: &[u8], name: &NameText) -> bool
     ensures { result ≡ str_eq_ignore_ascii_case text.now name.now }
 {

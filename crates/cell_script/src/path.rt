@@ -8,7 +8,7 @@ use itoa::Buffer;
 use rapid_model::Text;
 use rapid_num::is_printable;
 
-/// Where a table stands: it is the script, or the element at this index of an array of the script.
+/// Where a table is: the script itself, or the element at this index of an array of the script.
 #[derive(Clone, Copy)]
 pub(crate) enum Path {
     Script,
@@ -58,7 +58,7 @@ pub(crate) fn shown_element(array: &str, index: usize) -> Text
     text
 }
 
-/// Appends bytes to what is shown.
+/// Appends bytes to what is shown so far.
 fn show(text: &mut Text, bytes: &[u8])
     ensures { (front : List ℕ) → text.old ≡ shown front → text.new ≡ shown (front ++ bytes.now) }
 {

@@ -20,7 +20,7 @@ use rapid_num::{Num, is_printable, read_literal};
 use std::alloc::Global;
 use toml::Value;
 
-/// The first values, in script order: none where the key is not there.
+/// The first values, in script order: none if the key is missing.
 pub(crate) fn values_in(alloc: Global, keys: &TableKeys<'_>) -> Result<Vec<PersValue>, ScriptFault>
     ensures { Gives (λ values. values.items) result (optional [] (rows_in (at (view_keys keys.now) (codes "pers")) 0 MOST_PERS_VALUES pers_of) (value_of (view_keys keys.now) (codes "pers"))) }
 {
@@ -55,7 +55,7 @@ fn pers_of(before: &[PersValue], value: &Value) -> Result<PersValue, ScriptFault
     )
 }
 
-/// The element of an array, from 1, if the value is one's.
+/// The index of an array's element, from 1, if the value is for one.
 fn index_of(keys: &TableKeys<'_>) -> Result<Option<u16>, ScriptFault>
     ensures { Gives (λ index. index) result (where_there (whole_at (at (view_keys keys.now) (codes "index")) 1 LONGEST_ARRAY) (value_of (view_keys keys.now) (codes "index"))) }
 {
@@ -65,7 +65,7 @@ fn index_of(keys: &TableKeys<'_>) -> Result<Option<u16>, ScriptFault>
     }
 }
 
-/// The value at the one of the keys `num`, `bool` and `text` that is there.
+/// The value of whichever of the keys `num`, `bool` and `text` is given.
 fn given_value(keys: &TableKeys<'_>) -> Result<Given, ScriptFault>
     ensures { Gives (λ value. value) result (given_value (view_keys keys.now) (value_of (view_keys keys.now) (codes "num")) (value_of (view_keys keys.now) (codes "bool")) (value_of (view_keys keys.now) (codes "text"))) }
 {
@@ -77,7 +77,7 @@ fn given_value(keys: &TableKeys<'_>) -> Result<Given, ScriptFault>
     }
 }
 
-/// A num by its literal, with an optional minus before it.
+/// A num from its literal, optionally after a minus sign.
 fn number_value_at(keys: &TableKeys<'_>, key: &str, value: &Value) -> Result<Given, ScriptFault>
     ensures { Gives (λ value. value) result (number_value_at (at (view_keys keys.now) key.now) (view value.now)) }
 {
@@ -110,7 +110,7 @@ fn truth_value_at(keys: &TableKeys<'_>, key: &str, value: &Value) -> Result<Give
     }
 }
 
-/// A text of at most 80 bytes from 20 to 7E hexadecimal.
+/// A text of at most 80 bytes, each 20 to 7E hexadecimal.
 fn text_value_at(keys: &TableKeys<'_>, key: &str, value: &Value) -> Result<Given, ScriptFault>
     ensures { Gives (λ value. value) result (text_value_at (at (view_keys keys.now) key.now) (view value.now)) }
 {

@@ -51,7 +51,7 @@ pub(crate) fn bit_at(keys: &TableKeys<'_>, key: &str, value: &Value) -> Result<b
     Ok(number == 1)
 }
 
-/// One of two words; the second one is true.
+/// One of two words; the second one means true.
 pub(crate) fn word_at(
     keys: &TableKeys<'_>,
     key: &str,

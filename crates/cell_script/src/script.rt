@@ -23,12 +23,12 @@ use rapid_model::{Script, ScriptRule, Sequence, Text};
 use std::alloc::Global;
 use toml::Table;
 
-/// The script that a text spells, or the first rule that it breaks, with its key. The keys of a table are checked in the
-/// order of its row: of the script `version` (1), `steps` (1 to 1000000, 100000 where it is not given), `signal`, `task`,
-/// `pers`, `zone` and `input`; each element with all its keys before the next; a key that is not known last.
+/// The script that a text spells, or the first rule that it breaks, with its key. Keys are checked in the order of
+/// their row; the script's own are `version` (1), `steps` (1 to 1000000, by default 100000), `signal`, `task`, `pers`,
+/// `zone` and `input`. Each element is checked with all its keys before the next; an unknown key is reported last.
 pub fn read_script(alloc: Global, text: &[u8]) -> Result<Script, ScriptFault>
     ensures spelled { IfOk result (λ script. ScriptOf text.now (Ok script)) }
-    // The key and the rule, exactly where the text breaks it.
+    // The key and the rule, exactly if the text breaks it.
     ensures refused { IfErr result (FaultOf text.now) }
 {
     let Ok(text) = std::str::from_utf8(text) else {
@@ -41,7 +41,7 @@ pub fn read_script(alloc: Global, text: &[u8]) -> Result<Script, ScriptFault>
     }
 }
 
-/// The text as a whole is no TOML.
+/// The text as a whole is not TOML.
 fn no_toml() -> ScriptFault
     ensures { result ≡ Rule [] NotToml }
 {
@@ -91,7 +91,7 @@ fn version_of(keys: &TableKeys<'_>) -> Result<u32, ScriptFault>
     whole_at(keys, "version", 1, 1, value)
 }
 
-/// How many events are counted at most.
+/// The greatest number of counted events.
 fn steps_of(keys: &TableKeys<'_>) -> Result<u32, ScriptFault>
     ensures { Gives (λ steps. steps) result (optional DEFAULT_STEPS (whole_at (at (view_keys keys.now) (codes "steps")) 1 MOST_STEPS) (value_of (view_keys keys.now) (codes "steps"))) }
 {

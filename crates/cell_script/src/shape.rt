@@ -5,7 +5,7 @@ ghost use Rattle.cell_script.specs.Rows.{is_axis_number, bound_of, shape_of};
 
 use rapid_num::{Bound, Num, Shape};
 
-/// The shape that has these bounds on these axes, from 1.
+/// The shape with these bounds on these axes, counted from 1.
 pub(crate) fn shape_of(inside: bool, axes: &[i64], lows: &[Num], highs: &[Num]) -> Shape
     ensures { result ≡ shape_of inside axes.now lows.now highs.now }
 {
@@ -26,7 +26,7 @@ pub(crate) fn shape_of(inside: bool, axes: &[i64], lows: &[Num], highs: &[Num]) 
     Shape { inside, bounds }
 }
 
-/// The bound of an axis, where it is one of these axes.
+/// The bound of an axis, if it is one of these axes.
 fn bound_of(axis: u8, axes: &[i64], lows: &[Num], highs: &[Num]) -> Option<Bound>
     ensures { result ≡ bound_of axis axes.now lows.now highs.now }
 {

@@ -21,7 +21,7 @@ use rapid_model::{NameText, ScriptRule, SignalRow};
 use std::alloc::Global;
 use toml::Value;
 
-/// The signals, in script order: none where the key is not there.
+/// The signals, in script order: none if the key is missing.
 pub(crate) fn signals_in(alloc: Global, keys: &TableKeys<'_>) -> Result<Vec<SignalRow>, ScriptFault>
     ensures { Gives (λ signals. signals.items) result (optional [] (rows_in (at (view_keys keys.now) (codes "signal")) 0 MOST_SIGNALS signal_of) (value_of (view_keys keys.now) (codes "signal"))) }
 {
@@ -60,7 +60,7 @@ fn signal_of(before: &[SignalRow], value: &Value) -> Result<SignalRow, ScriptFau
     )
 }
 
-/// The name of a signal: no predefined name, and no other signal's.
+/// The name of a signal: not predefined, and not another signal's.
 fn signal_name_at(
     keys: &TableKeys<'_>,
     key: &str,
@@ -88,7 +88,7 @@ fn is_signal(name: &[u8], signals: &[SignalRow]) -> bool
         .any(|signal| is_same_name(name, &signal.name))
 }
 
-/// The value at the start: 0 where it is not given.
+/// The initial value: 0 by default.
 fn start_of(keys: &TableKeys<'_>) -> Result<bool, ScriptFault>
     ensures { Gives (λ start. start) result (optional false (bit_at (at (view_keys keys.now) (codes "start"))) (value_of (view_keys keys.now) (codes "start"))) }
 {
@@ -98,7 +98,7 @@ fn start_of(keys: &TableKeys<'_>) -> Result<bool, ScriptFault>
     }
 }
 
-/// The number of the signal that a text names.
+/// The number of the signal that a text refers to.
 pub(crate) fn signal_at(
     keys: &TableKeys<'_>,
     key: &str,

@@ -23,7 +23,7 @@ use rapid_num::{Joints, Num};
 use std::alloc::Global;
 use toml::Value;
 
-/// The tasks, in script order: one or more, but not too many.
+/// The tasks, in script order: at least one, up to the limit.
 pub(crate) fn tasks_in(alloc: Global, keys: &TableKeys<'_>) -> Result<Vec<ScriptTask>, ScriptFault>
     ensures { Gives (λ tasks. tasks.items) result (needed_rows (view_keys keys.now) (codes "task") 1 MOST_TASKS_AT_FIRST task_of) }
 {
@@ -63,7 +63,7 @@ fn task_of(alloc: Global, before: &[ScriptTask], value: &Value) -> Result<Script
     )
 }
 
-/// The name of a task: no other task's.
+/// The name of a task: not another task's.
 fn task_name_at(
     keys: &TableKeys<'_>,
     key: &str,
@@ -86,7 +86,7 @@ fn is_task(name: &[u8], tasks: &[ScriptTask]) -> bool
     tasks.iter().any(|task| is_same_name(name, &task.name))
 }
 
-/// The number of the task that a text names.
+/// The number of the task that a text refers to.
 pub(crate) fn task_at(
     keys: &TableKeys<'_>,
     key: &str,
@@ -110,7 +110,7 @@ fn find_task(name: &[u8], tasks: &[ScriptTask]) -> Option<usize>
     tasks.iter().position(|task| is_same_name(name, &task.name))
 }
 
-/// The files of a task's modules: one or more, but not too many, and none has an empty name or too long a one.
+/// The files of a task's modules: at least one, up to the limit; no name is empty or too long.
 fn files_at(
     alloc: Global,
     keys: &TableKeys<'_>,
@@ -149,7 +149,7 @@ fn arm_of(alloc: Global, keys: &TableKeys<'_>) -> Result<Option<Joints>, ScriptF
     }
 }
 
-/// How many axes an arm has where there is one: six in version 1.
+/// How many axes an arm has, if there is one: six in version 1.
 fn axes_of(arm: &Option<Joints>) -> u8
     ensures { result ≡ axes_of arm.now }
 {
@@ -159,8 +159,8 @@ fn axes_of(arm: &Option<Joints>) -> u8
     }
 }
 
-/// Six angles within 720 degrees. The external axes are not there, which 9E9 says (RAPID Instructions, Functions and Data
-/// types: extjoint).
+/// Six angles within 720 degrees. The external axes are absent, which is what 9E9 says (RAPID Instructions, Functions
+/// and types: extjoint).
 fn arm_at(
     alloc: Global,
     keys: &TableKeys<'_>,

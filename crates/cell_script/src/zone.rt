@@ -24,7 +24,7 @@ use rapid_num::Num;
 use std::alloc::Global;
 use toml::Value;
 
-/// The zones, in script order: none where the key is not there.
+/// The zones, in script order: none if the key is missing.
 pub(crate) fn zones_in(
     alloc: Global,
     keys: &TableKeys<'_>,
@@ -126,7 +126,7 @@ fn has_arm(tasks: &[ScriptTask], number: u32) -> bool
     }
 }
 
-/// One or more axes, from 1 to 6, which ascend.
+/// One or more ascending axes from 1 to 6.
 fn axes_at(
     alloc: Global,
     keys: &TableKeys<'_>,
@@ -175,7 +175,7 @@ fn bounds_at(
     }
 }
 
-/// High bounds: as low ones, and each above its low one.
+/// High bounds: like the low ones, and each above its low one.
 fn high_bounds_at(
     alloc: Global,
     keys: &TableKeys<'_>,

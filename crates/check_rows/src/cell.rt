@@ -3,7 +3,7 @@
 use anyhow::bail;
 use std::alloc::{AllocError, Global};
 
-/// The place behind a `^`: the module, and the line and the column from 1.
+/// The place after a `^`: the module, and the line and the column from 1.
 #[derive(Clone, Copy)]
 pub struct Mark {
     pub module: &'static str,
@@ -33,7 +33,7 @@ impl File {
     }
 }
 
-/// The texts of a cell's files, with the mark. Of modules that the script does not name the text is empty.
+/// The texts of a cell's files, with the mark. The text of a module that the script does not name is empty.
 #[derive(Drop)]
 pub struct Cell {
     pub script: String,

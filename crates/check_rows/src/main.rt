@@ -1,19 +1,19 @@
-//! Checks small cells and scripts, each a row of text. Prints each row of which something else is told than it says, and of each
-//! group how many rows agree.
+//! Checks small cells and scripts, each a row of text. Prints each row for which `check` prints something else than the
+//! row says, and for each group how many rows agree.
 //!
 //! A line of the standard input names a file of rows. In it
 //!
-//! - a line that is empty or begins with `#` says nothing;
-//! - a line `frame NAME: TITLE` begins a group, whose rows stand in the frame of the file `frames/NAME.txt`;
-//! - any other line begins a row: what `check` tells, and then texts, each behind a `|`;
-//! - a line that begins with `|` adds texts to the row, and one that begins with `:` a further line to its last text.
+//! - a line that is empty or starts with `#` is skipped;
+//! - a line `frame NAME: TITLE` starts a group, whose rows use the frame in the file `frames/NAME.txt`;
+//! - any other line starts a row: what `check` prints, and then texts, each after a `|`;
+//! - a line that starts with `|` adds texts to the row, and one that starts with `:` one more line to its last text.
 //!
-//! What `check` tells is `accepted`; a rule, at the byte behind the one `^` of the texts, which is left out as the cell is
-//! checked; or a key of the script and a rule. The key of a whole script is `-`.
+//! What `check` prints is `accepted`; a rule, at the byte after the one `^` of the texts, which is left out when the
+//! cell is checked; or a key of the script and a rule. The key of a whole script is `-`.
 //!
-//! In a frame's file a line `file NAME` begins a file of the cell, the script `cell.toml` or a module: `a.mod`, `b.mod` or
-//! `c.mod`. What stands before the first says what the frame is. Each line `...` stands for the next text of a row; where none
-//! is left, for an empty line.
+//! In a frame's file a line `file NAME` starts a file of the cell, the script `cell.toml` or a module: `a.mod`, `b.mod`
+//! or `c.mod`. The lines before the first one say what the frame is. Each line `...` stands for the next text of a row,
+//! or for an empty line if none is left.
 #![tactic(auto)]
 
 mod cell;

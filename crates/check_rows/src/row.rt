@@ -1,13 +1,13 @@
-//! Rows, and what is told of them.
+//! Rows, and what is expected of them.
 
 use super::cell::Mark;
 use anyhow::Context;
 use std::alloc::Global;
 
-/// What `check` tells, and texts that a frame makes a cell of.
+/// What `check` prints, and texts that a frame makes into a cell.
 #[derive(Drop)]
 pub struct Row<'a> {
-    /// The line of the file that it begins in, from 1.
+    /// The line of the file that it starts in, from 1.
     pub line: usize,
     /// `accepted`, a rule, or a key and a rule.
     pub told: &'a str,
@@ -86,7 +86,7 @@ impl<'a> Row<'a> {
         Ok(())
     }
 
-    /// The status and the line that `check` ends with, if it tells what the row says.
+    /// The status and the line that `check` ends with, if it prints what the row says.
     pub fn wanted(&self, alloc: Global, mark: Option<Mark>) -> anyhow::Result<String> {
         let told = self.told;
         let text = match mark {

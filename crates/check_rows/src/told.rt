@@ -1,4 +1,4 @@
-//! What `check` tells.
+//! What `check` prints.
 
 use super::cell::{Cell, unmarked};
 use anyhow::Context;
@@ -6,7 +6,7 @@ use controller::quiet;
 use outside::{MemoryShelf, MemorySink};
 use std::alloc::{AllocError, Global};
 
-/// The most bytes that are told.
+/// The most bytes that are printed.
 const ROOM: usize = 1_024;
 
 /// The status of the check of a cell, and what it prints.

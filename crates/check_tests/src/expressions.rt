@@ -9,19 +9,19 @@ use rule_checks::{Spot, TypeFault, TypeRule};
 use std::alloc::Global;
 use std::test::Fail;
 
-/// What an expression comes to: its type, or the rule that it breaks at the mark.
+/// The outcome of an expression: its type, or the rule that it breaks at the mark.
 type Outcome = Result<Sort, TypeRule>;
 
 /// The module, up to the expression.
 const HEAD: &[u8] = b"MODULE M VAR num n; VAR num a{4}; VAR bool b; VAR num x := ";
 
-/// Expressions, what is asked of them, and what they come to.
+/// Expressions, what is required of them, and their outcomes.
 static ROWS: [(&[u8], Want, Outcome); 9] = [
     // An operator's type, and a later operand's clash at its own byte.
     (b"n + 1 = 2", Want::Is(Sort::Bool), Ok(Sort::Bool)),
     (b"^n + 1 = 2", Want::Is(Sort::Num), Err(TypeRule::TypeClash)),
     (b"1 + ^TRUE", Want::Any, Err(TypeRule::TypeClash)),
-    // Brackets of another length, and such without a type; an array without an index.
+    // Brackets of another length, and brackets without a type; an array without an index.
     (
         b"^[1, n]",
         Want::Is(Sort::RobJoint),
@@ -50,7 +50,7 @@ fn last_value<'m, 'a>(module: &'m RawModule<'a>) -> Option<&'m RawExpr<'a>> {
     }
 }
 
-/// Whether an expression comes to this.
+/// Whether an expression has this outcome.
 fn comes_to(alloc: Global, expression: &[u8], want: Want, outcome: Outcome) -> Result<bool, Fail> {
     let text = text_of(alloc, expression)?;
     let bytes = unmarked(alloc, text.as_slice())?;

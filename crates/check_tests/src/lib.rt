@@ -1,4 +1,4 @@
-//! Small texts and scripts, with what the crates of names, types and cells answer. It holds only tests.
+//! Small texts and scripts, with what the crates for names, types and cells return. Tests only.
 #![tactic(auto)]
 
 #[cfg(test)]

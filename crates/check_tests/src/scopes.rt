@@ -96,7 +96,7 @@ static NUMBERED: [&[u8]; 2] = [
     b"MODULE second CONST num last := 1; ENDMODULE",
 ];
 
-/// A datum that is asked for by its number.
+/// A datum that is looked up by its number.
 #[derive(Clone, Copy)]
 enum Asked {
     Slot(u32),
@@ -105,7 +105,7 @@ enum Asked {
     Local(Option<u32>, u32),
 }
 
-/// What is asked, and the type, whether it is an array, and the module and the beginning of a CONST's value.
+/// What is looked up, and the type, whether it is an array, and the module and the start of a CONST's value.
 static ROWS: [(Asked, Option<(Sort, bool, Option<(u32, &[u8])>)>); 14] = [
     (Asked::Slot(0), Some((Sort::Num, false, None))),
     (
@@ -119,7 +119,7 @@ static ROWS: [(Asked, Option<(Sort, bool, Option<(u32, &[u8])>)>); 14] = [
         Asked::Constant(0),
         Some((Sort::SpeedData, false, Some((0, b"v5;")))),
     ),
-    // The CONSTs of a routine stand before those of the next module.
+    // The CONSTs of a routine come before those of the next module.
     (
         Asked::Constant(1),
         Some((Sort::RobJoint, false, Some((0, b"[1,2,3")))),
@@ -148,7 +148,7 @@ fn row_of(scopes: &Scopes, asked: Asked) -> Option<DatumRow> {
     }
 }
 
-/// Whether a CONST is declared in this module, with a value that begins like this.
+/// Whether a CONST is declared in this module, with a value that starts like this.
 fn is_since(since: Option<Since>, wanted: Option<(u32, &[u8])>) -> bool {
     match (since, wanted) {
         (None, None) => true,

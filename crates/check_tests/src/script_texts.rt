@@ -1,4 +1,5 @@
-//! Scripts that are read, with each key or the largest parts; arrays of most and of too many tables; bytes that are no UTF-8.
+//! Scripts that are read, with each key or the largest parts; arrays of the most tables and of too many; bytes that are
+//! not valid UTF-8.
 
 use cell_script::{ScriptFault, read_script};
 use rapid_model::{
@@ -127,7 +128,7 @@ fn are_inputs(inputs: &[InputRow]) -> bool {
         && second.when.is_none()
 }
 
-/// Whether a text is refused for this rule at this key.
+/// Whether a text is rejected for this rule at this key.
 fn breaks(alloc: Global, text: &[u8], key: &str, rule: Rule) -> bool {
     match &read_script(alloc, text) {
         Err(
@@ -152,7 +153,7 @@ fn with_tables(alloc: Global, key: &str, count: usize) -> Result<Vec<u8>, AllocE
     Ok(text)
 }
 
-/// As many tables are read, and the first key of the first one is missing; one more is too many.
+/// The most tables are read, and the first key of the first one is missing; one more is too many.
 #[test]
 fn lengths_of_arrays(rt: HostRuntime) -> Result<(), Fail> {
     let alloc = rt.alloc();
@@ -173,7 +174,7 @@ fn lengths_of_arrays(rt: HostRuntime) -> Result<(), Fail> {
     Ok(())
 }
 
-/// Bytes that are no UTF-8, 100000 events where the script does not say, and the largest parts.
+/// Bytes that are not valid UTF-8, 100000 events if the script does not say, and the largest parts.
 #[test]
 fn edges(rt: HostRuntime) -> Result<(), Fail> {
     assert!(rt;

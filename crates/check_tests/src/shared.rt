@@ -1,4 +1,4 @@
-//! Which persistents and meetings of several tasks are one, and the cell of a script and its tasks.
+//! Which persistents and meetings of several tasks are the same, and the cell of a script and its tasks.
 
 ghost use Rattle.std.specs.Prelude.{map, IsTrue, IfOk};
 ghost use Rattle.std.specs.List.{list_all};
@@ -18,11 +18,11 @@ use typed_trees::Tree;
 const ONE: &[u8] =
     b"MODULE M LOCAL PERS num counts{2}; PERS num Counts{2}; VAR syncident start; PROC main() ENDPROC ENDMODULE";
 
-/// The same persistent and the same meeting in other letters, and a meeting before it.
+/// The same persistent and the same meeting in another case, and a meeting before it.
 const OTHER: &[u8] =
     b"MODULE M PERS num COUNTS{2} := [1, 2]; VAR syncident stop; VAR syncident START; PROC main() ENDPROC ENDMODULE";
 
-/// Two tasks, and a value of the shared persistent.
+/// Two tasks, and a value for the shared persistent.
 const SCRIPT: &str =
     "version = 1\n[[task]]\nname = \"ONE\"\nmodules = [\"one.mod\"]\n[[task]]\nname = \"TWO\"\nmodules = [\"two.mod\"]\n[[pers]]\nname = \"cOUNTS\"\nindex = 2\nnum = \"7\"\n";
 
@@ -95,7 +95,7 @@ fn one_persistent_of_two_tasks(rt: HostRuntime) -> Result<(), Fail> {
     Ok(())
 }
 
-/// The modules of three tasks, each with persistents alone.
+/// The modules of three tasks, each with only persistents.
 static THREE: [&[u8]; 3] = [
     b"MODULE M LOCAL PERS num a; PERS num A; PERS num b; PROC main() ENDPROC ENDMODULE",
     b"MODULE M PERS num a; PROC main() ENDPROC ENDMODULE",

@@ -1,4 +1,4 @@
-//! Trees of small texts. In a text a `^` stands before the byte that a row speaks of.
+//! Trees of small texts. In a text, `^` marks the byte that a row is about.
 
 ghost use Rattle.std.specs.Prelude.{IsTrue, IfOk};
 ghost use Rattle.typed_trees.specs.Sound.{has_sound_pers};
@@ -9,7 +9,7 @@ use module_parser::parse_module;
 use raw_trees::RawModule;
 use std::alloc::{AllocError, Global};
 use std::test::Fail;
-use stmt_types::check_task;
+use task_types::check_task;
 use typed_trees::Tree;
 
 /// The byte of the mark, if there is one.
@@ -43,7 +43,7 @@ pub fn task_of(alloc: Global, text: &[u8]) -> Result<Tree, Fail>
     task_with(alloc, text, 0)
 }
 
-/// The typed tree of a task whose arm has so many axes, or none where it has no arm, and that has one module.
+/// The typed tree of a task with one module, and an arm with so many axes, 0 without an arm.
 pub fn task_with(alloc: Global, text: &[u8], axes: u8) -> Result<Tree, Fail>
     ensures { IfOk result (λ tree. IsTrue (has_sound_pers (view_tree tree))) }
 {

@@ -1,15 +1,16 @@
-//! Compiles the module on its standard input as often as the word says, else once, and tells how many operations its code has. The
-//! module is checked as one of a task `A` with an arm, beside the signal `di_feeder`. For `bench/run`.
+//! Compiles the module on standard input as often as its argument says, else once, and prints the number of operations
+//! of its code. The module is checked as the one of a task `A` with an arm, in a cell with the signal `di_feeder`. For
+//! `bench/run`.
 #![tactic(auto)]
 
-use code_link::link_routines;
+use code_compiler::link_routines;
 use data_scopes::Known;
 use module_parser::parse_module;
 use rapid_model::{NameText, SignalRow};
 use std::alloc::{AllocError, Global};
 use std::io::Read;
 use std::{env, io};
-use stmt_types::check_task;
+use task_types::check_task;
 use typed_trees::Tree;
 
 fn main(rt: HostRuntime) -> io::Result<()> {
@@ -26,7 +27,7 @@ fn main(rt: HostRuntime) -> io::Result<()> {
     }
 }
 
-/// What a text comes to.
+/// The outcome of a text.
 #[derive(Drop)]
 enum Told {
     Code { operations: usize },
@@ -55,7 +56,7 @@ fn code_of(alloc: Global, tree: &Tree, passes: u32) -> Told {
     told
 }
 
-/// The tree of a task of one module, if its text is right. Its error says that memory was refused.
+/// The tree of a task of one module, if its text is correct. Fails only if an allocation fails.
 fn tree_of(alloc: Global, text: &[u8]) -> Result<Option<Tree>, AllocError> {
     let tasks = vec![in alloc; name(b"A")]?;
     let signals = vec![in alloc;

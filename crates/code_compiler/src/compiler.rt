@@ -1,19 +1,19 @@
 ghost use Rattle.std.specs.Prelude.{◌≡◌, ◌<◌, ◌^◌, IfOk, length, true};
-ghost use Rattle.code_liveness.specs.Asking.{AsksAs};
-ghost use Rattle.code_liveness.specs.Checked.{IsChecked};
-ghost use Rattle.live_code.specs.IsCode.{IsCode};
+ghost use Rattle.code_laws.specs.Asking.{AsksAs};
+ghost use Rattle.code_laws.specs.Checked.{IsChecked};
+ghost use Rattle.task_code.specs.IsCode.{IsCode};
 ghost use Rattle.stack_code.specs.Compiled.{compiled};
 ghost use Rattle.typed_trees.specs.Views.{view_tree};
 
-use code_link::link_routines;
-use live_code::Code;
+use crate::link_routines;
 use rapid_num::Memory;
 use stack_code::LinkedCode;
 use std::alloc::Global;
+use task_code::Code;
 use typed_trees::Tree;
 
-/// The code of a checked task, which asks what the task's tree asks. Its error says that memory was refused, or that the code
-/// would have 2^32 operations or more, or as many module data or first values.
+/// Compiles a checked task: its code asks what its tree asks. Fails only if an allocation fails or the code would have
+/// 2^32 or more operations, module data or first values.
 pub fn compile(alloc: Global, tree: &Tree) -> Result<Code, Memory>
     requires { IsChecked (view_tree tree.now) }
     ensures code { IfOk result (λ code. code ≡ compiled (view_tree tree.now)) }
@@ -27,7 +27,7 @@ pub fn compile(alloc: Global, tree: &Tree) -> Result<Code, Memory>
     }
 }
 
-/// Whether u32 counts the operations and the modules' data.
+/// Whether the numbers of operations and of module data fit a u32.
 fn is_counted(linked: &LinkedCode) -> bool
     ensures ops { result ≡ true → length linked.now.ops < 2 ^ 32 }
     ensures slots { result ≡ true → length linked.now.slots < 2 ^ 32 }
@@ -36,7 +36,7 @@ fn is_counted(linked: &LinkedCode) -> bool
     linked.ops.len() <= most && linked.slots.len() <= most
 }
 
-/// Code that keeps what code has to keep.
+/// Linked code as code whose invariant is proved.
 fn kept(linked: LinkedCode) -> Code
     requires { IsCode linked }
     ensures { result ≡ linked }

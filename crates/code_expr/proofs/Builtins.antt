@@ -30,7 +30,7 @@ many_args (x ∷ []) count = absurd (omega (arith, count))
 many_args (x ∷ y ∷ []) count = absurd (omega (arith, count))
 many_args (x ∷ y ∷ z ∷ list) count = many_form (view_arg x) (view_arg y) (view_arg z) (args_of (map view_arg list))
 
--- how many operations a call has whose arguments have so many
+-- the number of operations of a call, by that of its arguments
 abbrev pub size_in : Function → BuiltinForm → ℕ → ℕ
 size_in function Nothing size = 1
 size_in function Values size = size + 1
@@ -67,7 +67,7 @@ code_by_form tree routine own pc function (MoreArgs (Lent p) NoArgs) ps = refl
 code_by_form tree routine own pc function (MoreArgs (Lent (PlaceOf root index part sort)) (MoreArgs one NoArgs)) ps = refl
 code_by_form tree routine own pc function other ps = refl
 
--- how many operands a call needs whose arguments need so many
+-- the operands that a call needs, by those that its arguments need
 abbrev pub need_in : Function → BuiltinForm → ℕ → ℕ
 need_in function Values need = need
 need_in function (Signal signal) need = signal_need function

@@ -1,4 +1,4 @@
--- Code behind code.
+-- Code appended to code.
 use Rattle.std.proofs.Common.{◌≡◌, ℕ, ◌+◌, refl, sym, ap, ◌∙◌, arith}
 use Rattle.code_expr.specs.Follows.{Follows}
 
@@ -13,7 +13,7 @@ follows_then {a = a} {i = i} {code = code} {more = more} h next = record {
   laid = λ ps. next.laid ps ∙ (h.laid (more _ ps) ∙ ap (λ pc. a (code i (more pc ps))) h.grown);
 }
 
--- the same operations, counted or laid out otherwise
+-- the same operations, counted or laid out in another way
 pub follows_as : {X Y : Type 0} {a b : Y → X} {i j n : ℕ} {code : ℕ → Y → Y} (m : ℕ) (other : ℕ → Y → Y) → Follows a b i j n code → n ≡ m → ((ps : Y) → code i ps ≡ other i ps) → Follows a b i j m other
 follows_as {a = a} {i = i} m other h count same = record {
   grown = h.grown ∙ ap (λ k. i + k) count;
@@ -23,12 +23,12 @@ follows_as {a = a} {i = i} m other h count same = record {
 pub follows_sized : {X Y : Type 0} {a b : Y → X} {i j n : ℕ} {code : ℕ → Y → Y} (m : ℕ) → Follows a b i j n code → n ≡ m → Follows a b i j m code
 follows_sized {code = code} m h count = follows_as m code h count (λ ps. refl)
 
--- Some code is put there but for what is left of it, which is to come.
+-- Some code is appended except for a rest, which is to come.
 pub record Left {X Y : Type 0} (a b : Y → X) (i j n : ℕ) (code : ℕ → Y → Y) (k : ℕ) (left : ℕ → Y → Y) : Type 0 where
   pub grown : j + k ≡ i + n
   pub laid : (ps : Y) → b (left j ps) ≡ a (code i ps)
 
--- the first of what is left is put there
+-- the first of the rest is appended
 pub left_step : {X Y : Type 0} {a b d : Y → X} {i j k n m h : ℕ} {code one before : ℕ → Y → Y} (rest : ℕ) (left : ℕ → Y → Y) → Left a b i j n code h before → Follows b d j k m one → h ≡ m + rest →
     ((ps : Y) → before j ps ≡ one j (left (j + m) ps)) → Left a d i k n code rest left
 left_step {b = b} {j = j} {k = k} {one = one} rest left was added count same = record {

@@ -26,7 +26,7 @@ invoke_form e routine args is = ap (view_form e.at e.sort) is ∙ invoke_view e.
 pub chain_form : (e : Expr) (first : Box Expr Global) (rest : Vec (Operator × Expr) Global) → e.form ≡ Chain first rest → view_expr e ≡ trees.Chain e.at e.sort (view_expr first.value) (steps_of (map view_step rest.items))
 chain_form e first rest is = ap (view_form e.at e.sort) is ∙ chain_view e.at e.sort first rest
 
--- a number that is given, told otherwise
+-- the same number in other words
 pub gives_as : {E : Type 0} (r : Result ℕ E) (m n : ℕ) → m ≡ n → IfOk r (λ k. k ≡ m) → IfOk r (λ k. k ≡ n)
 gives_as r m n is h = subst (λ k. IfOk r (λ j. j ≡ k)) is h
 

@@ -1,4 +1,4 @@
--- The smallest parts of expressions, put behind what is there.
+-- The leaves of expressions, appended to a block.
 use Rattle.std.proofs.Common.{◌≡◌, ℕ, ◌+◌, Bool, true, List, Option, refl, sym, ap, subst, ◌∙◌, arith}
 use Rattle.std.specs.declared.alloc.Global.{Global}
 use Rattle.std.specs.declared.boxed.Box.{Box}
@@ -91,7 +91,7 @@ builtin_laid {i = i} tree routine own function args form is h = follows_as _ _ h
     (ap (λ f. size_in function f (args_size args)) is ∙ sym (size_by_form function args))
     (λ ps. ap (λ f. code_in tree routine own function f (args_code tree routine own i args) ps) is ∙ sym (code_by_form tree routine own i function args ps))
 
--- a place by its index, if it has one
+-- a place, by its index if it has one
 pub place_laid : {X : Type 0} {a b : List Placed → X} {i j : ℕ} (tree : TypedTree) (routine : TypedRoutine) (own : Own) (p : TreePlace) (index : Option (Box Expr Global)) → (out-TreePlace p).index ≡ index →
     let place = out-TreePlace p in let q = PlaceOf place.root (held_in index) place.part place.sort in
     Follows a b i j (place_size q) (λ pc ps. place_code tree routine own pc q ps) → Follows a b i j (place_size (view_place p)) (λ pc ps. place_code tree routine own pc (view_place p) ps)

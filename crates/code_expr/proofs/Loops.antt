@@ -1,4 +1,4 @@
--- Lists of children whose operations are put behind a block, one after the other.
+-- Lists of children whose operations are appended to a block one by one.
 use Rattle.std.proofs.Common.{◌+◌, ap, arith}
 use Rattle.rapid_model.specs.declared.operator.Operator.{Operator}
 use Rattle.rapid_model.specs.declared.operator.Operator.TheVariants as operators
@@ -13,7 +13,7 @@ use Rattle.code_expr.specs.declared.block.Block.{Block}
 use Rattle.code_expr.specs.declared.context.Context.{Context}
 use Rattle.code_expr.proofs.Follow.{Left, left_step, left_then}
 
--- the block is another one with the operations of all of them but for those that are left
+-- the block is another with the operations of all children except those that are left
 abbrev pub LeftExprs : Own → Context → Block → Block → TypedExprs → TypedExprs → Type 0
 LeftExprs own at a b all left = Left (with_code own a) (with_code own b) (end_of a) (end_of b)
     (exprs_size all) (λ pc ps. exprs_code (tree_of at) (routine_of at) own pc all ps)

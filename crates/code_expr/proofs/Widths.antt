@@ -1,4 +1,4 @@
--- How many data the rows of a tree and of a routine have.
+-- The number of data of the rows of a tree and of a routine.
 use Rattle.std.proofs.Common.{◌≡◌, ℕ, zero, suc, ◌-◌, ◌<◌, ◌≤◌, List, [], ◌∷◌, ◌++◌, length, get_or, map, replicate, None, Some, option_map, refl, sym, ap, subst, ◌∙◌, arith}
 use Rattle.std.proofs.lemmas.List.{map-append}
 use Rattle.std.proofs.lemmas.Option.{slice_get-map, slice_get_read}
@@ -19,7 +19,7 @@ pub locals_as : (locals : List LocalRow) → map (λ local. width local.len) loc
 locals_as [] = refl
 locals_as (local ∷ locals) = ap (λ more. width local.len ∷ more) (locals_as locals)
 
--- what is no array has one datum
+-- a row that is no array has one datum
 ones : (n : ℕ) → map width (replicate n None) ≡ replicate n 1
 ones zero = refl
 ones (suc n) = ap (λ more. 1 ∷ more) (ones n)
@@ -35,7 +35,7 @@ all_rows routine n count = ap (λ rows. rows ++ replicate routine.loops 3)
     ∙ (ap (λ back. map width (replicate (length routine.params) None) ++ back) (sym (widths routine.locals))
     ∙ sym (map-append width (replicate (length routine.params) None) (map (λ row. row.len) routine.locals)))))
 
--- the length of a datum that a routine declares, behind its parameters
+-- the length of a datum that a routine declares; its parameters come first
 pub local_len : (params : ℕ) (locals : List LocalRow) (row number : ℕ) (local : LocalRow) → params ≤ row → number ≡ row - params → number < length locals → local ≡ get_or locals number local →
     local.len ≡ option_and_then (λ len. len) (slice_get (replicate params None ++ map (λ r. r.len) (map view_local locals)) row)
 local_len zero locals row number local behind is within read =

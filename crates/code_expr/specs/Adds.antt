@@ -1,4 +1,4 @@
--- Blocks of operations, with those of expressions put behind them.
+-- Blocks, and the operations of expressions appended to them.
 use Rattle.std.specs.Prelude.{ℕ, ◌+◌, List, map, ◌++◌, length}
 use Rattle.rapid_model.specs.declared.function.Function.{Function}
 use Rattle.stack_code.specs.ExprLayouts.{args_code, builtin_code, expr_code, exprs_code, place_code, steps_code}
@@ -14,7 +14,7 @@ use Rattle.code_expr.specs.declared.context.Context.{Context}
 abbrev pub owned_by : Own → Op → Placed
 owned_by own op = record { own = own; op = op }
 
--- operations that all have one owner
+-- operations of one owner
 abbrev pub owned : Own → List Op → List Placed
 owned own ops = map (owned_by own) ops
 
@@ -22,11 +22,11 @@ owned own ops = map (owned_by own) ops
 abbrev pub end_of : Block → ℕ
 end_of block = block.start + length block.ops.items
 
--- a block of one owner's operations, and where it begins, with others behind it
+-- a block of one owner's operations and where it begins, with others after it
 abbrev pub with_code : Own → Block → List Placed → ℕ × List Placed
 with_code own block ps = (block.start, owned own block.ops.items ++ ps)
 
--- A block is another with so many operations behind it, which are some code of that owner.
+-- A block is another one with `size` operations appended, which are some code of that owner.
 abbrev pub Adds : Own → Block → Block → ℕ → Code → Type 0
 Adds own old new size code = Follows (with_code own old) (with_code own new) (end_of old) (end_of new) size code
 

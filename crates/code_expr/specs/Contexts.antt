@@ -1,4 +1,4 @@
--- Where an expression stands.
+-- The tree and the routine of an expression.
 use Rattle.typed_trees.specs.Plain.{TypedRoutine, TypedTree}
 use Rattle.typed_trees.specs.Views.{view_routine, view_tree}
 use Rattle.code_expr.specs.declared.context.Context.{Context}

@@ -1,4 +1,4 @@
--- What is put behind what is there.
+-- Appending code.
 use Rattle.std.specs.Prelude.{◌≡◌, ℕ, ◌+◌, List}
 use Rattle.stack_code.specs.Placed.{Placed}
 
@@ -6,8 +6,8 @@ use Rattle.stack_code.specs.Placed.{Placed}
 abbrev pub Code : Type 0
 Code = ℕ → List Placed → List Placed
 
--- So many operations are put behind those that are there, and tell what `code` says. Both sides tell what is there with anything
--- more behind it; the places are those of the operation that comes next.
+-- What is there grows by the `size` operations of `code`. Both sides take anything that may follow; `from` and `to` are
+-- the places of the next operation.
 pub record Follows {X Y : Type 0} (before after : Y → X) (from to size : ℕ) (code : ℕ → Y → Y) : Type 0 where
   pub grown : to ≡ from + size
   pub laid : (more : Y) → after more ≡ before (code from more)

@@ -7,7 +7,7 @@ use crate::numbers::sum;
 use stack_code::Op;
 use std::alloc::{AllocError, Global};
 
-/// Operations in a row, of which the first stands at this place of the code, from 0.
+/// A run of operations, and the place of the first one in the code, counted from 0.
 #[derive(Drop)]
 pub struct Block {
     pub start: u32,
@@ -15,7 +15,7 @@ pub struct Block {
 }
 
 impl Block {
-    /// No operations, at a place.
+    /// An empty block at a place.
     pub fn new(alloc: Global, start: u32) -> Block
         ensures start { result.start ≡ start }
         ensures ops { result.ops.items ≡ [] }
@@ -26,7 +26,7 @@ impl Block {
         }
     }
 
-    /// One more operation. Its error says that memory was refused.
+    /// Appends an operation. Fails only if an allocation fails.
     pub fn put(&mut self, op: Op) -> Result<(), AllocError>
         ensures { OnOk result ((own : Own) → Adds own self.old self.new 1 (λ pc ps. put own op ps)) }
     {
@@ -34,7 +34,7 @@ impl Block {
         Ok(())
     }
 
-    /// The place of the operation that comes next. Its error says that it is no place of code, for which no memory is.
+    /// The place of the next operation. Fails only if that is 2^32 or more.
     pub fn end(&self) -> Result<u32, AllocError>
         ensures { IfOk result (λ place. place ≡ end_of self.now) }
     {
@@ -44,7 +44,7 @@ impl Block {
         }
     }
 
-    /// The place that many operations behind the next. Its error is that of `end`.
+    /// The place `count` operations after the next one. Fails as `end` does.
     pub fn behind(&self, count: u32) -> Result<u32, AllocError>
         ensures { IfOk result (λ place. place ≡ end_of self.now + count) }
     {

@@ -1,4 +1,4 @@
-//! What the arguments of a call of a predefined function are.
+//! The forms of the arguments of predefined functions.
 
 ghost use Rattle.std.specs.Prelude.{◌≡◌, map};
 ghost use Rattle.typed_trees.specs.Plain.{MoreArgs, NoArgs, args_of};
@@ -7,7 +7,7 @@ ghost use Rattle.code_expr.specs.BuiltinForms.{form_of};
 
 use typed_trees::{Arg, TreeRoot};
 
-/// The forms of such arguments.
+/// The form of the arguments of a call.
 #[derive(Clone, Copy)]
 pub(crate) enum BuiltinForm {
     Nothing,
@@ -16,13 +16,13 @@ pub(crate) enum BuiltinForm {
     /// A signal, by its number.
     Signal(u32),
     Place,
-    /// An array that is lent, by its root, and one more argument.
+    /// A lent array, by its root, and one more argument.
     Array(TreeRoot),
-    /// None of these, which no checked tree has.
+    /// Anything else, which no checked tree has.
     Other,
 }
 
-/// The form of arguments.
+/// The form of a list of arguments.
 pub(crate) fn form_of(args: &Vec<Arg>) -> BuiltinForm
     ensures { result ≡ form_of (args_of (map view_arg args.now.items)) }
 {

@@ -8,8 +8,8 @@ use stack_code::Op;
 use std::alloc::Global;
 use typed_trees::{Routine, Tree, TreeRoot};
 
-/// Where an expression stands: the task's tree and the routine, and where the data of both begin, row by row. Contracts see the
-/// tree and the routine.
+/// What the code of an expression depends on: the task's tree, the routine, and where the data of each of their rows
+/// begin. Contracts see the tree and the routine.
 #[derive(Drop)]
 pub struct Context<'a> {
     alloc: Global,
@@ -33,7 +33,7 @@ impl<'a> Context<'a> {
     ghost use Rattle.code_expr.specs.Contexts.{routine_of, tree_of};
     ghost use Rattle.code_expr.specs.Starts.{AreStarts};
 
-    /// A routine of a tree, with the starts of the data of both.
+    /// The context of a routine, with the starts of the tree's and of the routine's data.
     pub fn new(
         alloc: Global,
         tree: &'a Tree,
@@ -55,7 +55,7 @@ impl<'a> Context<'a> {
         }
     }
 
-    /// Where memory comes from.
+    /// The allocator.
     pub fn alloc(&self) -> Global {
         self.alloc
     }
@@ -81,7 +81,7 @@ impl<'a> Context<'a> {
         start_in(self.locals, row as usize)
     }
 
-    /// The operation that pushes a place, by what it is a part of.
+    /// The operation that pushes a place, by its root.
     pub fn root_op(&self, root: TreeRoot) -> Op
         ensures { result ≡ ExprLayouts.root_op (tree_of self.now) (routine_of self.now) root }
     {
@@ -93,14 +93,14 @@ impl<'a> Context<'a> {
         }
     }
 
-    /// The operation that takes a place to an element, by what it is a part of.
+    /// The operation that narrows a place to an element, by its root.
     pub fn index_op(&self, root: TreeRoot) -> Op
         ensures { result ≡ ExprLayouts.index_op (tree_of self.now) (routine_of self.now) root }
     {
         Op::Index(self.length_at(root))
     }
 
-    /// How many elements an array has, by its root; 0 of what is none.
+    /// The number of elements of an array, by its root; 0 if it is no array.
     pub fn length_at(&self, root: TreeRoot) -> u16
         ensures { result ≡ unwrap_or (Layouts.length_at (tree_of self.now) (routine_of self.now) root) 0 }
     {
@@ -113,7 +113,7 @@ impl<'a> Context<'a> {
         len.unwrap_or(0)
     }
 
-    /// The number in the cell of a persistent of the tree; 0 where there is none.
+    /// The cell's number of a persistent of the tree; 0 if there is none.
     pub fn cell_number(&self, row: u32) -> u32
         ensures { result ≡ Pieces.cell_number (tree_of self.now) (roots.Pers row) }
     {
@@ -123,7 +123,7 @@ impl<'a> Context<'a> {
         }
     }
 
-    /// The number in the cell of a meeting of the tree; 0 where there is none.
+    /// The cell's number of a meeting of the tree; 0 if there is none.
     pub fn meeting_number(&self, row: u32) -> u32
         ensures { result ≡ Pieces.meeting_number (tree_of self.now) row }
     {

@@ -1,5 +1,5 @@
-//! The operations of expressions, places and arguments, put behind those of a block. Each error says that memory was refused, or
-//! that there are 2^32 operations or more; what is behind the block then is of no use.
+//! Emits expressions, places and arguments at the end of a block. Each fails only if an allocation fails or there are
+//! 2^32 operations or more; the block is then of no use.
 
 ghost use Rattle.std.specs.Prelude.{OnOk, map};
 ghost use Rattle.stack_code.specs.Placed.{Own};
@@ -18,7 +18,7 @@ use stack_code::{Op, Pushed, UnaryOp};
 use std::alloc::AllocError;
 use typed_trees::{Arg, Expr, ExprForm, TreePlace};
 
-/// The operations of an expression, which push its value (RAPID Kernel, expressions).
+/// Emits an expression, which pushes its value (RAPID Kernel, expressions).
 #[cycle(emission)]
 pub fn add_expr(context: &Context<'_>, expr: &Expr, code: &mut Block) -> Result<(), AllocError>
     ensures { OnOk result ((own : Own) → AddsExpr own context.now code.old code.new (view_expr expr.now)) }
@@ -57,7 +57,7 @@ pub fn add_expr(context: &Context<'_>, expr: &Expr, code: &mut Block) -> Result<
     }
 }
 
-/// The operations of the expressions of a list, in order.
+/// Emits the expressions of a list, in order.
 #[cycle(emission)]
 fn add_exprs(context: &Context<'_>, exprs: &Vec<Expr>, code: &mut Block) -> Result<(), AllocError>
     ensures { OnOk result ((own : Own) → AddsExprs own context.now code.old code.new (exprs_of (map view_expr exprs.now.items))) }
@@ -68,7 +68,7 @@ fn add_exprs(context: &Context<'_>, exprs: &Vec<Expr>, code: &mut Block) -> Resu
     Ok(())
 }
 
-/// The operations of operators and their right operands, in order.
+/// Emits operators and their right operands, in order.
 #[cycle(emission)]
 fn add_steps(
     context: &Context<'_>,
@@ -83,7 +83,7 @@ fn add_steps(
     Ok(())
 }
 
-/// The operations of an operator and its right operand, which AND and OR skip where the left one decides.
+/// Emits an operator and its right operand, which AND and OR skip if the left one decides.
 #[cycle(emission)]
 fn add_step(
     context: &Context<'_>,
@@ -111,7 +111,7 @@ fn add_step(
     }
 }
 
-/// The operations of a place: its root, then the index of an element, then the part.
+/// Emits a place: its root, then the index of an element, then the part.
 #[cycle(emission)]
 pub fn add_place(
     context: &Context<'_>,
@@ -131,7 +131,7 @@ pub fn add_place(
     }
 }
 
-/// The operations of the arguments of a call, in order: values and places are pushed.
+/// Emits the arguments of a call, in order: values and places are pushed.
 #[cycle(emission)]
 pub fn add_args(context: &Context<'_>, args: &Vec<Arg>, code: &mut Block) -> Result<(), AllocError>
     ensures { OnOk result ((own : Own) → AddsArgs own context.now code.old code.new (args_of (map view_arg args.now.items))) }
@@ -142,7 +142,7 @@ pub fn add_args(context: &Context<'_>, args: &Vec<Arg>, code: &mut Block) -> Res
     Ok(())
 }
 
-/// The operations of an argument.
+/// Emits an argument.
 #[cycle(emission)]
 fn add_arg(context: &Context<'_>, arg: &Arg, code: &mut Block) -> Result<(), AllocError>
     ensures { OnOk result ((own : Own) → AddsArgs own context.now code.old code.new (MoreArgs (view_arg arg.now) NoArgs)) }
@@ -154,7 +154,7 @@ fn add_arg(context: &Context<'_>, arg: &Arg, code: &mut Block) -> Result<(), All
     }
 }
 
-/// The operations of the call of a predefined function. Of an array that is lent only the length is pushed.
+/// Emits the call of a predefined function. Of a lent array only the length is pushed.
 #[cycle(emission)]
 fn add_builtin(
     context: &Context<'_>,

@@ -14,9 +14,9 @@ use stack_code::Op;
 use std::alloc::{AllocError, Global};
 use typed_trees::{Expr, Tree};
 
-/// Appends the operations of an expression of a routine, by the routine's number in a checked tree: they push its value (RAPID
-/// Kernel, expressions). Its error says that memory was refused, or that the code would have 2^32 operations or more; the code is
-/// as it was then.
+/// Appends the operations of an expression of a routine, by the routine's number in a checked tree: they push its value
+/// (RAPID Kernel, expressions). Fails only if an allocation fails or the code would have 2^32 operations or more; the
+/// code is then unchanged. The compiler emits whole routines; this is for a tool that compiles one expression.
 pub fn emit_expr(
     alloc: Global,
     tree: &Tree,
@@ -37,7 +37,7 @@ pub fn emit_expr(
     }
 }
 
-/// The operations of an expression of a routine, from a place on. Its error is that of `emit_expr`.
+/// The operations of an expression of a routine, from a place on. Fails as `emit_expr` does.
 fn block_of(
     alloc: Global,
     tree: &Tree,

@@ -1,4 +1,4 @@
-//! Operations of the smallest parts of expressions.
+//! The operations of the leaves of expressions.
 
 ghost use Rattle.std.specs.Prelude.{◌≡◌, ◌*◌, pos, OnOk};
 ghost use Rattle.stack_code.specs.ExprLayouts.{part_code, put, sign_code, signal_code};
@@ -24,7 +24,7 @@ fn whole(count: u16) -> Num
     }
 }
 
-/// Pushes so many, as a num.
+/// Pushes a count as a num.
 pub fn push(count: u16) -> Op
     ensures { result ≡ Pieces.push count }
 {
@@ -41,7 +41,7 @@ pub fn push_down() -> Op
     }
 }
 
-/// Narrows a place to a part; the whole needs no operation. Its error says that memory was refused.
+/// Narrows a place to a part; the whole needs no operation. Fails only if an allocation fails.
 pub(crate) fn add_part(part: PartName, code: &mut Block) -> Result<(), AllocError>
     ensures { OnOk result ((own : Own) → Adds own code.old code.new (part_size part) (λ pc ps. part_code own part ps)) }
 {
@@ -51,7 +51,7 @@ pub(crate) fn add_part(part: PartName, code: &mut Block) -> Result<(), AllocErro
     }
 }
 
-/// A leading sign: a plus needs no operation. Its error says that memory was refused.
+/// A leading sign; a plus needs no operation. Fails only if an allocation fails.
 pub(crate) fn add_sign(minus: bool, code: &mut Block) -> Result<(), AllocError>
     ensures { OnOk result ((own : Own) → Adds own code.old code.new (sign_size minus) (λ pc ps. sign_code own minus ps)) }
 {
@@ -62,7 +62,7 @@ pub(crate) fn add_sign(minus: bool, code: &mut Block) -> Result<(), AllocError>
     }
 }
 
-/// A predefined function of a signal. Its error says that memory was refused.
+/// A predefined function of a signal. Fails only if an allocation fails.
 pub(crate) fn add_signal(
     function: Function,
     signal: u32,
@@ -80,7 +80,8 @@ pub(crate) fn add_signal(
     }
 }
 
-/// A copy of the left operand, a jump by it, and without the jump it is dropped. Its error says that memory was refused.
+/// Copies the left operand, jumps by the copy, and drops the operand if it does not jump. Fails only if an allocation
+/// fails.
 pub(crate) fn add_skip(jump: Op, code: &mut Block) -> Result<(), AllocError>
     ensures { OnOk result ((own : Own) → Adds own code.old code.new 3 (λ pc ps. put own ops.Dup (put own jump (put own ops.Drop ps)))) }
 {

@@ -1,4 +1,4 @@
-//! The lengths of data that are arrays.
+//! Lengths of arrays.
 
 ghost use Rattle.std.specs.Prelude.{◌≡◌};
 ghost use Rattle.rapid_meaning.specs.Layouts;
@@ -8,14 +8,14 @@ ghost use Rattle.typed_trees.specs.declared.expr.TreeRoot.TheVariants as roots;
 
 use typed_trees::{Routine, Tree};
 
-/// The length of a datum of the modules, where it is an array.
+/// The length of a datum of the modules, if it is an array.
 pub(crate) fn slot_length(tree: &Tree, row: u32) -> Option<u16>
     ensures { (r : TypedRoutine) → result ≡ Layouts.length_at (view_tree tree.now) r (roots.Slot row) }
 {
     tree.slots.get(row as usize)?.len
 }
 
-/// The length of a datum of a routine, where it is an array; its parameters come first, and are none.
+/// The length of a datum of a routine, if it is an array. The parameters come first and are no arrays.
 pub(crate) fn local_length(routine: &Routine, row: u32) -> Option<u16>
     ensures { (t : TypedTree) → result ≡ Layouts.length_at t (view_routine routine.now) (roots.Local row) }
 {
@@ -23,7 +23,7 @@ pub(crate) fn local_length(routine: &Routine, row: u32) -> Option<u16>
     routine.locals.get(number)?.len
 }
 
-/// The length of a persistent, where it is an array.
+/// The length of a persistent, if it is an array.
 pub(crate) fn pers_length(tree: &Tree, row: u32) -> Option<u16>
     ensures { (r : TypedRoutine) → result ≡ Layouts.length_at (view_tree tree.now) r (roots.Pers row) }
 {

@@ -1,5 +1,4 @@
-//! The code of expressions, places and arguments: how many operations they have and how many operands they need, and the
-//! operations themselves.
+//! The code of expressions, places and arguments: its size, the operands that it needs, and the operations.
 #![tactic(auto)]
 
 mod block;

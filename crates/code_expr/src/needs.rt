@@ -1,4 +1,4 @@
-//! How many operands lie on the stack of a frame at most, while a form is done. Each error says that they are 2^32 or more.
+//! The most operands on a frame's stack while a form runs. Each fails only if the number is 2^32 or more.
 
 ghost use Rattle.std.specs.Prelude.{◌≡◌, ◌+◌, IfOk, map, max};
 ghost use Rattle.typed_trees.specs.Plain.{MoreArgs, TypedArgs, args_of, exprs_of, steps_of};
@@ -11,7 +11,7 @@ use rapid_model::{Function, Operator};
 use std::alloc::AllocError;
 use typed_trees::{Arg, Expr, ExprForm, TreePlace};
 
-/// How many operands an expression needs, its value among them.
+/// The operands that an expression needs, its value included.
 #[cycle(needs)]
 pub fn expr_need(expr: &Expr) -> Result<u32, AllocError>
     ensures { IfOk result (λ need. need ≡ Needs.expr_need (view_expr expr.now)) }
@@ -29,7 +29,7 @@ pub fn expr_need(expr: &Expr) -> Result<u32, AllocError>
     }
 }
 
-/// How many operands the expressions of a list need, whose values stay there.
+/// The operands that the expressions of a list need; their values stay on the stack.
 #[cycle(needs)]
 fn exprs_need(exprs: &Vec<Expr>) -> Result<u32, AllocError>
     ensures { IfOk result (λ need. need ≡ Needs.exprs_need (exprs_of (map view_expr exprs.now.items))) }
@@ -43,7 +43,7 @@ fn exprs_need(exprs: &Vec<Expr>) -> Result<u32, AllocError>
     Ok(more(most, depth))
 }
 
-/// How many operands operators need with their right operands, the left one among them.
+/// The operands that operators need with their right operands, the left one included.
 #[cycle(needs)]
 fn steps_need(steps: &Vec<(Operator, Expr)>) -> Result<u32, AllocError>
     ensures { IfOk result (λ need. need ≡ Needs.steps_need (steps_of (map view_step steps.now.items))) }
@@ -55,7 +55,7 @@ fn steps_need(steps: &Vec<(Operator, Expr)>) -> Result<u32, AllocError>
     Ok(more(most, 1))
 }
 
-/// How many operands a place needs, itself among them.
+/// The operands that a place needs, itself included.
 #[cycle(needs)]
 pub fn place_need(place: &TreePlace) -> Result<u32, AllocError>
     ensures { IfOk result (λ need. need ≡ Needs.place_need (view_place place.now)) }
@@ -66,7 +66,7 @@ pub fn place_need(place: &TreePlace) -> Result<u32, AllocError>
     }
 }
 
-/// How many operands the arguments of a call need, which stay there.
+/// The operands that the arguments of a call need; they stay on the stack.
 #[cycle(needs)]
 pub fn args_need(args: &Vec<Arg>) -> Result<u32, AllocError>
     ensures { IfOk result (λ need. need ≡ Needs.args_need (args_of (map view_arg args.now.items))) }
@@ -81,7 +81,7 @@ pub fn args_need(args: &Vec<Arg>) -> Result<u32, AllocError>
     Ok(more(most, depth))
 }
 
-/// How many operands an argument needs, and how many of them stay there.
+/// The operands that an argument needs, and how many of them stay on the stack.
 #[cycle(needs)]
 fn arg_need(arg: &Arg) -> Result<(u32, u32), AllocError>
     ensures { IfOk result (λ need. (rest : TypedArgs) → Needs.args_need (MoreArgs (view_arg arg.now) rest) ≡ max need.0 (need.1 + Needs.args_need rest)) }
@@ -93,7 +93,7 @@ fn arg_need(arg: &Arg) -> Result<(u32, u32), AllocError>
     }
 }
 
-/// How many operands the call of a predefined function needs, its value among them.
+/// The operands that the call of a predefined function needs, its value included.
 #[cycle(needs)]
 fn builtin_need(function: Function, args: &Vec<Arg>) -> Result<u32, AllocError>
     ensures { IfOk result (λ need. need ≡ Needs.builtin_need function (args_of (map view_arg args.now.items))) }
@@ -112,7 +112,7 @@ pub fn more(need: u32, other: u32) -> u32
     if need < other { other } else { need }
 }
 
-/// How many operands a right operand needs with the left one; AND and OR drop a copy of that first.
+/// The operands that a right operand needs with the left one, of which AND and OR drop a copy first.
 fn operand_need(operator: Operator, need: u32) -> Result<u32, AllocError>
     ensures { IfOk result (λ most. most ≡ Needs.operand_need operator need) }
 {
@@ -122,7 +122,7 @@ fn operand_need(operator: Operator, need: u32) -> Result<u32, AllocError>
     }
 }
 
-/// How many operands a predefined function of a signal needs.
+/// The operands that a predefined function of a signal needs.
 fn signal_need(function: Function) -> u32
     ensures { result ≡ Needs.signal_need function }
 {

@@ -2,7 +2,7 @@ ghost use Rattle.std.specs.Prelude.{◌≡◌, ◌+◌, IfOk};
 
 use std::alloc::AllocError;
 
-/// Two numbers together, of operations, operands or data. Its error says that they are 2^32 or more, for which no memory is.
+/// The sum of two numbers of operations, operands or data. Fails only if it is 2^32 or more.
 pub fn sum(count: u32, more: u32) -> Result<u32, AllocError>
     ensures { IfOk result (λ all. all ≡ count + more) }
 {
@@ -12,7 +12,7 @@ pub fn sum(count: u32, more: u32) -> Result<u32, AllocError>
     }
 }
 
-/// A number of things in memory. Its error is that of `sum`.
+/// A length as a u32. Fails as `sum` does.
 pub fn count_of(count: usize) -> Result<u32, AllocError>
     ensures { IfOk result (λ n. n ≡ count) }
 {

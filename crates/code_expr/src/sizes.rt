@@ -1,4 +1,4 @@
-//! How many operations expressions have. Each error says that they are 2^32 or more.
+//! The number of operations of expressions. Each fails only if it is 2^32 or more.
 
 ghost use Rattle.std.specs.Prelude.{◌≡◌, ◌≤◌, IfOk, map};
 ghost use Rattle.typed_trees.specs.Plain.{MoreArgs, NoArgs, args_of, exprs_of, steps_of};
@@ -11,7 +11,7 @@ use rapid_model::{Function, Operator, PartName};
 use std::alloc::AllocError;
 use typed_trees::{Arg, Expr, ExprForm, TreePlace};
 
-/// How many operations an expression has.
+/// The number of operations of an expression.
 #[cycle(sizes)]
 pub fn expr_size(expr: &Expr) -> Result<u32, AllocError>
     ensures { IfOk result (λ size. size ≡ Sizes.expr_size (view_expr expr.now)) }
@@ -29,7 +29,7 @@ pub fn expr_size(expr: &Expr) -> Result<u32, AllocError>
     }
 }
 
-/// How many operations the expressions of a list have.
+/// The number of operations of the expressions of a list.
 #[cycle(sizes)]
 fn exprs_size(exprs: &Vec<Expr>) -> Result<u32, AllocError>
     ensures { IfOk result (λ size. size ≡ Sizes.exprs_size (exprs_of (map view_expr exprs.now.items))) }
@@ -41,7 +41,7 @@ fn exprs_size(exprs: &Vec<Expr>) -> Result<u32, AllocError>
     Ok(size)
 }
 
-/// How many operations operators have with their right operands.
+/// The number of operations of operators with their right operands.
 #[cycle(sizes)]
 fn steps_size(steps: &Vec<(Operator, Expr)>) -> Result<u32, AllocError>
     ensures { IfOk result (λ size. size ≡ Sizes.steps_size (steps_of (map view_step steps.now.items))) }
@@ -53,7 +53,7 @@ fn steps_size(steps: &Vec<(Operator, Expr)>) -> Result<u32, AllocError>
     Ok(size)
 }
 
-/// How many operations a place has.
+/// The number of operations of a place.
 #[cycle(sizes)]
 pub fn place_size(place: &TreePlace) -> Result<u32, AllocError>
     ensures { IfOk result (λ size. size ≡ Sizes.place_size (view_place place.now)) }
@@ -64,7 +64,7 @@ pub fn place_size(place: &TreePlace) -> Result<u32, AllocError>
     }
 }
 
-/// How many operations the arguments of a call have.
+/// The number of operations of the arguments of a call.
 #[cycle(sizes)]
 pub fn args_size(args: &Vec<Arg>) -> Result<u32, AllocError>
     ensures { IfOk result (λ size. size ≡ Sizes.args_size (args_of (map view_arg args.now.items))) }
@@ -76,7 +76,7 @@ pub fn args_size(args: &Vec<Arg>) -> Result<u32, AllocError>
     Ok(size)
 }
 
-/// How many operations an argument has.
+/// The number of operations of an argument.
 #[cycle(sizes)]
 fn arg_size(arg: &Arg) -> Result<u32, AllocError>
     ensures { IfOk result (λ size. size ≡ Sizes.args_size (MoreArgs (view_arg arg.now) NoArgs)) }
@@ -88,7 +88,7 @@ fn arg_size(arg: &Arg) -> Result<u32, AllocError>
     }
 }
 
-/// How many operations the call of a predefined function has.
+/// The number of operations of the call of a predefined function.
 #[cycle(sizes)]
 fn builtin_size(function: Function, args: &Vec<Arg>) -> Result<u32, AllocError>
     ensures { IfOk result (λ size. size ≡ Sizes.builtin_size function (args_of (map view_arg args.now.items))) }
@@ -101,7 +101,7 @@ fn builtin_size(function: Function, args: &Vec<Arg>) -> Result<u32, AllocError>
     }
 }
 
-/// How many operations the part of a place has: none where it is the whole.
+/// The number of operations that narrow a place to a part: none for the whole.
 fn part_size(part: PartName) -> u32
     ensures value { result ≡ Sizes.part_size part }
     ensures small { result ≤ 1 }
@@ -112,7 +112,7 @@ fn part_size(part: PartName) -> u32
     }
 }
 
-/// How many operations an operator has besides its right operand.
+/// The number of operations of an operator, its right operand apart.
 pub(crate) fn operator_size(operator: Operator) -> u32
     ensures { result ≡ Sizes.operator_size operator }
 {
@@ -122,14 +122,14 @@ pub(crate) fn operator_size(operator: Operator) -> u32
     }
 }
 
-/// How many operations a leading sign has.
+/// The number of operations of a leading sign.
 fn sign_size(minus: bool) -> u32
     ensures { result ≡ Sizes.sign_size minus }
 {
     if minus { 1 } else { 0 }
 }
 
-/// How many operations a predefined function of a signal has.
+/// The number of operations of a predefined function of a signal.
 fn signal_size(function: Function) -> u32
     ensures { result ≡ Sizes.signal_size function }
 {

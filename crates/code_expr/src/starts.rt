@@ -1,4 +1,4 @@
-//! Where the data of a task's modules begin, and those of a routine, row by row.
+//! Where the data of each row of a task's modules and of a routine begin.
 
 ghost use Rattle.std.specs.Prelude.{◌≡◌, ℕ, [], ◌∷◌, ◌++◌, List, map, replicate, sum, take, IfOk, OnOk};
 ghost use Rattle.rapid_model.specs.Sorts.{width as width_of};
@@ -11,7 +11,7 @@ use rapid_model::width;
 use std::alloc::{AllocError, Global};
 use typed_trees::{Routine, Tree};
 
-/// The start of no row, which is 0. Its error says that memory was refused.
+/// The end of no rows, 0. Fails only if an allocation fails.
 fn no_rows(alloc: Global) -> Result<Vec<u32>, AllocError>
     ensures { IfOk result (λ starts. AreStarts starts.items []) }
 {
@@ -20,7 +20,7 @@ fn no_rows(alloc: Global) -> Result<Vec<u32>, AllocError>
     Ok(starts)
 }
 
-/// One more row, of so many data. Its error says that memory was refused, or that the data are 2^32 or more.
+/// Appends a row of `width` data. Fails only if an allocation fails or there are 2^32 data or more.
 fn add_row(starts: &mut Vec<u32>, width: usize) -> Result<(), AllocError>
     ensures { OnOk result ((widths : List ℕ) → AreStarts starts.old.items widths → AreStarts starts.new.items (widths ++ width ∷ [])) }
 {
@@ -30,7 +30,7 @@ fn add_row(starts: &mut Vec<u32>, width: usize) -> Result<(), AllocError>
     Ok(())
 }
 
-/// Where a row begins; behind the last one, the end of all.
+/// Where a row begins; after the last one, the end of all.
 pub(crate) fn start_in(starts: &[u32], row: usize) -> u32
     ensures { (widths : List ℕ) → AreStarts starts.now widths → result ≡ sum (take row widths) }
 {
@@ -41,7 +41,7 @@ pub(crate) fn start_in(starts: &[u32], row: usize) -> u32
     }
 }
 
-/// Where the data of the modules begin, and the end of all. Its error says that memory was refused, or that the data are 2^32 or
+/// Where the data of the modules begin, and the end of all. Fails only if an allocation fails or there are 2^32 data or
 /// more.
 pub fn slot_starts(alloc: Global, tree: &Tree) -> Result<Vec<u32>, AllocError>
     ensures { IfOk result (λ starts. AreStarts starts.items (slot_widths (view_tree tree.now))) }
@@ -53,8 +53,8 @@ pub fn slot_starts(alloc: Global, tree: &Tree) -> Result<Vec<u32>, AllocError>
     Ok(starts)
 }
 
-/// Where the parameters, data and FORs of a routine begin, and the end of all: a FOR has three data. Its error says that
-/// memory was refused, or that the data are 2^32 or more.
+/// Where the parameters, data and FORs of a routine begin, and the end of all. A FOR has three data. Fails only if an
+/// allocation fails or there are 2^32 data or more.
 pub fn local_starts(alloc: Global, routine: &Routine) -> Result<Vec<u32>, AllocError>
     ensures { IfOk result (λ starts. AreStarts starts.items (local_widths (view_routine routine.now))) }
 {
@@ -65,7 +65,7 @@ pub fn local_starts(alloc: Global, routine: &Routine) -> Result<Vec<u32>, AllocE
     Ok(starts)
 }
 
-/// So many more rows, each of so many data. Its error is that of `add_row`.
+/// Appends `count` rows of `width` data each. Fails as `add_row` does.
 fn add_rows(starts: &mut Vec<u32>, count: usize, width: usize) -> Result<(), AllocError>
     ensures { OnOk result ((widths : List ℕ) → AreStarts starts.old.items widths → AreStarts starts.new.items (widths ++ replicate count width)) }
 {
@@ -75,7 +75,7 @@ fn add_rows(starts: &mut Vec<u32>, count: usize, width: usize) -> Result<(), All
     Ok(())
 }
 
-/// A row for each datum that a routine declares. Its error is that of `add_row`.
+/// Appends a row for each datum that a routine declares. Fails as `add_row` does.
 fn add_locals(starts: &mut Vec<u32>, routine: &Routine) -> Result<(), AllocError>
     ensures { OnOk result ((widths : List ℕ) → AreStarts starts.old.items widths → AreStarts starts.new.items (widths ++ map (λ row. width_of row.len) (view_routine routine.now).locals)) }
 {

@@ -1,4 +1,4 @@
--- Arguments, parted one after the other.
+-- Arguments, split one by one.
 use Rattle.std.proofs.Common.{◌≡◌, ℕ, ◌||◌, true, false, List, [], ◌∷◌, ◌++◌, refl, sym, ap, ◌∙◌}
 use Rattle.std.proofs.lemmas.List.{append_assoc}
 use Rattle.rapid_meaning.specs.Instructions.{has, needed, options}
@@ -21,11 +21,11 @@ pub other_kept : (arg : TypedArg) (more : TypedArgs) → is_option arg ≡ false
 other_kept (Optional name value) more is = absurd cc
 other_kept arg more is = refl
 
--- the first of those that are left is put behind those that are there
+-- the first of those that are left is appended
 pub one_further : {X : Type 0} (done : List X) (one : X) (left rest whole : List X) → done ++ left ≡ whole → left ≡ one ∷ rest → (done ++ one ∷ []) ++ rest ≡ whole
 one_further done one left rest whole is first = append_assoc done (one ∷ []) rest ∙ (ap (λ xs. done ++ xs) (sym first) ∙ is)
 
--- an option more
+-- one more option
 pub has_more : (name : List ℕ) (arg : TypedArg) (more : List TypedArg) → has name (arg ∷ more) ≡ (is_named name arg || has name more)
 unfolding has
 has_more name (Optional other value) more = refl

@@ -1,4 +1,4 @@
--- Runs of operations that are given to their statement.
+-- Runs of operations and the statement that owns them.
 use Rattle.std.proofs.Common.{◌≡◌, ℕ, ◌+◌, ◌≤◌, List, [], ◌∷◌, ◌++◌, length, drop, refl, sym, ap, subst, ◌∙◌, arith}
 use Rattle.std.proofs.lemmas.List.{drop_at, drop-append-le, drop-map, length-drop, length-map, map-append}
 use Rattle.stack_code.specs.Placed.{Own, Placed}
@@ -16,11 +16,11 @@ pub ops_owned : (own : Own) (ops : List Op) → ops_of (owned own ops) ≡ ops
 ops_owned own [] = refl
 ops_owned own (op ∷ ops) = ap (λ more. op ∷ more) (ops_owned own ops)
 
--- what is written, by its parts
+-- what was written, by its parts
 three : {m n : ℕ} {xs ys : List Op} {rs qs : List Owner} → m ≡ n → xs ≡ ys → rs ≡ qs → ◌≡◌ {A = ℕ × (List Op × List Owner)} (m, (xs, rs)) (n, (ys, qs))
 three {n = n} {xs = xs} {ys = ys} {rs = rs} e f g = ap (λ k. (k, (xs, rs))) e ∙ (ap (λ zs. (n, (zs, rs))) f ∙ ap (λ zs. (n, (ys, zs))) g)
 
--- what is put behind operations of one owner is that owner's
+-- operations appended to those of one owner are that owner's
 put_behind : (own : Own) (old new : List Op) (ps rest : List Placed) → length old ≤ length new → owned own new ++ ps ≡ owned own old ++ rest → rest ≡ owned own (drop (length old) new) ++ ps
 put_behind own old new ps rest longer e =
     let same : length (owned own old) ≡ length old = length-map old (owned_by own) in
@@ -56,7 +56,7 @@ closes own w v n code added rows =
           ∙ ap (with_rows w.owners.items from) (sym (put_behind own old new ps (code from ps) longer all)))));
     }
 
--- a run that is closed behind operations that were put behind others
+-- a run that is closed after operations were appended to it
 pub closed_run : (own : Own) (w v : Written) (between : Block) (n : ℕ) (code : Code) (first : ℕ) → Adds own w.code between n code → v.code ≡ between → v.owners.items ≡ with_run w.owners.items first (end_of between) own → first ≡ end_of w.code → Lays w v n code
 closed_run own w v between n code first added same rows place =
     closes own w v n code (subst (λ b. Adds own w.code b n code) (sym same) added)

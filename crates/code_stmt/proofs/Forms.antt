@@ -31,7 +31,7 @@ for_form s local bounds list is = ap (view_stmt_form s.at) is ∙ for_view s.at 
 pub while_form : (s : Stmt) (test : Expr) (list : Vec Stmt Global) → s.form ≡ While test list → view_stmt s ≡ trees.While s.at (view_expr test) (stmts_of (view_list list))
 while_form s test list is = ap (view_stmt_form s.at) is ∙ while_view s.at test list
 
--- a form that holds a list, made of what it was made of
+-- a form that holds a list, made of the same parts
 pub if_is : (shape : _) (row : _) (other : _) → (arms : Vec (Expr × Vec Stmt Global) Global) × ((else : Option (Vec Stmt Global)) × (If' shape row other ≡ If arms else))
 if_is shape row other = (_, (_, sym (roll-out-Form (If' shape row other)) ∙ ap roll-Form (outs-If' shape row other) ∙ rolls-If _ _))
 

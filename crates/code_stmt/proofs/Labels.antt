@@ -1,4 +1,4 @@
--- Places of labels, found one after the other.
+-- Places of labels, found one by one.
 use Rattle.std.proofs.Common.{◌≡◌, ℕ, ◌+◌, List, [], ◌∷◌, ◌++◌, Option, refl, sym, ap, subst, ◌∙◌, arith}
 use Rattle.std.proofs.lemmas.List.{append-nil, append_assoc}
 use Rattle.stack_code.specs.Pieces.{pieces}
@@ -13,7 +13,7 @@ use Rattle.code_stmt.specs.Labelled.{Passes}
 use Rattle.code_stmt.specs.Parts.{arms_in, cases_in, else_in}
 use Rattle.code_stmt.proofs.Simple.{Simple}
 
--- the same labels, in operations that are more, or are counted otherwise
+-- the same labels, in more operations or with another count of them
 pub passes_as : (old new : List ℕ) (first end n : ℕ) (labels : ℕ → List ℕ) (from to size : ℕ) (others : ℕ → List ℕ) → Passes old new first end n labels → to ≡ from + size → labels first ≡ others from → Passes old new from to size others
 passes_as old new first end n labels from to size others h count same = record {
   grown = count;
@@ -36,7 +36,7 @@ passes_both old middle new first end n labels second past m laters from to size 
 pub labels_found : (old new : List ℕ) (from to n : ℕ) (labels : ℕ → List ℕ) → Passes old new from to n labels → new ≡ old ++ labels from
 labels_found old new from to n labels found = sym (append-nil new) ∙ (found.laid [] ∙ ap (λ xs. old ++ xs) (append-nil (labels from)))
 
--- the labels of all of them are found but for those that are left
+-- the labels of all of them are found except those that are left
 abbrev pub LeftOf : List ℕ → List ℕ → ℕ → ℕ → ℕ → (ℕ → List ℕ) → ℕ → (ℕ → List ℕ) → Type 0
 LeftOf old new from to n all k left = Left (λ more. old ++ more) (λ more. new ++ more) from to n (λ pc more. all pc ++ more) k (λ pc more. left pc ++ more)
 

@@ -1,4 +1,4 @@
--- Statements whose operations are put behind what is written.
+-- Statements whose operations are appended to what was written.
 use Rattle.std.proofs.Common.{◌≡◌, ℕ, ◌+◌, List, Option, option_map, refl, sym, ap, subst, ◌∙◌, arith}
 use Rattle.rapid_meaning.specs.Layouts.{local_start}
 use Rattle.stack_code.specs.ExprLayouts.{expr_code, put}
@@ -20,7 +20,7 @@ use Rattle.code_stmt.specs.Parts.{arms_in, cases_in, else_in}
 use Rattle.code_stmt.specs.declared.written.Written.{Written}
 use Rattle.code_stmt.proofs.Simple.{Simple}
 
--- an owner is who it is by what it has to do with its operations
+-- an owner is determined by what its operations share
 pub same_owner : (o p : Own) → o.retry ≡ p.retry → o.next ≡ p.next → o.at.«module» ≡ p.at.«module» → o.at.byte ≡ p.at.byte → o ≡ p
 same_owner o p retry next «module» byte =
     ap (λ (n : ℕ). record { retry = n; next = o.next; at = o.at }) retry
@@ -65,7 +65,7 @@ module _ (at : Context) (labels : List ℕ) where
   if_one_laid a b c d e view own begin test then is owned look tested jump laid =
       stmt_laid a e view (trees.IfOne begin test then) own _ is owned (follows_then look (follows_then tested (follows_then jump laid))) (omega arith)
 
-  -- a FOR before its Turn
+  -- a FOR up to its Turn
   abbrev pub LaysBounds : Own → Written → Written → ℕ → Bounds → Type 0
   LaysBounds own old new variable b =
       let pieces = bounds_pieces variable (view_expr b.first) (view_expr b.last) (option_map view_expr b.step) in

@@ -1,4 +1,4 @@
--- Lists whose statements are put behind what is written, one after the other.
+-- Lists whose statements are appended to what was written, one by one.
 use Rattle.std.proofs.Common.{◌≡◌, ℕ, ◌+◌, List, ap, ◌∙◌, arith}
 use Rattle.stack_code.specs.ExprLayouts.{expr_code, put}
 use Rattle.stack_code.specs.Placed.{Own}
@@ -13,7 +13,7 @@ use Rattle.code_expr.proofs.Follow.{Left, follows_then, left_step, left_then}
 use Rattle.code_stmt.specs.Lays.{Lays, LaysList, LaysStmt, with_placed}
 use Rattle.code_stmt.specs.declared.written.Written.{Written}
 
--- what is written is another with all of them but for those that are left
+-- what was written is another with all of them except those that are left
 abbrev pub LeftList : Context → List ℕ → Written → Written → TypedStmts → TypedStmts → Type 0
 LeftList at labels a b all left = Left (with_placed a) (with_placed b) (end_of a.code) (end_of b.code)
     (stmts_size (tree_of at) (routine_of at) all) (λ pc ps. stmts_code (tree_of at) (routine_of at) labels pc all ps)
@@ -32,7 +32,7 @@ LeftCases at labels own a b all left = Left (with_placed a) (with_placed b) (end
 pub one_stmt_more : (at : Context) (labels : List ℕ) (a b d : Written) (all rest : TypedStmts) (s : TypedStmt) → LeftList at labels a b all (MoreStmts s rest) → LaysStmt at labels b d s → LeftList at labels a d all rest
 one_stmt_more at labels a b d all rest s left laid = left_then left laid
 
--- a condition, a jump behind its list, the list, and a jump behind the statement
+-- a condition, a jump past its list, the list, and a jump past the statement
 pub one_arm_more : (at : Context) (labels : List ℕ) (own : Own) (a b c d e f : Written) (all rest : TypedArms) (test : TypedExpr) (list : TypedStmts) (behind : ℕ) →
     LeftArms at labels own a b all (MoreArms test list rest) →
     Lays b c (expr_size test) (λ pc ps. expr_code (tree_of at) (routine_of at) own pc test ps) →
@@ -52,7 +52,8 @@ one_arm_more at labels own a b c d e f all rest test list behind left tested pla
     ap (λ to. expr_code tree routine own pc test (put own (ops.JumpFalse to) (stmts_code tree routine labels inside list (put own (ops.Jump own.next) (arms_code tree routine labels own after rest ps))))) there
     ∙ ap (λ next. expr_code tree routine own pc test (put own (ops.JumpFalse behind) (stmts_code tree routine labels inside list (put own (ops.Jump own.next) (arms_code tree routine labels own next rest ps))))) (omega arith))
 
--- values, which go on at the list, a jump behind that, what is tested is dropped, the list, and a jump behind the statement
+-- values, which jump to the list, a jump past that, the drop of the value tested, the list, and a jump past the
+-- statement
 pub one_case_more : (at : Context) (labels : List ℕ) (own : Own) (a b c d e f g : Written) (all rest : TypedCases) (values : TypedExprs) (list : TypedStmts) (first behind : ℕ) →
     LeftCases at labels own a b all (MoreCases values list rest) →
     first ≡ end_of b.code + (values_size values + 1) →

@@ -1,4 +1,4 @@
--- Operations and rows of owners that are put behind others, from the last row on.
+-- Operations and rows of owners that are appended to others, from the last row on.
 use Rattle.std.specs.Prelude.{option_to_list, slice_get}
 use Rattle.std.proofs.Common.{◌≡◌, ℕ, suc, ◌+◌, ◌-◌, ◌<◌, List, [], ◌∷◌, ◌++◌, length, take, Result, Ok, Err, OnOk, refl, sym, ap, ◌∙◌, arith}
 use Rattle.std.proofs.lemmas.List.{append_assoc, append-nil, length-append, length-map, map-append}
@@ -21,7 +21,7 @@ use Rattle.code_stmt.specs.Runs.{with_row, with_rows}
 use Rattle.code_stmt.specs.declared.written.Written.{Written}
 use Rattle.code_stmt.proofs.OwnerRows.{Ended, all_rows, behind, ended, none, rows_append, rows_behind}
 
--- what follows from three facts that hold where there is no error
+-- what follows from three facts that hold if there is no error
 pub on_ok_three : {T E P Q R S : Type 0} (r : Result T E) → (P → Q → R → S) → OnOk r P → OnOk r Q → OnOk r R → OnOk r S
 on_ok_three (Ok x) follows p q r = follows p q r
 on_ok_three (Err e) follows p q r = p
@@ -30,7 +30,7 @@ on_ok_three (Err e) follows p q r = p
 pair : {xs ys : List Op} {rs qs : List Owner} → xs ≡ ys → rs ≡ qs → ◌≡◌ {A = List Op × List Owner} (xs, rs) (ys, qs)
 pair {ys = ys} {rs = rs} e f = ap (λ zs. (zs, rs)) e ∙ ap (λ zs. (ys, zs)) f
 
--- rows are their front and their last
+-- rows are all but the last, and the last
 front_last : (front : List Owner) (row : Owner) → front_of (front ++ row ∷ []) ≡ front
 unfolding front_of
 front_last [] row = refl
@@ -51,7 +51,7 @@ no_last : last_of [] ≡ []
 unfolding last_of
 no_last = refl
 
--- the last row, and those before it, by their number
+-- the last row and those before it, by their number
 pub last_at : (rows : List Owner) → option_to_list (slice_get rows (length rows - 1)) ≡ last_of rows
 unfolding last_of
 last_at [] = refl
@@ -68,7 +68,7 @@ front_at (row ∷ next ∷ more) =
     let count : length (row ∷ next ∷ more) - 1 ≡ suc (length (next ∷ more) - 1) = omega arith in
     ap (λ i. take i (row ∷ next ∷ more)) count ∙ ap (λ rows. row ∷ rows) (front_at (next ∷ more))
 
--- rows that there are stay
+-- rows that are there stay
 row_stays : (rows : List Owner) (first past : ℕ) (own : Own) → 0 < length (with_row rows first past own)
 unfolding with_row
 row_stays [] first past own = omega arith
@@ -84,7 +84,7 @@ no_rows : (pc : ℕ) → with_rows [] pc [] ≡ []
 unfolding with_rows
 no_rows pc = refl
 
--- rows that the last of some has become, with those before it
+-- rows that replace the last of others, with those before it
 grown_last : (front qs : List Owner) (row : Owner) (from to : ℕ) (code : List Placed → List Placed) → ((ps : List Placed) → with_rows qs to ps ≡ with_rows (row ∷ []) from (code ps)) →
     (ps : List Placed) → with_rows (front ++ qs) to ps ≡ with_rows (front ++ row ∷ []) from (code ps)
 grown_last front qs row from to code same ps = by (ended qs) same
@@ -108,7 +108,7 @@ rows_put owners qs from to code same ps = by (ended owners) same
         ap (λ rows. with_rows (rows ++ qs) to ps) (front_last front row)
         ∙ grown_last front qs row from to code (λ more. same more ∙ ap (λ rows. with_rows rows from (code more)) (last_last front row)) ps
 
--- what is written from the end of some code on, put behind it
+-- what was written from the end of some code on, appended to it
 pub put_behind_code : (old new : List Op) (owners marked : List Owner) (a b : Written) (n : ℕ) (code : Code) → a.code.start ≡ length old → a.code.ops.items ≡ [] → a.owners.items ≡ last_of owners → Lays a b n code →
     new ≡ old ++ b.code.ops.items → marked ≡ front_of owners ++ b.owners.items → Follows (with_marked old owners) (with_marked new marked) (length old) (length new) n code
 put_behind_code old new owners marked a b n code start fresh last laid put_ops put_rows =
@@ -132,7 +132,7 @@ put_behind_code old new owners marked a b n code start fresh last laid put_ops p
           ∙ ap (λ pc. with_rows owners pc (code pc ps)) here)));
     }
 
--- a routine whose labels have the places that they have there
+-- a routine whose labels have their places there
 pub routine_follows : {X : Type 0} {a b : List Placed → X} {i j : ℕ} (tree : TypedTree) (routine : TypedRoutine) (labels : List ℕ) → labels ≡ routine_labels tree routine i →
     Follows a b i j (routine_size tree routine) (λ pc ps. stmts_code tree routine labels pc routine.list (put (own_end routine (pc + stmts_size tree routine routine.list)) (end_op routine.kind) (part_code tree routine labels (part_start tree routine pc) routine.handler ps))) →
     Follows a b i j (routine_size tree routine) (λ pc ps. routine_code tree pc routine ps)
@@ -140,7 +140,7 @@ routine_follows {i = i} tree routine labels are h =
     follows_as (routine_size tree routine) (λ pc ps. routine_code tree pc routine ps) h refl (λ ps.
     ap (λ places. stmts_code tree routine places i routine.list (put (own_end routine (i + stmts_size tree routine routine.list)) (end_op routine.kind) (part_code tree routine places (part_start tree routine i) routine.handler ps))) are)
 
--- code and rows that stand for operations stand for those of one more routine
+-- code and rows that stand for operations also stand for those of one more routine
 pub stands : (tree : TypedTree) (routine : TypedRoutine) (old new : List Op) (marks marked : Marks) (placed : List Placed) → Marked tree routine old new marks marked → Stand old marks.owners.items placed →
     Stand new marked.owners.items (placed ++ routine_code tree (length placed) routine [])
 unfolding with_rows

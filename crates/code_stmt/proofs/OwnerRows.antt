@@ -1,4 +1,4 @@
--- Rows of owners that grow by runs of operations, and by one operation after the other.
+-- Rows of owners that grow by runs of operations, and by one operation at a time.
 use Rattle.std.proofs.Common.{◌≡◌, ℕ, zero, suc, ◌+◌, ◌-◌, ◌==◌, true, false, List, [], ◌∷◌, ◌++◌, length, get_or, set, refl, sym, ap, ◌∙◌, arith, if◌then◌else◌}
 use Rattle.std.proofs.lemmas.Bool.{eq-eqb, ne_eqb}
 use Rattle.std.proofs.lemmas.List.{append_assoc, get_or_at, length_push, set_at}
@@ -21,7 +21,7 @@ grows : (row : Owner) (first past : ℕ) (own : Own) → same_own own (own_of ro
 unfolding with_row
 grows row first past own same = ap (λ b. if b then owner_row row.first past (own_of row) ∷ [] else row ∷ owner_row first past own ∷ []) same
 
--- behind a row that is not, there is a new one
+-- after a row that is not, there is a new one
 begins : (row : Owner) (first past : ℕ) (own : Own) → same_own own (own_of row) ≡ false → with_row (row ∷ []) first past own ≡ row ∷ owner_row first past own ∷ []
 unfolding with_row
 begins row first past own other = ap (λ b. if b then owner_row row.first past (own_of row) ∷ [] else row ∷ owner_row first past own ∷ []) other
@@ -33,7 +33,7 @@ row_behind [] row first past own = refl
 row_behind (x ∷ []) row first past own = refl
 row_behind (x ∷ y ∷ front) row first past own = ap (λ rows. x ∷ rows) (row_behind (y ∷ front) row first past own)
 
--- the front of some rows, and their last
+-- all rows but the last, and the last
 pub data Ended : List Owner → Type 0 where
   none : Ended []
   behind : (front : List Owner) (row : Owner) → Ended (front ++ row ∷ [])
@@ -46,11 +46,11 @@ ended (row ∷ rows) = with_first row (ended rows)
     with_first row none = behind [] row
     with_first row (behind front last) = behind (row ∷ front) last
 
--- the last row of some, by its number
+-- the last of some rows, by its number
 last_read : (front : List Owner) (row x : Owner) (n : ℕ) → n ≡ length (front ++ row ∷ []) - 1 → x ≡ get_or (front ++ row ∷ []) n x → x ≡ row
 last_read front row x n at read = read ∙ get_or_at front row [] x n (omega (arith, at, length_push front row))
 
--- a last row that is this owner's is put back longer
+-- a last row of this owner grows
 pub last_grows : (rows : List Owner) (n : ℕ) (x : Owner) (first past : ℕ) (own : Own) → n ≡ length rows - 1 → (length rows ≡ 0 → ⊥) → x ≡ get_or rows n x → same_own own (own_of x) ≡ true →
     set rows n (owner_row x.first past (own_of x)) ≡ with_row rows first past own
 last_grows rows n x first past own at some read same = by (ended rows) at some read
@@ -64,7 +64,7 @@ last_grows rows n x first past own at some read same = by (ended rows) at some r
         ∙ (ap (λ rows. front ++ rows) (sym (grows row first past own (ap (λ y. same_own own (own_of y)) (sym last) ∙ same)))
         ∙ sym (row_behind front row first past own)))
 
--- behind a last row that is not, there is a new one
+-- after a last row of another owner there is a new one
 pub new_begins : (rows : List Owner) (n : ℕ) (x : Owner) (first past : ℕ) (own : Own) → n ≡ length rows - 1 → (length rows ≡ 0 → ⊥) → x ≡ get_or rows n x → same_own own (own_of x) ≡ false →
     rows ++ owner_row first past own ∷ [] ≡ with_row rows first past own
 new_begins rows n x first past own at some read other = by (ended rows) at some read
@@ -104,7 +104,7 @@ merges rows first middle past own = by (ended rows)
         ap (λ rows. with_row rows middle past own) (row_behind front row first middle own)
         ∙ (later front row ∙ sym (row_behind front row first past own))
 
--- a run may have no operations
+-- a run may be empty
 no_run : (rows : List Owner) (first past : ℕ) (own : Own) → first ≡ past → with_run rows first past own ≡ rows
 no_run rows first past own e = ap (λ b. if b then rows else with_row rows first past own) (eq-eqb first past e)
 
@@ -129,7 +129,7 @@ run_is_rows rows pc own (op ∷ ops) ps =
         some_run (with_row rows pc (pc + 1) own) (pc + 1) (pc + 1 + suc (length ops)) own (λ e. omega (arith, e))
         ∙ (merges rows pc (pc + 1) (pc + 1 + suc (length ops)) own ∙ sym (some_run rows pc (pc + 1 + suc (length ops)) own (λ e. omega (arith, e))))
 
--- one list of operations after the other
+-- one list of operations after another
 pub rows_append : (rows : List Owner) (pc : ℕ) (xs ys : List Placed) → with_rows rows pc (xs ++ ys) ≡ with_rows (with_rows rows pc xs) (pc + length xs) ys
 unfolding with_rows
 rows_append rows pc [] ys = ap (λ at. with_rows rows at ys) (omega arith)
@@ -148,7 +148,7 @@ rows_behind front row pc (p ∷ ps) =
     ∙ (append_assoc front (row ∷ []) (with_rows (owner_row pc (pc + 1) p.own ∷ []) (pc + 1) ps)
     ∙ ap (λ rows. front ++ rows) (sym (rows_behind (row ∷ []) (owner_row pc (pc + 1) p.own) (pc + 1) ps)))))
 
--- the rows of some operations are those that grow one by one
+-- the rows of operations are those that grow one by one
 rows_grow : (first past : ℕ) (own : Own) (ps : List Placed) → rows_from first past own ps ≡ with_rows (owner_row first past own ∷ []) past ps
 unfolding rows_from with_rows
 rows_grow first past own [] = refl

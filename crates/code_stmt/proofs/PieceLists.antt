@@ -1,4 +1,4 @@
--- The pieces of a statement, put behind what is there one after the other.
+-- The pieces of a statement, appended one by one.
 use Rattle.std.proofs.Common.{◌≡◌, ℕ, ◌+◌, max, List, [], ◌∷◌, refl, ap, subst, ◌∙◌, arith}
 use Rattle.stack_code.specs.ExprLayouts.{put}
 use Rattle.stack_code.specs.Needs.{pieces_need}
@@ -17,7 +17,7 @@ pub pieces_laid : {X : Type 0} {a b : List Placed → X} {i j : ℕ} (tree : Typ
     Follows a b i j (pieces_size view) (λ pc ps. pieces_code tree routine labels own pc view ps) → Follows a b i j (pieces_size pieces) (λ pc ps. pieces_code tree routine labels own pc pieces ps)
 pieces_laid {a = a} {b = b} {i = i} {j = j} tree routine labels own view pieces is h = subst (λ p. Follows a b i j (pieces_size p) (λ pc ps. pieces_code tree routine labels own pc p ps)) is h
 
--- the code of a piece, and of those behind it
+-- the code of a piece, and of those after it
 first_code : (tree : TypedTree) (routine : TypedRoutine) (labels : List ℕ) (own : Own) (pc : ℕ) (piece : Piece) (more : List Piece) (ps : List Placed) →
     pieces_code tree routine labels own pc (piece ∷ more) ps ≡ pieces_code tree routine labels own pc (piece ∷ []) (pieces_code tree routine labels own (pc + piece_size piece) more ps)
 unfolding pieces_code
@@ -36,7 +36,7 @@ pub one_code : (tree : TypedTree) (routine : TypedRoutine) (labels : List ℕ) (
 unfolding pieces_size
 one_code tree routine labels own piece count h = follows_as (piece_size piece + 0) _ h (omega (arith, count)) (λ ps. refl)
 
--- what is there is with all pieces but for those that are left
+-- what is there has all pieces except those that are left
 abbrev pub LeftPieces : {X : Type 0} → (List Placed → X) → (List Placed → X) → ℕ → ℕ → TypedTree → TypedRoutine → List ℕ → Own → List Piece → List Piece → Type 0
 LeftPieces a b i j tree routine labels own all left = Left a b i j
     (pieces_size all) (λ pc ps. pieces_code tree routine labels own pc all ps) (pieces_size left) (λ pc ps. pieces_code tree routine labels own pc left ps)
@@ -48,7 +48,7 @@ one_piece_more {j = j} tree routine labels own all piece rest left added =
     left_step (pieces_size rest) (λ pc ps. pieces_code tree routine labels own pc rest ps) left added (omega arith) (λ ps.
     first_code tree routine labels own j piece rest ps ∙ ap (λ pc. pieces_code tree routine labels own j (piece ∷ []) (pieces_code tree routine labels own pc rest ps)) (omega arith))
 
--- how many operands pieces need, with what the first of them does
+-- the operands that pieces need, by what the first of them does
 pub need_more : (most depth : ℕ) (piece : Piece) (rest : List Piece) → max most (pieces_need depth (piece ∷ rest)) ≡ max (max most (depth + piece_need piece)) (pieces_need (depth_behind piece depth) rest)
 unfolding pieces_need
 need_more most depth (OfExpr e) rest = omega arith

@@ -1,4 +1,4 @@
--- Statements that have no list, nor are labels.
+-- Statements that have no list and are no labels.
 use Rattle.std.proofs.Common.{◌≡◌, ℕ, ◌+◌, List, [], Option, refl}
 use Rattle.std.specs.declared.alloc.Global.{Global}
 use Rattle.std.specs.declared.boxed.Box.{Box}

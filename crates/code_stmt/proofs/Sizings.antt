@@ -16,11 +16,11 @@ use Rattle.code_stmt.specs.declared.written.Written.{Written}
 use Rattle.code_stmt.proofs.Labels.{LeftInArms, LeftInCases, LeftInList}
 use Rattle.code_stmt.proofs.Lists.{LeftArms, LeftCases, LeftList}
 
--- of the sizes of all, those of what is left are next
+-- the sizes of what is left are next
 abbrev pub TakingTo : SizesLeft → SizesLeft → List ℕ → List ℕ → Type 0 → Type 0
 TakingTo old new all left claim = (rest : List ℕ) → left_in old ≡ all ++ rest → claim × (left_in new ≡ left ++ rest)
 
--- found so far: of the sizes of all, but for those of what is left
+-- found so far: the sizes of all except those of what is left
 abbrev pub FoundTo : List ℕ → List ℕ → List ℕ → List ℕ → Type 0
 FoundTo old new all left = new ++ left ≡ old ++ all
 
@@ -37,7 +37,7 @@ one_found old middle new all one left found is = ap (λ xs. xs ++ left) is ∙ (
 pub all_found : (old new all : List ℕ) → FoundTo old new all [] → new ≡ old ++ all
 all_found old new all found = sym (append-nil new) ∙ found
 
--- a size is put where a place was kept for it
+-- a size is written where a place was kept for it
 pub slot_filled : (old begun all inner : List ℕ) (slot size its : ℕ) → begun ≡ old ++ 0 ∷ [] → all ≡ begun ++ inner → slot ≡ length old → size ≡ its → set all slot size ≡ old ++ its ∷ inner
 slot_filled old begun all inner slot size its is more at same =
     ap (λ xs. set xs slot size) (more ∙ (ap (λ xs. xs ++ inner) is ∙ append_assoc old (0 ∷ []) inner))
@@ -53,7 +53,7 @@ module _ (tree : TypedTree) (routine : TypedRoutine) where
       cases_sizes tree routine (cases_in s) ++ else_sizes tree routine (else_in s) ≡ inner_sizes tree routine s
   test_inside s at value cases other is = ap (λ t. cases_sizes tree routine (cases_in t) ++ else_sizes tree routine (else_in t)) is ∙ ap (inner_sizes tree routine) (sym is)
 
--- what is next in two parts
+-- the sizes next, in two parts
 pub both_next : (left first second all rest : List ℕ) → first ++ second ≡ all → left ≡ all ++ rest → left ≡ first ++ (second ++ rest)
 both_next left first second all rest same is = is ∙ (ap (λ xs. xs ++ rest) (sym same) ∙ append_assoc first second rest)
 
@@ -67,7 +67,7 @@ module _ (at : Context) (labels : List ℕ) where
   abbrev pub TakesCases : Own → SizesLeft → SizesLeft → Written → Written → TypedCases → Type 0
   TakesCases own from to old new cases = Taking from to (cases_sizes (tree_of at) (routine_of at) cases) (LaysCases at labels own old new cases)
 
-  -- all of them but for those that are left
+  -- all of them except those that are left
   abbrev pub TakingList : SizesLeft → SizesLeft → Written → Written → TypedStmts → TypedStmts → Type 0
   TakingList from to old new all left = TakingTo from to (stmts_sizes (tree_of at) (routine_of at) all) (stmts_sizes (tree_of at) (routine_of at) left) (LeftList at labels old new all left)
 

@@ -1,4 +1,4 @@
--- How many operands statements need, by their forms.
+-- The operands that statements need, by their forms.
 use Rattle.std.proofs.Common.{◌≡◌, ℕ, max, refl, sym, subst}
 use Rattle.std.specs.Prelude.{Option}
 use Rattle.rapid_meaning.specs.Layouts.{local_start}

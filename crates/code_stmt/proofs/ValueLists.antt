@@ -1,4 +1,4 @@
--- The values of a CASE, put behind a block one after the other.
+-- The values of a CASE, appended to a block one by one.
 use Rattle.std.proofs.Common.{ℕ, ◌+◌, ap, arith}
 use Rattle.rapid_model.specs.declared.operator.Operator.TheVariants as operators
 use Rattle.stack_code.specs.ExprLayouts.{expr_code, put}
@@ -18,7 +18,7 @@ LeftValues own at list a b all left = Left (with_code own a) (with_code own b) (
     (values_size all) (λ pc ps. values_code (tree_of at) (routine_of at) own list pc all ps)
     (values_size left) (λ pc ps. values_code (tree_of at) (routine_of at) own list pc left ps)
 
--- a copy, a value, both compared, and a jump
+-- a copy, a value, a comparison, and a jump
 pub one_value_more : (own : Own) (at : Context) (list : ℕ) (a b c d e f : Block) (all rest : TypedExprs) (value : TypedExpr) →
     LeftValues own at list a b all (MoreExprs value rest) →
     Adds own b c 1 (λ pc ps. put own ops.Dup ps) → AddsExpr own at c d value → Adds own d e 1 (λ pc ps. put own (ops.Binary operators.Equal) ps) → Adds own e f 1 (λ pc ps. put own (ops.JumpTrue list) ps) →

@@ -1,17 +1,17 @@
--- What a piece of a statement has to do with the operands of its frame.
+-- How a piece of a statement uses the operands of its frame.
 use Rattle.std.specs.Prelude.{ℕ, ◌+◌, ◌-◌}
 use Rattle.stack_code.specs.Needs as needs
 use Rattle.stack_code.specs.Needs.{args_need, expr_need, place_need}
 use Rattle.stack_code.specs.Pieces.{Piece, OfExpr, OfPlace, OfArgs, Does, Waits}
 
--- how many it needs, beside those that lie there
+-- the operands that it needs, those already there apart
 abbrev pub piece_need : Piece → ℕ
 piece_need (OfExpr e) = expr_need e
 piece_need (OfPlace p) = place_need p
 piece_need (OfArgs args) = args_need args
 piece_need piece = 0
 
--- how many lie there behind it, where so many did before; more at most
+-- an upper bound for the operands after it, by those before
 abbrev pub depth_behind : Piece → ℕ → ℕ
 depth_behind (OfExpr e) depth = depth + 1
 depth_behind (OfPlace p) depth = depth + 1

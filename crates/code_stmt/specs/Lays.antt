@@ -1,4 +1,4 @@
--- Operations and rows of owners, with those of statements put behind them.
+-- Operations and rows of owners, with those of statements appended.
 use Rattle.std.specs.Prelude.{ℕ, ◌+◌, List, map, ◌++◌, Option}
 use Rattle.stack_code.specs.Compiled.{end_op, own_end, part_code, part_size, part_start, routine_size}
 use Rattle.stack_code.specs.ExprLayouts.{put}
@@ -18,11 +18,11 @@ use Rattle.code_stmt.specs.declared.written.Written.{Written}
 abbrev pub ops_of : List Placed → List Op
 ops_of ps = map (λ p. p.op) ps
 
--- where the operations begin, the operations, and the rows of owners, with more operations behind them
+-- where the operations begin, the operations, and the rows of owners, with more operations after them
 abbrev pub with_placed : Written → List Placed → ℕ × (List Op × List Owner)
 with_placed w ps = (w.code.start, (w.code.ops.items ++ ops_of ps, with_rows w.owners.items (end_of w.code) ps))
 
--- what is written is another with so many operations of some code behind it, and rows for these
+-- what was written is another with `size` operations of some code appended, and rows for these
 abbrev pub Lays : Written → Written → ℕ → Code → Type 0
 Lays old new size code = Follows (with_placed old) (with_placed new) (end_of old.code) (end_of new.code) size code
 
@@ -51,7 +51,7 @@ abbrev pub LaysPart : Context → List ℕ → Written → Written → Option Ty
 LaysPart at labels old new handler = Lays old new (part_size (tree_of at) (routine_of at) handler)
     (λ pc ps. part_code (tree_of at) (routine_of at) labels pc handler ps)
 
--- a routine: its list, its end, and its ERROR part, where its labels have these places
+-- a routine: its list, its end, and its ERROR part, if its labels have these places
 abbrev pub LaysRoutine : Context → List ℕ → Written → Written → Type 0
 LaysRoutine at labels old new =
     let tree = tree_of at in

@@ -11,7 +11,7 @@ use Rattle.code_expr.specs.Follows.{Follows}
 use Rattle.code_stmt.specs.Lays.{ops_of}
 use Rattle.code_stmt.specs.Runs.{with_rows}
 
--- these operations, with these rows of owners, are what is placed
+-- these operations, with these rows of owners, are the placed ones
 pub record Stand (ops : List Op) (rows : List Owner) (placed : List Placed) : Type 0 where
   pub code : ops ≡ ops_of placed
   pub owners : rows ≡ owner_rows placed
@@ -20,11 +20,11 @@ pub record Stand (ops : List Op) (rows : List Owner) (placed : List Placed) : Ty
 abbrev pub handler_at : TypedTree → TypedRoutine → ℕ → Option ℕ
 handler_at tree routine pc = option_map (λ list. part_start tree routine pc) routine.handler
 
--- the operations and the rows of owners, with more operations behind them
+-- the operations and the rows of owners, with more operations after them
 abbrev pub with_marked : List Op → List Owner → List Placed → List Op × List Owner
 with_marked code owners ps = (code ++ ops_of ps, with_rows owners (length code) ps)
 
--- the operations of a routine are put behind others, with the rows of their owners and the place of the ERROR part
+-- the operations of a routine are appended, with the rows of their owners and the place of the ERROR part
 pub record Marked (tree : TypedTree) (routine : TypedRoutine) (old new : List Op) (marks marked : Marks) : Type 0 where
   pub laid : Follows (with_marked old marks.owners.items) (with_marked new marked.owners.items) (length old) (length new) (routine_size tree routine) (λ pc ps. routine_code tree pc routine ps)
   pub handler : marked.handlers.items ≡ marks.handlers.items ++ handler_at tree routine (length old) ∷ []

@@ -1,4 +1,4 @@
--- The lists of a statement, where it has them.
+-- The lists of a statement, if it has them.
 use Rattle.typed_trees.specs.Plain.{TypedArms, TypedCases, TypedElse, TypedStmt, If, Test, NoArms, NoCases, NoElse}
 
 abbrev pub arms_in : TypedStmt → TypedArms

@@ -1,12 +1,12 @@
--- How many operations the statements of a routine have, in the order in which emission asks for it: each statement, and each list
--- of IF, ELSEIF and CASE, before what stands in it.
+-- The sizes of the statements of a routine, in the order in which emission asks for them: each statement, and each list
+-- of IF, ELSEIF and CASE, before its parts.
 use Rattle.std.specs.Prelude.{◌≡◌, ℕ, List, [], ◌∷◌, ◌++◌, drop, Option, None, Some}
 use Rattle.stack_code.specs.Sizes.{stmt_size, stmts_size}
 use Rattle.typed_trees.specs.Plain as trees
 use Rattle.typed_trees.specs.Plain.{TypedArms, TypedCases, TypedElse, TypedRoutine, TypedStmt, TypedStmts, TypedTree, NoStmts, MoreStmts, NoArms, MoreArms, NoCases, MoreCases, NoElse, Else}
 use Rattle.code_stmt.specs.declared.sizes.SizesLeft.{SizesLeft}
 
--- of what stands in a statement
+-- of the parts of a statement
 abbrev mutual
   pub inner_sizes : TypedTree → TypedRoutine → TypedStmt → List ℕ
   inner_sizes tree routine (trees.If at arms other) = arms_sizes tree routine arms ++ else_sizes tree routine other
@@ -35,7 +35,7 @@ abbrev mutual
 abbrev pub stmt_sizes : TypedTree → TypedRoutine → TypedStmt → List ℕ
 stmt_sizes tree routine s = stmt_size tree routine s ∷ inner_sizes tree routine s
 
--- of a list, itself the first
+-- of a list, its own first
 abbrev pub list_sizes : TypedTree → TypedRoutine → TypedStmts → List ℕ
 list_sizes tree routine list = stmts_size tree routine list ∷ stmts_sizes tree routine list
 
@@ -50,6 +50,6 @@ routine_sizes tree routine = stmts_sizes tree routine routine.list ++ part_sizes
 abbrev pub left_in : SizesLeft → List ℕ
 left_in s = drop s.used s.sizes.items
 
--- where such sizes are next, they are taken, and this holds
+-- if these sizes are next, they are taken, and this holds
 abbrev pub Taking : SizesLeft → SizesLeft → List ℕ → Type 0 → Type 0
 Taking old new sizes claim = (rest : List ℕ) → left_in old ≡ sizes ++ rest → claim × (left_in new ≡ rest)

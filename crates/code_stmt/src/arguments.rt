@@ -1,4 +1,4 @@
-//! The arguments of an instruction: those that it needs, and its options (RAPID Instructions).
+//! The arguments of an instruction: the required ones, and its options (RAPID Instructions).
 
 ghost use Rattle.std.specs.Prelude.{◌≡◌, map, IfOk};
 ghost use Rattle.rapid_meaning.specs.Instructions.{has, needed, options};
@@ -10,14 +10,14 @@ ghost use Rattle.code_stmt.specs.Views.{view_args};
 use std::alloc::{AllocError, Global};
 use typed_trees::Arg;
 
-/// Both, in order.
+/// The required arguments and the options, each in order.
 #[derive(Drop)]
 pub(crate) struct Arguments<'a> {
     pub(crate) needed: Vec<&'a Arg>,
     pub(crate) options: Vec<&'a Arg>,
 }
 
-/// The arguments, split into the two. Fails only if an allocation fails.
+/// Splits the arguments into required ones and options. Fails only if an allocation fails.
 pub(crate) fn parted<'a>(alloc: Global, args: &'a Vec<Arg>) -> Result<Arguments<'a>, AllocError>
     ensures needed { IfOk result (λ a. view_args a.needed.items ≡ needed (args_of (map view_arg args.now.items))) }
     ensures options { IfOk result (λ a. view_args a.options.items ≡ options (args_of (map view_arg args.now.items))) }

@@ -1,4 +1,4 @@
-//! What is written, put behind code and its marks.
+//! Appending what was written to the code and its marks.
 
 ghost use Rattle.std.specs.Prelude.{◌≡◌, ◌+◌, ◌≤◌, [], ◌∷◌, ◌++◌, vec_capacity, vec_len, IfOk, OnOk, OnErr};
 ghost use Rattle.code_stmt.specs.Marked.{Kept, front_of, last_of};
@@ -7,7 +7,7 @@ use crate::written::Written;
 use stack_code::{Marks, Op, Owner};
 use std::alloc::{AllocError, Global};
 
-/// A copy of the last row, if there is one. Its error says that memory was refused.
+/// A copy of the last row, if there is one. Fails only if an allocation fails.
 pub(crate) fn last_row(alloc: Global, owners: &[Owner]) -> Result<Vec<Owner>, AllocError>
     ensures { IfOk result (λ last. last.items ≡ last_of owners.now) }
 {
@@ -19,8 +19,8 @@ pub(crate) fn last_row(alloc: Global, owners: &[Owner]) -> Result<Vec<Owner>, Al
     Ok(last)
 }
 
-/// Appends what is written, and the place of an ERROR part: its rows take the place of the last one, with which they begin. Its error
-/// says that memory was refused; code and marks are as they were then.
+/// Appends what was written, and the place of an ERROR part. Its rows begin with the last row of the marks, which they
+/// replace. Fails only if an allocation fails; code and marks are then unchanged.
 pub(crate) fn commit(
     code: &mut Vec<Op>,
     marks: &mut Marks,
@@ -57,7 +57,7 @@ fn drop_last(owners: &mut Vec<Owner>)
     let _last = owners.pop();
 }
 
-/// Appends what there is room for.
+/// Appends a list for which there is room.
 fn append_reserved<T>(to: &mut Vec<T>, more: &mut Vec<T>)
     requires { vec_len to.old + vec_len more.old ≤ vec_capacity to.old }
     ensures { to.new.items ≡ to.old.items ++ more.old.items }

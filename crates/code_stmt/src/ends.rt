@@ -1,5 +1,5 @@
-//! Where statements end, the places of their labels, and how many operations each statement and each list of IF, ELSEIF and CASE
-//! has, all found in one pass. Each fails only if an allocation fails, or if there are 2^32 operations or more.
+//! Finds in one pass where statements end, the places of their labels, and the sizes of each statement and of each list
+//! of IF, ELSEIF and CASE. Each fails only if an allocation fails or there are 2^32 operations or more.
 
 ghost use Rattle.std.specs.Prelude.{◌≡◌, ◌++◌, IfOk, OnOk};
 ghost use Rattle.stack_code.specs.Sizes;
@@ -18,8 +18,8 @@ use code_expr::{Context, expr_size, sum};
 use std::alloc::AllocError;
 use typed_trees::{Form, Stmt};
 
-/// The place after a statement that begins at this one; the places of its labels are appended, and its size, before those of what
-/// stands in it.
+/// The place after a statement that begins at `pc`. Appends the places of its labels, and its size before those of its
+/// parts.
 #[cycle(ends)]
 fn behind_stmt(
     context: &Context<'_>,
@@ -89,7 +89,7 @@ fn behind_inside(
     }
 }
 
-/// The place after the statements of a list; the places of their labels are appended, and their sizes.
+/// The place after the statements of a list. Appends the places of their labels, and their sizes.
 #[cycle(ends)]
 pub(crate) fn behind_list(
     context: &Context<'_>,
@@ -108,7 +108,7 @@ pub(crate) fn behind_list(
     Ok(end)
 }
 
-/// The same, with the size of the list before the others.
+/// The same, and the size of the list before the others.
 #[cycle(ends)]
 fn behind_sized(
     context: &Context<'_>,
@@ -173,7 +173,7 @@ fn behind_cases(
     Ok(end)
 }
 
-/// The place after the list of ELSE or DEFAULT of a statement, where there is one.
+/// The place after the list of ELSE or DEFAULT of a statement, if there is one.
 #[cycle(ends)]
 fn behind_else(
     context: &Context<'_>,

@@ -1,4 +1,5 @@
-//! The arguments of an instruction by their numbers, from 0. Each answer is `None` where the argument is missing or has another form.
+//! The arguments of an instruction by number, from 0. Each returns `None` if the argument is missing or has another
+//! form.
 
 ghost use Rattle.std.specs.Prelude.{◌≡◌, option_map, slice_get};
 ghost use Rattle.stack_code.specs.Pieces;

@@ -1,4 +1,4 @@
-//! The code of statements and routines, and whose its operations are.
+//! The code of statements and routines, and the statement that owns each operation.
 #![tactic(auto)]
 
 mod arguments;

@@ -1,4 +1,4 @@
-//! Routines, with the marks that error recovery needs.
+//! Emits routines, with the marks that error recovery needs.
 
 ghost use Rattle.std.specs.Prelude.{◌≡◌, ◌<◌, [], ◌++◌, List, Some, length, slice_get, OnOk, OnErr, ◌∷◌};
 ghost use Rattle.stack_code.specs.Compiled.{routine_code};
@@ -18,10 +18,11 @@ use stack_code::{Marks, Op};
 use std::alloc::{AllocError, Global};
 use typed_trees::Tree;
 
-/// Appends the operations of a routine of a checked tree, by its number, whose `pers_of` and `meeting_of` are filled, and to the
-/// marks their owners and the place of its ERROR part (RAPID Kernel, routine declarations). The marks have the owners of all of the
-/// code and the handlers of the routines before. Its error says that memory was refused, or that the code would have 2^32
-/// operations or more; code and marks are as they were then.
+/// Appends the operations of a routine, by its number, and to the marks their owners and the place of its ERROR part
+/// (RAPID Kernel, routine declarations). The tree is checked, and its `pers_of` and `meeting_of` are filled. The marks
+/// have the owners of all of the code and the handlers of the routines before. Fails only if an allocation fails or the
+/// code would have 2^32 operations or more; code and marks are then unchanged. The compiler calls `add_marked`, which
+/// shares the starts of the modules' data; this is for a tool that compiles one routine.
 pub fn emit_routine(
     alloc: Global,
     tree: &Tree,
@@ -40,7 +41,7 @@ pub fn emit_routine(
     }
 }
 
-/// The same, with the error of what it calls.
+/// The same, with the error type of what it calls.
 fn emit_numbered(
     alloc: Global,
     tree: &Tree,
@@ -59,8 +60,8 @@ fn emit_numbered(
     add_marked(&context, code, marks)
 }
 
-/// Appends the operations of the routine of a context, and to the marks their owners and the place of its ERROR part. Its error says
-/// that memory was refused, or that the code would have 2^32 operations or more; code and marks are as they were then.
+/// Appends the operations of the routine of a context, and to the marks their owners and the place of its ERROR part.
+/// Fails only if an allocation fails or the code would have 2^32 operations or more; code and marks are then unchanged.
 pub fn add_marked(
     context: &Context<'_>,
     code: &mut Vec<Op>,

@@ -1,5 +1,5 @@
-//! How many operands lie on the stack of a frame at most, while a statement is done: it begins and ends with none. Each error says
-//! that memory was refused, or that they are 2^32 or more.
+//! The most operands on a frame's stack while a statement runs; it begins and ends with none. Each fails only if an
+//! allocation fails or the number is 2^32 or more.
 
 ghost use Rattle.std.specs.Prelude.{◌≡◌, IfOk};
 ghost use Rattle.stack_code.specs.Needs;
@@ -15,7 +15,7 @@ use code_expr::{Context, expr_need, more};
 use std::alloc::AllocError;
 use typed_trees::{Form, Stmt};
 
-/// How many operands a statement needs.
+/// The operands that a statement needs.
 #[cycle(needs)]
 fn stmt_need(context: &Context<'_>, stmt: &Stmt) -> Result<u32, AllocError>
     ensures { IfOk result (λ need. need ≡ Needs.stmt_need (tree_of context.now) (routine_of context.now) (view_stmt stmt.now)) }
@@ -41,7 +41,7 @@ fn stmt_need(context: &Context<'_>, stmt: &Stmt) -> Result<u32, AllocError>
     }
 }
 
-/// How many operands the statements of a list need.
+/// The operands that the statements of a list need.
 #[cycle(needs)]
 pub(crate) fn list_need(context: &Context<'_>, list: &Vec<Stmt>) -> Result<u32, AllocError>
     ensures { IfOk result (λ need. need ≡ Needs.stmts_need (tree_of context.now) (routine_of context.now) (stmts_of (view_list list.now))) }
@@ -53,7 +53,7 @@ pub(crate) fn list_need(context: &Context<'_>, list: &Vec<Stmt>) -> Result<u32, 
     Ok(most)
 }
 
-/// How many operands IF and ELSEIF of a statement need, with their lists.
+/// The operands that IF and ELSEIF of a statement need, with their lists.
 #[cycle(needs)]
 fn arms_need(context: &Context<'_>, stmt: &Stmt) -> Result<u32, AllocError>
     ensures { IfOk result (λ need. need ≡ Needs.arms_need (tree_of context.now) (routine_of context.now) (arms_in (view_stmt stmt.now))) }
@@ -68,7 +68,7 @@ fn arms_need(context: &Context<'_>, stmt: &Stmt) -> Result<u32, AllocError>
     Ok(most)
 }
 
-/// How many operands the CASEs of a statement need, with their lists and what is tested.
+/// The operands that the CASEs of a statement need, with their lists and the value tested.
 #[cycle(needs)]
 fn cases_need(context: &Context<'_>, stmt: &Stmt) -> Result<u32, AllocError>
     ensures { IfOk result (λ need. need ≡ Needs.cases_need (tree_of context.now) (routine_of context.now) (cases_in (view_stmt stmt.now))) }
@@ -83,7 +83,7 @@ fn cases_need(context: &Context<'_>, stmt: &Stmt) -> Result<u32, AllocError>
     Ok(more(most, 1))
 }
 
-/// How many operands the list of ELSE or DEFAULT of a statement needs, where there is one.
+/// The operands that the list of ELSE or DEFAULT of a statement needs, if there is one.
 #[cycle(needs)]
 fn else_need(context: &Context<'_>, stmt: &Stmt) -> Result<u32, AllocError>
     ensures { IfOk result (λ need. need ≡ Needs.else_need (tree_of context.now) (routine_of context.now) (else_in (view_stmt stmt.now))) }

@@ -1,7 +1,7 @@
 use rapid_model::At;
 
-/// What a statement has to do with its operations: where it is done again, where it is gone on behind, and its place in the
-/// source (RAPID Overview, error recovery).
+/// What the operations of a statement share: where RETRY and TRYNEXT resume it, and its place in the source (RAPID
+/// Overview, error recovery).
 #[derive(Clone, Copy)]
 pub(crate) struct Own {
     pub(crate) retry: u32,

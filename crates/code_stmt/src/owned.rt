@@ -1,5 +1,5 @@
-//! Operations of one statement, appended to what is written, with the row of their owner. Each fails only if an allocation fails, or
-//! if there are 2^32 operations or more; what was appended then is of no use.
+//! Appends operations of one statement, with the row of their owner. Each fails only if an allocation fails or there
+//! are 2^32 operations or more; what it appended is then of no use.
 
 ghost use Rattle.std.specs.Prelude.{◌≡◌, ◌+◌, [], ◌∷◌, IfOk, OnOk, map, option_map};
 ghost use Rattle.rapid_meaning.specs.Layouts.{local_start};
@@ -29,7 +29,7 @@ use stack_code::Op;
 use std::alloc::AllocError;
 use typed_trees::{Bounds, Expr, Stmt};
 
-/// Whose the operations of a statement are that begins at a place, if its size is the next.
+/// The owner of the operations of a statement that begins at `pc`, if its size is the next one.
 pub(crate) fn own_of(
     context: &Context<'_>,
     stmt: &Stmt,
@@ -47,7 +47,7 @@ pub(crate) fn own_of(
     })
 }
 
-/// A place of the routine's module.
+/// A position in the routine's module.
 pub(crate) fn at_byte(context: &Context<'_>, byte: usize) -> Result<At, AllocError>
     ensures module { IfOk result (λ at. at.«module» ≡ (routine_of context.now).«module») }
     ensures byte { IfOk result (λ at. at.byte ≡ byte) }
@@ -61,7 +61,7 @@ pub(crate) fn at_byte(context: &Context<'_>, byte: usize) -> Result<At, AllocErr
     }
 }
 
-/// An operation of a statement.
+/// Appends an operation.
 pub(crate) fn add_op(op: Op, own: &Own, out: &mut Written) -> Result<(), AllocError>
     ensures { OnOk result (Lays out.old out.new 1 (λ pc ps. put (view_own own.now) op ps)) }
 {
@@ -70,7 +70,7 @@ pub(crate) fn add_op(op: Op, own: &Own, out: &mut Written) -> Result<(), AllocEr
     out.close(first, own)
 }
 
-/// An expression of a statement.
+/// Appends an expression.
 pub(crate) fn add_value(
     context: &Context<'_>,
     expr: &Expr,
@@ -84,7 +84,7 @@ pub(crate) fn add_value(
     out.close(first, own)
 }
 
-/// The values of a CASE, which go on at the list where one is equal to what is tested.
+/// Appends the values of a CASE, which jump to its list if one equals the value tested.
 pub(crate) fn add_values_of(
     context: &Context<'_>,
     values: &Vec<Expr>,
@@ -99,7 +99,7 @@ pub(crate) fn add_values_of(
     out.close(first, own)
 }
 
-/// A statement that has no list, nor is a label.
+/// Appends a statement that has no list and is no label.
 pub(crate) fn add_simple(
     context: &Context<'_>,
     labels: &[u32],
@@ -121,7 +121,7 @@ pub(crate) fn add_simple(
     out.close(first, own)
 }
 
-/// A FOR before its Turn, and the place of that.
+/// Appends a FOR up to its Turn, and returns the place of the Turn.
 pub(crate) fn add_bounds(
     context: &Context<'_>,
     labels: &[u32],

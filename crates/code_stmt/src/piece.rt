@@ -1,7 +1,7 @@
 use stack_code::Op;
 use typed_trees::{Arg, Expr, TreePlace};
 
-/// A part of a statement that has no list of its own, behind its Look.
+/// A part of a statement without lists, after its Look.
 #[derive(Drop)]
 pub(crate) enum Piece<'a> {
     Expr(&'a Expr),
@@ -12,6 +12,6 @@ pub(crate) enum Piece<'a> {
     Waits,
     /// A jump to a label, by its number.
     GoesTo(u32),
-    /// Pops a bool, and pushes -1 where it is TRUE, else 1.
+    /// Pops a bool, and pushes -1 if it is TRUE, else 1.
     Chooses,
 }

@@ -1,5 +1,5 @@
-//! The operations of the pieces of a statement, put behind those of a block. Each error says that memory was refused, or that there
-//! are 2^32 operations or more; what is behind the block then is of no use.
+//! Emits the pieces of a statement at the end of a block. Each fails only if an allocation fails or there are 2^32
+//! operations or more; the block is then of no use.
 
 ghost use Rattle.std.specs.Prelude.{◌≡◌, ℕ, [], ◌∷◌, List, OnOk};
 ghost use Rattle.stack_code.specs.Pieces;
@@ -17,7 +17,7 @@ use code_expr::{Block, Context, add_args, add_expr, add_place, push, push_down};
 use stack_code::Op;
 use std::alloc::AllocError;
 
-/// Pieces, in order.
+/// Emits pieces, in order.
 pub(crate) fn add_pieces(
     context: &Context<'_>,
     labels: &[u32],
@@ -33,7 +33,7 @@ pub(crate) fn add_pieces(
     Ok(())
 }
 
-/// A piece.
+/// Emits a piece.
 fn add_piece(
     context: &Context<'_>,
     labels: &[u32],
@@ -54,7 +54,7 @@ fn add_piece(
     }
 }
 
-/// Pops a bool, and pushes -1 where it is TRUE, else 1.
+/// Pops a bool, and pushes -1 if it is TRUE, else 1.
 fn add_choice(code: &mut Block) -> Result<(), AllocError>
     ensures { OnOk result ((tree : TypedTree) (routine : TypedRoutine) (labels : List ℕ) (own : OwnData) → Adds own code.old code.new 4 (λ pc ps. pieces_code tree routine labels own pc (Pieces.Chooses Pieces.push_down (Pieces.push 1) ∷ []) ps)) }
 {
@@ -66,7 +66,7 @@ fn add_choice(code: &mut Block) -> Result<(), AllocError>
     code.put(push(1))
 }
 
-/// The place of a label, by its number; 0 where there is none.
+/// The place of a label, by its number; 0 if there is none.
 fn label_at(labels: &[u32], label: u32) -> u32
     ensures { result ≡ label_at labels.now label }
 {

@@ -1,4 +1,5 @@
-//! How many operations the pieces of a statement have, and how many operands they need. Each error says that they are 2^32 or more.
+//! The number of operations of the pieces of a statement, and the operands that they need. Each fails only if the
+//! number is 2^32 or more.
 
 ghost use Rattle.std.specs.Prelude.{◌≡◌, IfOk};
 ghost use Rattle.stack_code.specs.Needs;
@@ -11,7 +12,7 @@ use code_expr::{args_need, args_size, expr_need, expr_size, more, place_need, pl
 use stack_code::Op;
 use std::alloc::AllocError;
 
-/// How many operations pieces have.
+/// The number of operations of pieces.
 pub(crate) fn pieces_size(pieces: &Vec<Piece<'_>>) -> Result<u32, AllocError>
     ensures { IfOk result (λ size. size ≡ Sizes.pieces_size (view_pieces pieces.now.items)) }
 {
@@ -22,7 +23,7 @@ pub(crate) fn pieces_size(pieces: &Vec<Piece<'_>>) -> Result<u32, AllocError>
     Ok(size)
 }
 
-/// How many operations a piece has.
+/// The number of operations of a piece.
 fn piece_size(piece: &Piece<'_>) -> Result<u32, AllocError>
     ensures { IfOk result (λ size. size ≡ Sizes.piece_size (view_piece piece.now)) }
 {
@@ -35,7 +36,7 @@ fn piece_size(piece: &Piece<'_>) -> Result<u32, AllocError>
     }
 }
 
-/// How many operands pieces need, from an empty stack on.
+/// The operands that pieces need, from an empty stack on.
 pub(crate) fn pieces_need(pieces: &Vec<Piece<'_>>) -> Result<u32, AllocError>
     ensures { IfOk result (λ need. need ≡ Needs.pieces_need 0 (view_pieces pieces.now.items)) }
 {
@@ -48,7 +49,7 @@ pub(crate) fn pieces_need(pieces: &Vec<Piece<'_>>) -> Result<u32, AllocError>
     Ok(more(most, depth))
 }
 
-/// How many operands a piece needs.
+/// The operands that a piece needs.
 fn piece_need(piece: &Piece<'_>) -> Result<u32, AllocError>
     ensures { IfOk result (λ need. need ≡ Depths.piece_need (view_piece piece.now)) }
 {
@@ -60,7 +61,7 @@ fn piece_need(piece: &Piece<'_>) -> Result<u32, AllocError>
     }
 }
 
-/// How many operands lie there behind a piece, where so many did before it, or more at most.
+/// An upper bound for the operands on the stack after a piece, if there were `depth` before it.
 fn depth_behind(piece: &Piece<'_>, depth: u32) -> Result<u32, AllocError>
     ensures { IfOk result (λ behind. behind ≡ Depths.depth_behind (view_piece piece.now) depth) }
 {
@@ -72,7 +73,7 @@ fn depth_behind(piece: &Piece<'_>, depth: u32) -> Result<u32, AllocError>
     }
 }
 
-/// How many operands lie there behind an operation, where so many did before it, or more at most.
+/// An upper bound for the operands on the stack after an operation, if there were `depth` before it.
 fn depth_behind_op(op: &Op, depth: u32) -> Result<u32, AllocError>
     ensures { IfOk result (λ behind. behind ≡ Needs.depth_behind op.now depth) }
 {

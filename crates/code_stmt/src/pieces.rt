@@ -1,4 +1,4 @@
-//! The pieces of statements that have no list of their own (RAPID Kernel, statements). Each error says that memory was refused.
+//! The pieces of statements that have no list (RAPID Kernel, statements). Each fails only if an allocation fails.
 
 ghost use Rattle.std.specs.Prelude.{◌≡◌, ◌+◌, [], ◌∷◌, None, Some, option_map, IfOk};
 ghost use Rattle.rapid_meaning.specs.Layouts.{local_start};
@@ -16,7 +16,7 @@ use stack_code::Op;
 use std::alloc::{AllocError, Global};
 use typed_trees::{Bounds, Expr, Form, Stmt};
 
-/// The pieces of a statement; none where it has a list, or is a label.
+/// The pieces of a statement; none if it has a list or is a label.
 pub(crate) fn pieces_of<'a>(
     context: &Context<'_>,
     stmt: &'a Stmt,
@@ -71,15 +71,15 @@ fn of_op<'a>(alloc: Global, op: Op) -> Result<Vec<Piece<'a>>, AllocError>
     Ok(Vec::from_array(alloc, [Piece::Does(op)])?)
 }
 
-/// A value, and what is done with it.
+/// A value, and the operation that takes it.
 fn of_value<'a>(alloc: Global, value: &'a Expr, op: Op) -> Result<Vec<Piece<'a>>, AllocError>
     ensures { IfOk result (λ v. view_pieces v.items ≡ OfExpr (view_expr value.now) ∷ Does op ∷ []) }
 {
     Ok(Vec::from_array(alloc, [Piece::Expr(value), Piece::Does(op)])?)
 }
 
-/// The pieces of a FOR before its first turn: its variable, last value and step are stored, all being evaluated before. A step that
-/// is left out is found from the two others (RAPID Kernel, FOR).
+/// The pieces of a FOR before its first turn: all three values are evaluated, then stored as its variable, last value
+/// and step. A missing step follows from the other two (RAPID Kernel, FOR).
 pub(crate) fn bounds_pieces<'a>(
     context: &Context<'_>,
     local: u32,
@@ -97,7 +97,7 @@ pub(crate) fn bounds_pieces<'a>(
     }
 }
 
-/// The pieces of a FOR with a step, where its data have these numbers.
+/// The pieces of a FOR with a step, if its data have these numbers.
 fn stepped<'a>(
     alloc: Global,
     bounds: &'a Bounds,
@@ -124,7 +124,8 @@ fn stepped<'a>(
     Ok(Vec::from_array(alloc, pieces)?)
 }
 
-/// The pieces of a FOR without a step, where its data have these numbers: it goes down where the first value is greater than the last.
+/// The pieces of a FOR without a step, if its data have these numbers: it counts down if the first value is greater
+/// than the last.
 fn unstepped<'a>(
     alloc: Global,
     bounds: &'a Bounds,

@@ -1,5 +1,5 @@
-//! The operations of a routine: its list, its end, and its ERROR part with an end of its own. Each fails only if an allocation fails,
-//! or if there are 2^32 operations or more.
+//! Emits a routine: its list, its end, and its ERROR part with an end of its own. Each fails only if an allocation
+//! fails or there are 2^32 operations or more.
 
 ghost use Rattle.std.specs.Prelude.{◌≡◌, ◌+◌, ◌++◌, max, option_map, IfOk, OnOk};
 ghost use Rattle.stack_code.specs.Compiled;
@@ -30,7 +30,7 @@ pub(crate) struct RoutinePlaces {
     pub(crate) part: u32,
 }
 
-/// The places of a routine that begins at one.
+/// The places of a routine that begins at `pc`.
 pub(crate) fn places_of(context: &Context<'_>, pc: u32) -> Result<RoutinePlaces, AllocError>
     ensures labels { IfOk result (λ places. places.labels.items ≡ Compiled.routine_labels (tree_of context.now) (routine_of context.now) pc) }
     ensures sizes { IfOk result (λ places. places.sizes.items ≡ routine_sizes (tree_of context.now) (routine_of context.now)) }
@@ -49,7 +49,7 @@ pub(crate) fn places_of(context: &Context<'_>, pc: u32) -> Result<RoutinePlaces,
     })
 }
 
-/// Appends the places of the labels of a routine's ERROR part, and its sizes, if it has one, which would begin here.
+/// Appends the labels and sizes of a routine's ERROR part, if it has one, which would begin here.
 fn find_part(
     context: &Context<'_>,
     part: u32,
@@ -68,7 +68,7 @@ fn find_part(
     }
 }
 
-/// The operations of a routine whose labels have these places, and whose sizes are the next.
+/// Emits a routine whose labels have these places and whose sizes are next.
 pub(crate) fn add_routine(
     context: &Context<'_>,
     labels: &[u32],
@@ -83,7 +83,7 @@ pub(crate) fn add_routine(
     add_part(context, labels, sizes, out)
 }
 
-/// The operations of a routine's ERROR part, if it has one: its end raises its error in the caller (RAPID Kernel, error recovery).
+/// Emits a routine's ERROR part, if it has one. Its end raises its error in the caller (RAPID Kernel, error recovery).
 fn add_part(
     context: &Context<'_>,
     labels: &[u32],
@@ -101,7 +101,7 @@ fn add_part(
     }
 }
 
-/// The end of a list, which is no statement: it owns itself.
+/// Emits the end of a list, which is no statement and owns itself.
 fn add_end(context: &Context<'_>, op: Op, out: &mut Written) -> Result<(), AllocError>
     ensures { OnOk result (Lays out.old out.new 1 (λ pc ps. put (Compiled.own_end (routine_of context.now) pc) op ps)) }
 {
@@ -114,7 +114,7 @@ fn add_end(context: &Context<'_>, op: Op, out: &mut Written) -> Result<(), Alloc
     add_op(op, &own, out)
 }
 
-/// What the end of a routine's list does: a FUNC does not reach it (RAPID Kernel, routine declarations).
+/// The operation at the end of a routine's list, which a FUNC does not reach (RAPID Kernel, routine declarations).
 fn end_op(kind: RoutineKind) -> Op
     ensures { result ≡ Compiled.end_op kind }
 {
@@ -124,7 +124,7 @@ fn end_op(kind: RoutineKind) -> Op
     }
 }
 
-/// How many operands lie on the stack of a routine's frame at most.
+/// The most operands on the stack of a routine's frame.
 pub fn routine_need(context: &Context<'_>) -> Result<u32, AllocError>
     ensures { IfOk result (λ need. let routine = routine_of context.now in need ≡ max (Needs.stmts_need (tree_of context.now) routine routine.list) (Compiled.part_need (tree_of context.now) routine routine.handler)) }
 {
@@ -136,7 +136,7 @@ pub fn routine_need(context: &Context<'_>) -> Result<u32, AllocError>
     }
 }
 
-/// The place of a routine's ERROR part, if it has one, which would begin here.
+/// The place of a routine's ERROR part, if it has one; it would begin at `part`.
 pub(crate) fn handler_of(context: &Context<'_>, part: u32) -> Option<u32>
     ensures { result ≡ option_map (λ list. part) (routine_of context.now).handler }
 {

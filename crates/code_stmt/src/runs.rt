@@ -10,8 +10,8 @@ use crate::own::Own;
 use stack_code::Owner;
 use std::alloc::AllocError;
 
-/// One more run of operations of a statement, from a place to before another; none where both are one. Its error says that memory
-/// was refused.
+/// Appends a run of operations of a statement, from `first` to before `past`; nothing if both are equal. Fails only if
+/// an allocation fails.
 pub(crate) fn add_run(
     owners: &mut Vec<Owner>,
     first: u32,
@@ -26,8 +26,7 @@ pub(crate) fn add_run(
     add_row(owners, first, past, own)
 }
 
-/// One more run of operations, which has some: the last row grows where it is that statement's. Its error says that memory was
-/// refused.
+/// Appends a run that is not empty: the last row grows if it is that statement's. Fails only if an allocation fails.
 fn add_row(owners: &mut Vec<Owner>, first: u32, past: u32, own: &Own) -> Result<(), AllocError>
     ensures { OnOk result (owners.new.items ≡ with_row owners.old.items first past (view_own own.now)) }
 {
@@ -40,7 +39,7 @@ fn add_row(owners: &mut Vec<Owner>, first: u32, past: u32, own: &Own) -> Result<
     Ok(())
 }
 
-/// A row of a statement.
+/// The row of a run of operations of a statement.
 fn row_of(first: u32, past: u32, own: &Own) -> Owner
     ensures { result ≡ owner_row first past (view_own own.now) }
 {

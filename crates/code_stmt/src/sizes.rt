@@ -1,7 +1,7 @@
 ghost use Rattle.std.specs.Prelude.{◌≡◌, ℕ, [], ◌∷◌};
 ghost use Rattle.code_stmt.specs.Sizing.{Taking, left_in};
 
-/// How many operations statements and lists have, in the order in which emission asks for it.
+/// The numbers of operations of statements and lists, in the order in which emission asks for them.
 #[derive(Drop)]
 pub(crate) struct SizesLeft {
     sizes: Vec<u32>,
@@ -9,7 +9,7 @@ pub(crate) struct SizesLeft {
 }
 
 impl SizesLeft {
-    /// All of these.
+    /// All of these sizes are left.
     pub(crate) fn new(sizes: Vec<u32>) -> SizesLeft
         ensures { left_in result ≡ sizes.items }
     {

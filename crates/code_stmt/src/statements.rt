@@ -1,6 +1,6 @@
-//! The operations of statements and lists, appended to what is written, with the rows of their owners, where their sizes are the next.
-//! Each statement begins with its Look and an empty stack. Each fails only if an allocation fails, or if there are 2^32 operations or
-//! more; what was appended then is of no use.
+//! Emits statements and lists, with the rows of their owners, if their sizes are next. Each statement begins with its
+//! Look and an empty stack. Each fails only if an allocation fails or there are 2^32 operations or more; what it
+//! appended is then of no use.
 
 ghost use Rattle.std.specs.Prelude.{◌≡◌, ◌+◌, ℕ, [], ◌∷◌, map, IfOk, OnOk};
 ghost use Rattle.stack_code.specs.Sizes.{values_size};
@@ -23,7 +23,7 @@ use stack_code::Op;
 use std::alloc::AllocError;
 use typed_trees::{Expr, Form, Stmt};
 
-/// A statement, which owns its operations but for those of the lists within it (RAPID Kernel, statements).
+/// Emits a statement, which owns its operations except those of the lists in it (RAPID Kernel, statements).
 #[cycle(statements)]
 pub(crate) fn add_stmt(
     context: &Context<'_>,
@@ -78,7 +78,7 @@ pub(crate) fn add_stmt(
     }
 }
 
-/// The statements of a list, in order.
+/// Emits the statements of a list, in order.
 #[cycle(statements)]
 pub(crate) fn add_list(
     context: &Context<'_>,
@@ -95,8 +95,8 @@ pub(crate) fn add_list(
     Ok(())
 }
 
-/// IF and ELSEIF of a statement, with their lists: a condition that is FALSE goes on to the next, and a list that reaches its end
-/// goes on after the statement (RAPID Kernel, IF).
+/// Emits IF and ELSEIF of a statement, with their lists: a condition that is FALSE jumps to the next, and the end of a
+/// list jumps past the statement (RAPID Kernel, IF).
 #[cycle(statements)]
 fn add_arms(
     context: &Context<'_>,
@@ -120,7 +120,8 @@ fn add_arms(
     Ok(())
 }
 
-/// The CASEs of a statement, with their lists. What is tested lies on the stack until a list begins (RAPID Kernel, TEST).
+/// Emits the CASEs of a statement, with their lists. The value tested stays on the stack until a list begins (RAPID
+/// Kernel, TEST).
 #[cycle(statements)]
 fn add_cases(
     context: &Context<'_>,
@@ -145,21 +146,21 @@ fn add_cases(
     Ok(())
 }
 
-/// The place after a list, whose size is the next, and so many operations besides.
+/// The place after a list, whose size is next, and `others` more operations.
 fn behind_list(others: u32, sizes: &mut SizesLeft, out: &Written) -> Result<u32, AllocError>
     ensures { IfOk result (λ place. (size : ℕ) → Taking sizes.old sizes.new (size ∷ []) (place ≡ end_of out.now.code + (size + others))) }
 {
     out.code.behind(sum(sizes.next(), others)?)
 }
 
-/// The place at which what is tested is dropped before the list of a CASE: after its values, and a jump.
+/// The place at which the list of a CASE drops the value tested: after its values and a jump.
 fn case_list(values: &Vec<Expr>, out: &Written) -> Result<u32, AllocError>
     ensures { IfOk result (λ place. place ≡ end_of out.now.code + (values_size (exprs_of (map view_expr values.now.items)) + 1)) }
 {
     out.code.behind(sum(values_size(values)?, 1)?)
 }
 
-/// The list of ELSE or DEFAULT of a statement, where there is one.
+/// Emits the list of ELSE or DEFAULT of a statement, if there is one.
 #[cycle(statements)]
 fn add_else(
     context: &Context<'_>,

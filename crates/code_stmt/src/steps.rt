@@ -53,7 +53,7 @@ fn pieces_of_steps<'a>(
     Ok(pieces)
 }
 
-/// The piece of a step; `None` where its argument is missing or has another form.
+/// The piece of a step; `None` if its argument is missing or has another form.
 fn piece_of<'a>(
     context: &Context<'_>,
     step: Step,
@@ -106,7 +106,7 @@ fn signal_order(signal: u32, options: &[&Arg]) -> Op
     Op::Order(OrderOn::Signal(signal), has(b"Single", options))
 }
 
-/// Orders an interrupt on the persistent of a place; on number 0 where it is none.
+/// Orders an interrupt on the persistent of a place; on number 0 if it is none.
 fn pers_order(context: &Context<'_>, watched: &TreePlace, options: &[&Arg]) -> Op
     ensures { result ≡ Pieces.order_of (orders.Pers (Pieces.watched_number (tree_of context.now) (view_place watched.now))) (view_args options.now) }
 {

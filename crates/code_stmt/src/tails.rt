@@ -1,4 +1,4 @@
-//! The value that follows the text of TPWrite, which an option gives (RAPID Instructions, TPWrite).
+//! The value that an option of TPWrite adds to its text (RAPID Instructions, TPWrite).
 
 ghost use Rattle.std.specs.Prelude.{◌≡◌, [], ◌∷◌, option_map};
 ghost use Rattle.stack_code.specs.Pieces;
@@ -8,7 +8,7 @@ ghost use Rattle.code_stmt.specs.Views.{view_args};
 use stack_code::TailKind;
 use typed_trees::{Arg, Expr};
 
-/// The value of the one option; `None` where there is none.
+/// The value of the option; `None` if there is none.
 pub(crate) fn tail_in<'a>(options: &[&'a Arg]) -> Option<&'a Expr>
     ensures { option_map (λ e. view_expr e.now) result ≡ Pieces.tail_in (view_args options.now) }
 {
@@ -36,7 +36,7 @@ fn tail_of(option: &Arg) -> Option<&Expr>
     Some(value)
 }
 
-/// What follows the text; `None` where the options have another form.
+/// What follows the text; `None` if the options have another form.
 pub(crate) fn tail_kind_in(options: &[&Arg]) -> Option<TailKind>
     ensures { result ≡ Pieces.tail_kind_in (view_args options.now) }
 {
@@ -47,7 +47,7 @@ pub(crate) fn tail_kind_in(options: &[&Arg]) -> Option<TailKind>
     }
 }
 
-/// Whether an option gives a num or a bool; `None` where it gives no value.
+/// Whether an option gives a num or a bool; `None` if it gives no value.
 fn tail_kind_of(option: &Arg) -> Option<TailKind>
     ensures { result ≡ Pieces.tail_kind_in (view_arg option.now ∷ []) }
 {

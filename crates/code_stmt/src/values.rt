@@ -1,5 +1,5 @@
-//! The values of a CASE, each compared with a copy of what is tested (RAPID Kernel, TEST). Each error says that memory was refused,
-//! or that there are 2^32 operations or more.
+//! The values of a CASE, each compared with a copy of the value tested (RAPID Kernel, TEST). Each fails only if an
+//! allocation fails or there are 2^32 operations or more.
 
 ghost use Rattle.std.specs.Prelude.{◌≡◌, IfOk, OnOk, map};
 ghost use Rattle.stack_code.specs.Needs;
@@ -17,7 +17,7 @@ use stack_code::Op;
 use std::alloc::AllocError;
 use typed_trees::Expr;
 
-/// How many operations they have.
+/// The number of operations of the values.
 pub(crate) fn values_size(values: &Vec<Expr>) -> Result<u32, AllocError>
     ensures { IfOk result (λ size. size ≡ Sizes.values_size (exprs_of (map view_expr values.now.items))) }
 {
@@ -28,7 +28,7 @@ pub(crate) fn values_size(values: &Vec<Expr>) -> Result<u32, AllocError>
     Ok(size)
 }
 
-/// How many operands they need, with what is tested.
+/// The operands that the values need, the value tested included.
 pub(crate) fn values_need(values: &Vec<Expr>) -> Result<u32, AllocError>
     ensures { IfOk result (λ need. need ≡ Needs.values_need (exprs_of (map view_expr values.now.items))) }
 {
@@ -39,7 +39,7 @@ pub(crate) fn values_need(values: &Vec<Expr>) -> Result<u32, AllocError>
     Ok(more(most, 1))
 }
 
-/// The operations, of which each value's go on at the list where both are equal.
+/// Emits the values; each jumps to the list if it equals the value tested.
 pub(crate) fn add_values(
     context: &Context<'_>,
     values: &Vec<Expr>,

@@ -9,7 +9,7 @@ use code_expr::Block;
 use stack_code::Owner;
 use std::alloc::AllocError;
 
-/// Operations in a row, and whose they are: the rows tile them in order.
+/// A run of operations and their owners: the rows tile the operations in order.
 #[derive(Drop)]
 pub(crate) struct Written {
     pub(crate) code: Block,
@@ -17,7 +17,7 @@ pub(crate) struct Written {
 }
 
 impl Written {
-    /// Gives a statement the operations from a place to the end. Its error says that memory was refused.
+    /// Makes a statement the owner of the operations from `first` to the end. Fails only if an allocation fails.
     pub(crate) fn close(&mut self, first: u32, own: &Own) -> Result<(), AllocError>
         ensures code { self.new.code ≡ self.old.code }
         ensures owners { OnOk result (self.new.owners.items ≡ with_run self.old.owners.items first (end_of self.old.code) (view_own own.now)) }

@@ -1,5 +1,6 @@
-//! The code of expressions of a main, among the data of one module: VAR bool a, b and r, VAR num n, m and x, VAR num list{3}. They
-//! are data 0 to 5 of the modules, and `list` begins with datum 6. FUNC num f(num p, INOUT num q) is routine 1.
+//! The code of expressions in a main, with the data of one module: VAR bool a, b and r, VAR num n, m and x, VAR num
+//! list{3}. They are data 0 to 5 of the modules, and `list` begins with datum 6. FUNC num f(num p, INOUT num q) is
+//! routine 1.
 
 use super::texts::{listed, task_of};
 use code_expr::emit_expr;
@@ -22,7 +23,7 @@ fn first_value(tree: &Tree) -> Option<&Expr> {
     }
 }
 
-/// Whether the code of the value that an assignment has is this, behind an operation at place 0, which stays.
+/// Whether the value of an assignment has this code, appended to an operation at place 0, which stays.
 fn is_code(alloc: Global, assignment: &[u8], listing: &[u8]) -> Result<bool, Fail> {
     let mut text = Vec::from_slice(alloc, HEAD)?;
     text.extend_from_slice(assignment)?;
@@ -37,7 +38,7 @@ fn is_code(alloc: Global, assignment: &[u8], listing: &[u8]) -> Result<bool, Fai
     Ok(told.as_slice() == listing)
 }
 
-/// NOT covers `a AND b`, whose right operand is skipped where `a` is FALSE: the jump goes behind it, to place 8.
+/// NOT covers `a AND b`, whose right operand is skipped if `a` is FALSE: the jump goes past it, to place 8.
 #[test]
 fn not_covers_an_and(rt: HostRuntime) -> Result<(), Fail> {
     let told = is_code(
@@ -49,7 +50,7 @@ fn not_covers_an_and(rt: HostRuntime) -> Result<(), Fail> {
     Ok(())
 }
 
-/// OR skips where `a` is TRUE; XOR needs both. Operators of one level go from left to right.
+/// OR skips if `a` is TRUE; XOR needs both operands. Operators of one level go from left to right.
 #[test]
 fn an_or_skips_where_it_is_true(rt: HostRuntime) -> Result<(), Fail> {
     let told = is_code(
@@ -61,7 +62,7 @@ fn an_or_skips_where_it_is_true(rt: HostRuntime) -> Result<(), Fail> {
     Ok(())
 }
 
-/// A leading minus covers the first term, `n * m`, and stands behind it; a leading plus is nothing.
+/// A leading minus covers the first term, `n * m`, and comes after it; a leading plus is nothing.
 #[test]
 fn a_leading_sign_covers_a_term(rt: HostRuntime) -> Result<(), Fail> {
     let minus = is_code(
@@ -79,7 +80,8 @@ fn a_leading_sign_covers_a_term(rt: HostRuntime) -> Result<(), Fail> {
     Ok(())
 }
 
-/// The arguments of a call from left to right: the value of an element, by its index, and the place of `m`, which is not loaded.
+/// The arguments of a call from left to right: the value of an element, by its index, and the place of `m`, which is
+/// not loaded.
 #[test]
 fn a_call_with_two_arguments(rt: HostRuntime) -> Result<(), Fail> {
     let told = is_code(

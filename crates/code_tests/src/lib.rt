@@ -1,4 +1,4 @@
-//! The code of small modules beside listings of it, worked by hand. It holds only tests.
+//! Tests only: the code of small modules against listings worked by hand.
 #![tactic(auto)]
 
 #[cfg(test)]

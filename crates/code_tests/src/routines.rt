@@ -2,12 +2,12 @@
 
 use super::texts::{listed, task_of};
 use code_stmt::emit_routine;
-use error_recovery::handler_of;
 use stack_code::Marks;
 use std::alloc::Global;
 use std::test::Fail;
+use task_code::handler_of;
 
-/// Whether the code of the first routine of a module is this, with its ERROR part there, if it has one.
+/// Whether the first routine of a module has this code, with its ERROR part at this place, if it has one.
 fn is_code(alloc: Global, text: &[u8], listing: &[u8], part: Option<u32>) -> Result<bool, Fail> {
     let tree = task_of(alloc, text)?;
     let mut code = Vec::new(alloc);
@@ -22,8 +22,8 @@ fn is_code(alloc: Global, text: &[u8], listing: &[u8], part: Option<u32>) -> Res
     Ok(told.as_slice() == listing && handler_of(&marks, 0) == part)
 }
 
-/// The lists begin at places 4, 14 and 19, and a condition that is FALSE goes on to the next, at 9, or to the ELSE; the first two
-/// lists go on behind the statement, at 23.
+/// The lists begin at places 4, 14 and 19. A condition that is FALSE jumps to the next one, at 9, or to the ELSE; the
+/// first two lists jump past the statement, to 23.
 #[test]
 fn an_if_with_an_elseif(rt: HostRuntime) -> Result<(), Fail> {
     let told = is_code(
@@ -36,8 +36,8 @@ fn an_if_with_an_elseif(rt: HostRuntime) -> Result<(), Fail> {
     Ok(())
 }
 
-/// `s` is datum 0 of the frame; the FOR has its variable, last value and step at 1, 2 and 3. All three are there before the first
-/// is stored. Each turn begins with Turn, at place 10, and a Look.
+/// `s` is datum 0 of the frame; the FOR has its variable, last value and step at 1, 2 and 3. All three are evaluated
+/// before the first is stored. Each turn begins with Turn, at place 10, and a Look.
 #[test]
 fn a_for_with_a_step(rt: HostRuntime) -> Result<(), Fail> {
     let told = is_code(
@@ -50,7 +50,7 @@ fn a_for_with_a_step(rt: HostRuntime) -> Result<(), Fail> {
     Ok(())
 }
 
-/// The step is -1 where the first value is greater than the last, and else 1.
+/// The step is -1 if the first value is greater than the last, and else 1.
 #[test]
 fn a_for_without_a_step(rt: HostRuntime) -> Result<(), Fail> {
     let told = is_code(
@@ -63,7 +63,7 @@ fn a_for_without_a_step(rt: HostRuntime) -> Result<(), Fail> {
     Ok(())
 }
 
-/// The ERROR part stands behind the end of the list, at place 8, and its own end raises its error again.
+/// The ERROR part comes after the end of the list, at place 8, and its own end raises its error again.
 #[test]
 fn an_error_part(rt: HostRuntime) -> Result<(), Fail> {
     let told = is_code(

@@ -1,13 +1,13 @@
-//! Trees of small texts, and the listings of operations.
+//! Trees of small texts, and listings of operations.
 
 use arrayvec::ArrayString;
-use code_listing::listing_line;
+use cell_listing::listing_line;
 use data_scopes::Known;
 use module_parser::parse_module;
 use stack_code::Op;
 use std::alloc::Global;
 use std::test::Fail;
-use stmt_types::check_task;
+use task_types::check_task;
 use typed_trees::Tree;
 
 /// The typed tree of a task without an arm that has one module.
@@ -26,7 +26,7 @@ pub fn task_of(alloc: Global, text: &[u8]) -> Result<Tree, Fail> {
     }
 }
 
-/// The operations as they are listed, with a comma and a space behind each.
+/// The operations as they are listed, with a comma and a space after each.
 pub fn listed(alloc: Global, ops: &[Op]) -> Result<Vec<u8>, Fail> {
     let mut text = Vec::new(alloc);
     for pc in 0..ops.len() {

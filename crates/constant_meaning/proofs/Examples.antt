@@ -88,7 +88,7 @@ opposite : constant_value known (Not 0 sorts.Bool (truth true)) ≡ outcomes.Val
 unfolding constant_value truth
 opposite = refl
 
--- FALSE AND v = 1 has a value, and is not constant
+-- FALSE AND v = 1 has a value, but is not constant
 skipped_variable : constant_value known (chained (truth false) operators.And (chained variable operators.Equal (num (pos 1_000)))) ≡ outcomes.Value (values.Bool false)
 unfolding constant_value num truth chained variable
 skipped_variable = refl

@@ -1,4 +1,4 @@
--- Lists of expressions, evaluated and looked at one after the other.
+-- Lists of expressions, evaluated one after the other.
 use Rattle.std.proofs.Common.{◌≡◌, ℕ, ◌+◌, ◌<◌, ◌≤◌, Bool, ◌&&◌, List, [], ◌∷◌, ◌++◌, length, get_or, map, drop, None, refl, sym, ap, ◌∙◌, arith, length-append, true, false, if◌then◌else◌}
 use Rattle.std.proofs.lemmas.List.{at_drop_all, at_drop_more, append_assoc, append-nil}
 use Rattle.std.specs.declared.alloc.Global.{Global}
@@ -20,7 +20,7 @@ use Rattle.constant_meaning.specs.declared.outcome.Outcome.{Outcome}
 use Rattle.constant_meaning.specs.declared.outcome.Outcome.TheVariants as outcomes
 use Rattle.constant_meaning.specs.Constants.{Elements, Outcomes, all, stops, along, and_more, are_constant, are_constant_steps, between, constant_value, constant_values, is_constant, made, value_or_not_known}
 
--- what comes behind values that are there
+-- outcomes after values that are already there
 abbrev pub behind : List Value → Outcomes → Outcomes
 behind front (all vs) = all (front ++ vs)
 behind front (stops other) = stops other
@@ -53,7 +53,7 @@ pub values_end : (known : Elements) (list : List Expr) (i : ℕ) → length list
 unfolding constant_values
 values_end known list i le = at_drop_all (λ left. constant_values known (exprs_of (map view_expr left))) list i le
 
--- one that is no value
+-- one outcome that is not a value
 pub stopped : (sort : Sort) (front : List Value) (one : Outcome) (more : Outcomes) → ((v : Value) → one ≡ outcomes.Value v → ⊥) →
     made sort (behind front (and_more one more)) ≡ one
 stopped sort front (outcomes.Value v) more differs = absurd (differs v refl)
@@ -64,13 +64,13 @@ pub kept : (front : List Value) (v : Value) (more : Outcomes) → behind front (
 kept front v (all vs) = ap all (sym (append_assoc front (v ∷ []) vs))
 kept front v (stops other) = refl
 
--- one that is too many
+-- one too many
 not_kept : (sort : Sort) (front : List Value) (v : Value) (more : Outcomes) → length front ≡ 7 →
     made sort (behind front (and_more (outcomes.Value v) more)) ≡ made sort (behind front more)
 not_kept sort front v (all vs) full = ap value_or_not_known (too_many sort (front ++ v ∷ vs) (rw (length-append front (v ∷ vs)) (omega arith)) ∙ sym (too_many sort (front ++ vs) (rw (length-append front vs) (omega arith))))
 not_kept sort front v (stops other) full = refl
 
--- one more, where there is room for it
+-- one more, if there is room for it
 pub keeps : (room : Bool) (sort : Sort) (front after : List Value) (v : Value) (more : Outcomes) → after ≡ (if room then front ++ v ∷ [] else front) → (room ≡ false → length front ≡ 7) →
     made sort (behind after more) ≡ made sort (behind front (and_more (outcomes.Value v) more))
 keeps true sort front after v more is full = ap (λ vs. made sort (behind vs more)) is ∙ ap (made sort) (sym (kept front v more))

@@ -1,4 +1,5 @@
--- The value of an expression that is known before the run (RAPID Kernel, constant expressions), by recursion on its tree.
+-- The value of an expression that is known before the run (RAPID Kernel, constant expressions), by recursion on its
+-- tree.
 use Rattle.std.specs.Prelude.{ℕ, ◌-◌, Bool, true, false, not, ◌&&◌, neg_ℤ, List, [], ◌∷◌, length, map, is_some, slice_get, Option, None, Some, if◌then◌else◌}
 use Rattle.std.specs.Option.{option_and_then, option_map}
 use Rattle.std.specs.declared.alloc.Global.{Global}
@@ -8,10 +9,10 @@ use Rattle.rapid_model.specs.declared.value.Value.{Value}
 use Rattle.rapid_model.specs.declared.value.Value.TheVariants as values
 use Rattle.rapid_model.specs.declared.operator.Operator.{Operator}
 use Rattle.rapid_model.specs.declared.operator.Operator.TheVariants as operators
-use Rattle.rapid_operators.specs.declared.applied.Applied.{Applied}
-use Rattle.rapid_operators.specs.declared.applied.Applied.TheVariants.{Gives, Raises, OutOfRange, Unfit}
-use Rattle.rapid_operators.specs.Elements.{element_number}
-use Rattle.rapid_operators.specs.Operators.{apply}
+use Rattle.rapid_values.specs.declared.applied.Applied.{Applied}
+use Rattle.rapid_values.specs.declared.applied.Applied.TheVariants.{Gives, Raises, OutOfRange, Unfit}
+use Rattle.rapid_values.specs.Elements.{element_number}
+use Rattle.rapid_values.specs.Operators.{apply}
 use Rattle.rapid_values.specs.Values.{part_of, made_of}
 use Rattle.rapid_model.specs.declared.part_name.PartName.{PartName}
 use Rattle.typed_trees.specs.Plain.{TypedExpr, TypedExprs, TypedSteps, Known, ErrorNumber, SignalValue, Stored, Group, Aggregate, Builtin, Invoke, Not, Signed, Chain, NoExprs, MoreExprs, NoSteps, MoreSteps, NotHeld, Held, PlaceOf}
@@ -26,15 +27,15 @@ pub record Elements : Type 0 where
   pub slots : List (Option (List Value))
   pub locals : List (Option (List Value))
 
--- the elements of an array, where they are known
+-- the elements of an array, if they are known
 abbrev pub items_of : Option (Vec Value Global) → Option (List Value)
 items_of elements = option_map (λ v. v.items) elements
 
--- the arrays that an evaluation is lent
+-- the arrays passed to an evaluation
 abbrev pub elements_of : Arrays → Elements
 elements_of arrays = record { slots = map items_of arrays.slots.now; locals = map items_of arrays.locals.now }
 
--- several outcomes in turn: the first that is no value, or all values
+-- several outcomes in turn: all values, or the first outcome that is not a value
 pub data Outcomes : Type 0 where
   all : List Value → Outcomes
   stops : Outcome → Outcomes
@@ -57,7 +58,7 @@ abbrev pub element_part : List Value → PartName → Option ℕ → Outcome
 element_part elements part None = outcomes.OutOfArray
 element_part elements part (Some number) = value_or_not_known (option_and_then (λ v. part_of v part) (slice_get elements (number - 1)))
 
--- the part of an element, by what its index comes to
+-- a part of an element, given the outcome of its index
 abbrev pub element_at : Option (List Value) → PartName → Outcome → Outcome
 element_at None part index = outcomes.NotKnown
 element_at (Some elements) part (outcomes.Value (values.Num n)) = element_part elements part (element_number (length elements) n)
@@ -80,7 +81,7 @@ abbrev pub on_right : Operator → Value → Outcome → Outcome
 on_right o v (outcomes.Value w) = applied (apply o v w)
 on_right o v other = other
 
--- an operator between what its operands come to; the right one is skipped where the left one decides
+-- an operator on the outcomes of its operands; the right one is skipped if the left one decides
 abbrev pub between : Operator → Outcome → Outcome → Outcome
 between o (outcomes.Value v) right = if decides o v then outcomes.Value v else on_right o v right
 between o other right = other
@@ -128,7 +129,7 @@ unfoldable mutual
   along known left NoSteps = left
   along known left (MoreSteps o e steps) = along known (between o left (constant_value known e)) steps
 
--- nothing but what is known before the run: no variable, persistent, signal or call, also in parts that are skipped
+-- everything in it is known before the run: no variable, persistent, signal or call, not even in parts that are skipped
 unfoldable mutual
   pub is_constant : Elements → TypedExpr → Bool
   is_constant known (Known at sort v) = true

@@ -1,10 +1,10 @@
-//! The components of an aggregate, as many as any type has and one more (RAPID Kernel, aggregates).
+//! The components of an aggregate: as many as any type has, and one more (RAPID Kernel, aggregates).
 
 ghost use Rattle.std.specs.Prelude.{◌≡◌, ◌≤◌, nat_lt, false, [], ◌∷◌, ◌++◌, length, take, if◌then◌else◌};
 
 use rapid_model::Value;
 
-/// Seven values that stand where none is kept yet.
+/// Seven placeholders for components.
 pub(crate) fn blanks() -> [Value; 7] {
     [
         Value::Bool(false),
@@ -17,7 +17,7 @@ pub(crate) fn blanks() -> [Value; 7] {
     ]
 }
 
-/// Puts a value behind the first so many, where there is room, and tells how many there are then.
+/// Stores a value after the first `count`, if there is room, and returns how many there are now.
 pub(crate) fn keep(values: &mut [Value; 7], count: usize, value: Value) -> usize
     requires { count ≤ 7 }
     ensures bound { result ≤ 7 }

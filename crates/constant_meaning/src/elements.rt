@@ -1,7 +1,7 @@
 //! Elements of constant arrays (RAPID Overview, arrays).
 
 ghost use Rattle.std.specs.Prelude.{◌≡◌, length, map, slice_get, option_map};
-ghost use Rattle.rapid_operators.specs.Elements.{element_number};
+ghost use Rattle.rapid_values.specs.Elements.{element_number};
 ghost use Rattle.constant_meaning.specs.Constants.{array_of, element_at, element_part, elements_of, flat, items_of};
 ghost use Rattle.constant_meaning.specs.declared.outcome.Outcome.TheVariants as outcomes;
 
@@ -10,11 +10,10 @@ use crate::operands::value_or_not_known;
 use crate::outcome::Outcome;
 use rapid_model::{PartName, Value};
 use rapid_num::Num;
-use rapid_operators::element_number;
-use rapid_values::part;
+use rapid_values::{element_number, part};
 use typed_trees::TreeRoot;
 
-/// The elements of the constant array that a root names: None exactly where it is none whose elements are known.
+/// The elements of the constant array that a root names: None exactly if it does not name one with known elements.
 pub(crate) fn array_of<'a>(arrays: &Arrays<'a>, root: TreeRoot) -> Option<&'a Vec<Value>>
     ensures { option_map (λ v. v.now.items) result ≡ array_of (elements_of arrays.now) root }
 {
@@ -25,14 +24,14 @@ pub(crate) fn array_of<'a>(arrays: &Arrays<'a>, root: TreeRoot) -> Option<&'a Ve
     }
 }
 
-/// The elements of the array of a number, counted from 0, where they are known.
+/// The elements of the array with this number, from 0, if they are known.
 fn array_at(arrays: &[Option<Vec<Value>>], number: u32) -> Option<&Vec<Value>>
     ensures { option_map (λ v. v.now.items) result ≡ flat (slice_get (map items_of arrays.now) number) }
 {
     arrays.get(number as usize)?.as_ref()
 }
 
-/// The part of an element of an array, by what its index comes to: an index counts from 1.
+/// A part of an array element, given the outcome of its index. Indices count from 1.
 pub(crate) fn element_at(elements: &[Value], part: PartName, index: Outcome) -> Outcome
     ensures { result ≡ element_at (Some elements.now) part index }
 {
@@ -42,7 +41,7 @@ pub(crate) fn element_at(elements: &[Value], part: PartName, index: Outcome) -> 
     }
 }
 
-/// The part of an element of an array, by a value.
+/// A part of an array element, given the value of its index.
 fn element_by(elements: &[Value], part: PartName, index: &Value) -> Outcome
     ensures { result ≡ element_at (Some elements.now) part (outcomes.Value index.now) }
 {
@@ -52,7 +51,7 @@ fn element_by(elements: &[Value], part: PartName, index: &Value) -> Outcome
     }
 }
 
-/// The part of the element that a num names.
+/// A part of the element that a num names.
 fn element_part(elements: &[Value], name: PartName, number: Num) -> Outcome
     ensures { result ≡ element_part elements.now name (element_number (length elements.now) number) }
 {

@@ -1,4 +1,4 @@
-//! The value of expressions that are known before the run (RAPID Kernel, constant expressions).
+//! Evaluation of expressions that are known before the run (RAPID Kernel, constant expressions).
 
 ghost use Rattle.std.specs.Prelude.{◌≡◌, ℕ, map};
 ghost use Rattle.rapid_model.specs.declared.sort.Sort.{Sort};
@@ -15,9 +15,9 @@ use rapid_model::{Operator, Sort, Value};
 use rapid_values::record_of;
 use typed_trees::{Expr, ExprForm, TreePlace};
 
-/// What an expression comes to whose value is known before the run (RAPID Kernel, constant expressions): parts from the left
-/// to the right, and the right operand of AND and OR only where the left one does not decide. Brackets are read as a record;
-/// of an array's brackets each element is evaluated alone.
+/// Evaluates an expression whose value is known before the run (RAPID Kernel, constant expressions): operands from left
+/// to right, and the right operand of AND and OR only if the left one does not decide. Brackets are taken as a record;
+/// the elements of an array are evaluated one by one.
 #[cycle(constants)]
 #[tactic(auto, unfolding(crate::specs::Constants::constant_value))]
 pub fn constant_value(arrays: &Arrays<'_>, expr: &Expr) -> Outcome
@@ -37,7 +37,7 @@ pub fn constant_value(arrays: &Arrays<'_>, expr: &Expr) -> Outcome
     }
 }
 
-/// What a place has: a part of an element of a constant array.
+/// The value at a place: a part of an element of a constant array.
 #[cycle(constants)]
 #[tactic(auto, unfolding(crate::specs::Constants::constant_value))]
 fn at_place(arrays: &Arrays<'_>, place: &TreePlace) -> Outcome
@@ -52,8 +52,8 @@ fn at_place(arrays: &Arrays<'_>, place: &TreePlace) -> Outcome
     element_at(elements, place.part, constant_value(arrays, index))
 }
 
-/// The value of a record type that has these components. No type has more than six, so a seventh tells that there are
-/// too many, and those behind it are only evaluated.
+/// The value of a record type with these components. No type has more than six, so a seventh shows that there are too
+/// many, and those after it are only evaluated.
 #[cycle(constants)]
 fn aggregate(arrays: &Arrays<'_>, components: &Vec<Expr>, sort: Sort) -> Outcome
     ensures { result ≡ made sort (constant_values (elements_of arrays.now) (exprs_of (map view_expr components.now.items))) }
@@ -69,7 +69,7 @@ fn aggregate(arrays: &Arrays<'_>, components: &Vec<Expr>, sort: Sort) -> Outcome
     value_or_not_known(record_of(sort, &values[..count]))
 }
 
-/// What operators of one level come to, from the left to the right, behind what stands on their left.
+/// The outcome of operators of one level, from left to right, given the outcome on their left.
 #[cycle(constants)]
 fn chain(arrays: &Arrays<'_>, rest: &Vec<(Operator, Expr)>, first: Outcome) -> Outcome
     ensures { result ≡ along (elements_of arrays.now) first (steps_of (map view_step rest.now.items)) }
@@ -81,7 +81,7 @@ fn chain(arrays: &Arrays<'_>, rest: &Vec<(Operator, Expr)>, first: Outcome) -> O
     left
 }
 
-/// What an operator and its right operand come to behind what stands on their left.
+/// The outcome of an operator and its right operand, given the outcome on their left.
 #[cycle(constants)]
 fn between(arrays: &Arrays<'_>, right: &Expr, operator: Operator, left: Outcome) -> Outcome
     ensures { result ≡ between operator left (constant_value (elements_of arrays.now) (view_expr right.now)) }
@@ -95,8 +95,8 @@ fn between(arrays: &Arrays<'_>, right: &Expr, operator: Operator, left: Outcome)
     on_right(operator, &value, constant_value(arrays, right))
 }
 
-/// Whether an expression has nothing but what is known before the run (RAPID Kernel, constant expressions): no variable,
-/// persistent, signal or call anywhere, also in parts that are skipped.
+/// Whether everything in an expression is known before the run (RAPID Kernel, constant expressions): no variable,
+/// persistent, signal or call anywhere, not even in parts that are skipped.
 #[cycle(constants_only)]
 #[tactic(auto, unfolding(crate::specs::Constants::is_constant))]
 pub fn is_constant(arrays: &Arrays<'_>, expr: &Expr) -> bool
@@ -117,7 +117,7 @@ pub fn is_constant(arrays: &Arrays<'_>, expr: &Expr) -> bool
     }
 }
 
-/// Whether a place is an element of a constant array, of a constant index.
+/// Whether a place is an element of a constant array, with a constant index.
 #[cycle(constants_only)]
 #[tactic(auto, unfolding(crate::specs::Constants::is_constant))]
 fn is_constant_place(arrays: &Arrays<'_>, place: &TreePlace) -> bool
@@ -129,8 +129,8 @@ fn is_constant_place(arrays: &Arrays<'_>, place: &TreePlace) -> bool
     array_of(arrays, place.root).is_some() && is_constant(arrays, index)
 }
 
-/// Whether each expression of a list is constant (RAPID Kernel, constant expressions), as the components of a record and the
-/// elements of an array have to be in its initial value.
+/// Whether each expression of a list is constant (RAPID Kernel, constant expressions), as the components of a record
+/// and the elements of an array must be in an initial value.
 #[cycle(constants_only)]
 pub fn are_constant(arrays: &Arrays<'_>, components: &Vec<Expr>) -> bool
     ensures { result ≡ are_constant (elements_of arrays.now) (exprs_of (map view_expr components.now.items)) }
@@ -143,7 +143,7 @@ pub fn are_constant(arrays: &Arrays<'_>, components: &Vec<Expr>) -> bool
     true
 }
 
-/// Whether each operand behind the first is constant.
+/// Whether each operand after the first is constant.
 #[cycle(constants_only)]
 fn are_constant_steps(arrays: &Arrays<'_>, rest: &Vec<(Operator, Expr)>) -> bool
     ensures { result ≡ are_constant_steps (elements_of arrays.now) (steps_of (map view_step rest.now.items)) }

@@ -1,4 +1,4 @@
-//! What expressions mean whose value is known before the run: initial values and lengths.
+//! The values of expressions that are known before the run: initial values and array lengths.
 #![tactic(auto)]
 
 mod arrays;

@@ -1,4 +1,4 @@
-//! Operators between outcomes (RAPID Overview, expressions).
+//! Operators on outcomes (RAPID Overview, expressions).
 
 ghost use Rattle.std.specs.Prelude.{◌≡◌};
 ghost use Rattle.constant_meaning.specs.Constants.{applied, decides, on_right, opposite, value_or_not_known, with_sign};
@@ -6,9 +6,9 @@ ghost use Rattle.constant_meaning.specs.declared.outcome.Outcome.TheVariants as 
 
 use crate::outcome::Outcome;
 use rapid_model::{Operator, Value};
-use rapid_operators::{Applied, apply};
+use rapid_values::{Applied, apply};
 
-/// A value, where there is one.
+/// A value, or NotKnown if there is none.
 pub(crate) fn value_or_not_known(value: Option<Value>) -> Outcome
     ensures { result ≡ value_or_not_known value }
 {
@@ -29,7 +29,7 @@ pub(crate) fn decides(operator: Operator, left: &Value) -> bool
     }
 }
 
-/// An operator between a value and what the right operand comes to.
+/// An operator on a value and the outcome of its right operand.
 pub(crate) fn on_right(operator: Operator, left: &Value, right: Outcome) -> Outcome
     ensures { result ≡ on_right operator left.now right }
 {
@@ -39,7 +39,7 @@ pub(crate) fn on_right(operator: Operator, left: &Value, right: Outcome) -> Outc
     }
 }
 
-/// What an operator comes to, as an outcome.
+/// The result of an operator, as an outcome.
 fn applied(answer: Applied) -> Outcome
     ensures { result ≡ applied answer }
 {
@@ -51,7 +51,7 @@ fn applied(answer: Applied) -> Outcome
     }
 }
 
-/// NOT of what its operand comes to.
+/// NOT of an outcome.
 pub(crate) fn opposite(operand: Outcome) -> Outcome
     ensures { result ≡ opposite operand }
 {
@@ -62,7 +62,7 @@ pub(crate) fn opposite(operand: Outcome) -> Outcome
     }
 }
 
-/// A leading sign of what its operand comes to.
+/// A leading sign on an outcome.
 pub(crate) fn with_sign(minus: bool, operand: Outcome) -> Outcome
     ensures { result ≡ with_sign minus operand }
 {
@@ -72,7 +72,7 @@ pub(crate) fn with_sign(minus: bool, operand: Outcome) -> Outcome
     }
 }
 
-/// A leading sign of a value, which fits a num alone.
+/// A leading sign on a value, which must be a num.
 fn signed(minus: bool, operand: &Value) -> Outcome
     ensures { result ≡ with_sign minus (outcomes.Value operand.now) }
 {

@@ -1,15 +1,15 @@
 use rapid_model::Value;
 
-/// What a constant expression comes to.
+/// The outcome of a constant expression.
 #[derive(Debug, Drop)]
 pub enum Outcome {
     /// A value.
     Value(Value),
-    /// An error of this number, as 101 for a divisor that is zero.
+    /// An error with this number, such as 101 for division by zero.
     Raises(u8),
     /// A num out of range, which is a fault.
     OutOfRange,
-    /// An index that is no element's number, which is a fault.
+    /// An index without an element, which is a fault.
     OutOfArray,
     /// No value is known before the run: a variable, a persistent, a signal or a call, or operands that do not fit.
     NotKnown,

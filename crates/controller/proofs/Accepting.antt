@@ -9,11 +9,11 @@ use Rattle.raw_trees.specs.Plain.{PlainModule}
 use Rattle.module_parser.specs.Modules.{ModuleText}
 use Rattle.typed_trees.specs.Plain.{TypedTree}
 use Rattle.rule_checks.specs.TypeChecks.{Checked}
-use Rattle.stmt_types.specs.Task.{task_of}
+use Rattle.task_types.specs.Task.{task_of}
 use Rattle.cell_assembly.specs.Cells.{Making}
 use Rattle.cell_assembly.specs.Made.{MadeCell, make_cell}
-use Rattle.tree_soundness.specs.Accepted.{AreChecked, AreRead, IsAccepted}
-use Rattle.tree_soundness.proofs.Cells.{tasks_are}
+use Rattle.accepted_cells.specs.Accepted.{AreChecked, AreRead, IsAccepted}
+use Rattle.accepted_cells.proofs.Cells.{tasks_are}
 use Rattle.controller.specs.declared.refused.Refused.{Refused}
 use Rattle.controller.specs.Accepted.{ReadModule, or_refused, names_in, typed_tasks, cell_or_refused, checked}
 use Rattle.controller.proofs.TreesInTurn.{then_trees, cell_from}
@@ -38,7 +38,7 @@ modules_in (task ∷ tasks) reads = raws (take (length task.modules) reads) ∷ 
 are_read : (reads : List ReadModule) → AreSpelled reads → AreRead (raws reads)
 are_read reads spelled = All-map (λ (m : PlainModule). (source : List ℕ) × ModuleText source (Ok m)) (λ (r : ReadModule). r.raw) reads spelled
 
--- the trees of a task and of those behind it
+-- the trees of a task and of those after it
 typed_first : (script : ScriptData) (task : ScriptTask) (tasks : List ScriptTask) (own : List ReadModule) (more : List (List PlainModule)) (found : Checked TypedTree) (behind : Result (List TypedTree) Refused)
     (trees : List TypedTree) → found ≡ task_of (raws own) (names_in script.tasks) script.signals task.axes → AreSpelled own → then_trees (or_refused own found) behind ≡ Ok trees
     → ((ts : List TypedTree) → behind ≡ Ok ts → AreChecked script tasks more ts) → AreChecked script (task ∷ tasks) (raws own ∷ more) trees

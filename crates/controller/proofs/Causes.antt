@@ -1,5 +1,6 @@
--- What a refusal by a file says of the words and the sinks: nothing of the words, of reads what was counted, nothing of writes.
-use Rattle.std.proofs.Common.{◌≡◌, ◌≢◌, ℕ, ◌≤◌, List, Some, None, sym, ◌∙◌, subst, inl, inr}
+-- What a refusal of a file says of the words and the sinks: nothing of the words, of reads what was counted, nothing of
+-- writes.
+use Rattle.std.proofs.Common.{◌≡◌, ◌≢◌, ℕ, ◌≤◌, List, [], ◌∷◌, Some, None, sym, ◌∙◌, subst, inl, inr}
 use Rattle.std.specs.Prelude.{Option, ◌↔◌, IfSome}
 use Rattle.std.proofs.lemmas.Option.{IfSome_then}
 use Rattle.outside.specs.Count.{Rose}
@@ -10,10 +11,12 @@ use Rattle.controller.specs.declared.refused.Refused.{Refused}
 use Rattle.controller.specs.declared.refused.Refused.TheVariants.{Words, Script, Module, Read, Write, Memory, TooLong}
 use Rattle.controller.specs.declared.report.Report.{Report}
 use Rattle.controller.specs.declared.shown.Shown.{Shown}
-use Rattle.controller.specs.Answered.{AnswersAccepted, ListsOrMemory, RunsOrMemory}
+use Rattle.controller.specs.Answered.{AnswersAccepted, ListsOrMemory, RunsOrMemory, PrintsBy, accepted_line, run_lines}
 use Rattle.controller.specs.Files.{IsDoneFault, IsLoadFault}
 use Rattle.controller.specs.Printed.{Sunk}
-use Rattle.controller.specs.Words.{refused_place}
+use Rattle.command_words.specs.Words.{refused_place}
+use Rattle.cell_listing.specs.Listing.{listing_of}
+use Rattle.controller.specs.Runs.{run_status}
 
 -- a fault that is known
 pub known_fault : (P : Refused → Type 0) (refused : Refused) (told : Option Refused) → P refused → told ≡ Some refused → IfSome told P
@@ -22,13 +25,13 @@ known_fault P refused told fault is = subst (λ (o : Option Refused). IfSome o P
 told_is : (P : Refused → Type 0) (told : Option Refused) (other : Refused) → IfSome told P → told ≡ Some other → P other
 told_is P told other fault same = subst (λ (o : Option Refused). IfSome o P) same fault
 
--- the words are taken, and the fault is not theirs
+-- the words are taken, and the fault is not in them
 pub no_words : (P : Refused → Type 0) (words : List (List ℕ)) (told : Option Refused) → ((place : ℕ) → P (Words place) → ⊥) → refused_place words ≡ None → IfSome told P
     → (place : ℕ) → (told ≡ Some (Words place)) ↔ (refused_place words ≡ Some place)
 no_words P words told never taken fault = λ place.
     (λ same. absurd (never place (told_is P told (Words place) fault same)), λ same. absurd (let no : None ≡ Some place = sym taken ∙ same in cc))
 
--- in loading a read is counted, and nothing is written
+-- while loading, a read is counted and nothing is written
 
 pub read_counted : (old new : ℕ) (told : Option Refused) → IfSome told (IsLoadFault old new) → (file : ℕ) → told ≡ Some (Read file) → Rose old new
 read_counted old new told fault = λ file same. told_is (IsLoadFault old new) told (Read file) fault same
@@ -49,7 +52,7 @@ fault_since start old new told before rise fault = IfSome_then told {P = IsLoadF
 pub no_write : (old new : ℕ) (told : Option Refused) → IfSome told (IsLoadFault old new) → told ≢ Some Write
 no_write old new told fault = λ same. told_is (IsLoadFault old new) told Write fault same
 
--- in an action nothing is read, and a write is counted
+-- during an action nothing is read, and a write is counted
 
 pub no_read : {A : Type 0} (old new : ℕ) (told : Option Refused) → IfSome told (IsDoneFault old new) → (file : ℕ) → told ≡ Some (Read file) → A
 no_read old new told fault = λ file same. absurd (told_is (IsDoneFault old new) told (Read file) fault same)
@@ -57,19 +60,21 @@ no_read old new told fault = λ file same. absurd (told_is (IsDoneFault old new)
 pub write_counted : (old new : ℕ) (told : Option Refused) → IfSome told (IsDoneFault old new) → told ≡ Some Write → Rose old new
 write_counted old new told fault = λ same. told_is (IsDoneFault old new) told Write fault same
 
--- what a run is refused for
+-- why printing is refused
+printed_told : (status : ℕ) (lines : List (List ℕ)) (report : Report) (out err : Sunk) → PrintsBy status lines report out err → IfSome report.refused (IsDoneFault out.old.faults out.new.faults)
+printed_told status lines report out err (inl whole) = subst (λ (o : Option Refused). IfSome o (IsDoneFault out.old.faults out.new.faults)) (sym whole.refused_is) tt
+printed_told status lines report out err (inr part) = subst (λ (o : Option Refused). IfSome o (IsDoneFault out.old.faults out.new.faults)) (sym part.0.refused_is) part.1
+
+-- why a run is refused
 pub run_told : (Run : Report → Type 0) (shown : Shown) (cell : CellData) (report : Report) (out err : Sunk) → RunsOrMemory Run shown cell report out err → IfSome report.refused (IsDoneFault out.old.faults out.new.faults)
 run_told Run shown cell report out err (inl memory) = subst (λ (o : Option Refused). IfSome o (IsDoneFault out.old.faults out.new.faults)) (sym memory.refused_is) tt
-run_told Run shown cell report out err (inr (inl printed)) = subst (λ (o : Option Refused). IfSome o (IsDoneFault out.old.faults out.new.faults)) (sym printed.refused_is) tt
-run_told Run shown cell report out err (inr (inr cut)) = subst (λ (o : Option Refused). IfSome o (IsDoneFault out.old.faults out.new.faults)) (sym cut.0.refused_is) cut.1
+run_told Run shown cell report out err (inr answered) = printed_told (run_status cell report.history.items) (run_lines shown cell report) report out err answered.1
 
--- what a list is refused for
+-- why a list is refused
 pub list_told : (cell : CellData) (trees : List TypedTree) (report : Report) (out err : Sunk) → ListsOrMemory cell trees report out err → IfSome report.refused (IsDoneFault out.old.faults out.new.faults)
 list_told cell trees report out err (inl memory) = subst (λ (o : Option Refused). IfSome o (IsDoneFault out.old.faults out.new.faults)) (sym memory.refused_is) tt
-list_told cell trees report out err (inr (inl listed)) = subst (λ (o : Option Refused). IfSome o (IsDoneFault out.old.faults out.new.faults)) (sym listed.refused_is) tt
-list_told cell trees report out err (inr (inr part)) = subst (λ (o : Option Refused). IfSome o (IsDoneFault out.old.faults out.new.faults)) (sym part.0.refused_is) part.1
+list_told cell trees report out err (inr answered) = printed_told 0 (listing_of cell answered.0) report out err answered.3
 
--- what telling that all is accepted is refused for
+-- why reporting that all is accepted is refused
 pub accepted_told : (report : Report) (out err : Sunk) → AnswersAccepted report out err → IfSome report.refused (IsDoneFault out.old.faults out.new.faults)
-accepted_told report out err (inl told) = subst (λ (o : Option Refused). IfSome o (IsDoneFault out.old.faults out.new.faults)) (sym told.refused_is) tt
-accepted_told report out err (inr part) = subst (λ (o : Option Refused). IfSome o (IsDoneFault out.old.faults out.new.faults)) (sym part.0.refused_is) part.1
+accepted_told report out err answered = printed_told 0 (accepted_line ∷ []) report out err answered.1

@@ -17,7 +17,7 @@ use Rattle.rule_checks.specs.TypeChecks.{Checked, Fails}
 use Rattle.rule_checks.specs.declared.fault.TypeFault.{TypeFault}
 use Rattle.rule_checks.specs.declared.fault.TypeFault.TheVariants as types
 use Rattle.controller.proofs.ReadModules.{raws-of}
-use Rattle.stmt_types.specs.Task.{task_of}
+use Rattle.task_types.specs.Task.{task_of}
 use Rattle.controller.specs.declared.refused.Refused.{Refused}
 use Rattle.controller.specs.declared.refused.Refused.TheVariants.{Script, Module, Memory}
 use Rattle.controller.specs.declared.refused.ModuleRule.{ModuleRule}
@@ -67,12 +67,12 @@ one_refused script task reads own names signals axes (types.Rule number at rule)
     ∙ ap Err (ap (λ (rs : List ReadModule). rule_refusal rs number at rule) (sym same) ∙ sym told)
     )
 
--- amid the tasks: those before this one are checked
+-- in the middle of the tasks: those before this one are checked
 pub record Checking (script : ScriptData) (all : List ReadModule) (k : ℕ) (trees : List Tree) (rest : Modules) : Type 0 where
   pub paired : ArePaired rest
   pub goes_on : typed_tasks script script.tasks all ≡ with_trees (map view_tree trees) (typed_tasks script (drop k script.tasks) (reads_in rest))
 
--- what this task and those behind it come to
+-- what this task and those after it come to
 here_goes : (script : ScriptData) (all : List ReadModule) (k : ℕ) (trees : List Tree) (rest : Modules) (task : ScriptTask) (found : Result TypedTree Refused) → k < length script.tasks
     → task ≡ get_or script.tasks k task → Checking script all k trees rest → typed_task script task (take (length task.modules) (reads_in rest)) ≡ found
     → typed_tasks script script.tasks all ≡ with_trees (map view_tree trees) (then_trees found (typed_tasks script (drop (k + 1) script.tasks) (drop (length task.modules) (reads_in rest))))
@@ -122,7 +122,7 @@ before_all (t ∷ tasks) zero n is = let none : n ≡ 0 = omega arith in ap (mod
 before_all (t ∷ tasks) (suc number) zero is = absurd (omega arith)
 before_all (t ∷ tasks) (suc number) (suc n) is = ap (λ (m : ℕ). length t.modules + m) (before_all tasks number n (omega arith))
 
--- amid the tasks before one: so many modules
+-- in the middle of the tasks before one: this many modules
 pub record Counting (tasks : List ScriptTask) (k before : ℕ) : Type 0 where
   pub few : before ≤ 16 * k
   pub is : before ≡ modules_before tasks k
@@ -141,7 +141,7 @@ counting_more tasks k before then task lt is few p next = record {
       let whole : then ≡ modules_before tasks (suc k) = omega (arith, more, f, next) in whole ∙ ap (modules_before tasks) one;
 }
 
--- what is true of each refusal by a rule of the script or of a module is true of what the check is refused for
+-- what is true of each refusal for a rule of the script or of a module is true of what the check is refused for
 module _ (P : Refused → Type 0) (of_script : (key : List ℕ) (rule : ScriptRule) → P (Script key rule)) (of_module : (file : ℕ) (place : Place) (rule : ModuleRule) → P (Module file place rule)) where
   in_refused : (reads : List ReadModule) (found : Checked TypedTree) (refused : Refused) → or_refused reads found ≡ Err refused → P refused
   in_refused reads (Ok tree) refused is = cc

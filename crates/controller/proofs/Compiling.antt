@@ -13,12 +13,12 @@ use Rattle.typed_trees.specs.declared.tree.Tree.{Tree}
 use Rattle.cell_assembly.specs.Made.{MadeCell}
 use Rattle.stack_code.specs.CodeData.{CodeData}
 use Rattle.stack_code.specs.Compiled.{compiled}
-use Rattle.code_liveness.specs.Asking.{AsksAs}
-use Rattle.code_liveness.specs.Checked.{IsChecked}
-use Rattle.code_liveness.proofs.Lives.{asks_as}
-use Rattle.accepted_code.proofs.Checking.{checked_is}
+use Rattle.code_laws.specs.Asking.{AsksAs}
+use Rattle.code_laws.specs.Checked.{IsChecked}
+use Rattle.code_laws.proofs.Lives.{asks_as}
+use Rattle.accepted_cells.proofs.Checking.{checked_is}
 use Rattle.task_machine.specs.MachineData.{MachineData}
-use Rattle.task_steps.specs.declared.phase.Phase.TheVariants as phases
+use Rattle.task_steps.specs.declared.steps.phase.Phase.TheVariants as phases
 use Rattle.controller.specs.Answered.{AreCodesOf}
 use Rattle.controller.specs.Loaded.{HasScript, made_with}
 use Rattle.controller.proofs.Lists.{take-element}

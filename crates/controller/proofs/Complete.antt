@@ -1,6 +1,8 @@
--- What is answered to a verdict carries it out, where no write fails.
-use Rattle.std.proofs.Common.{◌≡◌, ◌⊎◌, inl, inr, refl, ap, ◌∙◌, subst, ℕ, Bool, true, false, List, length, Some, if◌then◌else◌}
+-- The answer to a verdict carries it out, if no write fails.
+use Rattle.std.proofs.Common.{◌≡◌, ◌⊎◌, inl, inr, refl, ap, ◌∙◌, subst, ℕ, Bool, true, false, List, [], ◌∷◌, length, Some, if◌then◌else◌}
+use Rattle.std.specs.Prelude.{Option}
 use Rattle.std.specs.List.{list_any}
+use Rattle.outside.specs.Count.{Rose}
 use Rattle.outside.specs.Told.{Told}
 use Rattle.rapid_model.specs.CellData.{CellData}
 use Rattle.rapid_model.specs.declared.event.Event.{Event}
@@ -8,23 +10,30 @@ use Rattle.cell_meaning.specs.Fates.{all_ended, fates_after, is_spent}
 use Rattle.controller.specs.declared.refused.Refused.TheVariants.{Write}
 use Rattle.controller.specs.declared.report.Report.{Report}
 use Rattle.controller.specs.Accepted.{Accepted, Verdict, accepts, lists, refuses, runs, runs_free}
-use Rattle.controller.specs.Answered.{Answers, AnswersWords, IsOutOfMemory}
-use Rattle.controller.specs.Complete.{IsDone}
+use Rattle.controller.specs.Answered.{Answers, AnswersWords, IsOutOfMemory, IsPrinted, accepted_line, run_lines}
+use Rattle.controller.specs.Complete.{IsComplete, IsDone}
 use Rattle.controller.specs.Files.{told_reads}
 use Rattle.controller.specs.Printed.{Sunk}
 use Rattle.controller.specs.Runs.{is_fault, run_status}
 use Rattle.controller.proofs.OneVerdict.{OneText, verdict_one}
+use Rattle.cell_listing.specs.Listing.{listing_of}
+
+whole_status : (status : ℕ) (lines : List (List ℕ)) (report : Report) (out err : Sunk) → (report.refused ≡ Some Write → ⊥) → IsPrinted status lines report out err → report.status ≡ status
+whole_status status lines report out err whole (inl is) = is.status_is
+whole_status status lines report out err whole (inr part) = absurd (whole part.refused_is)
 
 carried_out : (verdict : Verdict) (report : Report) (out err : Sunk) → (report.refused ≡ Some Write → ⊥) → Answers verdict report out err → IsDone verdict report
 carried_out (refuses names refused) report out err whole is = (is.refused_is, is.status)
-carried_out (accepts names) report out err whole (inl is) = is.status
-carried_out (accepts names) report out err whole (inr part) = absurd (whole part.refused_is)
-carried_out (runs names shown cell trees) report out err whole (inl is) = is.status
-carried_out (runs names shown cell trees) report out err whole (inr part) = absurd (whole part.refused_is)
-carried_out (runs_free names shown cell trees) report out err whole (inl is) = is.status
-carried_out (runs_free names shown cell trees) report out err whole (inr part) = absurd (whole part.refused_is)
-carried_out (lists names cell trees) report out err whole (inl is) = is.status
-carried_out (lists names cell trees) report out err whole (inr part) = absurd (whole part.refused_is)
+carried_out (accepts names) report out err whole is = whole_status 0 (accepted_line ∷ []) report out err whole is.1
+carried_out (runs names shown cell trees) report out err whole is = whole_status (run_status cell report.history.items) (run_lines shown cell report) report out err whole is.1
+carried_out (runs_free names shown cell trees) report out err whole is = whole_status (run_status cell report.history.items) (run_lines shown cell report) report out err whole is.1
+carried_out (lists names cell trees) report out err whole is = whole_status 0 (listing_of cell is.0) report out err whole is.3
+
+-- what answers the words and the files carries out what they come to
+pub done : (words : List (List ℕ)) (told : Option Told) (report : Report) (out err : Sunk) → AnswersWords words told report out err → (report.refused ≡ Some Write → Rose out.old.faults out.new.faults)
+    → IsComplete words told report out err
+done words told report out err (inl memory) wrote = λ quiet. inl memory
+done words told report out err (inr w) wrote = λ quiet. inr (w.0, w.1, carried_out w.0 report out err (λ cut. quiet (wrote cut)) w.2)
 
 pub complete : OneText → (words : List (List ℕ)) (files : Told) (verdict : Verdict) (report : Report) (out err : Sunk) → AnswersWords words (Some files) report out err
     → (report.refused ≡ Some Write → ⊥) → Accepted words (told_reads files) verdict → IsOutOfMemory report out err ⊎ IsDone verdict report

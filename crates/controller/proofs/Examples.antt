@@ -1,6 +1,7 @@
 -- The definitions on examples worked by hand.
-use Rattle.std.proofs.Common.{◌≡◌, ℕ, List, [], ◌∷◌, true, false, refl, arith}
-use Rattle.std.specs.Prelude.{codes, pos, Some, None}
+use Rattle.std.proofs.Common.{◌≡◌, ℕ, List, [], ◌∷◌, refl, sym, subst, arith, rules}
+use Rattle.std.specs.Prelude.{codes, pos, true, false, Option, Some, None}
+use Rattle.std.proofs.lemmas.Str.{IsUtf8-from_ascii}
 use Rattle.std.specs.Fmt.{digits}
 use Rattle.outside.specs.Told.{Told}
 use Rattle.outside.specs.declared.call.Call.{Call}
@@ -13,14 +14,13 @@ use Rattle.rapid_model.specs.declared.sort.Sort.TheVariants as sorts
 use Rattle.rapid_model.specs.declared.value.Value.TheVariants as values
 use Rattle.rapid_model.specs.declared.zone_name.ZoneName.TheVariants.{Own}
 use Rattle.cell_meaning.proofs.ExampleCell.{joints_at}
-use Rattle.controller.specs.declared.command.Action.TheVariants as actions
 use Rattle.controller.specs.declared.refused.Refused.TheVariants.{Words, Read}
 use Rattle.controller.specs.declared.shown.Shown.TheVariants as shows
 use Rattle.controller.specs.LoadFiles.{load_reads}
 use Rattle.controller.specs.Output.{output_of, whole_path}
 use Rattle.controller.specs.Files.{Reads, told_reads}
-use Rattle.controller.specs.Words.{asked, is_run, refused_place}
-use Rattle.controller.specs.Accepted.{refuses, Accepted}
+use Rattle.controller.specs.Accepted.{refuses, Accepted, WordsDecide}
+use Rattle.command_words.proofs.Texts.{taken}
 use Rattle.controller.specs.Sends.{Leaves, Sends, SendsLines, SendsSome}
 
 abbrev call : ℕ → ℕ → Call
@@ -37,11 +37,11 @@ in_two_calls = (refl, omega arith, omega arith, (refl, omega arith, omega arith,
 two_left : Leaves 3 (call 3 1 ∷ []) 2
 two_left = (refl, omega arith, omega arith, refl)
 
--- handed a part alone
+-- handed only a part
 in_two_pieces : Sends 3 (call 1 1 ∷ call 2 2 ∷ []) → ⊥
 in_two_pieces s = absurd (let handed = s.0 in omega (arith, handed))
 
--- a call behind the whole
+-- a call after the whole
 one_too_many : Sends 3 (call 3 3 ∷ call 3 3 ∷ []) → ⊥
 one_too_many s = absurd (let handed = s.3.0 in omega (arith, handed))
 
@@ -61,7 +61,7 @@ three_lines = (
   ),
 )
 
--- the second line failed behind its first byte
+-- the second line failed after its first byte
 cut_short : SendsSome (codes "ab" ∷ codes "cd" ∷ codes "e" ∷ []) (call 2 2 ∷ call 2 1 ∷ [])
 cut_short = record {
   whole = codes "ab" ∷ [];
@@ -102,62 +102,14 @@ nothing_read file name = None
 
 script_not_read : Accepted check_c nothing_read (refuses (codes "c" ∷ []) (Read 0))
 unfolding nothing_read
-script_not_read = record { decides = refl }
+script_not_read = record {
+  decides = subst (λ (place : Option ℕ). WordsDecide nothing_read check_c place (refuses (codes "c" ∷ []) (Read 0)))
+      (sym (taken check_c (codes "c") refl refl (IsUtf8-from_ascii (codes "c") (search rules)))) refl;
+}
 
 -- the script's name is missing
 no_name : (gave : Reads) → Accepted (codes "check" ∷ []) gave (refuses [] (Words 1))
 no_name gave = record { decides = refl }
-
--- words that ask for `run`, refused or not, and others
-run_cell : is_run (codes "run" ∷ codes "c" ∷ []) ≡ true
-run_cell = refl
-
-run_later : is_run (codes "--history" ∷ codes "run" ∷ []) ≡ true
-run_later = refl
-
-run_as_name : is_run (codes "round" ∷ codes "run" ∷ []) ≡ false
-run_as_name = refl
-
-no_words : is_run [] ≡ false
-no_words = refl
-
--- the history before or behind the other words; it changes no load
-whole_round : asked (codes "--history" ∷ codes "round" ∷ codes "c" ∷ []) ≡ Some (actions.Round true)
-whole_round = refl
-
-whole_run : asked (codes "run" ∷ codes "c" ∷ codes "--history" ∷ []) ≡ Some (actions.Run true)
-whole_run = refl
-
-short_round : asked (codes "round" ∷ codes "c" ∷ []) ≡ Some (actions.Round false)
-short_round = refl
-
-load_two : asked (codes "load" ∷ codes "--history" ∷ codes "2" ∷ []) ≡ Some (actions.Load 2)
-unfolding digits
-load_two = refl
-
-load_most : asked (codes "load" ∷ codes "1000" ∷ []) ≡ Some (actions.Load 1000)
-unfolding digits
-load_most = refl
-
--- words behind `load` that are no such number
-load_none : refused_place (codes "load" ∷ codes "0" ∷ []) ≡ Some 1
-unfolding digits
-load_none = refl
-
-load_past : refused_place (codes "load" ∷ codes "1001" ∷ []) ≡ Some 1
-unfolding digits
-load_past = refl
-
-load_zero_first : refused_place (codes "--history" ∷ codes "load" ∷ codes "02" ∷ []) ≡ Some 2
-unfolding digits
-load_zero_first = refl
-
-load_without : refused_place (codes "load" ∷ []) ≡ Some 1
-load_without = refl
-
--- a word too many comes first
-load_too_many : refused_place (codes "load" ∷ codes "0" ∷ codes "1" ∷ []) ≡ Some 2
-load_too_many = refl
 
 -- the second module of the load cell, and a name that no module has
 second_module : load_reads 1 2 (codes "l2.mod") ≡ Some (codes "MODULE Load\nPERS num total := 0;\nVAR jointtarget j := [[0,0,0,0,0,0],[9E9,9E9,9E9,9E9,9E9,9E9]];\nPROC main()\nFOR i FROM 1 TO 1 DO\nj.robax.rax_1 := (i * 37 + 2 * 11) MOD 90;\nMoveAbsJ j\\NoEOffs, v1000, fine, tool0;\ntotal := total + 1;\nENDFOR\nENDPROC\nENDMODULE\n")
@@ -202,7 +154,7 @@ in_sum : output_of shows.Summary small_cell small_history (fates.Done ∷ []) �
 unfolding digits small_cell small_history
 in_sum = refl
 
--- where nothing is kept there is no total
+-- if nothing is kept, there is no total
 nothing_kept : output_of shows.Summary (record small_cell { pers = [] }) [] (fates.Cut ∷ []) ≡ codes "L events 0\nL setpoints 0\nL total \nE A Cut\n"
 unfolding digits small_cell
 nothing_kept = refl

@@ -10,32 +10,33 @@ use Rattle.rapid_model.specs.CellData.{CellData}
 use Rattle.rapid_model.specs.ScriptData.{ScriptData, module_names}
 use Rattle.typed_trees.specs.Plain.{TypedTree}
 use Rattle.cell_assembly.specs.Made.{MadeCell}
-use Rattle.controller.specs.declared.command.Action.{Action}
-use Rattle.controller.specs.declared.command.Action.TheVariants as actions
+use Rattle.command_words.specs.declared.command.Action.{Action}
+use Rattle.command_words.specs.declared.command.Action.TheVariants as actions
 use Rattle.controller.specs.declared.report.Report.{Report}
 use Rattle.controller.specs.declared.refused.Refused.{Refused}
 use Rattle.controller.specs.declared.refused.Refused.TheVariants.{Words, Memory}
 use Rattle.controller.specs.declared.shown.Shown.{Shown}
 use Rattle.controller.specs.declared.shown.Shown.TheVariants as shows
-use Rattle.controller.specs.Words.{refused_place}
+use Rattle.command_words.specs.Words.{refused_place}
 use Rattle.controller.specs.Files.{Reads, told_reads}
 use Rattle.controller.specs.Loaded.{names_in_turn, file_names, bytes_of, reads_of, IsScriptIn, TextsDecide}
 use Rattle.controller.specs.Accepted.{Verdict, refuses, accepts, runs, runs_free, lists, Accepted, ReadModule, file_text, ModulesOf, checked, names_of, ActionDecides, CheckedDecides, ModulesDecide, FileDecides, WordsDecide}
 use Rattle.controller.specs.Printed.{Seen, Sunk}
 use Rattle.controller.specs.Refusals.{refusal_text, status_of}
-use Rattle.controller.specs.Runs.{IsRun, IsRunByTurns}
-use Rattle.controller.specs.Answered.{IsRefused, IsPrinted, IsCutShort, Answers, AnswersAccepted, AnswersRun, AnswersList, AnswersReads, AnswersMade, IsOutOfMemory, IsVerdict, RunsOrMemory, ListsOrMemory, AnswersWords, TakesLine, untouched}
+use Rattle.controller.specs.Runs.{IsRun, IsRunByTurns, run_status}
+use Rattle.controller.specs.Answered.{IsRefused, IsPrinted, Answers, AnswersAccepted, AnswersRun, AnswersList, AnswersReads, AnswersMade, IsOutOfMemory, IsVerdict, RunsOrMemory, ListsOrMemory, AnswersWords, untouched, PrintsBy, run_lines}
+use Rattle.controller.specs.Written.{TakesLine}
 use Rattle.controller.specs.Asked.{GiveScript, GiveTexts, IsAsked}
 use Rattle.controller.proofs.Gains.{gained_none}
 use Rattle.controller.proofs.Loads.{modules_from_texts}
 
--- a refusal for want of memory speaks of no file
+-- an out-of-memory refusal is about no file
 out_of_memory : (names : List (List ℕ)) (refused : Refused) (report : Report) (out err : Sunk) → refused ≡ Memory → IsRefused names refused report out err → IsOutOfMemory report out err
 out_of_memory names refused report out err is r =
     let m : IsRefused names Memory report out err = subst (λ (x : Refused). IsRefused names x report out err) is r in
     record { refused_is = m.refused_is; status = m.status; history = m.history; fates = m.fates; printed = m.printed; calls = m.calls; told = m.told }
 
--- memory is refused before anything is printed
+-- memory runs out before anything is printed
 pub memory_refused : (report : Report) (held : Seen) (err : Sunk) → report.refused ≡ Some Memory → report.status ≡ status_of Memory → report.history.items ≡ [] → report.fates.items ≡ []
     → TakesLine (refusal_text [] Memory) err → IsOutOfMemory report (untouched held) err
 memory_refused report held err refused status history fates told = record {
@@ -105,7 +106,7 @@ module_refused words told action name script ms texts failed refused report out 
     by (inl memory) = let e : refused ≡ Memory = cc in inl (out_of_memory (file_names name ms) refused report out err e t)
     by (inr m) = inr (verdict, modules_decide words told action name script texts failed (Err refused) verdict g m (ap (λ (ns : List (List ℕ)). refuses (name ∷ ns) refused) named), t)
 
--- what they come to where all modules are read
+-- what they come to if all modules are read
 read_decides : (words : List (List ℕ)) (told : Option Told) (action : Action) (name : List ℕ) (script : ScriptData) (ms : List (Bor (List ℕ))) (texts : List (List ℕ)) (failed : Option Refused)
     (reads : List ReadModule) (verdict : Verdict) → names_in_turn ms ≡ module_names script.tasks → GiveTexts words told action name script texts failed → TextsDecide 1 texts failed (Ok reads)
     → CheckedDecides (Some action) (file_names name ms) (checked script reads) verdict → IsVerdict words told verdict
@@ -146,7 +147,7 @@ asked_answered words told action made report out there err asked same answers =
     by (inl memory) = inl memory
     by (inr a) = inr (a.0, asked.verdicts a.0 a.1, a.2)
 
--- the same as the program has them
+-- the same, as the program has them
 pub parsed_here : (texts here seen : List (Vec ℕ Global)) (trees shown : List RawModule) (failed : Option Refused) → here ≡ texts → seen ≡ texts → shown ≡ trees
     → TextsDecide 1 (bytes_of here) failed (Ok (reads_of 1 here trees)) → TextsDecide 1 (bytes_of texts) failed (Ok (reads_of 1 seen shown))
 parsed_here texts here seen trees shown failed same equal alike d =
@@ -154,7 +155,7 @@ parsed_here texts here seen trees shown failed same equal alike d =
     (subst (λ (ts : List (Vec ℕ Global)). TextsDecide 1 (bytes_of texts) failed (Ok (reads_of 1 ts trees))) (sym equal)
     (subst (λ (ts : List (Vec ℕ Global)). TextsDecide 1 (bytes_of ts) failed (Ok (reads_of 1 ts trees))) same d))
 
--- with all read, what becomes of it
+-- with all read, the outcome
 
 -- a rule is broken
 pub check_refused : (names : List (List ℕ)) (action : Option Action) (script : ScriptData) (reads : List ReadModule) (refused : Refused) (report : Report) (out err : Sunk)
@@ -167,11 +168,15 @@ check_refused names action script reads refused report out err (inr found) r =
       r,
     )
 
-accepted_answers : (names : List (List ℕ)) (report : Report) (out err : Sunk) → AnswersAccepted report out err → Answers (accepts names) report out err
-accepted_answers names report out err (inl a) = inl a
-accepted_answers names report out err (inr a) = inr a.0
+-- whether or not a fault is known
+is_printed : {status : ℕ} {lines : List (List ℕ)} {report : Report} {out err : Sunk} → PrintsBy status lines report out err → IsPrinted status lines report out err
+is_printed (inl whole) = inl whole
+is_printed (inr part) = inr part.0
 
--- all is accepted, which is told
+accepted_answers : (names : List (List ℕ)) (report : Report) (out err : Sunk) → AnswersAccepted report out err → Answers (accepts names) report out err
+accepted_answers names report out err answered = (answered.0, is_printed answered.1)
+
+-- all is accepted, which is reported
 pub all_accepted : (names : List (List ℕ)) (action : Action) (made : MadeCell) (report : Report) (out err : Sunk) → action ≡ actions.Check → AnswersAccepted report out err
     → AnswersMade action names made report out err
 all_accepted names action made report out err is a =
@@ -181,21 +186,16 @@ all_accepted names action made report out err is a =
       accepted_answers names report out err a,
     )
 
--- a run that was cut short, with other names
-cut_with_names : (Run : Report → Type 0) (names : List (List ℕ)) (shown : Shown) (cell : CellData) (report : Report) (out err : Sunk) → IsCutShort Run [] shown cell report out err → IsCutShort Run names shown cell report out err
-cut_with_names Run names shown cell report out err c = record { run = c.run; refused_is = c.refused_is; status = c.status; printed = c.printed; calls = c.calls; told = c.told }
+run_answers : (Run : Report → Type 0) (shown : Shown) (cell : CellData) (report : Report) (out err : Sunk) → AnswersRun Run shown cell report out err
+    → Run report × IsPrinted (run_status cell report.history.items) (run_lines shown cell report) report out err
+run_answers Run shown cell report out err answered = (answered.0, is_printed answered.1)
 
-run_answers : (Run : Report → Type 0) (names : List (List ℕ)) (shown : Shown) (cell : CellData) (report : Report) (out err : Sunk) → AnswersRun Run shown cell report out err
-    → IsPrinted Run shown cell report out err ⊎ IsCutShort Run names shown cell report out err
-run_answers Run names shown cell report out err (inl p) = inl p
-run_answers Run names shown cell report out err (inr c) = inr (cut_with_names Run names shown cell report out err c.0)
-
--- the tasks are run by turns
+-- the tasks run round-robin
 tasks_run : (names : List (List ℕ)) (action : Action) (shown : Shown) (made : MadeCell) (report : Report) (out err : Sunk) → ActionDecides (Some action) names made (runs names shown made.cell made.trees)
     → RunsOrMemory (IsRunByTurns made.cell made.trees) shown made.cell report out err → AnswersMade action names made report out err
 tasks_run names action shown made report out err d (inl memory) = inl memory
 tasks_run names action shown made report out err d (inr run) =
-    inr (runs names shown made.cell made.trees, d, run_answers (IsRunByTurns made.cell made.trees) names shown made.cell report out err run)
+    inr (runs names shown made.cell made.trees, d, run_answers (IsRunByTurns made.cell made.trees) shown made.cell report out err run)
 
 pub round_run : (names : List (List ℕ)) (action : Action) (full : Bool) (made : MadeCell) (report : Report) (out err : Sunk) → action ≡ actions.Round full
     → RunsOrMemory (IsRunByTurns made.cell made.trees) (shows.Events full) made.cell report out err → AnswersMade action names made report out err
@@ -207,7 +207,7 @@ pub load_run : (names : List (List ℕ)) (action : Action) (moves : ℕ) (made :
 load_run names action moves made report out err is =
     tasks_run names action shows.Summary made report out err (subst (λ (x : Action). ActionDecides (Some x) names made (runs names shows.Summary made.cell made.trees)) (sym is) refl)
 
--- or each by itself
+-- or each on its own
 pub tasks_run_free : (names : List (List ℕ)) (action : Action) (full : Bool) (made : MadeCell) (report : Report) (out err : Sunk) → action ≡ actions.Run full
     → RunsOrMemory (IsRun made.cell made.trees) (shows.Events full) made.cell report out err → AnswersMade action names made report out err
 tasks_run_free names action full made report out err is (inl memory) = inl memory
@@ -215,12 +215,11 @@ tasks_run_free names action full made report out err is (inr run) =
     inr (
       runs_free names (shows.Events full) made.cell made.trees,
       subst (λ (x : Action). ActionDecides (Some x) names made (runs_free names (shows.Events full) made.cell made.trees)) (sym is) refl,
-      run_answers (IsRun made.cell made.trees) names (shows.Events full) made.cell report out err run,
+      run_answers (IsRun made.cell made.trees) (shows.Events full) made.cell report out err run,
     )
 
 list_answers : (names : List (List ℕ)) (cell : CellData) (trees : List TypedTree) (report : Report) (out err : Sunk) → AnswersList cell trees report out err → Answers (lists names cell trees) report out err
-list_answers names cell trees report out err (inl l) = inl l
-list_answers names cell trees report out err (inr part) = inr part.0
+list_answers names cell trees report out err answered = (answered.0, answered.1, answered.2, is_printed answered.3)
 
 -- the cell and the code of its tasks are listed
 pub cell_listed : (names : List (List ℕ)) (action : Action) (made : MadeCell) (report : Report) (out err : Sunk) → action ≡ actions.List → ListsOrMemory made.cell made.trees report out err

@@ -1,13 +1,15 @@
 -- What a sink gained by some lines after others.
-use Rattle.std.proofs.Common.{◌≡◌, ◌≢◌, ℕ, List, [], ◌∷◌, ◌++◌, refl, ap, sym, ◌∙◌, subst, append_assoc, append-nil, arith}
+use Rattle.std.proofs.Common.{◌≡◌, ◌≢◌, ◌<◌, ◌≤◌, ℕ, List, [], ◌∷◌, ◌++◌, refl, ap, sym, ◌∙◌, subst, append_assoc, append-nil, arith, length}
 use Rattle.std.proofs.lemmas.List.Folds.{concat-append}
 use Rattle.std.specs.List.{concat}
-use Rattle.std.specs.Prelude.{Option, Result, Ok, Err, ⊤}
+use Rattle.std.specs.Prelude.{Option, Result, Ok, Err, ⊤, codes}
 use Rattle.outside.specs.declared.failed.Failed.{Failed}
 use Rattle.outside.proofs.Counting.{Rose-since}
 use Rattle.outside.proofs.Writing.{appended_none, appended_more}
+use Rattle.controller.specs.declared.refused.TheConstants.{REFUSAL_BYTES}
 use Rattle.controller.specs.Printed.{Seen, Sunk, Gained, GainedPart}
-use Rattle.controller.specs.Written.{WritesAll, WritesPart, Writes, WritesPieces}
+use Rattle.controller.specs.Refusals.{in_line}
+use Rattle.controller.specs.Written.{WritesAll, WritesPart, Writes, WritesLine}
 use Rattle.controller.proofs.Sending.{sends_then, some_first, some_then}
 
 -- from one time to another
@@ -24,7 +26,7 @@ some_left : (xs ys : List ℕ) → xs ≢ [] → xs ++ ys ≢ []
 some_left [] ys some e = some refl
 some_left (x ∷ xs) ys some e = cc
 
--- a beginning of the first of two pieces
+-- a proper prefix of the first of two pieces
 part_first : (first second : List ℕ) (a b : Option (List ℕ)) → GainedPart first a b → GainedPart (first ++ second) a b
 part_first first second a b p = record {
   front = p.front;
@@ -36,7 +38,7 @@ part_first first second a b p = record {
   gained = p.gained;
 }
 
--- the first of two pieces, and a beginning of the second
+-- the first of two pieces, and a proper prefix of the second
 part_second : (first second : List ℕ) (a b c : Option (List ℕ)) → Gained first a b → GainedPart second b c → GainedPart (first ++ second) a c
 part_second first second a b c f p = record {
   front = first ++ p.front;
@@ -62,7 +64,7 @@ wrote_more first second a b c f s = record {
   faults = let m = f.faults in let n = s.faults in omega (arith, m, n);
 }
 
--- some lines were written, and then a part of the others
+-- some lines were written, and then part of the others
 pub wrote_part : (first second : List (List ℕ)) (a b c : Seen) → WritesAll first (between a b) → WritesPart second (between b c) → WritesPart (first ++ second) (between a c)
 wrote_part first second a b c f s = record {
   bytes =
@@ -77,7 +79,7 @@ wrote_part first second a b c f s = record {
   faults = let m = f.faults in let n = s.faults in omega (arith, m, n);
 }
 
--- a part of the first lines was written
+-- part of the first lines was written
 pub wrote_first : (first second : List (List ℕ)) (sink : Sunk) → WritesPart first sink → WritesPart (first ++ second) sink
 wrote_first first second sink p = record {
   bytes =
@@ -92,20 +94,22 @@ wrote_first first second sink p = record {
   faults = p.faults;
 }
 
--- some lines were written, and then others or a part of them
+-- some lines were written, and then all or part of others
 pub writes_then : (first second : List (List ℕ)) (result : Result ⊤ Failed) (a b c : Seen) → WritesAll first (between a b) → Writes second result (between b c)
     → Writes (first ++ second) result (between a c)
 writes_then first second (Ok _) a b c f w = wrote_more first second a b c f w
 writes_then first second (Err _) a b c f w = wrote_part first second a b c f w
 
--- a line in three pieces
-pub in_pieces : (head middle tail text : List ℕ) (result : Result ⊤ Failed) (sink : Sunk) → text ≡ head ++ (middle ++ tail) → Writes (head ∷ middle ∷ tail ∷ []) result sink
-    → WritesPieces text result sink
-in_pieces head middle tail text result sink is w =
-    (head ∷ middle ∷ tail ∷ [], is ∙ ap (λ (xs : List ℕ). head ++ (middle ++ xs)) (sym (append-nil tail)), w)
+-- a line in one piece
+pub in_one : (line : List ℕ) (result : Result ⊤ Failed) (sink : Sunk) → Writes (line ∷ []) result sink → WritesLine line result sink
+in_one line result sink w = (line ∷ [], record { whole = sym (append-nil line); one = λ short. refl }, w)
 
--- a line in five
-pub in_five : (head name between rule end text : List ℕ) (result : Result ⊤ Failed) (sink : Sunk) → text ≡ head ++ (name ++ (between ++ (rule ++ end))) → Writes (head ∷ name ∷ between ∷ rule ∷ end ∷ []) result sink
-    → WritesPieces text result sink
-in_five head name between rule end text result sink is w =
-    (head ∷ name ∷ between ∷ rule ∷ end ∷ [], is ∙ ap (λ (xs : List ℕ). head ++ (name ++ (between ++ (rule ++ xs)))) (sym (append-nil end)), w)
+-- a line that does not fit the buffer, in five
+pub in_five : (head name between rule : List ℕ) (result : Result ⊤ Failed) (sink : Sunk) → REFUSAL_BYTES < length (in_line head name between rule)
+    → Writes (head ∷ name ∷ between ∷ rule ∷ codes "\n" ∷ []) result sink → WritesLine (in_line head name between rule) result sink
+in_five head name between rule result sink long w =
+    (head ∷ name ∷ between ∷ rule ∷ codes "\n" ∷ [], record { whole = refl; one = λ short. absurd (omega (arith, short, long)) }, w)
+
+-- the same line in other words
+pub in_words : (text line : List ℕ) (result : Result ⊤ Failed) (sink : Sunk) → text ≡ line → WritesLine line result sink → WritesLine text result sink
+in_words text line result sink is w = subst (λ (bytes : List ℕ). WritesLine bytes result sink) (sym is) w

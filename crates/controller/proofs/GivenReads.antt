@@ -1,5 +1,5 @@
--- What the reads of a call gave, as far as loading tells: of a shelf that tells its files, of one that tells nothing, and of the
--- texts of the load cell.
+-- The results of a call's reads, as far as loading reports them: from a shelf that reports its files, from one that
+-- reports nothing, and of the texts of the load cell.
 use Rattle.std.proofs.Common.{◌≡◌, ◌≢◌, ℕ, suc, ◌+◌, ◌<◌, ◌≤◌, List, ◌∷◌, length, get_or, refl, ap, sym, subst, arith}
 use Rattle.std.specs.Borrow.{Bor}
 use Rattle.std.specs.Prelude.{Option, Some, None, IfSome, option_map, Result, Ok, Vec, All}
@@ -9,10 +9,10 @@ use Rattle.rapid_limits.specs.declared.TheConstants.{MODULE_BYTES, SCRIPT_BYTES}
 use Rattle.outside.specs.Told.{Told, found, after_reads}
 use Rattle.outside.proofs.Counting.{after_reads-zero}
 use Rattle.rapid_model.specs.ScriptData.{ScriptData, module_names}
-use Rattle.controller.specs.declared.command.Action.{Action}
-use Rattle.controller.specs.declared.command.Action.TheVariants as actions
+use Rattle.command_words.specs.declared.command.Action.{Action}
+use Rattle.command_words.specs.declared.command.Action.TheVariants as actions
 use Rattle.controller.specs.declared.refused.Refused.{Refused}
-use Rattle.controller.specs.Words.{script_name}
+use Rattle.command_words.specs.Words.{script_name}
 use Rattle.controller.specs.Files.{Reads, told_reads, text_of, IsUnread}
 use Rattle.controller.specs.LoadFiles.{load_reads}
 use Rattle.controller.specs.Accepted.{Verdict, Accepted, FilesDecide, WordsDecide, reads_for, file_text}
@@ -42,7 +42,7 @@ files_read (actions.Run full) gave reads = refl
 files_read actions.List gave reads = refl
 files_read (actions.Load moves) gave reads = absurd (reads moves refl)
 
--- the reads that a call gave: those that the shelf tells, where it tells its files
+-- the results of a call's reads: those that the shelf reports, if it reports its files
 abbrev pub AreFrom : Option Told → Reads → Type 0
 AreFrom None gave = Unit {0}
 AreFrom (Some files) gave = told_reads files ≡ gave
@@ -68,7 +68,7 @@ load_verdict words told action name moves is_for same verdict d = on told
     on None = let none : Reads = λ file other. None in (none, here none)
     on (Some files) = here (told_reads files)
 
--- the first read, as it is told
+-- the first read, as it is reported
 first_read : (files : Told) (name : List ℕ) (result : Result ScriptData Refused) → IsScriptIn (text_of 0 SCRIPT_BYTES (found files name)) result → IsScriptIn (file_text (told_reads files) 0 SCRIPT_BYTES name) result
 first_read files name result is = subst (λ (t : Told). IsScriptIn (text_of 0 SCRIPT_BYTES (found t name)) result) (sym (after_reads-zero files)) is
 
@@ -80,13 +80,13 @@ script_given words None action name result is_for reads here some =
 script_given words (Some files) action name result is_for reads here some =
     record { gave = told_reads files; verdicts = shelf_verdict words (Some files) action name (told_reads files) is_for reads refl; script_is = first_read files name result here }
 
--- what the last read gave, which stopped the others
+-- the result of the last read, which stopped the others
 last_gave : (file : ℕ) (failed : Option Refused) (Fewer : Type 0) → IfSome failed (λ refused. IsUnread file refused × Fewer)
     → (last : Option (List ℕ)) × IfSome failed (λ refused. Stops file MODULE_BYTES refused last × Fewer)
 last_gave file None Fewer unread = (None, tt)
 last_gave file (Some refused) Fewer unread = let gave = unread_gave file MODULE_BYTES refused unread.0 in (gave.0, (gave.1, unread.1))
 
--- what is known of the texts, whatever the shelf tells
+-- what is known of the texts, whatever the shelf reports
 pub record AreLoaded (names : List (List ℕ)) (texts : List (Vec ℕ Global)) (failed : Option Refused) : Type 0 where
   pub within : All IsWithin texts
   pub few : length texts ≤ length names
@@ -125,7 +125,7 @@ all_given words (Some files) later action name script names texts failed is_for 
   texts_are = subst (λ (ns : List (List ℕ)). AreTexts (told_reads files) 1 ns (bytes_of texts) failed) named (told_texts files after);
 }
 
--- the same of the modules that a script names
+-- the same for the modules that a script names
 pub loaded_names : (ms : List (Bor (List ℕ))) (texts : List (Vec ℕ Global)) (failed : Option Refused) → All IsWithin texts → length texts ≤ length ms → (failed ≡ None → length texts ≡ length ms)
     → IfSome failed (λ refused. IsUnread (length texts + 1) refused × (length texts < length ms)) → AreLoaded (names_in_turn ms) texts failed
 loaded_names ms texts failed within few whole unread =

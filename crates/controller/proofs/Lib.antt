@@ -1,9 +1,5 @@
 mod Examples
-pub mod Options
 pub mod Lists
-pub mod Picking
-pub mod ParsedMoves
-pub mod Choosing
 pub mod ModuleFiles
 pub mod Untold
 pub mod GivenReads

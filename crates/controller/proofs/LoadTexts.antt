@@ -1,4 +1,4 @@
--- The texts of the load cell, as its reads give them.
+-- The texts of the load cell, as the results of its reads.
 use Rattle.std.proofs.Common.{◌≡◌, ℕ, zero, suc, ◌+◌, ◌*◌, ◌<◌, ◌≤◌, List, [], ◌∷◌, length, map, Bool, true, false, cond, ap, sym, subst, arith, length-append}
 use Rattle.std.specs.Prelude.{Option, Some, None, Result, Ok, Vec, All, bytes_eq, decimal}
 use Rattle.std.specs.Map.{lookup}
@@ -10,11 +10,12 @@ use Rattle.rapid_limits.specs.declared.TheConstants.{MODULE_BYTES, SCRIPT_BYTES}
 use Rattle.outside.specs.Told.{Told}
 use Rattle.rapid_model.specs.ScriptData.{ScriptData, module_names}
 use Rattle.cell_load.specs.Texts.{module_files, module_text, script_text}
-use Rattle.controller.specs.declared.command.Action.{Action}
-use Rattle.controller.specs.declared.command.Action.TheVariants as actions
+use Rattle.command_words.specs.declared.command.Action.{Action}
+use Rattle.command_words.specs.declared.command.Action.TheVariants as actions
 use Rattle.controller.specs.declared.refused.Refused.{Refused}
 use Rattle.controller.specs.Accepted.{file_text}
-use Rattle.controller.specs.Asked.{AreFor, AreMoves, GiveScript, GiveTexts}
+use Rattle.command_words.specs.Words.{AreMoves}
+use Rattle.controller.specs.Asked.{AreFor, GiveScript, GiveTexts}
 use Rattle.controller.specs.Files.{text_of}
 use Rattle.controller.specs.LoadFiles.{load_reads, module_named}
 use Rattle.controller.specs.Loaded.{bytes_of, AreTexts, IsScriptIn, IsWithin}
@@ -45,7 +46,7 @@ module_short moves task are few =
     let number = one_digit task few in
     simp length-append (omega (arith, count, number))
 
--- so is the one of each name, of some files whose texts are
+-- so is the one of each name, among files whose texts are short
 abbrev AreShort : List (List ℕ × List ℕ) → Type 0
 AreShort [] = Unit {0}
 AreShort (file ∷ files) = (length file.1 ≤ 1000) × AreShort files

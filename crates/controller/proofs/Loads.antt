@@ -1,4 +1,4 @@
--- Reading the text of one module after another, from a shelf that tells its files, and from one that tells nothing.
+-- Reading the text of one module after another, from a shelf that reports its files, and from one that reports nothing.
 use Rattle.std.proofs.Common.{◌≡◌, ℕ, ◌+◌, ◌<◌, ◌≤◌, List, [], ◌∷◌, ◌++◌, length, drop, get_or, refl, ap, sym, ◌∙◌, subst, ◌⊎◌, inl, inr, arith, length-drop}
 use Rattle.std.specs.Borrow.{Bor}
 use Rattle.std.proofs.lemmas.List.{append-nil}
@@ -26,18 +26,18 @@ script_breaks text fault key rule of_text is =
     let broken : FaultOf text (Rule key rule) = subst (λ (f : ScriptFault). FaultOf text f) is of_text in
     inr (inr (text, record { key = key; rule = rule }, refl, broken, refl))
 
--- the script of a text that was read whole
+-- the script of a text that was read in full
 pub script_in : (read : Result (List ℕ) Refused) (text source : List ℕ) (result : Result ScriptData Refused) → read ≡ Ok text → source ≡ text → IsScriptIn (Ok source) result → IsScriptIn read result
 script_in read text source result whole same is = subst (λ (r : Result (List ℕ) Refused). IsScriptIn r result) (sym (whole ∙ ap Ok (sym same))) is
 
--- the same of the first file, where the shelf may tell its files
+-- the same for the first file, if the shelf may report its files
 pub script_read : (told : Option Told) (name text source : List ℕ) (result : Result ScriptData Refused) → IfSome told (λ t. text_of 0 SCRIPT_BYTES (found t name) ≡ Ok text) → source ≡ text
     → IsScriptIn (Ok source) result → IfSome told (λ t. IsScriptIn (text_of 0 SCRIPT_BYTES (found t name)) result)
 script_read told name text source result whole same is =
     IfSome_then told {P = λ t. text_of 0 SCRIPT_BYTES (found t name) ≡ Ok text} {Q = λ t. IsScriptIn (text_of 0 SCRIPT_BYTES (found t name)) result} whole
     (λ t read. script_in (text_of 0 SCRIPT_BYTES (found t name)) text source result read same is)
 
--- and of what some read gave, whatever the shelf tells
+-- and of the result of some read, whatever the shelf reports
 pub script_gave : (text source : List ℕ) (result : Result ScriptData Refused) → length text ≤ SCRIPT_BYTES → source ≡ text → IsScriptIn (Ok source) result
     → (gave : Option (List ℕ)) × IsScriptIn (text_of 0 SCRIPT_BYTES gave) result
 script_gave text source result within same is = (Some text, script_in (text_of 0 SCRIPT_BYTES (Some text)) text source result (text_within 0 SCRIPT_BYTES text within) same is)
@@ -50,7 +50,7 @@ script_stops refused is = let found = unread_gave 0 SCRIPT_BYTES refused is in (
     stops gave (inl memory) = inl memory
     stops gave (inr read) = inr (inl read)
 
--- amid the modules: the texts before this one are read, and so many reads are told
+-- in the middle of the modules: the texts before this one are read, and this many reads are reported
 pub record Loading (start now : Option Told) (old new : ℕ) (modules : List (Bor (List ℕ))) (k : ℕ) (texts : List (Vec ℕ Global)) : Type 0 where
   pub faults : old ≤ new
   pub count : length texts ≡ k
@@ -59,7 +59,7 @@ pub record Loading (start now : Option Told) (old new : ℕ) (modules : List (Bo
   pub read : (told : Told) → start ≡ Some (after_reads 1 told) → (more : List (List ℕ)) (failed : Option Refused)
       → AreTexts (told_reads told) (k + 1) (names_in_turn (drop k modules)) more failed → AreTexts (told_reads told) 1 (names_in_turn modules) (bytes_of texts ++ more) failed
 
--- what is told where a module is read
+-- what is reported if a module is read
 here_is : (now : Option Told) (told : Told) (k : ℕ) (name : List ℕ) (result : Result (Vec ℕ Global) Refused) → now ≡ Some (after_reads (k + 1) told)
     → IfSome now (λ t. GivesText (text_of (k + 1) MODULE_BYTES (found t name)) result) → GivesText (file_text (told_reads told) (k + 1) MODULE_BYTES name) result
 here_is now told k name result is text_in =
@@ -75,7 +75,7 @@ loading_fails start now old mid modules k texts d refused lt p here told first =
     (subst (λ (ms : List (Bor (List ℕ))). AreTexts (told_reads told) (k + 1) (names_in_turn ms) [] (Some refused)) (sym (drop-at modules k d lt))
     (here_is now told k (get_or modules k d).now (Err refused) (p.reads told first) here)))
 
--- memory is refused for a text
+-- out of memory for a text
 pub loading_lacks : (start now : Option Told) (old mid : ℕ) (modules : List (Bor (List ℕ))) (k : ℕ) (texts : List (Vec ℕ Global)) → k < length modules → Loading start now old mid modules k texts
     → (told : Told) → start ≡ Some (after_reads 1 told) → AreTexts (told_reads told) 1 (names_in_turn modules) (bytes_of texts) (Some refusals.Memory)
 loading_lacks start now old mid modules k texts lt p told first =

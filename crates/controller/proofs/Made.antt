@@ -12,8 +12,8 @@ use Rattle.typed_trees.specs.Sound.{has_sound_pers}
 use Rattle.typed_trees.specs.Views.{view_tree}
 use Rattle.typed_trees.specs.declared.tree.Tree.{Tree}
 use Rattle.rule_checks.specs.TypeChecks.{Checked}
-use Rattle.stmt_types.proofs.Sound.{task_sound}
-use Rattle.stmt_types.specs.Task.{task_of}
+use Rattle.task_types.proofs.Sound.{task_sound}
+use Rattle.task_types.specs.Task.{task_of}
 use Rattle.cell_assembly.specs.Made.{MadeCell, make_cell}
 use Rattle.cell_assembly.specs.Views.{Fails}
 use Rattle.cell_assembly.specs.declared.cell_fault.CellFault.{CellFault}
@@ -74,14 +74,14 @@ cell_made : (script : ScriptData) (reads : List ReadModule) (typed trees : List 
 cell_made script reads typed trees made is same makes =
     ap (cell_from script reads) (is ∙ ap (λ (ts : List Tree). Ok (map view_tree ts)) (sym same)) ∙ ap (cell_or_refused script reads) makes
 
--- the same with the trees that the program keeps
+-- the same for the trees that the program keeps
 pub cell_kept : (script : ScriptData) (reads : List ReadModule) (typed trees new kept : List Tree) (cell : CellData) → typed_tasks script script.tasks reads ≡ Ok (map view_tree typed) → trees ≡ typed
     → make_cell script (map view_tree trees) ≡ Ok (record { cell = cell; trees = map view_tree new }) → kept ≡ new → checked script reads ≡ Ok (record { cell = cell; trees = map view_tree kept })
 cell_kept script reads typed trees new kept cell is same makes equal =
     subst (λ (ts : List Tree). checked script reads ≡ Ok (record { cell = cell; trees = map view_tree ts })) (sym equal)
     (cell_made script reads typed trees (record { cell = cell; trees = map view_tree new }) is same makes)
 
--- or why none is
+-- or why there is none
 pub cell_refused : (script : ScriptData) (reads : List ReadModule) (typed trees : List Tree) (fault : CellFault) (refused : Refused) → typed_tasks script script.tasks reads ≡ Ok (map view_tree typed) → trees ≡ typed
     → Fails fault (make_cell script (map view_tree trees)) → IsCellRefusal script reads fault refused → (refused ≡ Memory) ⊎ (checked script reads ≡ Err refused)
 cell_refused script reads typed trees (faults.Clash task number at) refused is same fails told =

@@ -1,4 +1,4 @@
--- Words, and what the reads gave, come to at most one verdict, where a text comes to one module.
+-- Words and the results of the reads have at most one verdict, provided that a text comes to one module.
 use Rattle.std.proofs.Common.{◌≡◌, ℕ, ◌+◌, List, [], ◌∷◌, Option, Some, None, Result, Ok, Err, ap, sym, ◌∙◌, subst, inl, inr}
 use Rattle.rapid_limits.specs.declared.TheConstants.{MODULE_BYTES, SCRIPT_BYTES}
 use Rattle.toml.specs.Data.{Members}
@@ -9,10 +9,10 @@ use Rattle.cell_script.specs.ScriptOf.{script_of, IsTable, IsNoToml, ScriptOf}
 use Rattle.raw_trees.specs.Plain.{PlainModule}
 use Rattle.rapid_forms.specs.declared.fault.SyntaxFault.{SyntaxFault}
 use Rattle.module_parser.specs.Modules.{ModuleText}
-use Rattle.controller.specs.declared.command.Action.{Action}
-use Rattle.controller.specs.declared.command.Action.TheVariants as actions
+use Rattle.command_words.specs.declared.command.Action.{Action}
+use Rattle.command_words.specs.declared.command.Action.TheVariants as actions
 use Rattle.controller.specs.declared.refused.Refused.{Refused}
-use Rattle.controller.specs.Words.{refused_place, script_name, asked}
+use Rattle.command_words.specs.Words.{refused_place, script_name, asked}
 use Rattle.controller.specs.Files.{Reads}
 use Rattle.controller.specs.Accepted.{ReadModule, Verdict, Accepted, file_text, reads_for, fault_refusal, ModuleOf, ModuleIn, ModulesOf, checked, ActionDecides, CheckedDecides, ModulesDecide, names_of, ScriptDecides, FileDecides, WordsDecide}
 
@@ -89,7 +89,7 @@ modules_one one gave file (n ∷ ns) (Err x) (Err y) (inr p) (inl q) =
     let e : Ok p.0 ≡ Err y = module_one one file (file_text gave file MODULE_BYTES n) (Ok p.0) (Err y) p.1 q in cc
 modules_one one gave file (n ∷ ns) (Err x) (Err y) (inr p) (inr q) = modules_one one gave (file + 1) ns (Err x) (Err y) p.2 q.2
 
--- what is accepted is done in one way
+-- what is accepted is done in only one way
 action_one : (action : Option Action) (names : List (List ℕ)) (made : MadeCell) (v w : Verdict) → ActionDecides action names made v → ActionDecides action names made w → v ≡ w
 action_one (Some actions.Check) names made v w p q = p ∙ sym q
 action_one (Some (actions.Round full)) names made v w p q = p ∙ sym q

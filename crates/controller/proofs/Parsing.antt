@@ -24,7 +24,7 @@ front_more : (front : List ReadModule) (x : ReadModule) (v : Result (List ReadMo
 front_more front x (Ok more) = ap Ok (sym (append_assoc front (x ∷ []) more))
 front_more front x (Err refused) = refl
 
--- amid the texts: those before this one are parsed
+-- in the middle of the texts: those before this one are parsed
 pub record Parsing (texts : List (Vec ℕ Global)) (failed : Option Refused) (k : ℕ) (trees : List RawModule) : Type 0 where
   pub count : length trees ≡ k
   pub decide : (verdict : Result (List ReadModule) Refused) → TextsDecide (k + 1) (bytes_of (drop k texts)) failed verdict
@@ -45,7 +45,7 @@ begins texts failed = record {
 pub parsing_begins : (texts : List (Vec ℕ Global)) (failed : Option Refused) (trees : List RawModule) → trees ≡ [] → Parsing texts failed 0 trees
 parsing_begins texts failed trees none = subst (λ (ms : List RawModule). Parsing texts failed 0 ms) (sym none) (begins texts failed)
 
--- a module and what is behind it
+-- a module and what follows it
 then_decides : (file : ℕ) (text : List ℕ) (texts : List (List ℕ)) (failed : Option Refused) (x : ReadModule) (verdict : Result (List ReadModule) Refused) → ModuleOf file text (Ok x)
     → TextsDecide (file + 1) texts failed verdict → TextsDecide file (text ∷ texts) failed (with_front (x ∷ []) verdict)
 then_decides file text texts failed x (Ok more) here d = (here, d)
@@ -67,14 +67,14 @@ parsing_more texts failed k trees text tree lt is p spelled =
           (then_decides (k + 1) text.items (bytes_of (drop (k + 1) texts)) failed here verdict (file, refl, spelled) d))));
     }
 
--- the same as the program has it
+-- the same, as the program has it
 pub parsing_at : (texts : List (Vec ℕ Global)) (failed : Option Refused) (k : ℕ) (trees more : List RawModule) (text : Vec ℕ Global) (bytes : List ℕ) (tree : RawModule) → k < length texts
     → text ≡ get_or texts k text → Parsing texts failed k trees → bytes ≡ text.items → ModuleText bytes (Ok (view_module tree)) → more ≡ trees ++ tree ∷ [] → Parsing texts failed (k + 1) more
 parsing_at texts failed k trees more text bytes tree lt is p same spelled pushed =
     subst (λ (ms : List RawModule). Parsing texts failed (k + 1) ms) (sym pushed)
     (parsing_more texts failed k trees text tree lt is p (subst (λ (bs : List ℕ). ModuleText bs (Ok (view_module tree))) same spelled))
 
--- a text is refused, or memory is
+-- a text is refused, or out of memory
 pub parsing_stops : (texts : List (Vec ℕ Global)) (failed : Option Refused) (k file : ℕ) (trees : List RawModule) (text : Vec ℕ Global) (bytes : List ℕ) (refused : Refused) → k < length texts
     → text ≡ get_or texts k text → Parsing texts failed k trees → bytes ≡ text.items → file ≡ k + 1 → IsParsed file bytes (Err refused)
     → (refused ≡ Memory) ⊎ TextsDecide 1 (bytes_of texts) failed (Err refused)
@@ -86,7 +86,7 @@ parsing_stops texts failed k file trees text bytes refused lt is p same numbered
 
 -- what one text comes to, as its parser answers
 
--- memory aside
+-- apart from out of memory
 pub text_parsed : (text : List ℕ) (tree : RawModule) → (let r : Result RawModule SyntaxFault = Ok tree in r ≡ Err faults.Memory) ⊎ ModuleText text (Ok (view_module tree)) → ModuleText text (Ok (view_module tree))
 text_parsed text tree (inl memory) = cc
 text_parsed text tree (inr spelled) = spelled
@@ -96,7 +96,7 @@ pub text_refused : (file : ℕ) (text : List ℕ) (fault : SyntaxFault) (refused
 text_refused file text fault refused (inl memory) told = let e : fault ≡ faults.Memory = cc in inl (told ∙ ap (fault_refusal file text) e)
 text_refused file text fault refused (inr spelled) told = inr (fault, spelled, told)
 
--- all texts are parsed, and what failed behind them is the refusal
+-- all texts are parsed, and the failure after them is the refusal
 pub parsing_refused : (texts : List (Vec ℕ Global)) (failed : Option Refused) (k : ℕ) (trees : List RawModule) (refused : Refused) → length texts ≤ k → Parsing texts failed k trees → failed ≡ Some refused
     → TextsDecide 1 (bytes_of texts) failed (Err refused)
 parsing_refused texts failed k trees refused past p is =

@@ -14,7 +14,7 @@ use Rattle.controller.specs.Written.{WritesAll, WritesPart}
 use Rattle.controller.proofs.Lists.{drop-at, drop-element}
 use Rattle.controller.proofs.Gains.{between, wrote_more, wrote_part, wrote_first}
 
--- of all lines, these are left to be written
+-- of all lines, these are still to be written
 pub record Printing (all rest : List (List ℕ)) (sink : Sunk) : Type 0 where
   pub done : List (List ℕ)
   pub split : all ≡ done ++ rest
@@ -32,7 +32,7 @@ printing_fails all line rest a b c p w =
     subst (λ (lines : List (List ℕ)). WritesPart lines (between a c)) (sym p.split)
     (wrote_part p.done (line ∷ rest) a b c p.written (wrote_first (line ∷ []) rest (between b c) w))
 
--- the lines of the events from k on are that of event k and those behind it
+-- the lines of the events from k on are that of event k and those after it
 lines_split : (line : Event → List ℕ) (history : List Event) (k : ℕ) (e : Event) → k < length history → slice_get history k ≡ Some e
     → map line (drop k history) ≡ line e ∷ map line (drop (k + 1) history)
 lines_split line history k e lt at =
@@ -57,7 +57,7 @@ event_failed line history k all a b c lt w p = elim (slice_get_cases history k).
   | inr past ↦ absurd (let m = past.0 in omega (arith, m))
 ]
 
--- the lines of the tasks from k on are that of task k and those behind it
+-- the lines of the tasks from k on are that of task k and those after it
 fates_split : (cell : CellData) (history : List Event) (k : ℕ) (row : TaskRow) → k < length cell.tasks → row ≡ get_or cell.tasks k row
     → fate_lines (drop k cell.tasks) (drop k (fates_after cell history (length cell.tasks)))
     ≡ fate_line row.name (fate_after cell history k) ∷ fate_lines (drop (k + 1) cell.tasks) (drop (k + 1) (fates_after cell history (length cell.tasks)))
@@ -66,7 +66,7 @@ fates_split cell history k row lt is =
     (drop-element cell.tasks k row lt is)
     ∙ ap (fate_lines (row ∷ drop (k + 1) cell.tasks)) (drop-fates_after cell history (length cell.tasks) k (fate_after cell history k) lt)
 
--- the lines from task k on, in which the fate of task k has been looked up
+-- the lines from task k on, once the fate of task k has been looked up
 fates_left : (cell : CellData) (history : List Event) (k : ℕ) (row : TaskRow) (fate : Fate) → k < length cell.tasks → row ≡ get_or cell.tasks k row → fate ≡ fate_after cell history k
     → fate_lines (drop k cell.tasks) (drop k (fates_after cell history (length cell.tasks)))
     ≡ fate_line row.name fate ∷ fate_lines (drop (k + 1) cell.tasks) (drop (k + 1) (fates_after cell history (length cell.tasks)))

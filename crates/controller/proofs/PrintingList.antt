@@ -28,12 +28,12 @@ printing_begins all a = record {
   };
 }
 
--- nothing is left
+-- nothing is left to write
 pub printing_ends : (all rest : List (List ℕ)) (sink : Sunk) → rest ≡ [] → Printing all rest sink → WritesAll all sink
 printing_ends all rest sink none p =
     subst (λ (lines : List (List ℕ)). WritesAll lines sink) (sym (p.split ∙ ap (λ (lines : List (List ℕ)). p.done ++ lines) none ∙ append-nil p.done)) p.written
 
--- the lines of the rows from k on are that of row k and those behind it
+-- the lines of the rows from k on are that of row k and those after it
 rows_split : {A : Type 0} (line : ℕ → A → List ℕ) (rows : List A) (k : ℕ) (row : A) → k < length rows → row ≡ get_or rows k row
     → numbered line k (drop k rows) ≡ line k row ∷ numbered line (k + 1) (drop (k + 1) rows)
 unfolding numbered
@@ -80,7 +80,7 @@ place_failed line rows k all a b c lt w p = elim (slice_get_cases rows k).1 [
 
 -- one code after the other
 
--- some lines more
+-- some more lines
 block_more : (all block rest : List (List ℕ)) (a b c : Seen) → Printing all (block ++ rest) (between a b) → WritesAll block (between b c) → Printing all rest (between a c)
 block_more all block rest a b c p w = record {
   done = p.done ++ block;
@@ -116,7 +116,7 @@ no_codes : (rows : List TaskRow) → code_lines rows [] ≡ []
 no_codes [] = refl
 no_codes (row ∷ rows) = refl
 
--- behind the last row or the last code
+-- after the last row or the last code
 none_left : (rows : List TaskRow) (each : List CodeData) (k : ℕ) → min (length rows) (length each) ≤ k → code_lines (drop k rows) (drop k each) ≡ []
 none_left rows each k past = elim (cases_lt k (length rows)) [
   | inl more ↦
@@ -129,7 +129,7 @@ pub codes_printed : (rows : List TaskRow) (each : List CodeData) (k : ℕ) (all 
     → WritesAll all sink
 codes_printed rows each k all sink past p = printing_ends all (code_lines (drop k rows) (drop k each)) sink (none_left rows each k past) p
 
--- the same lines in other words
+-- the same lines in other terms
 pub writes_same : (lines other : List (List ℕ)) (result : Result ⊤ Failed) (sink : Sunk) → lines ≡ other → Writes lines result sink → Writes other result sink
 writes_same lines other result sink same w = subst (λ (ls : List (List ℕ)). Writes ls result sink) same w
 

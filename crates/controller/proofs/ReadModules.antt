@@ -1,4 +1,4 @@
--- Modules by their texts and trees, the first of them in a file of this number.
+-- Modules with their texts and trees, the first of them in the file of this number.
 use Rattle.std.proofs.Common.{◌≡◌, ℕ, zero, suc, ◌+◌, ◌-◌, ◌<◌, ◌≤◌, min, List, [], ◌∷◌, ◌++◌, length, take, drop, get_or, map, refl, ap, sym, ◌∙◌, arith}
 use Rattle.std.specs.Prelude.{Vec, slice_get}
 use Rattle.std.specs.declared.alloc.Global.{Global}
@@ -20,7 +20,7 @@ reads-none file (text ∷ texts) = refl
 next_file : (file k : ℕ) → file + 1 + k ≡ file + suc k
 next_file file k = omega arith
 
--- one tree more
+-- one more tree
 pub reads-more : (file : ℕ) (texts : List (Vec ℕ Global)) (trees : List RawModule) (k : ℕ) (text : Vec ℕ Global) (tree : RawModule) → length trees ≡ k → k < length texts → text ≡ get_or texts k text
     → reads_of file texts (trees ++ tree ∷ []) ≡ reads_of file texts trees ++ read (file + k) text tree ∷ []
 reads-more file [] trees k text tree many lt is = absurd (omega arith)
@@ -47,7 +47,7 @@ drop-reads (suc n) file (t ∷ texts) [] = sym (reads-none (file + suc n) (drop 
 drop-reads (suc n) file (t ∷ texts) (m ∷ trees) =
     drop-reads n (file + 1) texts trees ∙ ap (λ (f : ℕ). reads_of f (drop n texts) (drop n trees)) (next_file file n)
 
--- the trees alone
+-- only the trees
 pub raws-of : (file : ℕ) (texts : List (Vec ℕ Global)) (trees : List RawModule) → length texts ≡ length trees → map (λ (r : ReadModule). r.raw) (reads_of file texts trees) ≡ map view_module trees
 raws-of file [] [] same = refl
 raws-of file [] (m ∷ trees) same = absurd (omega arith)
@@ -87,7 +87,7 @@ no_file_at file (t ∷ texts) [] k past = refl
 no_file_at file (t ∷ texts) (m ∷ trees) zero past = absurd (omega arith)
 no_file_at file (t ∷ texts) (m ∷ trees) (suc k) past = no_file_at (file + 1) texts trees k (omega arith)
 
--- the first ones, and those behind them
+-- the first ones, and those after them
 
 pub first_reads : (file : ℕ) (texts : List (Vec ℕ Global)) (trees : List RawModule) (count n : ℕ) → length texts ≡ length trees → n ≡ min count (length trees)
     → reads_of file (take n texts) (take n trees) ≡ take count (reads_of file texts trees)

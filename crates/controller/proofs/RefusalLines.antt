@@ -1,4 +1,4 @@
--- The line of a refusal in its pieces.
+-- The line of a refusal in pieces.
 use Rattle.std.proofs.Common.{◌≡◌, ℕ, List, ◌∷◌, ◌++◌, ap, append_assoc, refl, sym, ◌∙◌}
 use Rattle.std.specs.Prelude.{codes, decimal}
 use Rattle.rapid_model.specs.declared.script_rule.ScriptRule.{ScriptRule}
@@ -16,7 +16,7 @@ words_pieces name middle place r is m = rw (is, m) refl
 abbrev four : List ℕ → List ℕ → List ℕ → List ℕ → List ℕ
 four a b c d = a ++ (b ++ (c ++ d))
 
--- the line of a rule in its five pieces
+-- the line of a rule in five pieces
 pub script_pieces : (name key middle word : List ℕ) (rule : ScriptRule) (r : Refused) → r ≡ Script key rule → middle ≡ key_words key → word ≡ rule_name rule
     → refusal_text name r ≡ codes "rapid_cell: script " ++ four middle (codes " ") word (codes "\n")
 script_pieces name key middle word rule r is m w =

@@ -1,4 +1,4 @@
--- No verdict refuses for want of memory or for a write.
+-- No verdict refuses for lack of memory or for a write.
 use Rattle.std.proofs.Common.{◌≡◌, ℕ, ◌+◌, List, [], ◌∷◌, Bool, true, false, refl, sym, subst, inl, inr}
 use Rattle.std.specs.Prelude.{Option, Some, None, IfErr, Result, Ok, Err, nat_le, length, if◌then◌else◌}
 use Rattle.rapid_limits.specs.declared.TheConstants.{MODULE_BYTES, SCRIPT_BYTES}
@@ -8,12 +8,12 @@ use Rattle.cell_script.specs.Break.{Read}
 use Rattle.module_parser.specs.Modules.{ModuleText}
 use Rattle.rapid_forms.specs.declared.fault.SyntaxFault.{SyntaxFault}
 use Rattle.rapid_forms.specs.declared.fault.SyntaxFault.TheVariants as faults
-use Rattle.controller.specs.declared.command.Action.{Action}
-use Rattle.controller.specs.declared.command.Action.TheVariants as actions
+use Rattle.command_words.specs.declared.command.Action.{Action}
+use Rattle.command_words.specs.declared.command.Action.TheVariants as actions
 use Rattle.controller.specs.declared.refused.Refused.{Refused}
 use Rattle.controller.specs.declared.refused.Refused.TheVariants as refusals
 use Rattle.controller.specs.Files.{Reads, text_of}
-use Rattle.controller.specs.Words.{refused_place, script_name, asked}
+use Rattle.command_words.specs.Words.{refused_place, script_name, asked}
 use Rattle.controller.specs.Accepted.{Verdict, refuses, accepts, runs, runs_free, lists, Accepted, ReadModule, file_text, reads_for, fault_refusal, ModuleIn, ModulesOf, checked, ActionDecides, CheckedDecides, ModulesDecide, names_of, ScriptDecides, FileDecides, WordsDecide}
 use Rattle.controller.proofs.Checking.{checks_refuse}
 
@@ -27,7 +27,7 @@ IsOfInput refusals.Write = ⊥
 IsOfInput refusals.Memory = ⊥
 IsOfInput (refusals.TooLong file) = Unit {0}
 
--- of a verdict, where it refuses
+-- of a verdict, if it refuses
 abbrev RefusesInput : Verdict → Type 0
 RefusesInput (refuses names refused) = IsOfInput refused
 RefusesInput (accepts names) = Unit {0}

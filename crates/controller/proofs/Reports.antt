@@ -19,11 +19,12 @@ use Rattle.controller.specs.Output.{lines_of}
 use Rattle.controller.specs.declared.shown.Shown.{Shown}
 use Rattle.controller.specs.Printed.{Sunk, Gained}
 use Rattle.controller.specs.Written.{WritesAll, WritesPart}
-use Rattle.controller.specs.Answered.{TakesLine, AnswersRun, RunsOrMemory}
+use Rattle.controller.specs.Answered.{AnswersRun, RunsOrMemory}
+use Rattle.controller.specs.Written.{TakesLine}
 use Rattle.controller.proofs.Stalling.{stalled_wait}
 use Rattle.controller.proofs.ZonesMissed.{zones_missed}
 
--- what is printed, in the words of the report
+-- what is printed, in terms of the report
 lines_are : (shown : Shown) (cell : CellData) (history : List Event) (report : Report) → TellsRun cell history report
     → lines_of shown cell history (fates_after cell history (length cell.tasks)) ≡ lines_of shown cell report.history.items report.fates.items
 lines_are shown cell history report tells =
@@ -34,39 +35,19 @@ pub run_printed : (shown : Shown) (cell : CellData) (history : List Event) (repo
     → WritesAll (lines_of shown cell history (fates_after cell history (length cell.tasks))) out → Gained [] err.old.bytes err.new.bytes → AnswersRun (TellsRun cell history) shown cell report out err
 run_printed shown cell history report out err tells none status printed told =
     let here = subst (λ (lines : List (List ℕ)). WritesAll lines out) (lines_are shown cell history report tells) printed in
-    inl (record {
-      run = tells;
-      refused_is = none;
-      status = status ∙ ap (run_status cell) (sym tells.history_is);
-      printed = here.bytes;
-      calls = here.calls;
-      told = told;
-    })
+    (tells, inl (record { refused_is = none; status_is = status ∙ ap (run_status cell) (sym tells.history_is); printed = here.bytes; calls = here.calls; told = told }))
 
 pub run_cut_short : (shown : Shown) (cell : CellData) (history : List Event) (report : Report) (out err : Sunk) → TellsRun cell history report → report.refused ≡ Some Write → report.status ≡ status_of Write
     → WritesPart (lines_of shown cell history (fates_after cell history (length cell.tasks))) out → TakesLine (refusal_text [] Write) err → AnswersRun (TellsRun cell history) shown cell report out err
 run_cut_short shown cell history report out err tells write status printed told =
     let here = subst (λ (lines : List (List ℕ)). WritesPart lines out) (lines_are shown cell history report tells) printed in
-    inr (
-      record {
-        run = tells;
-        refused_is = write;
-        status = status;
-        printed = here.bytes;
-        calls = here.calls;
-        told = told;
-      },
-      here.rose,
-    )
+    (tells, inr (record { refused_is = write; status_is = status; printed = here.bytes; calls = here.calls; told = told }, here.rose))
 
--- what follows of the report is answered too
+-- what follows from the report is answered too
 answered_as : (Run Other : Report → Type 0) (shown : Shown) (cell : CellData) (report : Report) (out err : Sunk) → (Run report → Other report) → AnswersRun Run shown cell report out err → AnswersRun Other shown cell report out err
-answered_as Run Other shown cell report out err follows (inl p) =
-    inl (record { run = follows p.run; refused_is = p.refused_is; status = p.status; printed = p.printed; calls = p.calls; told = p.told })
-answered_as Run Other shown cell report out err follows (inr c) =
-    inr (record { run = follows c.0.run; refused_is = c.0.refused_is; status = c.0.status; printed = c.0.printed; calls = c.0.calls; told = c.0.told }, c.1)
+answered_as Run Other shown cell report out err follows answered = (follows answered.0, answered.1)
 
--- a legal and whole history of tasks that ask well
+-- a legal and complete history of tasks that ask well
 pub record IsSound (cell : CellData) (trees : List TypedTree) (history : List Event) : Type 0 where
   pub well : TasksAskWell (tree_asks trees) cell
   pub legal : IsLegal (with_inputs (tree_asks trees) cell) cell history
@@ -86,7 +67,7 @@ run_of cell trees history report sound tells =
       stalled = λ status task within going. stalled_wait cell trees report.history.items sound.well legal whole status task within going;
     }
 
--- a run by turns is such a history
+-- a round-robin run is such a history
 turns_sound : (cell : CellData) (trees : List TypedTree) (history : List Event) → IsCell cell → StartsFull cell → TasksAskWell (tree_asks trees) cell
     → IsByTurns (with_inputs (tree_asks trees) cell) cell history → IsSound cell trees history
 turns_sound cell trees history limits full well run = record {
@@ -95,7 +76,7 @@ turns_sound cell trees history limits full well run = record {
   whole = by_turns_whole (with_inputs (tree_asks trees) cell) cell history (only_actors (tree_asks trees) cell) run;
 }
 
--- the core's report answers the run of the cell by turns
+-- the core's report answers the round-robin run of the cell
 pub turns_answered : (shown : Shown) (cell here : CellData) (trees seen : List TypedTree) (history : List Event) (report : Report) (out err : Sunk) → here ≡ cell → seen ≡ trees → IsCell cell → StartsFull cell
     → TasksAskWell (tree_asks seen) cell → IsByTurns (with_inputs (tree_asks seen) cell) cell history → AnswersRun (TellsRun here history) shown here report out err
     → RunsOrMemory (IsRunByTurns cell trees) shown cell report out err

@@ -9,8 +9,8 @@ use Rattle.typed_trees.specs.Views.{view_tree}
 use Rattle.typed_trees.specs.declared.tree.Tree.{Tree}
 use Rattle.stack_code.specs.CodeData.{CodeData}
 use Rattle.stack_code.specs.Compiled.{compiled}
-use Rattle.live_code.specs.Asking.{CodeAsks}
-use Rattle.live_code.specs.Live.{CodeFits}
+use Rattle.task_code.specs.Asking.{CodeAsks}
+use Rattle.task_code.specs.Live.{CodeFits}
 use Rattle.cell_meaning.specs.Asking.{Asking, with_inputs}
 use Rattle.cell_meaning.specs.Histories.{IsLegal, IsWhole}
 use Rattle.cell_meaning.specs.Turns.{IsByTurns}
@@ -32,7 +32,7 @@ crew_is cell here machines trees coded fresh one_each same = record {
   fresh = fresh;
 }
 
--- each task asks as its program, and that suits it
+-- each task asks as its program does, which suits it
 
 pub programs_ask : (asks : Asking) (machines : List MachineData) (trees : List TypedTree) → AskAsPrograms CodeFits CodeAsks asks (map compiled trees) → code_in machines ≡ map compiled trees
     → AskAsPrograms CodeFits CodeAsks asks (code_in machines)
@@ -55,7 +55,7 @@ legal_there asks cell here history legal same = subst (λ (c : CellData). IsLega
 pub whole_there : (asks : Asking) (cell here : CellData) (history : List Event) → IsWhole (with_inputs asks here) here history → here ≡ cell → IsWhole (with_inputs asks cell) cell history
 whole_there asks cell here history whole same = subst (λ (c : CellData). IsWhole (with_inputs asks c) c history) same whole
 
--- the gate has a pass for each task, and the input script's
+-- the gate has a pass for each task and one for the input script
 pub passes_here : (gate : GateData) (cell : CellData) (passes : List PassData) → passes ≡ fresh_passes gate 0 (length cell.tasks + 1) → gate.cell ≡ cell
     → passes ≡ fresh_passes gate 0 (length gate.cell.tasks + 1)
 passes_here gate cell passes fresh same = fresh ∙ ap (λ (c : CellData). fresh_passes gate 0 (length c.tasks + 1)) (sym same)

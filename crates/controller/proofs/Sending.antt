@@ -3,7 +3,7 @@ use Rattle.std.proofs.Common.{ℕ, ◌-◌, ◌<◌, ◌≤◌, List, [], ◌∷
 use Rattle.outside.specs.declared.call.Call.{Call}
 use Rattle.controller.specs.Sends.{Leaves, Sends, SendsLines, SendsSome}
 
--- one call more
+-- one more call
 pub leaves_more : (size : ℕ) (calls : List Call) (left taken : ℕ) → Leaves size calls left → 0 < taken → taken ≤ left
     → Leaves size (calls ++ record { handed = left; taken = taken } ∷ []) (left - taken)
 leaves_more size [] left taken is some fits = (sym is, some, omega arith, omega arith)
@@ -14,7 +14,7 @@ leaves_more size (call ∷ calls) left taken sent some fits =
 pub sends_one : (line : List ℕ) (calls : List Call) → Sends (length line) calls → SendsLines (line ∷ []) calls
 sends_one line calls sent = (calls, [], sym (append-nil calls), sent, refl)
 
--- the calls of a part of it
+-- the calls of part of it
 pub sends_part : (line : List ℕ) (calls : List Call) (left : ℕ) → 0 < left → Leaves (length line) calls left → SendsSome (line ∷ []) calls
 sends_part line calls left lacks leaves = record {
   whole = [];
@@ -57,7 +57,7 @@ some_first first second calls s = record {
   leaves = s.leaves;
 }
 
--- the first lines, and some of those behind them
+-- the first lines, and some of those after them
 pub some_then : (first second : List (List ℕ)) (calls more : List Call) → SendsLines first calls → SendsSome second more → SendsSome (first ++ second) (calls ++ more)
 some_then first second calls more f s = record {
   whole = first ++ s.whole;

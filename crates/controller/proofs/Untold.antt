@@ -1,4 +1,4 @@
--- What the reads gave of a shelf that tells nothing: the texts that they are known by.
+-- The results of reads from a shelf that reports nothing: the texts that they gave.
 use Rattle.std.proofs.Common.{◌≡◌, ℕ, zero, suc, ◌+◌, ◌<◌, ◌≤◌, List, [], ◌∷◌, length, get_or, refl, ap, sym, ◌∙◌, subst, ◌⊎◌, inl, inr, arith, Bool}
 use Rattle.std.specs.Prelude.{Option, Some, None, IfSome, Result, Ok, Err, Vec, All, if◌then◌else◌}
 use Rattle.std.specs.declared.alloc.Global.{Global}
@@ -11,7 +11,7 @@ use Rattle.controller.specs.Loaded.{bytes_of, IsWithin, AreTexts}
 use Rattle.controller.specs.declared.refused.Refused.{Refused}
 use Rattle.controller.specs.declared.refused.Refused.TheVariants as refusals
 
--- bytes of which there are more
+-- bytes that more bytes follow
 longer : (n : ℕ) → (bytes : List ℕ) × (n < length bytes)
 longer zero = (0 ∷ [], omega arith)
 longer (suc n) = let more = longer n in (0 ∷ more.0, let many = more.1 in omega (arith, many))
@@ -24,7 +24,7 @@ text_past : (file limit : ℕ) (text : List ℕ) → limit < length text → tex
 text_past file limit text past =
     ap (λ (b : Bool). let r : Result (List ℕ) Refused = (if b then Ok text else Err (refusals.TooLong file)) in r) (lt-leb (length text) limit past)
 
--- what the read of a file gave that is not read, want of memory aside
+-- the result of reading a file that is refused, unless out of memory
 abbrev pub Stops : ℕ → ℕ → Refused → Option (List ℕ) → Type 0
 Stops file limit refused gave = (refused ≡ refusals.Memory) ⊎ (text_of file limit gave ≡ Err refused)
 
@@ -39,12 +39,12 @@ unread_gave file limit (refusals.TooLong other) is =
     let more = longer limit in
     (Some more.0, inr (text_past file limit more.0 more.1 ∙ ap (λ (n : ℕ). Err (refusals.TooLong n)) (sym is)))
 
--- the texts, and what the read behind them gave
+-- the texts, and the result of the read after them
 abbrev pub behind : List (Vec ℕ Global) → Option (List ℕ) → List (Option (List ℕ))
 behind [] last = last ∷ []
 behind (text ∷ texts) last = Some text.items ∷ behind texts last
 
--- where the reads from a file on gave these, they come to the texts and to what stopped them
+-- if the reads from a file on gave these, they come to the texts and to what stopped them
 pub texts_given : (gave : Reads) (file : ℕ) (names : List (List ℕ)) (texts : List (Vec ℕ Global)) (last : Option (List ℕ)) (failed : Option Refused)
     → ((k : ℕ) (name : List ℕ) → gave (file + k) name ≡ get_or (behind texts last) k None) → All IsWithin texts → length texts ≤ length names → (failed ≡ None → length texts ≡ length names)
     → IfSome failed (λ refused. Stops (file + length texts) MODULE_BYTES refused last × (length texts < length names)) → AreTexts gave file names (bytes_of texts) failed

@@ -1,4 +1,5 @@
--- What command words and files come to: the first refusal; or what is checked; or the cell and the trees of its tasks.
+-- What command words and files come to: the first refusal; that all is accepted; or the cell and the trees of its
+-- tasks.
 use Rattle.std.specs.Prelude.{◌≡◌, ℕ, zero, suc, ◌+◌, ◌⊎◌, take, drop, slice_get, List, [], ◌∷◌, length, map, Option, Some, None, is_some, Result, Ok, Err}
 use Rattle.rapid_limits.specs.declared.TheConstants.{MODULE_BYTES, SCRIPT_BYTES}
 use Rattle.rapid_model.specs.CellData.{CellData}
@@ -14,14 +15,14 @@ use Rattle.rule_checks.specs.declared.rule.TypeRule.{TypeRule}
 use Rattle.rule_checks.specs.declared.rule.TypeRule.TheVariants.{PersType}
 use Rattle.rule_checks.specs.Checks.{◌>>=◌}
 use Rattle.rule_checks.specs.TypeChecks.{Checked}
-use Rattle.stmt_types.specs.Task.{task_of}
+use Rattle.task_types.specs.Task.{task_of}
 use Rattle.cell_assembly.specs.Cells.{CellBreak, Clash, InScript, Making}
 use Rattle.cell_assembly.specs.Made.{MadeCell, make_cell}
 use Rattle.rapid_forms.specs.declared.fault.SyntaxFault.{SyntaxFault}
 use Rattle.rapid_forms.specs.declared.fault.SyntaxFault.TheVariants as faults
 use Rattle.module_parser.specs.Modules.{ModuleText}
-use Rattle.controller.specs.declared.command.Action.{Action}
-use Rattle.controller.specs.declared.command.Action.TheVariants as actions
+use Rattle.command_words.specs.declared.command.Action.{Action}
+use Rattle.command_words.specs.declared.command.Action.TheVariants as actions
 use Rattle.controller.specs.declared.refused.Refused.{Refused}
 use Rattle.controller.specs.declared.refused.Refused.TheVariants.{Words, Script, Module, Memory}
 use Rattle.controller.specs.declared.refused.ModuleRule.{ModuleRule}
@@ -30,11 +31,11 @@ use Rattle.controller.specs.declared.shown.Shown.{Shown}
 use Rattle.controller.specs.declared.shown.Shown.TheVariants as shows
 use Rattle.controller.specs.Files.{Reads, text_of}
 use Rattle.controller.specs.LoadFiles.{load_reads}
-use Rattle.controller.specs.Words.{refused_place, script_name, asked}
+use Rattle.command_words.specs.Words.{refused_place, script_name, asked}
 
--- The refusal; or all is accepted, for `check`; or the cell and the trees: for a run by turns or for one in which each task runs by
--- itself, with what is printed of it, or for their list. And the names of the files, in the order in which they are read, as far as
--- the script is known.
+-- The refusal; or all is accepted, for `check`; or the cell and the trees, for a round-robin run or one in which each
+-- task runs on its own, with what is printed of it, or for their list. And the names of the files in the order in which
+-- they are read, as far as the script is known.
 pub data Verdict : Type 0 where
   refuses : List (List ℕ) → Refused → Verdict
   accepts : List (List ℕ) → Verdict
@@ -50,19 +51,19 @@ file_text gave file limit name = text_of file limit (gave file name)
 abbrev pub place_at : List ℕ → ℕ → Place
 place_at text at = record { line = line_of text at; column = column_of text at }
 
--- the refusal of the file of this number by a fault of its text
+-- the refusal for a fault of the text in the file of this number
 abbrev pub fault_refusal : ℕ → List ℕ → SyntaxFault → Refused
 fault_refusal file text (faults.Lex f) = Module file (place_at text f.at) (Lex f.rule)
 fault_refusal file text (faults.Rule rule at) = Module file (place_at text at) (Syntax rule)
 fault_refusal file text faults.Memory = Memory
 
--- a module that is read: the number of its file, its text, and what the text spells
+-- a module that was read: the number of its file, its text, and what the text spells
 pub record ReadModule : Type 0 where
   pub file : ℕ
   pub text : List ℕ
   pub raw : PlainModule
 
--- what a text comes to: a refusal by its fault; or the module that it spells
+-- what a text comes to: a refusal for its fault, or the module that it spells
 abbrev pub ModuleOf : ℕ → List ℕ → Result ReadModule Refused → Type 0
 ModuleOf file text (Err refused) = (fault : SyntaxFault) × ModuleText text (Err fault) × (refused ≡ fault_refusal file text fault)
 ModuleOf file text (Ok read) = (read.file ≡ file) × (read.text ≡ text) × ModuleText text (Ok read.raw)
@@ -72,7 +73,7 @@ abbrev pub ModuleIn : ℕ → Result (List ℕ) Refused → Result ReadModule Re
 ModuleIn file (Err refused) verdict = verdict ≡ Err refused
 ModuleIn file (Ok text) verdict = ModuleOf file text verdict
 
--- the modules of these names, the first of which has this number; or the first refusal
+-- the modules with these names, the first of which has this number; or the first refusal
 abbrev pub ModulesOf : Reads → ℕ → List (List ℕ) → Result (List ReadModule) Refused → Type 0
 ModulesOf gave file [] verdict = verdict ≡ Ok []
 ModulesOf gave file (name ∷ names) (Err refused) =
@@ -82,7 +83,7 @@ ModulesOf gave file (name ∷ names) (Ok []) = ⊥
 ModulesOf gave file (name ∷ names) (Ok (read ∷ reads)) =
     ModuleIn file (file_text gave file MODULE_BYTES name) (Ok read) × ModulesOf gave (file + 1) names (Ok reads)
 
--- the text of a module, where there is one, and the number of its file
+-- the text of a module, if there is one, and the number of its file
 abbrev pub read_text : Option ReadModule → List ℕ
 read_text (Some read) = read.text
 read_text None = []
@@ -91,11 +92,11 @@ abbrev pub read_file : Option ReadModule → ℕ
 read_file (Some read) = read.file
 read_file None = 0
 
--- the refusal by a rule, at a byte of the module of this number among these
+-- the refusal for a rule, at a byte of the module of this number among these
 abbrev pub module_refusal : List ReadModule → ℕ → ℕ → ModuleRule → Refused
 module_refusal reads number at rule = let read = slice_get reads number in Module (read_file read) (place_at (read_text read) at) rule
 
--- the same by a rule of names and types
+-- the same for a rule of names and types
 abbrev pub rule_refusal : List ReadModule → ℕ → ℕ → TypeRule → Refused
 rule_refusal reads number at rule = module_refusal reads number at («Type» rule)
 
@@ -124,7 +125,7 @@ modules_before [] number = 0
 modules_before (task ∷ tasks) zero = 0
 modules_before (task ∷ tasks) (suc number) = length task.modules + modules_before tasks number
 
--- why no cell is made of the trees: the later of two declarations that differ, or a value of the script
+-- why the trees give no cell: the later of two declarations that differ, or a value of the script
 abbrev pub cell_refusal : ScriptData → List ReadModule → CellBreak → Refused
 cell_refusal script reads (Clash task number at) = rule_refusal reads (modules_before script.tasks task + number) at PersType
 cell_refusal script reads (InScript key rule) = Script key rule
@@ -133,12 +134,12 @@ abbrev pub cell_or_refused : ScriptData → List ReadModule → Making MadeCell 
 cell_or_refused script reads (Ok made) = Ok made
 cell_or_refused script reads (Err broken) = Err (cell_refusal script reads broken)
 
--- The cell of a script and of its modules, and the trees of its tasks with its numbers; or the first refusal of these: by names
--- and types, task by task; then by what the tasks share; then by the script's values of persistents.
+-- The cell of a script and of its modules, and the trees of its tasks, which use its numbers; or the first refusal, in
+-- this order: names and types, task by task; what the tasks share; the script's values of persistents.
 abbrev pub checked : ScriptData → List ReadModule → Result MadeCell Refused
 checked script reads = typed_tasks script script.tasks reads >>= (λ trees. cell_or_refused script reads (make_cell script trees))
 
--- what the action comes to where all is accepted, with this cell and these trees; words without an action are refused
+-- what the action comes to if all is accepted, with this cell and these trees; words without an action are refused
 abbrev pub ActionDecides : Option Action → List (List ℕ) → MadeCell → Verdict → Type 0
 ActionDecides (Some actions.Check) names made verdict = verdict ≡ accepts names
 ActionDecides (Some (actions.Round full)) names made verdict = verdict ≡ runs names (shows.Events full) made.cell made.trees
@@ -151,7 +152,7 @@ abbrev pub CheckedDecides : Option Action → List (List ℕ) → Result MadeCel
 CheckedDecides action names (Err refused) verdict = verdict ≡ refuses names refused
 CheckedDecides action names (Ok made) verdict = ActionDecides action names made verdict
 
--- with the script read, its modules and its cell
+-- given the script, its modules and its cell
 abbrev pub ModulesDecide : Option Action → List (List ℕ) → ScriptData → Result (List ReadModule) Refused → Verdict → Type 0
 ModulesDecide action names script (Err refused) verdict = verdict ≡ refuses names refused
 ModulesDecide action names script (Ok reads) verdict = CheckedDecides action names (checked script reads) verdict
@@ -171,7 +172,7 @@ FileDecides action gave name (Err refused) verdict = verdict ≡ refuses (name �
 FileDecides action gave name (Ok text) verdict =
     (script : Read ScriptData) × ScriptOf text script × ScriptDecides action gave name script verdict
 
--- what the files of an action come to, where the reads give these, and the script's has this name
+-- what the files of an action come to, if the reads give these and the script's file has this name
 abbrev pub FilesDecide : Option Action → Reads → List ℕ → Verdict → Type 0
 FilesDecide action gave name verdict = FileDecides action gave name (file_text gave 0 SCRIPT_BYTES name) verdict
 
@@ -184,6 +185,6 @@ abbrev pub WordsDecide : Reads → List (List ℕ) → Option ℕ → Verdict �
 WordsDecide gave words (Some place) verdict = verdict ≡ refuses [] (Words place)
 WordsDecide gave words None verdict = FilesDecide (asked words) (reads_for (asked words) gave) (script_name words) verdict
 
--- what the words and the files come to, of which the reads gave these
+-- what the words and the files come to, if the reads give these
 pub record Accepted (words : List (List ℕ)) (gave : Reads) (verdict : Verdict) : Type 0 where
   pub decides : WordsDecide gave words (refused_place words) verdict

@@ -1,21 +1,16 @@
--- How words and files come to an action with a cell, step by step.
-use Rattle.std.specs.Prelude.{◌≡◌, ◌≤◌, ℕ, List, Option, Some, None, Result, Ok}
+-- How words and files lead to an action with a cell, step by step.
+use Rattle.std.specs.Prelude.{◌≡◌, ℕ, List, Option, Some, None, Result, Ok}
 use Rattle.rapid_limits.specs.declared.TheConstants.{SCRIPT_BYTES}
 use Rattle.outside.specs.Told.{Told}
 use Rattle.rapid_model.specs.ScriptData.{ScriptData, module_names}
 use Rattle.cell_assembly.specs.Made.{MadeCell}
-use Rattle.controller.specs.declared.command.Action.{Action}
+use Rattle.command_words.specs.declared.command.Action.{Action}
 use Rattle.controller.specs.declared.refused.Refused.{Refused}
-use Rattle.controller.specs.Words.{refused_place, script_name, asked}
+use Rattle.command_words.specs.Words.{refused_place, script_name, asked}
 use Rattle.controller.specs.Files.{Reads}
 use Rattle.controller.specs.Accepted.{Verdict, file_text, ActionDecides, FilesDecide}
 use Rattle.controller.specs.Loaded.{AreTexts, IsScriptIn}
 use Rattle.controller.specs.Answered.{IsVerdict}
-
--- so often may an arm of the load cell move
-pub record AreMoves (moves : ℕ) : Type 0 where
-  pub least : 1 ≤ moves
-  pub most : moves ≤ 1000
 
 -- the words are taken, and ask for this action with a script of this name
 pub record AreFor (words : List (List ℕ)) (action : Action) (name : List ℕ) : Type 0 where
@@ -23,14 +18,14 @@ pub record AreFor (words : List (List ℕ)) (action : Action) (name : List ℕ) 
   pub asked_is : asked words ≡ Some action
   pub name_is : name ≡ script_name words
 
--- The reads of the action's files gave this script, want of memory aside; and what the files come to is a verdict on the words and
--- the files.
+-- The reads of the action's files gave this script, unless out of memory; and what the files come to is a verdict on
+-- the words and the files.
 pub record GiveScript (words : List (List ℕ)) (told : Option Told) (action : Action) (name : List ℕ) (result : Result ScriptData Refused) : Type 0 where
   pub gave : Reads
   pub verdicts : (verdict : Verdict) → FilesDecide (Some action) gave name verdict → IsVerdict words told verdict
   pub script_is : IsScriptIn (file_text gave 0 SCRIPT_BYTES name) result
 
--- The same, and these texts of its modules, up to the first one that is not read.
+-- The same, with these texts of its modules, up to the first one that is not read.
 pub record GiveTexts (words : List (List ℕ)) (told : Option Told) (action : Action) (name : List ℕ) (script : ScriptData) (texts : List (List ℕ)) (failed : Option Refused) : Type 0 where
   pub given : GiveScript words told action name (Ok script)
   pub texts_are : AreTexts given.gave 1 (module_names script.tasks) texts failed

@@ -1,7 +1,11 @@
 -- That a verdict is carried out.
-use Rattle.std.specs.Prelude.{◌≡◌, Some}
+use Rattle.std.specs.Prelude.{◌≡◌, ℕ, ◌⊎◌, List, Option, Some}
+use Rattle.outside.specs.Count.{Rose}
+use Rattle.outside.specs.Told.{Told}
 use Rattle.controller.specs.declared.report.Report.{Report}
 use Rattle.controller.specs.Accepted.{Verdict, accepts, lists, refuses, runs, runs_free}
+use Rattle.controller.specs.Answered.{IsOutOfMemory, IsVerdict}
+use Rattle.controller.specs.Printed.{Sunk}
 use Rattle.controller.specs.Refusals.{status_of}
 use Rattle.controller.specs.Runs.{run_status}
 
@@ -12,3 +16,10 @@ IsDone (accepts names) report = report.status ≡ 0
 IsDone (runs names shown cell trees) report = report.status ≡ run_status cell report.history.items
 IsDone (runs_free names shown cell trees) report = report.status ≡ run_status cell report.history.items
 IsDone (lists names cell trees) report = report.status ≡ 0
+
+-- If the first sink counts no fault, what the words and the files come to is done, or memory ran out before the first
+-- event.
+abbrev pub IsComplete : List (List ℕ) → Option Told → Report → Sunk → Sunk → Type 0
+IsComplete words told report out err =
+    ¬ Rose out.old.faults out.new.faults
+    → IsOutOfMemory report out err ⊎ ((verdict : Verdict) × IsVerdict words told verdict × IsDone verdict report)

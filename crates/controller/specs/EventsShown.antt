@@ -9,7 +9,7 @@ use Rattle.controller.specs.declared.shown.Shown.{Shown}
 use Rattle.controller.specs.declared.shown.Shown.TheVariants as shows
 use Rattle.controller.specs.Output.{summary_lines}
 
--- the line of an event: in full the one that each event has, else that of a setpoint or a text, or nothing
+-- the line of an event: if full, the one that each event has, else that of a setpoint or a text, or nothing
 abbrev pub shown_line : Bool → List TaskRow → Event → List ℕ
 shown_line full tasks e = if full then event_line tasks e else line_of tasks e
 

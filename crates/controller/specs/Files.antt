@@ -6,20 +6,20 @@ use Rattle.outside.specs.Told.{Told, found, after_reads}
 use Rattle.controller.specs.declared.refused.Refused.{Refused}
 use Rattle.controller.specs.declared.refused.Refused.TheVariants.{Words, Script, Module, Read, Write, Memory, TooLong}
 
--- what each read of a call gave, by the number of the file and its name: its bytes, or nothing where the read failed
+-- what each read of a call gave, by the number of the file and its name: its bytes, or nothing if the read failed
 abbrev pub Reads : Type 0
 Reads = ℕ → List ℕ → Option (List ℕ)
 
--- what they give of a shelf that tells its files: each finds what stands there after those before it
+-- the results of reads from a shelf that reports its files: each finds what is there after those before it
 abbrev pub told_reads : Told → Reads
 told_reads told file name = found (after_reads file told) name
 
--- from what a read gave: it fails, the file is too long, or its bytes
+-- from the result of a read: it failed, the file is too long, or its bytes
 abbrev pub text_of : ℕ → ℕ → Option (List ℕ) → Result (List ℕ) Refused
 text_of file limit None = Err (Read file)
 text_of file limit (Some bytes) = if nat_le (length bytes) limit then Ok bytes else Err (TooLong file)
 
--- why loading was refused: not for the words, nor for a write; and a read failed only where a fault was counted
+-- why loading was refused: not for the words, nor for a write; and a read failed only if a fault was counted
 abbrev pub IsLoadFault : ℕ → ℕ → Refused → Type 0
 IsLoadFault old new (Words place) = ⊥
 IsLoadFault old new (Script key rule) = Unit {0}
@@ -29,7 +29,7 @@ IsLoadFault old new Write = ⊥
 IsLoadFault old new Memory = Unit {0}
 IsLoadFault old new (TooLong file) = Unit {0}
 
--- why the file of this number is not read: it cannot be, it is too long, or memory is refused
+-- why the file of this number is not read: the read failed, it is too long, or memory ran out
 abbrev pub IsUnread : ℕ → Refused → Type 0
 IsUnread file (Words place) = ⊥
 IsUnread file (Script key rule) = ⊥
@@ -39,7 +39,7 @@ IsUnread file Write = ⊥
 IsUnread file Memory = Unit {0}
 IsUnread file (TooLong other) = other ≡ file
 
--- what an action is refused for: not for the words, nor for a read; and a write failed only where a fault was counted
+-- why an action is refused: not for the words, nor for a read; and a write failed only if a fault was counted
 abbrev pub IsDoneFault : ℕ → ℕ → Refused → Type 0
 IsDoneFault old new (Words place) = ⊥
 IsDoneFault old new (Script key rule) = Unit {0}
@@ -49,7 +49,7 @@ IsDoneFault old new Write = Rose old new
 IsDoneFault old new Memory = Unit {0}
 IsDoneFault old new (TooLong file) = Unit {0}
 
--- a result gives this, want of memory aside
+-- a result is this, or out of memory
 abbrev pub Gives : {X Y : Type 0} → (X → Y) → Result Y Refused → Result X Refused → Type 0
 Gives view expected (Ok x) = expected ≡ Ok (view x)
 Gives view expected (Err refused) = (refused ≡ Memory) ⊎ (expected ≡ Err refused)

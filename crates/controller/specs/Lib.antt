@@ -1,5 +1,3 @@
-pub mod Words
-pub mod Picked
 pub mod Refusals
 pub mod Files
 pub mod LoadFiles

@@ -18,7 +18,7 @@ use Rattle.cell_assembly.specs.declared.cell_fault.CellFault.TheVariants as cell
 use Rattle.cell_assembly.specs.Made.{MadeCell}
 use Rattle.typed_trees.specs.Views.{view_tree}
 use Rattle.typed_trees.specs.declared.tree.Tree.{Tree}
-use Rattle.tree_soundness.specs.Accepted.{IsAccepted}
+use Rattle.accepted_cells.specs.Accepted.{IsAccepted}
 use Rattle.controller.specs.declared.check.CheckedCell.{CheckedCell}
 use Rattle.controller.specs.declared.modules.Modules.{Modules}
 use Rattle.controller.specs.declared.refused.Refused.{Refused}
@@ -41,7 +41,7 @@ made_with cell trees = record { cell = cell; trees = map view_tree trees }
 abbrev pub made_of : CheckedCell → MadeCell
 made_of c = made_with c.cell c.trees.items
 
--- modules by their texts and trees, the first of them in the file of this number
+-- modules with their texts and trees, the first of them in the file of this number
 abbrev pub reads_of : ℕ → List (Vec ℕ Global) → List RawModule → List ReadModule
 reads_of file (text ∷ texts) (tree ∷ trees) = record { file = file; text = text.items; raw = view_module tree } ∷ reads_of (file + 1) texts trees
 reads_of _ _ _ = []
@@ -66,15 +66,15 @@ pub record ArePaired (modules : Modules) : Type 0 where
   pub within : All IsWithin modules.texts.now
   pub files : modules.first + length modules.texts.now < 2 ^ 32
 
--- the script of what the file's read comes to, want of memory aside
+-- the script that the result of reading its file comes to, or out of memory
 abbrev pub IsScriptIn : Result (List ℕ) Refused → Result ScriptData Refused → Type 0
 IsScriptIn read (Ok script) = (text : List ℕ) × (read ≡ Ok text) × ScriptOf text (Ok script)
 IsScriptIn read (Err refused) =
     (refused ≡ Memory) ⊎ ((read ≡ Err refused)
     ⊎ ((text : List ℕ) × (broken : ScriptBreak) × (read ≡ Ok text) × ScriptOf text (Err broken) × (refused ≡ Script broken.key broken.rule)))
 
--- The texts of the files of these names, the first of which has this number, up to the first one that is not read, and why
--- that one is not. Want of memory aside.
+-- The texts of the files with these names, the first of which has this number, up to the first one that is not read,
+-- and why that one is not. Or out of memory.
 abbrev pub AreTexts : Reads → ℕ → List (List ℕ) → List (List ℕ) → Option Refused → Type 0
 AreTexts gave file [] [] None = Unit {0}
 AreTexts gave file (name ∷ names) [] (Some refused) = (refused ≡ Memory) ⊎ (file_text gave file MODULE_BYTES name ≡ Err refused)
@@ -82,7 +82,7 @@ AreTexts gave file (name ∷ names) (text ∷ texts) failed =
     (file_text gave file MODULE_BYTES name ≡ Ok text) × AreTexts gave (file + 1) names texts failed
 AreTexts _ _ _ _ _ = ⊥
 
--- what these texts come to, of which the first has this number, with what failed behind them
+-- what these texts come to, the first of which has this number, with the failure after them
 abbrev pub TextsDecide : ℕ → List (List ℕ) → Option Refused → Result (List ReadModule) Refused → Type 0
 TextsDecide file [] None verdict = verdict ≡ Ok []
 TextsDecide file [] (Some refused) verdict = verdict ≡ Err refused
@@ -96,28 +96,28 @@ TextsDecide file (text ∷ texts) failed (Ok (read ∷ reads)) = ModuleOf file t
 abbrev pub bytes_of : List (Vec ℕ Global) → List (List ℕ)
 bytes_of texts = map (λ v. v.items) texts
 
--- what one text comes to, want of memory aside
+-- what one text comes to, or out of memory
 abbrev pub IsParsed : ℕ → List ℕ → Result RawModule Refused → Type 0
 IsParsed file text (Ok tree) = ModuleText text (Ok (view_module tree))
 IsParsed file text (Err refused) = (refused ≡ Memory) ⊎ ModuleOf file text (Err refused)
 
--- what the texts come to, want of memory aside
+-- what the texts come to, or out of memory
 abbrev pub AreParsed : List (Vec ℕ Global) → Option Refused → Result (Vec RawModule Global) Refused → Type 0
 AreParsed texts failed (Ok trees) = TextsDecide 1 (bytes_of texts) failed (Ok (reads_of 1 texts trees.items))
 AreParsed texts failed (Err refused) = (refused ≡ Memory) ⊎ TextsDecide 1 (bytes_of texts) failed (Err refused)
 
--- the refusal of modules by a rule of names and types, or for want of memory
+-- the refusal of modules for a rule of names and types, or out of memory
 abbrev pub IsRuleRefusal : List ReadModule → TypeFault → Refused → Type 0
 IsRuleRefusal reads (types.Rule number at rule) refused = refused ≡ rule_refusal reads number at rule
 IsRuleRefusal reads types.Memory refused = refused ≡ Memory
 
--- the refusal of a cell, or for want of memory
+-- the refusal of a cell, or out of memory
 abbrev pub IsCellRefusal : ScriptData → List ReadModule → CellFault → Refused → Type 0
 IsCellRefusal script reads (cells.Clash task number at) refused = refused ≡ cell_refusal script reads (Clash task number at)
 IsCellRefusal script reads (cells.Script key rule) refused = refused ≡ Script key rule
 IsCellRefusal script reads cells.Memory refused = refused ≡ Memory
 
--- the cell of some script that is accepted, and a tree for each of its tasks
+-- the cell of some accepted script, and a tree for each of its tasks
 pub record HasScript (made : MadeCell) : Type 0 where
   pub script : ScriptData
   pub accepted : IsAccepted script made

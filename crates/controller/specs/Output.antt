@@ -22,11 +22,11 @@ use Rattle.controller.specs.declared.shown.Shown.TheVariants as shows
 abbrev pub all_given : List Event → ℕ
 all_given history = count_by (λ e. is_given e.request e.answer) history
 
--- all of a persistent that is no array
+-- the whole of a persistent that is not an array
 abbrev pub whole_path : Path
 whole_path = record { index = 0; part = Whole }
 
--- the last value of the first persistent, where there is one that is no array
+-- the last value of the first persistent, if there is one and it is not an array
 abbrev pub last_total : CellData → List Event → Option Value
 last_total cell history = if of_pers cell 0 (λ row. has_path row whole_path) then value_at (persistent_after cell history 0) whole_path else None
 
@@ -34,11 +34,11 @@ abbrev pub total_words : Option Value → List ℕ
 total_words None = []
 total_words (Some value) = value_text value
 
--- L, what is told, and its number
+-- L, the name of a number, and the number
 abbrev pub summary_line : List ℕ → List ℕ → List ℕ
 summary_line name number = codes "L " ++ (name ++ (32 ∷ number ++ codes "\n"))
 
--- how many events a run had, how many setpoints were given, and what its persistent came to
+-- the number of events of a run, the number of setpoints given, and the last value of its persistent
 abbrev pub summary_lines : CellData → List Event → List (List ℕ)
 summary_lines cell history =
     summary_line (codes "events") (decimal (length history))
@@ -50,8 +50,8 @@ summary_lines cell history =
 abbrev pub names_in : CellData → NamesData
 names_in cell = record { tasks = cell.tasks; signals = cell.signals; pers = cell.pers }
 
--- The lines of a run. In full each event has one; else each setpoint and each text, and that of another event is empty. Or its
--- summary. And then those of the tasks in script order.
+-- The lines of a run. If full, each event has one; otherwise each setpoint and each text has one, and any other event's
+-- is empty. Or its summary. Then those of the tasks in script order.
 abbrev pub lines_of : Shown → CellData → List Event → List Fate → List (List ℕ)
 lines_of (shows.Events true) cell history fates = history_lines (names_in cell) history fates
 lines_of (shows.Events false) cell history fates = short_lines cell history fates

@@ -25,7 +25,7 @@ module_rule_name (modules.Lex rule) = lex_rule_name rule
 module_rule_name (modules.Syntax rule) = syntax_rule_name rule
 module_rule_name (modules.«Type» rule) = type_rule_name rule
 
--- an empty key is shown as a minus
+-- an empty key is printed as a minus
 abbrev pub key_words : List ℕ → List ℕ
 key_words [] = codes "-"
 key_words (b ∷ bs) = b ∷ bs
@@ -33,11 +33,11 @@ key_words (b ∷ bs) = b ∷ bs
 abbrev pub place_words : Place → List ℕ
 place_words place = decimal place.line ++ (58 ∷ decimal place.column)
 
--- the name of a file by its number, the script's being 0
+-- the name of a file by its number; the script's is 0
 abbrev pub name_at : List (List ℕ) → ℕ → List ℕ
 name_at names file = unwrap_or (slice_get names file) []
 
--- the number of the file that a refusal speaks of
+-- the number of the file that a refusal is about
 abbrev pub file_of : Refused → Option ℕ
 file_of (Words place) = None
 file_of (Script key rule) = None
@@ -47,7 +47,11 @@ file_of Write = None
 file_of Memory = None
 file_of (TooLong file) = Some file
 
--- the words behind `rapid_cell: `, with the name of the file that they speak of
+-- a line of these pieces
+abbrev pub in_line : List ℕ → List ℕ → List ℕ → List ℕ → List ℕ
+in_line head name between rule = head ++ (name ++ (between ++ (rule ++ codes "\n")))
+
+-- the words after `rapid_cell: `, with the name of the file that they are about
 abbrev pub refusal_words : List ℕ → Refused → List ℕ
 refusal_words name (Words place) = codes "words " ++ decimal place
 refusal_words name (Script key rule) = codes "script " ++ (key_words key ++ (32 ∷ rule_name rule))
@@ -57,10 +61,10 @@ refusal_words name Write = codes "write"
 refusal_words name Memory = codes "memory"
 refusal_words name (TooLong file) = codes "long " ++ name
 
--- the line that tells a refusal
+-- the line of a refusal
 abbrev pub refusal_text : List ℕ → Refused → List ℕ
 refusal_text name refused = codes "rapid_cell: " ++ (refusal_words name refused ++ codes "\n")
 
--- the same, with the names of the files in the order in which they are read
+-- the same, given the names of the files in the order in which they are read
 abbrev pub refusal_line : List (List ℕ) → Refused → List ℕ
 refusal_line names refused = refusal_text (option_map_or (name_at names) (file_of refused) []) refused

@@ -1,4 +1,4 @@
--- The run theorem: what the report of a run tells.
+-- The run theorem: what the report of a run promises.
 use Rattle.std.specs.Prelude.{◌≡◌, ℕ, ◌<◌, Bool, true, false, List, ◌∷◌, ◌++◌, length, Some, if◌then◌else◌}
 use Rattle.std.specs.List.{list_any}
 use Rattle.rapid_num.specs.declared.joints.Joints.{Joints}
@@ -25,7 +25,7 @@ use Rattle.cell_meaning.specs.Turns.{IsByTurns}
 use Rattle.cell_meaning.specs.Zones.{zones_after}
 use Rattle.controller.specs.declared.report.Report.{Report}
 
--- on its whole way from where the arm was, each setpoint that was given misses every zone that then watched the arm
+-- on its whole path from where the arm was, each setpoint that was given misses every zone that then watched the arm
 pub record MissesZones (cell : CellData) (history : List Event) : Type 0 where
   pub misses : (before after : List Event) (e : Event) (from to : Joints) (name : ZoneName) (shape : Shape) → history ≡ before ++ e ∷ after → e.request ≡ Setpoint to → e.answer ≡ answers.Given
       → arm_after cell before e.actor ≡ Some from → supervised (zones_after cell before) e.actor (signals_after cell before) name ≡ Some shape → ¬ Touches from to shape
@@ -34,8 +34,8 @@ abbrev pub is_fault : Fate → Bool
 is_fault (fates.Fault fault) = true
 is_fault _ = false
 
--- The status of a run that was printed. Where all tasks ended, 1 where one ended with a fault, else 0. Else 9 where the steps are
--- spent, and 8 where no task that has not ended can go on.
+-- The status of a printed run. If all tasks ended, 1 if one ended with a fault, else 0. Otherwise 9 if the steps are
+-- spent, and 8 if no task that has not ended can go on.
 abbrev pub run_status : CellData → List Event → ℕ
 run_status cell history =
     if all_ended (length cell.tasks) history then
@@ -43,7 +43,7 @@ run_status cell history =
     else if is_spent cell history then 9
     else 8
 
--- after the history the task asks to rise from its wait, and can not
+-- after the history the task asks to resume, and cannot
 pub record WaitsToRise (cell : CellData) (trees : List TypedTree) (history : List Event) (task : ℕ) : Type 0 where
   pub asks : tree_asks trees task (answers_of task history) Rise
   pub cannot : can_rise cell history task ≡ false
@@ -53,9 +53,9 @@ pub record TellsRun (cell : CellData) (history : List Event) (report : Report) :
   pub history_is : report.history.items ≡ history
   pub fates_is : report.fates.items ≡ fates_after cell history (length cell.tasks)
 
--- What any run tells. The history interleaves whole traces of the tasks' trees and of the input script, each answer being what one
--- shared cell gives at that point; the fates follow from it, and no arm passed through a zone that watched it. Where the status is
--- 8, each task that has not ended waits, and can not rise.
+-- What holds of any run. The history interleaves complete traces of the tasks' trees and of the input script, and each
+-- answer is the one that one shared cell gives at that point. The fates follow from it, and no arm passed through a
+-- zone that watched it. If the status is 8, each task that has not ended waits and cannot resume.
 pub record IsRun (cell : CellData) (trees : List TypedTree) (report : Report) : Type 0 where
   pub legal : IsLegal (with_inputs (tree_asks trees) cell) cell report.history.items
   pub whole : IsWhole (with_inputs (tree_asks trees) cell) cell report.history.items
@@ -64,7 +64,8 @@ pub record IsRun (cell : CellData) (trees : List TypedTree) (report : Report) : 
   pub stalled : run_status cell report.history.items ≡ 8 → (task : ℕ) → task < length cell.tasks → has_ended (part_of task report.history.items) ≡ false
       → WaitsToRise cell trees report.history.items task
 
--- What a run by turns tells: what any run tells, and that the history is the run by turns, which is one for the cell and the trees.
+-- What holds of a round-robin run: what holds of any run, and the history is the round-robin run, which is unique for
+-- the cell and the trees.
 pub record IsRunByTurns (cell : CellData) (trees : List TypedTree) (report : Report) : Type 0 where
   pub run : IsRun cell trees report
   pub by_turns : IsByTurns (with_inputs (tree_asks trees) cell) cell report.history.items

@@ -1,8 +1,9 @@
--- What a function that writes lines, or fails, comes to.
-use Rattle.std.specs.Prelude.{◌≡◌, ◌≤◌, ℕ, List, Result, Ok, Err, ⊤}
+-- The outcome of a function that writes lines or fails.
+use Rattle.std.specs.Prelude.{◌≡◌, ◌≤◌, ℕ, List, [], ◌∷◌, length, Result, Ok, Err, ⊤}
 use Rattle.std.specs.List.{concat}
 use Rattle.outside.specs.Count.{Rose}
 use Rattle.outside.specs.declared.failed.Failed.{Failed}
+use Rattle.controller.specs.declared.refused.TheConstants.{REFUSAL_BYTES}
 use Rattle.controller.specs.Sends.{SendsLines, SendsSome}
 use Rattle.controller.specs.Printed.{Sunk, Gained, GainedPart, GainedCalls}
 
@@ -12,7 +13,7 @@ pub record WritesAll (lines : List (List ℕ)) (sink : Sunk) : Type 0 where
   pub calls : GainedCalls (SendsLines lines) sink.old.calls sink.new.calls
   pub faults : sink.old.faults ≤ sink.new.faults
 
--- it failed with a fault counted, and lacks some of these lines
+-- it failed with a fault counted, and some of these lines are missing
 pub record WritesPart (lines : List (List ℕ)) (sink : Sunk) : Type 0 where
   pub bytes : GainedPart (concat lines) sink.old.bytes sink.new.bytes
   pub calls : GainedCalls (SendsSome lines) sink.old.calls sink.new.calls
@@ -23,6 +24,15 @@ abbrev pub Writes : List (List ℕ) → Result ⊤ Failed → Sunk → Type 0
 Writes lines (Ok _) sink = WritesAll lines sink
 Writes lines (Err _) sink = WritesPart lines sink
 
--- the same of pieces that make up these bytes
-abbrev pub WritesPieces : List ℕ → Result ⊤ Failed → Sunk → Type 0
-WritesPieces bytes result sink = (pieces : List (List ℕ)) × (bytes ≡ concat pieces) × Writes pieces result sink
+-- the pieces in which a line is written: a line that fits the buffer is one piece
+pub record AreCut (line : List ℕ) (pieces : List (List ℕ)) : Type 0 where
+  pub whole : line ≡ concat pieces
+  pub one : length line ≤ REFUSAL_BYTES → pieces ≡ line ∷ []
+
+-- the same of a line in pieces
+abbrev pub WritesLine : List ℕ → Result ⊤ Failed → Sunk → Type 0
+WritesLine line result sink = (pieces : List (List ℕ)) × AreCut line pieces × Writes pieces result sink
+
+-- the sink got the line, or part of it if a write failed
+abbrev pub TakesLine : List ℕ → Sunk → Type 0
+TakesLine line sink = (result : Result ⊤ Failed) × WritesLine line result sink

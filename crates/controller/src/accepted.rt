@@ -1,40 +1,42 @@
-ghost use Rattle.std.specs.Prelude.{◌≡◌, ◌≢◌, ◌≤◌, ℕ, ◌↔◌, List, Some, None, IfOk, IfErr, IfSome};
+ghost use Rattle.std.specs.Prelude.{◌≡◌, ◌≢◌, ◌≤◌, ℕ, ◌↔◌, List, Some, None, IfOk, IfErr, IfSome, map};
 ghost use Rattle.outside.specs.Count.{Rose};
 ghost use Rattle.controller.specs.Files.{IsLoadFault};
 ghost use Rattle.controller.specs.Loaded.{made_of, HasScript};
-ghost use Rattle.controller.specs.Words.{asked, refused_place};
+ghost use Rattle.command_words.specs.Words.{asked, refused_place, AreMoves};
 ghost use Rattle.controller.specs.Printed.{sunk, Seen};
-ghost use Rattle.controller.specs.Answered.{untouched, AnswersWords, word_bytes};
-ghost use Rattle.controller.specs.Asked.{AreFor, AreMoves, IsAsked};
+ghost use Rattle.controller.specs.Answered.{untouched, AnswersWords};
+ghost use Rattle.controller.specs.Asked.{AreFor, IsAsked};
 
 use crate::check::CheckedCell;
-use crate::command::{Action, Command, read_words};
 use crate::load_cell::load_cell;
 use crate::refused::Refused;
 use crate::report::{Report, refuse};
 use crate::shelf_cell::shelf_cell;
+use command_words::{Action, Command, read_words};
 use outside::{Shelf, Sink};
 use std::alloc::Global;
+use std::convert::AsSlice;
 
-/// The action that the words ask for, and the cell that they are to do it with: that of the script and of the modules that it names,
-/// or the load cell. Else the report of the refusal, whose line is told. The texts of the files are let go by then.
-pub(crate) fn accepted_cell<S: Shelf, E: Sink>(
+/// The action that the words ask for, and the cell that it is done with: the cell of the script and the modules that it
+/// names, or the load cell. Otherwise the report of the refusal, whose line is printed. The texts of the files are
+/// freed by then.
+pub(crate) fn accepted_cell<W: AsSlice<u8>, S: Shelf, E: Sink>(
     alloc: Global,
-    words: &[&str],
+    words: &[W],
     shelf: &mut S,
     err: &mut E,
 ) -> Result<(Action, CheckedCell), Report>
-    // A refusal is the whole answer, with nothing on the first sink.
-    ensures refused { IfErr result (λ report. (held : Seen) → AnswersWords (word_bytes words.now) (S.told shelf.old) report (untouched held) (sunk E.told E.calls E.faults err.old err.new)) }
-    // Words are refused just where they are wrong.
-    ensures words { IfErr result (λ report. (place : ℕ) → (report.refused ≡ Some (Refused.Words place)) ↔ (refused_place (word_bytes words.now) ≡ Some place)) }
-    ensures taken { IfOk result (λ _. refused_place (word_bytes words.now) ≡ None) }
-    // A read fails only where the shelf counted a fault, and nothing is refused for a write.
+    // After a refusal nothing more is done, and the first sink gained nothing.
+    ensures refused { IfErr result (λ report. (held : Seen) → AnswersWords (map W.items words.now) (S.told shelf.old) report (untouched held) (sunk E.told E.calls E.faults err.old err.new)) }
+    // Words are refused exactly if they are wrong.
+    ensures words { IfErr result (λ report. (place : ℕ) → (report.refused ≡ Some (Refused.Words place)) ↔ (refused_place (map W.items words.now) ≡ Some place)) }
+    ensures taken { IfOk result (λ _. refused_place (map W.items words.now) ≡ None) }
+    // A read fails only if the shelf counted a fault, and nothing is refused for a write.
     ensures read { IfErr result (λ report. (file : ℕ) → report.refused ≡ Some (Refused.Read file) → Rose (S.faults shelf.old) (S.faults shelf.new)) }
     ensures write { IfErr result (λ report. report.refused ≢ Some Refused.Write) }
-    // Else the action is the words', with this cell.
-    ensures action { IfOk result (λ found. asked (word_bytes words.now) ≡ Some found.0) }
-    ensures asked { IfOk result (λ found. IsAsked (word_bytes words.now) (S.told shelf.old) found.0 (made_of found.1)) }
+    // Otherwise the action is that of the words, with this cell.
+    ensures action { IfOk result (λ found. asked (map W.items words.now) ≡ Some found.0) }
+    ensures asked { IfOk result (λ found. IsAsked (map W.items words.now) (S.told shelf.old) found.0 (made_of found.1)) }
     ensures script { IfOk result (λ found. HasScript (made_of found.1)) }
     ensures untold { IfOk result (λ _. err.new ≡ err.old) }
 {
@@ -48,7 +50,8 @@ pub(crate) fn accepted_cell<S: Shelf, E: Sink>(
     }
 }
 
-/// The cell that a command asks for: the load cell, or that of the files. Else the report of the refusal, whose line is told.
+/// The cell that a command asks for: the load cell, or that of the files. Otherwise the report of the refusal, whose
+/// line is printed.
 fn commanded_cell<S: Shelf, E: Sink>(
     alloc: Global,
     command: &Command<'_>,

@@ -13,18 +13,18 @@ use rapid_limits::MOST_MODULE_FILES;
 use rapid_model::{Cell, NameText, Script, ScriptTask};
 use rule_checks::{TypeFault, TypeRule};
 use std::alloc::{AllocError, Global};
-use stmt_types::check_task;
+use task_types::check_task;
 use typed_trees::Tree;
 
-/// A cell, and the trees of its tasks with its numbers, in script order.
+/// A cell, and the trees of its tasks, which use its numbers, in script order.
 #[derive(Drop)]
 pub(crate) struct CheckedCell {
     pub cell: Cell,
     pub trees: Vec<Tree>,
 }
 
-/// The cell of a script and of its modules, and the trees of its tasks. These are checked by names and types, task by task; then by what the tasks share;
-/// then by the script's values of persistents.
+/// The cell of a script and of its modules, and the trees of its tasks. They are checked by names and types, task by
+/// task, then by what the tasks share, then by the script's values of persistents.
 pub(crate) fn check_modules(
     alloc: Global,
     script: &Script,
@@ -62,7 +62,7 @@ fn check_tasks(
     Ok(trees)
 }
 
-/// The typed tree of a task, whose modules are the first ones of these.
+/// The typed tree of a task, whose modules are the first of these.
 fn check_one(
     alloc: Global,
     script: &Script,
@@ -97,7 +97,7 @@ fn names_in(alloc: Global, tasks: &[ScriptTask]) -> Result<Vec<NameText>, AllocE
     Ok(names)
 }
 
-/// The refusal of a task's modules by a fault.
+/// The refusal for a fault of a task's modules.
 fn fault_refusal(modules: &Modules<'_, '_>, fault: TypeFault) -> Refused
     requires { ArePaired modules.now }
     ensures { IsRuleRefusal (reads_in modules.now) fault result }
@@ -108,7 +108,7 @@ fn fault_refusal(modules: &Modules<'_, '_>, fault: TypeFault) -> Refused
     }
 }
 
-/// The refusal by a rule of names and types at a byte of the module of this number, from 0.
+/// The refusal for a rule of names and types at a byte of the module of this number, from 0.
 fn rule_refusal(modules: &Modules<'_, '_>, number: usize, at: usize, rule: TypeRule) -> Refused
     requires { ArePaired modules.now }
     ensures { result ≡ rule_refusal (reads_in modules.now) number at rule }
@@ -116,7 +116,7 @@ fn rule_refusal(modules: &Modules<'_, '_>, number: usize, at: usize, rule: TypeR
     module_refusal(modules, number, at, ModuleRule::Type(rule))
 }
 
-/// The refusal of a cell by a fault.
+/// The refusal for a fault of a cell.
 fn cell_refusal(script: &Script, modules: &Modules<'_, '_>, fault: CellFault) -> Refused
     requires { ArePaired modules.now }
     ensures { IsCellRefusal script.now (reads_in modules.now) fault result }
@@ -131,7 +131,7 @@ fn cell_refusal(script: &Script, modules: &Modules<'_, '_>, fault: CellFault) ->
     }
 }
 
-/// How many modules the tasks before the one of this number have: a script has not too many of either.
+/// How many modules the tasks before the one of this number have. A script has few tasks and few modules.
 fn modules_before(script: &Script, number: u32) -> usize
     ensures is { result ≡ modules_before script.now.tasks number }
     ensures few { result ≤ MOST_MODULE_FILES }

@@ -1,14 +1,14 @@
 ghost use Rattle.std.specs.Prelude.{◌≡◌, IfOk, map, All};
 ghost use Rattle.stack_code.specs.Compiled.{compiled};
 ghost use Rattle.typed_trees.specs.Views.{view_tree};
-ghost use Rattle.code_liveness.specs.Checked.{IsChecked};
+ghost use Rattle.code_laws.specs.Checked.{IsChecked};
 
 use code_compiler::compile;
-use live_code::Code;
 use std::alloc::{AllocError, Global};
+use task_code::Code;
 use typed_trees::Tree;
 
-/// The code of each task, whose trees these are.
+/// The code of each task, given the trees.
 pub(crate) fn compile_all(alloc: Global, trees: &[Tree]) -> Result<Vec<Code>, AllocError>
     requires { All IsChecked (map view_tree trees.now) }
     ensures { IfOk result (λ each. each.items ≡ map compiled (map view_tree trees.now)) }

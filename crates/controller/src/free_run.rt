@@ -1,9 +1,9 @@
 ghost use Rattle.std.specs.Prelude.{◌≡◌, ℕ, ◌↔◌, Bool, Some, true, All, IfOk, map, length};
 ghost use Rattle.typed_trees.specs.Views.{view_tree};
 ghost use Rattle.stack_code.specs.Compiled.{compiled};
-ghost use Rattle.live_code.specs.Asking.{CodeAsks};
-ghost use Rattle.live_code.specs.Live.{CodeFits};
-ghost use Rattle.code_liveness.specs.Checked.{IsChecked};
+ghost use Rattle.task_code.specs.Asking.{CodeAsks};
+ghost use Rattle.task_code.specs.Live.{CodeFits};
+ghost use Rattle.code_laws.specs.Checked.{IsChecked};
 ghost use Rattle.cell_meaning.specs.Asking.{with_inputs};
 ghost use Rattle.cell_meaning.specs.Histories.{IsLegal, IsWhole};
 ghost use Rattle.cell_crew.specs.Courses.{SuitTasks};
@@ -11,57 +11,62 @@ ghost use Rattle.cell_crew.specs.Crew.{AskAsPrograms};
 ghost use Rattle.outside.specs.Count.{Rose};
 ghost use Rattle.controller.specs.Loaded.{made_of, HasScript};
 ghost use Rattle.controller.specs.Runs.{IsRun};
-ghost use Rattle.controller.specs.Words.{is_run, refused_place};
+ghost use Rattle.command_words.specs.Words.{is_run, refused_place};
 ghost use Rattle.controller.specs.Printed.{sunk};
-ghost use Rattle.controller.specs.Answered.{AnswersWords, RunsOrMemory, word_bytes};
+ghost use Rattle.controller.specs.Answered.{AnswersWords, RunsOrMemory};
+ghost use Rattle.controller.specs.Complete.{IsComplete};
 
 use crate::accepted::accepted_cell;
 use crate::check::CheckedCell;
-use crate::command::Action;
 use crate::refused::Refused;
 use crate::report::{Report, refuse};
 use crate::run::{crew_of, report_run};
 use crate::shown::Shown;
-use accepted_runs::{
+use accepted_cells::{
     accepted_code_suits_its_task, accepted_tasks_ask_as_their_code, accepted_tasks_ask_well,
 };
 use cell_core::Core;
 use cell_gate::open_gate;
 use cell_meaning::Askers;
+use command_words::Action;
 use free_crew::run_free;
 use outside::{Pace, Shelf, Sink};
 use rapid_model::Cell;
 use std::alloc::{AllocError, Global};
+use std::convert::AsSlice;
 use std::marker::Brand;
 use std::sync::Wait;
 use std::thread::Threads;
 use task_machine::Machine;
 use typed_trees::Tree;
 
-/// Does what the command words say, where they ask for `run` (`is_run`), over the script in the file CELL and the modules that it
-/// names: for `run CELL` it runs each task of the cell on a thread of its own and the input script beside them, and then the first
-/// sink gets the lines of that run, as those that `quiet` gives it for `round CELL`, with and without `--history`. A task that gets no thread is run beside the
-/// input script. The history is one that the tasks and the input script can make together, and can be another one at each call.
-/// `pace` is what is done between the steps of a task. A refusal is one line on the second sink.
+/// Does what the command words say, which ask for `run` (`is_run`), with the script in the file CELL and the modules
+/// that it names. `run CELL` runs each task of the cell on its own thread, with the input script beside them. The first
+/// sink then gets the lines of that run, in the form in which `quiet` prints `round CELL`, with and without
+/// `--history`. A task that gets no thread runs beside the input script. The history is one that the tasks and the
+/// input script can make together, and may differ from call to call. `pace` is done between the steps of a task. A
+/// refusal is one line on the second sink.
 ///
-/// It waits for the tasks, and keeps what it promises if it returns.
-pub fn free<R: Threads + Wait + Sync, S: Shelf, O: Sink, E: Sink, P: Pace + Sync>(
+/// It waits for the tasks; its clauses hold if it returns.
+pub fn free<R: Threads + Wait + Sync, W: AsSlice<u8>, S: Shelf, O: Sink, E: Sink, P: Pace + Sync>(
     rt: &R,
     alloc: Global,
-    words: &[&str],
+    words: &[W],
     shelf: &mut S,
     out: &mut O,
     err: &mut E,
     pace: &P,
 ) -> Report
-    requires { is_run (word_bytes words.now) ≡ true }
+    requires { is_run (map W.items words.now) ≡ true }
     // The report answers what the words and the files come to.
-    ensures answers { AnswersWords (word_bytes words.now) (S.told shelf.old) result (sunk O.told O.calls O.faults out.old out.new) (sunk E.told E.calls E.faults err.old err.new) }
-    // Words are refused just where they are wrong, whatever the shelf tells.
-    ensures words { (place : ℕ) → (result.refused ≡ Some (Refused.Words place)) ↔ (refused_place (word_bytes words.now) ≡ Some place) }
-    // A read fails only where the shelf counted a fault, and a write only where the first sink did.
+    ensures answers { AnswersWords (map W.items words.now) (S.told shelf.old) result (sunk O.told O.calls O.faults out.old out.new) (sunk E.told E.calls E.faults err.old err.new) }
+    // Words are refused exactly if they are wrong, whatever the shelf reports.
+    ensures words { (place : ℕ) → (result.refused ≡ Some (Refused.Words place)) ↔ (refused_place (map W.items words.now) ≡ Some place) }
+    // A read fails only if the shelf counted a fault, and a write only if the first sink did.
     ensures read { (file : ℕ) → result.refused ≡ Some (Refused.Read file) → Rose (S.faults shelf.old) (S.faults shelf.new) }
     ensures write { result.refused ≡ Some Refused.Write → Rose (O.faults out.old) (O.faults out.new) }
+    // If no write fails, what the words and the files come to is done, or memory ran out before the first event.
+    ensures done { IsComplete (map W.items words.now) (S.told shelf.old) result (sunk O.told O.calls O.faults out.old out.new) (sunk E.told E.calls E.faults err.old err.new) }
 {
     match accepted_cell(alloc, words, shelf, err) {
         Ok((action, accepted)) => {
@@ -72,7 +77,7 @@ pub fn free<R: Threads + Wait + Sync, S: Shelf, O: Sink, E: Sink, P: Pace + Sync
     }
 }
 
-/// Whether the action is `run` and prints the whole history.
+/// Whether the action is `run` with the whole history printed.
 fn is_full(action: Action) -> bool
     ensures { (full : Bool) → action ≡ Action.Run full → result ≡ full }
 {
@@ -82,7 +87,7 @@ fn is_full(action: Action) -> bool
     }
 }
 
-/// Runs the tasks of a cell that is accepted on threads, and reports it, in `full` with a line for each event.
+/// Runs the tasks of an accepted cell on threads and reports the run, with a line for each event if `full`.
 fn free_cell<R: Threads + Wait + Sync, O: Sink, E: Sink, P: Pace + Sync>(
     rt: &R,
     alloc: Global,
@@ -105,7 +110,7 @@ fn free_cell<R: Threads + Wait + Sync, O: Sink, E: Sink, P: Pace + Sync>(
     }
 }
 
-/// Runs the tasks of a cell on threads, whose trees these are. All memory is taken before the first event.
+/// Runs the tasks of a cell, given their trees, on threads. All memory is taken before the first event.
 fn free_tasks<A: Askers, R: Threads + Wait + Sync, P: Pace + Sync>(
     rt: &R,
     alloc: Global,

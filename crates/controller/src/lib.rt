@@ -1,18 +1,17 @@
-//! The controller: from command words and files to a run, its report and what is printed of it.
+//! The controller: command words and files in, a report and printed lines out. It loads, checks and compiles a cell,
+//! runs it round-robin or on threads, and prints the run, the tables or the refusal.
 #![tactic(auto)]
 
 mod accepted;
 mod action;
 mod check;
 mod code;
-mod command;
 mod files;
 mod free_run;
 mod laws;
 mod list;
 mod load_cell;
 mod modules;
-mod moves;
 mod print;
 mod print_list;
 mod print_summary;
@@ -26,11 +25,11 @@ mod texts_cell;
 mod top;
 
 pub use action::quiet;
-pub use command::{Action, is_run};
+pub use command_words::{Action, is_run};
 pub use free_run::free;
 pub use laws::{
     given_setpoints_miss_zones, verdict_is_one, verdicts_refuse_input, what_is_asked_is_done,
 };
 pub use refused::{ModuleRule, Refused};
-pub use report::Report;
+pub use report::{Report, out_of_memory};
 pub use top::controller;

@@ -11,12 +11,12 @@ use crate::code::compile_all;
 use crate::print_list::print_list;
 use crate::refused::Refused;
 use crate::report::{Report, refuse};
-use live_code::Code;
 use outside::Sink;
 use rapid_model::Cell;
 use std::alloc::Global;
+use task_code::Code;
 
-/// Lists a cell that is accepted and the code of its tasks, and reports it. All memory is taken before anything is printed.
+/// Lists an accepted cell and the code of its tasks, and reports it. All memory is taken before anything is printed.
 pub(crate) fn list_cell<O: Sink, E: Sink>(
     alloc: Global,
     accepted: &CheckedCell,

@@ -6,20 +6,21 @@ ghost use Rattle.controller.specs.LoadFiles.{module_named};
 ghost use Rattle.controller.specs.Loaded.{bytes_of, made_of, names_in_turn, HasScript};
 ghost use Rattle.controller.specs.Printed.{sunk, Seen};
 ghost use Rattle.controller.specs.Answered.{untouched, AnswersWords};
-ghost use Rattle.controller.specs.Asked.{AreFor, AreMoves, IsAsked};
+ghost use Rattle.command_words.specs.Words.{AreMoves};
+ghost use Rattle.controller.specs.Asked.{AreFor, IsAsked};
 
 use crate::check::CheckedCell;
-use crate::command::{Action, Command};
 use crate::files::module_files;
 use crate::refused::Refused;
 use crate::report::{Report, refuse, refuse_file};
 use crate::texts::{Texts, script_of};
 use crate::texts_cell::texts_cell;
 use cell_load::make_load;
+use command_words::{Action, Command};
 use outside::Sink;
 use std::alloc::{AllocError, Global};
 
-/// The load cell of so many moves, of its own texts. Else the report of the refusal, whose line is told.
+/// The load cell of this many moves, from texts of its own. Otherwise the report of the refusal, whose line is printed.
 pub(crate) fn load_cell<E: Sink>(
     alloc: Global,
     command: &Command<'_>,
@@ -57,7 +58,7 @@ pub(crate) fn load_cell<E: Sink>(
     texts_cell(alloc, command, &script, files, texts, err)
 }
 
-/// The texts of the modules of these names, each in turn.
+/// The texts of the modules with these names, in order.
 fn own_texts(
     alloc: Global,
     modules: &[(String, Vec<u8>)],
@@ -73,7 +74,7 @@ fn own_texts(
     Ok(texts)
 }
 
-/// The text of the module of this name; an empty one where no module has it.
+/// The text of the module with this name, or an empty one if no module has it.
 fn module_named<'a>(modules: &'a [(String, Vec<u8>)], name: &str) -> &'a [u8]
     ensures { result.now ≡ module_named (view_modules modules.now) name.now }
 {

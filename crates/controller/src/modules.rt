@@ -10,7 +10,8 @@ use rapid_lexer::{Place, place_of};
 use raw_trees::RawModule;
 use std::alloc::Global;
 
-/// Modules that are read, each by its text and its tree, and the number of the first one's file; those of the others follow.
+/// Modules that were read, each with its text and its tree, and the number of the first one's file. The others' files
+/// follow.
 #[derive(Clone, Copy)]
 pub(crate) struct Modules<'m, 'a> {
     pub first: u32,
@@ -18,7 +19,8 @@ pub(crate) struct Modules<'m, 'a> {
     pub trees: &'m [RawModule<'a>],
 }
 
-/// The trees of all texts, the first of which is that of file 1; or the first refusal, and last what failed behind them.
+/// The trees of all texts, the first of which is that of file 1. Otherwise the first refusal, where a failure to read
+/// comes last.
 pub(crate) fn parse_texts(
     alloc: Global,
     texts: &[Vec<u8>],
@@ -54,7 +56,7 @@ fn parse_text<'a>(alloc: Global, file: u32, text: &'a [u8]) -> Result<RawModule<
     }
 }
 
-/// The refusal of the file of this number by a fault of its text.
+/// The refusal for a fault of the text in the file of this number.
 fn refusal(file: u32, text: &[u8], fault: SyntaxFault) -> Refused
     requires { length text.now < 2 ^ 31 }
     ensures { result ≡ fault_refusal file text.now fault }
@@ -82,7 +84,7 @@ fn place_in(text: &[u8], at: usize) -> Place
     place_of(text, at.min(text.len()))
 }
 
-/// The first modules, so many.
+/// The first modules, this many.
 pub(crate) fn first_modules<'m, 'a>(modules: &Modules<'m, 'a>, count: usize) -> Modules<'m, 'a>
     requires { ArePaired modules.now }
     ensures paired { ArePaired result }
@@ -97,7 +99,7 @@ pub(crate) fn first_modules<'m, 'a>(modules: &Modules<'m, 'a>, count: usize) -> 
     }
 }
 
-/// The modules behind the first ones, of which there are so many.
+/// The modules after the first ones, given how many these are.
 pub(crate) fn later_modules<'m, 'a>(modules: &Modules<'m, 'a>, count: usize) -> Modules<'m, 'a>
     requires { ArePaired modules.now }
     ensures paired { ArePaired result }
@@ -111,7 +113,7 @@ pub(crate) fn later_modules<'m, 'a>(modules: &Modules<'m, 'a>, count: usize) -> 
     }
 }
 
-/// The refusal by a rule, at a byte of the module of this number, from 0.
+/// The refusal for a rule, at a byte of the module of this number, from 0.
 pub(crate) fn module_refusal(
     modules: &Modules<'_, '_>,
     number: usize,
@@ -128,7 +130,7 @@ pub(crate) fn module_refusal(
     }
 }
 
-/// The number of the file of the module of this number, from 0; 0 where there is none.
+/// The number of the file of the module of this number, from 0; 0 if there is none.
 fn file_at(modules: &Modules<'_, '_>, number: usize) -> u32
     requires { ArePaired modules.now }
     ensures { result ≡ read_file (slice_get (reads_in modules.now) number) }
@@ -140,7 +142,7 @@ fn file_at(modules: &Modules<'_, '_>, number: usize) -> u32
     }
 }
 
-/// The text of the module of this number, from 0; empty where there is none.
+/// The text of the module of this number, from 0; empty if there is none.
 fn text_at<'a>(modules: &Modules<'_, 'a>, number: usize) -> &'a [u8]
     requires { ArePaired modules.now }
     ensures text { result.now ≡ read_text (slice_get (reads_in modules.now) number) }

@@ -16,7 +16,7 @@ use outside::{Failed, Sink};
 use rapid_limits::MOST_TASKS;
 use rapid_model::{Event, Fate, NameText, TaskRow};
 
-/// Prints the lines of the events or their summary, and then how each task stands. Takes no memory.
+/// Prints the lines of the events or their summary, and then the fate of each task. Takes no memory.
 pub(crate) fn print_run<O: Sink>(out: &mut O, core: &Core, shown: Shown) -> Result<(), Failed>
     ensures { Writes (lines_of shown core.now.cell core.now.history (fates_after core.now.cell core.now.history (length core.now.cell.tasks))) result (sunk O.told O.calls O.faults out.old out.new) }
 {
@@ -34,7 +34,7 @@ fn print_shown<O: Sink>(out: &mut O, core: &Core, shown: Shown) -> Result<(), Fa
     }
 }
 
-/// Prints the lines of the events in order, in `full` one for each event.
+/// Prints the lines of the events in order, one for each event if `full`.
 fn print_events<O: Sink>(out: &mut O, core: &Core, full: bool) -> Result<(), Failed>
     ensures { Writes (map (shown_line full core.now.cell.tasks) core.now.history) result (sunk O.told O.calls O.faults out.old out.new) }
 {
@@ -70,7 +70,7 @@ fn print_line<O: Sink>(
     write_all(out, line.as_str().as_bytes())
 }
 
-/// The tasks of a core's cell, of which there are few.
+/// The tasks of a core's cell: there are few.
 pub(crate) fn rows_of(core: &Core) -> &[TaskRow]
     ensures rows { result.now ≡ core.now.cell.tasks }
     ensures few { length result.now ≤ MOST_TASKS }
@@ -80,7 +80,7 @@ pub(crate) fn rows_of(core: &Core) -> &[TaskRow]
     cell.tasks().as_slice()
 }
 
-/// Prints how each task stands, in script order.
+/// Prints the fate of each task, in script order.
 fn print_fates<O: Sink>(out: &mut O, core: &Core) -> Result<(), Failed>
     ensures { Writes (fate_lines core.now.cell.tasks (fates_after core.now.cell core.now.history (length core.now.cell.tasks))) result (sunk O.told O.calls O.faults out.old out.new) }
 {
@@ -92,7 +92,7 @@ fn print_fates<O: Sink>(out: &mut O, core: &Core) -> Result<(), Failed>
     Ok(())
 }
 
-/// Prints how a task stands.
+/// Prints the fate of a task.
 fn print_fate<O: Sink>(out: &mut O, name: &NameText, fate: &Fate) -> Result<(), Failed>
     ensures { Writes (fate_line name.now fate.now ∷ []) result (sunk O.told O.calls O.faults out.old out.new) }
 {
@@ -122,7 +122,7 @@ pub(crate) fn write_two<E: Sink>(err: &mut E, first: &[u8], second: &[u8]) -> Re
     write_all(err, second)
 }
 
-/// Writes all bytes of a piece: one `write`, and more only where a write took part of it.
+/// Writes all bytes of a piece: one `write`, and more only if a write took only part of it.
 pub(crate) fn write_all<O: Sink>(out: &mut O, piece: &[u8]) -> Result<(), Failed>
     ensures { Writes (piece.now ∷ []) result (sunk O.told O.calls O.faults out.old out.new) }
 {

@@ -7,10 +7,10 @@ ghost use Rattle.controller.specs.Written.{Writes};
 use crate::print::write_all;
 use arrayvec::ArrayString;
 use cell_listing::{write_meeting, write_operation, write_persistent, write_signal};
-use live_code::Code;
 use outside::{Failed, Sink};
 use rapid_model::{Cell, NameText, PersCell, SignalRow, TaskRow};
 use stack_code::Op;
+use task_code::Code;
 
 /// Prints the tables of a cell, and then the code of its tasks. Takes no memory.
 pub(crate) fn print_list<O: Sink>(out: &mut O, cell: &Cell, each: &[Code]) -> Result<(), Failed>
@@ -123,7 +123,7 @@ fn print_operations<O: Sink>(out: &mut O, task: &NameText, ops: &[Op]) -> Result
     Ok(())
 }
 
-/// Prints the operation at a place of a task's code, from 0.
+/// Prints the operation at a place in a task's code, from 0.
 fn print_operation<O: Sink>(out: &mut O, task: &NameText, ops: &[Op], pc: u32) -> Result<(), Failed>
     requires { pc < length ops.now }
     ensures { (op : Op) → slice_get ops.now pc ≡ Some op → Writes (code_line task.now pc op ∷ []) result (sunk O.told O.calls O.faults out.old out.new) }

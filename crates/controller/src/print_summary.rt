@@ -11,7 +11,8 @@ use outside::{Failed, Sink};
 use rapid_model::{Answer, Event, PartName, Path, Request, Value};
 use value_text::{push_count, push_value};
 
-/// Prints how many events a run had, how many setpoints were given, and the last value of the cell's first persistent.
+/// Prints the number of events of a run, the number of setpoints given, and the last value of the cell's first
+/// persistent.
 pub(crate) fn print_summary<O: Sink>(out: &mut O, core: &Core) -> Result<(), Failed>
     ensures { Writes (summary_lines core.now.cell core.now.history) result (sunk O.told O.calls O.faults out.old out.new) }
 {
@@ -34,7 +35,7 @@ fn print_count<O: Sink>(out: &mut O, name: &'static str, count: u32) -> Result<(
     write_all(out, line.as_str().as_bytes())
 }
 
-/// Prints the value of the summary, if there is one.
+/// Prints the value in the summary, if there is one.
 fn print_total<O: Sink>(out: &mut O, total: Option<Value>) -> Result<(), Failed>
     ensures { Writes (summary_line (codes "total") (total_words total) ∷ []) result (sunk O.told O.calls O.faults out.old out.new) }
 {
@@ -68,7 +69,7 @@ fn all_given(core: &Core) -> u32
     given
 }
 
-/// The event gives a setpoint.
+/// Whether the event gives a setpoint.
 fn is_given(event: &Event) -> bool
     ensures { result ≡ is_given event.now.request event.now.answer }
 {
@@ -78,7 +79,7 @@ fn is_given(event: &Event) -> bool
     )
 }
 
-/// The last value of the first persistent, where there is one that is no array.
+/// The last value of the first persistent, if there is one and it is not an array.
 fn last_total(core: &Core) -> Option<Value>
     ensures { result ≡ last_total core.now.cell core.now.history }
 {

@@ -1,11 +1,11 @@
-ghost use Rattle.std.specs.Prelude.{◌++◌, ◌≡◌, ◌≤◌, ◌∷◌, [], codes};
-ghost use Rattle.controller.specs.Refusals.{status_of, file_of, refusal_text, key_words, place_words, module_rule_name};
-ghost use Rattle.controller.specs.Printed.{sunk, GainedUnlessFaults};
-ghost use Rattle.controller.specs.Written.{Writes, WritesPieces};
+ghost use Rattle.std.specs.Prelude.{◌++◌, ◌≡◌, ◌≤◌, ◌<◌, ◌∷◌, [], codes, length, OnOk, OnErr};
+ghost use Rattle.controller.specs.Refusals.{status_of, file_of, refusal_text, in_line, key_words, place_words, module_rule_name};
+ghost use Rattle.controller.specs.Printed.{sunk};
+ghost use Rattle.controller.specs.Written.{TakesLine, Writes, WritesLine};
 ghost use Rattle.controller.specs.declared.refused.Refused.TheVariants.{Memory};
 
-use crate::print::{write_three, write_two};
-use arrayvec::ArrayString;
+use crate::print::{write_all, write_three, write_two};
+use arrayvec::{ArrayString, ArrayVec, CapacityError};
 use outside::{Failed, Sink};
 use rapid_forms::SyntaxRule;
 use rapid_lexer::{LexRule, Place};
@@ -14,12 +14,15 @@ use rule_checks::TypeRule;
 use std::alloc::{AllocError, AllocFailed};
 use value_text::push_count;
 
+/// The buffer for the line of a refusal, in bytes: it holds each name that Linux can open.
+pub(crate) const REFUSAL_BYTES: usize = 4_352;
+
 /// The rules of a module.
 #[derive(Clone, Copy, Debug, PartialEq, Eq)]
 pub enum ModuleRule {
-    /// The text is not made of tokens.
+    /// The text does not consist of tokens.
     Lex(LexRule),
-    /// The tokens are no module.
+    /// The tokens do not form a module.
     Syntax(SyntaxRule),
     /// A rule of names and types.
     Type(TypeRule),
@@ -39,14 +42,14 @@ impl ModuleRule {
 }
 
 /// Why a run was refused, or could not be printed. Files are numbered in the order in which they are read: 0 is the
-/// script, the modules follow from 1.
+/// script, and the modules follow from 1.
 #[derive(Debug, Drop)]
 pub enum Refused {
-    /// The command word at this place, from 0, is wrong or missing.
+    /// The command word at this position, from 0, is wrong or missing.
     Words {
         place: usize,
     },
-    /// The script breaks a rule at a key; the empty key is the script as a whole.
+    /// The script breaks a rule at a key; the empty key is the whole script.
     Script {
         key: Text,
         rule: ScriptRule,
@@ -61,9 +64,9 @@ pub enum Refused {
     Read {
         file: u32,
     },
-    /// Not all could be printed.
+    /// Not everything could be printed.
     Write,
-    /// Memory was refused.
+    /// An allocation failed.
     Memory,
     /// A file has more bytes than its limit.
     TooLong {
@@ -88,7 +91,7 @@ impl<T: Drop> From<AllocFailed<T>> for Refused {
 }
 
 impl Refused {
-    /// The status of a call that is refused.
+    /// The status of a refused call.
     pub(crate) fn status(&self) -> u8
         ensures { result ≡ status_of self.now }
     {
@@ -103,7 +106,7 @@ impl Refused {
         }
     }
 
-    /// The number of the file that the refusal speaks of.
+    /// The number of the file that the refusal is about.
     pub(crate) fn file(&self) -> Option<u32>
         ensures { result ≡ file_of self.now }
     {
@@ -118,44 +121,45 @@ impl Refused {
     }
 }
 
-/// Tells a refusal on the second sink. A write that fails there changes nothing else. `name` is the name of the file that
-/// the refusal speaks of, where it speaks of one. Takes no memory.
+/// Prints a refusal on the second sink. A failed write there changes nothing else. `name` is the name of the file that
+/// the refusal is about, if there is one. Takes no memory.
 pub(crate) fn tell_refusal<E: Sink>(err: &mut E, name: &str, refused: &Refused)
     ensures faults { E.faults err.old ≤ E.faults err.new }
-    ensures told { GainedUnlessFaults (refusal_text name.now refused.now) (E.told err.old) (E.told err.new) (E.faults err.old) (E.faults err.new) }
+    ensures told { TakesLine (refusal_text name.now refused.now) (sunk E.told E.calls E.faults err.old err.new) }
 {
     let _ = write_refusal(err, name, refused);
 }
 
+/// Writes the line of a refusal.
 fn write_refusal<E: Sink>(err: &mut E, name: &str, refused: &Refused) -> Result<(), Failed>
-    ensures { WritesPieces (refusal_text name.now refused.now) result (sunk E.told E.calls E.faults err.old err.new) }
+    ensures { WritesLine (refusal_text name.now refused.now) result (sunk E.told E.calls E.faults err.old err.new) }
 {
+    let name = name.as_bytes();
     match refused {
         Refused::Words { place } => {
             let mut digits = ArrayString::<20>::new();
             push_count(*place, &mut digits);
             let text = digits.as_str().as_bytes();
-            write_three(err, b"rapid_cell: words ", text, b"\n")
+            write_line(err, b"rapid_cell: words ", text, b"", b"")
         }
         Refused::Script { key, rule } => {
             let key = shown(key.bytes());
-            write_rule(err, b"rapid_cell: script ", key, b" ", rule.name())
+            write_line(err, b"rapid_cell: script ", key, b" ", rule.name())
         }
         Refused::Module { place, rule, .. } => {
             let mut words = ArrayString::new();
             push_place(place, &mut words);
             let at = words.as_str().as_bytes();
-            let name = name.as_bytes();
-            write_rule(err, b"rapid_cell: module ", name, at, rule.name())
+            write_line(err, b"rapid_cell: module ", name, at, rule.name())
         }
-        Refused::Read { .. } => write_three(err, b"rapid_cell: read ", name.as_bytes(), b"\n"),
-        Refused::Write => write_three(err, b"rapid_cell: write", b"", b"\n"),
-        Refused::Memory => write_three(err, b"rapid_cell: memory", b"", b"\n"),
-        Refused::TooLong { .. } => write_three(err, b"rapid_cell: long ", name.as_bytes(), b"\n"),
+        Refused::Read { .. } => write_line(err, b"rapid_cell: read ", name, b"", b""),
+        Refused::Write => write_line(err, b"rapid_cell: write", b"", b"", b""),
+        Refused::Memory => write_line(err, b"rapid_cell: memory", b"", b"", b""),
+        Refused::TooLong { .. } => write_line(err, b"rapid_cell: long ", name, b"", b""),
     }
 }
 
-/// An empty key is shown as a minus.
+/// An empty key is printed as a minus.
 fn shown(key: &[u8]) -> &[u8]
     ensures { result.now ≡ key_words key.now }
 {
@@ -174,8 +178,45 @@ fn push_place(place: &Place, words: &mut ArrayString<128>)
     words.push(' ');
 }
 
-/// Writes the line of a rule that is broken: what is refused, its name, what stands between that and the rule's name.
-fn write_rule<E: Sink>(
+/// Writes a line, given without its end: what is refused, its name, what comes between that and the rule's name, which
+/// comes last. A line that fits the buffer is written by one call, a longer one in pieces.
+fn write_line<E: Sink>(
+    err: &mut E,
+    head: &[u8],
+    name: &[u8],
+    between: &[u8],
+    rule: &[u8],
+) -> Result<(), Failed>
+    ensures { WritesLine (in_line head.now name.now between.now rule.now) result (sunk E.told E.calls E.faults err.old err.new) }
+{
+    let mut line = ArrayVec::new();
+    match gather(head, name, between, rule, &mut line) {
+        Ok(()) => write_all(err, line.as_slice()),
+        Err(_) => write_pieces(err, head, name, between, rule),
+    }
+}
+
+/// Appends the pieces of a line and its end to an empty buffer. Fails exactly if the line does not fit.
+fn gather(
+    head: &[u8],
+    name: &[u8],
+    between: &[u8],
+    rule: &[u8],
+    line: &mut ArrayVec<u8, REFUSAL_BYTES>,
+) -> Result<(), CapacityError>
+    requires { line.old.items ≡ [] }
+    ensures fits { OnOk result (line.new.items ≡ in_line head.now name.now between.now rule.now) }
+    ensures long { OnErr result (REFUSAL_BYTES < length (in_line head.now name.now between.now rule.now)) }
+{
+    line.try_extend_from_slice(head)?;
+    line.try_extend_from_slice(name)?;
+    line.try_extend_from_slice(between)?;
+    line.try_extend_from_slice(rule)?;
+    line.try_extend_from_slice(b"\n")
+}
+
+/// Writes the pieces of a line and its end in order.
+fn write_pieces<E: Sink>(
     err: &mut E,
     head: &[u8],
     name: &[u8],

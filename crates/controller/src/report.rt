@@ -1,9 +1,10 @@
 ghost use Rattle.std.specs.Prelude.{◌≡◌, ◌≤◌, [], Some};
 ghost use Rattle.std.specs.Option.{option_map_or};
 ghost use Rattle.controller.specs.Loaded.{file_names};
-ghost use Rattle.controller.specs.Printed.{sunk, GainedUnlessFaults};
+ghost use Rattle.controller.specs.Printed.{sunk, Seen};
+ghost use Rattle.controller.specs.Written.{TakesLine};
 ghost use Rattle.controller.specs.Refusals.{status_of, refusal_text, refusal_line, name_at, file_of};
-ghost use Rattle.controller.specs.Answered.{AnswersAccepted};
+ghost use Rattle.controller.specs.Answered.{untouched, AnswersAccepted, IsOutOfMemory};
 
 use crate::print::write_all;
 use crate::refused::{Refused, tell_refusal};
@@ -11,12 +12,12 @@ use outside::Sink;
 use rapid_model::{Event, Fate};
 use std::alloc::Global;
 
-/// What became of a call: its status, the history of the run, how each task stands in script order, and the refusal, if
-/// there is one. Only `round`, `run` and `load` make a history and fates, of which what they print tells; a refusal other than `Write`
-/// leaves none.
+/// The outcome of a call: its status, the history of the run, the fate of each task in script order, and the refusal,
+/// if there is one. Only `round`, `run` and `load` make a history and fates, and print lines of them. A refusal other
+/// than `Write` leaves none.
 ///
-/// Without a refusal the status is 0 for `check` and `list`. For a run it is 0 where every task ended without a fault, 1 where
-/// every task ended and one with a fault, 8 where no task that has not ended can go on, and 9 where the steps are spent.
+/// Without a refusal the status is 0 for `check` and `list`. For a run it is 0 if every task ended without a fault, 1
+/// if every task ended and one with a fault, 8 if no task that has not ended can go on, and 9 if the steps are spent.
 #[derive(Debug, Drop)]
 pub struct Report {
     pub status: u8,
@@ -25,7 +26,7 @@ pub struct Report {
     pub refused: Option<Refused>,
 }
 
-/// Tells that all is accepted, and reports it.
+/// Prints that all is accepted, and reports it.
 pub(crate) fn report_accepted<O: Sink, E: Sink>(alloc: Global, out: &mut O, err: &mut E) -> Report
     ensures { AnswersAccepted result (sunk O.told O.calls O.faults out.old out.new) (sunk E.told E.calls E.faults err.old err.new) }
 {
@@ -40,15 +41,15 @@ pub(crate) fn report_accepted<O: Sink, E: Sink>(alloc: Global, out: &mut O, err:
     }
 }
 
-/// The report of a refusal, which is told on the second sink. `name` is the name of the file that it speaks of, where it
-/// speaks of one.
+/// Prints a refusal on the second sink, and reports it. `name` is the name of the file that it is about, if there is
+/// one.
 pub(crate) fn refuse<E: Sink>(alloc: Global, err: &mut E, name: &str, refused: Refused) -> Report
     ensures refused { result.refused ≡ Some refused }
     ensures status { result.status ≡ status_of refused }
     ensures history { result.history.items ≡ [] }
     ensures fates { result.fates.items ≡ [] }
     ensures faults { E.faults err.old ≤ E.faults err.new }
-    ensures told { GainedUnlessFaults (refusal_text name.now refused) (E.told err.old) (E.told err.new) (E.faults err.old) (E.faults err.new) }
+    ensures told { TakesLine (refusal_text name.now refused) (sunk E.told E.calls E.faults err.old err.new) }
 {
     tell_refusal(err, name, &refused);
     Report {
@@ -59,7 +60,7 @@ pub(crate) fn refuse<E: Sink>(alloc: Global, err: &mut E, name: &str, refused: R
     }
 }
 
-/// The same of a refusal by a file, the script's or one of these modules'.
+/// The same for a refusal of a file, the script's or one of these modules'.
 pub(crate) fn refuse_file<E: Sink>(
     alloc: Global,
     err: &mut E,
@@ -71,12 +72,19 @@ pub(crate) fn refuse_file<E: Sink>(
     ensures status { result.status ≡ status_of refused }
     ensures history { result.history.items ≡ [] }
     ensures fates { result.fates.items ≡ [] }
-    ensures told { GainedUnlessFaults (refusal_line (file_names script.now modules.now) refused) (E.told err.old) (E.told err.new) (E.faults err.old) (E.faults err.new) }
+    ensures told { TakesLine (refusal_line (file_names script.now modules.now) refused) (sunk E.told E.calls E.faults err.old err.new) }
 {
     refuse(alloc, err, told_name(script, modules, &refused), refused)
 }
 
-/// The name of the file that a refusal speaks of, where it speaks of one.
+/// Reports that there is no memory for the command words. The line of that refusal is printed on the second sink.
+pub fn out_of_memory<E: Sink>(alloc: Global, err: &mut E) -> Report
+    ensures { (held : Seen) → IsOutOfMemory result (untouched held) (sunk E.told E.calls E.faults err.old err.new) }
+{
+    refuse(alloc, err, "", Refused::Memory)
+}
+
+/// The name of the file that a refusal is about, if there is one.
 fn told_name<'a>(script: &'a str, modules: &[&'a str], refused: &Refused) -> &'a str
     ensures { result.now ≡ option_map_or (name_at (file_names script.now modules.now)) (file_of refused.now) [] }
 {
@@ -86,7 +94,7 @@ fn told_name<'a>(script: &'a str, modules: &[&'a str], refused: &Refused) -> &'a
     }
 }
 
-/// The name of the file of this number.
+/// The name of the file with this number.
 fn file_name<'a>(script: &'a str, modules: &[&'a str], file: u32) -> &'a str
     ensures { result.now ≡ name_at (file_names script.now modules.now) file }
 {

@@ -3,16 +3,16 @@ ghost use Rattle.std.specs.List.{list_any, AllByRecursion};
 ghost use Rattle.rapid_model.specs.CellData.{IsCell};
 ghost use Rattle.typed_trees.specs.Views.{view_tree};
 ghost use Rattle.stack_code.specs.Compiled.{compiled};
-ghost use Rattle.live_code.specs.Asking.{CodeAsks};
-ghost use Rattle.live_code.specs.Live.{CodeFits};
-ghost use Rattle.code_liveness.specs.Checked.{IsChecked};
+ghost use Rattle.task_code.specs.Asking.{CodeAsks};
+ghost use Rattle.task_code.specs.Live.{CodeFits};
+ghost use Rattle.code_laws.specs.Checked.{IsChecked};
 ghost use Rattle.cell_meaning.specs.Asking.{with_inputs};
 ghost use Rattle.cell_meaning.specs.Fates.{fates_after};
 ghost use Rattle.cell_meaning.specs.Premises.{StartsFull};
 ghost use Rattle.cell_meaning.specs.Turns.{IsByTurns};
 ghost use Rattle.cell_crew.specs.Courses.{SuitTasks};
 ghost use Rattle.cell_crew.specs.Crew.{AskAsPrograms};
-ghost use Rattle.task_steps.specs.declared.phase.Phase.TheVariants as phases;
+ghost use Rattle.task_steps.specs.declared.steps.phase.Phase.TheVariants as phases;
 ghost use Rattle.controller.specs.Loaded.{made_of, HasScript};
 ghost use Rattle.controller.specs.Runs.{is_fault, run_status, IsRunByTurns, TellsRun};
 ghost use Rattle.controller.specs.Printed.{sunk};
@@ -24,7 +24,7 @@ use crate::print::{print_run, rows_of};
 use crate::refused::{Refused, tell_refusal};
 use crate::report::{Report, refuse};
 use crate::shown::Shown;
-use accepted_runs::{
+use accepted_cells::{
     accepted_code_suits_its_task, accepted_tasks_ask_as_their_code, accepted_tasks_ask_well,
 };
 use cell_core::Core;
@@ -37,7 +37,7 @@ use std::marker::Brand;
 use task_machine::Machine;
 use typed_trees::Tree;
 
-/// Runs the tasks of a cell that is accepted by turns, and reports it.
+/// Runs the tasks of an accepted cell round-robin, and reports the run.
 pub(crate) fn run_cell<O: Sink, E: Sink>(
     alloc: Global,
     accepted: CheckedCell,
@@ -59,7 +59,7 @@ pub(crate) fn run_cell<O: Sink, E: Sink>(
     }
 }
 
-/// Runs the tasks of a cell by turns, whose trees these are. All memory is taken before the first event.
+/// Runs the tasks of a cell, given their trees, round-robin. All memory is taken before the first event.
 fn run_tasks<A: Askers>(alloc: Global, cell: Cell, trees: &[Tree]) -> Result<Core, AllocError>
     requires one_each { length trees.now ≡ length cell.tasks }
     requires checked { All IsChecked (map view_tree trees.now) }
@@ -75,7 +75,7 @@ fn run_tasks<A: Askers>(alloc: Global, cell: Cell, trees: &[Tree]) -> Result<Cor
     }
 }
 
-/// A machine for each task, whose trees these are.
+/// A machine for each task, given the trees.
 pub(crate) fn crew_of(alloc: Global, trees: &[Tree]) -> Result<Vec<Machine>, AllocError>
     requires { All IsChecked (map view_tree trees.now) }
     ensures programs { IfOk result (λ machines. map (λ m. m.code) machines.items ≡ map compiled (map view_tree trees.now)) }
@@ -89,7 +89,7 @@ pub(crate) fn crew_of(alloc: Global, trees: &[Tree]) -> Result<Vec<Machine>, All
     Ok(machines)
 }
 
-/// A machine that runs the code of a tree, and has asked nothing yet.
+/// A machine that runs the code of a tree and has asked nothing yet.
 fn machine_of(alloc: Global, tree: &Tree) -> Result<Machine, AllocError>
     requires { IsChecked (view_tree tree.now) }
     ensures program { IfOk result (λ m. m.code ≡ compiled (view_tree tree.now)) }
@@ -102,7 +102,7 @@ fn machine_of(alloc: Global, tree: &Tree) -> Result<Machine, AllocError>
     }
 }
 
-/// Prints a run and reports it, however its tasks were run.
+/// Prints a run and reports it, whichever way its tasks were run.
 pub(crate) fn report_run<O: Sink, E: Sink>(
     core: Core,
     shown: Shown,
@@ -144,8 +144,8 @@ fn within_limits(cell: &Cell)
     starts_full(cell);
 }
 
-/// The status of a run that was printed: where all tasks ended, 1 where one ended with a fault, else 0; else 9 where the steps
-/// are spent, and 8 where no task that has not ended can go on.
+/// The status of a printed run: if all tasks ended, 1 if one ended with a fault, else 0; otherwise 9 if the steps are
+/// spent, and 8 if no task that has not ended can go on.
 fn status_of_run(core: &Core) -> u8
     ensures { result ≡ run_status core.now.cell core.now.history }
 {

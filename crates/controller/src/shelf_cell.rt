@@ -6,17 +6,17 @@ ghost use Rattle.controller.specs.Answered.{untouched, AnswersWords};
 ghost use Rattle.controller.specs.Asked.{AreFor, IsAsked};
 
 use crate::check::CheckedCell;
-use crate::command::{Action, Command};
 use crate::files::module_files;
 use crate::refused::Refused;
 use crate::report::{Report, refuse, refuse_file};
 use crate::texts::{load_script, load_texts};
 use crate::texts_cell::texts_cell;
+use command_words::{Action, Command};
 use outside::{Shelf, Sink};
 use std::alloc::Global;
 
-/// The cell of the script in the file that a command names, and of the modules that it names. Else the report of the refusal,
-/// whose line is told.
+/// The cell of the script in the file that a command names, and of the modules that it names. Otherwise the report of
+/// the refusal, whose line is printed.
 pub(crate) fn shelf_cell<S: Shelf, E: Sink>(
     alloc: Global,
     command: &Command<'_>,

@@ -1,8 +1,9 @@
-/// What is printed of a run, before how each task stands.
+/// What is printed of a run, before the fates of its tasks.
 #[derive(Clone, Copy, Debug)]
 pub(crate) enum Shown {
-    /// In `full` a line for each event, else one for each setpoint that was given and for each text to the operator.
+    /// If `full`, a line for each event. Otherwise a line for each setpoint that was given and for each text to the
+    /// operator.
     Events { full: bool },
-    /// How many events there were, how many setpoints were given, and the last value of the cell's first persistent.
+    /// The number of events, the number of setpoints given, and the last value of the cell's first persistent.
     Summary,
 }

@@ -10,14 +10,14 @@ use rapid_limits::{MODULE_BYTES, SCRIPT_BYTES};
 use rapid_model::Script;
 use std::alloc::Global;
 
-/// The texts of modules up to the first that could not be read, and why that one could not, if there is one.
+/// The texts of modules up to the first that could not be read, and why it could not, if there is one.
 #[derive(Debug, Drop)]
 pub(crate) struct Texts {
     pub texts: Vec<Vec<u8>>,
     pub failed: Option<Refused>,
 }
 
-/// The script in the file of this name, which is the first that is read.
+/// The script in the file with this name, which is read first.
 pub(crate) fn load_script<S: Shelf>(
     alloc: Global,
     shelf: &mut S,
@@ -26,9 +26,9 @@ pub(crate) fn load_script<S: Shelf>(
     ensures faults { S.faults shelf.old ≤ S.faults shelf.new }
     ensures told_after { S.told shelf.new ≡ option_map (after_reads 1) (S.told shelf.old) }
     ensures causes { IfErr result (IsLoadFault (S.faults shelf.old) (S.faults shelf.new)) }
-    // It is what the read comes to that the shelf tells,
+    // It is what the read comes to by what the shelf reports,
     ensures told { IfSome (S.told shelf.old) (λ told. IsScriptIn (text_of 0 SCRIPT_BYTES (found told name.now)) result) }
-    // and what some read comes to, whatever the shelf tells.
+    // and what some read comes to, whatever the shelf reports.
     ensures read { (gave : Option (List ℕ)) × IsScriptIn (text_of 0 SCRIPT_BYTES gave) result }
 {
     let text = read_file(alloc, shelf, 0, SCRIPT_BYTES, name)?;
@@ -47,8 +47,8 @@ pub(crate) fn script_of(alloc: Global, text: &[u8]) -> Result<Script, Refused>
     }
 }
 
-/// The texts of the modules in the files of these names, each in turn: the first file after the script's has number 1. The first one
-/// that cannot be read ends it.
+/// The texts of the modules in the files with these names, in order: the first file after the script's has number 1.
+/// Reading stops at the first one that cannot be read.
 pub(crate) fn load_texts<S: Shelf>(alloc: Global, shelf: &mut S, modules: &[&str]) -> Texts
     requires { length modules.now < 2 ^ 31 }
     ensures faults { S.faults shelf.old ≤ S.faults shelf.new }
@@ -57,7 +57,7 @@ pub(crate) fn load_texts<S: Shelf>(alloc: Global, shelf: &mut S, modules: &[&str
     ensures few { length result.texts.items ≤ length modules.now }
     ensures whole { result.failed ≡ None → length result.texts.items ≡ length modules.now }
     ensures unread { IfSome result.failed (λ refused. IsUnread (length result.texts.items + 1) refused × (length result.texts.items < length modules.now)) }
-    // In the words of what was told before the script was read.
+    // In terms of what was reported before the script was read.
     ensures told { (told : Told) → S.told shelf.old ≡ Some (after_reads 1 told) → AreTexts (told_reads told) 1 (names_in_turn modules.now) (bytes_of result.texts.items) result.failed }
 {
     let mut texts = Vec::new(alloc);
@@ -97,7 +97,7 @@ fn read_file<S: Shelf>(
 ) -> Result<Vec<u8>, Refused>
     ensures faults { S.faults shelf.old ≤ S.faults shelf.new }
     ensures told_after { S.told shelf.new ≡ option_map (after_reads 1) (S.told shelf.old) }
-    // A read that failed was counted.
+    // A failed read was counted.
     ensures causes { IfErr result (IsLoadFault (S.faults shelf.old) (S.faults shelf.new)) }
     ensures unread { IfErr result (IsUnread file) }
     ensures within { IfOk result (λ bytes. length bytes.items ≤ limit) }

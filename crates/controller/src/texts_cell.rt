@@ -10,17 +10,17 @@ ghost use Rattle.controller.specs.Answered.{untouched, AnswersReads, AnswersWord
 ghost use Rattle.controller.specs.Asked.{GiveTexts, IsAsked};
 
 use crate::check::{CheckedCell, check_modules};
-use crate::command::Command;
 use crate::modules::{Modules, parse_texts};
 use crate::refused::Refused;
 use crate::report::{Report, refuse_file};
 use crate::texts::Texts;
+use command_words::Command;
 use outside::Sink;
 use rapid_model::Script;
 use std::alloc::Global;
 
-/// The cell of a script and of the texts of its modules, whose files have these names. Else the report of the refusal, whose line is
-/// told. The texts are let go by then.
+/// The cell of a script and of the texts of its modules, whose files have these names. Otherwise the report of the
+/// refusal, whose line is printed. The texts are freed by then.
 pub(crate) fn texts_cell<E: Sink>(
     alloc: Global,
     command: &Command<'_>,
@@ -32,10 +32,10 @@ pub(crate) fn texts_cell<E: Sink>(
     requires named { names_in_turn files.now ≡ module_names script.now.tasks }
     requires few { length found.texts.items < 2 ^ 31 }
     requires within { All IsWithin found.texts.items }
-    // A refusal is the whole answer, with nothing on the first sink.
+    // After a refusal nothing more is done, and the first sink gained nothing.
     ensures refused { IfErr result (λ report. (words : List (List ℕ)) (told : Option Told) (held : Seen) → GiveTexts words told command.now.action command.now.script.now script.now (bytes_of found.texts.items) found.failed → AnswersWords words told report (untouched held) (sunk E.told E.calls E.faults err.old err.new)) }
     ensures causes { IfErr result (λ report. (old new : ℕ) → IfSome found.failed (IsLoadFault old new) → IfSome report.refused (IsLoadFault old new)) }
-    // Else the action is to be done with this cell.
+    // Otherwise the action is to be done with this cell.
     ensures asked { IfOk result (λ accepted. (words : List (List ℕ)) (told : Option Told) → GiveTexts words told command.now.action command.now.script.now script.now (bytes_of found.texts.items) found.failed → IsAsked words told command.now.action (made_of accepted)) }
     ensures script { IfOk result (λ accepted. HasScript (made_of accepted)) }
     ensures untold { IfOk result (λ _. err.new ≡ err.old) }

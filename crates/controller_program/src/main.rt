@@ -2,41 +2,35 @@
 #![tactic(auto)]
 
 use outside::{FileShelf, NoPace, StreamSink};
+use std::alloc::AllocError;
+use std::env::FillError;
 use std::io::Write;
 use std::process::ExitCode;
 use std::rt::{Env, Files};
+use std::str;
 use std::sync::Wait;
 use std::thread::Threads;
-use std::{env, io};
 
-/// The status where the command words could not be had: for want of memory, or since one is no UTF-8.
-const NO_WORDS: u8 = 7;
+/// The length of the buffer that a word is first read into, in bytes.
+const WORD_BYTES: usize = 256;
 
 fn main(rt: HostRuntime) -> ExitCode {
-    match run(&rt, rt.stdout(), rt.stderr()) {
-        Ok(status) => ExitCode::from(status),
-        Err(_) => ExitCode::from(NO_WORDS),
-    }
+    ExitCode::from(run(&rt, rt.stdout(), rt.stderr()))
 }
 
-/// Does what the command words say, over real files and these streams, and gives the status.
-fn run<R, O, E>(rt: &R, out: O, err: E) -> io::Result<u8>
+/// Does what the command words say, with real files and these streams, and returns the status.
+fn run<R, O, E>(rt: &R, out: O, err: E) -> u8
 where
     R: Env + Files + AllocGlobal + Threads + Wait + Sync,
     O: Write + Drop,
     E: Write + Drop,
 {
-    let mut given = Vec::new(rt.alloc());
-    for word in env::args(rt)?.skip(1) {
-        given.push(word)?;
-    }
-    let mut words = Vec::new(rt.alloc());
-    for word in &given {
-        words.push(word.as_str())?;
-    }
-    let mut shelf = FileShelf::new(rt, script_name(words.as_slice()));
     let mut out = StreamSink::new(out);
     let mut err = StreamSink::new(err);
+    let Ok(words) = given_words(rt) else {
+        return controller::out_of_memory(rt.alloc(), &mut err).status;
+    };
+    let mut shelf = FileShelf::new(rt, script_name(words.as_slice()));
     let report = controller::controller(
         rt,
         rt.alloc(),
@@ -46,15 +40,46 @@ where
         &mut err,
         &NoPace,
     );
-    Ok(report.status)
+    report.status
 }
 
-/// The name of the script's file among command words that are not refused: the last one that is not `--history`.
-fn script_name<'a>(words: &[&'a str]) -> &'a str {
+/// The words after the program's name, as bytes. Fails only if an allocation fails.
+fn given_words<R: Env + AllocGlobal>(rt: &R) -> Result<Vec<Vec<u8>>, AllocError> {
+    let mut words = Vec::new(rt.alloc());
+    for index in 1..usize::MAX {
+        match given_word(rt, index)? {
+            Some(word) => words.push(word)?,
+            None => break,
+        }
+    }
+    Ok(words)
+}
+
+/// The word with this index, if there is one, in a buffer that is doubled until the word fits. Fails only if an
+/// allocation fails.
+fn given_word<R: Env + AllocGlobal>(rt: &R, index: usize) -> Result<Option<Vec<u8>>, AllocError> {
+    let mut length = WORD_BYTES;
+    for _ in 0..usize::BITS {
+        let mut word = Vec::new(rt.alloc());
+        word.resize(length, 0)?;
+        match rt.arg(index, word.as_mut_slice()) {
+            Ok(written) => {
+                word.truncate(written);
+                return Ok(Some(word));
+            }
+            Err(FillError::NotPresent) => return Ok(None),
+            Err(FillError::TooLong) => length = length.saturating_mul(2),
+        }
+    }
+    Err(AllocError)
+}
+
+/// The name of the script's file in command words that are not refused: the last one that is not `--history`.
+fn script_name(words: &[Vec<u8>]) -> &str {
     let mut name = "";
     for word in words {
-        if *word != "--history" {
-            name = *word;
+        if word.as_slice() != b"--history".as_slice() {
+            name = str::from_utf8(word.as_slice()).unwrap_or("");
         }
     }
     name

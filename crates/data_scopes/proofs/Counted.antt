@@ -1,19 +1,10 @@
 -- The meetings among the data of the modules, counted.
 use Rattle.std.proofs.Common.{◌≡◌, ℕ, zero, suc, ◌+◌, ◌<◌, ◌≤◌, List, [], ◌∷◌, ◌++◌, length, Some, slice_get, if◌then◌else◌, refl, sym, ap, ◌∙◌, subst, below_more, length-append, arith}
+use Rattle.rapid_model.proofs.Lists.{at_left, between}
 use Rattle.data_scopes.specs.declared.data_row.DatumRow.{DatumRow}
 use Rattle.data_scopes.specs.Meetings.{is_meeting, meetings_before, AreCounted}
 
--- an element of a list with one more
-get_before : {A : Type 0} (xs : List A) (x : A) (k : ℕ) → k < length xs → slice_get (xs ++ x ∷ []) k ≡ slice_get xs k
-get_before [] x k within = absurd (omega arith)
-get_before (y ∷ ys) x zero within = refl
-get_before (y ∷ ys) x (suc k) within = get_before ys x k (omega arith)
-
-pub get_last : {A : Type 0} (xs : List A) (x : A) → slice_get (xs ++ x ∷ []) (length xs) ≡ Some x
-get_last [] x = refl
-get_last (y ∷ ys) x = get_last ys x
-
--- a datum behind others is none of those before
+-- a datum after others is not one of those before
 count_before : (rows : List DatumRow) (row : DatumRow) (number : ℕ) → number ≤ length rows → meetings_before number (rows ++ row ∷ []) ≡ meetings_before number rows
 count_before rows row zero within = refl
 count_before [] row (suc number) within = absurd (omega arith)
@@ -23,7 +14,7 @@ count_all : (rows : List DatumRow) (row : DatumRow) → meetings_before (length 
 count_all [] row = omega arith
 count_all (r ∷ rows) row = omega (arith, count_all rows row)
 
--- past the end are all of them
+-- past the end, all of them come before
 pub count_past : (rows : List DatumRow) (number : ℕ) → length rows ≤ number → meetings_before number rows ≡ meetings_before (length rows) rows
 count_past [] zero past = refl
 count_past [] (suc number) past = refl
@@ -35,8 +26,8 @@ each_counted : (rows : List DatumRow) (before : List ℕ) (row : DatumRow) (meet
     (number : ℕ) → number < length rows + 1 → slice_get (before ++ meetings ∷ []) number ≡ Some (meetings_before number (rows ++ row ∷ []))
 each_counted rows before row meetings h =
     below_more _ _
-    (λ number within. get_before before meetings number (omega (arith, h.as_many)) ∙ h.each number within ∙ ap Some (sym (count_before rows row number (omega arith))))
-    (ap (slice_get (before ++ meetings ∷ [])) (sym h.as_many) ∙ get_last before meetings
+    (λ number within. at_left before (meetings ∷ []) number (omega (arith, h.as_many)) ∙ h.each number within ∙ ap Some (sym (count_before rows row number (omega arith))))
+    (ap (slice_get (before ++ meetings ∷ [])) (sym h.as_many) ∙ between before [] meetings
     ∙ ap Some (h.all ∙ sym (count_before rows row (length rows) (omega arith))))
 
 pub one_more_counted : (rows more : List DatumRow) (before counts : List ℕ) (row : DatumRow) (meetings count : ℕ) →

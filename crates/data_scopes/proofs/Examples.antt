@@ -47,14 +47,14 @@ local_inside = refl
 global_elsewhere : meant 1 None None (codes "a") ≡ Some (meants.Slot 1)
 global_elsewhere = refl
 
--- a parameter hides the item of its name, in its routine alone
+-- a parameter hides the item of its name, only in its routine
 parameter_inside : meant 0 (Some 0) None (codes "b") ≡ Some (meants.Local 0)
 parameter_inside = refl
 
 item_outside : meant 0 None None (codes "b") ≡ Some (meants.Slot 2)
 item_outside = refl
 
--- the variable of a FOR in its list, and the datum that it hides behind it
+-- the variable of a FOR in its list, and after it, the datum that it hides
 for_inside : meant 0 (Some 0) (Some 0) (codes "I") ≡ Some (meants.For 0)
 for_inside = refl
 

@@ -1,4 +1,4 @@
--- The FORs of a statement, where those of its parts were appended in turn.
+-- The FORs of a statement, with those of its parts appended in turn.
 use Rattle.std.proofs.Common.{◌≡◌, ℕ, zero, suc, ◌+◌, ◌-◌, ◌<◌, ◌≤◌, List, [], ◌∷◌, ◌++◌, length, map, drop, Option, Some, slice_get, get_or, option_map, if◌then◌else◌, bytes_eq, Bool, refl, sym, ap, ◌∙◌, append_assoc, length-append, arith}
 use Rattle.std.proofs.Math.ListN.{drop_of_length-le}
 use Rattle.std.proofs.lemmas.List.{append-nil}
@@ -72,7 +72,7 @@ outward (suc steps) key loops k more =
     let e : suc steps - 1 ≡ steps = omega arith in
     ap (λ n. named_or key k (slice_get loops k) (loop_named n key loops)) (sym e)
 
--- at a FOR it is this one where its variable has the name, else one further out
+-- at a FOR, the result is this one if its variable has the name, else an outer one
 pub named_at : (steps : ℕ) (key : List ℕ) (loops : List Loop) (at : Option ℕ) (k : ℕ) (row : Loop) (b : Bool) → 0 < steps → at ≡ Some k → k < length loops → row ≡ get_or loops k row → b ≡ bytes_eq key row.name → loop_named steps key loops at ≡ (if b then Some k else loop_named (steps - 1) key loops row.outer)
 named_at steps key loops at k row b more is within here named =
     ap (loop_named steps key loops) is ∙ outward steps key loops k more

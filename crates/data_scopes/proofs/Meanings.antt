@@ -1,4 +1,4 @@
--- What a name means is such as all that is declared, where what is predefined is such too.
+-- What holds of all that is declared, and of all that is predefined, holds of what a name means.
 use Rattle.std.proofs.Common.{ℕ, zero, suc, Bool, true, false, List, [], ◌∷◌, ◌++◌, Option, Some, None, is_some, ◌≡◌, subst, if◌then◌else◌, bytes_eq}
 use Rattle.std.specs.Option.{option_map, option_or}
 use Rattle.rapid_model.specs.declared.function.Function.{Function}
@@ -12,7 +12,7 @@ use Rattle.rule_checks.specs.declared.spot.Spot.{Spot}
 use Rattle.data_scopes.specs.Kept.{Mean, AllMean, TablesMean}
 use Rattle.data_scopes.specs.Scopes.{Scope, Tables, declare, list_at, meant_in, meant_in_routine, meant_predefined, meaning}
 
--- what is such is such by a weaker test too
+-- what holds implies what is weaker
 module _ (P Q : Meant → Type 0) (weaker : (m : Meant) → P m → Q m) where
   mean_weaker : (scope : Scope) → Mean P scope → Mean Q scope
   mean_weaker [] all = tt
@@ -47,7 +47,7 @@ module _ (P : Meant → Type 0) where
   all_mean_append [] b ha hb = hb
   all_mean_append (s ∷ a) b ha hb = (ha.0, all_mean_append a b ha.1 hb)
 
--- what no module declares is such
+-- P holds of what no module declares
 pub record IsElsewhere (P : Meant → Type 0) : Type 0 where
   pub counters : (k : ℕ) → P (meants.For k)
   pub instructions : (i : Instruction) → P (meants.Instruction i)
@@ -55,7 +55,7 @@ pub record IsElsewhere (P : Meant → Type 0) : Type 0 where
   pub predefined : (p : Predefined) → P (meants.Predefined p)
 
 module _ (P : Meant → Type 0) (elsewhere : IsElsewhere P) where
-  -- what is found is such
+  -- P holds of what is found
   abbrev Found : Option Meant → Type 0
   Found None = Unit {0}
   Found (Some meant) = P meant
@@ -108,6 +108,6 @@ module _ (P : Meant → Type 0) (elsewhere : IsElsewhere P) where
       (found_or _ _ (found_by _ (list_at tables.own spot.«module») (found_at tables.own spot.«module» all.own))
       (found_or _ _ (found_by _ tables.task all.task) (found_or _ _ (found_by _ tables.signals all.signals) (found_predefined name))))
 
-  -- what a name means is such
+  -- P holds of what a name means
   pub meant_is_such : (tables : Tables) (spot : Spot) (name : List ℕ) (meant : Meant) → TablesMean P tables → meaning tables spot name ≡ Some meant → P meant
   meant_is_such tables spot name meant all is = subst Found is (found tables spot name all)

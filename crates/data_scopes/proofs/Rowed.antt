@@ -29,7 +29,7 @@ use Rattle.rule_checks.proofs.Steps.{behind, ok_same, it_holds}
 abbrev pub has_valued_sort : DatumRow → Bool
 has_valued_sort row = has_values row.sort
 
--- so many of each kind have a row
+-- this many of each kind have a row
 pub record AreRowed (c : Counts) (rows : Rows) : Type 0 where
   pub consts : c.consts ≡ length rows.consts
   pub slots : c.slots ≡ length rows.slots
@@ -70,7 +70,7 @@ scalar_append (row ∷ rows) more =
 abbrev row_of : ℕ → PlainDatum → Sort → DatumRow
 row_of number d sort = record { sort = sort; array = is_some d.len; since = since_of number d }
 
--- a datum is one CONST that is no array, or none
+-- a datum is one CONST that is not an array, or none
 scalar_one : (const : Bool) (len : Option PlainExpr) (sort : Sort) (since : Since) →
     length (scalar_rows (record { sort = sort; array = is_some len; since = (if const then Some since else None) } ∷ [])) ≡ (if const && is_none len then 1 else 0)
 scalar_one true None sort since = refl
@@ -172,7 +172,7 @@ modules_rowed tables number c (m ∷ ms) rows got r h =
     behind (AreRowed (after_modules (after_items c m.items) ms) got) got (items_rows tables number m.items rows) _ r (λ next found others.
     modules_rowed tables (number + 1) (after_items c m.items) ms next got others (items_rowed tables number c m.items rows next found h))
 
--- no declarations have no rows
+-- without declarations, no rows are needed
 pub none_rowed : AreRowed no_counts no_rows
 none_rowed = record { consts = refl; slots = refl; pers = refl; routines = refl }
 
@@ -187,11 +187,11 @@ modules_valued tables number before c (m ∷ ms) rows got t e r h =
     modules_valued tables (number + 1) (before ++ (m.name.text ∷ [])) (after_items c m.items) ms next got t rest others
     (items_valued tables number c m.items rows next u ruled found h))))
 
--- so many of each kind have a row
+-- this many of each kind have a row
 abbrev rows_counts : Rows → Counts
 rows_counts rows = record { slots = length rows.slots; pers = length rows.pers; consts = length rows.consts; routines = length rows.routines }
 
--- what is within so many has its row
+-- what is within the counts has its row
 has_row : (rows : Rows) (meant : Meant) → IsWithin (rows_counts rows) meant → HasRow rows meant
 has_row rows (meants.Slot k) within = within
 has_row rows (meants.Pers k) within = within

@@ -1,4 +1,4 @@
--- For each CONST that is no array a value of its type is kept, or none.
+-- For each CONST that is not an array, a value of its type is kept, or none.
 use Rattle.std.proofs.Common.{◌≡◌, ℕ, ◌<◌, ◌≤◌, List, [], ◌∷◌, length, Option, Some, None, sym, ap, subst, ◌∙◌, replicate, zero, suc, set, slice_get, IfSome, IsTrue, length-set, Ok, arith}
 use Rattle.std.proofs.lemmas.List.{length-replicate}
 use Rattle.rapid_model.specs.declared.signal_row.SignalRow.{SignalRow}
@@ -34,7 +34,7 @@ names_kept ms signals tables rows count kept filled found counts none =
       types = subst (AreOfTypes rows.consts) all (none_typed rows.consts);
     }
 
--- a kept value of its type leaves the others as they are
+-- keeping a value of the right type leaves the others unchanged
 kept_typed : (rows : List DatumRow) (kept : List (Option Value)) (constant : ℕ) (value : Value) → constant < length kept → IfSome (slice_get rows constant) (λ row. IsTrue (is_value_of row.sort value)) → AreOfTypes rows kept → AreOfTypes rows (set kept constant (Some value))
 kept_typed [] [] constant value within typed all = absurd (omega arith)
 kept_typed [] (k ∷ ks) constant value within typed all = absurd all

@@ -13,19 +13,19 @@ use Rattle.data_scopes.specs.Numbers.{is_pers, is_scalar_const, scalar_consts, i
 use Rattle.data_scopes.specs.Scopes.{Scope, Tables, meaning}
 use Rattle.data_scopes.proofs.Meanings.{tables_weaker, mean_if, mean_declare, all_mean_append, meant_is_such}
 
--- so many of each kind stand before what follows the modules
+-- the counts after the modules
 abbrev pub after_modules : Counts → List PlainModule → Counts
 after_modules c [] = c
 after_modules c (m ∷ ms) = after_modules (after_items c m.items) ms
 
--- a datum, by whether it is a CONST that is no array, and whether it is a PERS
+-- a datum, by whether it is a CONST that is not an array, and whether it is a PERS
 abbrev pub after_by : Counts → Bool → Bool → Counts
 after_by c scalar pers =
     if scalar then record { slots = c.slots; pers = c.pers; consts = c.consts + 1; routines = c.routines }
     else if pers then record { slots = c.slots; pers = c.pers + 1; consts = c.consts; routines = c.routines }
     else record { slots = c.slots + 1; pers = c.pers; consts = c.consts; routines = c.routines }
 
--- a number is one of so many of its kind
+-- a number is below the count of its kind
 abbrev pub IsWithin : Counts → Meant → Type 0
 IsWithin n (meants.Const k) = k < n.consts
 IsWithin n (meants.Slot k) = k < n.slots
@@ -167,7 +167,7 @@ module _ (n : Counts) where
     signals = within_signals 0 signals [] tt;
   }
 
-  -- what a name means is one of so many
+  -- what a name means is below the counts
   pub meant_within : (tables : Tables) (spot : Spot) (name : List ℕ) (meant : Meant) → TablesMean (IsWithin n) tables → meaning tables spot name ≡ Some meant → IsWithin n meant
   meant_within = meant_is_such (IsWithin n) (record { counters = λ k. tt; instructions = λ i. tt; functions = λ f. tt; predefined = λ p. tt })
 
@@ -184,13 +184,13 @@ within_below c n le (meants.Instruction k) h = tt
 within_below c n le (meants.Function k) h = tt
 within_below c n le (meants.Predefined k) h = tt
 
--- each CONST is one of so many
+-- each CONST is below the count
 pub tables_below : (n : ℕ) (ms : List PlainModule) (signals : List SignalRow) → (after_modules no_counts ms).consts ≤ n → TablesMean (IsBelow n) (tables_of ms signals)
 tables_below n ms signals le =
     let c = after_modules no_counts ms in
     tables_weaker (IsWithin c) (IsBelow n) (within_below c n le) (tables_of ms signals) (tables_within c ms signals (fits_same c))
 
--- a CONST that a name means is one of so many
+-- a CONST that a name means is below the count
 pub const_below : (n : ℕ) (tables : Tables) (spot : Spot) (name : List ℕ) (constant : ℕ) → TablesMean (IsBelow n) tables → meaning tables spot name ≡ Some (meants.Const constant) → constant < n
 const_below n tables spot name constant =
     meant_is_such (IsBelow n) (record { counters = λ k. tt; instructions = λ i. tt; functions = λ f. tt; predefined = λ p. tt }) tables spot name (meants.Const constant)

@@ -1,4 +1,4 @@
--- The declarations, asked by number.
+-- The declarations, by number.
 use Rattle.std.specs.Prelude.{ℕ, ◌+◌, ◌-◌, false, nat_lt, List, [], length, slice_get, Option, Some, None, if◌then◌else◌}
 use Rattle.std.specs.Option.{option_and_then, option_map}
 use Rattle.rapid_model.specs.declared.routine_kind.RoutineKind.{RoutineKind}
@@ -26,13 +26,13 @@ params_of rows routine = params_in (slice_get rows.routines routine)
 abbrev pub value_row : ParamRow → DatumRow
 value_row param = record { sort = param.sort; array = false; since = None }
 
--- the datum at an index among the parameters and then the data of a routine
+-- the datum at an index of a routine: its parameters come first, then its data
 abbrev pub own_row : RoutineRow → ℕ → Option DatumRow
 own_row row index =
     if nat_lt index (length row.params) then option_map value_row (slice_get row.params index)
     else slice_get row.locals (index - length row.params)
 
--- the same of the routine of a number
+-- the same for the routine with a number
 abbrev pub local_of : Rows → Option ℕ → ℕ → Option DatumRow
 local_of rows routine index = option_and_then (λ r. option_and_then (λ row. own_row row index) (slice_get rows.routines r)) routine
 

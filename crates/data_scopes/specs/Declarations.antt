@@ -1,5 +1,5 @@
--- The first rule that is broken at a declared name or at its type's name: from left to right through the modules in order,
--- a declaration's type before its name.
+-- The first broken rule at a declared name or at the name of its type, in text order through the modules, a
+-- declaration's type before its name.
 use Rattle.std.specs.Prelude.{ℕ, ◌+◌, Bool, true, false, not, ◌||◌, List, [], ◌∷◌, ◌++◌, length, map, Option, Some, None, is_some, Ok, ◌==◌, if◌then◌else◌}
 use Rattle.raw_trees.specs.Plain.{PlainDatum, PlainParam, PlainRoutine, PlainItem, PlainModule, PlainName, Datum, Routine}
 use Rattle.rapid_model.specs.declared.mode.Mode.{Mode}
@@ -18,11 +18,11 @@ use Rattle.data_scopes.specs.Scopes.{Scope, Tables, list_at, meant_in, meant_out
 use Rattle.rapid_model.specs.Sorts.{has_values}
 use Rattle.data_scopes.specs.Sorts.{sort_of}
 
--- a name in a module, and in a routine of it
+-- the spot of a name in a module, or in one of its routines
 abbrev pub spot_of : ℕ → Option ℕ → PlainName → Spot
 spot_of number routine name = record { «module» = number; routine = routine; within = None; at = name.at }
 
--- the type that a name is by what it means
+-- the type that a name means, by what it means
 abbrev pub type_of : Meant → Option Sort
 type_of (meants.Predefined name) = sort_of name
 type_of _ = None
@@ -34,7 +34,7 @@ sort_meant spot meant = found_or meant (at_spot spot NoName) >>= (λ found. foun
 abbrev pub sort_at : Tables → Spot → PlainName → Checked Sort
 sort_at tables spot name = sort_meant spot (meaning tables spot name.text)
 
--- a name means what this declaration of it means: no declaration of its scope before has the name
+-- a name means what this declaration of it means: no earlier declaration in its scope has the name
 abbrev pub is_own : Meant → Option Meant → Bool
 is_own (meants.Slot a) (Some (meants.Slot b)) = a == b
 is_own (meants.Local a) (Some (meants.Local b)) = a == b
@@ -49,13 +49,13 @@ abbrev pub item_scope : Tables → ℕ → Bool → Scope
 item_scope tables number true = list_at tables.own number
 item_scope tables number false = tables.task
 
--- the name of an item
+-- the rules for an item's name
 abbrev pub item_name_rules : Tables → Spot → Bool → Meant → PlainName → Checked (Unit {0})
 item_name_rules tables spot local own name =
     must (is_own own (meant_in name.text (item_scope tables spot.«module» local))) (at_spot spot NameTwice)
     >>= (λ _. must (not (is_some (meant_outside tables name.text))) (at_spot spot NameTaken))
 
--- the type of a datum, which fits its kind
+-- the type of a datum, which must suit its kind
 abbrev pub datum_sort : Tables → ℕ → Option ℕ → PlainDatum → Checked Sort
 datum_sort tables number routine d =
     let spot = spot_of number routine d.sort in
@@ -67,14 +67,14 @@ abbrev pub datum_rules : Tables → ℕ → Bool → Counts → PlainDatum → C
 datum_rules tables number local c d =
     datum_sort tables number None d >>= (λ _. item_name_rules tables (spot_of number None d.name) local (datum_meant c d) d.name)
 
--- an argument by value has a value
+-- a parameter passed by value has a type with values
 abbrev pub takes_sort : Mode → Sort → Bool
 takes_sort modes.Value sort = has_values sort
 takes_sort modes.Inout sort = true
 takes_sort modes.Var sort = true
 takes_sort modes.Pers sort = true
 
--- a parameter at this index of a routine
+-- the rules for the parameter at this index of a routine
 abbrev pub param_rules : Tables → ℕ → ℕ → ℕ → PlainParam → Checked (Unit {0})
 param_rules tables number routine index p =
     let spot = spot_of number (Some routine) p.sort in
@@ -87,11 +87,11 @@ params_rules tables number routine index [] = Ok tt
 params_rules tables number routine index (p ∷ ps) =
     param_rules tables number routine index p >>= (λ _. params_rules tables number routine (index + 1) ps)
 
--- where the parameters are faultless, their number
+-- how many parameters there are, if none breaks a rule
 abbrev pub counted : List PlainParam → Checked (Unit {0}) → Checked ℕ
 counted params checked = checked >>= (λ _. Ok (length params))
 
--- a datum of a routine at this index, with so many CONSTs before
+-- the rules for the datum at this index of a routine, with this many CONSTs before it
 abbrev pub local_rules : Tables → ℕ → ℕ → ℕ → ℕ → PlainDatum → Checked (Unit {0})
 local_rules tables number routine index consts d =
     datum_sort tables number (Some routine) d >>= (λ _.
@@ -103,7 +103,7 @@ locals_rules tables number routine index consts (d ∷ ds) =
     local_rules tables number routine index consts d >>= (λ _.
     locals_rules tables number routine (index + 1) (consts + (if is_scalar_const d then 1 else 0)) ds)
 
--- the type of a function's result, which has values
+-- the type of a function's result, which must have values
 abbrev pub result_rules : Tables → ℕ → ℕ → Option PlainName → Checked (Unit {0})
 result_rules tables number routine None = Ok tt
 result_rules tables number routine (Some name) =
@@ -117,26 +117,26 @@ routine_rules tables number c r =
     params_rules tables number c.routines 0 r.params >>= (λ _.
     locals_rules tables number c.routines (length r.params) c.consts r.locals)))
 
--- an item of a module
+-- the rules for an item of a module
 abbrev pub item_rules : Tables → ℕ → Counts → PlainItem → Checked (Unit {0})
 item_rules tables number c (Datum local task d at) = datum_rules tables number local c d
 item_rules tables number c (Routine r) = routine_rules tables number c r
 
--- the items of a module
+-- the rules for the items of a module
 abbrev pub items_rules : Tables → ℕ → Counts → List PlainItem → Checked (Unit {0})
 items_rules tables number c [] = Ok tt
 items_rules tables number c (item ∷ items) = item_rules tables number c item >>= (λ _. items_rules tables number (after_item c item) items)
 
--- the names of modules are compared with each other alone
+-- names of modules are compared only with each other
 abbrev pub names : List PlainModule → List (List ℕ)
 names modules = map (λ m. m.name.text) modules
 
--- a module of this number, behind modules of these names
+-- the rules for a module with this number, after modules with these names
 abbrev pub module_rules : Tables → ℕ → List (List ℕ) → Counts → PlainModule → Checked (Unit {0})
 module_rules tables number before c m =
     must (not (is_among m.name.text before)) (at_spot (spot_of number None m.name) NameTwice) >>= (λ _. items_rules tables number c m.items)
 
--- the modules, the first of which has this number
+-- the rules for all modules, given the number of the first
 abbrev pub modules_rules : Tables → ℕ → List (List ℕ) → Counts → List PlainModule → Checked (Unit {0})
 modules_rules tables number before c [] = Ok tt
 modules_rules tables number before c (m ∷ ms) =

@@ -1,4 +1,4 @@
--- The values that are kept for the CONSTs that are no arrays, and the invariants of a task's names.
+-- The values kept for CONSTs that are not arrays, and the invariants of a task's names.
 use Rattle.std.specs.Prelude.{ℕ, ◌<◌, List, [], ◌∷◌, length, set, Option, Some, None, IsTrue}
 use Rattle.rapid_model.specs.declared.sort.Sort.{Sort}
 use Rattle.rapid_model.specs.declared.value.Value.{Value}
@@ -23,7 +23,7 @@ abbrev pub IsBelow : ℕ → Meant → Type 0
 IsBelow n (meants.Const constant) = constant < n
 IsBelow n _ = Unit {0}
 
--- what each name of a scope means is such
+-- P holds of what each name of a scope means
 abbrev pub Mean : (Meant → Type 0) → Scope → Type 0
 Mean P [] = Unit {0}
 Mean P (entry ∷ entries) = P entry.1 × Mean P entries
@@ -32,7 +32,7 @@ abbrev pub AllMean : (Meant → Type 0) → List Scope → Type 0
 AllMean P [] = Unit {0}
 AllMean P (scope ∷ scopes) = Mean P scope × AllMean P scopes
 
--- what each name that is declared means is such
+-- P holds of what each declared name means
 pub record TablesMean (P : Meant → Type 0) (tables : Tables) : Type 0 where
   pub task : Mean P tables.task
   pub own : AllMean P tables.own

@@ -1,10 +1,10 @@
--- The FORs of a routine in text order, each with the FOR whose list it stands in.
+-- The FORs of a routine in text order, each with the FOR around it.
 use Rattle.std.specs.Prelude.{ℕ, ◌+◌, List, [], ◌∷◌, ◌++◌, length, Option, Some, None}
 use Rattle.std.specs.Str.{str_to_ascii_lowercase}
 use Rattle.raw_trees.specs.Plain.{PlainStmt, PlainStmts, PlainArms, PlainCases, PlainElse, PlainRoutine, If, IfOne, For, While, Test, NoStmts, MoreStmts, NoArms, MoreArms, NoCases, MoreCases, NoElse, Else, stmts_of, else_of}
 use Rattle.data_scopes.specs.Scopes.{Loop}
 
--- in the list of the FOR of this number, where there is one; the first FOR that is met has the next number
+-- in the list of the FOR with this number, if any; the first FOR found has the next number
 abbrev mutual
   pub loops_of : Option ℕ → ℕ → PlainStmt → List Loop
   loops_of outer next (For at name first last step list) =

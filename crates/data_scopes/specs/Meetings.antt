@@ -14,7 +14,7 @@ meetings_before zero rows = 0
 meetings_before (suc count) [] = 0
 meetings_before (suc count) (row ∷ rows) = (if is_meeting (Some row) then 1 else 0) + meetings_before count rows
 
--- of each datum it is kept how many meetings stand before it, and how many there are in all
+-- for each datum, the number of meetings before it; and how many there are in all
 pub record AreCounted (rows : List DatumRow) (before : List ℕ) (meetings : ℕ) : Type 0 where
   pub as_many : length before ≡ length rows
   pub each : (number : ℕ) → number < length rows → slice_get before number ≡ Some (meetings_before number rows)

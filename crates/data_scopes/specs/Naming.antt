@@ -1,4 +1,4 @@
--- The names of a task's modules, or the first rule that is broken at a declared name or at its type's name.
+-- The names of a task's modules, or the first broken rule at a declared name or at the name of its type.
 use Rattle.std.specs.Prelude.{ℕ, List, [], length, replicate, None, Ok}
 use Rattle.raw_trees.specs.Plain.{PlainModule}
 use Rattle.rapid_model.specs.declared.signal_row.SignalRow.{SignalRow}
@@ -9,7 +9,7 @@ use Rattle.data_scopes.specs.Numbers.{no_counts, tables_of}
 use Rattle.data_scopes.specs.Rows.{modules_rows, no_rows, outputs_of}
 use Rattle.data_scopes.specs.Scopes.{Names}
 
--- of a task among these signals, where its arm has so many axes, or none where it has no arm
+-- for a task with these signals, and an arm with this many axes, 0 without an arm
 abbrev pub names_of : List PlainModule → List SignalRow → ℕ → Checked Names
 names_of modules signals axes =
     let tables = tables_of modules signals in

@@ -4,7 +4,7 @@ use Rattle.data_scopes.specs.declared.meant.Meant.{Meant}
 use Rattle.data_scopes.specs.declared.meant.Meant.TheVariants as meants
 use Rattle.data_scopes.specs.Scopes.{Rows}
 
--- a VAR or CONST array of a module, a PERS, a CONST that is no array, or a routine has its row
+-- a VAR or CONST array of a module, a PERS, a CONST that is not an array, or a routine has its row
 abbrev pub HasRow : Rows → Meant → Type 0
 HasRow rows (meants.Slot number) = number < length rows.slots
 HasRow rows (meants.Pers number) = number < length rows.pers

@@ -1,4 +1,5 @@
--- What each declaration of a task's modules means: its number among those of its kind, in the order of modules and text.
+-- What each declaration of a task's modules means: its number among those of its kind, in the order of modules and
+-- text.
 use Rattle.std.specs.Prelude.{ℕ, ◌+◌, Bool, true, false, ◌&&◌, List, [], ◌∷◌, ◌++◌, length, is_none, if◌then◌else◌}
 use Rattle.raw_trees.specs.Plain.{PlainDatum, PlainParam, PlainRoutine, PlainItem, PlainModule, PlainName, Datum, Routine}
 use Rattle.raw_trees.specs.declared.raw_datum.DatumKind.{DatumKind}
@@ -12,7 +13,7 @@ use Rattle.data_scopes.specs.Loops.{loops_in_routine}
 use Rattle.data_scopes.specs.Scopes.{Scope, Loop, Tables, declare}
 use Rattle.rapid_model.specs.declared.signal_row.SignalRow.{SignalRow}
 
--- how many of each kind stand before
+-- how many of each kind come before
 abbrev pub Tally : Type 0
 Tally = Counts
 
@@ -26,7 +27,7 @@ is_pers kinds.Pers = true
 is_pers kinds.Const = false
 is_pers kinds.Var = false
 
--- a CONST that is no array
+-- a CONST that is not an array
 abbrev pub is_scalar_const : PlainDatum → Bool
 is_scalar_const d = is_const d.kind && is_none d.len
 
@@ -34,7 +35,7 @@ abbrev pub scalar_consts : List PlainDatum → ℕ
 scalar_consts [] = 0
 scalar_consts (d ∷ ds) = (if is_scalar_const d then 1 else 0) + scalar_consts ds
 
--- what a datum of a module means, where so many of each kind stand before
+-- what a datum of a module means, given the counts before it
 abbrev pub datum_meant : Counts → PlainDatum → Meant
 datum_meant c d =
     if is_scalar_const d then meants.Const c.consts
@@ -78,12 +79,12 @@ param_meant index modes.Inout = meants.Ref index
 param_meant index modes.Var = meants.Ref index
 param_meant index modes.Pers = meants.Ref index
 
--- the parameters, the first of which has this index
+-- the parameters, given the index of the first
 abbrev pub declare_params : ℕ → List PlainParam → Scope → Scope
 declare_params index [] scope = scope
 declare_params index (p ∷ ps) scope = declare_params (index + 1) ps (declare p.name.text (param_meant index p.mode) scope)
 
--- what a datum of a routine means, at this index among its parameters and data, with so many CONSTs before
+-- what a datum of a routine means, at this index among its parameters and data, with this many CONSTs before it
 abbrev pub local_meant : ℕ → ℕ → PlainDatum → Meant
 local_meant index consts d = if is_scalar_const d then meants.Const consts else meants.Local index
 
@@ -102,7 +103,7 @@ own_items c [] scope = scope
 own_items c (item ∷ items) scope =
     own_items (after_item c item) items (if is_local item then declare (item_name item).text (item_meant c item) scope else scope)
 
--- the other ones
+-- the items that are not LOCAL
 abbrev pub task_items : Counts → List PlainItem → Scope → Scope
 task_items c [] scope = scope
 task_items c (item ∷ items) scope =
@@ -144,7 +145,7 @@ abbrev pub all_loops : List PlainModule → List (List Loop)
 all_loops [] = []
 all_loops (m ∷ ms) = items_loops m.items ++ all_loops ms
 
--- the signals, the first of which has this number
+-- the signals, given the number of the first
 abbrev pub signal_scope : ℕ → List SignalRow → Scope → Scope
 signal_scope number [] scope = scope
 signal_scope number (row ∷ rows) scope = signal_scope (number + 1) rows (declare row.name (meants.Signal number) scope)
@@ -152,7 +153,7 @@ signal_scope number (row ∷ rows) scope = signal_scope (number + 1) rows (decla
 abbrev pub no_counts : Counts
 no_counts = record { slots = 0; pers = 0; consts = 0; routines = 0 }
 
--- the names of a task's modules among these signals
+-- the names of a task's modules, with these signals
 abbrev pub tables_of : List PlainModule → List SignalRow → Tables
 tables_of modules signals = record {
   task = task_scope no_counts modules [];

@@ -12,7 +12,7 @@ use Rattle.data_scopes.specs.Declarations.{spot_of, sort_at}
 use Rattle.data_scopes.specs.Numbers.{is_const, is_pers, is_scalar_const}
 use Rattle.data_scopes.specs.Scopes.{Tables, RoutineRow, Rows}
 
--- the byte at which an expression begins
+-- the byte at which an expression starts
 abbrev pub begin_of : PlainExpr → ℕ
 begin_of (Number at text) = at
 begin_of (Quoted at text) = at
@@ -25,12 +25,12 @@ begin_of (Not at e) = at
 begin_of (Signed at minus e) = at
 begin_of (Chain at e steps) = at
 
--- the byte at which the value of a datum begins; its name's where it has none
+-- the byte at which the value of a datum starts, or that of its name if it has no value
 abbrev pub value_at : PlainName → Option PlainExpr → ℕ
 value_at name (Some e) = begin_of e
 value_at name None = name.at
 
--- of a CONST, where it is declared
+-- where a CONST is declared
 abbrev pub since_of : ℕ → PlainDatum → Option Since
 since_of number d = if is_const d.kind then Some (record { «module» = number; at = value_at d.name d.first }) else None
 
@@ -42,14 +42,14 @@ datum_row tables number routine d =
 abbrev pub no_rows : Rows
 no_rows = record { consts = []; slots = []; pers = []; routines = [] }
 
--- behind these rows one of a CONST that is no array, of a PERS, or of another datum
+-- these rows and one for a CONST that is not an array, a PERS, or another datum
 abbrev pub rows_by : Rows → Bool → Bool → DatumRow → Rows
 rows_by rows scalar pers row =
     if scalar then record { consts = rows.consts ++ row ∷ []; slots = rows.slots; pers = rows.pers; routines = rows.routines }
     else if pers then record { consts = rows.consts; slots = rows.slots; pers = rows.pers ++ row ∷ []; routines = rows.routines }
     else record { consts = rows.consts; slots = rows.slots ++ row ∷ []; pers = rows.pers; routines = rows.routines }
 
--- behind these rows one of this datum
+-- these rows and one for this datum
 abbrev pub with_datum : Rows → PlainDatum → DatumRow → Rows
 with_datum rows d row = rows_by rows (is_scalar_const d) (is_pers d.kind) row
 
@@ -67,7 +67,7 @@ local_rows tables number routine [] rows = Ok rows
 local_rows tables number routine (d ∷ ds) rows =
     datum_row tables number (Some routine) d >>= (λ row. local_rows tables number routine ds (rows ++ row ∷ []))
 
--- the rows of the CONSTs among a routine's data that are no arrays
+-- the rows of the CONSTs among a routine's data that are not arrays
 abbrev pub scalar_rows : List DatumRow → List DatumRow
 scalar_rows [] = []
 scalar_rows (row ∷ rows) = if is_some row.since then (if row.array then scalar_rows rows else row ∷ scalar_rows rows) else scalar_rows rows
@@ -92,7 +92,7 @@ with_routine rows row = record {
   routines = rows.routines ++ row ∷ [];
 }
 
--- an item of a module behind these rows
+-- these rows and those of an item of a module
 abbrev pub item_rows : Tables → ℕ → PlainItem → Rows → Checked Rows
 item_rows tables number (Datum local task d at) rows = datum_row tables number None d >>= (λ row. Ok (with_datum rows d row))
 item_rows tables number (Routine r) rows = routine_row tables number (length rows.routines) r >>= (λ row. Ok (with_routine rows row))
@@ -101,12 +101,12 @@ abbrev pub items_rows : Tables → ℕ → List PlainItem → Rows → Checked R
 items_rows tables number [] rows = Ok rows
 items_rows tables number (item ∷ items) rows = item_rows tables number item rows >>= (λ more. items_rows tables number items more)
 
--- the modules, the first of which has this number
+-- these rows and those of the modules, given the number of the first
 abbrev pub modules_rows : Tables → ℕ → List PlainModule → Rows → Checked Rows
 modules_rows tables number [] rows = Ok rows
 modules_rows tables number (m ∷ ms) rows =
     items_rows tables number m.items rows >>= (λ more. modules_rows tables (number + 1) ms more)
 
--- of each signal, whether it is an output
+-- for each signal, whether it is an output
 abbrev pub outputs_of : List SignalRow → List Bool
 outputs_of signals = map (λ row. row.output) signals

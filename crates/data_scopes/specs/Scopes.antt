@@ -15,25 +15,25 @@ use Rattle.data_scopes.specs.declared.meant.Meant.{Meant}
 use Rattle.data_scopes.specs.declared.meant.Meant.TheVariants as meants
 use Rattle.rule_checks.specs.declared.spot.Spot.{Spot}
 
--- The names of a scope, in small letters, and what they mean.
+-- The names of a scope, in lower case, and what they mean.
 abbrev pub Scope : Type 0
 Scope = NameList Meant
 
--- what a name means in a scope, letters of either case being the same
+-- what a name means in a scope, case-insensitively
 abbrev pub meant_in : List ℕ → Scope → Option Meant
 meant_in name scope = found_in name scope
 
--- the scope with one more declaration; where two have one name the first stands
+-- the scope with one more declaration; of two with the same name, the first one wins
 abbrev pub declare : List ℕ → Meant → Scope → Scope
 declare name meant scope = entered name meant scope
 
--- a FOR: its variable in small letters, and the number of the FOR whose list it stands in, if it stands in one
+-- a FOR: its variable in lower case, and the number of the FOR around it, if any
 pub record Loop : Type 0 where
   pub name : List ℕ
   pub outer : Option ℕ
 
--- The names of a task's modules: the items that are not LOCAL; the LOCAL ones of each module; the parameters and data of
--- each routine, and its FORs in text order; the signals.
+-- The names of a task's modules: the items that are not LOCAL; the LOCAL ones of each module; the parameters and data
+-- of each routine, and its FORs in text order; the signals.
 pub record Tables : Type 0 where
   pub task : Scope
   pub own : List Scope
@@ -48,16 +48,16 @@ pub record RoutineRow : Type 0 where
   pub params : List ParamRow
   pub locals : List DatumRow
 
--- The declarations by their numbers: the CONSTs that are no arrays, the VARs and CONST arrays of the modules, the PERSs, and
--- the routines.
+-- The declarations by their numbers: the CONSTs that are not arrays, the VARs and CONST arrays of the modules, the
+-- PERSs, and the routines.
 pub record Rows : Type 0 where
   pub consts : List DatumRow
   pub slots : List DatumRow
   pub pers : List DatumRow
   pub routines : List RoutineRow
 
--- The names; the values that are kept so far for the CONSTs that are no arrays; the declarations; of each signal whether it is
--- an output, and how many axes the task's arm has, 0 where it has none.
+-- The names; the values kept so far for CONSTs that are not arrays; the declarations; for each signal whether it is an
+-- output; and how many axes the task's arm has, 0 if it has none.
 pub record Names : Type 0 where
   pub tables : Tables
   pub kept : List (Option Value)
@@ -65,12 +65,12 @@ pub record Names : Type 0 where
   pub outputs : List Bool
   pub axes : ℕ
 
--- this FOR where its variable has the name, else one further out
+-- this FOR if its variable has the name, else an outer one
 abbrev pub named_or : List ℕ → ℕ → Option Loop → (Option ℕ → Option ℕ) → Option ℕ
 named_or key number None further = None
 named_or key number (Some loop) further = if bytes_eq key loop.name then Some number else further loop.outer
 
--- the FOR of this variable, from the one of this number outward; there are no more steps than FORs
+-- the FOR with this variable, searched outward from the FOR with this number; there are no more steps than FORs
 abbrev pub loop_named : ℕ → List ℕ → List Loop → Option ℕ → Option ℕ
 loop_named zero key loops number = None
 loop_named (suc steps) key loops None = None
@@ -86,7 +86,7 @@ list_at [] index = []
 list_at (xs ∷ more) zero = xs
 list_at (xs ∷ more) (suc index) = list_at more index
 
--- in a routine: the variables of the FORs around, then its parameters and data
+-- in a routine: the variables of the enclosing FORs, then its parameters and data
 abbrev pub meant_in_routine : Tables → List ℕ → Option ℕ → Option ℕ → Option Meant
 meant_in_routine tables name None within = None
 meant_in_routine tables name (Some routine) within =

@@ -1,4 +1,4 @@
--- Whether two types are one, and the types that predefined names are.
+-- Whether two types are the same, and the types that predefined names are.
 use Rattle.std.specs.Prelude.{Bool, true, false, Option, Some, None}
 use Rattle.rapid_model.specs.declared.predefined.Predefined.{Predefined}
 use Rattle.rapid_model.specs.declared.predefined.Predefined.TheVariants as names

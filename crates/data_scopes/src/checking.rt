@@ -1,4 +1,4 @@
-//! The rules of a declared name and of its type's name.
+//! The rules for a declared name and for the name of its type.
 
 ghost use Rattle.std.specs.Prelude.{◌≡◌};
 ghost use Rattle.raw_trees.specs.Views.{view_datum, view_name};
@@ -15,7 +15,7 @@ use rapid_model::{Sort, has_values};
 use raw_trees::{RawDatum, RawName};
 use rule_checks::{Spot, TypeFault, TypeRule, broken, must};
 
-/// A name in a module, and in a routine of it.
+/// The spot of a name in a module, or in one of its routines.
 pub(crate) fn spot_of(number: u32, routine: Option<u32>, name: &RawName<'_>) -> Spot
     ensures { result ≡ Declarations.spot_of number routine (view_name name.now) }
 {
@@ -27,7 +27,7 @@ pub(crate) fn spot_of(number: u32, routine: Option<u32>, name: &RawName<'_>) -> 
     }
 }
 
-/// The type that a name means: what it means, and whether that is a type.
+/// The type that a name means, or the rule that it breaks.
 pub(crate) fn sort_at(
     tables: &NameTables,
     spot: Spot,
@@ -50,7 +50,7 @@ fn sort_meant(spot: Spot, meant: Option<Meant>) -> Result<Sort, TypeFault>
     }
 }
 
-/// The type that a name is by what it means.
+/// The type that a name means, by what it means.
 fn type_of(meant: Meant) -> Option<Sort>
     ensures { result ≡ Declarations.type_of meant }
 {
@@ -60,7 +60,7 @@ fn type_of(meant: Meant) -> Option<Sort>
     }
 }
 
-/// The type of a datum, which fits its kind.
+/// The type of a datum, which must suit its kind.
 pub(crate) fn datum_sort(
     tables: &NameTables,
     number: u32,
@@ -78,7 +78,7 @@ pub(crate) fn datum_sort(
     Ok(sort)
 }
 
-/// The name of an item.
+/// The rules for an item's name.
 pub(crate) fn item_name_rules(
     tables: &NameTables,
     spot: Spot,

@@ -1,8 +1,8 @@
 ghost use Rattle.std.specs.Prelude.{◌≡◌};
 ghost use Rattle.data_scopes.specs.Numbers.{no_counts};
 
-/// How many of each kind stand before: the VARs and array CONSTs of modules, the PERSs, the CONSTs that are no arrays, and
-/// the routines.
+/// How many of each kind are declared before: the VARs and array CONSTs of modules, the PERSs, the CONSTs that are not
+/// arrays, and the routines.
 #[derive(Clone, Copy)]
 pub(crate) struct Counts {
     pub(crate) slots: u32,
@@ -12,7 +12,7 @@ pub(crate) struct Counts {
 }
 
 impl Counts {
-    /// Nothing stands before.
+    /// Nothing is declared before.
     pub(crate) fn new() -> Counts
         ensures { result ≡ no_counts }
     {

@@ -2,8 +2,8 @@
 
 use rapid_model::{Mode, Sort};
 
-/// Where a CONST is declared: the number of its module, and the byte at which its value begins. An expression that begins
-/// behind it may name the CONST.
+/// Where a CONST is declared: the number of its module, and the byte at which its value starts. An expression that
+/// starts after it may name the CONST.
 #[derive(Clone, Copy, Debug, PartialEq, Eq)]
 pub struct Since {
     pub module: u32,
@@ -18,7 +18,7 @@ pub struct DatumRow {
     pub since: Option<Since>,
 }
 
-/// A parameter: how its argument is handed over, and its type.
+/// A parameter: how its argument is passed, and its type.
 #[derive(Clone, Copy, Debug, PartialEq, Eq)]
 pub struct ParamRow {
     pub mode: Mode,

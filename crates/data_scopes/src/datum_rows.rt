@@ -1,4 +1,4 @@
-//! The rows of data, of modules and of routines.
+//! The rows of data of modules and routines.
 
 ghost use Rattle.std.specs.Prelude.{◌≡◌, ◌++◌, ◌∷◌, [], Ok, option_map};
 ghost use Rattle.raw_trees.specs.Views.{view_datum, view_expr, view_name};
@@ -13,15 +13,15 @@ use crate::tables::NameTables;
 use raw_trees::{RawDatum, RawExpr, RawName};
 use rule_checks::TypeFault;
 
-/// The byte at which an expression begins, where a rule that it breaks is reported (RAPID Kernel, expressions). It is the
-/// field `at`, and the clause says so of the tree that definitions speak of.
+/// The byte at which an expression starts, where a rule that it breaks is reported (RAPID Kernel, expressions). It is
+/// the field `at`; the clause says so of the plain view.
 pub fn begin_of(value: &RawExpr<'_>) -> usize
     ensures { result ≡ Rows.begin_of (view_expr value.now) }
 {
     value.at
 }
 
-/// The byte at which the value of a datum begins; its name's where it has none.
+/// The byte at which the value of a datum starts, or that of its name if it has no value.
 fn value_at(name: &RawName<'_>, value: &Option<RawExpr<'_>>) -> usize
     ensures { result ≡ Rows.value_at (view_name name.now) (option_map view_expr value.now) }
 {
@@ -31,7 +31,7 @@ fn value_at(name: &RawName<'_>, value: &Option<RawExpr<'_>>) -> usize
     }
 }
 
-/// Where a CONST of a module, or of a routine of it, is declared.
+/// Where a CONST of a module, or of one of its routines, is declared.
 fn since_of(number: u32, datum: &RawDatum<'_>) -> Option<Since>
     ensures { result ≡ Rows.since_of number (view_datum datum.now) }
 {
@@ -44,7 +44,7 @@ fn since_of(number: u32, datum: &RawDatum<'_>) -> Option<Since>
     None
 }
 
-/// The row of a datum of a module, or of a routine of it.
+/// The row of a datum of a module, or of one of its routines.
 pub(crate) fn datum_row(
     tables: &NameTables,
     number: u32,
@@ -62,7 +62,7 @@ pub(crate) fn datum_row(
     })
 }
 
-/// Behind these rows that of a CONST that is no array, of a PERS, or of another datum. Its error is want of memory.
+/// Appends the row of a CONST that is not an array, of a PERS, or of another datum. Fails only if an allocation fails.
 pub(crate) fn with_datum(
     rows: RowTables,
     datum: &RawDatum<'_>,
@@ -82,7 +82,7 @@ pub(crate) fn with_datum(
     with_slot(rows, row)
 }
 
-/// Behind these rows that of a VAR or of a CONST array of a module. Its error is want of memory.
+/// Appends the row of a VAR or of a CONST array of a module. Fails only if an allocation fails.
 fn with_slot(rows: RowTables, row: DatumRow) -> Result<RowTables, TypeFault>
     ensures { Gives (λ rows. rows) result (Ok (record { consts = rows.consts; slots = rows.slots ++ row ∷ []; pers = rows.pers; routines = rows.routines })) }
 {

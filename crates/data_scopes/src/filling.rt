@@ -1,4 +1,4 @@
-//! The first walk over a task's modules: each name into its scope.
+//! The first pass over a task's modules: each name goes into its scope.
 
 ghost use Rattle.std.specs.Prelude.{◌≡◌, ◌++◌, [], map, length, OnOk, IfOk, IfErr, if◌then◌else◌};
 ghost use Rattle.raw_trees.specs.Views.{view_datum, view_item, view_module, view_param, view_routine};
@@ -20,7 +20,7 @@ use raw_trees::{RawDatum, RawItem, RawModule, RawParam, RawRoutine};
 use rule_checks::TypeFault;
 use std::alloc::Global;
 
-/// Declares the parameters of a routine, and answers how many there are.
+/// Declares the parameters of a routine, and returns how many there are.
 fn declare_params(params: &[RawParam<'_>], scope: &mut NameTable<Meant>) -> Result<u32, TypeFault>
     ensures ok { OnOk result (scope.new ≡ Numbers.declare_params 0 (map view_param params.now) scope.old) }
     ensures count { IfOk result (λ n. n ≡ length params.now) }
@@ -34,7 +34,7 @@ fn declare_params(params: &[RawParam<'_>], scope: &mut NameTable<Meant>) -> Resu
     Ok(index)
 }
 
-/// Declares the data of a routine, the first of which has this index, with so many CONSTs before.
+/// Declares the data of a routine, given the index of the first and the number of CONSTs before.
 fn declare_locals(
     first: u32,
     before: u32,
@@ -69,7 +69,7 @@ fn routine_scope(
     Ok(scope)
 }
 
-/// What an item means, where so many of each kind stand before.
+/// What an item means, given the counts before it.
 fn item_meant(counts: Counts, item: &RawItem<'_>) -> Meant
     ensures { result ≡ Numbers.item_meant counts (view_item item.now) }
 {
@@ -105,7 +105,7 @@ fn declare_item(
     Ok(())
 }
 
-/// Declares the item where it is LOCAL.
+/// Declares the item if it is LOCAL.
 fn declare_own(
     counts: Counts,
     item: &RawItem<'_>,
@@ -120,7 +120,7 @@ fn declare_own(
     Ok(())
 }
 
-/// Declares the item where it is not LOCAL.
+/// Declares the item if it is not LOCAL.
 fn declare_shared(
     counts: Counts,
     item: &RawItem<'_>,
@@ -248,7 +248,7 @@ fn signal_scope(alloc: Global, signals: &[SignalRow]) -> Result<NameTable<Meant>
     Ok(scope)
 }
 
-/// The names of a task's modules among these signals.
+/// The names of a task's modules, with these signals.
 pub(crate) fn tables_of(
     alloc: Global,
     modules: &[RawModule<'_>],

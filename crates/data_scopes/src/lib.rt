@@ -1,4 +1,4 @@
-//! What each name means at each spot of a task's modules, and the first faulty declaration.
+//! What each name means at each spot of a task's modules, and the first wrong declaration.
 #![tactic(auto)]
 
 mod checking;

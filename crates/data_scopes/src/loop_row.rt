@@ -7,8 +7,7 @@ use rapid_limits::LONGEST_NAME;
 use rule_checks::TypeFault;
 use std::marker::Model;
 
-/// A FOR: its variable, and the number of the FOR whose list it stands in, if it stands in one. Contracts see the name in
-/// small letters.
+/// A FOR: its variable, and the number of the FOR around it, if any. Contracts see the name in lower case.
 #[derive(Drop)]
 pub(crate) struct LoopRow {
     name: ArrayVec<u8, LONGEST_NAME>,
@@ -25,7 +24,7 @@ impl Model for LoopRow {
 }
 
 impl LoopRow {
-    /// The FOR of a variable. Its error is want of memory, for a name of more than 32 letters.
+    /// The FOR of a variable. Fails only as out of memory, for a name of more than 32 characters.
     pub(crate) fn new(name: &[u8], outer: Option<u32>) -> Result<LoopRow, TypeFault>
         ensures ok { IfOk result (λ row. row ≡ record { name = str_to_ascii_lowercase name.now; outer = outer }) }
         ensures err { IfErr result (λ e. e ≡ Memory) }
@@ -37,14 +36,14 @@ impl LoopRow {
         Ok(LoopRow { name: own, outer })
     }
 
-    /// Whether its variable has the name, letters of either case being the same.
+    /// Whether its variable has the name, case-insensitively.
     pub(crate) fn is_named(&self, name: &[u8]) -> bool
         ensures { result ≡ bytes_eq (str_to_ascii_lowercase name.now) self.now.name }
     {
         name.eq_ignore_ascii_case(self.name.as_slice())
     }
 
-    /// The FOR whose list it stands in.
+    /// The FOR around it.
     pub(crate) fn outer(&self) -> Option<u32>
         ensures { result ≡ self.now.outer }
     {

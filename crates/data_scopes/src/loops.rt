@@ -13,7 +13,7 @@ use raw_trees::{RawForm, RawRoutine, RawStmt};
 use rule_checks::TypeFault;
 use std::alloc::Global;
 
-/// The FOR of this variable, from the one of a number outward.
+/// The FOR with this variable, searched outward from the FOR with this number.
 pub(crate) fn loop_named(loops: &[LoopRow], name: &[u8], within: Option<u32>) -> Option<u32>
     ensures { result ≡ loop_named (length loops.now) (str_to_ascii_lowercase name.now) loops.now within }
 {
@@ -29,7 +29,7 @@ pub(crate) fn loop_named(loops: &[LoopRow], name: &[u8], within: Option<u32>) ->
     None
 }
 
-/// Appends the FORs of a statement, in the list of the FOR of this number where there is one.
+/// Appends the FORs of a statement that is in the list of the FOR with this number, if any.
 #[cycle(loops)]
 fn push_loops(
     stmt: &RawStmt<'_>,

@@ -1,19 +1,19 @@
 use rapid_model::{Function, Instruction, Predefined};
 
-/// What a name means. Numbers are from 0 in the order of modules and text.
+/// What a name means. Numbers count from 0 in the order of modules and text.
 #[derive(Clone, Copy, Debug, PartialEq, Eq)]
 pub enum Meant {
-    /// A module's VAR, or an array CONST of a module, among these.
+    /// A VAR or an array CONST of a module, by its number among these.
     Slot(u32),
-    /// A by-value parameter, a VAR or an array CONST of the routine, among its parameters and data.
+    /// A by-value parameter, a VAR or an array CONST of the routine, by its index among its parameters and data.
     Local(u32),
-    /// A reference parameter of the routine, among its parameters and data.
+    /// A reference parameter of the routine, by its index among its parameters and data.
     Ref(u32),
-    /// A PERS, among these.
+    /// A PERS, by its number among these.
     Pers(u32),
-    /// A CONST that is no array, among these, those of routines too.
+    /// A CONST that is not an array, by its number among these, including those of routines.
     Const(u32),
-    /// The variable of a FOR of the routine, among its FORs.
+    /// The variable of a FOR of the routine, by its number among its FORs.
     For(u32),
     /// A signal of the script.
     Signal(u32),

@@ -11,7 +11,7 @@ use rapid_model::Mode;
 use raw_trees::{DatumKind, RawDatum, RawItem, RawRoutine};
 use rule_checks::TypeFault;
 
-/// The number behind this one. Its error is want of memory, also for a number past 32 bits.
+/// The number after this one. Fails only as out of memory, also for a number past 32 bits.
 pub fn number_after(number: u32) -> Result<u32, TypeFault>
     ensures ok { IfOk result (λ n. n ≡ number + 1) }
     ensures err { IfErr result (λ e. e ≡ Memory) }
@@ -45,15 +45,15 @@ pub fn is_pers(kind: DatumKind) -> bool
     }
 }
 
-/// Whether the datum is a CONST that is no array: its name means a value that is kept by its number (`Scopes::keep`), and it
-/// has no slot (RAPID Kernel, constant declarations).
+/// Whether the datum is a CONST that is not an array: its name means a value that is kept by its number
+/// (`Scopes::keep`), and it has no slot (RAPID Kernel, constant declarations).
 pub fn is_scalar_const(datum: &RawDatum<'_>) -> bool
     ensures { result ≡ Numbers.is_scalar_const (view_datum datum.now) }
 {
     is_const(datum.kind) && datum.len.is_none()
 }
 
-/// What a datum of a module means, where so many of each kind stand before.
+/// What a datum of a module means, given the counts before it.
 pub(crate) fn datum_meant(counts: Counts, datum: &RawDatum<'_>) -> Meant
     ensures { result ≡ Numbers.datum_meant counts (view_datum datum.now) }
 {
@@ -66,7 +66,7 @@ pub(crate) fn datum_meant(counts: Counts, datum: &RawDatum<'_>) -> Meant
     Meant::Slot(counts.slots)
 }
 
-/// How many of each kind stand before what follows the datum.
+/// The counts after the datum.
 pub(crate) fn after_datum(counts: Counts, datum: &RawDatum<'_>) -> Result<Counts, TypeFault>
     ensures ok { IfOk result (λ c. c ≡ Numbers.after_datum counts (view_datum datum.now)) }
     ensures err { IfErr result (λ e. e ≡ Memory) }
@@ -98,7 +98,7 @@ pub(crate) fn after_datum(counts: Counts, datum: &RawDatum<'_>) -> Result<Counts
     })
 }
 
-/// How many CONSTs stand before what follows a datum of a routine.
+/// How many CONSTs there are after a datum of a routine.
 pub(crate) fn after_local(consts: u32, datum: &RawDatum<'_>) -> Result<u32, TypeFault>
     ensures ok { IfOk result (λ n. n ≡ consts + (if Numbers.is_scalar_const (view_datum datum.now) then 1 else 0)) }
     ensures err { IfErr result (λ e. e ≡ Memory) }
@@ -109,7 +109,7 @@ pub(crate) fn after_local(consts: u32, datum: &RawDatum<'_>) -> Result<u32, Type
     Ok(consts)
 }
 
-/// How many CONSTs stand before what follows the data of a routine.
+/// How many CONSTs there are after the data of a routine.
 fn after_locals(consts: u32, locals: &[RawDatum<'_>]) -> Result<u32, TypeFault>
     ensures ok { IfOk result (λ n. n ≡ consts + Numbers.scalar_consts (map view_datum locals.now)) }
     ensures err { IfErr result (λ e. e ≡ Memory) }
@@ -121,7 +121,7 @@ fn after_locals(consts: u32, locals: &[RawDatum<'_>]) -> Result<u32, TypeFault>
     Ok(after)
 }
 
-/// How many of each kind stand before what follows the routine.
+/// The counts after the routine.
 pub(crate) fn after_routine(counts: Counts, routine: &RawRoutine<'_>) -> Result<Counts, TypeFault>
     ensures ok { IfOk result (λ c. c ≡ Numbers.after_routine counts (view_routine routine.now)) }
     ensures err { IfErr result (λ e. e ≡ Memory) }
@@ -136,7 +136,7 @@ pub(crate) fn after_routine(counts: Counts, routine: &RawRoutine<'_>) -> Result<
     })
 }
 
-/// How many of each kind stand before what follows the item.
+/// The counts after the item.
 pub(crate) fn after_item(counts: Counts, item: &RawItem<'_>) -> Result<Counts, TypeFault>
     ensures ok { IfOk result (λ c. c ≡ Numbers.after_item counts (view_item item.now)) }
     ensures err { IfErr result (λ e. e ≡ Memory) }
@@ -147,7 +147,7 @@ pub(crate) fn after_item(counts: Counts, item: &RawItem<'_>) -> Result<Counts, T
     }
 }
 
-/// How many of each kind stand before what follows the items.
+/// The counts after the items.
 pub(crate) fn after_items(counts: Counts, items: &[RawItem<'_>]) -> Result<Counts, TypeFault>
     ensures ok { IfOk result (λ c. c ≡ Numbers.after_items counts (map view_item items.now)) }
     ensures err { IfErr result (λ e. e ≡ Memory) }
@@ -171,7 +171,7 @@ pub(crate) fn param_meant(index: u32, mode: Mode) -> Meant
     }
 }
 
-/// What a datum of a routine means, at this index among its parameters and data, with so many CONSTs before.
+/// What a datum of a routine means, at this index among its parameters and data, with this many CONSTs before it.
 pub(crate) fn local_meant(index: u32, consts: u32, datum: &RawDatum<'_>) -> Meant
     ensures { result ≡ Numbers.local_meant index consts (view_datum datum.now) }
 {

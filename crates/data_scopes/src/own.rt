@@ -3,7 +3,7 @@ ghost use Rattle.data_scopes.specs.Declarations;
 
 use crate::meant::Meant;
 
-/// Whether a name means what this declaration of it means: no declaration of its scope before has the name.
+/// Whether a name means what this declaration of it means: no earlier declaration in its scope has the name.
 pub(crate) fn is_own(own: Meant, meant: Option<Meant>) -> bool
     ensures { result ≡ Declarations.is_own own meant }
 {

@@ -87,7 +87,7 @@ fn result_row(
     }
 }
 
-/// The row of the routine of this number.
+/// The row of the routine with this number.
 pub(crate) fn routine_row(
     alloc: Global,
     tables: &NameTables,
@@ -108,7 +108,7 @@ pub(crate) fn routine_row(
     })
 }
 
-/// Appends the rows of the CONSTs among a routine's data that are no arrays.
+/// Appends the rows of the CONSTs among a routine's data that are not arrays.
 fn push_scalars(locals: &[DatumRow], consts: &mut Vec<DatumRow>) -> Result<(), TypeFault>
     ensures ok { OnOk result (consts.new.items ≡ consts.old.items ++ Rows.scalar_rows locals.now) }
     ensures err { IfErr result (λ e. e ≡ Memory) }
@@ -121,7 +121,7 @@ fn push_scalars(locals: &[DatumRow], consts: &mut Vec<DatumRow>) -> Result<(), T
     Ok(())
 }
 
-/// Behind these rows that of a routine, and those of its CONSTs. Its error is want of memory.
+/// Appends the row of a routine, and those of its CONSTs. Fails only if an allocation fails.
 pub(crate) fn with_routine(rows: RowTables, row: RoutineEntry) -> Result<RowTables, TypeFault>
     ensures { Gives (λ rows. rows) result (Ok (Rows.with_routine rows row)) }
 {

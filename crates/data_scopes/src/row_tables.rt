@@ -7,8 +7,8 @@ use crate::slots::Slots;
 use rapid_model::{RoutineKind, Sort};
 use std::marker::Model;
 
-/// The declarations by their numbers: the CONSTs that are no arrays, the VARs and CONST arrays of the modules, the PERSs, and
-/// the routines.
+/// The declarations by their numbers: the CONSTs that are not arrays, the VARs and CONST arrays of the modules, the
+/// PERSs, and the routines.
 #[derive(Drop)]
 pub(crate) struct RowTables {
     pub(crate) consts: Vec<DatumRow>,
@@ -26,21 +26,21 @@ impl Model for RowTables {
 }
 
 impl RowTables {
-    /// How many CONSTs there are that are no arrays.
+    /// How many CONSTs are not arrays.
     pub(crate) fn constants(&self) -> usize
         ensures { result ≡ length self.now.consts }
     {
         self.consts.len()
     }
 
-    /// The CONST of this number, which is no array.
+    /// The CONST with this number, which is not an array.
     pub(crate) fn constant(&self, number: u32) -> Option<DatumRow>
         ensures { result ≡ slice_get self.now.consts number }
     {
         self.consts.get(number as usize).copied()
     }
 
-    /// The word that a routine begins with.
+    /// The word that a routine starts with.
     pub(crate) fn kind(&self, routine: u32) -> Option<RoutineKind>
         ensures { result ≡ kind_of self.now routine }
     {
@@ -56,7 +56,7 @@ impl RowTables {
         entry.result
     }
 
-    /// The parameters of a routine; none where there is no such routine.
+    /// The parameters of a routine; empty if there is no such routine.
     pub(crate) fn params(&self, routine: u32) -> &[ParamRow]
         ensures { result.now ≡ params_of self.now routine }
     {
@@ -66,7 +66,7 @@ impl RowTables {
         }
     }
 
-    /// The datum at an index of a routine, among its parameters and then its data.
+    /// The datum at an index of a routine: its parameters come first, then its data.
     pub(crate) fn local(&self, routine: Option<u32>, index: u32) -> Option<DatumRow>
         ensures { result ≡ local_of self.now routine index }
     {
@@ -101,7 +101,7 @@ impl RowTables {
     }
 }
 
-/// The datum at an index, among the parameters and then the data.
+/// The datum at an index: the parameters come first, then the data.
 fn own_row(entry: &RoutineEntry, index: usize) -> Option<DatumRow>
     ensures { result ≡ own_row entry.now index }
 {

@@ -1,4 +1,4 @@
-//! The third walk over a task's modules: what is declared, by its number.
+//! The third pass over a task's modules: what is declared, by its number.
 
 ghost use Rattle.std.specs.Prelude.{◌≡◌, length, map, IfOk, IfErr};
 ghost use Rattle.raw_trees.specs.Views.{view_item, view_module};
@@ -28,7 +28,7 @@ fn no_rows(alloc: Global) -> RowTables
     }
 }
 
-/// The number of the routine that comes behind these rows.
+/// The number of the next routine after these rows.
 fn next_routine(rows: &RowTables) -> Result<u32, TypeFault>
     ensures ok { IfOk result (λ n. n ≡ length rows.now.routines) }
     ensures err { IfErr result (λ e. e ≡ Memory) }
@@ -39,7 +39,7 @@ fn next_routine(rows: &RowTables) -> Result<u32, TypeFault>
     }
 }
 
-/// An item of a module, behind these rows.
+/// Appends the rows of an item of a module.
 fn item_rows(
     alloc: Global,
     tables: &NameTables,
@@ -62,7 +62,7 @@ fn item_rows(
     }
 }
 
-/// The items of a module, behind these rows.
+/// Appends the rows of the items of a module.
 fn items_rows(
     alloc: Global,
     tables: &NameTables,

@@ -23,7 +23,7 @@ use rule_checks::{Spot, TypeFault};
 use std::alloc::Global;
 use std::marker::Model;
 
-/// The names of a task's modules, and the values of their CONSTs that are kept so far.
+/// The names of a task's modules, and the values kept so far for their CONSTs.
 #[derive(Drop)]
 pub struct Scopes {
     tables: NameTables,
@@ -45,9 +45,9 @@ impl Model for Scopes {
 }
 
 impl Scopes {
-    /// The names of a task's modules. The error is the first rule that is broken, through the modules from left to right, at
-    /// a declared name or at its type's name (RAPID Kernel, declarations and scope rules); or want of memory, also where a
-    /// name has more than 32 letters.
+    /// The names of a task's modules. The error is the first broken rule, in text order through the modules, at a
+    /// declared name or at the name of its type (RAPID Kernel, declarations and scope rules); or out of memory, also
+    /// for a name of more than 32 characters.
     pub fn new(
         alloc: Global,
         modules: &[RawModule<'_>],
@@ -69,17 +69,17 @@ impl Scopes {
         })
     }
 
-    /// What the name means at the spot; `None` exactly where nothing of that name is visible (RAPID Kernel, scope rules).
-    /// Letters of either case are the same.
+    /// What the name means at the spot; `None` exactly if nothing with that name is visible (RAPID Kernel, scope
+    /// rules). Names are case-insensitive.
     pub fn find(&self, spot: Spot, name: &[u8]) -> Option<Meant>
         ensures meaning { result ≡ meaning self.now.tables spot name.now }
-        // What is found can be asked of `keep` and `kept`.
+        // A CONST that is found can be passed to `keep` and `kept`.
         ensures known { (constant : ℕ) → result ≡ Some (Meant.Const constant) → constant < length self.now.kept }
     {
         self.tables.meaning(spot, name)
     }
 
-    /// Keeps the value of a constant; all else stays.
+    /// Keeps the value of a constant; nothing else changes.
     pub fn keep(&mut self, constant: u32, value: Value)
         requires named { constant < length self.old.kept }
         // The value is of the constant's type.
@@ -89,7 +89,7 @@ impl Scopes {
         self.kept[constant as usize] = Some(value);
     }
 
-    /// The kept value; `None` exactly where none was kept.
+    /// The kept value; `None` exactly if none was kept.
     pub fn kept(&self, constant: u32) -> Option<Value>
         requires named { constant < length self.now.kept }
         ensures { slice_get self.now.kept constant ≡ Some result }
@@ -107,7 +107,7 @@ impl Scopes {
         self.rows.slots.row(number)
     }
 
-    /// How many of the data of the modules before this one are meetings; past the last of them, how many there are in all. It
+    /// How many of the modules' data before this one are meetings; past the last datum, how many there are in all. This
     /// is the number of the meeting that a `Slot` means (RAPID Instructions, WaitSyncTask).
     pub fn meetings_before(&self, number: u32) -> u32
         ensures { result ≡ meetings_before number self.now.rows.slots }
@@ -115,23 +115,23 @@ impl Scopes {
         self.rows.slots.meetings_before(number)
     }
 
-    /// The PERS of this number.
+    /// The PERS with this number.
     pub fn pers(&self, number: u32) -> Option<DatumRow>
         ensures { result ≡ slice_get self.now.rows.pers number }
     {
         row_at(&self.rows.pers, number)
     }
 
-    /// The CONST of this number, which is no array.
+    /// The CONST with this number, which is not an array.
     pub fn constant(&self, number: u32) -> Option<DatumRow>
         ensures row { result ≡ slice_get self.now.rows.consts number }
-        // It can be asked of `keep` and `kept`.
+        // It can be passed to `keep` and `kept`.
         ensures named { IfSome result (λ _. number < length self.now.kept) }
     {
         self.rows.constant(number)
     }
 
-    /// The datum at an index of a routine, among its parameters and then its data; a parameter as if it were one by value.
+    /// The datum at an index of a routine: its parameters come first, each as if passed by value, then its data.
     pub fn local(&self, routine: Option<u32>, index: u32) -> Option<DatumRow>
         ensures { result ≡ local_of self.now.rows routine index }
     {
@@ -166,14 +166,14 @@ impl Scopes {
         self.rows.result(routine)
     }
 
-    /// The parameters of a routine; none where there is no such routine.
+    /// The parameters of a routine; empty if there is no such routine.
     pub fn routine_params(&self, routine: u32) -> &[ParamRow]
         ensures { result.now ≡ params_of self.now.rows routine }
     {
         self.rows.params(routine)
     }
 
-    /// Whether a signal is an output; `None` exactly where there is none of this number.
+    /// Whether a signal is an output; `None` exactly if no signal has this number.
     pub fn output(&self, signal: u32) -> Option<bool>
         ensures { result ≡ slice_get self.now.outputs signal }
     {
@@ -188,7 +188,7 @@ impl Scopes {
     }
 }
 
-/// No values for so many constants.
+/// No values yet for `count` constants.
 fn no_values(alloc: Global, count: usize) -> Result<Vec<Option<Value>>, TypeFault>
     ensures { Gives (λ v. v.items) result (Ok (replicate count None)) }
 {
@@ -199,14 +199,14 @@ fn no_values(alloc: Global, count: usize) -> Result<Vec<Option<Value>>, TypeFaul
     Ok(kept)
 }
 
-/// The datum of this number.
+/// The datum with this number.
 fn row_at(rows: &[DatumRow], number: u32) -> Option<DatumRow>
     ensures { result ≡ slice_get rows.now number }
 {
     rows.get(number as usize).copied()
 }
 
-/// Of each signal, whether it is an output.
+/// For each signal, whether it is an output.
 fn outputs_of(alloc: Global, signals: &[SignalRow]) -> Result<Vec<bool>, TypeFault>
     ensures { Gives (λ v. v.items) result (Ok (outputs_of signals.now)) }
 {

@@ -13,8 +13,8 @@ use rule_checks::TypeFault;
 use std::alloc::Global;
 use std::marker::Model;
 
-/// The VARs and CONST arrays of the modules by their numbers; of each, how many of those before it are meetings; and how many
-/// meetings there are in all. Contracts see it as the list of the data.
+/// The VARs and CONST arrays of the modules by number; for each, how many of those before it are meetings; and how many
+/// meetings there are in all. Contracts see the list of the data.
 #[derive(Drop)]
 pub(crate) struct Slots {
     rows: Vec<DatumRow>,
@@ -31,7 +31,7 @@ impl Model for Slots {
 
     ghost view = { λ s. s.rows.items };
 
-    // The numbers kept are the counts of the meetings among the data.
+    // The kept numbers count the meetings among the data.
     ghost invariant = { λ s. AreCounted s.rows.items s.before.items s.meetings };
 }
 
@@ -45,7 +45,7 @@ pub fn is_meeting(row: Option<DatumRow>) -> bool
     }
 }
 
-/// How many meetings there are with one more datum. Its error is want of memory, also for a count past 32 bits.
+/// How many meetings there are after one more datum. Fails only as out of memory, also for a count past 32 bits.
 fn meetings_with(meetings: u32, row: DatumRow) -> Result<u32, TypeFault>
     ensures ok { IfOk result (λ n. n ≡ meetings + (if Meetings.is_meeting (Some row) then 1 else 0)) }
     ensures err { IfErr result (λ e. e ≡ Memory) }
@@ -68,7 +68,7 @@ impl Slots {
         }
     }
 
-    /// The datum of this number.
+    /// The datum with this number.
     pub(crate) fn row(&self, number: u32) -> Option<DatumRow>
         ensures { result ≡ slice_get self.now number }
     {
@@ -85,7 +85,7 @@ impl Slots {
         }
     }
 
-    /// One more datum. Its error is want of memory, also where the meetings pass 32 bits.
+    /// Appends a datum. Fails only as out of memory, also if the count of meetings exceeds 32 bits.
     pub(crate) fn with_row(self, row: DatumRow) -> Result<Slots, TypeFault>
         ensures { Gives (λ slots. slots) result (Ok (self ++ row ∷ [])) }
     {

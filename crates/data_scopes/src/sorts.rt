@@ -1,11 +1,11 @@
-//! Whether two types are one, and the types that predefined names are.
+//! Whether two types are the same, and the types that predefined names are.
 
 ghost use Rattle.std.specs.Prelude.{◌≡◌};
 ghost use Rattle.data_scopes.specs.Sorts;
 
 use rapid_model::{Predefined, Sort};
 
-/// Whether two types are one.
+/// Whether two types are the same.
 pub fn same_sort(a: Sort, b: Sort) -> bool
     ensures { result ≡ Sorts.same_sort a b }
 {
@@ -27,7 +27,7 @@ pub fn same_sort(a: Sort, b: Sort) -> bool
     )
 }
 
-/// The type of data that a predefined name is; `None` exactly where it is none (RAPID Instructions, Functions and Data
+/// The type of data that a predefined name is; `None` exactly if it is not one (RAPID Instructions, Functions and Data
 /// types; RAPID Kernel, alias data types, for errnum and dionum).
 pub(crate) fn sort_of(name: Predefined) -> Option<Sort>
     ensures { result ≡ Sorts.sort_of name }

@@ -10,8 +10,8 @@ use rapid_builtins::{function, instruction, predefined};
 use rule_checks::Spot;
 use std::marker::Model;
 
-/// The names of a task's modules: the items that are not LOCAL; the LOCAL ones of each module; the parameters and data of
-/// each routine, and its FORs in text order; the signals.
+/// The names of a task's modules: the items that are not LOCAL; the LOCAL ones of each module; the parameters and data
+/// of each routine, and its FORs in text order; the signals.
 #[derive(Drop)]
 pub(crate) struct NameTables {
     task: NameTable<Meant>,
@@ -86,7 +86,7 @@ impl NameTables {
         find_at(&self.inner, routine, name)
     }
 
-    /// What the name means in a routine: the variables of the FORs around, then its parameters and data.
+    /// What the name means in a routine: the variables of the enclosing FORs, then its parameters and data.
     fn in_routine(&self, name: &[u8], routine: Option<u32>, within: Option<u32>) -> Option<Meant>
         ensures { result ≡ meant_in_routine self.now name.now routine within }
     {
@@ -97,7 +97,7 @@ impl NameTables {
         }
     }
 
-    /// What the name means as a signal's or a predefined one.
+    /// What the name means as a signal or a predefined name.
     pub(crate) fn outside(&self, name: &[u8]) -> Option<Meant>
         ensures { result ≡ meant_outside self.now name.now }
     {
@@ -108,7 +108,7 @@ impl NameTables {
     }
 }
 
-/// What the name means in the scope of this number.
+/// What the name means in the scope with this number.
 fn find_at(scopes: &[NameTable<Meant>], number: u32, name: &[u8]) -> Option<Meant>
     ensures { result ≡ meant_in name.now (list_at scopes.now number) }
 {
@@ -116,7 +116,7 @@ fn find_at(scopes: &[NameTable<Meant>], number: u32, name: &[u8]) -> Option<Mean
     scope.find(name)
 }
 
-/// The FOR of this variable in a routine, from the one of a number outward.
+/// The FOR with this variable in a routine, searched outward from the FOR with this number.
 fn loop_at(loops: &[Vec<LoopRow>], routine: u32, name: &[u8], within: Option<u32>) -> Option<u32>
     ensures { let rows = list_at (loop_rows loops.now) routine in result ≡ loop_named (length rows) (str_to_ascii_lowercase name.now) rows within }
 {

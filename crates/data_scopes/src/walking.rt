@@ -1,4 +1,4 @@
-//! The second walk over a task's modules: the first rule that is broken.
+//! The second pass over a task's modules: the first broken rule.
 
 ghost use Rattle.std.specs.Prelude.{◌≡◌, [], map, option_map};
 ghost use Rattle.std.specs.Str.{str_eq_ignore_ascii_case};
@@ -20,7 +20,7 @@ use rapid_model::{Mode, Sort, has_values};
 use raw_trees::{RawDatum, RawItem, RawModule, RawName, RawParam, RawRoutine};
 use rule_checks::{TypeFault, TypeRule, must};
 
-/// A datum of a module.
+/// The rules for a datum of a module.
 fn datum_rules(
     tables: &NameTables,
     number: u32,
@@ -35,7 +35,7 @@ fn datum_rules(
     item_name_rules(tables, spot, local, datum_meant(counts, datum), &datum.name)
 }
 
-/// An argument by value has a value.
+/// A parameter passed by value has a type with values.
 fn takes_sort(mode: Mode, sort: Sort) -> bool
     ensures { result ≡ Declarations.takes_sort mode sort }
 {
@@ -47,7 +47,7 @@ fn takes_sort(mode: Mode, sort: Sort) -> bool
     }
 }
 
-/// A parameter at this index of a routine.
+/// The rules for the parameter at this index of a routine.
 fn param_rules(
     tables: &NameTables,
     number: u32,
@@ -69,7 +69,7 @@ fn param_rules(
     )
 }
 
-/// The parameters of a routine; it answers how many there are.
+/// The rules for the parameters of a routine; returns how many there are.
 fn params_rules(
     tables: &NameTables,
     number: u32,
@@ -86,7 +86,7 @@ fn params_rules(
     Ok(index)
 }
 
-/// A datum of a routine at this index, with so many CONSTs before.
+/// The rules for the datum at this index of a routine, with this many CONSTs before it.
 fn local_rules(
     tables: &NameTables,
     number: u32,
@@ -107,7 +107,7 @@ fn local_rules(
     )
 }
 
-/// The data of a routine, the first of which has this index, with so many CONSTs before.
+/// The rules for the data of a routine, given the index of the first and the number of CONSTs before.
 fn locals_rules(
     tables: &NameTables,
     number: u32,
@@ -128,7 +128,7 @@ fn locals_rules(
     Ok(())
 }
 
-/// The type of a function's result.
+/// The rules for the type of a function's result.
 fn result_rules(
     tables: &NameTables,
     number: u32,
@@ -147,7 +147,7 @@ fn result_rules(
     }
 }
 
-/// A routine.
+/// The rules for a routine.
 fn routine_rules(
     tables: &NameTables,
     number: u32,
@@ -171,7 +171,7 @@ fn routine_rules(
     )
 }
 
-/// An item of a module.
+/// The rules for an item of a module.
 fn item_rules(
     tables: &NameTables,
     number: u32,
@@ -186,7 +186,7 @@ fn item_rules(
     }
 }
 
-/// The items of a module.
+/// The rules for the items of a module.
 fn items_rules(
     tables: &NameTables,
     number: u32,
@@ -203,7 +203,7 @@ fn items_rules(
     Ok(())
 }
 
-/// Whether the module has the name, letters of either case being the same.
+/// Whether the module has the name, case-insensitively.
 fn is_named(unit: &RawModule<'_>, name: &[u8]) -> bool
     ensures { result ≡ str_eq_ignore_ascii_case name.now (view_module unit.now).name.text }
 {
@@ -222,7 +222,7 @@ fn is_among(name: &[u8], modules: &[RawModule<'_>]) -> bool
     false
 }
 
-/// A module, behind these.
+/// The rules for a module, after these.
 fn module_rules(
     unit: &RawModule<'_>,
     tables: &NameTables,
@@ -241,7 +241,7 @@ fn module_rules(
     items_rules(tables, number, counts, &unit.items)
 }
 
-/// The modules.
+/// The rules for all modules.
 pub(crate) fn modules_rules(modules: &[RawModule<'_>], tables: &NameTables) -> Result<(), TypeFault>
     ensures { Gives (λ u. u) result (Declarations.modules_rules tables.now 0 [] no_counts (map view_module modules.now)) }
 {

@@ -41,7 +41,7 @@ pub elements_end : (site : Site) (sort : Sort) (list : List RawExpr) (i : ℕ) �
     array_elements site sort (raw_exprs_of (map view_raw (drop i list))) ≡ Ok Plain.NoExprs
 elements_end site sort list i le = at_drop_all (λ left. array_elements site sort (raw_exprs_of (map view_raw left))) list i le
 
--- elements are as many as the trees that they are made of
+-- there are as many elements as trees that they are made of
 trees_counted : (es : List TypedExpr) → how_many (exprs_of es) ≡ length es
 trees_counted [] = refl
 trees_counted (e ∷ es) = ap (λ (n : ℕ). suc n) (trees_counted es)
@@ -54,7 +54,7 @@ pub record IsFound (sort : Sort) (v : Value) (outcome : Outcome) : Type 0 where
   pub is : outcome ≡ outcomes.Value v
   pub fits : is_value_of sort v ≡ true
 
--- where a rule and what follows it answer, the rule holds
+-- if a rule and what follows it give a result, the rule holds
 pub held_if : {A : Type 0} (site : Site) (at : ℕ) (rule : TypeRule) (holds : Bool) (w v : A) → (must holds (at_byte site at rule) >>= (λ _. Ok w)) ≡ Ok v → (w ≡ v) × (holds ≡ true)
 held_if site at rule true w v is = (cc, refl)
 held_if site at rule false w v is = absurd cc
@@ -74,7 +74,7 @@ all_found site at sort front fit =
     ap (λ vs. values_or_fault site at sort (all vs)) (append-nil front)
     ∙ ap (λ b. must b (at_byte site at ConstFault) >>= (λ _. Ok front)) fit
 
--- one that is no value of the type
+-- one that is not a value of the type
 unfit : (sort : Sort) (front : List Value) (v : Value) (vs : List Value) → is_value_of sort v ≡ false → list_all (is_value_of sort) (front ++ v ∷ vs) ≡ false
 unfit sort [] v vs fails = ap (λ b. b && list_all (is_value_of sort) vs) fails
 unfit sort (w ∷ front) v vs fails = ap (λ b. is_value_of sort w && b) (unfit sort front v vs fails) ∙ and-false (is_value_of sort w)

@@ -1,4 +1,4 @@
--- What checking of data takes is sound: lengths are within bounds, values are of their types, and so are the persistents.
+-- Data that pass checking are sound: lengths are within bounds, values are of their types, and so are the persistents.
 use Rattle.std.proofs.Common.{◌≡◌, ℕ, ℤ, zero, suc, ◌+◌, Bool, true, false, ◌||◌, ◌==◌, nat_le, List, [], ◌∷◌, length, Option, Some, None, slice_get, Ok, refl, sym, ap, subst, ◌∙◌, if◌then◌else◌}
 use Rattle.std.specs.List.{list_all}
 use Rattle.std.proofs.lemmas.Bool.{and_from, and_parts, le-leb}
@@ -12,8 +12,8 @@ use Rattle.rapid_model.specs.declared.sort.Sort.TheVariants as sorts
 use Rattle.rapid_model.specs.declared.value.Value.{Value}
 use Rattle.rapid_model.specs.declared.value.Value.TheVariants as values
 use Rattle.typed_trees.specs.Sound.{is_sound}
-use Rattle.rapid_operators.specs.Elements.{element_number}
-use Rattle.rapid_operators.proofs.Elements.{element_within}
+use Rattle.rapid_values.specs.Elements.{element_number}
+use Rattle.rapid_values.proofs.Elements.{element_within}
 use Rattle.constant_meaning.specs.Constants.{Elements, Outcomes, all, stops, constant_value, constant_values, is_constant, are_constant}
 use Rattle.constant_meaning.specs.declared.outcome.Outcome.{Outcome}
 use Rattle.constant_meaning.specs.declared.outcome.Outcome.TheVariants as outcomes
@@ -96,7 +96,7 @@ array_fits s known sort len e vs is =
     subst (λ l. are_values_of sort (Some len) l ≡ true) both.0
     (and_from (length ws == len) (list_all (is_value_of sort) ws) both.1 (values_fit s at sort (constant_values known b.elements) ws come_to))))))
 
--- no value is given where the type has none
+-- no value is given if the type has none
 where_valued : (P : Type 0) (has : Bool) (given : Checked (List Value)) (s : Site) (e : PlainExpr) (vs : List Value) → (if has then given else no_value s e) ≡ Ok vs → (given ≡ Ok vs → P) → P
 where_valued P true given s e vs is next = next is
 where_valued P false given s e vs is next = behind P vs (typed s e Nothing) _ is (λ t typed_to failed. absurd cc)
@@ -139,7 +139,7 @@ sort_valued [] k each = refl
 sort_valued (row ∷ rows) zero each = (and_parts (has_valued_sort row) (list_all has_valued_sort rows) each).0
 sort_valued (row ∷ rows) (suc k) each = sort_valued rows k (and_parts (has_valued_sort row) (list_all has_valued_sort rows) each).1
 
--- a value that is kept leaves the rows as they are
+-- keeping a value leaves the rows unchanged
 pub kept_rows : (names : Names) (constant : ℕ) (vs : Option (List Value)) → (keeping names constant vs).rows ≡ names.rows
 kept_rows names constant None = refl
 kept_rows names constant (Some []) = refl
@@ -186,7 +186,7 @@ module _ (number : ℕ) where
   either_rows true a b rows x y = x
   either_rows false a b rows x y = y
 
-  -- the data of a routine leave the rows as they are
+  -- the data of a routine leave the rows unchanged
   locals_rows : (routine : ℕ) (slots : List (Option (List Value))) (ds : List PlainDatum) (n m : Inner) → locals number routine slots ds n ≡ Ok m → m.names.rows ≡ n.names.rows
   locals_rows routine slots [] n m is = ap (λ n. n.names.rows) (sym (ok_same n m is))
   locals_rows routine slots (d ∷ ds) n m is =

@@ -1,5 +1,5 @@
--- The data of a task's modules and routines, one behind the other in the order of modules and text: each with its length and
--- its first values; the value of a CONST is known to what stands behind it.
+-- The data of a task's modules and routines, one after the other in the order of modules and text: each with its length
+-- and its first values; the value of a CONST is known to what comes after it.
 use Rattle.std.specs.Prelude.{ℕ, ◌+◌, Bool, true, false, not, ◌||◌, List, [], ◌∷◌, ◌++◌, length, replicate, Option, Some, None, slice_get, Ok, if◌then◌else◌}
 use Rattle.raw_trees.specs.Plain.{PlainDatum, PlainParam, PlainRoutine, PlainItem, PlainModule, Datum, Routine}
 use Rattle.rapid_model.specs.declared.sort.Sort.{Sort}
@@ -17,9 +17,9 @@ use Rattle.data_scopes.specs.Scopes.{Names}
 use Rattle.rapid_model.specs.Sorts.{width}
 use Rattle.decl_types.specs.Values.{Initial, initial, first_data}
 
--- The data so far: the names with the values of the CONSTs, and how many of these there are; the elements of the CONST arrays
--- by their slots; the rows of VARs and CONST arrays, of PERSs, and of each routine's data; and how many values the modules' data
--- have in all.
+-- The data so far: the names with the values of the CONSTs, and how many of these there are; the elements of the CONST
+-- arrays by their slots; the rows of VARs and CONST arrays, of PERSs, and of each routine's data; and how many values
+-- the modules' data have in all.
 pub record Progress : Type 0 where
   pub names : Names
   pub consts : ℕ
@@ -42,7 +42,7 @@ abbrev pub keeping : Names → ℕ → Option (List Value) → Names
 keeping names constant (Some (v ∷ vs)) = with_kept names constant v
 keeping names constant values = names
 
--- the elements of an array that never change
+-- the elements of an array, if they never change
 abbrev pub known_elements : Bool → Option (List Value) → Option (List Value)
 known_elements true values = values
 known_elements false values = None
@@ -119,7 +119,7 @@ datum number own d p =
     else if is_pers d.kind then datum_pers number own d p
     else datum_slot number d p
 
--- the data of a routine so far: behind its parameters, the elements of its CONST arrays by their places, and the rows
+-- the data of a routine so far: after its parameters, the elements of its CONST arrays by their places, and the rows
 pub record Inner : Type 0 where
   pub names : Names
   pub consts : ℕ
@@ -135,7 +135,7 @@ inner_row d sort i = record {
   first = first_data sort i.len i.values;
 }
 
--- a CONST that is no array is kept; one that is has elements that are known
+-- the value of a CONST that is not an array is kept; the elements of one that is are known
 abbrev pub with_local : Inner → PlainDatum → Sort → Initial → Inner
 with_local n d sort i =
     if is_scalar_const d then record {
@@ -150,7 +150,7 @@ with_local n d sort i =
       rows = n.rows ++ inner_row d sort i ∷ [];
     }
 
--- a datum of this routine, among the elements of the modules' CONST arrays
+-- a datum of this routine, given the elements of the modules' CONST arrays
 abbrev pub local : ℕ → ℕ → List (Option (List Value)) → PlainDatum → Inner → Checked Inner
 local number routine slots d n =
     let sort = sort_in (local_of n.names.rows (Some routine) (length n.known)) in
@@ -186,7 +186,7 @@ abbrev pub items : ℕ → List PlainItem → Progress → Checked Progress
 items number [] p = Ok p
 items number (i ∷ is) p = item number i p >>= (λ q. items number is q)
 
--- the modules, the first of which has this number
+-- the modules, given the number of the first
 abbrev pub data_of : ℕ → List PlainModule → Progress → Checked Progress
 data_of number [] p = Ok p
 data_of number (m ∷ ms) p = items number m.items p >>= (λ q. data_of (number + 1) ms q)

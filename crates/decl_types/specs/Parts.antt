@@ -1,4 +1,4 @@
--- How contracts see what is made of a declaration on the way.
+-- How contracts see what is made of a declaration.
 use Rattle.std.specs.Prelude.{ℕ, ◌+◌, Bool, not, List, [], ◌∷◌, ◌++◌, Option, map}
 use Rattle.raw_trees.specs.Plain.{PlainDatum}
 use Rattle.rapid_model.specs.declared.sort.Sort.{Sort}
@@ -50,7 +50,7 @@ pers_row number own d sort i = record {
   first = i.values;
 }
 
--- the value of a CONST of a routine that is no array is kept
+-- keeps the value of a routine's CONST that is not an array
 abbrev pub with_inner_const : Data.Inner → Option (List Value) → Data.Inner
 with_inner_const n values = record {
   names = Data.keeping n.names n.consts values;
@@ -59,7 +59,7 @@ with_inner_const n values = record {
   rows = n.rows;
 }
 
--- the row of a datum of a routine, and its elements where they are known
+-- the row of a datum of a routine, and its elements if they are known
 abbrev pub with_inner_row : Data.Inner → TypedLocal → Bool → Values.Initial → Data.Inner
 with_inner_row n row constant i = record {
   names = n.names;

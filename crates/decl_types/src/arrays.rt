@@ -20,7 +20,7 @@ use raw_trees::RawExpr;
 use rule_checks::{TypeFault, TypeRule};
 use typed_trees::Expr;
 
-/// What the elements of an array come to are values of its type.
+/// The values of an array's elements, which must be of its type.
 fn values_or_fault(
     site: &Site<'_>,
     at: usize,

@@ -19,14 +19,14 @@ use raw_trees::{RawExpr, RawExprForm};
 use rule_checks::{TypeFault, TypeRule};
 use typed_trees::Expr;
 
-/// The brackets of an array: where they stand, and the elements.
+/// The brackets of an array: where they start, and the elements.
 #[derive(Drop)]
 pub(crate) struct Brackets {
     pub(crate) at: usize,
     pub(crate) elements: Vec<Expr>,
 }
 
-/// Elements of an array, each of its type.
+/// Elements of an array, each of the array's type.
 fn array_elements(
     site: &Site<'_>,
     sort: Sort,
@@ -55,7 +55,7 @@ fn brackets_at(
     Ok(Brackets { at, elements })
 }
 
-/// The initial value of an array is brackets; parentheses hand on what is needed.
+/// The initial value of an array must be brackets; parentheses pass this on.
 pub(crate) fn brackets_in(
     site: &Site<'_>,
     sort: Sort,

@@ -34,7 +34,7 @@ pub(crate) fn sort_in(row: Option<DatumRow>) -> Sort
     }
 }
 
-/// The length and the values of a datum of the module, behind these data.
+/// The length and the values of a datum of the module, after these data.
 fn module_initial(
     alloc: Global,
     number: u32,
@@ -52,7 +52,7 @@ fn module_initial(
     initial_of(&declared, &known, sort, datum)
 }
 
-/// A CONST that is no array, behind these data.
+/// Adds a CONST that is not an array to these data.
 fn with_const(progress: Progress, initial: Initial) -> Result<Progress, TypeFault>
     ensures { Gives view_progress result (Ok (Data.with_const (view_progress progress) (view_initial initial))) }
 {
@@ -99,7 +99,7 @@ fn slot_row(
     })
 }
 
-/// A VAR or a CONST array, behind these data.
+/// Adds a VAR or a CONST array to these data.
 fn with_slot(
     alloc: Global,
     progress: Progress,
@@ -133,7 +133,7 @@ fn with_slot(
     })
 }
 
-/// The row of a PERS of this module; `own` tells whether it is the task's own.
+/// The row of a PERS of this module; `own` says whether it is the task's own.
 fn pers_row(
     number: u32,
     own: bool,
@@ -155,7 +155,7 @@ fn pers_row(
     })
 }
 
-/// A PERS of this module, behind these data; `own` tells whether it is the task's own.
+/// Adds a PERS of this module to these data; `own` says whether it is the task's own.
 fn with_pers(
     progress: Progress,
     number: u32,
@@ -231,7 +231,7 @@ fn datum_slot(
     with_slot(alloc, progress, datum, sort, initial)
 }
 
-/// A datum of the module, behind these data; `own` tells whether it is the task's own.
+/// Adds a datum of the module to these data; `own` says whether it is the task's own.
 pub(crate) fn datum(
     alloc: Global,
     number: u32,

@@ -1,4 +1,4 @@
-//! What data hold at first.
+//! The first contents of data.
 
 ghost use Rattle.std.specs.Prelude.{◌≡◌, map};
 ghost use Rattle.constant_meaning.specs.Constants.{items_of};
@@ -11,7 +11,7 @@ use rule_checks::TypeFault;
 use std::alloc::Global;
 use typed_trees::{Datum, FirstData};
 
-/// What a datum of a type without values holds at first.
+/// The first contents of a datum of a type without values.
 fn without_value(sort: Sort) -> Datum
     ensures { result ≡ Values.without_value sort }
 {
@@ -30,7 +30,7 @@ fn plain_or_mark(sort: Sort, value: Option<Value>) -> Datum
     }
 }
 
-/// What a datum of a type holds at first where its declaration says nothing.
+/// The first contents of a datum of a type, if its declaration gives no value.
 fn start_datum(sort: Sort) -> Datum
     ensures { result ≡ Values.start_datum sort }
 {
@@ -48,7 +48,7 @@ fn plain_data(alloc: Global, values: &[Value]) -> Result<Vec<Datum>, TypeFault>
     Ok(held)
 }
 
-/// What the elements of a datum hold at first. Where no values are given, this takes no memory for the elements.
+/// The first contents of a datum's elements. If no values are given, nothing is allocated for the elements.
 pub(crate) fn first_data(
     alloc: Global,
     sort: Sort,

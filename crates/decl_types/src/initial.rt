@@ -20,14 +20,14 @@ use rapid_model::{Sort, Value, has_values};
 use raw_trees::{RawDatum, RawExpr};
 use rule_checks::{TypeFault, TypeRule};
 
-/// The length of a datum that is an array, and the values that its declaration gives, one for each element.
+/// The length of a datum, if it is an array, and the values that its declaration gives, one for each element.
 #[derive(Drop)]
 pub(crate) struct Initial {
     pub(crate) len: Option<u16>,
     pub(crate) values: Option<Vec<Value>>,
 }
 
-/// Data of the types without values have no initial value.
+/// Data of types without values have no initial value.
 fn no_value(site: &Site<'_>, value: &RawExpr<'_>) -> Result<Vec<Value>, TypeFault>
     ensures { Gives (λ v. v.items) result (Values.no_value (view_site site.now) (view_raw value.now)) }
 {
@@ -74,7 +74,7 @@ fn values_at(
     }
 }
 
-/// The length of a datum that is an array.
+/// The length of a datum, if it is an array.
 fn len_of(
     declared: &Site<'_>,
     known: &Arrays<'_>,
@@ -92,7 +92,7 @@ fn len_of(
     }
 }
 
-/// A CONST without a value is refused at its name.
+/// A CONST without a value is reported at its name.
 fn init_rule(declared: &Site<'_>, datum: &RawDatum<'_>) -> Result<(), TypeFault>
     ensures { Gives (λ u. u) result (Values.init_rule declared.now.scopes.now declared.now.spot.«module» declared.now.spot.routine (view_datum datum.now)) }
 {
@@ -100,7 +100,7 @@ fn init_rule(declared: &Site<'_>, datum: &RawDatum<'_>) -> Result<(), TypeFault>
     must(declared, holds, datum.name.at, TypeRule::NoInit)
 }
 
-/// The length and the values of a datum of this type that is declared in the module, and in the routine, of the site.
+/// The length and the values of a datum of this type, declared in the site's module and routine.
 pub(crate) fn initial_of(
     declared: &Site<'_>,
     known: &Arrays<'_>,

@@ -1,4 +1,4 @@
-//! Items of modules, one behind the other.
+//! Items of modules, one after the other.
 
 ghost use Rattle.std.specs.Prelude.{◌≡◌, map};
 ghost use Rattle.raw_trees.specs.Views.{view_item};
@@ -13,7 +13,7 @@ use raw_trees::RawItem;
 use rule_checks::TypeFault;
 use std::alloc::Global;
 
-/// An item of the module, behind these data. A LOCAL or TASK PERS is the task's own.
+/// Adds an item of the module to these data. A LOCAL or TASK PERS is the task's own.
 fn item(
     alloc: Global,
     number: u32,
@@ -33,7 +33,7 @@ fn item(
     }
 }
 
-/// The items of the module, behind these data.
+/// Adds the items of the module to these data.
 pub(crate) fn items(
     alloc: Global,
     number: u32,

@@ -1,4 +1,4 @@
-//! Values of CONSTs that are known to what stands behind them.
+//! Values of CONSTs, which are known to what comes after them.
 
 ghost use Rattle.std.specs.Prelude.{◌≡◌, Some};
 ghost use Rattle.constant_meaning.specs.Constants.{items_of};
@@ -10,8 +10,8 @@ use data_scopes::Scopes;
 use rapid_model::{Value, is_value_of};
 use rule_checks::TypeFault;
 
-/// The names with the value of one more CONST. Its error is want of memory. A value that is no value of the type of the
-/// CONST's row is refused as such, though it never comes: each initial value is a value of its row's type.
+/// The names with the value of one more CONST. Fails only as out of memory, also if the value is not of the type of the
+/// CONST's row, which never happens: each initial value is of its row's type.
 fn with_kept(scopes: Scopes, constant: u32, value: Value) -> Result<Scopes, TypeFault>
     ensures { Gives (λ s. s) result (Ok (with_kept scopes constant value)) }
 {
@@ -36,7 +36,7 @@ fn keeping_first(scopes: Scopes, constant: u32, values: &[Value]) -> Result<Scop
     }
 }
 
-/// The names with the value of one more CONST, where it has one.
+/// The names with the value of one more CONST, if it has one.
 pub(crate) fn keeping(
     scopes: Scopes,
     constant: u32,
@@ -50,7 +50,7 @@ pub(crate) fn keeping(
     }
 }
 
-/// The elements of an array that never change.
+/// The elements of an array, if they never change.
 pub(crate) fn known_elements(constant: bool, values: Option<Vec<Value>>) -> Option<Vec<Value>>
     ensures { items_of result ≡ Data.known_elements constant (items_of values) }
 {

@@ -13,7 +13,7 @@ use expr_types::typed;
 use named_data::{Site, Wanted, fault, must};
 use rapid_limits::LONGEST_ARRAY;
 use rapid_model::{Sort, Value};
-use rapid_operators::whole_index;
+use rapid_values::whole_index;
 use raw_trees::RawExpr;
 use rule_checks::{TypeFault, TypeRule};
 
@@ -26,7 +26,7 @@ fn length_or_fault(site: &Site<'_>, at: usize, length: Option<u16>) -> Result<u1
     }
 }
 
-/// A value that is a length is a whole number from 1 to the greatest length.
+/// The length that a value is: it must be an integer from 1 to the maximum length.
 fn length_by(site: &Site<'_>, at: usize, value: &Value) -> Result<u16, TypeFault>
     ensures { Gives (λ n. n) result (Values.whole_length (view_site site.now) at (outcomes.Value value.now)) }
 {
@@ -36,7 +36,7 @@ fn length_by(site: &Site<'_>, at: usize, value: &Value) -> Result<u16, TypeFault
     }
 }
 
-/// What a length comes to is a whole number from 1 to the greatest length.
+/// The length that an outcome is: it must be an integer from 1 to the maximum length.
 fn whole_length(site: &Site<'_>, at: usize, outcome: Outcome) -> Result<u16, TypeFault>
     ensures { Gives (λ n. n) result (Values.whole_length (view_site site.now) at outcome) }
 {

@@ -44,7 +44,7 @@ fn beginning(alloc: Global, scopes: Scopes) -> Progress
     }
 }
 
-/// The data of a task's modules, or the first rule of declarations that is broken behind those of `Scopes::new`.
+/// The data of a task's modules, or the first broken rule of declarations after those of `Scopes::new`.
 pub fn data_of(
     alloc: Global,
     modules: &[RawModule<'_>],

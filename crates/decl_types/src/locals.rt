@@ -48,7 +48,7 @@ fn inner_row(
     })
 }
 
-/// The value of a CONST that is no array is kept.
+/// Keeps the value of a CONST that is not an array.
 fn with_inner_const(inner: Inner, values: &Option<Vec<Value>>) -> Result<Inner, TypeFault>
     ensures { Gives view_inner result (Ok (with_inner_const (view_inner inner) (items_of values.now))) }
 {
@@ -68,7 +68,7 @@ fn with_inner_const(inner: Inner, values: &Option<Vec<Value>>) -> Result<Inner, 
     })
 }
 
-/// The row of a datum, and its elements where they are known, behind those of these data.
+/// Adds the row of a datum, and its elements if they are known, to these data.
 fn with_inner_row(
     inner: Inner,
     row: LocalRow,
@@ -93,7 +93,7 @@ fn with_inner_row(
     })
 }
 
-/// A datum of this type, behind these data of its routine.
+/// Adds a datum of this type to these data of its routine.
 fn with_local(
     alloc: Global,
     inner: Inner,
@@ -111,7 +111,7 @@ fn with_local(
     with_inner_row(inner, row, is_const(datum.kind), initial)
 }
 
-/// The type of the datum of this routine that comes behind these data. Its error is want of memory.
+/// The type of the next datum of this routine after these data. Fails only if an allocation fails.
 fn next_sort(routine: u32, inner: &Inner) -> Result<Sort, TypeFault>
     ensures ok { IfOk result (λ sort. sort ≡ Data.sort_in (local_of (view_inner inner.now).names.rows (Some routine) (length (view_inner inner.now).known))) }
     ensures err { IfErr result (λ e. e ≡ Memory) }
@@ -120,7 +120,7 @@ fn next_sort(routine: u32, inner: &Inner) -> Result<Sort, TypeFault>
     Ok(sort_in(inner.scopes.local(Some(routine), place)))
 }
 
-/// A datum of this routine of the module, among the elements of the modules' CONST arrays.
+/// Adds a datum of this routine of the module, given the elements of the modules' CONST arrays.
 fn local(
     alloc: Global,
     number: u32,
@@ -136,7 +136,7 @@ fn local(
     with_local(alloc, inner, datum, sort, initial)
 }
 
-/// The length and the values of a datum of this routine of the module, behind these data.
+/// The length and the values of a datum of this routine of the module, after these data.
 fn local_initial(
     alloc: Global,
     number: u32,
@@ -156,7 +156,7 @@ fn local_initial(
     initial_of(&declared, &known, sort, datum)
 }
 
-/// The data of a routine of the module, behind its parameters.
+/// The data of a routine of the module, after its parameters.
 fn locals(
     alloc: Global,
     number: u32,
@@ -174,7 +174,7 @@ fn locals(
     Ok(inner)
 }
 
-/// No values are known of so many parameters.
+/// No values are known of `count` parameters.
 fn unknown(alloc: Global, count: usize) -> Result<Vec<Option<Vec<Value>>>, TypeFault>
     ensures { Gives (λ v. map items_of v.items) result (Ok (replicate count None)) }
 {
@@ -185,7 +185,7 @@ fn unknown(alloc: Global, count: usize) -> Result<Vec<Option<Vec<Value>>>, TypeF
     Ok(known)
 }
 
-/// Parameters come before the data, and are never known. There is room for so many rows.
+/// Parameters come before the data, and are never known. There is room for this many rows.
 fn entered(
     alloc: Global,
     scopes: Scopes,
@@ -205,7 +205,7 @@ fn entered(
     })
 }
 
-/// A routine of the module, behind these data.
+/// Adds a routine of the module to these data.
 pub(crate) fn routine(
     alloc: Global,
     number: u32,

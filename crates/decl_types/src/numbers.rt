@@ -5,7 +5,7 @@ ghost use Rattle.rule_checks.specs.declared.fault.TypeFault.TheVariants.{Memory}
 
 use rule_checks::TypeFault;
 
-/// So many values more.
+/// The count with this many more values.
 pub(crate) fn more_values(values: usize, more: usize) -> Result<usize, TypeFault>
     ensures ok { IfOk result (λ n. n ≡ values + more) }
     ensures err { IfErr result (λ e. e ≡ Memory) }

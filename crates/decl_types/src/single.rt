@@ -1,4 +1,4 @@
-//! Initial values of data that are no arrays.
+//! Initial values of data that are not arrays.
 
 ghost use Rattle.std.specs.Prelude.{◌≡◌};
 ghost use Rattle.raw_trees.specs.Views.{view_expr as view_raw};
@@ -15,7 +15,7 @@ use rapid_model::{Sort, Value, is_value_of};
 use raw_trees::RawExpr;
 use rule_checks::{TypeFault, TypeRule};
 
-/// What an initial value comes to is a value of the type.
+/// The value of an initial value, which must be of the type.
 pub(crate) fn value_or_fault(
     site: &Site<'_>,
     at: usize,
@@ -33,7 +33,7 @@ pub(crate) fn value_or_fault(
     }
 }
 
-/// The initial value of a datum that is no array, alone in its list.
+/// The initial value of a datum that is not an array, as a list of one.
 pub(crate) fn single_value(
     site: &Site<'_>,
     known: &Arrays<'_>,

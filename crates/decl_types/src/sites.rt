@@ -1,4 +1,4 @@
-//! Where the expressions of a declaration stand.
+//! The sites of the expressions of a declaration.
 
 ghost use Rattle.std.specs.Prelude.{◌≡◌, None};
 ghost use Rattle.raw_trees.specs.Views.{view_expr as view_raw};
@@ -11,7 +11,7 @@ use raw_trees::RawExpr;
 use rule_checks::Spot;
 use std::alloc::Global;
 
-/// A byte of a module, outside the list of any FOR.
+/// The site at a byte of a module, outside the list of any FOR.
 pub(crate) fn site_at<'a>(
     alloc: Global,
     scopes: &'a Scopes,
@@ -34,7 +34,7 @@ pub(crate) fn site_at<'a>(
     }
 }
 
-/// Where an expression stands of a declaration in the module, and in the routine, of this site.
+/// The site of an expression in a declaration of this site's module and routine.
 pub(crate) fn value_site<'a>(declared: &Site<'a>, value: &RawExpr<'_>) -> Site<'a>
     ensures { view_site result ≡ Values.site_of declared.now.scopes.now declared.now.spot.«module» declared.now.spot.routine (view_raw value.now) }
 {

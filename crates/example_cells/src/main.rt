@@ -1,6 +1,6 @@
-//! Runs the examples that lie beside it, and tells of each run whether the status and the lines are those that stand with the
-//! example; of `run` the status and how the tasks ended. A line of the standard input names an action and an example; `history` is
-//! `round` with the whole history.
+//! Runs the examples in its folder, and prints of each run whether the status and the lines are those kept with the
+//! example; of `run` the status and the fates of the tasks. A line of the standard input names an action and an
+//! example; `history` is `round` with the whole history.
 #![tactic(auto)]
 
 use anyhow::Context;
@@ -34,7 +34,7 @@ fn main(rt: HostRuntime) -> anyhow::Result<()> {
     Ok(())
 }
 
-/// The status of an action on an example and what it prints, as they stand with examples.
+/// The status of an action on an example and what it prints, as kept with the examples.
 fn run<R: Files + AllocGlobal + Threads + Wait + Sync>(
     rt: &R,
     action: &str,
@@ -44,13 +44,14 @@ fn run<R: Files + AllocGlobal + Threads + Wait + Sync>(
     let script = script.as_str();
     match action {
         "history" => told_by(rt, &["--history", "round", script], script, true),
-        // The order of the other lines can be another one at each `run`.
+        // The order of the other lines may differ from one `run` to the next.
         "run" => told_by(rt, &["run", script], script, false),
         _ => told_by(rt, &[action, script], script, true),
     }
 }
 
-/// The status of these words and what they print: all lines, or of those on the standard output only how the tasks ended.
+/// The status of these words and what they print: all lines, or of those on the standard output only the fates of the
+/// tasks.
 fn told_by<R: Files + AllocGlobal + Threads + Wait + Sync>(
     rt: &R,
     words: &[&str],

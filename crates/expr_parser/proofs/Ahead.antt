@@ -1,6 +1,6 @@
--- One token of looking ahead is enough for expressions, and a text spells one tree; what is within some levels is within
--- more; and each first sign of a form that opens a level does begin it. Lines that begin alike stand here with the common
--- part taken out too, as they are read.
+-- One token of lookahead is enough for expressions, and a text spells at most one tree. A form within some levels is
+-- also within more. Each first sign of a form that opens a level can start it. Lines with a common start also appear
+-- with that part factored out, as they are read.
 use Rattle.std.proofs.Common.{ℕ, zero, suc, ◌≤◌, true, false, List, [], ◌∷◌, ◌++◌, refl}
 use Rattle.raw_trees.specs.Plain.{PlainExpr, PlainArg, Place}
 use Rattle.rapid_forms.specs.declared.sign.Sign.{Sign}
@@ -13,7 +13,7 @@ use Rattle.rapid_forms.proofs.Same.{Same, same_refl, same_sym, same_trans, seq_s
 use Rattle.expr_parser.specs.Grammar.{mark, number_tree, quoted_tree, truth_tree, behind, first_and_more, invoke_tree, place_tree, Inside, name, part, parts_of, place, primary, chain, term, sum, relation, land, expr_of, group_of, exprs, aggregate_of, index_of, needed, option, args_list, call_of, inside, expr, args}
 use Rattle.expr_parser.specs.Reads.{left, right, named_tree, expr_signs, arg_signs}
 
--- the signs with which forms begin
+-- the signs that forms can start with
 
 abbrev pub primary_signs : List Sign
 primary_signs =
@@ -22,7 +22,7 @@ primary_signs =
 abbrev pub sum_signs : List Sign
 sum_signs = signs.Plus ∷ signs.Minus ∷ primary_signs
 
--- the signs that go on with whole ones
+-- the signs that can continue complete forms
 
 abbrev pub place_more : List Sign
 place_more = signs.OpenBrace ∷ signs.Dot ∷ []
@@ -55,13 +55,13 @@ option_more = signs.Assign ∷ expr_more
 abbrev pub args_more : List Sign
 args_more = signs.Comma ∷ signs.Backslash ∷ option_more
 
--- the lines that begin alike, as they are read
+-- the lines with a common start, as they are read
 
--- behind a name: arguments in parentheses, or what makes it a place
+-- after a name: arguments in parentheses, or what makes it a place
 unfoldable pub named : Inside → Form PlainExpr
 named i = made named_tree (seq name (either (made left i.call) (made right (parts_of i))))
 
--- the other lines, which begin apart, and what begins with a name
+-- the other lines, which start differently, and those that start with a name
 unfoldable pub primary_joined : Inside → Form PlainExpr
 primary_joined i =
     either (made number_tree (mark signs.Number))
@@ -71,14 +71,14 @@ primary_joined i =
 unfoldable pub arg : Form PlainExpr → Form PlainArg
 arg e = either (option e) (needed e)
 
--- behind a comma any argument, without one an option
+-- after a comma any argument, without one an option
 unfoldable pub later : Form PlainExpr → Form PlainArg
 later e = either (made behind (seq (mark signs.Comma) (arg e))) (option e)
 
 unfoldable pub args_joined : Form PlainExpr → Form (List PlainArg)
 args_joined e = made first_and_more (seq (arg e) (many (later e)))
 
--- looking ahead
+-- lookahead
 
 -- the forms that open a level
 pub record InsideLL (i : Inside) : Type 0 where
@@ -236,7 +236,7 @@ pub args_ll : (n : ℕ) → LL true arg_signs (args_more ++ arg_signs) (args n)
 unfolding args
 args_ll n = made_ll _ (optional_ll (inside_ll n).args)
 
--- from one level to those above
+-- from one level to higher ones
 
 -- the forms that open a level
 pub record InsideUp (i j : Inside) : Type 0 where
@@ -350,7 +350,7 @@ inside_up (suc n) =
       args = args_list_up e;
     }
 
--- from any number of levels to any above
+-- from any number of levels to any higher one
 pub inside_above : (n m : ℕ) → n ≤ m → InsideUp (inside n) (inside m)
 inside_above n m le = record {
   group = up_levels (λ k. (inside k).group) (λ k. (inside_up k).group) n m le;
@@ -364,7 +364,7 @@ pub args_up : (n : ℕ) → Up (args n) (args (suc n))
 unfolding args
 args_up n = made_up _ (optional_up (inside_up n).args)
 
--- first signs that do begin a form
+-- first signs that can start a form
 
 pub group_opens : Opens (signs.OpenParenthesis ∷ []) (λ n. (inside n).group)
 unfolding inside group_of

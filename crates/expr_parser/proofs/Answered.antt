@@ -1,5 +1,5 @@
--- The readers of expressions answer for their forms. F n is a form within n levels; what stands inside one that opens a
--- level stands within one less.
+-- The readers of expressions parse their forms correctly. F n is a form within n levels; what is inside a form that
+-- opens a level is within one less.
 use Rattle.std.proofs.Common.{◌≡◌, ℕ, zero, suc, ◌≤◌, true, false, List, Option, None, Some, refl}
 use Rattle.rapid_lexer.specs.Tokens.{Lexeme}
 use Rattle.raw_trees.specs.Plain.{PlainExpr, PlainArg}
@@ -19,7 +19,7 @@ use Rattle.expr_parser.specs.Grammar.{mark, number_tree, quoted_tree, truth_tree
 use Rattle.expr_parser.specs.Reads.{operators_of, InsideRead, left, right, named_tree, arg_signs, name_read, part_read, parts_read, named_read, primary_read, step_read, chain_read, term_read, signed_read, sum_read, relation_read, land_read, negated_read, expr_of_read, group_read, exprs_read, aggregate_read, index_read, needed_read, value_read, option_read, arg_read, later_read, args_read, call_read, inside_read, expr_read}
 use Rattle.expr_parser.proofs.Ahead.{named, primary_joined, arg, later, args_joined, name_ll, part_ll, parts_ll, named_ll, primary_same, primary_ll, term_ll, sum_ll, relation_ll, land_ll, exprs_ll, needed_ll, option_ll, arg_ll, later_ll, args_same, inside_ll, expr_ll, primary_up, term_up, sum_up, relation_up, land_up, expr_of_up, exprs_up, option_up, arg_up, later_up, inside_above, group_opens, aggregate_opens, index_opens, call_opens, later_opens, args_opens}
 
--- from any number of levels to any above
+-- from any number of levels to any higher one
 pub expr_above : (k m : ℕ) → k ≤ m → Up (expr k) (expr m)
 unfolding expr
 expr_above k m le = expr_of_up (inside_above k m le)
@@ -37,7 +37,7 @@ chain_reads operators ra rb lf lg ls e e' up up' =
     (many_reads (step_reads operators rb lg) ls e' (made_opens _ (seq_opens _ (one_opens _))) (λ k m le. made_up _ (seq_up (up_refl _) (up' k m le))))
     lf (λ m. many_ll (ls m) e') e refl up
 
--- a word in front, or none
+-- an optional word in front
 leading_reads : {first more : List Sign} {G : ℕ → Form PlainExpr} {n : ℕ} {b : Reader PlainExpr} (set : List Sign) (f : ℕ → Option Lexeme × PlainExpr → PlainExpr) → Reads G n b → ((m : ℕ) → LL false first more (G m)) → apart set first ≡ true → Reads (λ m. made f (seq (optional (one set)) (G m))) n (made_read f (seq_read (optional_read set (one_read set)) b))
 leading_reads set f r l e =
     both_reads f (optional_reads (one_reads set) (λ m. one_ll set) (one_opens set) (λ k m le. up_refl _)) r (λ m. optional_ll (one_ll set)) l e refl (λ k m le. up_refl _)
@@ -52,7 +52,7 @@ part_reads : {n : ℕ} → Reads (λ m. part) n part_read
 unfolding part part_read
 part_reads = token_reads _ behind name_reads (λ m. name_ll)
 
--- the readers of the forms that open a level answer for them
+-- the readers of the forms that open a level parse them correctly
 pub record InsideReads (n : ℕ) (i : InsideRead) : Type 0 where
   pub group : Reads (λ m. (inside m).group) n i.group
   pub aggregate : Reads (λ m. (inside m).aggregate) n i.aggregate
@@ -60,7 +60,7 @@ pub record InsideReads (n : ℕ) (i : InsideRead) : Type 0 where
   pub call : Reads (λ m. (inside m).call) n i.call
   pub args : Reads (λ m. (inside m).args) n i.args
 
--- from these: operands and chains
+-- given these: operands and chains
 module _ {n : ℕ} {i : InsideRead} (r : InsideReads n i) where
   parts_of_reads : Reads (λ m. parts_of (inside m)) n (parts_read i)
   unfolding parts_of parts_read part
@@ -134,7 +134,7 @@ module _ {n : ℕ} {i : InsideRead} (r : InsideReads n i) where
       (λ m. made_ll _ (seq_ll (one_ll _) (land_ll (inside_ll m)) refl)) refl refl
       (λ k m le. made_up _ (seq_up (up_refl _) (land_up (inside_above k m le)))) (λ k m le. land_up (inside_above k m le))
 
--- from an expression: what stands around it
+-- given an expression: the forms around it
 module _ {n : ℕ} {a : Reader PlainExpr} (r : Reads expr n a) where
   group_of_reads : Reads (λ m. group_of (expr m)) n (group_read a)
   unfolding group_of group_read
@@ -200,7 +200,7 @@ call_of_reads r =
     between_reads _ _ inner (if_any_reads r) (λ m. made_ll _ (optional_ll (inside_ll m).args)) refl
     (λ k m le. made_up _ (optional_up (inside_above k m le).args))
 
--- so the readers answer within any number of levels
+-- so the readers parse correctly within any number of levels
 
 pub inside_reads : (n : ℕ) → InsideReads n (inside_read n)
 unfolding inside inside_read expr

@@ -1,4 +1,4 @@
--- What the functions of expressions give, as their callers are told it.
+-- The results of the functions for expressions, as their callers see them.
 use Rattle.std.proofs.Common.{◌≡◌, ℕ, ◌+◌, ◌≤◌, Bool, List, length, min, Ok, Err, arith}
 use Rattle.rapid_lexer.specs.Tokens.{Lexeme, views}
 use Rattle.rapid_forms.specs.declared.sign.Sign.{Sign}
@@ -16,7 +16,7 @@ use Rattle.expr_parser.specs.Reads.{expr_of_read, inside_read, expr_read}
 use Rattle.expr_parser.proofs.Ahead.{expr_ll}
 use Rattle.expr_parser.proofs.Answered.{expr_above, expr_reads}
 
--- a reader answers for a form, and one token of looking ahead is enough for that
+-- a reader parses a form correctly, and one token of lookahead is enough for it
 pub record Known {A : Type 0} (F : ℕ → Form A) (n : ℕ) (a : Reader A) : Type 0 where
   pub null : Bool
   pub first : List Sign
@@ -26,7 +26,7 @@ pub record Known {A : Type 0} (F : ℕ → Form A) (n : ℕ) (a : Reader A) : Ty
   pub above : (k m : ℕ) → k ≤ m → Up (F k) (F m)
 
 module _ {X A : Type 0} {F : ℕ → Form A} {n : ℕ} {a : Reader A} (k : Known F n a) (tokens : Tokens) (at : ℕ) (view : X → A) where
-  -- a number past the tokens stands for their end
+  -- a number beyond the last token means the end
   pub found : (x : X) (next : ℕ) → at ≤ length tokens.list.now → Gives tokens view (Ok (x, next)) (a (rest_from tokens at)) → Parses F n (views tokens.list.now) tokens.end at view (Ok (x, min next (length tokens.list.now)))
   found x next le g =
       gives_parses k.reads k.ahead k.above tokens at view (Ok (x, min next (length tokens.list.now))) (le, omega arith) (least_gives tokens view x next (a (rest_from tokens at)) g)
@@ -34,7 +34,7 @@ module _ {X A : Type 0} {F : ℕ → Form A} {n : ℕ} {a : Reader A} (k : Known
 pub refused : {A : Type 0} {F : ℕ → Form A} {n : ℕ} {a : Reader A} → Known F n a → (tokens : Tokens) (at : ℕ) (fault : SyntaxFault) → Gives tokens (λ (x : A). x) (Err fault) (a (rest_from tokens at)) → Parses F n (views tokens.list.now) tokens.end at (λ (x : A). x) (Err fault)
 refused k = fails_parses k.reads k.ahead k.above
 
--- what the tokens stand for is one, however deep
+-- tokens denote one thing, at any depth
 pub spelled_once : {A : Type 0} {F : ℕ → Form A} {n : ℕ} {a : Reader A} → Known F n a → (x y : A) (ts : List Lexeme) → Spells F x ts → Spells F y ts → x ≡ y
 spelled_once known x y ts (k, w) (m, w') =
     (known.ahead (k + m)).only x y ts ((known.above k (k + m) (omega arith)).whole x ts w) ((known.above m (k + m) (omega arith)).whole y ts w')

@@ -1,4 +1,4 @@
--- The levels of operators as one.
+-- The levels of operators, uniformly.
 use Rattle.std.proofs.Common.{◌≡◌, refl}
 use Rattle.expr_parser.specs.declared.level.Level.{Level}
 use Rattle.expr_parser.specs.declared.level.Level.TheVariants as levels

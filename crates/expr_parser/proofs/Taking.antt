@@ -1,4 +1,4 @@
--- What loops read takes a token, so that they end.
+-- What loops read takes at least one token, so they terminate.
 use Rattle.std.proofs.Common.{ℕ}
 use Rattle.rapid_forms.specs.declared.sign.Sign.TheVariants as signs
 use Rattle.rapid_forms.specs.Reading.{seq_read, made_read}

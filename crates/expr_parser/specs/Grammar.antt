@@ -1,5 +1,5 @@
--- The grammar of expressions (RAPID Kernel, expressions and data access). Braces mean any number, brackets mean optional,
--- but where they are quoted:
+-- The grammar of expressions (RAPID Kernel, expressions and data access). Braces mean zero or more, brackets mean
+-- optional, except where they are quoted:
 --
 --   expr     = [ NOT ] land { (OR | XOR) land }
 --   land     = relation { AND relation }
@@ -25,7 +25,7 @@ use Rattle.expr_parser.specs.Operators.{operator_of, is_minus, is_true}
 abbrev pub mark : Sign → Form Lexeme
 mark sign = one (sign ∷ [])
 
--- the trees that forms stand for, each at the byte of its first token
+-- the trees that forms denote, each at the byte of its first token
 
 abbrev pub name_tree : ℕ → Lexeme → PlainName
 name_tree at t = record { text = t.text; at = at }
@@ -43,7 +43,7 @@ truth_tree at t = Truth at (is_true t)
 abbrev pub inner : {A : Type 0} → ℕ → Lexeme × (A × Lexeme) → A
 inner at x = x.1.0
 
--- behind a mark
+-- after a mark
 abbrev pub behind : {M A : Type 0} → ℕ → M × A → A
 behind at x = x.1
 
@@ -75,7 +75,7 @@ first_and_more at x = x.0 ∷ x.1
 abbrev pub step_tree : ℕ → Lexeme × PlainExpr → Operator × PlainExpr
 step_tree at x = (operator_of x.0, x.1)
 
--- operators of one level group to the left; they are one node
+-- operators of one level group to the left and make one node
 abbrev pub chain_tree : ℕ → PlainExpr × List (Operator × PlainExpr) → PlainExpr
 chain_tree at (e, []) = e
 chain_tree at (e, s ∷ ss) = Chain at e (steps_of (s ∷ ss))
@@ -106,7 +106,7 @@ name = made name_tree (mark signs.Name)
 unfoldable pub part : Form PlainName
 part = made behind (seq (mark signs.Dot) name)
 
--- an index, or none, and components
+-- an optional index, and components
 unfoldable pub parts_of : Inside → Form (Option PlainExpr × List PlainName)
 parts_of i = seq (optional i.index) (many part)
 
@@ -142,7 +142,7 @@ relation i = made relation_tree (seq (sum i) (optional (made step_tree (seq (one
 unfoldable pub land : Inside → Form PlainExpr
 land i = chain (signs.And ∷ []) (relation i) (relation i)
 
--- NOT covers the first land alone
+-- NOT applies only to the first land
 unfoldable pub expr_of : Inside → Form PlainExpr
 expr_of i = chain (signs.Or ∷ signs.Xor ∷ []) (made negated_tree (seq (optional (mark signs.Not)) (land i))) (land i)
 
@@ -175,7 +175,7 @@ args_list e =
 unfoldable pub call_of : Form (List PlainArg) → Form (List PlainArg)
 call_of args = made inner (seq (mark signs.OpenParenthesis) (seq (made none_or (optional args)) (mark signs.CloseParenthesis)))
 
--- within so many levels
+-- within this many levels
 unfoldable pub inside : ℕ → Inside
 inside zero = record { group = nothing; aggregate = nothing; index = nothing; call = nothing; args = nothing }
 inside (suc n) = record {
@@ -186,14 +186,14 @@ inside (suc n) = record {
   args = args_list (expr_of (inside n));
 }
 
--- an expression within so many levels
+-- an expression within this many levels
 unfoldable pub expr : ℕ → Form PlainExpr
 expr n = expr_of (inside n)
 
--- what stands behind a name in a place, within so many levels
+-- what follows a name in a place, within this many levels
 unfoldable pub parts : ℕ → Form (Option PlainExpr × List PlainName)
 parts n = parts_of (inside n)
 
--- arguments, or none, within so many levels
+-- arguments, if any, within this many levels
 unfoldable pub args : ℕ → Form (List PlainArg)
 args n = made none_or (optional (inside n).args)

@@ -1,4 +1,4 @@
--- What operators and literal words stand for.
+-- The meaning of operators and of the words that are literals.
 use Rattle.std.specs.Prelude.{Bool, List, [], ◌∷◌, if◌then◌else◌}
 use Rattle.rapid_lexer.specs.Tokens.{Lexeme}
 use Rattle.rapid_model.specs.declared.operator.Operator.{Operator}
@@ -7,7 +7,7 @@ use Rattle.rapid_forms.specs.declared.sign.Sign.{Sign}
 use Rattle.rapid_forms.specs.declared.sign.Sign.TheVariants as signs
 use Rattle.rapid_forms.specs.Signs.{has, sign_of}
 
--- the signs of operators, and the operators
+-- the signs of operators, with the operators
 abbrev pub operator_rows : List (Sign × Operator)
 operator_rows =
     (signs.Or, operators.Or) ∷ (signs.Xor, operators.Xor) ∷ (signs.And, operators.And)

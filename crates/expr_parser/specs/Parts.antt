@@ -1,4 +1,4 @@
--- Lists of trees, and what stands behind a name in a place, as contracts see them.
+-- How contracts see lists of trees, and what follows a name in a place.
 use Rattle.std.specs.Prelude.{List, Option, map, option_map, Vec}
 use Rattle.std.specs.declared.alloc.Global.{Global}
 use Rattle.raw_trees.specs.declared.raw_expr.RawExpr.{RawExpr}
@@ -7,7 +7,7 @@ use Rattle.raw_trees.specs.declared.raw_name.RawName.{RawName}
 use Rattle.raw_trees.specs.Views.{view_arg, view_expr, view_name}
 use Rattle.raw_trees.specs.Plain.{PlainName, PlainExpr, PlainArg}
 
--- an index and components, as they are seen
+-- the view of an optional index and components
 abbrev pub view_parts : Option RawExpr × Vec RawName Global → Option PlainExpr × List PlainName
 view_parts x = (option_map view_expr x.0, map view_name x.1.items)
 

@@ -1,4 +1,4 @@
--- Reading expressions from left to right: the readers of the forms of the grammar, by which its functions are proved.
+-- Reading expressions from left to right: the readers of the grammar's forms, which the functions are proved against.
 use Rattle.std.specs.Prelude.{ℕ, zero, suc, List, [], ◌∷◌, Option}
 use mathlib.Core.Logic.{◌⊎◌, inl, inr}
 use Rattle.rapid_lexer.specs.Tokens.{Lexeme}
@@ -11,7 +11,7 @@ use Rattle.expr_parser.specs.declared.level.Level.{Level}
 use Rattle.expr_parser.specs.declared.level.Level.TheVariants as levels
 use Rattle.expr_parser.specs.Grammar.{name_tree, number_tree, quoted_tree, truth_tree, inner, behind, group_tree, aggregate_tree, invoke_tree, place_tree, needed_tree, option_tree, none_or, first_and_more, step_tree, chain_tree, relation_tree, signed_tree, negated_tree, comparisons}
 
--- the signs with which expressions and arguments begin
+-- the signs that expressions and arguments can start with
 abbrev pub expr_signs : List Sign
 expr_signs =
     signs.Not ∷ signs.Plus ∷ signs.Minus ∷ signs.Number ∷ signs.Quoted ∷ signs.True ∷ signs.False ∷ signs.OpenParenthesis ∷ signs.OpenBracket ∷ signs.Name ∷ []
@@ -35,14 +35,14 @@ name_read = made_read name_tree (mark_read signs.Name)
 unfoldable pub part_read : Reader PlainName
 part_read = made_read behind (seq_read (mark_read signs.Dot) name_read)
 
--- an index and components, or none
+-- an optional index, and components
 unfoldable pub parts_read : InsideRead → Reader (Option PlainExpr × List PlainName)
 parts_read i = seq_read (optional_read (signs.OpenBrace ∷ []) i.index) (many_read (signs.Dot ∷ []) part_read)
 
 unfoldable pub place_read : InsideRead → Reader PlainPlace
 place_read i = made_read place_tree (seq_read name_read (parts_read i))
 
--- what stands behind a name: arguments in parentheses, or what makes it a place
+-- what follows a name: arguments in parentheses, or what makes it a place
 abbrev pub left : {A B : Type 0} → ℕ → A → A ⊎ B
 left at x = inl x
 
@@ -145,7 +145,7 @@ option_read e = made_read option_tree (seq_read (mark_read signs.Backslash) (seq
 unfoldable pub arg_read : Reader PlainExpr → Reader PlainArg
 arg_read e = either_read (signs.Backslash ∷ []) (option_read e) (needed_read e)
 
--- behind a comma stands any argument, without one an option
+-- after a comma comes any argument, without one an option
 unfoldable pub later_read : Reader PlainExpr → Reader PlainArg
 later_read e = either_read (signs.Comma ∷ []) (made_read behind (seq_read (mark_read signs.Comma) (arg_read e))) (option_read e)
 
@@ -156,7 +156,7 @@ unfoldable pub call_read : Reader (List PlainArg) → Reader (List PlainArg)
 call_read args =
     made_read inner (seq_read (mark_read signs.OpenParenthesis) (seq_read (made_read none_or (optional_read arg_signs args)) (mark_read signs.CloseParenthesis)))
 
--- within so many levels
+-- within this many levels
 unfoldable pub inside_read : ℕ → InsideRead
 inside_read zero = record {
   group = nothing_read (signs.OpenParenthesis ∷ []);
@@ -173,6 +173,6 @@ inside_read (suc n) = record {
   args = args_read (expr_of_read (inside_read n));
 }
 
--- an expression within so many levels
+-- an expression within this many levels
 unfoldable pub expr_read : ℕ → Reader PlainExpr
 expr_read n = expr_of_read (inside_read n)

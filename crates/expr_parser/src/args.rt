@@ -26,7 +26,7 @@ static ARG_SIGNS: [Sign; 11] = [
     Sign::Name,
 ];
 
-/// Arguments in parentheses, or an empty pair of them.
+/// Parenthesized arguments, possibly none.
 #[cycle(expr)]
 #[tactic(auto, unfolding(crate::specs::Reads::inside_read, crate::specs::Reads::call_read, rapid_forms::specs::Reading::seq_read, rapid_forms::specs::Reading::made_read, rapid_forms::specs::Reading::then_read, rapid_forms::specs::Reading::nothing_read))]
 pub(crate) fn call<'a>(
@@ -45,7 +45,7 @@ pub(crate) fn call<'a>(
     Ok((args, end))
 }
 
-/// Arguments, where any are there, within `left` levels, and the number of the token behind them.
+/// Arguments, if any, within `left` levels, and the number of the token after them.
 #[cycle(expr)]
 #[tactic(auto, unfolding(rapid_forms::specs::Reading::made_read, rapid_forms::specs::Reading::optional_read, rapid_forms::specs::Reading::then_read))]
 pub fn args_if_any<'a>(
@@ -62,7 +62,7 @@ pub fn args_if_any<'a>(
     }
 }
 
-/// Arguments, one at least.
+/// One or more arguments.
 #[cycle(expr)]
 #[tactic(auto, unfolding(crate::specs::Reads::inside_read, rapid_forms::specs::Reading::nothing_read))]
 fn args<'a>(
@@ -99,7 +99,7 @@ fn some_args<'a>(
     Ok((list, next))
 }
 
-/// An argument behind others: behind a comma any, and else an option.
+/// A further argument: after a comma any, otherwise an option.
 #[cycle(expr)]
 #[tactic(auto, unfolding(crate::specs::Reads::later_read, rapid_forms::specs::Reading::either_read, rapid_forms::specs::Reading::made_read, rapid_forms::specs::Reading::seq_read, rapid_forms::specs::Reading::then_read))]
 fn later_arg<'a>(

@@ -24,7 +24,7 @@ static COMPARISONS: [Sign; 6] = [
     Sign::GreaterEqual,
 ];
 
-/// The expression that begins at token `at`, within `left` levels, and the number of the token behind it.
+/// The expression that starts at token `at`, within `left` levels, and the number of the token after it.
 #[cycle(expr)]
 pub fn expr<'a>(
     p: &Parser<'_, 'a>,
@@ -53,7 +53,7 @@ fn chain<'a>(
     Ok((chain, end))
 }
 
-/// One node of an operand and what stands behind it.
+/// One node for an operand and what follows it.
 fn chained<'a>(
     p: &Parser<'_, 'a>,
     at: usize,
@@ -105,7 +105,7 @@ fn operand<'a>(
     }
 }
 
-/// Operators of a level and the operands behind them.
+/// Operators of a level, each with the operand after it.
 #[cycle(expr)]
 fn steps<'a>(
     p: &Parser<'_, 'a>,
@@ -125,7 +125,7 @@ fn steps<'a>(
     Ok((list, next))
 }
 
-/// One more step; the first takes the room of one.
+/// Appends a step. The first one allocates room for exactly one.
 fn push_step<'a>(
     list: &mut Vec<(Operator, RawExpr<'a>)>,
     step: (Operator, RawExpr<'a>),
@@ -140,7 +140,7 @@ fn push_step<'a>(
     Ok(())
 }
 
-/// An operator of a level and the operand behind it.
+/// An operator of a level and the operand after it.
 #[cycle(expr)]
 #[tactic(auto, unfolding(crate::specs::Reads::step_read, rapid_forms::specs::Reading::made_read, rapid_forms::specs::Reading::seq_read, rapid_forms::specs::Reading::then_read))]
 fn step<'a>(
@@ -156,7 +156,7 @@ fn step<'a>(
     Ok(((operator_of(&operator), value), end))
 }
 
-/// NOT, if it is there, and what it covers.
+/// An optional NOT and its operand.
 #[cycle(expr)]
 #[tactic(auto, unfolding(crate::specs::Reads::negated_read, rapid_forms::specs::Reading::made_read, rapid_forms::specs::Reading::seq_read, rapid_forms::specs::Reading::optional_read, rapid_forms::specs::Reading::then_read))]
 fn negated<'a>(
@@ -175,7 +175,7 @@ fn negated<'a>(
     Ok((not, end))
 }
 
-/// A leading sign, if it is there, and the term that it covers.
+/// An optional sign and the term that it applies to.
 #[cycle(expr)]
 #[tactic(auto, unfolding(crate::specs::Reads::signed_read, rapid_forms::specs::Reading::made_read, rapid_forms::specs::Reading::seq_read, rapid_forms::specs::Reading::optional_read, rapid_forms::specs::Reading::then_read))]
 fn signed<'a>(p: &Parser<'_, 'a>, at: usize, left: u32) -> Result<(RawExpr<'a>, usize), SyntaxFault>
@@ -190,7 +190,7 @@ fn signed<'a>(p: &Parser<'_, 'a>, at: usize, left: u32) -> Result<(RawExpr<'a>, 
     Ok((signed, end))
 }
 
-/// A sum, or two that are compared.
+/// A sum, or a comparison of two.
 #[cycle(expr)]
 #[tactic(auto, unfolding(crate::specs::Reads::relation_read, rapid_forms::specs::Reading::made_read, rapid_forms::specs::Reading::seq_read, rapid_forms::specs::Reading::optional_read, rapid_forms::specs::Reading::then_read))]
 fn relation<'a>(
@@ -211,7 +211,7 @@ fn relation<'a>(
     Ok((chain, end))
 }
 
-/// A comparison and the sum behind it.
+/// A comparison operator and the sum after it.
 #[cycle(expr)]
 #[tactic(auto, unfolding(crate::specs::Reads::step_read, rapid_forms::specs::Reading::made_read, rapid_forms::specs::Reading::seq_read, rapid_forms::specs::Reading::then_read))]
 fn comparison<'a>(

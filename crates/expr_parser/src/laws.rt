@@ -1,4 +1,4 @@
-//! The law of expressions.
+//! The law about expressions.
 
 ghost use Rattle.std.specs.Prelude.{◌≡◌, ℕ, List, ◌⊎◌};
 ghost use Rattle.rapid_lexer.specs.Tokens.{Lexeme};
@@ -6,8 +6,8 @@ ghost use Rattle.raw_trees.specs.Plain.{PlainExpr};
 ghost use Rattle.rapid_forms.specs.Parsed.{IsFaulty, IsParsed, IsTooDeep, Spells};
 ghost use Rattle.expr_parser.specs.Grammar.{expr};
 
-/// Of each list of tokens one answer holds within each number of levels, and only one; and tokens spell one expression at
-/// most, however deep.
+/// At each nesting depth, each list of tokens has exactly one answer; and tokens spell at most one expression, at any
+/// depth.
 pub fn one_answer()
     ensures some { (n : ℕ) (ts : List Lexeme) → ((x : PlainExpr) × (k : ℕ) × IsParsed expr n ts x k) ⊎ (((k : ℕ) × IsFaulty expr n ts k) ⊎ ((k : ℕ) × IsTooDeep expr n ts k)) }
     ensures tree { (n : ℕ) (ts : List Lexeme) (x y : PlainExpr) (j k : ℕ) → IsParsed expr n ts x j → IsParsed expr n ts y k → (x ≡ y) × (j ≡ k) }

@@ -3,7 +3,7 @@ ghost use Rattle.expr_parser.specs.Reads.{operators_of};
 
 use rapid_forms::Sign;
 
-/// A level of operators that are chained from left to right (RAPID Kernel, expressions).
+/// A level of operators, which chain from left to right (RAPID Kernel, expressions).
 #[derive(Clone, Copy, Debug, PartialEq, Eq)]
 pub(crate) enum Level {
     Or,

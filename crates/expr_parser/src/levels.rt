@@ -1,4 +1,4 @@
-//! Forms between two marks, each of which opens a level.
+//! Forms between two marks. Each opens a level.
 
 ghost use Rattle.std.specs.Prelude.{◌∷◌, []};
 ghost use Rattle.raw_trees.specs.Views.{view_expr};
@@ -50,7 +50,7 @@ pub(crate) fn aggregate<'a>(
     Ok((RawExpr::aggregate(p.tokens.byte_at(at), values), end))
 }
 
-/// An index in braces, within `left` levels, and the number of the token behind it.
+/// An index in braces, within `left` levels, and the number of the token after it.
 #[cycle(expr)]
 #[tactic(auto, unfolding(crate::specs::Reads::inside_read, crate::specs::Reads::index_read, rapid_forms::specs::Reading::made_read, rapid_forms::specs::Reading::seq_read, rapid_forms::specs::Reading::then_read, rapid_forms::specs::Reading::nothing_read))]
 pub fn index<'a>(
@@ -69,7 +69,7 @@ pub fn index<'a>(
     Ok((value, end))
 }
 
-/// Expressions with commas between them, one at least, within `left` levels, and the number of the token behind them.
+/// One or more expressions separated by commas, within `left` levels, and the number of the token after them.
 #[cycle(expr)]
 #[tactic(auto, unfolding(crate::specs::Reads::exprs_read, rapid_forms::specs::Reading::made_read, rapid_forms::specs::Reading::seq_read, rapid_forms::specs::Reading::then_read))]
 pub fn exprs<'a>(
@@ -91,7 +91,7 @@ pub fn exprs<'a>(
     Ok((list, next))
 }
 
-/// A comma and the expression behind it.
+/// A comma and the expression after it.
 #[cycle(expr)]
 #[tactic(auto, unfolding(rapid_forms::specs::Reading::made_read, rapid_forms::specs::Reading::seq_read, rapid_forms::specs::Reading::then_read))]
 fn more_expr<'a>(

@@ -1,5 +1,5 @@
-//! Expressions: which tokens spell one, and the tree that they spell. Beside `parse_expr` stand the parts that the parsers
-//! of statements and modules read, for the `Parser` that all of them share.
+//! Expressions: which tokens spell one, and its tree. Besides `parse_expr` there are the parts that the parsers of
+//! statements and modules use, for the `Parser` that they share.
 #![tactic(auto)]
 
 mod args;

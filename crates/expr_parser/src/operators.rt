@@ -1,4 +1,4 @@
-//! What operators and literal words stand for.
+//! The meaning of operators and of the words that are literals.
 
 ghost use Rattle.std.specs.Prelude.{◌≡◌};
 ghost use Rattle.rapid_lexer.specs.Tokens.{view};
@@ -8,7 +8,7 @@ use rapid_forms::{Sign, sign_of};
 use rapid_lexer::Token;
 use rapid_model::Operator;
 
-/// The operator that a token is, where it is one.
+/// The operator of a token, if it is one.
 #[tactic(auto, unfolding(crate::specs::Operators::operator_of))]
 pub(crate) fn operator_of(token: &Token<'_>) -> Operator
     ensures { result ≡ operator_of (view token.now) }
@@ -16,7 +16,7 @@ pub(crate) fn operator_of(token: &Token<'_>) -> Operator
     operator_with(sign_of(token))
 }
 
-/// The operator that a token with this sign is, where it is one.
+/// The operator for this sign, if it is one.
 #[tactic(auto, unfolding(rapid_forms::specs::Signs::has))]
 fn operator_with(sign: Sign) -> Operator
     ensures { result ≡ operator_in operator_rows sign }

@@ -1,4 +1,4 @@
-//! The call for tokens alone.
+//! The call for tokens without a `Parser`.
 
 ghost use Rattle.std.specs.Prelude.{◌≤◌, ◌-◌, length};
 ghost use Rattle.rapid_lexer.specs.Tokens.{views};
@@ -13,7 +13,7 @@ use rapid_limits::MOST_LEVELS;
 use raw_trees::RawExpr;
 use std::alloc::Global;
 
-/// The expression that begins at token `at`, and the number of the token behind it. `depth` levels of nesting are open
+/// The expression that starts at token `at`, and the number of the token after it. `depth` levels of nesting are open
 /// before token `at`, and `end` is the length of the text in bytes.
 pub fn parse_expr<'a>(
     alloc: Global,

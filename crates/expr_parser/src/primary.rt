@@ -78,7 +78,7 @@ fn truth<'a>(p: &Parser<'_, 'a>, at: usize) -> Result<(RawExpr<'a>, usize), Synt
     Ok((RawExpr::truth(token.at, is_true(&token)), next))
 }
 
-/// A name, and what stands behind it: arguments in parentheses, or what makes it a place.
+/// A name and what follows it: arguments in parentheses, or what makes it a place.
 #[cycle(expr)]
 #[tactic(auto, unfolding(crate::specs::Reads::named_read, rapid_forms::specs::Reading::made_read, rapid_forms::specs::Reading::seq_read, rapid_forms::specs::Reading::either_read, rapid_forms::specs::Reading::then_read))]
 fn named<'a>(p: &Parser<'_, 'a>, at: usize, left: u32) -> Result<(RawExpr<'a>, usize), SyntaxFault>
@@ -94,8 +94,8 @@ fn named<'a>(p: &Parser<'_, 'a>, at: usize, left: u32) -> Result<(RawExpr<'a>, u
     Ok((RawExpr::place(p.tokens.byte_at(at), place), end))
 }
 
-/// What stands behind a name in a place, within `left` levels: an index, or none, and components. With it the number of
-/// the token behind them.
+/// What follows a name in a place, within `left` levels: an optional index, and components. Also the number of the
+/// token after them.
 #[cycle(expr)]
 #[tactic(auto, unfolding(crate::specs::Reads::parts_read, rapid_forms::specs::Reading::seq_read, rapid_forms::specs::Reading::then_read))]
 pub fn place_parts<'a>(
@@ -110,7 +110,7 @@ pub fn place_parts<'a>(
     Ok(((index, parts), end))
 }
 
-/// An index, if one is there.
+/// An optional index.
 #[cycle(expr)]
 #[tactic(auto, unfolding(rapid_forms::specs::Reading::optional_read, rapid_forms::specs::Reading::then_read))]
 fn index_if_any<'a>(
@@ -141,7 +141,7 @@ fn parts<'a>(p: &Parser<'_, 'a>, at: usize) -> Result<(Vec<RawName<'a>>, usize),
     Ok((list, next))
 }
 
-/// A component behind a dot.
+/// A component after a dot.
 #[tactic(auto, unfolding(crate::specs::Reads::part_read, rapid_forms::specs::Reading::made_read, rapid_forms::specs::Reading::seq_read, rapid_forms::specs::Reading::then_read))]
 fn part<'a>(p: &Parser<'_, 'a>, at: usize) -> Result<(RawName<'a>, usize), SyntaxFault>
     ensures { Gives p.now.tokens view_name result (part_read (rest_from p.now.tokens at)) }

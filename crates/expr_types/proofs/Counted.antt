@@ -19,7 +19,7 @@ pub exprs_counted : (es : List PlainExpr) → count (exprs_of es) ≡ length es
 exprs_counted [] = refl
 exprs_counted (e ∷ es) = ap suc (exprs_counted es)
 
--- what one argument says, else what those behind it do
+-- what one argument determines, else what those after it do
 abbrev pub or_need : Option Need → Need → Need
 or_need (Some need) other = need
 or_need None other = other

@@ -23,17 +23,17 @@ use Rattle.named_data.specs.Wants.{of_component, suits, comes_to}
 use Rattle.expr_types.specs.Calls.{Taking, after}
 use Rattle.expr_types.specs.Typing.{TypedRest, arguments, elements, one_argument, steps, typed}
 
--- so many in front of the rest
+-- a list in front of the rest
 abbrev pub all : {X R : Type 0} → (X → R → R) → List X → R → R
 all more [] r = r
 all more (x ∷ xs) r = more x (all more xs r)
 
--- what is there, and what comes behind it
+-- what is there, and what comes after it
 abbrev pub behind : {X R : Type 0} → (X → R → R) → List X → Checked R → Checked R
 behind more front (Ok r) = Ok (all more front r)
 behind more front (Err b) = Err b
 
--- one more in front of what comes behind
+-- one more in front of what comes after
 abbrev pub then_more : {X R : Type 0} → (X → R → R) → X → Checked R → Checked R
 then_more more x rest = rest >>= (λ r. Ok (more x r))
 
@@ -48,7 +48,7 @@ pub goes_on : {X R : Type 0} (more : X → R → R) (front : List X) (x : X) (re
 goes_on more front x (Ok r) = ap Ok (sym (all_push more front x r))
 goes_on more front x (Err b) = refl
 
--- what a step breaks is what the whole breaks
+-- a rule broken by a step is broken by the whole
 pub stops : {X R : Type 0} (f : Checked X → Checked R) → ((b : TypeBreak) → f (Err b) ≡ Err b) → (fault : TypeFault) (one : Checked X) (whole : Checked R) → whole ≡ f one → Fails fault one → Fails fault whole
 stops f errs (Rule number at rule) one whole is h = is ∙ ap f h ∙ errs (record { «module» = number; at = at; rule = rule })
 stops f errs Memory one whole is h = tt

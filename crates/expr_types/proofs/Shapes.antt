@@ -40,7 +40,7 @@ use Rattle.expr_types.specs.Places
 use Rattle.expr_types.specs.Places.{no_meeting, place_in}
 use Rattle.expr_types.specs.Typing.{aggregate, arguments, call, elements, index_in, one_argument, sort_of, steps, typed}
 
--- what is given by one is given by what is the same
+-- what is given by a check is given by an equal one
 pub along : {X A : Type 0} (view : X → A) (r : Result X TypeFault) (a b : Checked A) → b ≡ a → Gives view r a → Gives view r b
 along view r a b same h = subst (λ (checked : Checked _). Gives view r checked) (sym same) h
 
@@ -67,7 +67,7 @@ unfolding typed
 typed_chain site raw first rest want is =
     ap (λ form. typed site (view_form raw.at form) want) is ∙ ap (λ e. typed site e want) (chain_view raw.at first rest)
 
--- what is broken stays broken
+-- a broken rule stays broken
 never : {X Y Z : Type 0} (r : Checked X) (b : TypeBreak) (f : Y → Checked Z) → (r >>= (λ _. Err b)) ≡ ((r >>= (λ _. Err b)) >>= f)
 never (Ok x) b f = refl
 never (Err c) b f = refl
@@ -132,7 +132,7 @@ unfolding index_in
 pers_name_by site (Place at (PlaceOf name held components)) = refl
 pers_name_by site e = refl
 
--- what the next argument has to be
+-- what the next argument must be
 pub needed_by_first : (site : Site) (list : List Need) (e : PlainExpr) (value : Wanted → Checked TypedExpr) (i : Checked TypedHeld) (need : Need) →
     Some need ≡ first_need list → needed site list e value i ≡ argument site need e value i
 needed_by_first site [] e value i need is = absurd (cc)
@@ -179,7 +179,7 @@ argument_of_array site need e (inl is) =
 argument_of_array site need e (inr is) =
     subst (λ n. argument site n e (typed site e) (index_in site e) ≡ (place_in site true Nothing TypeClash e >>= (λ p. lent_whole site n (begin_of e) (is_whole e) p))) (sym is) (task_list_in site e)
 
--- an argument that is no option
+-- an argument that is not an option
 pub needed_argument : (site : Site) (t : Taking) (a : RawArg) (v : RawExpr) → a ≡ NeededArg v →
     one_argument site (view_raw_arg a) t ≡ needed site t.needs (view_raw v) (typed site (view_raw v)) (index_in site (view_raw v))
 unfolding one_argument

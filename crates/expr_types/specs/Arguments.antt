@@ -1,5 +1,5 @@
--- Arguments, each by what its callee needs. Where a value may stand, value is what the argument comes to as one, by what is
--- wanted of it; index is what the index in it comes to.
+-- Arguments, each for what its callee needs. If a value is allowed, value gives the argument's typed form as one, by
+-- what is required of it; index gives that of the index in it.
 use Rattle.std.specs.Prelude.{ℕ, ℤ, pos, Bool, true, false, not, ◌&&◌, ◌||◌, List, [], codes, Option, Some, None, is_some, slice_get, Ok, Err, if◌then◌else◌}
 use Rattle.std.specs.Ordering.{int_eq}
 use Rattle.std.specs.Str.{str_eq_ignore_ascii_case}
@@ -40,22 +40,22 @@ abbrev pub is_held : PlainHeld → Bool
 is_held NotHeld = false
 is_held (Held e) = true
 
--- neither an index nor components
+-- neither index nor components
 abbrev pub is_whole : PlainExpr → Bool
 is_whole (Place at (PlaceOf name held components)) = not (is_held held) && is_empty components
 is_whole e = false
 
--- a name of this spelling alone
+-- just a name with this spelling
 abbrev pub is_bare : List ℕ → PlainExpr → Bool
 is_bare text (Place at (PlaceOf name NotHeld [])) = str_eq_ignore_ascii_case text name.text
 is_bare text _ = false
 
--- the name that an expression is, without an index and components
+-- the name that an expression is, if it has neither index nor components
 abbrev pub bare : PlainExpr → Option PlainName
 bare (Place at (PlaceOf name NotHeld [])) = Some name
 bare _ = None
 
--- places that are lent in this way
+-- places with this access may be passed
 abbrev pub lends : Need → Access → Bool
 lends (needs.Var sort) accesses.Var = true
 lends (needs.Pers sort) accesses.Pers = true
@@ -68,7 +68,7 @@ lends (needs.Written sort) accesses.Either = true
 lends needs.WorldZone accesses.Var = true
 lends _ _ = false
 
--- places of this type
+-- places of this type may be passed
 abbrev pub takes : Need → Sort → Bool
 takes (needs.Var wanted) sort = same_sort sort wanted
 takes (needs.Pers wanted) sort = same_sort sort wanted
@@ -89,13 +89,13 @@ is_fixed (sources.Value value) = true
 is_fixed sources.Errno = true
 is_fixed (sources.Signal number) = false
 
--- a place that is lent, where the rule holds
+-- a place passed by reference, if the rule holds
 abbrev pub lent : Site → Bool → ℕ → TypeRule → NamedPart → Source → Checked TypedArg
 lent site holds at rule p (sources.Place root access) =
     must holds (at_byte site at rule) >>= (λ _. Ok (Lent (Plain.PlaceOf root p.index p.part p.sort)))
 lent site holds at rule p _ = fail site at rule
 
--- how the place of a source is accessed; what has no place is not written
+-- how the place of a source may be accessed; a source without a place is never written
 abbrev pub access_in : Source → Access
 access_in (sources.Place root access) = access
 access_in _ = accesses.Fixed
@@ -105,7 +105,7 @@ abbrev pub root_of : Source → Option TreeRoot
 root_of (sources.Place root access) = Some root
 root_of _ = None
 
--- a place as what the callee reads and writes, as one of a type, as an array without an index
+-- a place that the callee reads and writes, a place of a type, or an array without an index
 abbrev pub lent_as : Site → Need → ℕ → NamedPart → Checked TypedArg
 lent_as site need at p =
     must (not (is_written need && is_fixed p.source)) (at_byte site at ReadOnly) >>= (λ _.
@@ -114,7 +114,7 @@ lent_as site need at p =
 abbrev pub lent_of : Site → Sort → ℕ → NamedPart → Checked TypedArg
 lent_of site sort at p = lent site (same_sort p.sort sort) at TypeClash p p.source
 
--- types of the elements of an array
+-- arrays with elements of this type may be passed
 abbrev pub array_fits : Need → Sort → Bool
 array_fits needs.TaskList sort = same_sort sorts.Tasks sort
 array_fits _ sort = has_values sort
@@ -122,7 +122,7 @@ array_fits _ sort = has_values sort
 abbrev pub lent_whole : Site → Need → ℕ → Bool → NamedPart → Checked TypedArg
 lent_whole site need at bare p = lent site (p.array && bare && array_fits need p.sort) at TypeClash p p.source
 
--- what is wanted of a reference that is no place: nothing fits, and brackets are of the type that is needed
+-- what is required of a reference that is not a place: nothing fits, and brackets have the needed type
 abbrev pub referred : Need → Wanted
 referred (needs.Var sort) = ReferenceTo sort
 referred (needs.Pers sort) = ReferenceTo sort
@@ -138,7 +138,7 @@ reference site need (Place at (PlaceOf name held components)) value index =
     lent site (lends need (access_in p.source) && takes need p.sort) at BadRef p p.source))
 reference site need e value index = value (referred need) >>= (λ t. fail site (begin_of e) BadRef)
 
--- a place of a type, of whatever kind
+-- a place of a type, of any kind
 abbrev pub any_place : Site → Sort → PlainExpr → (Wanted → Checked TypedExpr) → Checked TypedHeld → Checked TypedArg
 any_place site sort (Place at (PlaceOf name held components)) value index =
     place site false name (is_held held) index components >>= (λ p. lent site (same_sort p.sort sort) at TypeClash p p.source)
@@ -155,7 +155,7 @@ abbrev pub is_one : Option ℤ → Bool
 is_one None = false
 is_one (Some n) = int_eq n (pos 1_000)
 
--- what is wanted of the number of a dimension, of which there is one: a literal of the value 1
+-- what is required of the number of a dimension: as there is only one, a literal with value 1
 abbrev pub one_dimension : PlainExpr → Wanted
 one_dimension (Number at text) = if is_one (literal_value text) then Is sorts.Num else Nothing
 one_dimension _ = Nothing
@@ -164,7 +164,7 @@ one_dimension _ = Nothing
 abbrev pub itself : Site → Predefined → List ℕ → TypeRule → PlainExpr → Checked TypedArg
 itself site name text rule e = must (is_bare text e) (at_byte site (begin_of e) rule) >>= (λ _. Ok (Itself name))
 
--- the signal is an output, or an input, as is needed
+-- the signal is an output or an input, as needed
 abbrev pub has_direction : Bool → Option Bool → Bool
 has_direction wanted None = false
 has_direction true (Some output) = output
@@ -187,7 +187,7 @@ meeting_meant site at (Some (meants.Slot number)) =
     must (is_meeting (slice_get site.names.rows.slots number)) (at_byte site at SyncName) >>= (λ _. Ok (OfMeeting (meetings_before number site.names.rows.slots)))
 meeting_meant site at (Some _) = fail site at SyncName
 
--- the components behind a name are those of the datum that it means, where it means one here
+-- the components after a name are those of the datum that it means, if it means one here
 abbrev pub parts_known : Site → Checked NamedDatum → List PlainName → Checked (Unit {0})
 parts_known site (Ok d) components = part_at site (whole_of d.sort) components >>= (λ c. Ok tt)
 parts_known site (Err fault) components = Ok tt
@@ -205,7 +205,7 @@ whole_pers site bare at sort (sources.Place (roots.Pers number) access) =
     must bare (at_byte site at BadRef) >>= (λ _. Ok (Lent (Plain.PlaceOf (roots.Pers number) Plain.NotHeld parts.Whole sort)))
 whole_pers site bare at sort _ = fail site at BadRef
 
--- the name of a declared PERS, an array or none
+-- the name of a declared PERS, an array or not
 abbrev pub pers_name : Site → PlainExpr → (Wanted → Checked TypedExpr) → Checked TypedHeld → Checked TypedArg
 pers_name site (Place at (PlaceOf name held components)) value index =
     datum_at site name >>= (λ d. index >>= (λ i. part_at site (whole_of d.sort) components >>= (λ c.

@@ -1,4 +1,4 @@
--- What is called, and its arguments as a list: needed ones in their order, options anywhere among them.
+-- What is called, and its arguments as a list: needed ones in order, with options anywhere among them.
 use Rattle.std.specs.Prelude.{ℕ, Bool, true, false, not, ◌&&◌, ◌||◌, ◌+◌, ◌==◌, nat_lt, nat_le, List, [], ◌∷◌, ◌++◌, codes, length, map, drop, Option, Some, None, Ok, if◌then◌else◌}
 use Rattle.std.specs.Option.{option_map}
 use Rattle.std.specs.Str.{str_eq_ignore_ascii_case}
@@ -34,15 +34,15 @@ use Rattle.named_data.specs.Rules.{Site, fail, at_byte}
 use Rattle.named_data.specs.Data.{named}
 use Rattle.expr_types.specs.Arguments.{argument}
 
--- how something is called: the needs of its arguments in order, its options and how many of them may stand, and whether it
--- needs an arm
+-- how something is called: the needs of its arguments in order, its options and how many of them one call may have, and
+-- whether it needs an arm
 pub record Signature : Type 0 where
   pub needs : List Need
   pub options : List OptionRow
   pub choice : Choice
   pub arm : Bool
 
--- the needs of the arguments that are left, and the options that stand before
+-- the needs of the remaining arguments, and the options so far
 pub record Taking : Type 0 where
   pub needs : List Need
   pub options : List OptionRow
@@ -63,13 +63,13 @@ routine_signature params = record { needs = map need_of params; options = []; ch
 abbrev pub function_signature : Function → Signature
 function_signature f = record { needs = function_needs f; options = []; choice = choices.Any; arm = function_needs_arm f }
 
--- a function that is called, how, and the type of its answer
+-- a called function, its signature, and the type of its result
 pub record Called : Type 0 where
   pub callee : Callee
   pub signature : Signature
   pub sort : Sort
 
--- only a function of the task has an answer
+-- only a function has a result
 abbrev pub routine_function : Site → ℕ → ℕ → Option RoutineKind → Option Sort → Checked Called
 routine_function site at routine (Some kinds.Func) (Some sort) =
     Ok (record { callee = callees.Routine routine; signature = routine_signature (params_of site.names.rows routine); sort = sort })
@@ -90,7 +90,7 @@ abbrev pub is_needed : PlainArg → Bool
 is_needed (Needed e) = true
 is_needed (Optional name held at) = false
 
--- the arguments that are no options, and all
+-- how many arguments are not options, and how many there are
 abbrev pub needed_in : PlainArgs → ℕ
 needed_in NoArgs = 0
 needed_in (MoreArgs (Needed e) more) = needed_in more + 1
@@ -100,18 +100,17 @@ abbrev pub all_in : PlainArgs → ℕ
 all_in NoArgs = 0
 all_in (MoreArgs a more) = all_in more + 1
 
--- as many arguments as are needed, with the options not too many
+-- as many arguments as needed, and not too many with the options
 abbrev pub are_counted : PlainArgs → ℕ → Bool
 are_counted args count = needed_in args == count && nat_le (all_in args) MOST_ARGUMENTS
 
--- one option stands where one has to
+-- there is an option if one is required
 abbrev pub are_chosen : Choice → PlainArgs → Bool
 are_chosen choices.JustOne args = not (all_in args == needed_in args)
 are_chosen choices.Never args = false
 are_chosen _ args = true
 
--- the rules of a call, after those of its arguments
--- as many arguments as are needed, and such options
+-- the rules of a call, after those of its arguments as many arguments as needed, and valid options
 abbrev pub count_rules : Site → ℕ → Signature → PlainArgs → Checked (Unit {0})
 count_rules site at s args = must (are_counted args (length s.needs)) (at_byte site at ArgCount) >>= (λ _. must (are_chosen s.choice args) (at_byte site at ArgName))
 
@@ -121,17 +120,17 @@ call_rules site at s args =
     must (are_chosen s.choice args) (at_byte site at ArgName) >>= (λ _.
     must (not s.arm || nat_lt 0 site.names.axes) (at_byte site at NoArm)))
 
--- what the next argument has to be
+-- what the next argument must be
 abbrev pub first_need : List Need → Option Need
 first_need [] = None
 first_need (need ∷ more) = Some need
 
--- an argument that is no option
+-- an argument that is not an option
 abbrev pub needed : Site → List Need → PlainExpr → (Wanted → Checked TypedExpr) → Checked TypedHeld → Checked TypedArg
 needed site [] e value index = value Any >>= (λ t. Ok (Given t))
 needed site (need ∷ more) e value index = argument site need e value index
 
--- an option may not stand behind those before: it is there already, or it excludes them
+-- an option is not allowed after those before it: it is one of them, or it excludes them
 abbrev pub is_excluded : Choice → List ℕ → List (List ℕ) → Bool
 is_excluded choices.Any name before = is_among name before
 is_excluded _ name before = not (length before == 0)
@@ -142,7 +141,7 @@ may_stand site t at name = must (not (is_excluded t.choice name t.before)) (at_b
 abbrev pub option_with : Site → Taking → ℕ → List ℕ → TypedArg → Checked TypedArg
 option_with site t at name x = may_stand site t at name >>= (λ _. Ok (Plain.Optional name (Argument x)))
 
--- the name of an option that takes a value, and what that has to be
+-- the name of an option that takes a value, and what that must be
 abbrev pub needed_by : Option OptionRow → Option (List ℕ × Need)
 needed_by None = None
 needed_by (Some row) = option_map (λ need. (row.name, need)) row.value
@@ -169,16 +168,16 @@ abbrev pub with_option : Taking → Option OptionRow → Taking
 with_option t None = t
 with_option t (Some row) = record { needs = t.needs; options = t.options; choice = t.choice; before = t.before ++ row.name ∷ [] }
 
--- what is left behind an argument that is no option
+-- what is left after an argument that is not an option
 abbrev pub after_needed : Taking → Taking
 after_needed t = record { needs = drop 1 t.needs; options = t.options; choice = t.choice; before = t.before }
 
--- what is left behind an argument
+-- what is left after an argument
 abbrev pub after : Taking → PlainArg → Taking
 after t (Needed e) = record { needs = drop 1 t.needs; options = t.options; choice = t.choice; before = t.before }
 after t (Optional name held at) = with_option t (option_named name.text t.options)
 
--- WZLimSup: the zone's variable has the type that the first of the options Temp and Stat says
+-- WZLimSup: the zone's variable has the type that the first of the options Temp and Stat determines
 abbrev pub zone_need : PlainArgs → Need
 zone_need NoArgs = needs.WorldZone
 zone_need (MoreArgs (Needed e) more) = zone_need more
@@ -187,7 +186,7 @@ zone_need (MoreArgs (Optional name held at) more) =
     else if str_eq_ignore_ascii_case (codes "Stat") name.text then needs.Var sorts.WzStationary
     else zone_need more
 
--- the type of the zone's variable by an option of this name, and by an argument
+-- the type of the zone's variable, given an option with this name, or given an argument
 abbrev pub zone_named : List ℕ → Option Need
 zone_named name =
     if str_eq_ignore_ascii_case (codes "Temp") name then Some (needs.Var sorts.WzTemporary)
@@ -198,7 +197,7 @@ abbrev pub zone_need_of : PlainArg → Option Need
 zone_need_of (Needed e) = None
 zone_need_of (Optional name held at) = zone_named name.text
 
--- a need, where that of a world zone's variable is this one
+-- a need, or this one for the variable of a world zone
 abbrev pub with_zone : Need → Need → Need
 with_zone variable needs.WorldZone = variable
 with_zone variable need = need

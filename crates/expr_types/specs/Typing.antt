@@ -1,5 +1,5 @@
--- The typed form of an expression, or the first rule that is broken in it: from the left to the right, the parts before the
--- whole (RAPID Overview, expressions; RAPID Kernel, expressions).
+-- The typed form of an expression, or the first broken rule in it: from left to right, the parts before the whole
+-- (RAPID Overview, expressions; RAPID Kernel, expressions).
 use Rattle.std.specs.Prelude.{ℕ, suc, ℤ, pos, Bool, true, false, List, [], ◌==◌, not, length, drop, Option, Some, None, Ok, if◌then◌else◌}
 use Rattle.rapid_num.specs.Literal.{literal_value}
 use Rattle.string_texts.specs.Spelled.{text_in}
@@ -57,7 +57,7 @@ sort_of (Plain.Not at sort e) = sort
 sort_of (Plain.Signed at sort minus e) = sort
 sort_of (Plain.Chain at sort e steps) = sort
 
--- operators and their operands, and the type of what they come to
+-- operators and their operands, and the type of the result
 pub record TypedRest : Type 0 where
   pub steps : TypedSteps
   pub sort : Sort
@@ -66,7 +66,7 @@ abbrev pub count : PlainExprs → ℕ
 count NoExprs = 0
 count (MoreExprs e es) = suc (count es)
 
--- brackets have a type, and as many values as it has components
+-- brackets must have a type, and as many values as it has components
 abbrev pub aggregate : Site → Wanted → ℕ → PlainExprs → TypedExprs → Checked TypedExpr
 aggregate site want at es ts =
     must (not (is_empty (needed_components want))) (at_byte site at (untyped want)) >>= (λ _.
@@ -82,7 +82,8 @@ abbrev pub names_meeting : Wanted → Bool
 names_meeting Meeting = true
 names_meeting want = false
 
--- a call, after its arguments; where the name of a meeting stands, its first rules come before that it is none
+-- a call, after its arguments; in place of a meeting's name, its first rules come before the rule that it is not a
+-- meeting
 abbrev pub call : Site → Wanted → ℕ → Called → PlainArgs → TypedArgs → Checked TypedExpr
 call site want at called args ts =
     if names_meeting want then count_rules site at called.signature args >>= (λ _. fail site at SyncName)
@@ -92,7 +93,7 @@ call site want at called args ts =
 abbrev pub group : Site → Wanted → ℕ → TypedExpr → Checked TypedExpr
 group site want at t = must (hands_on want) (at_byte site at (clash want)) >>= (λ _. Ok (Plain.Group at (sort_of t) t))
 
--- the value of a place that is found
+-- the value at a place that was found
 abbrev pub value_given : Site → Wanted → ℕ → NamedPart → Checked TypedExpr
 value_given site want at p = must (has_values p.sort) (at_byte site at TypeClash) >>= (λ _. given site want at p.sort (value_from at p p.source))
 
@@ -111,13 +112,13 @@ unfoldable mutual
   typed site (Chain at e ss) want =
       typed site e (first_operand ss) >>= (λ t. steps site ss at (sort_of t) >>= (λ r. given site want at r.sort (Plain.Chain at r.sort t r.steps)))
 
-  -- the elements of brackets, each of its component's type
+  -- the elements of brackets, each with its component's type
   pub elements : Site → PlainExprs → List Component → Checked TypedExprs
   elements site NoExprs cs = Ok Plain.NoExprs
   elements site (MoreExprs e es) cs =
       typed site e (of_component cs) >>= (λ t. elements site es (drop 1 cs) >>= (λ ts. Ok (Plain.MoreExprs t ts)))
 
-  -- behind operands of this type in a chain that begins at this byte
+  -- after operands of this type, in a chain that starts at this byte
   pub steps : Site → PlainSteps → ℕ → Sort → Checked TypedRest
   steps site NoSteps at left = Ok (record { steps = Plain.NoSteps; sort = left })
   steps site (MoreSteps operator e ss) at left =
@@ -143,11 +144,11 @@ unfoldable mutual
   one_argument site (Optional name NotHeld at) t = plain_option site t at (option_named name.text t.options)
   one_argument site (Optional name (Held e) at) t = valued_option site t at (option_named name.text t.options) e (typed site e) (index_in site e)
 
--- what is wanted of a whole expression
+-- what is required of a whole expression
 abbrev pub wanted : Want → Wanted
 wanted wants.Any = Any
 wanted (wants.Is sort) = Is sort
 
--- the arguments of a call that begins at this byte, and its rules
+-- the arguments of a call that starts at this byte, and its rules
 abbrev pub call_arguments : Site → ℕ → PlainArgs → Signature → Checked TypedArgs
 call_arguments site at args s = arguments site args (taking s) >>= (λ ts. call_rules site at s args >>= (λ _. Ok ts))

@@ -1,4 +1,4 @@
--- How contracts see what the code has of calls and places.
+-- How contracts see calls and places.
 use Rattle.std.specs.Prelude.{List, map, Option, option_map}
 use Rattle.rapid_builtins.specs.Calls.{row_of}
 use Rattle.rapid_builtins.specs.declared.instruction_option.InstructionOption.{InstructionOption}

@@ -17,7 +17,7 @@ use rapid_model::{RoutineKind, Sort};
 use raw_trees::RawName;
 use rule_checks::{TypeFault, TypeRule};
 
-/// A function that is called, how, and the type of its answer (RAPID Kernel, function calls).
+/// A called function, its signature, and the type of its result (RAPID Kernel, function calls).
 #[derive(Clone, Copy)]
 pub struct Called<'a> {
     pub callee: Callee,
@@ -25,7 +25,7 @@ pub struct Called<'a> {
     pub sort: Sort,
 }
 
-/// The function that a name means: NoName and NotThis stand at the name.
+/// The function that a name means. NoName and NotThis are reported at the name.
 pub(crate) fn function_at<'a>(site: &Site<'a>, name: &RawName<'_>) -> Result<Called<'a>, TypeFault>
     ensures { Gives view_called result (Calls.function_at (view_site site.now) (view_name name.now)) }
 {
@@ -51,7 +51,7 @@ fn function_meant<'a>(
     }
 }
 
-/// A function of the task; only these have an answer.
+/// A function of the task; only functions have a result.
 fn routine_function<'a>(site: &Site<'a>, at: usize, routine: u32) -> Result<Called<'a>, TypeFault>
     ensures { Gives view_called result (Calls.function_meant (view_site site.now) at (Some (Meant.Routine routine))) }
 {

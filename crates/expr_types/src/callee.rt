@@ -1,6 +1,6 @@
 use rapid_model::Function;
 
-/// A function that is called: a predefined one, or one of the task by its number.
+/// A called function: a predefined one, or one of the task by its number.
 #[derive(Clone, Copy, Debug, PartialEq, Eq)]
 pub enum Callee {
     Builtin(Function),

@@ -1,4 +1,4 @@
-//! What statements and declarations want of their expressions, places and calls.
+//! What statements and declarations require of their expressions, places and calls.
 
 ghost use Rattle.std.specs.Prelude.{◌≡◌, map, true};
 ghost use Rattle.raw_trees.specs.Plain.{Place, args_of as raw_args_of};
@@ -24,9 +24,9 @@ use rule_checks::{Spot, TypeFault};
 use std::alloc::Global;
 use typed_trees::{Arg, Expr, TreePlace};
 
-/// The typed form of an expression that stands at the spot. The error is the first rule that is broken in it, other than
-/// NotConst and ConstFault, which are of constants alone: parts from the left to the right, and before the whole (RAPID
-/// Overview, expressions; RAPID Kernel, expressions).
+/// The typed form of an expression at the spot. The error is the first rule broken in it, from left to right and parts
+/// before the whole, except NotConst and ConstFault, which apply only to constants (RAPID Overview, expressions; RAPID
+/// Kernel, expressions).
 pub fn check_expr(
     alloc: Global,
     scopes: &Scopes,
@@ -44,7 +44,7 @@ pub fn check_expr(
     typed(&site, raw, wanted(want))
 }
 
-/// What is wanted of a whole expression.
+/// What is required of a whole expression.
 fn wanted(want: Want) -> Wanted
     ensures { result ≡ Typing.wanted want }
 {
@@ -54,8 +54,8 @@ fn wanted(want: Want) -> Wanted
     }
 }
 
-/// The arguments of a call that begins at this byte, and its rules: of a procedure of the task or of an instruction (RAPID
-/// Kernel, procedure calls).
+/// The arguments of a call that starts at this byte, and its rules, for a procedure of the task or an instruction
+/// (RAPID Kernel, procedure calls).
 pub fn call_arguments(
     site: &Site<'_>,
     at: usize,
@@ -69,8 +69,8 @@ pub fn call_arguments(
     Ok(args)
 }
 
-/// A place of this type, of whatever kind, as CONNECT takes one (RAPID Kernel, connect statement): the rule that it is of the
-/// type and a place stands at this byte.
+/// A place of this type, of any kind, as CONNECT takes one (RAPID Kernel, connect statement). That it is a place of the
+/// type is a rule reported at this byte.
 pub fn lent_place(
     site: &Site<'_>,
     raw: &RawPlace<'_>,

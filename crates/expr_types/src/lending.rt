@@ -1,4 +1,4 @@
-//! Places that are lent to what is called.
+//! Places that are passed by reference.
 
 ghost use Rattle.std.specs.Prelude.{◌≡◌, Ok};
 ghost use Rattle.typed_trees.specs.Plain.{PlaceOf};
@@ -16,7 +16,7 @@ use rapid_model::{Sort, has_values};
 use rule_checks::{TypeFault, TypeRule};
 use typed_trees::{Arg, TreePlace, TreeRoot};
 
-/// Whether a place is lent in this way.
+/// Whether a place with this access may be passed.
 fn lends(need: Need, access: Access) -> bool
     ensures { result ≡ Arguments.lends need access }
 {
@@ -28,7 +28,7 @@ fn lends(need: Need, access: Access) -> bool
     }
 }
 
-/// Whether a place of this type is lent.
+/// Whether a place of this type may be passed.
 fn takes(need: Need, sort: Sort) -> bool
     ensures { result ≡ Arguments.takes need sort }
 {
@@ -42,7 +42,7 @@ fn takes(need: Need, sort: Sort) -> bool
     }
 }
 
-/// What is wanted of a reference that is no place: nothing fits, and brackets are of the type that is needed.
+/// What is required of a reference that is not a place: nothing fits, and brackets have the needed type.
 pub(crate) fn referred(need: Need) -> Wanted
     ensures { result ≡ Arguments.referred need }
 {
@@ -59,7 +59,8 @@ fn is_written(need: Need) -> bool
     matches!(need, Need::Written(_))
 }
 
-/// What is never written: a CONST, the variable of a FOR, ERRNO, a predefined datum (RAPID Kernel, assignment statement).
+/// What is never written: a CONST, the variable of a FOR, ERRNO, a predefined datum (RAPID Kernel, assignment
+/// statement).
 pub fn is_fixed(source: &Source) -> bool
     ensures { result ≡ Arguments.is_fixed source.now }
 {
@@ -71,7 +72,7 @@ pub fn is_fixed(source: &Source) -> bool
     }
 }
 
-/// How the place of a source is accessed; what has no place is not written.
+/// How the place of a source may be accessed; a source without a place is never written.
 fn access_in(source: &Source) -> Access
     ensures { result ≡ Arguments.access_in source.now }
 {
@@ -81,7 +82,7 @@ fn access_in(source: &Source) -> Access
     }
 }
 
-/// A place that is lent, where the rule holds.
+/// A place passed by reference, if the rule holds.
 pub(crate) fn lent(
     site: &Site<'_>,
     holds: bool,
@@ -110,7 +111,7 @@ fn root_of(source: &Source) -> Option<TreeRoot>
     }
 }
 
-/// A place that the callee reads and writes, as an argument that begins at this byte.
+/// A place that the callee reads and writes, as an argument that starts at this byte.
 pub(crate) fn lent_as(
     site: &Site<'_>,
     need: Need,
@@ -125,7 +126,7 @@ pub(crate) fn lent_as(
     lent(site, holds, at, TypeRule::BadRef, place)
 }
 
-/// A place of a type, of whatever kind, as an argument that begins at this byte.
+/// A place of a type, of any kind, as an argument that starts at this byte.
 pub(crate) fn lent_of(
     site: &Site<'_>,
     sort: Sort,
@@ -138,7 +139,7 @@ pub(crate) fn lent_of(
     lent(site, holds, at, TypeRule::TypeClash, place)
 }
 
-/// Whether the elements of an array are of a type that is lent.
+/// Whether an array with elements of this type may be passed.
 fn array_fits(need: Need, sort: Sort) -> bool
     ensures { result ≡ Arguments.array_fits need sort }
 {
@@ -148,7 +149,7 @@ fn array_fits(need: Need, sort: Sort) -> bool
     }
 }
 
-/// An array without an index as an argument that begins at this byte; bare where it has neither an index nor components.
+/// An array without an index as an argument that starts at this byte; `bare` if it has neither index nor components.
 pub(crate) fn lent_whole(
     site: &Site<'_>,
     need: Need,
@@ -162,7 +163,7 @@ pub(crate) fn lent_whole(
     lent(site, holds, at, TypeRule::TypeClash, place)
 }
 
-/// A place of a type, of whatever kind, where the rule stands at this byte.
+/// A place of a type, of any kind, with the rule reported at this byte.
 pub(crate) fn lent_at_place(
     site: &Site<'_>,
     sort: Sort,
@@ -180,7 +181,7 @@ pub(crate) fn lent_at_place(
     }
 }
 
-/// A part of a place of this root. Its error is want of memory.
+/// A part of a place with this root. Fails only if an allocation fails.
 fn tree_place(site: &Site<'_>, root: TreeRoot, place: PlacePart) -> Result<TreePlace, TypeFault>
     ensures { Gives view_place result (Ok (PlaceOf root (view_held place.index) place.part place.sort)) }
 {

@@ -13,14 +13,14 @@ use named_data::{Site, datum_at, part_at};
 use raw_trees::{RawExpr, RawExprForm, RawName, RawPlace};
 use rule_checks::TypeFault;
 
-/// What the innermost declaration of the name means that is visible (RAPID Kernel, scope rules).
+/// What the innermost visible declaration of the name means (RAPID Kernel, scope rules).
 pub(crate) fn named(site: &Site<'_>, name: &RawName<'_>) -> Option<Meant>
     ensures { result ≡ Data.named (view_site site.now) (view_name name.now) }
 {
     site.scopes.find(site.spot, name.text)
 }
 
-/// The components behind a name are those of the datum that it means, where it means one here.
+/// Checks that the components after a name are those of the datum that it means, if it means one here.
 pub(crate) fn known_parts(site: &Site<'_>, raw: &RawPlace<'_>) -> Result<(), TypeFault>
     ensures { Gives (λ u. u) result (Places.known_parts (view_site site.now) (view_place raw.now)) }
 {
@@ -34,21 +34,21 @@ pub(crate) fn known_parts(site: &Site<'_>, raw: &RawPlace<'_>) -> Result<(), Typ
     }
 }
 
-/// Whether an expression is a place with neither an index nor components.
+/// Whether an expression is a place with neither index nor components.
 pub(crate) fn is_whole(raw: &RawExpr<'_>) -> bool
     ensures { result ≡ Arguments.is_whole (view_raw raw.now) }
 {
     bare_name(raw).is_some()
 }
 
-/// Whether a place has neither an index nor components.
+/// Whether a place has neither index nor components.
 pub(crate) fn is_datum(raw: &RawPlace<'_>) -> bool
     ensures { result ≡ Places.is_datum (view_place raw.now) }
 {
     raw.index.is_none() && raw.parts.is_empty()
 }
 
-/// The name that an expression is, without an index and components.
+/// The name that an expression is, if it has neither index nor components.
 pub(crate) fn bare_name<'a>(raw: &RawExpr<'a>) -> Option<RawName<'a>>
     ensures { option_map view_name result ≡ Arguments.bare (view_raw raw.now) }
 {
@@ -63,7 +63,7 @@ pub(crate) fn bare_name<'a>(raw: &RawExpr<'a>) -> Option<RawName<'a>>
     }
 }
 
-/// Whether an expression is this name alone.
+/// Whether an expression is just this name.
 pub(crate) fn is_bare(text: &[u8], raw: &RawExpr<'_>) -> bool
     ensures { result ≡ Arguments.is_bare text.now (view_raw raw.now) }
 {

@@ -1,4 +1,4 @@
-//! What the arguments of a call have to be, in their order.
+//! What the arguments of a call must be, in order.
 
 ghost use Rattle.std.specs.Prelude.{◌≡◌, drop, length};
 ghost use Rattle.expr_types.specs.Calls;
@@ -7,17 +7,17 @@ ghost use Rattle.expr_types.specs.Views.{view_needs};
 use data_scopes::ParamRow;
 use rapid_builtins::{Need, parameter_need};
 
-/// The needs of the arguments that are left, in their order (RAPID Kernel, procedure calls).
+/// The needs of the remaining arguments, in order (RAPID Kernel, procedure calls).
 #[derive(Clone, Copy)]
 pub enum Needs<'a> {
-    /// Those of a predefined function or instruction; `zone` stands for the variable of a world zone.
+    /// Those of a predefined function or instruction; `zone` is the need for the variable of a world zone.
     Predefined { needs: &'a [Need], zone: Need },
     /// Those of a routine's parameters.
     Params(&'a [ParamRow]),
 }
 
 impl<'a> Needs<'a> {
-    /// What the next argument has to be; `None` exactly where no more is needed.
+    /// What the next argument must be; `None` exactly if none is left.
     pub fn first(self) -> Option<Need>
         ensures { result ≡ Calls.first_need (view_needs self.entry) }
     {
@@ -27,7 +27,7 @@ impl<'a> Needs<'a> {
         }
     }
 
-    /// The needs behind the first.
+    /// The needs after the first.
     pub fn rest(self) -> Needs<'a>
         ensures { view_needs result ≡ drop 1 (view_needs self.entry) }
     {
@@ -51,7 +51,7 @@ impl<'a> Needs<'a> {
     }
 }
 
-/// The rows behind the first.
+/// The rows after the first.
 fn behind_first<T>(rows: &[T]) -> &[T]
     ensures { result.now ≡ drop 1 rows.now }
 {
@@ -81,7 +81,7 @@ fn first_param(params: &[ParamRow]) -> Option<Need>
     }
 }
 
-/// The need, that of a world zone's variable being this one.
+/// The need, or `zone` for the variable of a world zone.
 fn with_zone(zone: Need, need: Need) -> Need
     ensures { result ≡ Calls.with_zone zone need }
 {

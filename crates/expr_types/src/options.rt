@@ -39,7 +39,7 @@ pub(crate) fn plain_option(
     }
 }
 
-/// The option may stand behind those before.
+/// Checks that the option is allowed after those before it.
 fn may_stand(site: &Site<'_>, taking: &Taking<'_>, at: usize, name: &[u8]) -> Result<(), TypeFault>
     ensures { Gives (λ u. u) result (Calls.may_stand (view_site site.now) (view_taking taking.now) at name.now) }
 {
@@ -47,7 +47,7 @@ fn may_stand(site: &Site<'_>, taking: &Taking<'_>, at: usize, name: &[u8]) -> Re
     must(site, holds, at, TypeRule::ArgName)
 }
 
-/// An option without an argument. Its error is want of memory.
+/// An option without an argument. Fails only if an allocation fails.
 fn bare_option(name: &[u8]) -> Result<Arg, TypeFault>
     ensures { Gives view_arg result (Ok (Optional name.now NoArgument)) }
 {
@@ -69,7 +69,7 @@ pub(crate) fn option_with(
     Ok(option)
 }
 
-/// The name of an option that takes a value, and what that has to be; `None` where there is no such option.
+/// The name of an option that takes a value, and what that must be; `None` if there is no such option.
 pub(crate) fn needed_by(row: Option<InstructionOption>) -> Option<(&'static [u8], Need)>
     ensures { option_map (λ (r : Bor (List ℕ) × Need). (r.0.now, r.1)) result ≡ Calls.needed_by (option_map row_of row) }
 {

@@ -15,14 +15,14 @@ use rapid_limits::MOST_ARGUMENTS;
 use raw_trees::RawArg;
 use rule_checks::{TypeFault, TypeRule};
 
-/// Whether an argument is no option.
+/// Whether an argument is not an option.
 fn is_needed(arg: &RawArg<'_>) -> bool
     ensures { result ≡ Calls.is_needed (view_raw_arg arg.now) }
 {
     matches!(arg, RawArg::Needed(_))
 }
 
-/// How many arguments are no options.
+/// How many arguments are not options.
 fn needed_in(args: &[RawArg<'_>]) -> usize
     ensures { result ≡ Calls.needed_in (args_of (map view_raw_arg args.now)) }
 {
@@ -42,7 +42,7 @@ fn all_in(args: &[RawArg<'_>]) -> usize
     args.len()
 }
 
-/// Whether one option stands where one has to, and some call is right.
+/// Whether there is an option if one is required, and some call is valid.
 fn are_chosen(choice: Choice, args: &[RawArg<'_>]) -> bool
     ensures { result ≡ Calls.are_chosen choice (args_of (map view_raw_arg args.now)) }
 {
@@ -53,15 +53,15 @@ fn are_chosen(choice: Choice, args: &[RawArg<'_>]) -> bool
     }
 }
 
-/// Whether there are as many arguments as are needed, at most 32 with the options.
+/// Whether there are as many arguments as needed, and at most 32 with the options.
 fn are_counted(args: &[RawArg<'_>], count: usize) -> bool
     ensures { result ≡ Calls.are_counted (args_of (map view_raw_arg args.now)) count }
 {
     needed_in(args) == count && all_in(args) <= MOST_ARGUMENTS
 }
 
-/// The first rules of a call that begins at this byte: the number of its arguments, its options (RAPID Kernel, procedure calls
-/// and function calls).
+/// The first rules of a call that starts at this byte: the number of its arguments, its options (RAPID Kernel,
+/// procedure calls and function calls).
 pub(crate) fn count_rules(
     site: &Site<'_>,
     at: usize,
@@ -76,8 +76,8 @@ pub(crate) fn count_rules(
     must(site, holds, at, TypeRule::ArgName)
 }
 
-/// The rules of a call that begins at this byte: the number of its arguments, its options, its arm (RAPID Kernel, procedure
-/// calls and function calls).
+/// The rules of a call that starts at this byte: the number of its arguments, its options, its arm (RAPID Kernel,
+/// procedure calls and function calls).
 pub(crate) fn call_rules(
     site: &Site<'_>,
     at: usize,

@@ -29,7 +29,7 @@ pub(crate) fn itself(
     Ok(Arg::Known(name))
 }
 
-/// Whether the signal is an output, or an input, as is needed.
+/// Whether the signal is an output or an input, as needed.
 fn has_direction(wanted: bool, output: Option<bool>) -> bool
     ensures { result ≡ Arguments.has_direction wanted output }
 {
@@ -78,7 +78,7 @@ pub(crate) fn meeting_meant(
     }
 }
 
-/// A declared PERS of this type as an argument at this byte; bare where it has neither an index nor components.
+/// A declared PERS of this type as an argument at this byte; `bare` if it has neither index nor components.
 pub(crate) fn whole_pers(
     site: &Site<'_>,
     bare: bool,

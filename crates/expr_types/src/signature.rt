@@ -16,8 +16,8 @@ use rapid_builtins::{
 use rapid_model::{Function, Instruction};
 use raw_trees::RawArg;
 
-/// How something is called: what its arguments have to be, its options and how many of them may stand, and whether it needs
-/// an arm (RAPID Kernel, procedure calls and function calls).
+/// How something is called: what its arguments must be, its options and how many of them one call may have, and whether
+/// it needs an arm (RAPID Kernel, procedure calls and function calls).
 #[derive(Clone, Copy)]
 pub struct Signature<'a> {
     pub needs: Needs<'a>,
@@ -53,8 +53,8 @@ pub fn function_signature(function: Function) -> Signature<'static>
     }
 }
 
-/// How a predefined instruction with these arguments is called (RAPID Instructions, Functions and Data types, arguments): its
-/// options may tell the type of an argument.
+/// How a predefined instruction with these arguments is called (RAPID Instructions, Functions and Data types,
+/// arguments): its options may determine the type of an argument.
 pub fn instruction_signature(instruction: Instruction, args: &[RawArg<'_>]) -> Signature<'static>
     ensures { view_signature result ≡ Calls.instruction_signature instruction (args_of (map view_raw_arg args.now)) }
 {

@@ -17,7 +17,7 @@ use raw_trees::RawArg;
 use rule_checks::TypeFault;
 use std::alloc::Global;
 
-/// The needs of the arguments that are left, and the options that stand before.
+/// The needs of the remaining arguments, and the options so far.
 #[derive(Drop)]
 pub struct Taking<'a> {
     pub needs: Needs<'a>,
@@ -26,7 +26,7 @@ pub struct Taking<'a> {
     pub before: Vec<InstructionOption>,
 }
 
-/// No argument stands before.
+/// Before the first argument.
 pub(crate) fn nothing_taken<'a>(alloc: Global, signature: &Signature<'a>) -> Taking<'a>
     ensures { view_taking result ≡ Calls.taking (view_signature signature.now) }
 {
@@ -38,7 +38,7 @@ pub(crate) fn nothing_taken<'a>(alloc: Global, signature: &Signature<'a>) -> Tak
     }
 }
 
-/// What is left behind an argument. Its error is want of memory.
+/// What is left after an argument. Fails only if an allocation fails.
 pub(crate) fn after<'a>(taking: Taking<'a>, arg: &RawArg<'_>) -> Result<Taking<'a>, TypeFault>
     ensures { Gives view_taking result (Ok (Calls.after (view_taking taking.entry) (view_raw_arg arg.now))) }
 {
@@ -72,7 +72,7 @@ fn with_option<'a>(
     Ok(taking)
 }
 
-/// Whether an option may not stand behind those before: it is there already, or it excludes them.
+/// Whether an option is not allowed after those before it: it is one of them, or it excludes them.
 pub(crate) fn is_excluded(taking: &Taking<'_>, name: &[u8]) -> bool
     ensures { result ≡ Calls.is_excluded taking.now.choice name.now (view_taking taking.now).before }
 {
@@ -82,7 +82,7 @@ pub(crate) fn is_excluded(taking: &Taking<'_>, name: &[u8]) -> bool
     }
 }
 
-/// Whether an option has this name, letters of either case being the same.
+/// Whether an option has this name, case-insensitively.
 fn is_named(option: &InstructionOption, name: &[u8]) -> bool
     ensures { result ≡ str_eq_ignore_ascii_case name.now option.now.name.now }
 {

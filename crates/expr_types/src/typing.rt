@@ -1,5 +1,5 @@
-//! The typed form of an expression, or the first rule that is broken in it (RAPID Overview, expressions): from the left to the
-//! right, the parts before the whole.
+//! The typed form of an expression, or the first broken rule in it (RAPID Overview, expressions): from left to right,
+//! the parts before the whole.
 
 ghost use Rattle.std.specs.Prelude.{◌≡◌, map};
 ghost use Rattle.raw_trees.specs.Plain.{Held, Optional, args_of as raw_args_of, exprs_of as raw_exprs_of, steps_of as raw_steps_of};
@@ -36,7 +36,7 @@ use raw_trees::{RawArg, RawExpr, RawExprForm, RawPlace};
 use rule_checks::{TypeFault, TypeRule};
 use typed_trees::{Arg, Expr};
 
-/// The typed form of an expression where something is wanted of it.
+/// The typed form of an expression in a place with a requirement.
 #[cycle(typing)]
 #[tactic(auto, unfolding(crate::specs::Typing::typed))]
 pub fn typed(site: &Site<'_>, raw: &RawExpr<'_>, want: Wanted) -> Result<Expr, TypeFault>
@@ -86,7 +86,7 @@ pub fn typed(site: &Site<'_>, raw: &RawExpr<'_>, want: Wanted) -> Result<Expr, T
     }
 }
 
-/// The elements of brackets, each of its component's type.
+/// The elements of brackets, each with its component's type.
 #[cycle(typing)]
 fn elements(site: &Site<'_>, raw: &Vec<RawExpr<'_>>, want: Wanted) -> Result<Vec<Expr>, TypeFault>
     ensures { Gives (λ v. exprs_of (map view_expr v.items)) result (Typing.elements (view_site site.now) (raw_exprs_of (map view_raw raw.now.items)) (Wants.needed_components want)) }
@@ -99,7 +99,7 @@ fn elements(site: &Site<'_>, raw: &Vec<RawExpr<'_>>, want: Wanted) -> Result<Vec
     Ok(done)
 }
 
-/// Operators and their operands behind operands of this type, in a chain that begins at this byte.
+/// Operators and their operands, after operands of this type, in a chain that starts at this byte.
 #[cycle(typing)]
 fn steps(
     site: &Site<'_>,
@@ -120,7 +120,7 @@ fn steps(
     Ok(TypedChain { steps, sort })
 }
 
-/// The index of a place, where it has one.
+/// The index of a place, if it has one.
 #[cycle(typing)]
 #[tactic(auto, unfolding(crate::specs::Typing::index))]
 fn index_of(site: &Site<'_>, raw: &RawPlace<'_>) -> Result<Option<Expr>, TypeFault>
@@ -132,7 +132,7 @@ fn index_of(site: &Site<'_>, raw: &RawPlace<'_>) -> Result<Option<Expr>, TypeFau
     }
 }
 
-/// What a place names; the whole of an array may be named where `whole` holds (RAPID Overview, arrays and records).
+/// What a place names; a whole array may be named if `whole` is true (RAPID Overview, arrays and records).
 #[cycle(typing)]
 pub fn place(site: &Site<'_>, raw: &RawPlace<'_>, whole: bool) -> Result<PlacePart, TypeFault>
     ensures { Gives view_part result (Places.place (view_site site.now) whole (view_raw_place raw.now)) }
@@ -158,7 +158,7 @@ pub fn place(site: &Site<'_>, raw: &RawPlace<'_>, whole: bool) -> Result<PlacePa
     })
 }
 
-/// The place that an expression is; the rule is broken where it is none.
+/// The place that an expression is; the rule is broken if it is not one.
 #[cycle(typing)]
 fn place_in(
     site: &Site<'_>,
@@ -178,7 +178,7 @@ fn place_in(
     }
 }
 
-/// The arguments of what is called so.
+/// The arguments of a call, by their needs.
 #[cycle(typing)]
 pub(crate) fn arguments(
     site: &Site<'_>,
@@ -197,7 +197,7 @@ pub(crate) fn arguments(
     Ok(done)
 }
 
-/// An argument behind those that stand before.
+/// An argument after those before it.
 #[cycle(typing)]
 #[tactic(auto, unfolding(crate::specs::Typing::one_argument))]
 fn one_argument(site: &Site<'_>, raw: &RawArg<'_>, left: &Taking<'_>) -> Result<Arg, TypeFault>
@@ -234,7 +234,7 @@ fn valued_option(
     option_with(site, left, at, name, value)
 }
 
-/// An argument by what the callee needs (RAPID Kernel, parameter declarations and procedure calls).
+/// An argument for what the callee needs (RAPID Kernel, parameter declarations and procedure calls).
 #[cycle(typing)]
 fn argument(site: &Site<'_>, raw: &RawExpr<'_>, need: Need) -> Result<Arg, TypeFault>
     ensures { Gives view_arg result (Arguments.argument (view_site site.now) need (view_raw raw.now) (Typing.typed (view_site site.now) (view_raw raw.now)) (Typing.index_in (view_site site.now) (view_raw raw.now))) }
@@ -289,7 +289,7 @@ fn meeting(site: &Site<'_>, raw: &RawExpr<'_>) -> Result<Arg, TypeFault>
     }
 }
 
-/// What is broken in an expression that is no name and stands for a meeting.
+/// What is broken in an expression, other than a name, in place of a meeting.
 #[cycle(typing)]
 fn no_meeting(site: &Site<'_>, raw: &RawExpr<'_>) -> Result<Arg, TypeFault>
     ensures { Gives view_arg result (Places.no_meeting (view_site site.now) (view_raw raw.now)) }
@@ -309,7 +309,7 @@ fn no_meeting(site: &Site<'_>, raw: &RawExpr<'_>) -> Result<Arg, TypeFault>
     }
 }
 
-/// The name of a declared PERS, an array or none.
+/// The name of a declared PERS, an array or not.
 #[cycle(typing)]
 fn pers_name(site: &Site<'_>, raw: &RawExpr<'_>) -> Result<Arg, TypeFault>
     ensures { Gives view_arg result (Places.pers_name (view_site site.now) (view_raw raw.now)) }
@@ -323,7 +323,7 @@ fn pers_name(site: &Site<'_>, raw: &RawExpr<'_>) -> Result<Arg, TypeFault>
     }
 }
 
-/// The name of a declared PERS, as an argument that begins at this byte.
+/// The name of a declared PERS, as an argument that starts at this byte.
 #[cycle(typing)]
 fn pers_at(site: &Site<'_>, raw: &RawPlace<'_>, at: usize) -> Result<Arg, TypeFault>
     ensures { Gives view_arg result (Places.pers_at (view_site site.now) at (view_raw_place raw.now)) }

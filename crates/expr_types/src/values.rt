@@ -1,4 +1,4 @@
-//! Expressions by the types that are wanted of them.
+//! Expressions by the types that are required of them.
 
 ghost use Rattle.std.specs.Prelude.{◌≡◌, drop, length, map, not, Ok};
 ghost use Rattle.rapid_values.specs.Components.{Component};
@@ -27,7 +27,7 @@ use raw_trees::{RawArg, RawExpr, RawExprForm};
 use rule_checks::{TypeFault, TypeRule};
 use typed_trees::{Arg, Expr, TreePlace};
 
-/// An expression of this type stands where something is wanted.
+/// An expression of this type in a place with a requirement.
 pub(crate) fn given(
     site: &Site<'_>,
     want: Wanted,
@@ -56,7 +56,7 @@ pub(crate) fn group(
     Ok(group)
 }
 
-/// Brackets have a type, and as many values as it has components.
+/// Brackets must have a type, and as many values as it has components.
 pub(crate) fn aggregate(
     site: &Site<'_>,
     want: Wanted,
@@ -79,7 +79,7 @@ fn count(raw: &[RawExpr<'_>]) -> usize
     raw.len()
 }
 
-/// How many values brackets are to have.
+/// How many values brackets must have.
 fn components_in(want: Wanted) -> usize
     ensures { result ≡ length (Wants.needed_components want) }
 {
@@ -93,7 +93,7 @@ fn is_record(want: Wanted) -> bool
     !needed_sorts(want).is_empty()
 }
 
-/// The types of the components that brackets are to have; an operand hands its type to no brackets.
+/// The types of the components that brackets must have; an operand passes no type to brackets.
 fn needed_sorts(want: Wanted) -> &'static [Sort]
     ensures { result.now ≡ map (λ (c : Component). c.sort) (Wants.needed_components want) }
 {
@@ -115,7 +115,7 @@ fn needed_sort(want: Wanted) -> Sort
     }
 }
 
-/// What is wanted of the element behind so many.
+/// What is required of the element after this many.
 pub(crate) fn element_want(want: Wanted, before: usize) -> Wanted
     ensures { result ≡ Wants.of_component (drop before (Wants.needed_components want)) }
 {
@@ -125,7 +125,7 @@ pub(crate) fn element_want(want: Wanted, before: usize) -> Wanted
     }
 }
 
-/// What is wanted of the first operand of a chain.
+/// What is required of the first operand of a chain.
 pub(crate) fn first_operand(rest: &[(Operator, RawExpr<'_>)]) -> Wanted
     ensures { result ≡ Wants.first_operand (raw_steps_of (map view_raw_step rest.now)) }
 {
@@ -142,8 +142,8 @@ fn names_meeting(want: Wanted) -> bool
     matches!(want, Wanted::Meeting)
 }
 
-/// A call that begins at this byte, after its arguments; where the name of a meeting stands, its first rules come before that
-/// it is none.
+/// A call that starts at this byte, after its arguments. In place of a meeting's name, the first rules of the call come
+/// before the rule that it is not a meeting.
 pub(crate) fn call(
     site: &Site<'_>,
     want: Wanted,
@@ -172,7 +172,7 @@ fn invoked(at: usize, sort: Sort, callee: Callee, args: Vec<Arg>) -> Expr
     }
 }
 
-/// The value at a place, as an expression that begins at this byte.
+/// The value at a place, as an expression that starts at this byte.
 pub(crate) fn place_value(
     site: &Site<'_>,
     want: Wanted,
@@ -187,7 +187,7 @@ pub(crate) fn place_value(
     given(site, want, at, sort, tree)
 }
 
-/// The value of a source. Its error is want of memory.
+/// The value of a source. Fails only if an allocation fails.
 fn value_from(site: &Site<'_>, at: usize, place: PlacePart) -> Result<Expr, TypeFault>
     ensures { Gives view_expr result (Ok (Data.value_from at (view_part place) place.source)) }
 {
@@ -212,7 +212,7 @@ fn value_from(site: &Site<'_>, at: usize, place: PlacePart) -> Result<Expr, Type
     }
 }
 
-/// The part of a value, or the value where it has none.
+/// A part of a value, or the value if it has no such part.
 fn part_or_whole(value: Value, name: PartName) -> Value
     ensures { result ≡ Data.or_whole value (part_of value name) }
 {
@@ -222,7 +222,7 @@ fn part_or_whole(value: Value, name: PartName) -> Value
     }
 }
 
-/// What is wanted of the number of a dimension, of which there is one: a literal of the value 1.
+/// What is required of the number of a dimension: as there is only one, a literal with value 1.
 pub(crate) fn one_dimension(raw: &RawExpr<'_>) -> Wanted
     ensures { result ≡ Arguments.one_dimension (view_raw raw.now) }
 {

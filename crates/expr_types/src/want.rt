@@ -1,6 +1,6 @@
 use rapid_model::Sort;
 
-/// What is wanted of an expression: any type, or this one.
+/// What is required of an expression: any type, or this one.
 #[derive(Clone, Copy, Debug, PartialEq, Eq)]
 pub enum Want {
     Any,

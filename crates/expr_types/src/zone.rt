@@ -9,7 +9,7 @@ use rapid_builtins::Need;
 use rapid_model::Sort;
 use raw_trees::RawArg;
 
-/// What the variable has to be by the first of the options Temp and Stat.
+/// What the variable must be, given the first of the options Temp and Stat.
 pub(crate) fn zone_need(args: &[RawArg<'_>]) -> Need
     ensures { result ≡ Calls.zone_need (args_of (map view_raw_arg args.now)) }
 {
@@ -21,7 +21,7 @@ pub(crate) fn zone_need(args: &[RawArg<'_>]) -> Need
     Need::WorldZone
 }
 
-/// What the variable has to be by an option.
+/// What the variable must be, given an option.
 fn zone_need_of(arg: &RawArg<'_>) -> Option<Need>
     ensures { result ≡ Calls.zone_need_of (view_raw_arg arg.now) }
 {

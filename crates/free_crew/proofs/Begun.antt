@@ -44,14 +44,14 @@ script_last gate tasks all passes script fresh is =
 pub is_script : (gate : GateData) (script : PassData) → script ≡ fresh_pass gate (length gate.cell.tasks) → IsScript gate script
 is_script gate script is = record { gate_is = ap (λ (p : PassData). p.gate) is; script = ap (λ (p : PassData). p.actor) is }
 
--- each element of a list of one thing is that thing
+-- each element of a list of copies is the thing copied
 same_at : {A : Type 0} (x y : A) (n k : ℕ) → slice_get (replicate n x) k ≡ Some y → y ≡ x
 same_at x y zero k at = absurd cc
 same_at x y (suc n) zero at = let is : x ≡ y = cc in sym is
 same_at x y (suc n) (suc k) at = same_at x y n k at
 
 module _ {M P : Type 0} (program : M → P) (fits : P → List Answer → Type 0) (program_asks : P → List Answer → Request → Type 0) (stands_for : M → List Answer → Type 0) (due : M → Option Request) where
-  -- a task that has seen nothing is amid its run
+  -- a task that has seen nothing is under way
   begun : (gate : GateData) (task : ℕ) (job : Job M) → job.pass ≡ fresh_pass gate task → job.standing ≡ standings.Going → task < length gate.cell.tasks
       → SuitsTask fits program_asks gate.cell task (program job.machine) → UnderWay stands_for due job.machine [] → IsAmid program fits program_asks stands_for due gate task job
   begun gate task job fresh going within suits way =
@@ -66,7 +66,7 @@ module _ {M P : Type 0} (program : M → P) (fits : P → List Answer → Type 0
         cause = subst (λ (s : Standing). HasCause (due job.machine) gate.cell job.pass s) (sym going) (ap (λ (es : List Event). has_ended es) none);
       }
 
-  -- so each task of a crew is, whose passes are those of the gate
+  -- so is each task of a crew whose passes are those of the gate
   pub may_begin : (gate : GateData) (first : List M) (all : List PassData) (crew : Crew M) → length first ≡ length gate.cell.tasks → SuitTasks fits program_asks gate.cell (map program first)
       → all ≡ fresh_passes gate 0 (length gate.cell.tasks + 1) → IsEven crew → all ≡ crew.passes.items ++ crew.script ∷ [] → crew.standings.items ≡ replicate (length first) standings.Going
       → map program crew.machines.items ≡ map program first → AreUnderWay stands_for due crew.machines.items [] → MayRun program fits program_asks stands_for due gate crew

@@ -1,4 +1,4 @@
--- The passes of a crew that has run, and what they tell of the core's history.
+-- The passes of a crew that has run, and what they say of the core's history.
 use Rattle.std.proofs.Common.{◌≡◌, inl, inr, ℕ, zero, suc, ◌<◌, List, [], ◌∷◌, ◌++◌, length, map, Option, Some, refl, sym, ◌∙◌, ap, subst, arith}
 use Rattle.std.specs.Prelude.{Any, slice_get}
 use Rattle.std.specs.List.{AllByRecursion}
@@ -6,7 +6,7 @@ use Rattle.std.proofs.lemmas.Bool.{cases_lt}
 use Rattle.std.proofs.lemmas.List.Elements.{All-from_recursion, All-push, recursion_from_All}
 use Rattle.std.proofs.lemmas.Option.{get_or_from_slice_get, slice_get_within}
 use mathlib.Core.List.{IsPrefix}
-use Rattle.rapid_model.proofs.Lists.{there_is}
+use Rattle.rapid_model.proofs.Lists.{between, in_front, there_is}
 use Rattle.rapid_model.specs.Own.{part_of}
 use Rattle.rapid_model.specs.declared.answer.Answer.{Answer}
 use Rattle.rapid_model.specs.declared.event.Event.{Event}
@@ -24,7 +24,7 @@ use Rattle.free_crew.specs.Crews.{IsScript, jobs_in}
 use Rattle.free_crew.specs.declared.job.Job.{Job}
 use Rattle.free_crew.specs.declared.standing.Standing.{Standing}
 use Rattle.free_crew.proofs.Ending.{Stops}
-use Rattle.free_crew.proofs.Rows.{get_front, get_last, job_of, job_parts, job_there, jobs_length}
+use Rattle.free_crew.proofs.Rows.{job_of, job_parts, job_there, jobs_length}
 
 all_from : {A : Type 0} (Q : A → Type 0) (xs : List A) → ((k : ℕ) (x : A) → slice_get xs k ≡ Some x → Q x) → AllByRecursion Q xs
 all_from Q [] at = tt
@@ -54,7 +54,7 @@ module _ {M P : Type 0} (program : M → P) (fits : P → List Answer → Type 0
     of_gate = All-push (λ p. p.gate ≡ gate) ps script (All-from_recursion (λ p. p.gate ≡ gate) ps (all_from (λ p. p.gate ≡ gate) ps own_gate)) of_script.gate_is;
     every = λ actor le. elim (cases_lt actor (length gate.cell.tasks)) [
       | inl less ↦ of_task actor less
-      | inr more ↦ some_at (λ p. p.actor ≡ actor) (ps ++ script ∷ []) (length ps) script (get_last ps script) (of_script.script ∙ omega (arith, le, more))
+      | inr more ↦ some_at (λ p. p.actor ≡ actor) (ps ++ script ∷ []) (length ps) script (between ps [] script) (of_script.script ∙ omega (arith, le, more))
     ];
   }
     where
@@ -66,7 +66,7 @@ module _ {M P : Type 0} (program : M → P) (fits : P → List Answer → Type 0
       of_task : (actor : ℕ) → actor < length gate.cell.tasks → Any (λ p. p.actor ≡ actor) (ps ++ script ∷ [])
       of_task actor less =
           let job = job_at actor less in
-          some_at (λ p. p.actor ≡ actor) (ps ++ script ∷ []) actor job.0.pass (get_front ps script job.0.pass actor (job_parts ms ps ss actor job.0 job.1).1) (amid.each actor job.0 job.1).actor_is
+          some_at (λ p. p.actor ≡ actor) (ps ++ script ∷ []) actor job.0.pass (in_front ps (script ∷ []) actor job.0.pass (job_parts ms ps ss actor job.0 job.1).1) (amid.each actor job.0 job.1).actor_is
 
   module _ (history : List Event) (tell : AreOfHistory (ps ++ script ∷ []) history) where
     told_at : (k : ℕ) (p : PassData) → slice_get (ps ++ script ∷ []) k ≡ Some p → IsPrefix p.seen history × (p.mine ≡ part_of p.actor history)
@@ -76,11 +76,11 @@ module _ {M P : Type 0} (program : M → P) (fits : P → List Answer → Type 0
     )
 
     pub script_begins : IsPrefix script.seen history
-    script_begins = (told_at (length ps) script (get_last ps script)).0
+    script_begins = (told_at (length ps) script (between ps [] script)).0
 
     its_part : (task : ℕ) (job : Job M) → slice_get (jobs_in ms ps ss) task ≡ Some job → job.pass.mine ≡ part_of task history
     its_part task job at =
-        (told_at task job.pass (get_front ps script job.pass task (job_parts ms ps ss task job at).1)).1 ∙ ap (λ (k : ℕ). part_of k history) (amid.each task job at).actor_is
+        (told_at task job.pass (in_front ps (script ∷ []) task job.pass (job_parts ms ps ss task job at).1)).1 ∙ ap (λ (k : ℕ). part_of k history) (amid.each task job at).actor_is
 
     -- each task has stopped for a cause
     pub each_stops : (asks : Asking) → HaveStopped (jobs_in ms ps ss) → AskAsPrograms fits program_asks asks (map program ms) → (task : ℕ) → task < length gate.cell.tasks
@@ -100,7 +100,7 @@ module _ {M P : Type 0} (program : M → P) (fits : P → List Answer → Type 0
           course = subst (λ (es : List Event). IsCourse program_asks gate.cell task (program job.machine) es) part this.course;
           way = subst (λ (es : List Event). UnderWay stands_for due job.machine es) part this.way;
           mine = part;
-          begins = (told_at task job.pass (get_front ps script job.pass task (job_parts ms ps ss task job at).1)).0;
+          begins = (told_at task job.pass (in_front ps (script ∷ []) task job.pass (job_parts ms ps ss task job at).1)).0;
           cause = this.cause;
           stopped = stopped.each task job at;
         }

@@ -1,4 +1,4 @@
--- The history of a run whose tasks and input script have stopped: it is legal, and nothing follows it.
+-- The history of a run whose tasks and input script have stopped: it is legal, and nothing can follow it.
 use Rattle.std.proofs.Common.{◌≡◌, ◌⊎◌, inl, inr, ℕ, ◌<◌, Bool, true, false, cond, not, List, [], ◌∷◌, ◌++◌, length, Option, Some, None, refl, sym, ◌∙◌, ap, subst, arith, append-nil}
 use Rattle.std.specs.Prelude.{◌↔◌, ◌&&◌, ◌||◌, ◌==◌, IsSomeAnd, IsTrue, nat_lt, nat_le, slice_get}
 use Rattle.std.proofs.lemmas.Bool.{and_parts, eq-eqb, false≢true, le-ltb, leb-true}
@@ -88,7 +88,7 @@ module _ {M P : Type 0} (program : M → P) (fits : P → List Answer → Type 0
       fits = λ before after e is. (sound.at before after e is).fits;
     }
 
-    -- where the cell was stalled after a beginning, that is the whole history
+    -- if the cell was stalled after a prefix, that is the whole history
     stalled_here : (seen : List Event) → AsksWhatItMay (with_inputs asks cell) cell → IsPrefix seen history → is_stalled cell seen ≡ true → IsWhole (with_inputs asks cell) cell history
     stalled_here seen may begins stalled = by begins.0 begins.1
       where
@@ -102,7 +102,7 @@ module _ {M P : Type 0} (program : M → P) (fits : P → List Answer → Type 0
         by [] is = subst (λ (h : List Event). IsWhole (with_inputs asks cell) cell h) (sym (append-nil seen) ∙ is) (stalled_whole (with_inputs asks cell) cell seen may (front [] is) stalled).0
         by (e ∷ rest) is = absurd ((stalled_whole (with_inputs asks cell) cell seen may (front (e ∷ rest) is) stalled).0.over e (legal.at seen rest e (sym is)))
 
-    -- nothing of a task follows
+    -- no event of a task can follow
     no_task : AsksWhatItMay (with_inputs asks cell) cell → (e : Event) → Follows (with_inputs asks cell) cell history e → TaskAsks asks cell e.actor (answers_of e.actor history) e.request
         → Stopped e.actor → ⊥
     no_task may e follows asked t = by t.standing t.stopped t.cause
@@ -131,7 +131,7 @@ module _ {M P : Type 0} (program : M → P) (fits : P → List Answer → Type 0
         by standings.Cut p cause = cut (due t.machine) refl cause.unserved
         by standings.Stalled p cause = (stalled_here t.pass.seen may t.begins cause).over e follows
 
-    -- nothing of the input script follows
+    -- no event of the input script can follow
     no_input : AsksWhatItMay (with_inputs asks cell) cell → (seen : List Event) (e : Event) → IsPrefix seen history → is_over cell seen ≡ true → Follows (with_inputs asks cell) cell history e
         → InputsAsk cell e.actor (answers_of e.actor history) e.request → ⊥
     no_input may seen e begins over follows asked =

@@ -1,4 +1,4 @@
--- What a beginning of a history tells of the whole.
+-- What a prefix of a history says of the whole.
 use Rattle.std.proofs.Common.{◌≡◌, ℕ, zero, suc, ◌+◌, ◌≤◌, Bool, true, false, cond, not, List, [], ◌∷◌, ◌++◌, length, length-append, Option, Some, None, refl, sym, ◌∙◌, ap, arith}
 use Rattle.std.specs.Prelude.{◌||◌, ◌==◌, is_some, nat_lt}
 use Rattle.std.specs.Option.{option_or}
@@ -18,14 +18,14 @@ use Rattle.cell_meaning.specs.Inputs.{inputs_done}
 part_longer : (actor : ℕ) (seen more : List Event) → part_of actor (seen ++ more) ≡ part_of actor seen ++ part_of actor more
 part_longer actor seen more = filter-append (λ e. e.actor == actor) seen more
 
--- no fewer events are counted
+-- the count does not fall
 pub counted_longer : (seen history : List Event) → IsPrefix seen history → counted seen ≤ counted history
 counted_longer seen history begins =
     let all : counted (seen ++ begins.0) ≡ counted seen + counted begins.0 = sum_by-append (λ (e : Event). cond (is_counted e.request) 1 0) seen begins.0 in
     let same : counted (seen ++ begins.0) ≡ counted history = ap (λ (es : List Event). counted es) begins.1 in
     omega (arith, all, same)
 
--- what could not be served cannot be later
+-- what could not be served cannot be served later
 pub unserved_later : (cell : CellData) (seen history : List Event) (request : Request) → IsPrefix seen history → can_be_served cell seen request ≡ false → can_be_served cell history request ≡ false
 unserved_later cell seen history request begins unserved = by (is_counted request) unserved
   where
@@ -33,7 +33,7 @@ unserved_later cell seen history request begins unserved = by (is_counted reques
     by false h = absurd (false≢true (sym h))
     by true h = le-ltb (counted history) cell.steps (let few = ltb-false (counted seen) cell.steps h in let more = counted_longer seen history begins in omega (arith, few, more))
 
--- a task that has ended stays so
+-- a task that has ended stays ended
 ended_more : (mine more : List Event) → has_ended mine ≡ true → has_ended (mine ++ more) ≡ true
 ended_more [] more ended = absurd (false≢true ended)
 ended_more (e ∷ es) more ended = by (fate_of e.request) ended (ended_more es more)

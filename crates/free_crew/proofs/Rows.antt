@@ -5,6 +5,7 @@ use Rattle.std.proofs.lemmas.List.{length-map, map-append}
 use Rattle.rapid_model.proofs.Cuts.{last_or_before}
 use Rattle.rapid_model.specs.declared.answer.Answer.{Answer}
 use Rattle.rapid_model.specs.declared.request.Request.{Request}
+use Rattle.rapid_model.proofs.Lists.{between, in_front}
 use Rattle.cell_gate.specs.GateData.{GateData}
 use Rattle.cell_gate.specs.PassData.{PassData}
 use Rattle.free_crew.specs.Amid.{EachJob, GoesOnAs, IsSamePrograms}
@@ -13,25 +14,16 @@ use Rattle.free_crew.specs.declared.crew.Crew.{Crew}
 use Rattle.free_crew.specs.declared.job.Job.{Job}
 use Rattle.free_crew.specs.declared.standing.Standing.{Standing}
 
--- an element of a list with one more is that one, or it was there
+-- an element of a list with one more is that one, or was there before
 get_more : {A : Type 0} (xs : List A) (x y : A) (k : ℕ) → slice_get (xs ++ x ∷ []) k ≡ Some y → (slice_get xs k ≡ Some y) ⊎ ((k ≡ length xs) × (y ≡ x))
 get_more [] x y zero p = let same : x ≡ y = cc in inr (refl, sym same)
 get_more [] x y (suc k) p = absurd cc
 get_more (z ∷ xs) x y zero p = inl p
 get_more (z ∷ xs) x y (suc k) p = elim (get_more xs x y k p) [ inl w ↦ inl w | inr w ↦ inr (ap suc w.0, w.1) ]
 
-pub get_front : {A : Type 0} (xs : List A) (x y : A) (k : ℕ) → slice_get xs k ≡ Some y → slice_get (xs ++ x ∷ []) k ≡ Some y
-get_front [] x y k p = absurd cc
-get_front (z ∷ xs) x y zero p = p
-get_front (z ∷ xs) x y (suc k) p = get_front xs x y k p
-
-pub get_last : {A : Type 0} (xs : List A) (x : A) → slice_get (xs ++ x ∷ []) (length xs) ≡ Some x
-get_last [] x = refl
-get_last (z ∷ xs) x = get_last xs x
-
--- the last element, at its place
+-- the last element, by its place
 pub last_at : {A : Type 0} (all xs : List A) (x : A) (k : ℕ) → all ≡ xs ++ x ∷ [] → k ≡ length xs → slice_get all k ≡ Some x
-last_at all xs x k is here = ap (λ ys. slice_get ys k) is ∙ ap (λ (n : ℕ). slice_get (xs ++ x ∷ []) n) here ∙ get_last xs x
+last_at all xs x k is here = ap (λ ys. slice_get ys k) is ∙ ap (λ (n : ℕ). slice_get (xs ++ x ∷ []) n) here ∙ between xs [] x
 
 -- lists that are the same with one more element each
 pub snoc_same : {A : Type 0} (xs ys : List A) (x y : A) → xs ++ x ∷ [] ≡ ys ++ y ∷ [] → (xs ≡ ys) × (x ≡ y)
@@ -77,7 +69,7 @@ module _ {M : Type 0} where
       (ap (λ (j : Job M). Some j.machine) is, ap (λ (j : Job M). Some j.pass) is, ap (λ (j : Job M). Some j.standing) is)
   job_parts (x ∷ ms) (y ∷ ps) (z ∷ ss) (suc k) job at = job_parts ms ps ss k job at
 
-  -- each machine is one of a task
+  -- each machine is a task's
   pub job_there : (ms : List M) (ps : List PassData) (ss : List Standing) (k : ℕ) (m : M) → length ps ≡ length ms → length ss ≡ length ms → slice_get ms k ≡ Some m
       → (job : Job M) × (slice_get (jobs_in ms ps ss) k ≡ Some job) × (job.machine ≡ m)
   job_there [] ps ss k m e f at = absurd cc
@@ -94,7 +86,7 @@ module _ {M : Type 0} where
   jobs_programs {P = P} program (x ∷ ms) (y ∷ ps) (z ∷ ss) e f =
       ap (λ (programs : List P). program x ∷ programs) (jobs_programs program ms ps ss (omega (arith, e)) (omega (arith, f)))
 
-  -- rows that are longer by one task
+  -- rows with one more task
   pub rows_more : (ms later_ms : List M) (ps later_ps : List PassData) (ss later_ss : List Standing) (job : Job M) → later_ms ≡ ms ++ job.machine ∷ [] → later_ps ≡ ps ++ job.pass ∷ []
       → later_ss ≡ ss ++ job.standing ∷ [] → length ps ≡ length ms → length ss ≡ length ms → jobs_in later_ms later_ps later_ss ≡ jobs_in ms ps ss ++ job ∷ []
   rows_more ms later_ms ps later_ps ss later_ss job m p s e f =
@@ -106,7 +98,7 @@ module _ {M : Type 0} where
   pub crew_length : (crew : Crew M) → IsEven crew → length (jobs_of crew) ≡ length crew.machines.items
   crew_length crew even = jobs_length crew.machines.items crew.passes.items crew.standings.items even.passes even.standings
 
-  -- a task was taken out, the others stayed as many, and it was put back
+  -- a task was removed, the others stayed as many, and it was added again
   pub size_more : (start less later last : Crew M) → length less.machines.items + 1 ≡ length start.machines.items → IsSameRoom start less → IsSameSize less later
       → IsEven last → length last.machines.items ≡ length later.machines.items + 1 → IsSameRoom later last → IsSameSize start last
   size_more start less later last taken out size even put back =
@@ -124,7 +116,7 @@ module _ {M : Type 0} (Q : ℕ → Job M → Type 0) where
   -- what holds of each task, without the last
   pub each_less : (all jobs : List (Job M)) (job : Job M) → all ≡ jobs ++ job ∷ [] → EachJob Q all → EachJob Q jobs
   each_less all jobs job is each = record {
-    each = λ task x at. each.each task x (ap (λ (js : List (Job M)). slice_get js task) is ∙ get_front jobs job x task at);
+    each = λ task x at. each.each task x (ap (λ (js : List (Job M)). slice_get js task) is ∙ in_front jobs (job ∷ []) task x at);
   }
 
   -- and with one more
@@ -137,7 +129,7 @@ module _ {M : Type 0} (Q : ℕ → Job M → Type 0) where
   }
 
 module _ {M P : Type 0} (program : M → P) where
-  -- machines that run the same programs are as many
+  -- lists of machines with the same programs have the same length
   pub same_count : (xs ys : List M) → map program xs ≡ map program ys → length xs ≡ length ys
   same_count xs ys same = sym (length-map xs program) ∙ ap (λ (ps : List P). length ps) same ∙ length-map ys program
 
@@ -159,7 +151,7 @@ module _ {M P : Type 0} (program : M → P) where
   }
 
 module _ {M P : Type 0} (program : M → P) (fits : P → List Answer → Type 0) (program_asks : P → List Answer → Request → Type 0) (stands_for : M → List Answer → Type 0) (due : M → Option Request) where
-  -- a thread or a round follows another
+  -- a thread or a round after another
   pub came_on : (gate : GateData) (task : ℕ) (a b c : Job M) → GoesOnAs program fits program_asks stands_for due gate task a b → GoesOnAs program fits program_asks stands_for due gate task b c
       → GoesOnAs program fits program_asks stands_for due gate task a c
   came_on gate task a b c p q = record { amid = q.amid; program_is = q.program_is ∙ p.program_is }

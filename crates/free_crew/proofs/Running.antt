@@ -22,7 +22,7 @@ module _ {M P : Type 0} (program : M → P) (fits : P → List Answer → Type 0
     script = subst (λ (p : PassData). IsScript gate p) (sym script) may.script;
   }
 
-  -- with the task that came of one behind it again
+  -- with its last task back, as it came out
   pub may_more : (less all : Crew M) (old came : Job M) (task : ℕ) → jobs_of all ≡ jobs_of less ++ came ∷ [] → task ≡ length less.machines.items → IsEven less → IsEven all → all.script ≡ less.script
       → MayRun program fits program_asks stands_for due gate less → GoesOnAs program fits program_asks stands_for due gate task old came → MayRun program fits program_asks stands_for due gate all
   may_more less all old came task is here was even script may comes =
@@ -33,7 +33,7 @@ module _ {M P : Type 0} (program : M → P) (fits : P → List Answer → Type 0
         script = subst (λ (p : PassData). IsScript gate p) (sym script) may.script;
       }
 
-  -- the others have run without the last task, which came back and was put behind them
+  -- the others ran without the last task, which came back and was added after them
   pub ran_more : (start less later last : Crew M) (job sent came : Job M) (task : ℕ) → jobs_of start ≡ jobs_of less ++ job ∷ [] → length less.machines.items + 1 ≡ length start.machines.items → IsSameRoom start less
       → task ≡ length less.machines.items → HasRun program fits program_asks stands_for due gate less later → sent ≡ job → GoesOnAs program fits program_asks stands_for due gate task sent came
       → is_stopped came.standing ≡ true → jobs_of last ≡ jobs_of later ++ came ∷ [] → IsEven last → length last.machines.items ≡ length later.machines.items + 1 → IsSameRoom later last

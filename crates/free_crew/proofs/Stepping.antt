@@ -1,4 +1,4 @@
--- A task that asks its next request, and what comes of it.
+-- A task that makes its next request, and the outcome.
 use Rattle.std.proofs.Common.{◌≡◌, inl, inr, ℕ, Bool, true, false, List, [], ◌∷◌, ◌++◌, Option, Some, refl, sym, ◌∙◌, ap, subst, arith}
 use Rattle.std.specs.Prelude.{◌↔◌, IsTrue, IsSome, is_some}
 use Rattle.std.proofs.lemmas.Bool.{false≢true}
@@ -33,7 +33,7 @@ plain_suits cell row mine requests.Rise suits other = absurd (false≢true (sym 
 plain_suits cell row mine (requests.Input index) suits other = absurd (false≢true suits)
 plain_suits cell row mine _ suits other = refl
 
--- a Rise is asked by a held task alone
+-- only a held task asks a Rise
 rise_held : (held : Bool) → goes_with held true ≡ true → held ≡ true
 rise_held true goes = refl
 rise_held false goes = absurd (false≢true goes)
@@ -85,7 +85,7 @@ module _ {M P : Type 0} (program : M → P) (fits : P → List Answer → Type 0
     pub is_held_now : request ≡ requests.Rise → is_held job.pass.mine ≡ true
     is_held_now is = rise_held (is_held job.pass.mine) (subst (λ (r : Request). goes_with (is_held job.pass.mine) (is_rise r) ≡ true) is task_may.goes)
 
-    -- it is held on
+    -- it stays held
     pub waits : (pass : PassData) → IsSameHolder job.pass pass → Looked job.pass pass → request ≡ requests.Rise
         → GoesOnAs program fits program_asks stands_for due gate task job (record { machine = job.machine; pass = pass; standing = standings.Waiting })
     waits pass same looked rise = record {

@@ -1,4 +1,4 @@
--- A task amid a run: its machine, its pass, and how it stands.
+-- A task during a run: its machine, its pass, and how it stands.
 use Rattle.std.specs.Prelude.{◌≡◌, ℕ, ◌<◌, Bool, true, false, List, length, map, Option, Some, IsSomeAnd, slice_get}
 use Rattle.rapid_model.specs.CellData.{CellData}
 use Rattle.rapid_model.specs.Own.{has_ended, is_held}
@@ -32,7 +32,8 @@ pub record IsCut (due : Option Request) (cell : CellData) (pass : PassData) : Ty
   pub going : has_ended pass.mine ≡ false
   pub unserved : IsSomeAnd due (λ request. can_be_served cell pass.seen request ≡ false)
 
--- Why a task stands so: it has not ended, it is held, it has ended, no steps are left for its next request, or the cell was stalled.
+-- Why a task stands so: it has not ended, it is held, it has ended, no steps are left for its next request, or the cell
+-- was stalled.
 abbrev pub HasCause : Option Request → CellData → PassData → Standing → Type 0
 HasCause due cell pass standings.Going = has_ended pass.mine ≡ false
 HasCause due cell pass standings.Waiting = IsWaiting pass
@@ -40,8 +41,8 @@ HasCause due cell pass standings.Ended = has_ended pass.mine ≡ true
 HasCause due cell pass standings.Cut = IsCut due cell pass
 HasCause due cell pass standings.Stalled = is_stalled cell pass.seen ≡ true
 
--- The task of a number: its pass is the gate's and its own, its program suits it, its events are a course of the program, for
--- which its machine stands, and it stands as it does for a cause.
+-- The task with this number: its pass is the gate's and its own, its program suits it, its events are a course of the
+-- program, its machine stands for them, and it stands as it does for a cause.
 pub record IsAmid {M P : Type 0} (program : M → P) (fits : P → List Answer → Type 0) (program_asks : P → List Answer → Request → Type 0) (stands_for : M → List Answer → Type 0) (due : M → Option Request) (gate : GateData) (task : ℕ) (job : Job M) : Type 0 where
   pub gate_is : job.pass.gate ≡ gate
   pub actor_is : job.pass.actor ≡ task
@@ -51,7 +52,7 @@ pub record IsAmid {M P : Type 0} (program : M → P) (fits : P → List Answer �
   pub way : UnderWay stands_for due job.machine job.pass.mine
   pub cause : HasCause (due job.machine) gate.cell job.pass job.standing
 
--- What a step, a thread or a round makes of a task: it is amid its run, and its machine runs the same program.
+-- What a step, a thread or a round makes of a task: it is still under way, and its machine runs the same program.
 pub record GoesOnAs {M P : Type 0} (program : M → P) (fits : P → List Answer → Type 0) (program_asks : P → List Answer → Request → Type 0) (stands_for : M → List Answer → Type 0) (due : M → Option Request) (gate : GateData) (task : ℕ) (old new : Job M) : Type 0 where
   pub amid : IsAmid program fits program_asks stands_for due gate task new
   pub program_is : program new.machine ≡ program old.machine
@@ -60,11 +61,11 @@ pub record GoesOnAs {M P : Type 0} (program : M → P) (fits : P → List Answer
 pub record EachJob {M : Type 0} (Q : ℕ → Job M → Type 0) (jobs : List (Job M)) : Type 0 where
   pub each : (task : ℕ) (job : Job M) → slice_get jobs task ≡ Some job → Q task job
 
--- the tasks of the first numbers are amid their runs
+-- the first tasks are under way
 abbrev pub AreAmid : {M P : Type 0} → (M → P) → (P → List Answer → Type 0) → (P → List Answer → Request → Type 0) → (M → List Answer → Type 0) → (M → Option Request) → GateData → List (Job M) → Type 0
 AreAmid program fits program_asks stands_for due gate jobs = EachJob (λ task job. IsAmid program fits program_asks stands_for due gate task job) jobs
 
--- each task asks nothing more
+-- no task asks anything more
 abbrev pub HaveStopped : {M : Type 0} → List (Job M) → Type 0
 HaveStopped jobs = EachJob (λ task job. is_stopped job.standing ≡ true) jobs
 

@@ -1,4 +1,4 @@
--- What the run of a crew takes, and what it comes to.
+-- What the run of a crew needs, and its outcome.
 use Rattle.std.specs.Prelude.{List, Option}
 use Rattle.rapid_model.specs.declared.answer.Answer.{Answer}
 use Rattle.rapid_model.specs.declared.request.Request.{Request}
@@ -7,7 +7,7 @@ use Rattle.free_crew.specs.Amid.{AreAmid, HaveStopped, IsSamePrograms}
 use Rattle.free_crew.specs.Crews.{IsEven, IsFed, IsSameSize, IsScript, jobs_of}
 use Rattle.free_crew.specs.declared.crew.Crew.{Crew}
 
--- each task is amid its run, and the input script's pass is there
+-- each task is under way, and the last pass is the input script's
 pub record MayRun {M P : Type 0} (program : M → P) (fits : P → List Answer → Type 0) (program_asks : P → List Answer → Request → Type 0) (stands_for : M → List Answer → Type 0) (due : M → Option Request) (gate : GateData) (crew : Crew M) : Type 0 where
   pub even : IsEven crew
   pub amid : AreAmid program fits program_asks stands_for due gate (jobs_of crew)

@@ -6,14 +6,14 @@ ghost use Rattle.free_crew.specs.Amid.{GoesOnAs, IsAmid, is_stopped};
 
 use crate::job::Job;
 use crate::standing::Standing;
+use cell_crew::TaskMachine;
 use cell_gate::{Acted, Gate, Now};
 use outside::Pace;
 use rapid_model::{Answer, Request};
 use std::sync::Wait;
-use task_programs::TaskMachine;
 
 impl<M: TaskMachine> Job<M> {
-    /// Asks the request that is due, and goes on with the answer. A held task waits where it cannot go on yet.
+    /// Makes the request that is due, and goes on with the answer. A held task waits if it cannot go on yet.
     pub(crate) fn step<R: Wait, P: Pace>(&mut self, rt: &R, gate: &Gate, pace: &P, task: u32)
         requires amid { IsAmid M.program M.fits M.asks M.stands_for M.due gate.now task self.old }
         requires going { is_stopped self.old.standing ≡ false }
@@ -38,7 +38,7 @@ impl<M: TaskMachine> Job<M> {
         }
     }
 
-    /// Asks what is due and always enabled.
+    /// Makes the request that is due, which is always enabled.
     fn ask<R: Wait>(&mut self, rt: &R, gate: &Gate, task: u32, request: Request)
         requires amid { IsAmid M.program M.fits M.asks M.stands_for M.due gate.now task self.old }
         requires going { is_stopped self.old.standing ≡ false }
@@ -50,7 +50,7 @@ impl<M: TaskMachine> Job<M> {
         match gate.act(rt, &mut self.pass, request) {
             Acted::Spent => self.standing = Standing::Cut,
             Acted::Done(answer) => {
-                // A machine is not handed the answer to its End.
+                // A machine gets no answer to its End.
                 if ends {
                     self.standing = Standing::Ended;
                 } else {

@@ -1,4 +1,4 @@
-//! How a crew is before its run.
+//! A crew before its run.
 ghost use Rattle.std.specs.Prelude.{◌≡◌, ◌+◌, ◌≤◌, [], ◌∷◌, ◌++◌, length, map, replicate, vec_capacity};
 ghost use Rattle.std.specs.List.{AllByRecursion};
 ghost use Rattle.cell_crew.specs.Courses.{SuitTasks};
@@ -12,12 +12,11 @@ ghost use Rattle.free_crew.specs.declared.standing.Standing.TheVariants as stand
 use crate::crew::Crew;
 use crate::standing::Standing;
 use arrayvec::ArrayVec;
-use cell_crew::ask_first;
+use cell_crew::{TaskMachine, ask_first};
 use cell_gate::{Gate, Pass};
 use rapid_limits::MOST_TASKS;
-use task_programs::TaskMachine;
 
-/// The crew of a gate, by its passes and a machine for each task. Each machine has asked its first request then.
+/// The crew of a gate, from its passes and a machine for each task. Each machine has asked its first request.
 pub(crate) fn begin<M: TaskMachine + Drop>(
     gate: &Gate,
     machines: Vec<M>,
@@ -31,7 +30,7 @@ pub(crate) fn begin<M: TaskMachine + Drop>(
     ensures machines_room { vec_capacity result.machines ≡ vec_capacity machines }
     ensures programs { map M.program result.machines.items ≡ map M.program machines.items }
 {
-    // A gate has not too many tasks.
+    // A gate's tasks are few enough.
     prove!(gate.task_count() as usize <= MOST_TASKS);
     new_crew(machines, passes)
 }
@@ -62,7 +61,7 @@ fn new_crew<M: TaskMachine + Drop>(machines: Vec<M>, mut passes: Vec<Pass>) -> C
     }
 }
 
-/// The standings of so many tasks whose first requests are due.
+/// The standings of this many tasks whose first requests are due.
 fn all_going(tasks: usize) -> ArrayVec<Standing, MOST_TASKS>
     requires { tasks ≤ MOST_TASKS }
     ensures { result.items ≡ replicate tasks standings.Going }
@@ -74,7 +73,7 @@ fn all_going(tasks: usize) -> ArrayVec<Standing, MOST_TASKS>
     standings
 }
 
-/// The machines, each of which has asked its first request.
+/// The machines, once each has asked its first request.
 fn all_asked<M: TaskMachine + Drop>(mut machines: Vec<M>) -> Vec<M>
     requires { AllByRecursion M.is_fresh machines.items }
     ensures len { length result.items ≡ length machines.items }

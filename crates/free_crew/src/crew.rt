@@ -7,8 +7,8 @@ use arrayvec::ArrayVec;
 use cell_gate::Pass;
 use rapid_limits::MOST_TASKS;
 
-/// The tasks of the first numbers, in rows: the machine, the pass and the standing of a task have the same place in each. Beside
-/// them is the input script's pass.
+/// The first tasks, in rows: the machine, the pass and the standing of a task have the same place in each. Beside them
+/// is the input script's pass.
 #[derive(Drop)]
 pub struct Crew<M> {
     pub machines: Vec<M>,
@@ -18,7 +18,7 @@ pub struct Crew<M> {
 }
 
 impl<M: Drop> Crew<M> {
-    /// Takes out the last task.
+    /// Removes the last task.
     pub(crate) fn pop(&mut self) -> Option<Job<M>>
         requires { IsEven self.old }
         ensures even { IsEven self.new }
@@ -39,7 +39,7 @@ impl<M: Drop> Crew<M> {
         })
     }
 
-    /// Puts a task behind the others, for which there is room.
+    /// Adds a task after the others. There is room for it.
     pub(crate) fn push(&mut self, job: Job<M>)
         requires even { IsEven self.old }
         requires room { HasRoom self.old }

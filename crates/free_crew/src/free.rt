@@ -13,7 +13,7 @@ use crate::beginning::begin;
 use crate::crew::Crew;
 use crate::round::go_round;
 use crate::threads::{finish, start};
-use cell_crew::Ran;
+use cell_crew::{Ran, TaskMachine};
 use cell_gate::{Gate, Pass};
 use cell_meaning::Askers;
 use outside::Pace;
@@ -21,13 +21,13 @@ use std::sync::Wait;
 use std::sync::atomic::AtomicU64;
 use std::thread;
 use std::thread::{Scope, Threads};
-use task_programs::TaskMachine;
 
-/// Runs each task on a thread of its own at the gate, and the input script on the caller's, until each has ended, or nothing more
-/// is enabled, or no steps are left: the history is one that the tasks and the input script could make together, and nothing
-/// follows it. The passes are those of `open_gate`, and there is a machine for each task, which has asked nothing: the task asks as
-/// the machine's program, which suits it. Where a thread is refused, the caller goes round that task and those before it. The
-/// machines come back in their order and room. Takes no memory.
+/// Runs each task on a thread of its own at the gate, and the input script on the caller's, until each has ended,
+/// nothing more is enabled, or no steps are left. The history is one that the tasks and the input script can make
+/// together, and nothing can follow it. The passes are those of `open_gate`, and there is a machine for each task,
+/// which has asked nothing; the task asks what the machine's program asks, which suits it. If a thread is refused, the
+/// caller goes round that task and those before it. The machines come back in order, with their room. Allocates
+/// nothing.
 pub fn run_free<A: Askers, M: TaskMachine + Drop + Send, R: Threads + Wait + Sync, P: Pace + Sync>(
     rt: &R,
     gate: Gate,
@@ -101,8 +101,8 @@ fn run_all<M: TaskMachine + Drop + Send, R: Threads + Wait + Sync, P: Pace + Syn
     )
 }
 
-/// Starts a thread for each task, the last first, and waits for it. From the first task on that is refused one, the rest are the
-/// caller's. The caller has the input script.
+/// Starts a thread for each task, the last one first, and waits for it. If one is refused, its task and those before it
+/// are the caller's. The caller has the input script.
 fn run_crew<'s, E, M: TaskMachine + Drop + Send, R: Threads + Wait + Sync, P: Pace + Sync>(
     scope: &Scope<'s, E>,
     rt: &'s R,

@@ -1,7 +1,7 @@
 use crate::standing::Standing;
 use cell_gate::Pass;
 
-/// A task amid a run.
+/// A task during a run.
 #[derive(Drop)]
 pub struct Job<M> {
     pub machine: M,

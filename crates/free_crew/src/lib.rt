@@ -1,5 +1,5 @@
-//! Runs each task of a cell on a thread of its own, over whatever machines run the tasks' programs. What the threads ask of the
-//! cell stands in one history, by the cell's gate.
+//! Runs each task of a cell on a thread of its own, over whatever machines run the tasks' programs. The cell's gate
+//! puts the requests of all threads into one history.
 #![tactic(auto)]
 
 mod asking;

@@ -6,21 +6,22 @@ ghost use Rattle.free_crew.specs.Runs.{HasRun, MayRun};
 
 use crate::crew::Crew;
 use crate::job::Job;
+use cell_crew::TaskMachine;
 use cell_gate::{Fed, Gate};
 use outside::Pace;
 use std::sync::Wait;
-use task_programs::TaskMachine;
 
-/// What a round came to.
+/// The outcome of a round.
 #[derive(Clone, Copy)]
 pub(crate) struct Round {
     /// A request was answered.
     pub moved: bool,
-    /// Each task asks nothing more.
+    /// No task asks anything more.
     pub over: bool,
 }
 
-/// Goes round a crew's tasks, which have no thread, and the input script, a request each, until each asks nothing more.
+/// Goes round a crew's tasks, which have no thread, and the input script, one request each, until none asks anything
+/// more.
 pub(crate) fn go_round<M: TaskMachine + Drop, R: Wait, P: Pace>(
     rt: &R,
     gate: &Gate,
@@ -38,7 +39,7 @@ pub(crate) fn go_round<M: TaskMachine + Drop, R: Wait, P: Pace>(
             Fed::Over if round.over => return crew,
             Fed::Given => {}
             _ => {
-                // What changed since the script looked ends the wait.
+                // A change since the script looked ends the wait.
                 if !round.moved {
                     gate.rest(rt, &mut crew.script);
                 }
@@ -48,7 +49,7 @@ pub(crate) fn go_round<M: TaskMachine + Drop, R: Wait, P: Pace>(
     unreachable!()
 }
 
-/// A request of each task that has not stopped, in order.
+/// One request of each task that has not stopped, in order.
 fn step_each<M: TaskMachine + Drop, R: Wait, P: Pace>(
     rt: &R,
     gate: &Gate,
@@ -87,7 +88,7 @@ fn step_each<M: TaskMachine + Drop, R: Wait, P: Pace>(
     )
 }
 
-/// A request of a task, unless it has stopped; and whether it did other than wait.
+/// One request of a task, unless it has stopped. Returns whether the task did something other than wait.
 fn step_one<M: TaskMachine, R: Wait, P: Pace>(
     rt: &R,
     gate: &Gate,

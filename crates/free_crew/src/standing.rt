@@ -6,7 +6,7 @@ ghost use Rattle.free_crew.specs.Amid.{is_stopped};
 pub enum Standing {
     /// Its next request is due.
     Going,
-    /// It is held, and nothing has changed that it waits for.
+    /// It is held, and nothing that it waits for has changed.
     Waiting,
     /// It has ended.
     Ended,

@@ -4,15 +4,15 @@ ghost use Rattle.free_crew.specs.Amid.{GoesOnAs, IsAmid, is_stopped};
 ghost use Rattle.free_crew.specs.Started.{IsPromised};
 
 use crate::job::Job;
+use cell_crew::TaskMachine;
 use cell_gate::Gate;
 use outside::Pace;
 use std::snapshot::Snapshot;
 use std::sync::Wait;
 use std::sync::atomic::{AtomicU64, Ordering};
 use std::thread::{Promise, PromisedHandle, Scope, Threads};
-use task_programs::TaskMachine;
 
-/// What a task's thread is to give back: the task, come so far as it may at the gate.
+/// What a task's thread promises to give back: the task, having gone on at the gate.
 #[derive(Drop)]
 pub struct TaskBack<M> {
     pub gate: Snapshot<Gate>,
@@ -24,7 +24,7 @@ impl<M: TaskMachine> Promise<Job<M>> for TaskBack<M> {
     ghost kept_by = { λ p r. GoesOnAs M.program M.fits M.asks M.stands_for M.due p.gate.value p.task p.job.value r };
 }
 
-/// Starts a thread of the scope for a task. The task comes back where the thread is refused.
+/// Starts a thread of the scope for a task. If the thread is refused, the task comes back.
 pub(crate) fn start<'s, E, M: TaskMachine + Drop + Send, R: Threads + Wait + Sync, P: Pace + Sync>(
     scope: &Scope<'s, E>,
     rt: &'s R,
@@ -62,7 +62,7 @@ where
     }
 }
 
-/// What a task's thread does. It does nothing where the thread was refused.
+/// The work of a task's thread: none if the thread was refused.
 fn work<M: TaskMachine, R: Wait, P: Pace>(
     rt: &R,
     gate: &Gate,
@@ -98,7 +98,8 @@ fn run<M: TaskMachine, R: Wait, P: Pace>(rt: &R, gate: &Gate, pace: &P, task: u3
     unreachable!()
 }
 
-/// Waits for a task's thread. Its promise tells nothing of whether the task came to its end, so this runs it on where it did not.
+/// Waits for a task's thread. Its promise does not say that the task has stopped, so this runs the task on if it has
+/// not.
 pub(crate) fn finish<M: TaskMachine + Drop + Send, R: Threads + Wait, P: Pace>(
     rt: &R,
     gate: &Gate,

@@ -5,16 +5,17 @@ ghost use Rattle.rapid_num.specs.Arithmetic.{whole_part};
 ghost use Rattle.rapid_model.specs.declared.function.Function.TheVariants as functions;
 ghost use Rattle.rapid_model.specs.declared.value.Value.TheVariants as values;
 ghost use Rattle.rapid_meaning.specs.Doings.{or_misfit};
-ghost use Rattle.rapid_meaning.specs.Functions.{decimals_of, of_value, of_values};
+ghost use Rattle.rapid_meaning.specs.Functions.{decimals_of};
 ghost use Rattle.rapid_meaning.specs.Values;
 ghost use Rattle.rapid_meaning.specs.Values.{num_in};
+ghost use Rattle.stack_code.specs.Functions.{of_value, of_values};
 
 use crate::num_text::num_text;
 use rapid_model::{Function, Text, Value};
 use rapid_num::Num;
 
-/// What a function of one value comes to (Abs, Trunc, StrLen). None exactly where the function takes something else, or the
-/// value is of another type than it takes.
+/// The result of a function of one value (Abs, Trunc, StrLen). None exactly if the function takes something else or a
+/// value of another type.
 pub fn value_of(function: Function, value: &Value) -> Option<Value>
     ensures { of_value function value.now ≡ or_misfit result }
 {
@@ -26,8 +27,8 @@ pub fn value_of(function: Function, value: &Value) -> Option<Value>
     }
 }
 
-/// What a function of two values comes to (NumToStr). None exactly where the function takes something else, or a value is of
-/// another type than it takes.
+/// The result of a function of two values (NumToStr). None exactly if the function takes something else or values of
+/// other types.
 pub fn value_of_two(function: Function, first: &Value, second: &Value) -> Option<Value>
     ensures { of_values function first.now second.now ≡ or_misfit result }
 {
@@ -73,7 +74,7 @@ fn num_to_str(first: &Value, second: &Value) -> Option<Value>
     }
 }
 
-/// A num with so many decimals as a value says.
+/// The text of a num with as many decimals as a value says.
 fn with_decimals(n: Num, count: &Value) -> Option<Value>
     ensures { of_values functions.NumToStr (values.Num n) count.now ≡ or_misfit result }
 {
@@ -103,14 +104,14 @@ fn text_in(value: &Value) -> Option<&Text>
     }
 }
 
-/// The size of a num.
+/// The absolute value of a num.
 fn size(n: Num) -> Num
     ensures { result ≡ pos (nat_abs n) }
 {
     if n.thousandths() < 0 { n.negated() } else { n }
 }
 
-/// The num without its decimals.
+/// The num truncated towards zero.
 fn truncated(n: Num) -> Num
     ensures { result ≡ whole_part n 1_000 *ℤ pos 1_000 }
 {
@@ -120,7 +121,7 @@ fn truncated(n: Num) -> Num
     }
 }
 
-/// How many characters a text has.
+/// The number of characters of a text.
 fn characters(text: &Text) -> Num
     ensures { result ≡ pos (length text.now * 1_000) }
 {
@@ -130,7 +131,7 @@ fn characters(text: &Text) -> Num
     }
 }
 
-/// A count of decimals, truncated and taken into 0 to 3.
+/// A number of decimals, truncated and clamped to 0 to 3.
 fn decimals(count: Num) -> u32
     ensures { result ≡ decimals_of count }
 {

@@ -1,4 +1,4 @@
-//! What the predefined functions of values come to (RAPID Instructions, Functions and Data types).
+//! The results of the predefined functions of values (RAPID Instructions, Functions and Data types).
 #![tactic(auto)]
 
 mod functions;

@@ -1,4 +1,4 @@
-//! Nums as texts with so many decimals.
+//! Nums as texts with a fixed number of decimals.
 
 ghost use Rattle.std.specs.Prelude.{◌≡◌, ◌+◌, ◌-◌, ◌^◌, ◌<◌, ◌≤◌, nat_abs, [], ◌∷◌, ◌++◌, decimal, length};
 ghost use Rattle.rapid_num.specs.Arithmetic.{rounded};
@@ -9,7 +9,7 @@ use rapid_limits::LONGEST_STRING;
 use rapid_model::{Text, show};
 use rapid_num::Num;
 
-/// A num with so many decimals, 0 to 3, rounded half away from zero.
+/// A num with 0 to 3 decimals, rounded half away from zero.
 pub(crate) fn num_text(value: Num, decimals: u32) -> Text
     requires { decimals ≤ 3 }
     ensures { result ≡ Functions.num_text value decimals }
@@ -20,7 +20,7 @@ pub(crate) fn num_text(value: Num, decimals: u32) -> Text
     text
 }
 
-/// The size of a num, counted in the last of so many decimals.
+/// The absolute value of a num in units of its last decimal.
 fn size_in(value: Num, decimals: u32) -> u64
     requires { decimals ≤ 3 }
     ensures size { result ≡ rounded (nat_abs value) (10 ^ (3 - decimals)) }
@@ -35,7 +35,7 @@ fn size_in(value: Num, decimals: u32) -> u64
     }
 }
 
-/// A minus before a num below zero whose size is not zero.
+/// A minus for a num below zero, if its digits are not all zero.
 fn sign(value: Num, size: u64) -> Text
     ensures sign { result ≡ Functions.sign_text value size }
     ensures short { length result ≤ 1 }
@@ -47,7 +47,7 @@ fn sign(value: Num, size: u64) -> Text
     text
 }
 
-/// A size, with a point before its decimals where it has some.
+/// Appends a size, with a point before its decimals if it has any.
 fn show_size(size: u64, decimals: u32, text: &mut Text)
     requires decimals { decimals ≤ 3 }
     requires few { size < 10 ^ 13 }
@@ -78,7 +78,7 @@ fn show_size(size: u64, decimals: u32, text: &mut Text)
     }
 }
 
-/// A whole number, for which there is room.
+/// Appends a whole number, for which there is room.
 fn show_whole(whole: u64, text: &mut Text)
     requires few { whole < 10 ^ 13 }
     requires room { length text.old ≤ 1 }
@@ -89,7 +89,7 @@ fn show_whole(whole: u64, text: &mut Text)
     show(text, buffer.format(whole).as_bytes());
 }
 
-/// The point before decimals.
+/// Appends the decimal point.
 fn show_point(text: &mut Text)
     requires { length text.old < LONGEST_STRING }
     ensures { text.new ≡ text.old ++ 46 ∷ [] }
@@ -97,7 +97,7 @@ fn show_point(text: &mut Text)
     text.push(b'.');
 }
 
-/// One decimal digit.
+/// Appends a decimal digit.
 fn show_digit(digit: u64, text: &mut Text)
     requires digit { digit < 10 }
     requires room { length text.old < LONGEST_STRING }

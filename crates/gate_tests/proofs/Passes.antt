@@ -32,7 +32,7 @@ new_going gate task one is = subst (λ (p : PassData). IsGoing p) (sym is) (reco
 some_at : {A : Type 0} (Q : A → Type 0) (xs : List A) (k : ℕ) (x : A) → slice_get xs k ≡ Some x → Q x → Any Q xs
 some_at Q xs k x at so = (k, x, slice_get_within xs k x at, get_or_from_slice_get xs k x x at, so)
 
--- the gate may be closed by them
+-- they may close the gate
 pub both_passes : (gate : GateData) (passes : List PassData) (task script : PassData) → passes ≡ script ∷ task ∷ [] → length gate.cell.tasks ≡ 1 → task.gate ≡ gate → task.actor ≡ 0
     → script.gate ≡ gate → script.actor ≡ 1 → AreAllPasses gate passes
 both_passes gate passes task script is one a b c d = subst (λ (ps : List PassData). AreAllPasses gate ps) (sym is) (record {

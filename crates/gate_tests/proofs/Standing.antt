@@ -1,4 +1,4 @@
--- What a task's pass may ask, and how the task stands then.
+-- What a task's pass may ask, and the task's state then.
 use Rattle.std.proofs.Common.{◌≡◌, inl, inr, ◌<◌, Bool, true, false, not, ◌&&◌, List, length, Option, Some, None, is_some, refl, ◌∙◌, ap, arith}
 use Rattle.std.specs.Option.{option_or}
 use Rattle.std.proofs.lemmas.Bool.{true≢false}
@@ -23,7 +23,7 @@ use Rattle.cell_gate.specs.declared.acted.Acted.{Acted}
 use Rattle.cell_gate.specs.declared.acted.Acted.TheVariants as ways
 use Rattle.gate_tests.specs.Passes.{IsGoing, IsHeld}
 
--- a task that goes on may ask this, which suits any task and is no Rise
+-- a task that goes on may ask this, which suits any task and is not a Rise
 pub goes : (pass : PassData) (request : Request) → IsGoing pass → is_offered request ≡ true → is_rise request ≡ false → ((row : TaskRow) → suits_task pass.gate.cell row pass.mine request ≡ true)
     → MayAsk pass request
 goes pass request going served plain suits =
@@ -62,7 +62,7 @@ module _ (old new : PassData) (before : List Event) (request : Request) (answer 
   pub held_after : is_hold request ≡ true → IsHeld new
   held_after hold = record { within = within_same old new same within; alive = alive_after; held = hold_after ∙ hold }
 
--- the pass has looked, and its task stands as it did
+-- the pass has looked, and its task's state is as before
 pub still_going : (old new : PassData) → IsSameHolder old new → IsGoing old → new.mine ≡ old.mine → IsGoing new
 still_going old new same going mine = record {
   within = within_same old new same going.within;

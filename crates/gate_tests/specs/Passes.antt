@@ -1,4 +1,4 @@
--- How the task of a pass stands.
+-- The state of the task of a pass.
 use Rattle.std.specs.Prelude.{◌≡◌, ◌<◌, true, false, length}
 use Rattle.rapid_model.specs.Own.{has_ended, is_held}
 use Rattle.cell_gate.specs.PassData.{PassData}

@@ -17,7 +17,7 @@ pub fn look<R: Wait>(rt: &R, gate: &Gate, pass: &mut Pass) -> Acted
     gate.act(rt, pass, Request::Look)
 }
 
-// A Hold. Whether the task is held then.
+// A Hold. Returns whether the task is then held.
 pub fn hold<R: Wait>(rt: &R, gate: &Gate, pass: &mut Pass, seen: u32) -> bool
     requires gate { pass.old.gate ≡ gate.now }
     requires going { IsGoing pass.old }
@@ -30,7 +30,7 @@ pub fn hold<R: Wait>(rt: &R, gate: &Gate, pass: &mut Pass, seen: u32) -> bool
     }
 }
 
-// Whether the task, which is held, has to wait on.
+// Whether the task, which is held, still has to wait.
 pub fn waits<R: Wait>(rt: &R, gate: &Gate, pass: &mut Pass) -> bool
     requires gate { pass.old.gate ≡ gate.now }
     requires held { IsHeld pass.old }

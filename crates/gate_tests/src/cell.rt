@@ -1,4 +1,4 @@
-//! A cell of one task, whose input script sets the one signal behind two events.
+//! A cell of one task, whose input script sets the only signal after two events.
 ghost use Rattle.std.specs.Prelude.{◌≡◌, codes, length, IfOk};
 
 use rapid_model::{Cell, InputRow, NameText, Sequence, SignalRow, TaskRow};

@@ -1,4 +1,4 @@
-//! How the gate is closed.
+//! Closing the gate.
 ghost use Rattle.std.specs.Prelude.{◌≡◌, length};
 
 use cell_core::Core;
@@ -6,7 +6,7 @@ use cell_gate::{Gate, Pass};
 use std::alloc::Global;
 use std::process::Abort;
 
-// The core, by the passes in another order.
+// The core, from the passes in another order.
 pub fn close(rt: &impl Abort, alloc: Global, gate: Gate, task: Pass, script: Pass) -> Core
     requires one { length gate.cell.tasks ≡ 1 }
     requires task_gate { task.gate ≡ gate }

@@ -1,4 +1,4 @@
-//! A gate of a cell with one task, on one thread and on two, with what it answers. It holds only tests.
+//! Tests only: a gate of a cell with one task, on one thread and on two, and its answers.
 #![tactic(auto)]
 
 #[cfg(test)]

@@ -1,4 +1,4 @@
-//! How the gate is opened: its task's pass, and its input script's.
+//! Opening the gate: the pass of its task, and that of its input script.
 ghost use Rattle.std.specs.Prelude.{◌≡◌, [], ◌∷◌, length};
 ghost use Rattle.gate_tests.specs.Passes.{IsGoing};
 

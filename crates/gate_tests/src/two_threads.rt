@@ -61,7 +61,7 @@ fn apart<R: Threads + Wait + Sync>(rt: &R, gate: &Gate, task: Pass, script: Pass
     )
 }
 
-// How many of the events are an actor's, of the first so many.
+// How many of the first `count` events are an actor's.
 fn count(core: &Core, events: u32, actor: u32) -> u32
     requires { events ≤ length core.now.history }
 {

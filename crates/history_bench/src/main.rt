@@ -1,6 +1,6 @@
-//! Reads the history on its standard input as often as the second word says, else once; with the first word `print` reads it once, and
-//! prints the lines of its events as often. Tells what it came to. The history is of a cell of the task `L1` and a persistent num. For
-//! `bench/run`.
+//! Reads the history on its standard input as many times as the second word says, or once. If the first word is
+//! `print`, it reads it once and prints the lines of its events that many times. Prints the outcome. The history is
+//! that of a cell with the task `L1` and a persistent num. For `bench/run`.
 #![tactic(auto)]
 
 mod names;
@@ -49,7 +49,7 @@ fn main(rt: HostRuntime) -> io::Result<()> {
     }
 }
 
-/// What it came to.
+/// The outcome.
 #[derive(Drop)]
 enum Told {
     Read { events: usize, fates: usize },
@@ -58,7 +58,7 @@ enum Told {
     Memory,
 }
 
-/// Reads once, and then prints so often; or reads so often.
+/// Reads once and then prints this many times, or reads this many times.
 fn told_of(alloc: Global, names: &Names, text: &[u8], prints: bool, passes: u32) -> Told
     requires names { AreNamed names.now.tasks.now }
     requires short { length text.now < 2 ^ 31 }
@@ -84,7 +84,7 @@ fn told_of(alloc: Global, names: &Names, text: &[u8], prints: bool, passes: u32)
     told
 }
 
-/// Prints the lines of the events so often, and tells how many bytes they have.
+/// Prints the lines of the events this many times, and returns how many bytes they have.
 fn print_often(names: &Names, events: &[Event], passes: u32) -> usize {
     let mut line = ArrayString::new();
     let mut bytes = 0usize;

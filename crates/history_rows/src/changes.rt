@@ -1,4 +1,5 @@
-//! Histories with one byte changed: the line of the byte is told, or another history is read, which is printed so.
+//! Histories with one byte changed: the line of the byte is reported, or another history is read, which prints as the
+//! changed text.
 
 ghost use Rattle.history_text.specs.HistoryText.{AreNamed};
 
@@ -18,12 +19,12 @@ struct Spot<'a> {
     line: u32,
 }
 
-/// What comes of a change.
+/// The outcome of a change.
 #[derive(Clone, Copy)]
 enum Outcome {
-    /// The line of the byte is told.
+    /// The line of the byte is reported.
     Fault,
-    /// Another history is read, and printed so.
+    /// Another history is read, and printed as the changed text.
     Other,
     /// Anything else.
     Wrong,
@@ -49,7 +50,7 @@ pub fn try_changes(rt: &HostRuntime, names: &Names, file: &str) -> anyhow::Resul
     Ok(())
 }
 
-/// How many other histories come of a row's, where one byte is another one or is dropped.
+/// How many other histories come of a row's text, if one byte is replaced or dropped.
 fn others_of(rt: &HostRuntime, names: &Names, row: &Row<'_>) -> anyhow::Result<u32>
     requires { AreNamed names.now.tasks.now }
 {
@@ -95,7 +96,7 @@ fn others_at(
     Ok(others)
 }
 
-/// What comes of the byte being another one, or dropped.
+/// The outcome if the byte is replaced or dropped.
 fn outcome_of(
     alloc: Global,
     names: &Names,

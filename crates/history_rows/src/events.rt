@@ -56,7 +56,7 @@ fn compare(
     Ok(())
 }
 
-/// The rows of a file: a line of a history, and below it what it says, which goes on in the lines that begin with a space.
+/// The rows of a file: a line of a history, and below it what it says, continued in the lines that start with a space.
 fn read_rows(alloc: Global, file: &str) -> anyhow::Result<Vec<Row<'_>>> {
     let mut rows = Vec::new(alloc);
     for line in file.lines() {

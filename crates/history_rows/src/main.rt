@@ -1,8 +1,8 @@
-//! Reads histories and prints them again, as files of rows say. Prints each row that comes out otherwise, and of each file how many
-//! come out as they say.
+//! Reads histories and prints them again, as files of rows say. Prints each row with another outcome, and for each file
+//! how many rows agree.
 //!
-//! A line of the standard input names what is done and a file of rows: `events`, `texts` or `changes`. In a file a line that is empty
-//! or begins with `#` says nothing; its head says what the others are.
+//! A line of the standard input names what is done, `events`, `texts` or `changes`, and a file of rows. In a file a
+//! line that is empty or starts with `#` is skipped; its head says what the others are.
 #![tactic(auto)]
 
 mod changes;

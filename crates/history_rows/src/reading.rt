@@ -11,7 +11,7 @@ use std::alloc::{AllocError, Global};
 /// The most bytes that a text has.
 const LONGEST: usize = 1_000_000;
 
-/// Events, and how the first tasks stand in the end.
+/// Events, and the fates of the first tasks.
 #[derive(Drop, PartialEq)]
 pub struct History {
     pub events: Vec<Event>,
@@ -25,7 +25,7 @@ pub enum Told {
     Line(u32),
 }
 
-/// What reading a text gives.
+/// The result of reading a text.
 pub fn told_of(alloc: Global, names: &Names, text: &[u8]) -> anyhow::Result<Told>
     requires { AreNamed names.now.tasks.now }
 {
@@ -65,7 +65,7 @@ impl History {
         Ok(text)
     }
 
-    /// What each line says: the number of the actor, the request and the answer; of how a task ended the fate.
+    /// What each line says: the number of the actor, the request and the answer; or the fate of a task.
     pub fn said(&self, alloc: Global) -> Result<Vec<String>, AllocError> {
         let mut said = Vec::new(alloc);
         for event in &self.events {

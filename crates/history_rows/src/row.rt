@@ -3,10 +3,10 @@
 use anyhow::Context;
 use std::alloc::Global;
 
-/// A text, and what is told of it.
+/// A text, and what is expected of it.
 #[derive(Drop)]
 pub struct Row<'a> {
-    /// The line of the file that it begins in, from 1.
+    /// The line of the file that it starts in, from 1.
     pub line: usize,
     pub told: &'a str,
     pub text: String,

@@ -1,4 +1,4 @@
-//! Texts, and what reading them gives.
+//! Texts, and the results of reading them.
 
 ghost use Rattle.history_text.specs.HistoryText.{AreNamed};
 

@@ -1,4 +1,4 @@
--- What stands after a word.
+-- What follows a word.
 use Rattle.std.proofs.Common.{◌≡◌, ℕ, zero, suc, ◌<◌, Bool, true, false, cond, List, [], ◌∷◌, ◌++◌, length, drop, Option, Some, None, refl, sym, ap, ◌∙◌, arith, append-nil}
 use Rattle.std.proofs.lemmas.Bool.{eqb-true, false_from_ne_true}
 use Rattle.std.proofs.lemmas.Bool.Decides.{nat_tests}
@@ -16,7 +16,7 @@ unfolding after_word
 after_word_again [] rest = refl
 after_word_again (c ∷ cs) rest = rw (same_byte c) (after_word_again cs rest)
 
--- another byte stands there
+-- another byte is there
 pub not_after_word : (b c : ℕ) (rest : List ℕ) → (b == c) ≡ false → after_word (c ∷ []) (b ∷ rest) ≡ None
 unfolding after_word
 not_after_word b c rest other = rw other refl
@@ -42,7 +42,7 @@ empty_text (c ∷ cs) zero [] less none = refl
 empty_text (c ∷ cs) zero (b ∷ bs) less none = absurd (omega arith)
 empty_text (c ∷ cs) (suc i) text less none = empty_text cs i text (omega arith) none
 
--- a text is a word where nothing follows the word in it
+-- a text is a word if nothing follows the word in it
 
 whole_word : (word text : List ℕ) → bytes_eq text word ≡ true → after_word word text ≡ Some []
 whole_word word text same =

@@ -1,4 +1,4 @@
--- An answer that was written is read again after its request.
+-- An answer that was written is read back, given its request.
 use Rattle.std.proofs.Common.{◌≡◌, ℕ, ◌^◌, Bool, true, false, List, ◌∷◌, ◌++◌, Some, refl, ap, ◌∙◌, arith, decimal, append_assoc}
 use Rattle.rapid_num.specs.Reach.{is_position}
 use Rattle.rapid_num.specs.declared.joints.Joints.{Joints}
@@ -21,7 +21,7 @@ use Rattle.history_text.proofs.NumsAgain.{place_again}
 use Rattle.history_text.proofs.RequestsAgain.{bit_again, part_value_again}
 use Rattle.history_text.proofs.ValuesAgain.{truth_again}
 
--- the words of the answer alone tell it
+-- the words of the answer alone identify it
 abbrev is_plain : Answer → Bool
 is_plain (answers.Val value) = false
 is_plain (answers.Yes met) = false
@@ -29,7 +29,7 @@ is_plain (answers.Bit bit) = false
 is_plain (answers.At place) = false
 is_plain _ = true
 
--- the request has answers that it takes to read
+-- the answers of the request are read from their words alone
 abbrev tells_alone : Request → Bool
 tells_alone (requests.ReadP pers path) = false
 tells_alone (requests.TestSet pers path) = false
@@ -60,7 +60,7 @@ plain_again (answers.Stopped zone) more fits plain = rw (zone_name_again zone mo
 plain_again (answers.Number number) more fits plain = rw (whole_again (2 ^ 8) number (10 ∷ more) fits (omega arith) refl) refl
 plain_again _ more fits plain = refl
 
--- where the words tell the answer, the request does not matter
+-- if the words alone identify the answer, the request does not matter
 plain_answer : (names : NamesData) (request : Request) (text : List ℕ) → tells_alone request ≡ true → answer_at names request text ≡ plain_answer_at text
 unfolding answer_at
 plain_answer names (requests.ReadP pers path) text h = absurd cc
@@ -81,7 +81,7 @@ plain_fits names request (answers.Bit bit) alone h = absurd cc
 plain_fits names request (answers.At place) alone h = absurd cc
 plain_fits names request _ alone h = refl
 
--- an answer that it takes the request to read
+-- an answer that is read with the help of its request
 
 value_answer : (names : NamesData) (pers : ℕ) (path : Path) (value : Value) (more : List ℕ) → IsValue value → answer_fits names (requests.ReadP pers path) (answers.Val value) ≡ true
     → answer_at names (requests.ReadP pers path) (value_text value ++ 10 ∷ more) ≡ Some (answers.Val value, 10 ∷ more)

@@ -81,7 +81,7 @@ fitting : map (event_fits names) events ≡ replicate 14 true
 unfolding names busy by events
 fitting = refl
 
--- a text with a num after it
+-- a text with a num as its tail
 
 said : event_line names.tasks (by 0 (Say (codes "x=") (tails.Num (pos 250))) answers.Ok) ≡ codes "H A Say \"x=\" 0.25 > Ok\n"
 unfolding digits names by
@@ -96,7 +96,7 @@ input : event_line names.tasks (by 2 (Input 3) answers.Ok) ≡ codes "H - Input 
 unfolding digits names by
 input = refl
 
--- places of an arm
+-- positions of an arm
 
 place : Joints
 place = record { axis = pos 2_500 ∷ negsuc 0 ∷ pos 0 ∷ pos 0 ∷ pos 0 ∷ pos 90_000 ∷ absent ∷ absent ∷ absent ∷ absent ∷ absent ∷ absent ∷ [] }
@@ -178,8 +178,8 @@ fault : request_words (End (Fault (Unhandled 41))) ≡ codes "End Fault Unhandle
 unfolding digits
 fault = refl
 
--- a history with each of these: a quote and a backslash in a text, nums below zero with decimals, a part of an element, a shape
--- with one bound, and an order that ends when it fires
+-- a history with each of these: a quote and a backslash in a text, negative nums with decimals, a part of an element, a
+-- shape with one bound, and an order that ends when the interrupt fires
 
 worked_names : NamesData
 worked_names = record {
@@ -231,7 +231,7 @@ front = by 0 Look (Go 0) ∷ by 1 Look (Go 0) ∷ by 0 (TestSet 0 busy) (Yes tru
 front_lines : List (List ℕ)
 front_lines = codes "H A Look > Go 0\n" ∷ codes "H B Look > Go 0\n" ∷ codes "H A TestSet P0 > TRUE\n" ∷ []
 
--- names begin with A and B
+-- names that start with A and B
 initial : (i : ℕ) (row : TaskRow) → slice_get names.tasks i ≡ Some row → get_or row.name 0 0 ≡ 65 + i
 unfolding names
 initial zero row at = ap (λ (t : TaskRow). get_or t.name 0 0) (sym (same_Some (record { name = codes "A"; arm = None; axes = 0 }) row at))
@@ -259,7 +259,7 @@ come : HasCome names (concat front_lines ++ cut) cut 3 front []
 unfolding digits names busy by front front_lines cut
 come = record { history = record { events = front_range; fates = tt; few = omega arith }; lines = refl; count = refl; short = omega arith }
 
--- no whole line begins a text in which no byte ends one
+-- no whole line starts a text in which no byte ends one
 
 ends_inside : (xs ys : List ℕ) → is_inner (xs ++ 10 ∷ ys) ≡ true → ⊥
 ends_inside [] ys h = absurd cc

@@ -1,4 +1,4 @@
--- A history has whole lines: each ends with its last byte alone.
+-- A history consists of whole lines: only the last byte of each ends it.
 use Rattle.std.proofs.Common.{◌≡◌, ℕ, true, List, [], ◌∷◌, ◌++◌, Option, Some, None, refl, ap, ◌∙◌, append_assoc}
 use Rattle.std.specs.List.{AllByRecursion}
 use Rattle.std.specs.Prelude.{codes, IsTrue, slice_get}

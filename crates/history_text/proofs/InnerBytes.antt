@@ -46,7 +46,7 @@ inner_both (x ∷ xs) ys h k =
     let both = and_parts (not (x == 10)) (is_inner xs) h in
     and_from (not (x == 10)) (is_inner (xs ++ ys)) both.0 (inner_both xs ys both.1 k)
 
--- bytes of any sort that leaves out the one that ends a line
+-- bytes of any class that lacks the one that ends a line
 pub inner_all : (P : ℕ → Type 0) → ((b : ℕ) → P b → 11 ≤ b) → (bytes : List ℕ) → AllByRecursion P bytes → is_inner bytes ≡ true
 inner_all P low [] h = refl
 inner_all P low (b ∷ bs) h = and_from (not (b == 10)) (is_inner bs) (inner_from b (low b h.0)) (inner_all P low bs h.1)

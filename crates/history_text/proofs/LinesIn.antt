@@ -7,7 +7,7 @@ use Rattle.std.specs.Prelude.{not, ◌==◌}
 use Rattle.history_text.specs.HistoryText.{lines_in, onto_first}
 use Rattle.history_text.specs.NextLine.{is_inner}
 
--- the line goes on to the first byte that ends one
+-- the line extends to the first byte that ends one
 pub lines_of_line : (front rest : List ℕ) → is_inner front ≡ true → lines_in (front ++ 10 ∷ rest) ≡ (front ++ 10 ∷ []) ∷ lines_in rest
 lines_of_line [] rest h = refl
 lines_of_line (b ∷ bs) rest h =

@@ -1,4 +1,4 @@
--- The tasks of a cell have names, and no two have the same.
+-- The tasks of a cell have names, and no two have the same one.
 use Rattle.std.proofs.Common.{◌≡◌, ℕ, zero, suc, true, false, not, List, [], ◌∷◌, map, Some, refl, sym, ap, ◌∙◌}
 use Rattle.std.specs.List.{AllByRecursion, list_all}
 use Rattle.std.specs.Prelude.{IsTrue, slice_get}

@@ -37,12 +37,12 @@ no_fates : (tasks : List TaskRow) → fate_lines tasks [] ≡ []
 no_fates [] = refl
 no_fates (row ∷ rows) = refl
 
--- a line is that of no event where one may come, and not that of the next fate
+-- a line is not one of an event if no event may come there, nor that of the next fate
 record IsNoNext (names : NamesData) (done : ℕ) (line : List ℕ) : Type 0 where
   no_event : done ≡ 0 → (e : Event) → IsEvent e → IsTrue (event_fits names e) → line ≡ event_line names.tasks e → ⊥
   no_fate : (fate : Fate) (row : TaskRow) → slice_get names.tasks done ≡ Some row → IsFate fate → line ≡ fate_line row.name fate → ⊥
 
--- where no line of a history may come, none has these lines
+-- if no line of a history may come there, none has these lines
 next_is_none : (names : NamesData) (events : List Event) (fates : List Fate) (line : List ℕ) (more : List (List ℕ)) (all : List Event) (ends : List Fate) → IsNoNext names (length fates) line → length fates ≤ length names.tasks → IsHistory names all ends
     → history_lines names events fates ++ line ∷ more ≡ history_lines names all ends → ⊥
 next_is_none names (e ∷ es) fates line more (g ∷ gs) ends none few history same =
@@ -111,7 +111,7 @@ fate_read names text rest more number events fates fate named come read =
     let lines = map (event_line names.tasks) events in
     line_read names text rest line more number events events fates (fates ++ fate ∷ []) come read.same is history (ap (λ ls. lines ++ ls) one ∙ sym (append_assoc lines (fate_lines names.tasks fates) (line ∷ [])))
 
--- the first line at which a text is no history
+-- the first line at which a text stops being a history
 
 first_fault : (names : NamesData) (text rest line : List ℕ) (others : List (List ℕ)) (number : ℕ) (events : List Event) (fates : List Fate) → HasCome names text rest number events fates → lines_in rest ≡ line ∷ others → IsNoNext names (length fates) line
     → IsFirstFault names text (number + 1)
@@ -146,7 +146,7 @@ fault_at names text rest number events fates come some no_event no_fate =
     let has = has_line rest some in
     first_fault names text rest has.line has.others number events fates come has.are (no_first names (length fates) rest has.line has.others has.are no_event no_fate)
 
--- a step of reading: the count of fates so far is known by another name
+-- a step of reading: the count of fates so far under another name
 
 pub event_onto : (names : NamesData) (text rest more : List ℕ) (number done : ℕ) (events others : List Event) (fates : List Fate) → AreNamed names.tasks → HasCome names text rest number events fates → done ≡ length fates → AddsEvent names done rest events others more
     → HasCome names text more (number + 1) others fates
@@ -165,7 +165,7 @@ fault_there names text rest number done events fates come some count no_event no
     fault_at names text rest number events fates come some
     (subst (λ (n : ℕ). BeginsNoEvent names n rest) count no_event) (subst (λ (n : ℕ). BeginsNoFate names n rest) count no_fate)
 
--- what is read in the end
+-- what is read at the end
 
 pub has_begun : (names : NamesData) (text : List ℕ) → HasCome names text text 0 [] []
 has_begun names text = record {
@@ -189,7 +189,7 @@ pub spelled_has_no_fault : (names : NamesData) (text : List ℕ) (events : List 
 spelled_has_no_fault names text events fates number named spells fault =
     fault.fault (drop number (lines_in text), events, fates, spells.history, take-append-drop number (lines_in text) ∙ spelled_lines names text events fates named spells)
 
--- what begins a history has fronts that begin it
+-- what starts a history has prefixes that start it
 begun_before : (names : NamesData) (lines : List (List ℕ)) (n k m : ℕ) → n + k ≡ m → Begins names (take m lines) → Begins names (take n lines)
 begun_before names lines n k m sum begun =
     let parts : take m lines ≡ take n lines ++ take k (drop n lines) = ap (λ i. take i lines) (sym sum) ∙ take-add n k lines in

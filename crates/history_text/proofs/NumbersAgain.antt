@@ -1,4 +1,4 @@
--- A number that was written is read again, whatever follows that is no part of it.
+-- A number that was written is read back, whatever follows that is not part of it.
 use Rattle.std.proofs.Common.{◌≡◌, ◌≢◌, ℕ, suc, ◌+◌, ◌-◌, ◌*◌, ◌/◌, ◌%◌, ◌^◌, ◌<◌, ◌≤◌, Bool, true, false, List, [], ◌∷◌, ◌++◌, length, Some, None, ℤ, pos, negsuc, refl, sym, ap, ◌∙◌, arith, decimal, append_assoc, inl, inr}
 use Rattle.std.proofs.lemmas.Bool.{cases_eq}
 use Rattle.std.proofs.lemmas.Bool.Decides.{nat_tests}
@@ -16,7 +16,7 @@ use Rattle.history_text.proofs.Stops.{GoesOn, GoesOn-append, GoesOn-cond, Stops,
 pub digits_go_on : (test : ℕ → Bool) → ((b : ℕ) → 48 ≤ b → b ≤ 57 → test b ≡ false) → (n : ℕ) → n < 2 ^ 64 → GoesOn test (decimal n)
 digits_go_on test digit n small = each (λ b. (48 ≤ b) × (b ≤ 57)) (λ b. test b ≡ false) (λ b d. digit b d.0 d.1) (decimal n) (decimal_text n small).digits
 
--- whole numbers
+-- integers
 
 least : (ds : List ℕ) (n : ℕ) → n ≤ fold one_more n ds
 least [] n = omega arith

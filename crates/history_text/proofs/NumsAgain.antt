@@ -1,4 +1,4 @@
--- Nums that were written one after the other are read again.
+-- Nums that were written one after the other are read back.
 use Rattle.std.proofs.Common.{◌≡◌, ℕ, zero, suc, true, List, [], ◌∷◌, ◌++◌, ◌&&◌, length, take, drop, replicate, Option, Some, ℤ, pos, negsuc, refl, sym, ap, ◌∙◌, arith, append_assoc, length-drop}
 use Rattle.std.proofs.lemmas.Bool.{and_parts, eqb-true}
 use Rattle.std.proofs.lemmas.List.{length-take-le, take-append-drop}
@@ -17,7 +17,7 @@ use Rattle.history_text.specs.ValueReading.{nums_in_brackets, place_at, target_a
 use Rattle.history_text.proofs.NumbersAgain.{num_again, next_again}
 use Rattle.history_text.proofs.Stops.{Stops}
 
--- Things that are read again where no num goes on, and a byte before each with which none does.
+-- Things that are read back where no num continues, each after a byte that continues no num.
 pub record IsReader {A : Type 0} (Fits : A → Type 0) (byte : ℕ) (words : A → List ℕ) (one_at : List ℕ → Option (A × List ℕ)) : Type 0 where
   pub between : ends_num byte ≡ true
   pub again : (x : A) (rest : List ℕ) → Fits x → Stops ends_num rest → one_at (byte ∷ (words x ++ rest)) ≡ Some (x, rest)
@@ -29,7 +29,7 @@ many_stop : {A : Type 0} (byte : ℕ) (words : A → List ℕ) (xs : List A) (re
 many_stop byte words [] rest between stops = stops
 many_stop byte words (x ∷ xs) rest between stops = between
 
--- they are read again one after the other
+-- they are read back one after the other
 pub many_again : {A : Type 0} (Fits : A → Type 0) (byte : ℕ) (words : A → List ℕ) (one_at : List ℕ → Option (A × List ℕ)) (xs : List A) (rest : List ℕ) → IsReader Fits byte words one_at → AllByRecursion Fits xs → Stops ends_num rest
     → many_at one_at (length xs) (many_words byte words xs ++ rest) ≡ Some (xs, rest)
 unfolding many_at
@@ -90,7 +90,7 @@ target_again joints rest h =
     let last = brackets_again 5 (drop 6 joints.axis) (93 ∷ rest) (last_six joints.axis h) in
     ap target_at regrouped ∙ rw (first, last) (ap (λ axis. Some (joints_of axis, rest)) (take-append-drop 6 joints.axis))
 
--- places of an arm
+-- positions of an arm
 
 words_again : (more : ℕ) (zs : List ℤ) (rest : List ℕ) → AreNums (suc more) zs → Stops ends_num rest → nums_at 32 more (nums_words zs ++ rest) ≡ Some (zs, rest)
 words_again more [] rest h stops = absurd (omega (arith, h.count))

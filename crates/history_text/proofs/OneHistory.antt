@@ -1,4 +1,4 @@
--- At most one history that fits has a text.
+-- A text is that of at most one history that fits.
 use Rattle.std.proofs.Common.{◌≡◌, ℕ, ◌≤◌, List, [], ◌∷◌, ◌++◌, length, get_or, refl, sym, ap, ◌∙◌, arith}
 use Rattle.std.proofs.lemmas.Option.{same_Some}
 use Rattle.std.specs.List.{AllByRecursion}
@@ -40,7 +40,7 @@ fates_once (row ∷ rows) (f ∷ fs) (g ∷ gs) range wide few less same =
     let rest : fs ≡ gs = fates_once rows fs gs range.1 wide.1 (omega arith) (omega arith) more in
     cc
 
--- a line of an event is no first line of fates
+-- a line of an event is not the first line of fates
 pub no_event_first : (tasks tasks' : List TaskRow) (e : Event) (more : List (List ℕ)) (fates : List Fate) → event_line tasks e ∷ more ≡ fate_lines tasks' fates → ⊥
 no_event_first tasks [] e more fates same = absurd cc
 no_event_first tasks (row ∷ rows) e more [] same = absurd cc

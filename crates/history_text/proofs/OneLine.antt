@@ -1,4 +1,4 @@
--- A text begins with the line of at most one event, and of at most one fate of a task: that which is read there.
+-- A text starts with the line of at most one event, and of at most one fate of a task: the one that is read there.
 use Rattle.std.proofs.Common.{◌≡◌, ℕ, ◌<◌, length, true, false, List, ◌++◌, Some, None, sym, ap, ◌∙◌}
 use Rattle.std.proofs.lemmas.Option.{same_Some, slice_get-get_or}
 use Rattle.std.specs.Prelude.{slice_get, slice_index_or}

@@ -1,4 +1,4 @@
--- A part of a persistent that was written is read again.
+-- A part of a persistent that was written is read back.
 use Rattle.std.proofs.Common.{◌≡◌, ℕ, suc, ◌^◌, Bool, true, false, cond, List, [], ◌∷◌, ◌++◌, Some, refl, ap, ◌∙◌, arith, decimal, append_assoc, inl, inr}
 use Rattle.std.proofs.lemmas.Bool.{cases_eq}
 use Rattle.std.proofs.lemmas.Bool.Decides.{nat_tests}
@@ -15,11 +15,11 @@ use Rattle.history_text.specs.ValueReading.{axis_at, element_at, part_at, path_a
 use Rattle.history_text.proofs.NumbersAgain.{whole_again}
 use Rattle.history_text.proofs.Stops.{Stops}
 
--- anything but a brace that opens
+-- anything but an opening brace
 abbrev no_brace : ℕ → Bool
 no_brace b = not (b == 123)
 
--- a part begins with a point, and what follows with a space
+-- a part starts with a point, and what follows it with a space
 record IsPart (part : PartName) (more : List ℕ) : Type 0 where
   again : part_at (part_text part ++ 32 ∷ more) ≡ Some (part, 32 ∷ more)
   whole : Stops ends_whole (part_text part ++ 32 ∷ more)

@@ -1,4 +1,4 @@
--- A text that was written in quotes is read again, whatever follows but a quote.
+-- A text that was written in quotes is read back, whatever follows except a quote.
 use Rattle.std.proofs.Common.{◌≡◌, ℕ, zero, suc, ◌+◌, ◌<◌, ◌≤◌, Bool, true, false, List, [], ◌∷◌, ◌++◌, length, Some, None, refl, ap, ◌∙◌, arith, append-nil, append_assoc, length-append, inl, inr}
 use Rattle.std.proofs.lemmas.Bool.{cases_eq}
 use Rattle.std.proofs.lemmas.Bool.Decides.{nat_tests}

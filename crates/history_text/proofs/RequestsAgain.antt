@@ -1,4 +1,4 @@
--- A request that was written is read again before its answer.
+-- A request that was written is read back before its answer.
 use Rattle.std.proofs.Common.{◌≡◌, ℕ, ◌^◌, Bool, true, false, List, ◌∷◌, ◌++◌, Option, Some, None, ℤ, refl, ap, ◌∙◌, arith, decimal, append_assoc}
 use Rattle.std.proofs.lemmas.Bool.{and_parts}
 use Rattle.std.specs.Option.{option_and_then}
@@ -125,7 +125,7 @@ unfolding fate_at after_word
 fate_again (fates.Fault fault) rest fits stops = rw (fault_again fault rest fits stops) refl
 fate_again _ rest fits stops = refl
 
--- texts for the operator
+-- texts to the operator
 
 no_tail_again : (more : List ℕ) → tail_at (32 ∷ 62 ∷ more) ≡ Some (tails.None, 32 ∷ 62 ∷ more)
 unfolding tail_at next_num num_at minus_at size_at number_at after_word

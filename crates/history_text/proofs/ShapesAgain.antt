@@ -1,4 +1,4 @@
--- A shape that was written is read again.
+-- A shape that was written is read back.
 use Rattle.std.proofs.Common.{◌≡◌, ℕ, Bool, true, false, List, ◌∷◌, ◌++◌, length, Option, Some, None, refl, sym, ap, ◌∙◌, append_assoc}
 use Rattle.std.specs.List.{AllByRecursion}
 use Rattle.rapid_num.specs.NumText.{shortest_text}

@@ -1,10 +1,10 @@
--- What stands at the front of a text goes on up to the first byte that passes a test.
+-- What a text starts with extends to the first byte that passes a test.
 use Rattle.std.proofs.Common.{◌≡◌, ℕ, Bool, true, false, cond, List, [], ◌∷◌, ◌++◌, length, take, drop, refl, ap, ◌∙◌, arith}
 use Rattle.std.proofs.lemmas.List.{take_at, drop_at}
 use Rattle.std.specs.List.{AllByRecursion}
 use Rattle.history_text.specs.Reading.{place_of}
 
--- what follows begins with a byte that passes, or nothing follows
+-- what follows starts with a byte that passes, or nothing follows
 abbrev pub Stops : (ℕ → Bool) → List ℕ → Type 0
 Stops test [] = Unit {0}
 Stops test (b ∷ bs) = test b ≡ true
@@ -13,7 +13,7 @@ Stops test (b ∷ bs) = test b ≡ true
 abbrev pub GoesOn : (ℕ → Bool) → List ℕ → Type 0
 GoesOn test bytes = AllByRecursion (λ b. test b ≡ false) bytes
 
--- what holds of each thing of one sort holds of each in a list of them
+-- what holds of each thing of a kind holds of each in a list of them
 pub each : {A : Type 0} (P Q : A → Type 0) → ((x : A) → P x → Q x) → (xs : List A) → AllByRecursion P xs → AllByRecursion Q xs
 each P Q from [] h = tt
 each P Q from (x ∷ xs) h = (from x h.0, each P Q from xs h.1)
@@ -26,7 +26,7 @@ pub GoesOn-cond : (test : ℕ → Bool) (b : Bool) (xs ys : List ℕ) → GoesOn
 GoesOn-cond test true xs ys h k = h
 GoesOn-cond test false xs ys h k = k
 
--- the place where what follows begins
+-- the place where what follows starts
 place_after : (test : ℕ → Bool) (xs ys : List ℕ) → GoesOn test xs → Stops test ys → place_of test (xs ++ ys) ≡ length xs
 place_after test [] [] h stops = refl
 place_after test [] (y ∷ ys) h stops = rw stops refl

@@ -1,4 +1,4 @@
--- A value that was written is read again by its type.
+-- A value that was written is read back by its type.
 use Rattle.std.proofs.Common.{◌≡◌, ℕ, Bool, true, false, List, ◌++◌, Some, refl}
 use Rattle.rapid_model.specs.Sorts.{is_value_of}
 use Rattle.rapid_model.specs.declared.sort.Sort.{Sort}

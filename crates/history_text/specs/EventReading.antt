@@ -1,4 +1,4 @@
--- Reading requests, answers and lines. Proofs alone need these definitions.
+-- Reading requests, answers and lines. These definitions are internal to proofs.
 use Rattle.std.specs.Prelude.{ℕ, ◌^◌, Bool, true, false, nat_lt, if◌then◌else◌, List, [], ◌∷◌, length, take, drop, codes, Option, Some, None, position, ◌==◌}
 use Rattle.std.specs.Str.{bytes_eq}
 use Rattle.rapid_num.specs.declared.shape.Shape.{Shape}
@@ -61,7 +61,7 @@ single_at text = or_else (after_word (codes " Single") text) (λ rest. Some (tru
 unfoldable pub kind_at : List ℕ → Option (Bool × List ℕ)
 kind_at text = or_else (after_word (codes "Temp") text) (λ rest. Some (true, rest)) (after_word (codes "Stat") text >>= (λ rest. Some (false, rest)))
 
--- a zone that is to be made
+-- a zone to be made
 unfoldable pub zone_at : List ℕ → Option ((ℕ × Bool × Shape) × List ℕ)
 zone_at text = do
   old ← u8_at text
@@ -71,7 +71,7 @@ zone_at text = do
   shape ← shape_at third
   Some ((old.0, kind.0, shape.0), shape.1)
 
--- what stands after a text for the operator
+-- the tail of a text to the operator
 unfoldable pub tail_at : List ℕ → Option (Tail × List ℕ)
 tail_at text =
     or_else (next_num 32 text) (λ n. Some (tails.Num n.0, n.1))
@@ -85,7 +85,7 @@ plain_faults =
     ∷ faults.MoveInTrap ∷ faults.JointRange ∷ faults.Speed ∷ faults.ZoneStop ∷ faults.ZoneShape ∷ faults.ZoneFull ∷ faults.ZoneUsed
     ∷ faults.NoZone ∷ faults.ExtAxis ∷ faults.TrapFlood ∷ faults.TiedOutput ∷ []
 
--- the first fault of a list whose name begins a text
+-- the first fault of a list whose name starts a text
 unfoldable pub named_at : List Fault → List ℕ → Option (Fault × List ℕ)
 named_at [] text = None
 named_at (fault ∷ more) text = or_else (after_word (fault_name fault) text) (λ rest. Some (fault, rest)) (named_at more text)
@@ -158,7 +158,7 @@ said_at text = do
   tail ← tail_at words.1
   Some (requests.Say words.0 tail.0, tail.1)
 
--- requests on zones and meetings
+-- requests about zones and meetings
 unfoldable pub zone_request_at : List ℕ → Option (Request × List ℕ)
 zone_request_at text =
     or_else (after_word (codes "ZoneSet ") text) (λ t. set_zone_at t)
@@ -168,7 +168,7 @@ zone_request_at text =
     (or_else (after_word (codes "ZoneFree ") text) (λ t. u8_at t >>= (λ n. Some (requests.ZoneFree n.0, n.1)))
     (after_word (codes "Arrive ") text >>= (λ t. arrive_at t))))))
 
--- those on interrupts, or on zones and meetings
+-- those about interrupts, zones or meetings
 unfoldable pub interrupt_request_at : List ℕ → Option (Request × List ℕ)
 interrupt_request_at text =
     or_else (after_word (codes "Connect ") text) (λ t. connect_at t)
@@ -180,7 +180,7 @@ interrupt_request_at text =
     (or_else (after_word (codes "Enable") text) (λ rest. Some (requests.Enable, rest))
     (or_else (after_word (codes "Leave") text) (λ rest. Some (requests.Leave, rest)) (zone_request_at text))))))))
 
--- those on moves, waits and ends, or on the others above
+-- those about moves, waits and ends, or one of the others above
 unfoldable pub course_request_at : List ℕ → Option (Request × List ℕ)
 course_request_at text =
     or_else (after_word (codes "Position") text) (λ rest. Some (requests.Position, rest))
@@ -230,7 +230,7 @@ interrupt_answer_at text =
     (or_else (after_word (codes "Unknown") text) (λ rest. Some (answers.Unknown, rest))
     (or_else (after_word (codes "NoMore") text) (λ rest. Some (answers.NoMore, rest)) (zone_answer_at text))))))
 
--- an answer that its words alone tell
+-- an answer that its words alone identify
 unfoldable pub plain_answer_at : List ℕ → Option (Answer × List ℕ)
 plain_answer_at text =
     or_else (after_word (codes "Ok") text) (λ rest. Some (answers.Ok, rest))
@@ -238,7 +238,7 @@ plain_answer_at text =
     (or_else (after_word (codes "Given") text) (λ rest. Some (answers.Given, rest))
     (or_else (after_word (codes "Stopped ") text) (λ t. zone_name_at t >>= (λ z. Some (answers.Stopped z.0, z.1))) (interrupt_answer_at text))))
 
--- the answer of a request
+-- the answer to a request
 unfoldable pub answer_at : NamesData → Request → List ℕ → Option (Answer × List ℕ)
 answer_at names (requests.ReadP pers path) text = part_value_at names pers path text >>= (λ v. Some (answers.Val v.0, v.1))
 answer_at names (requests.TestSet pers path) text = truth_at text >>= (λ b. Some (answers.Yes b.0, b.1))
@@ -250,11 +250,11 @@ answer_at names _ text = plain_answer_at text
 abbrev pub task_named : List TaskRow → List ℕ → Option ℕ
 task_named tasks name = position (λ row. bytes_eq name row.name) tasks
 
--- a number that 32 bits hold
+-- a number of 32 bits
 abbrev pub within_u32 : ℕ → Option ℕ
 within_u32 n = if nat_lt n (2 ^ 32) then Some n else None
 
--- the number of an actor: - is the input script, whose number is the next after the tasks
+-- the number of an actor: - is the input script, whose number follows those of the tasks
 unfoldable pub actor_of : List TaskRow → List ℕ → Option ℕ
 actor_of tasks name = if bytes_eq name (codes "-") then within_u32 (length tasks) else task_named tasks name >>= within_u32
 

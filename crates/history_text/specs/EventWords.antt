@@ -1,5 +1,5 @@
--- The words of requests and answers in a line of an event, with one space between. Persistents are named as P and their number,
--- signals as D and theirs; all other numbers are whole, and nums have no needless digits.
+-- The words of requests and answers in the line of an event, with one space between. Persistents are named P and their
+-- number, signals D and theirs. All other numbers are integers, and nums have no unnecessary digits.
 use Rattle.std.specs.Prelude.{ℕ, ℤ, Bool, true, false, List, [], ◌∷◌, ◌++◌, flat_map, take, Option, Some, None, codes, decimal, ◌==◌, if◌then◌else◌}
 use Rattle.rapid_num.specs.NumText.{shortest_text}
 use Rattle.rapid_num.specs.declared.joints.Joints.{Joints}
@@ -27,7 +27,7 @@ two_words first second = decimal first ++ 32 ∷ decimal second
 abbrev pub pers_words : ℕ → List ℕ
 pers_words pers = 80 ∷ decimal pers
 
--- the element of an array, from 1, in braces; nothing where there is none
+-- the element of an array, from 1, in braces; nothing for the whole
 abbrev pub element_words : ℕ → List ℕ
 element_words index = if index == 0 then [] else 123 ∷ decimal index ++ 125 ∷ []
 
@@ -53,7 +53,7 @@ abbrev pub watched_words : Watched → List ℕ
 watched_words (watched.Signal signal value) = set_words signal value
 watched_words (watched.Pers pers) = pers_words pers
 
--- an order that ends when it fires
+-- an order that ends when the interrupt fires
 abbrev pub single_words : Bool → List ℕ
 single_words true = codes " Single"
 single_words false = []
@@ -63,11 +63,11 @@ abbrev pub nums_words : List ℤ → List ℕ
 nums_words [] = []
 nums_words (z ∷ zs) = shortest_text z ++ flat_map (λ y. 32 ∷ shortest_text y) zs
 
--- axes 1 to 6 of a place of an arm
+-- axes 1 to 6 of a position of an arm
 abbrev pub axes_words : Joints → List ℕ
 axes_words place = nums_words (take 6 place.axis)
 
--- the bounds of an axis, or - where it has none
+-- the bounds of an axis, or - if it has none
 abbrev pub bound_words : Option Bound → List ℕ
 bound_words None = codes "-"
 bound_words (Some bound) = shortest_text bound.low ++ 58 ∷ shortest_text bound.high
@@ -85,11 +85,11 @@ abbrev pub kind_words : Bool → List ℕ
 kind_words true = codes "Temp"
 kind_words false = codes "Stat"
 
--- a zone that is to be made: the zone that the variable names, the kind, and the shape
+-- a zone to be made: the zone that the variable names, the kind, and the shape
 abbrev pub zone_words : ℕ → Bool → Shape → List ℕ
 zone_words old temporary shape = decimal old ++ (32 ∷ kind_words temporary ++ 32 ∷ shape_words shape)
 
--- what stands after a text for the operator, after a space
+-- the tail of a text to the operator, after a space
 abbrev pub said_words : Tail → List ℕ
 said_words tails.None = []
 said_words tail = 32 ∷ tail_words tail

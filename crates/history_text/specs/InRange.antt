@@ -1,5 +1,5 @@
--- What the types of an event keep, of which its numbers and lists alone say nothing: each number has so many bits, nums are in
--- range, texts are short and printable, and lists are as long as the type says. So it holds of every event that a program has.
+-- What the types of an event keep beyond its numbers and lists: each number has its type's bits, nums are in range,
+-- texts are short and printable, and lists have their type's length. So it holds of every event that a program has.
 use Rattle.std.specs.Prelude.{◌≡◌, ℕ, ℤ, ◌≤◌, ◌<◌, ◌^◌, List, length, Option, Some, None}
 use Rattle.std.specs.List.{AllByRecursion}
 use Rattle.rapid_num.specs.Range.{IsNum}
@@ -40,7 +40,7 @@ pub record IsText (bytes : List ℕ) : Type 0 where
   pub short : length bytes ≤ 80
   pub printable : ArePrintable bytes
 
--- so many nums
+-- this many nums
 pub record AreNums (size : ℕ) (nums : List ℤ) : Type 0 where
   pub count : length nums ≡ size
   pub range : AllByRecursion IsNum nums

@@ -1,4 +1,4 @@
--- The lines that are printed of a history. Each ends with 0A.
+-- The lines that are printed of a run. Each ends with 0A.
 use Rattle.std.specs.Prelude.{ℕ, ℤ, List, [], ◌∷◌, ◌++◌, map, Option, Some, None, codes, decimal, take, slice_get}
 use Rattle.std.specs.List.{concat}
 use Rattle.rapid_num.specs.NumText.{fixed_text, shortest_text}
@@ -35,13 +35,13 @@ task_name tasks actor = named (slice_get tasks actor)
 abbrev pub setpoint_line : List ℕ → Joints → List ℕ
 setpoint_line name to = codes "S " ++ (name ++ (number_words (take 6 to.axis) ++ codes "\n"))
 
--- what stands after a text for the operator: a num without needless digits, or a truth
+-- the tail of a text to the operator: a num without unnecessary digits, or a truth value
 abbrev pub tail_words : Tail → List ℕ
 tail_words tails.None = []
 tail_words (tails.Num n) = shortest_text n
 tail_words (tails.Bool b) = truth_text b
 
--- a text for the operator: T, the task, the text, and at once its tail
+-- a text to the operator: T, the task, the text, and its tail right after it
 abbrev pub text_line : List ℕ → List ℕ → Tail → List ℕ
 text_line name text tail = codes "T " ++ (name ++ (32 ∷ text ++ (tail_words tail ++ codes "\n")))
 
@@ -75,7 +75,7 @@ fault_name faults.TrapFlood = codes "TrapFlood"
 fault_name faults.TiedOutput = codes "TiedOutput"
 fault_name (faults.Unhandled number) = codes "Unhandled"
 
--- a fault by its name, and an error that was not handled also by its number
+-- a fault by its name, and an unhandled error also by its number
 abbrev pub fault_words : Fault → List ℕ
 fault_words (faults.Unhandled number) = fault_name (faults.Unhandled number) ++ 32 ∷ decimal number
 fault_words fault = fault_name fault
@@ -87,7 +87,7 @@ fate_words (fates.Fault fault) = codes "Fault " ++ fault_words fault
 fate_words fates.Held = codes "Held"
 fate_words fates.Cut = codes "Cut"
 
--- how a task stands in the end: E, the task, and its fate
+-- the fate of a task: E, the task, and its fate
 abbrev pub fate_line : List ℕ → Fate → List ℕ
 fate_line name fate = codes "E " ++ (name ++ (32 ∷ fate_words fate ++ codes "\n"))
 
@@ -96,8 +96,8 @@ fate_lines [] fates = []
 fate_lines (row ∷ rows) [] = []
 fate_lines (row ∷ rows) (fate ∷ fates) = fate_line row.name fate ∷ fate_lines rows fates
 
--- what a run prints: the lines of its events in order, an empty one where an event has none, and then those of the tasks
--- in script order
+-- what a run prints: the lines of its events in order, empty for an event that has none, and then those of the tasks in
+-- script order
 abbrev pub lines_of : CellData → List Event → List Fate → List (List ℕ)
 lines_of cell history fates = map (line_of cell.tasks) history ++ fate_lines cell.tasks fates
 

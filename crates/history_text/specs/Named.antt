@@ -19,7 +19,7 @@ use Rattle.rapid_model.specs.declared.watched.Watched.{Watched}
 use Rattle.rapid_model.specs.declared.watched.Watched.TheVariants as watched
 use Rattle.history_text.specs.declared.names.Names.{Names}
 
--- names without where they lie in memory
+-- names without their addresses in memory
 pub record NamesData : Type 0 where
   pub tasks : List TaskRow
   pub signals : List SignalRow
@@ -28,7 +28,7 @@ pub record NamesData : Type 0 where
 abbrev pub view_names : Names → NamesData
 view_names names = record { tasks = names.tasks.now; signals = names.signals.now; pers = names.pers.now }
 
--- a task, or the input script, whose number is the next
+-- a task, or the input script, whose number follows those of the tasks
 abbrev pub has_actor : NamesData → ℕ → Bool
 has_actor names actor = nat_le actor (length names.tasks)
 
@@ -52,7 +52,7 @@ is_part (parts.Axis number) = nat_lt number 12
 is_part (parts.SpeedPart number) = nat_lt number 4
 is_part _ = true
 
--- the persistent is there, and some value has the part
+-- the persistent exists, and some value has the part
 abbrev pub has_part : NamesData → ℕ → PartName → Bool
 has_part names pers part = has_pers names pers && is_part part
 
@@ -60,8 +60,8 @@ has_part names pers part = has_pers names pers && is_part part
 abbrev pub pers_sort : NamesData → ℕ → Option Sort
 pers_sort names pers = option_map (λ row. row.sort) (slice_get names.pers pers)
 
--- What a request names is there, a value has the type of its path, and a place of an arm is one. The element of a path, and the
--- numbers of interrupts, routines, zones, meetings and inputs, may be any.
+-- What a request names exists, a value has the type of its path, and a position of an arm is one. The element of a path
+-- and the numbers of interrupts, routines, zones, meetings and inputs may be any.
 abbrev pub request_fits : NamesData → ℕ → Request → Bool
 request_fits names actor (requests.ReadP pers path) = has_part names pers path.part
 request_fits names actor (requests.WriteP pers path value) = has_part names pers path.part && fits_pers (pers_sort names pers) path.part value
@@ -75,11 +75,12 @@ request_fits names actor (requests.ZoneTie old temporary shape signal value) = h
 request_fits names actor (requests.End fate) = may_tell fate
 request_fits names actor _ = true
 
--- what answers have to fit: the types of the persistents; any routine may be a trap, and no trap need be over; an arm has six axes
+-- what answers must fit: the types of the persistents; any routine may be a trap, and no trap need be over; an arm has
+-- six axes
 abbrev pub fitting_by : NamesData → Fitting
 fitting_by names = record { sorts = pers_sort names; traps = λ trap. true; trapped = false; axes = 6 }
 
--- an answer with a number may have any
+-- an answer with a number may have any number
 abbrev pub with_some_number : Answer → Answer
 with_some_number (answers.Number number) = answers.Number 1
 with_some_number answer = answer
@@ -88,6 +89,6 @@ with_some_number answer = answer
 abbrev pub answer_fits : NamesData → Request → Answer → Bool
 answer_fits names request answer = fits_request (fitting_by names) request (with_some_number answer)
 
--- the actor is there, and asks what these names have and gets an answer of a form that its request has
+-- the actor exists, asks only about what these names have, and gets an answer of a form that its request has
 abbrev pub event_fits : NamesData → Event → Bool
 event_fits names e = has_actor names e.actor && (request_fits names e.actor e.request && answer_fits names e.request e.answer)

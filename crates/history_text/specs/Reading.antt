@@ -1,5 +1,5 @@
--- Reading from the left: what stands at the front of a text, and the rest of the text. Proofs alone need these definitions: what
--- is read is written again and compared.
+-- Reading from the left: what a text starts with, and the rest of the text. These definitions are internal to proofs:
+-- what is read is written again and compared.
 use Rattle.std.specs.Prelude.{ℕ, ◌+◌, ◌-◌, ◌*◌, ℤ, pos, neg_ℤ, Bool, true, false, not, ◌||◌, nat_lt, ◌==◌, if◌then◌else◌, zero, suc, List, [], ◌∷◌, ◌++◌, codes, Option, Some, None}
 use Rattle.std.specs.List.{position_or_len}
 use Rattle.std.specs.Option.{option_and_then}
@@ -12,13 +12,13 @@ infixl 10 ◌>>=◌
 abbrev pub ◌>>=◌ : {A B : Type 0} → Option A → (A → Option B) → Option B
 o >>= f = option_and_then f o
 
--- what stands after a word
+-- what follows a word
 unfoldable pub after_word : List ℕ → List ℕ → Option (List ℕ)
 after_word [] text = Some text
 after_word (c ∷ cs) [] = None
 after_word (c ∷ cs) (b ∷ bs) = if b == c then after_word cs bs else None
 
--- what is read where something stands there, or else
+-- what is read if something is there, or a default
 abbrev pub or_else : {A B : Type 0} → Option A → (A → Option B) → Option B → Option B
 or_else None next other = other
 or_else (Some x) next other = next x
@@ -34,25 +34,25 @@ ends_whole b = not (is_digit b)
 abbrev pub ends_num : ℕ → Bool
 ends_num b = not (is_digit b || (b == 46 || b == 45))
 
--- the number that digits spell after those so far; none past ten digits
+-- the number that the digits so far and these spell; none past ten digits
 unfoldable pub digits_at : ℕ → List ℕ → Option (ℕ × List ℕ)
 digits_at so_far [] = Some (so_far, [])
 digits_at so_far (b ∷ bs) =
     if is_digit b then (if nat_lt so_far 1_000_000_000 then digits_at (so_far * 10 + (b - 48)) bs else None)
     else Some (so_far, b ∷ bs)
 
--- a number of one digit or more
+-- a number of one or more digits
 unfoldable pub number_at : List ℕ → Option (ℕ × List ℕ)
 number_at [] = None
 number_at (b ∷ bs) = if is_digit b then digits_at (b - 48) bs else None
 
--- a whole number below a limit
+-- an integer below a limit
 unfoldable pub whole_at : ℕ → List ℕ → Option (ℕ × List ℕ)
 whole_at limit text = do
   n ← number_at text
   if nat_lt n.0 limit then Some (n.0, n.1) else None
 
--- what a digit counts in such units; 0 where none stands
+-- what a digit counts, in these units; 0 if there is none
 unfoldable pub digit_at : ℕ → List ℕ → ℕ × List ℕ
 digit_at unit [] = (0, [])
 digit_at unit (b ∷ bs) = if is_digit b then ((b - 48) * unit, bs) else (0, b ∷ bs)
@@ -65,18 +65,18 @@ decimals_at text =
     let thousandths = digit_at 1 hundredths.1 in
     (tenths.0 + hundredths.0 + thousandths.0, thousandths.1)
 
--- the decimals after a point; none where no point stands
+-- the decimals after a point; none if there is no point
 unfoldable pub fraction_at : List ℕ → ℕ × List ℕ
 fraction_at [] = (0, [])
 fraction_at (b ∷ bs) = if b == 46 then decimals_at bs else (0, b ∷ bs)
 
--- the thousandths of a num without a sign
+-- the thousandths of an unsigned num
 unfoldable pub size_at : List ℕ → Option (ℕ × List ℕ)
 size_at text = do
   whole ← number_at text
   Some (whole.0 * 1000 + (fraction_at whole.1).0, (fraction_at whole.1).1)
 
--- whether a minus stands there, and what follows it
+-- whether there is a minus, and what follows it
 unfoldable pub minus_at : List ℕ → Bool × List ℕ
 minus_at [] = (false, [])
 minus_at (b ∷ bs) = if b == 45 then (true, bs) else (false, b ∷ bs)
@@ -104,12 +104,12 @@ character_at (b ∷ c ∷ rest) =
     else if b == 92 then Some (Some c, rest)
     else Some (Some b, c ∷ rest)
 
--- a character more, or the end
+-- one more character, or the end
 abbrev pub with_character : List ℕ → (List ℕ → List ℕ → Option (List ℕ × List ℕ)) → Option ℕ × List ℕ → Option (List ℕ × List ℕ)
 with_character so_far go_on (None, rest) = Some (so_far, rest)
 with_character so_far go_on (Some b, rest) = if takes LONGEST_STRING so_far b then go_on (so_far ++ b ∷ []) rest else None
 
--- the characters up to the last quote, after those so far; at most so many steps are made
+-- the characters up to the closing quote, after those so far, in at most this many steps
 unfoldable pub characters_at : ℕ → List ℕ → List ℕ → Option (List ℕ × List ℕ)
 characters_at zero so_far text = None
 characters_at (suc steps) so_far text = character_at text >>= with_character so_far (λ more rest. characters_at steps more rest)
@@ -122,7 +122,7 @@ quoted_at text = after_word (codes "\"") text >>= (λ rest. characters_at (LONGE
 unfoldable pub next_num : ℕ → List ℕ → Option (ℤ × List ℕ)
 next_num byte text = after_word (byte ∷ []) text >>= (λ rest. num_at rest)
 
--- so many things, one after the other
+-- this many things, one after the other
 unfoldable pub many_at : {A : Type 0} → (List ℕ → Option (A × List ℕ)) → ℕ → List ℕ → Option (List A × List ℕ)
 many_at one_at zero text = Some ([], text)
 many_at one_at (suc more) text = do
@@ -130,14 +130,14 @@ many_at one_at (suc more) text = do
   rest ← many_at one_at more first.1
   Some (first.0 ∷ rest.0, rest.1)
 
--- a num, and so many more with a byte before each
+-- a num, and this many more, each after a byte
 unfoldable pub nums_at : ℕ → ℕ → List ℕ → Option (List ℤ × List ℕ)
 nums_at byte more text = do
   first ← num_at text
   rest ← many_at (next_num byte) more first.1
   Some (first.0 ∷ rest.0, rest.1)
 
--- nums that a function gives as a tuple
+-- nums that a function returns as a tuple
 abbrev pub four_nums : ℤ × ℤ × ℤ × ℤ → List ℤ
 four_nums s = s.0 ∷ s.1 ∷ s.2 ∷ s.3 ∷ []
 

@@ -1,4 +1,4 @@
--- Reading values, places of an arm, shapes, and parts of persistents. Proofs alone need these definitions.
+-- Reading values, positions of an arm, shapes, and parts of persistents. These definitions are internal to proofs.
 use Rattle.std.specs.Prelude.{ℕ, ◌+◌, ◌-◌, ◌^◌, ℤ, Bool, true, false, ◌&&◌, nat_le, nat_lt, if◌then◌else◌, List, [], ◌∷◌, ◌++◌, codes, Option, Some, None}
 use Rattle.rapid_num.specs.Reach.{absent_axes}
 use Rattle.rapid_num.specs.declared.joints.Joints.{Joints}
@@ -13,7 +13,7 @@ use Rattle.rapid_model.specs.declared.value.Value.{Value}
 use Rattle.rapid_model.specs.declared.value.Value.TheVariants as values
 use Rattle.history_text.specs.Reading.{◌>>=◌, after_word, many_at, nums_at, or_else, whole_at, num_at, truth_at, quoted_at}
 
--- nums in brackets: one, and so many more after commas
+-- nums in brackets: one, and this many more after commas
 unfoldable pub nums_in_brackets : ℕ → List ℕ → Option (List ℤ × List ℕ)
 nums_in_brackets more text = do
   first ← after_word (codes "[") text
@@ -47,7 +47,7 @@ value_at sorts.JointTarget text = target_at text >>= (λ t. Some (values.Target 
 value_at sorts.SpeedData text = nums_in_brackets 3 text >>= (λ s. Some (values.Speed s.0, s.1))
 value_at _ text = None
 
--- a place of an arm, which has no external axes
+-- a position of an arm, which has no external axes
 unfoldable pub place_at : List ℕ → Option (Joints × List ℕ)
 place_at text = nums_at 32 5 text >>= (λ s. Some (record { axis = s.0 ++ absent_axes 6 }, s.1))
 
@@ -95,7 +95,7 @@ limits_at text = do
   high ← num_at second
   Some (record { low = low.0; high = high.0 }, high.1)
 
--- the same, or a minus that is no num's, after a space
+-- the same, or a minus that belongs to no num, after a space
 unfoldable pub bound_at : List ℕ → Option (Option Bound × List ℕ)
 bound_at text =
     after_word (codes " ") text >>= (λ first. or_else (limits_at first) (λ b. Some (Some b.0, b.1)) (after_word (codes "-") first >>= (λ rest. Some (None, rest))))

@@ -13,7 +13,7 @@ use crate::value_reading::place_at;
 use crate::words::{after_word, truth_at};
 use rapid_model::{Answer, Request, ZoneName};
 
-/// The answer of a request by its words.
+/// The answer to a request, by its words.
 #[tactic(auto, unfolding(crate::specs::EventReading::answer_at))]
 pub(crate) fn answer_at<'a>(
     names: &Names,
@@ -47,7 +47,7 @@ pub(crate) fn answer_at<'a>(
     }
 }
 
-/// An answer that its words alone tell.
+/// An answer that its words alone identify.
 #[tactic(auto, unfolding(crate::specs::EventReading::plain_answer_at))]
 fn plain_answer_at(text: &[u8]) -> Option<(Answer, &[u8])>
     ensures { option_map (λ x. (x.0, x.1.now)) result ≡ plain_answer_at text.now }
@@ -83,7 +83,7 @@ fn zone_name_at(text: &[u8]) -> Option<(ZoneName, &[u8])>
     Some((ZoneName::Cell(number), rest))
 }
 
-/// An answer of interrupts, or one of those below.
+/// An answer about interrupts, or one of those below.
 #[tactic(auto, unfolding(crate::specs::EventReading::interrupt_answer_at))]
 fn interrupt_answer_at(text: &[u8]) -> Option<(Answer, &[u8])>
     ensures { option_map (λ x. (x.0, x.1.now)) result ≡ interrupt_answer_at text.now }
@@ -121,7 +121,7 @@ fn trap_at(text: &[u8]) -> Option<(Answer, &[u8])>
     Some((Answer::Trap { number, trap }, rest))
 }
 
-/// An answer of zones or meetings.
+/// An answer about zones or meetings.
 #[tactic(auto, unfolding(crate::specs::EventReading::zone_answer_at))]
 fn zone_answer_at(text: &[u8]) -> Option<(Answer, &[u8])>
     ensures { option_map (λ x. (x.0, x.1.now)) result ≡ zone_answer_at text.now }

@@ -1,4 +1,4 @@
-//! Whole numbers, alone after a word or two with a space between.
+//! Integers, alone or two with a space between, after a word.
 
 ghost use Rattle.std.specs.Prelude.{◌≡◌, ◌+◌, ◌≤◌, ◌++◌, length, decimal};
 ghost use Rattle.history_text.specs.EventWords.{two_words};

@@ -10,9 +10,9 @@ use rapid_model::{Answer, Event, Request, Tail, TaskRow, Text};
 use rapid_num::Joints;
 use value_text::push_name;
 
-/// Writes the event's line: for a setpoint that was given `S TASK` and the six axes in degrees with three decimals; for a text
-/// to the operator `T TASK`, a space, the text, and at once its tail. The line stays empty for an event that has none. Takes no
-/// memory.
+/// Writes the event's line. A setpoint that was given: `S TASK` and the six axes in degrees with three decimals. A text
+/// to the operator: `T TASK`, a space, the text, and its tail right after it. The line stays empty for an event that
+/// has none. Takes no memory.
 pub fn write_event(tasks: &[TaskRow], event: &Event, line: &mut ArrayString<LINE_BYTES>)
     requires { line.old.bytes ≡ [] }
     ensures { line.new.bytes ≡ line_of tasks.now event.now }
@@ -60,7 +60,7 @@ fn write_setpoint(tasks: &[TaskRow], actor: u32, to: &Joints, line: &mut ArraySt
     line.push('\n');
 }
 
-/// Appends the name of a task, and nothing where there is no such task.
+/// Appends the name of a task, or nothing if there is no such task.
 fn push_task(tasks: &[TaskRow], actor: u32, line: &mut ArrayString<LINE_BYTES>)
     requires room { length line.old.bytes + LONGEST_NAME ≤ LINE_BYTES }
     ensures text { line.new.bytes ≡ line.old.bytes ++ task_name tasks.now actor }

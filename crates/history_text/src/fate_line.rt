@@ -6,7 +6,8 @@ use arrayvec::ArrayString;
 use rapid_model::{Fate, Fault, NameText};
 use value_text::{push_count, push_name};
 
-/// Writes `E TASK FATE`: Done, Exit, Held, Cut, or Fault and the fault's name, for Unhandled also its number. Takes no memory.
+/// Writes `E TASK FATE`: Done, Exit, Held, Cut, or Fault and the fault's name, for Unhandled also its number. Takes no
+/// memory.
 pub fn write_fate(name: &NameText, fate: &Fate, line: &mut ArrayString<LINE_BYTES>)
     requires { line.old.bytes ≡ [] }
     ensures { line.new.bytes ≡ fate_line name.now fate.now }
@@ -18,7 +19,7 @@ pub fn write_fate(name: &NameText, fate: &Fate, line: &mut ArrayString<LINE_BYTE
     line.push('\n');
 }
 
-/// Appends how a fate is written.
+/// Appends a fate.
 pub(crate) fn push_fate(fate: Fate, line: &mut ArrayString<LINE_BYTES>)
     requires room { length line.old.bytes + FATE_BYTES ≤ LINE_BYTES }
     ensures text { line.new.bytes ≡ line.old.bytes ++ fate_words fate }
@@ -36,7 +37,7 @@ pub(crate) fn push_fate(fate: Fate, line: &mut ArrayString<LINE_BYTES>)
     }
 }
 
-/// Appends the fault's name, and the number of an error that was not handled.
+/// Appends the fault's name, and the number of an unhandled error.
 fn push_fault(fault: Fault, line: &mut ArrayString<LINE_BYTES>)
     requires room { length line.old.bytes + FAULT_BYTES ≤ LINE_BYTES }
     ensures text { line.new.bytes ≡ line.old.bytes ++ fault_words fault }

@@ -64,7 +64,7 @@ fn fault_at(text: &[u8]) -> Option<(Fault, &[u8])>
     unhandled_at(text)
 }
 
-/// The first of some faults whose name begins the text.
+/// The first of these faults whose name starts the text.
 #[tactic(auto, unfolding(crate::specs::EventReading::named_at))]
 fn named_at<'a>(faults: &[Fault], text: &'a [u8]) -> Option<(Fault, &'a [u8])>
     ensures { option_map (λ x. (x.0, x.1.now)) result ≡ named_at faults.now text.now }
@@ -77,7 +77,7 @@ fn named_at<'a>(faults: &[Fault], text: &'a [u8]) -> Option<(Fault, &'a [u8])>
     None
 }
 
-/// The number of an error that was not handled.
+/// The number of an unhandled error.
 #[tactic(auto, unfolding(crate::specs::EventReading::unhandled_at))]
 fn unhandled_at(text: &[u8]) -> Option<(Fault, &[u8])>
     ensures { option_map (λ x. (x.0, x.1.now)) result ≡ unhandled_at text.now }

@@ -11,7 +11,7 @@ use rapid_limits::{MOST_AXES, ROBOT_AXES};
 use rapid_model::{Answer, Event, Fate, PartName, Request, Value, Watched, is_value_of};
 use rapid_values::value_is_full;
 
-/// The actor is there, and asks what the names have and gets an answer of a form that its request has.
+/// The actor exists, asks only about what the names have, and gets an answer of a form that its request has.
 pub(crate) fn event_fits(names: &Names, event: &Event) -> bool
     ensures { result ≡ event_fits (view_names names.now) event.now }
 {
@@ -20,7 +20,7 @@ pub(crate) fn event_fits(names: &Names, event: &Event) -> bool
         && answer_fits(names, &event.request, &event.answer)
 }
 
-/// What the request names is there, a value has the type of its path, and a place of an arm is one.
+/// What the request names exists, a value has the type of its path, and a position of an arm is one.
 fn request_fits(names: &Names, actor: u32, request: &Request) -> bool
     ensures { result ≡ request_fits (view_names names.now) actor request.now }
 {
@@ -63,7 +63,7 @@ fn has_watched(names: &Names, on: Watched) -> bool
     }
 }
 
-/// The persistent is there, and some value has the part.
+/// The persistent exists, and some value has the part.
 fn has_part(names: &Names, pers: u32, part: PartName) -> bool
     ensures { result ≡ has_part (view_names names.now) pers part }
 {
@@ -80,7 +80,7 @@ fn is_part(part: PartName) -> bool
     }
 }
 
-/// Whether a task may tell this of itself.
+/// Whether a task may report this fate of itself.
 fn may_tell(fate: Fate) -> bool
     ensures { result ≡ may_tell fate }
 {
@@ -93,7 +93,7 @@ fn may_tell(fate: Fate) -> bool
     }
 }
 
-/// Whether the value is one of the part of the persistent.
+/// Whether the value has the type of this part of the persistent.
 fn fits_pers(names: &Names, pers: u32, part: PartName, value: &Value) -> bool
     ensures { result ≡ fits_pers (pers_sort (view_names names.now) pers) part value.now }
 {

@@ -8,7 +8,7 @@ use std::alloc::{AllocError, AllocFailed};
 /// Why a text gave no history.
 #[derive(Debug, PartialEq, Eq, Drop)]
 pub enum HistoryFault {
-    /// The line of this number, from 1, is the first with which the lines so far begin no history.
+    /// The first line, by its number from 1, with which the lines so far no longer start any history.
     Line(u32),
     /// Out of memory.
     Memory,

@@ -1,4 +1,5 @@
-//! The lines of a history, built in room of fixed size.
+//! The lines of a run and of its history, written into buffers of fixed size; a history's text is read back to the same
+//! events and fates, and no other text is accepted.
 #![tactic(auto)]
 
 mod answer_reading;

@@ -72,7 +72,7 @@ fn first_space(text: &[u8]) -> Option<usize>
     text.iter().position(|byte| *byte == b' ')
 }
 
-/// The number of an actor: `-` is the input script, whose number is the next after the tasks.
+/// The number of an actor: `-` is the input script, whose number follows those of the tasks.
 #[tactic(auto, unfolding(crate::specs::EventReading::actor_of))]
 fn actor_of(tasks: &[TaskRow], name: &[u8]) -> Option<u32>
     ensures { result ≡ actor_of tasks.now name.now }
@@ -84,7 +84,7 @@ fn actor_of(tasks: &[TaskRow], name: &[u8]) -> Option<u32>
     }
 }
 
-/// A number that 32 bits hold.
+/// A number of 32 bits.
 fn within_u32(number: usize) -> Option<u32>
     ensures { result ≡ within_u32 number }
 {

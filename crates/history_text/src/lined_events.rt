@@ -4,7 +4,7 @@ ghost use Rattle.history_text.specs.Lines.{line_of};
 
 use rapid_model::{Answer, Event, Request};
 
-/// Whether the event has a line: a setpoint that was given, or a text for the operator. What the tasks are does not matter.
+/// Whether the event has a line: a setpoint that was given, or a text to the operator. The tasks do not matter.
 pub fn has_line(event: &Event) -> bool
     ensures { (tasks : List TaskRow) → IsTrue result ↔ 0 < length (line_of tasks event.now) }
 {

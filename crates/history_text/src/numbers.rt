@@ -7,7 +7,7 @@ ghost use Rattle.history_text.specs.Reading.{decimals_at, digit_at, digits_at, f
 use crate::words::after_word;
 use rapid_num::Num;
 
-/// The number that digits spell after those so far: `None` past ten digits.
+/// The number that the digits so far and these spell: `None` past ten digits.
 #[tactic(auto, unfolding(crate::specs::Reading::digits_at))]
 fn digits_at(so_far: u64, text: &[u8]) -> Option<(u64, &[u8])>
     requires { so_far < 10 ^ 10 }
@@ -26,7 +26,7 @@ fn digits_at(so_far: u64, text: &[u8]) -> Option<(u64, &[u8])>
     Some((number, rest))
 }
 
-/// A number of one digit or more.
+/// A number of one or more digits.
 #[tactic(auto, unfolding(crate::specs::Reading::number_at))]
 fn number_at(text: &[u8]) -> Option<(u64, &[u8])>
     ensures number { option_map (λ x. (x.0, x.1.now)) result ≡ number_at text.now }
@@ -38,7 +38,7 @@ fn number_at(text: &[u8]) -> Option<(u64, &[u8])>
     }
 }
 
-/// A whole number below a limit.
+/// An integer below a limit.
 #[tactic(auto, unfolding(crate::specs::Reading::whole_at))]
 fn whole_at(limit: u64, text: &[u8]) -> Option<(u64, &[u8])>
     ensures number { option_map (λ x. (x.0, x.1.now)) result ≡ whole_at limit text.now }
@@ -75,7 +75,7 @@ pub(crate) fn u32_at(text: &[u8]) -> Option<(u32, &[u8])>
     Some((number as u32, rest))
 }
 
-/// What a digit counts in such units: 0 where none stands.
+/// What a digit counts, in these units: 0 if there is none.
 #[tactic(auto, unfolding(crate::specs::Reading::digit_at))]
 fn digit_at(unit: u64, text: &[u8]) -> (u64, &[u8])
     requires { unit ≤ 100 }
@@ -100,7 +100,7 @@ fn decimals_at(text: &[u8]) -> (u64, &[u8])
     (tenths + hundredths + thousandths, rest)
 }
 
-/// The decimals after a point: 0 where no point stands.
+/// The decimals after a point: 0 if there is no point.
 #[tactic(auto, unfolding(crate::specs::Reading::fraction_at))]
 fn fraction_at(text: &[u8]) -> (u64, &[u8])
     ensures decimals { (result.0, result.1.now) ≡ fraction_at text.now }
@@ -112,7 +112,7 @@ fn fraction_at(text: &[u8]) -> (u64, &[u8])
     }
 }
 
-/// The thousandths of a num without a sign.
+/// The thousandths of an unsigned num.
 #[tactic(auto, unfolding(crate::specs::Reading::size_at))]
 fn size_at(text: &[u8]) -> Option<(u64, &[u8])>
     ensures size { option_map (λ x. (x.0, x.1.now)) result ≡ size_at text.now }
@@ -123,7 +123,7 @@ fn size_at(text: &[u8]) -> Option<(u64, &[u8])>
     Some((whole * 1000 + thousandths, rest))
 }
 
-/// Whether a minus stands there, and what follows it.
+/// Whether there is a minus, and what follows it.
 #[tactic(auto, unfolding(crate::specs::Reading::minus_at))]
 fn minus_at(text: &[u8]) -> (bool, &[u8])
     ensures { (result.0, result.1.now) ≡ minus_at text.now }

@@ -1,4 +1,4 @@
-//! Reading one line: what was read is written again, and has to stand there.
+//! Reading one line: what is read is written again, and must be what the text has there.
 
 ghost use Rattle.std.specs.Prelude.{◌≡◌, IfNone, IfOk, IfSome};
 ghost use Rattle.std.specs.Option.{option_map};
@@ -21,8 +21,9 @@ use arrayvec::ArrayString;
 use rapid_model::{Event, Fate, NameText};
 use std::alloc::AllocError;
 
-/// Reads the event whose line begins a text, after so many fates, onto the events so far. The answer is what follows the line:
-/// `None` exactly where no event comes there, as after a fate, and the events stay. Lines are written to `room`.
+/// Reads the event whose line starts a text, after this many fates, and appends it to the events so far. Returns what
+/// follows the line. Returns `None`, and leaves the events as they are, exactly if no event may come there, as after a
+/// fate. `room` is the buffer for lines.
 pub(crate) fn read_event<'a>(
     names: &Names,
     done: usize,
@@ -50,7 +51,7 @@ pub(crate) fn read_event<'a>(
     Ok(Some(more))
 }
 
-/// What stands after the line of an event.
+/// What follows the line of an event.
 fn after_event<'a>(
     names: &Names,
     event: &Event,
@@ -64,8 +65,8 @@ fn after_event<'a>(
     after_word(text, room.as_str().as_bytes())
 }
 
-/// The fate of the next task, after those of so many, by its line, and what follows the line: `None` exactly where no such line
-/// begins the text. Lines are written to `room`.
+/// Reads the fate of the next task, after those of this many, and returns it with what follows its line: `None` exactly
+/// if no such line starts the text. `room` is the buffer for lines.
 pub(crate) fn read_fate<'a>(
     names: &Names,
     done: usize,
@@ -88,7 +89,7 @@ pub(crate) fn read_fate<'a>(
     Some((fate, more))
 }
 
-/// What stands after the line of a fate.
+/// What follows the line of a fate.
 fn after_fate<'a>(
     name: &NameText,
     fate: Fate,

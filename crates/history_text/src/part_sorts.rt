@@ -25,7 +25,7 @@ pub(crate) fn part_value_at<'a>(
     value_at(sort, text)
 }
 
-/// The type of a part of a persistent, where there is one.
+/// The type of a part of a persistent, if there is such a part.
 fn path_sort(names: &Names, pers: u32, path: Path) -> Option<Sort>
     ensures { result ≡ path_sort (view_names names.now) pers path }
 {
@@ -41,7 +41,7 @@ pub(crate) fn pers_sort(names: &Names, pers: u32) -> Option<Sort>
     Some(row.sort)
 }
 
-/// The type of a part of a value of this type, where it has the part.
+/// The type of a part of a value of this type, if it has the part.
 pub(crate) fn part_sort(sort: Sort, part: PartName) -> Option<Sort>
     ensures { result ≡ part_sort sort part }
 {

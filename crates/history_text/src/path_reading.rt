@@ -20,7 +20,7 @@ pub(crate) fn path_at(text: &[u8]) -> Option<((u32, Path), &[u8])>
     Some(((pers, Path { index, part }), rest))
 }
 
-/// An element in braces, or 0 where no brace stands there.
+/// An element in braces, or 0 if there is no brace.
 #[tactic(auto, unfolding(crate::specs::ValueReading::element_at))]
 fn element_at(text: &[u8]) -> Option<(u16, &[u8])>
     ensures { option_map (λ x. (x.0, x.1.now)) result ≡ element_at text.now }
@@ -33,7 +33,7 @@ fn element_at(text: &[u8]) -> Option<(u16, &[u8])>
     Some((0, text))
 }
 
-/// A part, or the whole where none is named.
+/// A part, or the whole if none is named.
 #[tactic(auto, unfolding(crate::specs::ValueReading::part_at, crate::specs::Reading::after_word))]
 fn part_at(text: &[u8]) -> Option<(PartName, &[u8])>
     ensures { option_map (λ x. (x.0, x.1.now)) result ≡ part_at text.now }
@@ -56,7 +56,7 @@ fn part_at(text: &[u8]) -> Option<(PartName, &[u8])>
     speed_at(text)
 }
 
-/// One of six axes, by the number of the first and the byte that names it.
+/// One of six axes, by the number of the first and the byte that names the axis.
 #[tactic(auto, unfolding(crate::specs::ValueReading::axis_at))]
 fn axis_at(first: u8, letter: u8, text: &[u8]) -> Option<(PartName, &[u8])>
     requires few { first ≤ 6 }
@@ -71,7 +71,7 @@ fn axis_at(first: u8, letter: u8, text: &[u8]) -> Option<(PartName, &[u8])>
     }
 }
 
-/// A part of a speed, or the whole where none is named.
+/// A part of a speed, or the whole if none is named.
 #[tactic(auto, unfolding(crate::specs::ValueReading::speed_at))]
 fn speed_at(text: &[u8]) -> Option<(PartName, &[u8])>
     ensures { option_map (λ x. (x.0, x.1.now)) result ≡ speed_at text.now }

@@ -18,7 +18,7 @@ pub(crate) fn push_pers(pers: u32, line: &mut ArrayString<LINE_BYTES>)
     push_count(pers as usize, line);
 }
 
-/// Appends the element of an array, from 1, in braces, and nothing for none.
+/// Appends the element of an array, from 1, in braces, or nothing for the whole.
 fn push_element(index: u16, line: &mut ArrayString<LINE_BYTES>)
     requires room { length line.old.bytes + ELEMENT_BYTES ≤ LINE_BYTES }
     ensures text { line.new.bytes ≡ line.old.bytes ++ element_words index }

@@ -1,4 +1,4 @@
-//! Places of an arm.
+//! Positions of an arm.
 
 ghost use Rattle.std.specs.Prelude.{◌≡◌, ◌+◌, ◌≤◌, ◌∷◌, ◌++◌, length};
 ghost use Rattle.rapid_num.specs.NumText.{shortest_text};

@@ -22,7 +22,7 @@ fn character_at(text: &[u8]) -> Option<(Option<u8>, &[u8])>
     }
 }
 
-/// The characters up to the last quote; one more step than a text has room is made.
+/// The characters up to the closing quote. One more step is made than a text has room for.
 #[tactic(auto, using(crate::proofs::Characters::characters_turn, crate::proofs::Characters::characters_end))]
 fn characters_at(text: &[u8], steps: usize) -> Option<(Text, &[u8])>
     ensures { option_map (λ x. (x.0, x.1.now)) result ≡ characters_at steps [] text.now }

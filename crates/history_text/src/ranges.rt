@@ -1,4 +1,4 @@
-//! What the types of an event keep.
+//! The ranges that the types of an event's parts keep.
 
 ghost use Rattle.std.specs.Prelude.{◌≡◌, length};
 ghost use Rattle.std.specs.List.{AllByRecursion};
@@ -11,8 +11,8 @@ use rapid_model::{
 };
 use rapid_num::{Bound, Num, Shape};
 
-/// Each number of an event has so many bits as its type says, nums are in range, texts are short and printable, and lists are
-/// as long as the type says.
+/// Each number of an event has as many bits as its type says, nums are in range, texts are short and printable, and
+/// lists have the length that the type says.
 pub(crate) fn event_is_in_range(event: &Event)
     ensures { IsEvent event.now }
 {

@@ -11,8 +11,8 @@ use arrayvec::ArrayString;
 use rapid_model::{Event, Fate};
 use std::alloc::Global;
 
-/// The events and the fates that a text tells: whole lines, those of events that fit the names, none or more, and then those of
-/// how the first tasks stand in the end, none or more.
+/// The events and the fates that a text spells: whole lines, first zero or more of events that fit the names, then zero
+/// or more of the fates of the first tasks.
 pub fn read_history(
     alloc: Global,
     names: &Names,
@@ -20,13 +20,13 @@ pub fn read_history(
 ) -> Result<(Vec<Event>, Vec<Fate>), HistoryFault>
     requires names { AreNamed names.now.tasks.now }
     requires short { length text.now < 2 ^ 31 }
-    // What is read is spelled so.
+    // What is read spells the text.
     ensures read { IfOk result (λ r. Spells (view_names names.now) text.now r.0.items r.1.items) }
-    // What is spelled so is read, and nothing else,
+    // What spells the text is read, and nothing else,
     ensures only { (events : List Event) (fates : List Fate) → Spells (view_names names.now) text.now events fates → IfOk result (λ r. (r.0.items ≡ events) × (r.1.items ≡ fates)) }
     // unless memory runs out.
     ensures unless { (events : List Event) (fates : List Fate) → Spells (view_names names.now) text.now events fates → IfErr result (λ e. e ≡ HistoryFault.Memory) }
-    // Else the first line with which the lines so far begin no history.
+    // Otherwise the first line with which the lines so far no longer start any history.
     ensures line { (number : ℕ) → result ≡ Err (HistoryFault.Line number) → IsFirstFault (view_names names.now) text.now number }
 {
     let mut events = Vec::new(alloc);

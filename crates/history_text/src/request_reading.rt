@@ -61,7 +61,7 @@ fn written_at<'a>(names: &Names, text: &'a [u8]) -> Option<(Request, &'a [u8])>
     Some((Request::WriteP { pers, path, value }, rest))
 }
 
-/// A request of a move, a wait or an end, or one of those below.
+/// A request about a move, a wait or an end, or one of those below.
 #[tactic(auto, unfolding(crate::specs::EventReading::course_request_at))]
 fn course_request_at(text: &[u8]) -> Option<(Request, &[u8])>
     ensures { option_map (λ x. (x.0, x.1.now)) result ≡ course_request_at text.now }
@@ -96,7 +96,7 @@ fn course_request_at(text: &[u8]) -> Option<(Request, &[u8])>
     interrupt_request_at(text)
 }
 
-/// A text for the operator, and its tail.
+/// A text to the operator, and its tail.
 #[tactic(auto, unfolding(crate::specs::EventReading::said_at))]
 fn said_at(text: &[u8]) -> Option<(Request, &[u8])>
     ensures { option_map (λ x. (x.0, x.1.now)) result ≡ said_at text.now }
@@ -110,7 +110,7 @@ fn said_at(text: &[u8]) -> Option<(Request, &[u8])>
     Some((Request::Say { text, tail }, rest))
 }
 
-/// What stands after a text for the operator.
+/// The tail of a text to the operator.
 #[tactic(auto, unfolding(crate::specs::EventReading::tail_at))]
 fn tail_at(text: &[u8]) -> Option<(Tail, &[u8])>
     ensures { option_map (λ x. (x.0, x.1.now)) result ≡ tail_at text.now }
@@ -127,7 +127,7 @@ fn tail_at(text: &[u8]) -> Option<(Tail, &[u8])>
     Some((Tail::None, text))
 }
 
-/// A request of an interrupt, or one of those below.
+/// A request about an interrupt, or one of those below.
 #[tactic(auto, unfolding(crate::specs::EventReading::interrupt_request_at))]
 fn interrupt_request_at(text: &[u8]) -> Option<(Request, &[u8])>
     ensures { option_map (λ x. (x.0, x.1.now)) result ≡ interrupt_request_at text.now }
@@ -185,7 +185,7 @@ fn order_at(text: &[u8]) -> Option<(Request, &[u8])>
     Some((Request::Order { number, on, single }, rest))
 }
 
-/// A request of a zone or a meeting.
+/// A request about a zone or a meeting.
 #[tactic(auto, unfolding(crate::specs::EventReading::zone_request_at))]
 fn zone_request_at(text: &[u8]) -> Option<(Request, &[u8])>
     ensures { option_map (λ x. (x.0, x.1.now)) result ≡ zone_request_at text.now }
@@ -212,7 +212,7 @@ fn zone_request_at(text: &[u8]) -> Option<(Request, &[u8])>
     arrive_at(rest)
 }
 
-/// A zone that is to be made.
+/// A zone to be made.
 #[tactic(auto, unfolding(crate::specs::EventReading::set_zone_at))]
 fn set_zone_at(text: &[u8]) -> Option<(Request, &[u8])>
     ensures { option_map (λ x. (x.0, x.1.now)) result ≡ set_zone_at text.now }
@@ -228,7 +228,7 @@ fn set_zone_at(text: &[u8]) -> Option<(Request, &[u8])>
     Some((request, rest))
 }
 
-/// A zone that is to be made, and the signal and the value that it sets.
+/// A zone to be made, and the signal and the value that it sets.
 #[tactic(auto, unfolding(crate::specs::EventReading::tie_at))]
 fn tie_at(text: &[u8]) -> Option<(Request, &[u8])>
     ensures { option_map (λ x. (x.0, x.1.now)) result ≡ tie_at text.now }

@@ -149,7 +149,7 @@ fn push_said(text: &Text, tail: &Tail, line: &mut ArrayString<LINE_BYTES>)
     push_said_tail(tail, line);
 }
 
-/// Appends what stands after a text, after a space.
+/// Appends the tail of a text, after a space.
 fn push_said_tail(tail: &Tail, line: &mut ArrayString<LINE_BYTES>)
     requires room { length line.old.bytes + TAIL_BYTES ≤ LINE_BYTES }
     ensures text { line.new.bytes ≡ line.old.bytes ++ said_words tail.now }

@@ -1,12 +1,12 @@
-//! How many bytes the parts of a line take at most.
+//! The most bytes that each part of a line takes.
 
 use rapid_limits::{MOST_AXES, ROBOT_AXES};
 use value_text::{COUNT_BYTES, NUM_BYTES, VALUE_BYTES, WORD_BYTES};
 
-/// The word before a number, its space with it.
+/// The word before a number, with its space.
 pub(crate) const FRONT_BYTES: usize = 9;
 
-/// A number behind its word.
+/// A number after its word.
 pub(crate) const COUNTED_BYTES: usize = FRONT_BYTES + COUNT_BYTES;
 
 /// Two numbers.
@@ -24,7 +24,7 @@ pub(crate) const ELEMENT_BYTES: usize = COUNT_BYTES + 2;
 /// A part of a persistent.
 pub(crate) const PATH_BYTES: usize = PERS_BYTES + ELEMENT_BYTES + WORD_BYTES;
 
-/// A part of a persistent behind its word.
+/// A part of a persistent after its word.
 pub(crate) const AT_BYTES: usize = FRONT_BYTES + PATH_BYTES;
 
 /// A WriteP.
@@ -36,7 +36,7 @@ pub(crate) const SINGLE_BYTES: usize = 7;
 /// An Order.
 pub(crate) const ORDER_BYTES: usize = COUNTED_BYTES + 1 + SET_BYTES + SINGLE_BYTES;
 
-/// What stands behind a text, after a space.
+/// The tail of a text, after a space.
 pub(crate) const TAIL_BYTES: usize = 1 + NUM_BYTES;
 
 /// A Say.

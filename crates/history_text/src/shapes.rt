@@ -1,4 +1,4 @@
-//! Shapes, and zones that are to be made.
+//! Shapes, and zones to be made.
 
 ghost use Rattle.std.specs.Prelude.{◌≡◌, ◌+◌, ◌≤◌, ◌∷◌, [], ◌++◌, length, flat_map};
 ghost use Rattle.history_text.specs.EventWords.{bound_words, kind_words, shape_words, side_words, zone_words};
@@ -63,7 +63,7 @@ fn push_bound(bound: &Option<Bound>, line: &mut ArrayString<LINE_BYTES>)
     }
 }
 
-/// Appends a zone that is to be made: the zone that the variable names, the kind, and the shape.
+/// Appends a zone to be made: the zone that the variable names, the kind, and the shape.
 pub(crate) fn push_zone(old: u8, temporary: bool, shape: &Shape, line: &mut ArrayString<LINE_BYTES>)
     requires room { length line.old.bytes + ZONE_BYTES ≤ LINE_BYTES }
     ensures text { line.new.bytes ≡ line.old.bytes ++ zone_words old temporary shape.now }

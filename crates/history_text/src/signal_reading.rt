@@ -53,7 +53,7 @@ pub(crate) fn watched_at(text: &[u8]) -> Option<(Watched, &[u8])>
     Some((Watched::Signal { signal, value }, rest))
 }
 
-/// Whether the order ends when it fires.
+/// Whether the order ends when the interrupt fires.
 #[tactic(auto, unfolding(crate::specs::EventReading::single_at))]
 pub(crate) fn single_at(text: &[u8]) -> Option<(bool, &[u8])>
     ensures { option_map (λ x. (x.0, x.1.now)) result ≡ single_at text.now }

@@ -1,4 +1,4 @@
-//! Texts for the operator.
+//! Texts to the operator.
 
 ghost use Rattle.std.specs.Prelude.{◌≡◌, ◌+◌, ◌≤◌, ◌++◌, length};
 ghost use Rattle.history_text.specs.Lines.{tail_words};
@@ -20,7 +20,7 @@ pub(crate) fn push_text(text: &Text, line: &mut ArrayString<LINE_BYTES>)
     line.push_str(str::from_utf8(text.bytes()).unwrap());
 }
 
-/// Appends what stands after a text: a num without needless digits, or a truth.
+/// Appends the tail of a text: a num without unnecessary digits, or a truth value.
 pub(crate) fn push_tail(tail: &Tail, line: &mut ArrayString<LINE_BYTES>)
     requires room { length line.old.bytes + NUM_BYTES ≤ LINE_BYTES }
     ensures text { line.new.bytes ≡ line.old.bytes ++ tail_words tail.now }

@@ -1,4 +1,4 @@
-//! Reading values and places of an arm.
+//! Reading values and positions of an arm.
 
 ghost use Rattle.std.specs.Prelude.{◌≡◌};
 ghost use Rattle.std.specs.Option.{option_map};
@@ -111,7 +111,7 @@ fn target_at(text: &[u8]) -> Option<(Joints, &[u8])>
     Some((Joints { axis }, rest))
 }
 
-/// A place of an arm, which has no external axes.
+/// A position of an arm, which has no external axes.
 #[tactic(auto, unfolding(crate::specs::ValueReading::place_at))]
 pub(crate) fn place_at(text: &[u8]) -> Option<(Joints, &[u8])>
     ensures { option_map (λ x. (x.0, x.1.now)) result ≡ place_at text.now }

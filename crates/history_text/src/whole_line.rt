@@ -12,9 +12,9 @@ use rapid_limits::LONGEST_NAME;
 use rapid_model::{Event, TaskRow};
 use value_text::push_name;
 
-/// Writes the event's line: with `full` the line that each event has, `H ACTOR REQUEST > ANSWER`, where the actor of the input
-/// script is `-`; else the line of a setpoint that was given, or of a text for the operator, and nothing for other events. Takes
-/// no memory.
+/// Writes the event's line. With `full`, the line that each event has: `H ACTOR REQUEST > ANSWER`, where `-` is the
+/// actor of the input script. Otherwise the line of a setpoint that was given or of a text to the operator, and nothing
+/// for other events. Takes no memory.
 pub fn line_of(names: &Names, event: &Event, full: bool, line: &mut ArrayString<LINE_BYTES>)
     requires empty { line.old.bytes ≡ [] }
     ensures { line.new.bytes ≡ (if full then event_line names.now.tasks.now event.now else line_of names.now.tasks.now event.now) }

@@ -5,7 +5,7 @@ ghost use Rattle.std.specs.Option.{option_map};
 ghost use Rattle.std.specs.Str.{bytes_eq};
 ghost use Rattle.history_text.specs.Reading.{after_word, truth_at};
 
-/// What stands after a word, where the text begins with it. Most texts differ from most words at the first byte.
+/// What follows a word, if the text starts with it. Most texts differ from most words in the first byte.
 #[tactic(auto, using(crate::proofs::AfterWord::empty_text), unfolding(crate::specs::Reading::after_word))]
 pub(crate) fn after_word<'a>(text: &'a [u8], word: &[u8]) -> Option<&'a [u8]>
     ensures { option_map (λ x. x.now) result ≡ after_word word.now text.now }
@@ -34,7 +34,7 @@ pub(crate) fn is_same(text: &[u8], other: &[u8]) -> bool
     }
 }
 
-/// A truth.
+/// A truth value.
 #[tactic(auto, unfolding(crate::specs::Reading::truth_at))]
 pub(crate) fn truth_at(text: &[u8]) -> Option<(bool, &[u8])>
     ensures { option_map (λ x. (x.0, x.1.now)) result ≡ truth_at text.now }

@@ -66,7 +66,7 @@ skip_axis axes bounds p q part none before =
     (λ k m some way h. within_less axes bounds (point_at p q k m) m h)
     before
 
--- after the last axis, and where nothing is left before it
+-- after the last axis, and once nothing is left before it
 pub after_axes : (axes : ℕ) (bounds : List (Option Bound)) (p q : Joints) (part : Option Part) → length bounds ≤ axes
     → IsPartWhere part (λ k m. WithinFirst axes bounds (point_at p q k m) m) → IsPartWhere part (λ k m. LiesInside bounds (point_at p q k m) m)
 after_axes axes bounds p q part all cut =
@@ -80,11 +80,11 @@ pub nothing_left : (axes : ℕ) (bounds : List (Option Bound)) (p q : Joints)
 nothing_left axes bounds p q none =
     none_where _ _ (λ k m some way h. first-inside axes bounds (point_at p q k m) m h) none
 
--- what was read of a list is there
+-- an item read from a list is there
 pub element_at : (bounds : List (Option Bound)) (axis : ℕ) (other here : Option Bound) → axis < length bounds → slice_index_or bounds axis other ≡ here → slice_get bounds axis ≡ Some here
 element_at bounds axis other here inside read = slice_get-get_or bounds axis other inside ∙ ap Some read
 
--- no axis is named where none has bounds
+-- if no axis has bounds, none is named
 pub none_named : (n axis : ℕ) (b : Bound) → Names (replicate n None) axis b → ⊥
 none_named zero axis b named = cc
 none_named (suc n) zero b named = cc

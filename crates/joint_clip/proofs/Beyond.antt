@@ -1,4 +1,4 @@
--- An axis is past a bound on the way exactly where it is so at one of the ends.
+-- An axis goes past a bound exactly if it is past it at one of the ends.
 use Rattle.std.proofs.Common.{◌≡◌, ◌≤◌, ◌<◌, ℕ, Bool, true, false, IsTrue, List, length, Option, Some, inl, inr, subst, refl, arith, ℤ, pos, ◌≤ℤ◌}
 use Rattle.std.specs.List.{slice_index_or}
 use Rattle.std.proofs.lemmas.Int.{ints, by_lt_z}

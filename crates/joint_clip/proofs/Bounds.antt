@@ -16,7 +16,7 @@ get_or-bounds_of (l ∷ lows) [] axis low high other one two = absurd (omega ari
 get_or-bounds_of (l ∷ lows) (h ∷ highs) zero low high other one two = refl
 get_or-bounds_of (l ∷ lows) (h ∷ highs) (suc axis) low high other one two = get_or-bounds_of lows highs axis low high other (omega arith) (omega arith)
 
--- a store of the bounds of the next axis
+-- the bounds of the next axis are stored
 pub bounds_more : (lows highs : List ℤ) (bounds : List (Option Bound)) (axis : ℕ) (low high : ℤ) → length lows ≡ length highs → axis < length lows → axis < length bounds
     → take axis bounds ≡ take axis (bounds_of lows highs)
     → take (axis + 1) (set bounds axis (bound_of (get_or lows axis low) (get_or highs axis high))) ≡ take (axis + 1) (bounds_of lows highs)

@@ -1,4 +1,4 @@
--- The definitions on zones and segments worked by hand.
+-- The definitions on zones and segments worked out by hand.
 use Rattle.std.proofs.Common.{◌≡◌, ◌≤◌, ◌++◌, ℕ, zero, suc, Bool, true, false, ◌∷◌, replicate, Some, None, Ok, Err, inl, inr, refl, sym, subst, arith, ℤ, pos, neg_ℤ}
 use Rattle.std.proofs.lemmas.Int.{ints}
 use Rattle.rapid_num.specs.Range.{greatest}
@@ -31,14 +31,14 @@ zone inside low high = record { inside = inside; bounds = Some (bound low high) 
 limits : made_shape true (on_one (pos 10_500)) (on_one (pos 11_500)) 6 ≡ Ok (zone true (pos 10_500) (pos 11_500))
 limits = refl
 
--- 9E9 is no limit below, and none above
+-- 9E9 means no lower limit, and no upper one
 no_low_limit : made_shape true (on_one absent) (on_one (pos 1000)) 6 ≡ Ok (zone true (neg_ℤ (pos greatest)) (pos 1000))
 no_low_limit = refl
 
 no_high_limit : made_shape false (on_one (pos 1000)) (on_one absent) 6 ≡ Ok (zone false (pos 1000) (pos greatest))
 no_high_limit = refl
 
--- no axis is named, the bounds are one angle, or the low one is above the high one
+-- no axis is named, both bounds are the same angle, or the low one is above the high one
 no_limits : made_shape true (on_one absent) (on_one absent) 6 ≡ Err faults.ZoneShape
 no_limits = refl
 
@@ -52,7 +52,7 @@ turned_round = refl
 below_the_least : made_shape true (on_one absent) (on_one (neg_ℤ (pos greatest))) 6 ≡ Err faults.ZoneShape
 below_the_least = refl
 
--- axis 7 of an arm of six axes, which comes before all else, and of one of seven
+-- axis 7 of an arm with six axes, which takes precedence, and of one with seven
 no_such_axis : made_shape true (on_seventh (pos 1000) absent) (on_seventh (pos 1000) (pos 0)) 6 ≡ Err faults.ExtAxis
 no_such_axis = refl
 
@@ -60,7 +60,7 @@ seventh_axis : made_shape true (on_seventh absent (pos 0)) (on_seventh absent (p
     ≡ Ok (record { inside = true; bounds = replicate 6 None ++ (Some (bound (pos 0) (pos 1)) ∷ replicate 5 None) })
 seventh_axis = refl
 
--- an arm at these angles on axes 1 and 2
+-- an arm at these angles of axes 1 and 2
 abbrev arm_at : ℤ → ℤ → Joints
 arm_at a b = record { axis = a ∷ b ∷ replicate 10 (pos 0) }
 
@@ -76,7 +76,7 @@ inside_two a b point m one two zero x named = subst (λ (y : Bound). IsWithin y 
 inside_two a b point m one two (suc zero) x named = subst (λ (y : Bound). IsWithin y (point 1) m) (same_some b x named) two
 inside_two a b point m one two (suc (suc axis)) x named = absurd (none_named 10 axis x named)
 
--- from 6 to 12 degrees through 10.5 to 11.5: at five sixths of the way axis 1 is at 11
+-- from 6 to 12 degrees through 10.5 to 11.5: after five sixths of the way axis 1 is at 11
 passes_through : Touches (arm_at (pos 6000) (pos 0)) (arm_at (pos 12_000) (pos 0)) (zone true (pos 10_500) (pos 11_500))
 passes_through = record {
   k = 5;
@@ -106,7 +106,7 @@ misses_corner : ¬ Touches (arm_at (pos 9000) (pos 10_999)) (arm_at (pos 11_000)
 misses_corner touched =
     on_either_side touched.k touched.m touched.whole touched.on_the_way (touched.holds 0 _ refl) (touched.holds 1 _ refl)
 
--- a move of no length within the zone, with both limits and with the high one alone
+-- a move of length zero within the zone, with both limits and with the high one only
 stays_inside : Touches (arm_at (pos 0) (pos 0)) (arm_at (pos 0) (pos 0)) (zone true (neg_ℤ (pos 1000)) (pos 1000))
 stays_inside = record {
   k = 0;
@@ -125,7 +125,7 @@ stays_below = record {
   holds = inside_one _ _ 1 (record { low = omega (arith, ints); high = omega (arith, ints) });
 }
 
--- a move up to the face of an Inside zone touches it at its end, one to a thousandth before it does not
+-- a move up to the face of an Inside zone touches it at its end; one that ends a thousandth before does not
 touches_face : Touches (arm_at (pos 0) (pos 0)) (arm_at (pos 10_000) (pos 0)) (zone true (pos 10_000) (pos 20_000))
 touches_face = record {
   k = 1;
@@ -141,7 +141,7 @@ short_of_face k m some way one = omega (arith, ints)
 ends_before_face : ¬ Touches (arm_at (pos 0) (pos 0)) (arm_at (pos 9999) (pos 0)) (zone true (pos 10_000) (pos 20_000))
 ends_before_face touched = short_of_face touched.k touched.m touched.whole touched.on_the_way (touched.holds 0 _ refl)
 
--- a move from face to face lies in no Outside zone, one that ends a thousandth further does
+-- a move from face to face does not touch the Outside zone; one that ends a thousandth further does
 between_faces : (k m : ℕ) → 1 ≤ m → k ≤ m → IsBeyond (bound (pos 10_000) (pos 20_000)) (way_at (pos 10_000) (pos 20_000) k m) m → ⊥
 between_faces k m some way (inl below) = omega (arith, ints)
 between_faces k m some way (inr above) = omega (arith, ints)

@@ -1,4 +1,4 @@
--- The order of fractions, by the products across.
+-- The order of fractions, by cross multiplication.
 use Rattle.std.proofs.Common.{◌≤◌, ◌*◌, ℕ, arith}
 use Rattle.std.proofs.Math.Nat.{mul-le-mul_right, le_of_mul-le-mul_right}
 use Rattle.joint_clip.specs.Parts.{IsAtMost}

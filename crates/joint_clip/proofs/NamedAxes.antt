@@ -1,4 +1,4 @@
--- What none of the first axes that are named has, of its bounds and of where it begins and ends.
+-- A property of bounds and of both ends that none of the first named axes has.
 use Rattle.std.proofs.Common.{◌≡◌, ◌<◌, ◌+◌, ℕ, List, Option, Some, None, subst, ℤ, pos}
 use Rattle.std.specs.Prelude.{slice_get}
 use Rattle.std.specs.List.{slice_index_or}

@@ -19,7 +19,7 @@ none_between first last apart = record {
   only = λ k m some way none. absurd none;
 }
 
--- nothing is cut off where the part starts at the cut or after it, or ends at it or before it
+-- nothing is cut off if the part starts at or after the cut, or ends at or before it
 pub kept_from : (part : Part) (first : Fraction) → first.top * part.first.bottom ≤ part.first.top * first.bottom → IsPartWhere (Some part) (λ k m. IsIn part k m × IsAtMost first.top first.bottom k m)
 kept_from part first before = record {
   kept = λ k m some way h. h.0;
@@ -32,7 +32,7 @@ kept_to part last after = record {
   only = λ k m some way within. (within, at_most-trans k m part.last.top part.last.bottom last.top last.bottom part.last.some within.last (record { across = after }));
 }
 
--- else the part starts or ends at the cut
+-- otherwise the part starts or ends at the cut
 pub cut_from : (part : Part) (first : Fraction) (left : Option Part) → part.first.top * first.bottom ≤ first.top * part.first.bottom → IsPartWhere left (Between first part.last) → IsPartWhere left (λ k m. IsIn part k m × IsAtMost first.top first.bottom k m)
 cut_from part first left after cut = record {
   kept = λ k m some way h. cut.kept k m some way (h.1, h.0.last);
@@ -65,18 +65,18 @@ cut_twice part left P Q one two = record {
       (one.only k m some way both.0, both.1);
 }
 
--- what holds at no more fractions than what holds at none
+-- if a condition holds nowhere, so does one that implies it
 pub none_where : (P Q : ℕ → ℕ → Type 0) → ((k m : ℕ) → 1 ≤ m → k ≤ m → Q k m → P k m) → IsPartWhere None P → IsPartWhere None Q
 none_where P Q more none = record {
   kept = λ k m some way h. none.kept k m some way (more k m some way h);
   only = λ k m some way within. absurd within;
 }
 
--- what a comparison that answers no says
+-- what a comparison with a negative result says
 pub apart : (answer : Bool) (a b : ℕ) → (IsTrue answer → a ≤ b) × (a ≤ b → IsTrue answer) → answer ≡ false → b ≤ a
 apart answer a b is above = le_of_lt (lt_of_not-le (λ most. false≢true (sym above ∙ is.1 most)))
 
--- a part has a first fraction, so there is one exactly where the condition holds somewhere
+-- a part has a first fraction, so there is one exactly if the condition holds somewhere
 pub found_where : (left : Option Part) (Holds : ℕ → ℕ → Type 0) (answer : Bool) → IsPartWhere left Holds → answer ≡ is_some left → (IsTrue answer → SomeFraction Holds) × (SomeFraction Holds → IsTrue answer)
 found_where None Holds answer part is =
     (λ found. absurd (false≢true (sym is ∙ found)), λ some. absurd (part.kept some.k some.m some.whole some.on_the_way some.holds))

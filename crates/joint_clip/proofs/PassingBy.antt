@@ -1,4 +1,4 @@
--- An axis that is past one and the same bound at both ends of a segment is past it all the way.
+-- An axis that is past the same bound at both ends of a segment is past it all the way.
 use Rattle.std.proofs.Common.{◌≤◌, ◌<◌, ℕ, List, length, Option, Some, inl, inr, arith, ℤ, pos, negsuc, ◌-ℤ◌, ◌*ℤ◌, ◌<ℤ◌}
 use Rattle.std.specs.List.{slice_index_or}
 use Rattle.std.proofs.lemmas.Int.{ints}

@@ -1,4 +1,4 @@
--- The crossing of a side, and the two sides of an axis with bounds.
+-- Where a side is crossed, and the two sides of an axis with bounds.
 use Rattle.std.proofs.Common.{◌≡◌, ◌≤◌, ◌+◌, ℕ, arith, ℤ, pos, nat_abs, ◌-ℤ◌, ◌*ℤ◌, ◌≤ℤ◌, ◌<ℤ◌}
 use Rattle.std.proofs.lemmas.Int.{ints}
 use Rattle.rapid_num.specs.declared.shape.Bound.{Bound}
@@ -9,12 +9,12 @@ use Rattle.joint_clip.specs.Sides.{IsInner}
 use Rattle.joint_clip.specs.Touches.{IsWithin, way_at}
 use Rattle.joint_clip.proofs.Ways.{entered, entering, left_by, leaving, way_at-above, way_at-below}
 
--- the fraction is where the side is crossed
+-- the segment crosses the side at this fraction
 pub record IsCrossing (side : Side) (at : Fraction) : Type 0 where
   pub top : at.top ≡ nat_abs side.start
   pub bottom : at.bottom ≡ nat_abs side.start + nat_abs side.end
 
--- a segment that comes from beyond is on the inner side from there on
+-- a segment that starts outside is inside from there on
 pub inner-from : (side : Side) (at : Fraction) (k m : ℕ) → IsCrossing side at → k ≤ m → side.start <ℤ pos 0 → pos 0 ≤ℤ side.end → IsAtMost at.top at.bottom k m → IsInner side k m
 inner-from side at k m crossing way beyond here h =
     record { inner = entering side.start side.end k m way beyond here (rw (← crossing.bottom, ← crossing.top) h.across) }
@@ -23,7 +23,7 @@ pub from-inner : (side : Side) (at : Fraction) (k m : ℕ) → IsCrossing side a
 from-inner side at k m crossing way beyond here h =
     record { across = rw (crossing.top, crossing.bottom) (entered side.start side.end k m way beyond here h.inner) }
 
--- one that goes beyond is on it up to there
+-- one that ends outside is inside up to there
 pub inner-to : (side : Side) (at : Fraction) (k m : ℕ) → IsCrossing side at → k ≤ m → pos 0 ≤ℤ side.start → side.end <ℤ pos 0 → IsAtMost k m at.top at.bottom → IsInner side k m
 inner-to side at k m crossing way here beyond h =
     record { inner = leaving side.start side.end k m way here beyond (rw (← crossing.bottom, ← crossing.top) h.across) }
@@ -32,7 +32,7 @@ pub to-inner : (side : Side) (at : Fraction) (k m : ℕ) → IsCrossing side at 
 to-inner side at k m crossing way here beyond h =
     record { across = rw (crossing.top, crossing.bottom) (left_by side.start side.end k m way here beyond h.inner) }
 
--- an axis that goes from p to q is on the inner side of a low bound, or of a high one, where it is not past it
+-- an axis that goes from p to q is inside a low bound, or a high one, if it is not past it
 pub record IsAbove (low p q : ℤ) (side : Side) : Type 0 where
   pub start : side.start ≡ p -ℤ low
   pub end : side.end ≡ q -ℤ low

@@ -30,7 +30,7 @@ pub way_at-below : (p q high : ℤ) (k m : ℕ) → k ≤ m → way_at (high -�
 way_at-below p q high k m way =
     omega (arith, ints, times-sub high p (m - k), times-sub high q k, times-split high k m way)
 
--- a way between two angles that are on one side of a bound stays there
+-- a way between two angles on the same side of a bound stays on that side
 pub way_at-least : (p q low : ℤ) (k m : ℕ) → k ≤ m → low ≤ℤ p → low ≤ℤ q → (low *ℤ pos m) ≤ℤ way_at p q k m
 way_at-least p q low k m way from to =
     omega (arith, ints, times-le low p (m - k) from, times-le low q k to, times-split low k m way)
@@ -39,7 +39,7 @@ pub way_at-most : (p q high : ℤ) (k m : ℕ) → k ≤ m → p ≤ℤ high →
 way_at-most p q high k m way from to =
     omega (arith, ints, times-le p high (m - k) from, times-le q high k to, times-split high k m way)
 
--- a way that comes from beyond is on the inner side from its crossing on
+-- a way that starts outside is inside from the crossing on
 pub entered : (u v : ℤ) (k m : ℕ) → k ≤ m → u <ℤ pos 0 → pos 0 ≤ℤ v → pos 0 ≤ℤ way_at u v k m → nat_abs u * m ≤ k * (nat_abs u + nat_abs v)
 entered (pos a) v k m way beyond here h = absurd (omega (arith, ints))
 entered (negsuc a) (negsuc b) k m way beyond here h = absurd (omega (arith, ints))
@@ -56,7 +56,7 @@ entering (negsuc a) (pos b) k m way beyond here h =
     let step : suc a * (m - k) ≤ b * k = omega (arith, ap (λ t. suc a * t) parts) in
     omega (arith, ints)
 
--- a way that goes beyond is on the inner side up to its crossing
+-- a way that ends outside is inside up to the crossing
 pub left_by : (u v : ℤ) (k m : ℕ) → k ≤ m → pos 0 ≤ℤ u → v <ℤ pos 0 → pos 0 ≤ℤ way_at u v k m → k * (nat_abs u + nat_abs v) ≤ nat_abs u * m
 left_by (negsuc a) v k m way here beyond h = absurd (omega (arith, ints))
 left_by (pos a) (pos b) k m way here beyond h = absurd (omega (arith, ints))

@@ -1,4 +1,4 @@
--- The shape that a low and a high position make, where 9E9 is no limit.
+-- The shape that a low and a high position make; 9E9 means no limit.
 use Rattle.std.specs.Prelude.{◌&&◌, ◌||◌, Bool, false, not, if◌then◌else◌, ℕ, ℤ, pos, neg_ℤ, int_lt, List, [], ◌∷◌, drop, Option, None, Some, is_some, Result, Ok, Err}
 use Rattle.std.specs.List.{list_any}
 use Rattle.rapid_num.specs.Range.{greatest}
@@ -9,14 +9,14 @@ use Rattle.rapid_num.specs.declared.shape.Shape.{Shape}
 use Rattle.joint_clip.specs.declared.shape_fault.ShapeFault.{ShapeFault}
 use Rattle.joint_clip.specs.declared.shape_fault.ShapeFault.TheVariants as faults
 
--- what is kept of a low and of a high bound: no num passes the least or the greatest one
+-- a low and a high bound as stored: no num is below the least one or above the greatest
 abbrev pub kept_low : ℤ → ℤ
 kept_low low = if is_absent low then neg_ℤ (pos greatest) else low
 
 abbrev pub kept_high : ℤ → ℤ
 kept_high high = if is_absent high then pos greatest else high
 
--- the bounds of an axis, which is named where one of them is a limit
+-- the bounds of an axis, which is named if at least one of them is a limit
 abbrev pub bound_of : ℤ → ℤ → Option Bound
 bound_of low high =
     if is_absent low && is_absent high then None else Some (record { low = kept_low low; high = kept_high high })
@@ -34,7 +34,8 @@ abbrev pub has_no_room : Option Bound → Bool
 has_no_room None = false
 has_no_room (Some bound) = not (int_lt bound.low bound.high)
 
--- the shape for an arm of so many axes: an axis past them is named, or none is or one has no room, or all is well
+-- the shape for an arm with that many axes: `ExtAxis` if an axis past them is named, `ZoneShape` if none is named or
+-- one has no room
 abbrev pub made_shape : Bool → Joints → Joints → ℕ → Result Shape ShapeFault
 made_shape inside low high axes =
     let shape = shape_of inside low high in

@@ -9,15 +9,15 @@ use Rattle.rapid_num.specs.declared.shape.Shape.{Shape}
 abbrev pub way_at : ℤ → ℤ → ℕ → ℕ → ℤ
 way_at p q k m = (p *ℤ pos (m - k)) +ℤ (q *ℤ pos k)
 
--- each axis, from 0, at k/m of the way from p to q, times m
+-- each axis, counted from 0, at k/m of the way from p to q, times m
 abbrev pub point_at : Joints → Joints → ℕ → ℕ → ℕ → ℤ
 point_at p q k m axis = way_at (slice_index_or p.axis axis (pos 0)) (slice_index_or q.axis axis (pos 0)) k m
 
--- an axis, from 0, is named: it has these bounds
+-- an axis, counted from 0, is named: it has these bounds
 abbrev pub Names : List (Option Bound) → ℕ → Bound → Type 0
 Names bounds axis bound = slice_get bounds axis ≡ Some (Some bound)
 
--- x/m is within the bounds, which belong to them
+-- x/m is within the bounds, which are included
 pub record IsWithin (bound : Bound) (x : ℤ) (m : ℕ) : Type 0 where
   pub low : (bound.low *ℤ pos m) ≤ℤ x
   pub high : x ≤ℤ (bound.high *ℤ pos m)
@@ -41,7 +41,7 @@ pub record LiesOutside (bounds : List (Option Bound)) (point : ℕ → ℤ) (m :
 abbrev pub LiesIn : Shape → (ℕ → ℤ) → ℕ → Type 0
 LiesIn shape point m = MatchBool shape.inside (LiesInside shape.bounds point m) (LiesOutside shape.bounds point m)
 
--- at some whole fraction k/m of a segment, from 0 to 1, this holds
+-- this holds at some fraction k/m of a segment, from 0 to 1
 pub record SomeFraction (Holds : ℕ → ℕ → Type 0) : Type 0 where
   pub k : ℕ
   pub m : ℕ

@@ -1,4 +1,4 @@
-//! Inside zones that a segment is beside: where an axis is past a bound at both ends, it is so all the way.
+//! Inside zones that a segment is beside: an axis that is past a bound at both ends is past it all the way.
 
 ghost use Rattle.std.specs.Prelude.{◌↔◌, IsTrue};
 ghost use Rattle.joint_clip.specs.Beside.{IsBeside, PassesBeside};
@@ -6,7 +6,7 @@ ghost use Rattle.joint_clip.specs.Beside.{IsBeside, PassesBeside};
 use rapid_limits::MOST_AXES;
 use rapid_num::{Bound, Joints, Num};
 
-/// Whether some named axis is past one and the same bound at both ends of a segment.
+/// Whether some named axis is past the same bound at both ends of a segment.
 pub(crate) fn passes_beside(p: &Joints, q: &Joints, bounds: &[Option<Bound>; MOST_AXES]) -> bool
     ensures { IsTrue result ↔ PassesBeside bounds.now p.now q.now }
 {
@@ -20,7 +20,7 @@ pub(crate) fn passes_beside(p: &Joints, q: &Joints, bounds: &[Option<Bound>; MOS
     false
 }
 
-/// Whether two angles are past one and the same bound.
+/// Whether two angles are past the same bound.
 fn is_beside(p: Num, q: Num, bound: &Bound) -> bool
     ensures { IsTrue result ↔ IsBeside bound.now p q }
 {

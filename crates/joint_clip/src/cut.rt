@@ -21,7 +21,7 @@ impl Part {
         }
     }
 
-    /// The part where an axis that goes from `p` to `q` is within the bound: `None` exactly where it nowhere is.
+    /// The part where an axis that goes from `p` to `q` is within the bound, or `None` if it nowhere is.
     pub(crate) fn within(self, bound: Bound, p: Num, q: Num) -> Option<Part>
         ensures { IsPartWhere result (λ k m. IsIn self k m × IsWithin bound (way_at p q k m) m) }
     {
@@ -45,7 +45,7 @@ impl Part {
         Some(self)
     }
 
-    /// What is not before a fraction.
+    /// The part from a fraction on.
     fn starting_at(self, first: Fraction) -> Option<Part>
         ensures { IsPartWhere result (λ k m. IsIn self k m × IsAtMost first.top first.bottom k m) }
     {
@@ -55,7 +55,7 @@ impl Part {
         between(first, self.last)
     }
 
-    /// What is not after a fraction.
+    /// The part up to a fraction.
     fn ending_at(self, last: Fraction) -> Option<Part>
         ensures { IsPartWhere result (λ k m. IsIn self k m × IsAtMost k m last.top last.bottom) }
     {

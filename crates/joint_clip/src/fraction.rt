@@ -25,7 +25,7 @@ impl Fraction {
         Fraction { top, bottom }
     }
 
-    /// Whether the fraction is no greater than another one, by the products across, exactly.
+    /// Whether the fraction is at most another one: exact, by cross multiplication.
     pub(crate) fn is_at_most(self, other: Fraction) -> bool
         ensures { IsTrue result ↔ (self.top * other.bottom ≤ other.top * self.bottom) }
     {

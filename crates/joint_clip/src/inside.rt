@@ -1,4 +1,4 @@
-//! Inside zones: a segment that is not beside one is cut by the bounds of one axis after the other.
+//! Inside zones: a segment that is not beside one is cut by the bounds of one axis after another.
 
 ghost use Rattle.std.specs.Prelude.{◌↔◌, IsTrue};
 ghost use Rattle.joint_clip.specs.Touches.{LiesInside, SomeFraction, point_at};

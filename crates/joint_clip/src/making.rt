@@ -8,9 +8,9 @@ use crate::shape_fault::ShapeFault;
 use rapid_limits::MOST_AXES;
 use rapid_num::{Bound, Joints, Num, Shape};
 
-/// The zone inside or outside the bounds of an arm of so many axes, at most twelve, where 9E9 is no limit: `ExtAxis`
-/// exactly where an axis that the arm does not have has a bound, else `ZoneShape` exactly where no axis has one or some
-/// axis has a low bound that is not below its high one (RAPID Instructions: WZLimJointDef).
+/// The zone inside or outside two bound positions, for an arm with that many axes, at most twelve. 9E9 means no limit.
+/// `ExtAxis` exactly if an axis that the arm does not have has a bound; otherwise `ZoneShape` exactly if no axis has a
+/// bound, or some axis has a low bound that is not below its high one (RAPID Instructions: WZLimJointDef).
 pub fn make_shape(
     inside: bool,
     low: &Joints,
@@ -42,7 +42,7 @@ fn bounds_of(lows: &[Num; MOST_AXES], highs: &[Num; MOST_AXES]) -> [Option<Bound
     bounds
 }
 
-/// The bounds of an axis: none where neither is a limit.
+/// The bounds of an axis: `None` if neither is a limit.
 fn bound_of(low: Num, high: Num) -> Option<Bound>
     ensures { result ≡ bound_of low high }
 {
@@ -55,7 +55,7 @@ fn bound_of(low: Num, high: Num) -> Option<Bound>
     })
 }
 
-/// What is kept of a low bound: the least num for 9E9.
+/// A low bound as stored: the least num for 9E9.
 fn kept_low(low: Num) -> Num
     ensures kept { result ≡ kept_low low }
     ensures passed_by_none { IsTrue (is_absent low) → (angle : ℤ) → IsNum angle → result ≤ℤ angle }
@@ -67,7 +67,7 @@ fn kept_low(low: Num) -> Num
     }
 }
 
-/// What is kept of a high bound: the greatest num for 9E9.
+/// A high bound as stored: the greatest num for 9E9.
 fn kept_high(high: Num) -> Num
     ensures kept { result ≡ kept_high high }
     ensures passed_by_none { IsTrue (is_absent high) → (angle : ℤ) → IsNum angle → angle ≤ℤ result }

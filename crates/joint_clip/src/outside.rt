@@ -1,4 +1,4 @@
-//! Outside zones: where an axis is past a bound on the way, it is so at one of the ends.
+//! Outside zones: an axis that goes past a bound is past it at one of the ends.
 
 ghost use Rattle.std.specs.Prelude.{◌↔◌, IsTrue};
 ghost use Rattle.joint_clip.specs.Touches.{LiesOutside, SomeFraction, IsBeyond, point_at, way_at};
@@ -20,14 +20,14 @@ pub(crate) fn passes_outside(p: &Joints, q: &Joints, bounds: &[Option<Bound>; MO
     false
 }
 
-/// Whether an axis that goes from `p` to `q` is past one of the bounds on the way.
+/// Whether an axis that goes from `p` to `q` is past one of the bounds somewhere.
 fn passes_beyond(p: Num, q: Num, bound: &Bound) -> bool
     ensures { IsTrue result ↔ SomeFraction (λ k m. IsBeyond bound.now (way_at p q k m) m) }
 {
     is_beyond(p, bound) || is_beyond(q, bound)
 }
 
-/// Whether an angle is past one of the bounds, which belong to what is within them.
+/// Whether an angle is past one of the bounds; the bounds themselves are within.
 fn is_beyond(angle: Num, bound: &Bound) -> bool
     ensures { IsTrue result ↔ IsBeyond bound.now angle 1 }
 {

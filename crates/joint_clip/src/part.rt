@@ -2,7 +2,7 @@ ghost use Rattle.std.specs.Prelude.{◌≤◌, ◌*◌};
 
 use crate::fraction::Fraction;
 
-/// A part of a segment that is not empty: what lies between two fractions of the way, both of them in it.
+/// A non-empty part of a segment: everything between two fractions of the way, both included.
 #[derive(Clone, Copy, Debug)]
 pub(crate) struct Part {
     pub(crate) first: Fraction,

@@ -4,8 +4,8 @@ ghost use Rattle.rapid_num.specs.Range.{greatest};
 use crate::fraction::Fraction;
 use rapid_num::Num;
 
-/// How far the two ends of a segment are on the inner side of a bound, in thousandths of a degree: negative where an
-/// end is beyond it.
+/// How far the two ends of a segment are on the inner side of a bound, in thousandths of a degree: negative if the end
+/// is past it.
 #[derive(Clone, Copy, Debug)]
 pub(crate) struct Side {
     pub(crate) start: i64,
@@ -37,7 +37,7 @@ impl Side {
         }
     }
 
-    /// Where a segment of which one end is beyond the bound crosses it.
+    /// Where a segment with one end past the bound crosses it.
     pub(crate) fn crossing(self) -> Fraction
         requires { 1 ≤ nat_abs self.start + nat_abs self.end }
         ensures top { result.top ≡ nat_abs self.start }

@@ -5,9 +5,9 @@ use crate::inside::passes_inside;
 use crate::outside::passes_outside;
 use rapid_num::{Joints, Shape};
 
-/// Whether an arm that goes straight from `p` to `q`, in joint space, comes into a zone on the way: whether some point at
-/// a whole fraction of the segment, its ends among them, lies in the zone. An Inside zone has its bounds, an Outside
-/// zone does not (RAPID Instructions: WZLimJointDef, WZLimSup). Takes no memory.
+/// Whether an arm that moves straight from `p` to `q` in joint space enters a zone: whether some point at a fraction of
+/// the segment, ends included, lies in the zone. An Inside zone includes its bounds, an Outside zone does not (RAPID
+/// Instructions: WZLimJointDef, WZLimSup). Allocates nothing.
 pub fn touches(p: &Joints, q: &Joints, shape: &Shape) -> bool
     ensures { IsTrue result ↔ Touches p.now q.now shape.now }
 {

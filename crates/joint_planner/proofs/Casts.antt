@@ -1,4 +1,4 @@
--- The casts on an axis's way to its setpoint lose nothing.
+-- The casts in the computation of an axis's setpoint lose nothing.
 use Rattle.std.proofs.Common.{◌≡◌, ◌≤◌, ◌<◌, ◌^◌, ℕ, ◌∙◌, arith, ℤ, pos, nat_abs, ◌-ℤ◌, ◌*ℤ◌, FitsSigned, w64, lit<, inl, inr}
 use Rattle.std.specs.Int.{w128}
 use mir.Val.{to_z, of_z}
@@ -32,7 +32,7 @@ way_fits p q j from to small target start part =
     let fits_way : FitsSigned w64 ((q -ℤ p) *ℤ pos j) = fits_signed_mul w64 (q -ℤ p) (pos j) 200_000_000 (2 ^ 32) change (omega arith) (lit< tt) in
     rw (target, start, part) (simp (to_z-of_z, fits_p, fits_q, fits_change, fits_j) fits_way)
 
--- and the call of `round_ratio` at 128 bits
+-- the call of `round_ratio` at 128 bits
 pub moved_is : (p q : ℤ) (j n : ℕ) {a b i w m k : ℤ} → nat_abs p ≤ 100_000_000 → nat_abs q ≤ 100_000_000 → j < 2 ^ 32 → n < 2 ^ 32 → b ≡ q → a ≡ p → i ≡ pos j → k ≡ pos n → w ≡ to_z w64 (of_z w64 (to_z w64 (of_z w64 (to_z w64 (of_z w64 b) -ℤ to_z w64 (of_z w64 a))) *ℤ to_z w64 (of_z w64 i))) → m ≡ rounded_ratio (to_z w128 (of_z w128 w)) (nat_abs (to_z w128 (of_z w128 k))) → m ≡ rounded_ratio ((q -ℤ p) *ℤ pos j) n
 moved_is p q j n {w = w} from to small few target start part count way moved =
     let way_at : w ≡ (q -ℤ p) *ℤ pos j = (rw (target, start, part) at way) ∙ way_is p q j from to small in
@@ -41,7 +41,7 @@ moved_is p q j n {w = w} from to small few target start part count way moved =
     let fits_way : FitsSigned w128 ((q -ℤ p) *ℤ pos j) = fits_signed_mul w128 (q -ℤ p) (pos j) 200_000_000 (2 ^ 32) change (omega arith) (lit< tt) in
     simp (to_z-of_z, fits_n, fits_way) at (rw (way_at, count) at moved)
 
--- what has been moved is no more than the way
+-- the distance so far is at most the whole distance
 moved_small : (p q : ℤ) (j n : ℕ) → nat_abs p ≤ 100_000_000 → nat_abs q ≤ 100_000_000 → 1 ≤ n → j ≤ n → nat_abs (rounded_ratio ((q -ℤ p) *ℤ pos j) n) ≤ 200_000_000
 moved_small p q j n from to some part =
     elim (rounded_ratio-on_way (q -ℤ p) j n some part).between [ inl up ↦ omega (arith, ints) | inr down ↦ omega (arith, ints) ]

@@ -1,4 +1,4 @@
--- The definitions on moves worked by hand.
+-- The definitions on moves worked out by hand.
 use Rattle.std.proofs.Common.{◌≡◌, refl, [], ◌∷◌, ℤ, pos, negsuc, replicate, ◌++◌}
 use Rattle.rapid_num.specs.declared.joints.Joints.{Joints}
 use Rattle.joint_planner.specs.Setpoints.{setpoint_count, setpoint, greatest_change, step_of}
@@ -10,7 +10,7 @@ angles a b c = record { axis = (a ∷ b ∷ c ∷ pos 0 ∷ pos 0 ∷ pos 0 ∷ 
 abbrev zero_angles : Joints
 zero_angles = angles (pos 0) (pos 0) (pos 0)
 
--- two and a half degrees at one degree a setpoint: 0.8333, 1.6666 and 2.5
+-- two and a half degrees at one degree per setpoint: 0.8333, 1.6666 and 2.5
 abbrev turned : Joints
 turned = angles (pos 2500) (pos 0) (pos 0)
 
@@ -30,7 +30,7 @@ turned_last : setpoint 6 zero_angles turned 3 3 ≡ turned
 unfolding step_of
 turned_last = refl
 
--- half a thousandth rounds away from zero, on either side
+-- half a thousandth rounds away from zero, on both sides
 abbrev halves : Joints
 halves = angles (pos 2000) (pos 1) (negsuc 0)
 
@@ -46,7 +46,7 @@ halves_last : setpoint 6 zero_angles halves 2 2 ≡ halves
 unfolding step_of
 halves_last = refl
 
--- a move to where the arm is has one setpoint
+-- a move to the current position has one setpoint
 still_count : setpoint_count 6 zero_angles zero_angles 1000 ≡ 1
 unfolding greatest_change
 still_count = refl
@@ -55,12 +55,12 @@ still_only : setpoint 6 zero_angles zero_angles 1 1 ≡ zero_angles
 unfolding step_of
 still_only = refl
 
--- external axes stay, whatever the target says of them
+-- external axes do not move, whatever the target says
 external_stay : setpoint 6 zero_angles (record { axis = pos 2500 ∷ replicate 11 (pos 0) }) 3 3 ≡ turned
 unfolding step_of
 external_stay = refl
 
--- an arm with seven axes moves the seventh one too, which may need the most setpoints
+-- an arm with seven axes moves the seventh too, which may need the most setpoints
 abbrev seven : ℤ → ℤ → Joints
 seven a g = record { axis = (a ∷ pos 0 ∷ pos 0 ∷ pos 0 ∷ pos 0 ∷ pos 0 ∷ g ∷ []) ++ replicate 5 (pos 9_000_000_000_000) }
 

@@ -24,7 +24,7 @@ greatest_change_more (suc k) (p ∷ ps) (q ∷ qs) d e from to =
     let rest = greatest_change_more k ps qs d e (omega arith) (omega arith) in
     omega arith
 
--- an axis is within 100,000 degrees where it is one of some that are in reach
+-- an axis is within 100,000 degrees if it is one of those that are in reach
 pub reach_at : (axis axes k : ℕ) (ps : List ℤ) (d : ℤ) → IsTrue (are_in_reach axis (take axes ps)) → k < axes → k < length ps → nat_abs (get_or ps k d) ≤ 100_000_000
 reach_at axis zero k ps d all inside long = absurd (omega arith)
 reach_at axis (suc axes) k [] d all inside long = absurd (omega arith)

@@ -1,4 +1,4 @@
--- A rounded part of a way lies on the way.
+-- A rounded part of a distance lies on the way.
 use Rattle.std.proofs.Common.{◌≡◌, ℕ, zero, suc, ◌+◌, ◌*◌, ◌/◌, ◌%◌, ◌-◌, ◌≤◌, ◌<◌, ap, sym, add-one, ◌∙◌, arith, ℤ, pos, negsuc, ◌+ℤ◌, ◌-ℤ◌, ◌*ℤ◌, neg_ℤ, nat_abs, ◌≤ℤ◌, ◌⊎◌, inl, inr}
 use Rattle.std.proofs.Math.Nat.{mul-le-mul_left}
 use Rattle.std.specs.Int.{div_ceil}
@@ -30,7 +30,7 @@ rounded_ratio-neg zero n some =
     ap (λ t. pos t) none ∙ ap (λ t. neg_ℤ (pos t)) (sym none)
 rounded_ratio-neg (suc m) n some = ap (λ t. neg_ℤ (pos (rounded t n))) (add-one m)
 
--- a rounded part of the way to z is on that way
+-- a rounded part of the way to z lies on the way
 pub rounded_ratio-on_way : (z : ℤ) (j n : ℕ) → 1 ≤ n → j ≤ n → IsOnWay z (rounded_ratio (z *ℤ pos j) n)
 rounded_ratio-on_way (pos a) j n some part =
     let at_most = rounded-part_le a j n some part in
@@ -44,12 +44,12 @@ pub rounded_ratio-whole : (z : ℤ) (n : ℕ) → 1 ≤ n → rounded_ratio (z *
 rounded_ratio-whole (pos a) n some = ap (λ t. pos t) (rounded-whole a n some)
 rounded_ratio-whole (negsuc a) n some = rounded_ratio-neg (suc a * n) n some ∙ ap (λ t. neg_ℤ (pos t)) (rounded-whole (suc a) n some)
 
--- what lies on the way between two numbers is no larger than they are
+-- a number between two others is no larger than they are
 pub nat_abs-on_way : (p q r : ℤ) (most : ℕ) → nat_abs p ≤ most → nat_abs q ≤ most → IsOnWay (q -ℤ p) r → nat_abs (p +ℤ r) ≤ most
 nat_abs-on_way p q r most from to way =
     elim way.between [ inl up ↦ omega (arith, ints) | inr down ↦ omega (arith, ints) ]
 
--- a quotient rounded up
+-- a quotient, rounded up
 pub div_ceil_is : (x y : ℕ) → 1 ≤ y → div_ceil x y ≡ (x + (y - 1)) / y
 div_ceil_is x y some =
     elim (cases_eq (x % y) 0) [

@@ -1,4 +1,4 @@
--- What every setpoint of a joint move keeps.
+-- What holds of every setpoint of a joint move.
 use Rattle.std.proofs.Common.{◌≡◌, ◌≤◌, ◌+◌, ◌==◌, ◌&&◌, ℕ, Bool, true, false, lit≤, zero, suc, IsTrue, refl, ap, ◌∙◌, arith, List, [], ◌∷◌, length, take, drop, ℤ, pos, nat_abs, ◌+ℤ◌, ◌-ℤ◌, ◌*ℤ◌}
 use Rattle.std.specs.Prelude.{nat_le, nat_lt, if◌then◌else◌}
 use Rattle.std.specs.List.{list_all}
@@ -35,7 +35,7 @@ reach_small axis angle reach =
     least : (reach : ℕ) → nat_abs angle ≤ reach → reach ≤ 100_000_000 → nat_abs angle ≤ 100_000_000
     least reach size most = omega arith
 
--- an axis stays in reach on the way between two angles in reach
+-- an axis stays in reach between two angles in reach
 pub reach_on_way : (axis : ℕ) (p q : ℤ) (j n : ℕ) → IsTrue (is_in_reach axis p) → IsTrue (is_in_reach axis q) → 1 ≤ n → j ≤ n → IsTrue (is_in_reach axis (p +ℤ rounded_ratio ((q -ℤ p) *ℤ pos j) n))
 reach_on_way axis p q j n from to some part =
     le-to_test _ (reach_of axis) (nat_abs-on_way p q _ (reach_of axis) (le-from_test (nat_abs p) (reach_of axis) from) (le-from_test (nat_abs q) (reach_of axis) to) (rounded_ratio-on_way (q -ℤ p) j n some part))
@@ -59,7 +59,7 @@ length-step_of (suc axes) [] (q ∷ qs) n j = refl
 length-step_of (suc axes) (p ∷ ps) [] n j = refl
 length-step_of (suc axes) (p ∷ ps) (q ∷ qs) n j = ap suc (length-step_of axes ps qs n j)
 
--- the other axes stay
+-- the other axes do not move
 pub drop-step_of : (axes : ℕ) (ps qs : List ℤ) (n j : ℕ) → drop axes (step_of axes ps qs n j) ≡ drop axes ps
 unfolding step_of
 drop-step_of zero ps qs n j = refl
@@ -86,7 +86,7 @@ take-step_of_last (suc axes) (p ∷ ps) (q ∷ qs) n from to some =
 pub setpoint_reach : (axes : ℕ) (p q : Joints) (n j : ℕ) → IsTrue (is_reachable axes p) → IsTrue (is_reachable axes q) → 1 ≤ j → j ≤ n → IsTrue (is_reachable axes (setpoint axes p q n j))
 setpoint_reach axes p q n j from to first last = step_of-reach 0 axes p.axis q.axis n j from to (omega arith) last
 
--- from a position each setpoint is one
+-- from a position, each setpoint is a position
 pub setpoint_position : (axes : ℕ) (p q : Joints) (n j : ℕ) → IsTrue (is_position axes p) → IsTrue (is_reachable axes q) → 1 ≤ j → j ≤ n → IsTrue (is_position axes (setpoint axes p q n j))
 setpoint_position axes p q n j from to first last =
     let start = and_parts (length p.axis == 12 && is_reachable axes p) (list_all is_absent (drop axes p.axis)) from in

@@ -5,7 +5,7 @@ ghost use Rattle.rapid_num.specs.Reach.{is_reachable};
 use rapid_limits::{EXTERNAL_REACH, MOST_AXES};
 use rapid_num::{Joints, Num};
 
-/// The greatest change of the first axes, so many, in thousandths of a degree.
+/// The greatest change among the first `axes` axes, in thousandths of a degree.
 pub(crate) fn greatest_change(start: &Joints, target: &Joints, axes: usize) -> u64
     requires axes { axes ≤ MOST_AXES }
     requires start { IsTrue (is_reachable axes start.now) }
@@ -20,7 +20,7 @@ pub(crate) fn greatest_change(start: &Joints, target: &Joints, axes: usize) -> u
     greatest
 }
 
-/// How far an axis moves, either way.
+/// How far an axis moves, in either direction.
 fn change_of(start: Num, target: Num) -> u64
     requires start { nat_abs start ≤ EXTERNAL_REACH }
     requires target { nat_abs target ≤ EXTERNAL_REACH }

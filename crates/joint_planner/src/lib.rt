@@ -1,4 +1,4 @@
-//! The setpoints of a joint move, each computed when it is asked for.
+//! The setpoints of a joint move, each computed on demand.
 #![tactic(auto)]
 
 mod change;

@@ -4,7 +4,7 @@ ghost use Rattle.rapid_num.specs.Arithmetic.{rounded_ratio};
 use rapid_limits::EXTERNAL_REACH;
 use rapid_num::{Num, round_ratio};
 
-/// Where an axis, within 100,000 degrees at both ends, is after `j` of `count` setpoints from `start` to `target`.
+/// The angle of an axis, within 100,000 degrees at both ends, after `j` of `count` setpoints from `start` to `target`.
 pub(crate) fn part_of_way(start: Num, target: Num, j: u32, count: u32) -> Num
     requires start { nat_abs start ≤ EXTERNAL_REACH }
     requires target { nat_abs target ≤ EXTERNAL_REACH }
@@ -15,7 +15,7 @@ pub(crate) fn part_of_way(start: Num, target: Num, j: u32, count: u32) -> Num
     Num::new(start.thousandths() + moved(start, target, j, count)).unwrap()
 }
 
-/// How far an axis has moved by then, in thousandths.
+/// How far an axis has moved after `j` of `count` setpoints, in thousandths.
 fn moved(start: Num, target: Num, j: u32, count: u32) -> i64
     requires start { nat_abs start ≤ EXTERNAL_REACH }
     requires target { nat_abs target ≤ EXTERNAL_REACH }

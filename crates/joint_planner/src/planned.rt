@@ -6,8 +6,8 @@ use crate::part::part_of_way;
 use rapid_num::Joints;
 use std::marker::Model;
 
-/// A joint move under way: from where, to where, in how many setpoints, and how many axes the arm has. Contracts see it as
-/// these four.
+/// A joint move: its start, its target, the number of setpoints, and how many axes the arm has. Contracts see these
+/// four.
 #[derive(Debug, Drop)]
 pub struct Plan {
     pub(crate) start: Joints,
@@ -27,7 +27,7 @@ impl Model for Plan {
 }
 
 impl Plan {
-    /// How many setpoints the move has, at least 1.
+    /// The number of setpoints of the move, at least 1.
     pub fn count(&self) -> u32
         ensures same { result ≡ self.now.count }
         ensures at_least_one { 1 ≤ result }
@@ -35,14 +35,14 @@ impl Plan {
         self.count
     }
 
-    /// Setpoint `j`, from 1: on the arm's axes the nearest thousandth to that part of the way, halves away from zero, and
-    /// on the last setpoint the target's. The other axes stay where they are.
+    /// Setpoint `j`, counted from 1: each of the arm's axes at the thousandth nearest to that part of its way, halves
+    /// away from zero, and in the last setpoint at the target. The other axes do not move.
     pub fn at(&self, j: u32) -> Joints
         requires first { 1 ≤ j }
         requires last { j ≤ self.now.count }
         ensures setpoint { result ≡ setpoint self.now.axes self.now.start self.now.target self.now.count j }
 
-        // It is in reach again, a position where the start is one, and at the end on the arm's axes the target.
+        // It is in reach, a position if the start is one, and in the end the target on the arm's axes.
         ensures reach { IsTrue (is_reachable self.now.axes result) }
         ensures position { IsTrue (is_position self.now.axes self.now.start) → IsTrue (is_position self.now.axes result) }
         ensures last_is_target { j ≡ self.now.count → take self.now.axes result.axis ≡ take self.now.axes self.now.target.axis }

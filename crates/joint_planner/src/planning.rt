@@ -7,8 +7,8 @@ use crate::planned::Plan;
 use rapid_limits::MOST_AXES;
 use rapid_num::Joints;
 
-/// Plans a move of an arm with so many axes by at most `cap` thousandths of a degree an axis and setpoint (own motion
-/// profile; RAPID Instructions: MoveAbsJ). Takes no memory.
+/// Plans a move of an arm with that many axes by at most `cap` thousandths of a degree per axis and setpoint (this
+/// product's own motion profile; RAPID Instructions: MoveAbsJ). Allocates nothing.
 pub fn plan(start: &Joints, target: &Joints, cap: i64, axes: usize) -> Plan
     requires cap { pos 1 ≤ℤ cap }
     requires axes { axes ≤ MOST_AXES }

@@ -13,7 +13,8 @@ use Rattle.machine_stacks.specs.declared.run_start.RunStart.{RunStart}
 abbrev m : ℕ → Datum
 m number = datums.Mark number
 
--- four data, of which the first is an operand of the outermost routine, the next none, and the last three of the innermost
+-- four data: the first is an operand of the outermost routine, the next routine has none, and the last three are of the
+-- innermost
 
 abbrev four : List Datum
 four = m 1 ∷ m 2 ∷ m 3 ∷ m 4 ∷ []

@@ -1,4 +1,4 @@
--- Frames whose values stand one behind the other.
+-- Frames whose values stand one after the other.
 use Rattle.std.proofs.Common.{◌≡◌, ℕ, suc, ◌+◌, ◌-◌, ◌≤◌, List, [], ◌∷◌, ◌++◌, length, reverse, take, drop, refl, sym, ap, subst, ◌∙◌, arith}
 use Rattle.std.proofs.lemmas.List.{length-take-le, length-drop, length-append, length-reverse, reverse-append}
 use Rattle.std.proofs.lemmas.List.Sums.{sum_by-cons}
@@ -34,7 +34,7 @@ length-frame top own args h =
     let all : length (reverse (take args top) ++ own) ≡ length (reverse (take args top)) + length own = length-append (reverse (take args top)) own in
     omega arith
 
--- one more frame, whose values stand behind those of the others
+-- one more frame, whose values stand after those of the others
 pub frames_in-more : (values own all : List Datum) (marks : List Mark) (base : ℕ) → base ≡ length values → all ≡ values ++ own
     → frames_in all (reverse (marks ++ record { base = base; seen = 0 } ∷ [])) ≡ record { values = own; seen = 0 } ∷ frames_in values (reverse marks)
 frames_in-more values own all marks base b a =

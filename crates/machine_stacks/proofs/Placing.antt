@@ -14,7 +14,7 @@ use Rattle.machine_stacks.specs.FrameStack.{bases_of, end_of, frames_in, index_b
 use Rattle.machine_stacks.specs.declared.mark.Mark.{Mark}
 use Rattle.machine_stacks.proofs.Framing.{length-frames_in}
 
--- where a test chooses an index
+-- an index chosen by a test
 
 chosen : (t : Bool) (q p : ℕ) → (if t then Some q else None) ≡ Some p → (t ≡ true) × (q ≡ p)
 chosen true q p e = (refl, cc)
@@ -95,7 +95,7 @@ pub length-written : (o : Option ℕ) (new : Datum) (values : List Datum) → le
 length-written None new values = refl
 length-written (Some p) new values = length-set values p new
 
--- the values of a frame and those below, once a datum is written behind its base
+-- the values of a frame and those below, once a datum is written from its base on
 written_behind : (values : List Datum) (base at : ℕ) (new : Datum)
     → (drop base (written (index_behind base (length values) at) new values) ≡ slice_set (drop base values) at new) × (take base (written (index_behind base (length values) at) new values) ≡ take base values)
 written_behind values base at new =
@@ -137,7 +137,7 @@ index_later : (len : ℕ) (mark : Mark) (marks : List Mark) (frame at : ℕ) →
 unfolding index_in
 index_later len mark marks frame at e = rw e refl
 
--- frames with the same marks, of two lists that agree behind the last mark and whose beginnings have frames that are known
+-- frames with the same marks, of two lists that agree from the last mark on and whose beginnings have known frames
 frames_of_parts : (values : List Datum) (mark : Mark) (marks : List Mark) (own : List Datum) (below : List Frame)
     → drop mark.base values ≡ own → frames_in (take mark.base values) marks ≡ below → frames_in values (mark ∷ marks) ≡ record { values = own; seen = mark.seen } ∷ below
 frames_of_parts values mark marks own below e d = rw (e, d) refl

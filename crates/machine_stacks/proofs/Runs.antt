@@ -58,7 +58,7 @@ taken left count datum more =
           rw m (ap (λ n. take n (replicate count datum ++ more)) e ∙ take-append-add (replicate count datum) more (left - count))
     ]
 
--- one run of those that a frame begins with
+-- one run of the first values of a frame
 pub one_run : (left skip passed count : ℕ) (firsts : List FirstRun) (run : ℕ) (first : FirstRun)
     → run < length firsts → first ≡ get_or firsts run first → passed ≡ min skip first.count → count ≡ min left (first.count - passed)
     → take left (drop skip (in_full (drop run firsts))) ≡ replicate count first.datum ++ take (left - count) (drop (skip - passed) (in_full (drop (run + 1) firsts)))
@@ -72,7 +72,7 @@ one_run left skip passed count firsts run first h is p t =
     ∙ ap (take left) (skipped skip first.count first.datum more)
     ∙ taken left (first.count - min skip first.count) first.datum (drop (skip - min skip first.count) more))
 
--- there is room for a run where there is room for all that is left
+-- there is room for a run if there is room for all that is left
 pub room_for : (now before own more : List Datum) (count : ℕ) (datum : Datum) → now ++ (replicate count datum ++ more) ≡ before ++ own → length now + count ≤ length before + length own
 room_for now before own more count datum e =
     let whole : length (now ++ (replicate count datum ++ more)) ≡ length (before ++ own) = ap length e in

@@ -1,4 +1,4 @@
--- Operands of routines that lie one behind the other.
+-- Operands of routines that lie one after the other.
 use Rattle.std.proofs.Common.{◌≡◌, ◌≢◌, ℕ, suc, ◌+◌, ◌-◌, ◌<◌, ◌≤◌, List, [], ◌∷◌, ◌++◌, length, reverse, take, drop, sum_by, slice_set, refl, sym, ap, ◌∙◌, arith}
 use Rattle.std.proofs.lemmas.List.{drop_all, set_split, take-set-le, take-append-drop, drop-append-le, take-append-le, length-take-le, length-drop, length-reverse, reverse-append, reverse-reverse}
 use Rattle.std.proofs.lemmas.List.Sums.{sum_by-cons}
@@ -27,7 +27,7 @@ pub length-stacked : (items : List Datum) (bases : List ℕ) → length (stacked
 length-stacked items [] = refl
 length-stacked items (base ∷ bases) = ap (λ n. suc n) (length-stacked (take base items) bases)
 
--- what lies behind a base, up to an index and from there on
+-- what lies from a base up to an index, and from there on
 split_behind : (items : List Datum) (base at : ℕ) → base ≤ at → at ≤ length items → drop base items ≡ drop base (take at items) ++ drop at items
 split_behind items base at h k =
     let len : length (take at items) ≡ at = length-take-le at items k in
@@ -42,7 +42,7 @@ top_taken items base at count h k =
     ∙ ap (take count) (reverse-append (drop base (take at items)) (drop at items))
     ∙ rw (← len) (take-append_seam (reverse (drop at items)) (reverse (drop base (take at items))))
 
--- and the other one is what is left
+-- and the other part is what is left
 pub top_left : (items : List Datum) (base at count : ℕ) → base ≤ at → at + count ≡ length items → drop count (reverse (drop base items)) ≡ reverse (drop base (take at items))
 top_left items base at count h k =
     let len : length (reverse (drop at items)) ≡ count = let a : length (reverse (drop at items)) ≡ length items - at = length-reverse (drop at items) ∙ length-drop at items in omega arith in
@@ -68,7 +68,7 @@ pub same_stack : (a b : List Datum) (x y : List (List Datum)) (m n depth : ℕ) 
 same_stack a b x y m n depth top below room =
     ap (λ t. stack_of t x m depth) top ∙ ap (λ u. stack_of b u m depth) below ∙ ap (λ r. stack_of b y r depth) room
 
--- where there is an operand, it lies behind the base
+-- an operand that is there lies from the base on
 top_within : (items : List Datum) (base : ℕ) → reverse (drop base items) ≢ [] → base < length items
 top_within items base some = by (drop base items) (length-drop base items) some
   where

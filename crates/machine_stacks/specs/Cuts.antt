@@ -1,4 +1,4 @@
--- Lists that lie one behind the other in one list, and the indexes at which they begin, that of the last list first.
+-- Lists that lie one after the other in one list, and the indexes at which they begin, that of the last list first.
 use Rattle.std.specs.Prelude.{ℕ, ◌≡◌, ◌≤◌, List, [], ◌∷◌}
 
 -- in a list of this length the first begins at 0, and each begins where the one below it ends

@@ -1,11 +1,11 @@
--- The data of the routines under way.
+-- The data of the active routines.
 use Rattle.std.specs.Prelude.{ℕ, ◌+◌, ◌-◌, ◌==◌, nat_lt, List, [], ◌∷◌, length, map, take, drop, slice_get, slice_set, Option, None, Some, if◌then◌else◌}
 use Rattle.std.specs.Option.{option_map_or}
 use Rattle.typed_trees.specs.declared.datum.Datum.{Datum}
 use Rattle.rapid_meaning.specs.Data.{Frame}
 use Rattle.machine_stacks.specs.declared.mark.Mark.{Mark}
 
--- the frames, the innermost first, and for how many values in all and for how many frames there is room
+-- the frames, the innermost first, and the room for values in all and for frames
 pub record FrameStack : Type 0 where
   pub frames : List Frame
   pub room : ℕ
@@ -14,12 +14,12 @@ pub record FrameStack : Type 0 where
 abbrev pub bases_of : List Mark → List ℕ
 bases_of marks = map (λ mark. mark.base) marks
 
--- the frames whose values stand one behind the other in a list; the marks, the innermost first, tell where each begins
+-- the frames whose values stand one after the other in a list; the marks, the innermost first, say where each begins
 abbrev pub frames_in : List Datum → List Mark → List Frame
 frames_in values [] = []
 frames_in values (mark ∷ marks) = record { values = drop mark.base values; seen = mark.seen } ∷ frames_in (take mark.base values) marks
 
--- where the values of a frame stand that begins at an index, in a list of this length
+-- where the values of a frame that begins at an index stand, in a list of this length
 abbrev pub index_behind : ℕ → ℕ → ℕ → Option ℕ
 index_behind base len at = if nat_lt at (len - base) then Some (base + at) else None
 

@@ -7,8 +7,8 @@ use crate::run_start::RunStart;
 use stack_code::FirstRun;
 use typed_trees::Datum;
 
-/// Appends copies of so many first values from a start on, or of all from there on where they are fewer. Takes no memory, and
-/// a time in proportion to their number.
+/// Appends copies of `count` first values from a start on, or of all of them if there are fewer. Does not allocate;
+/// takes time proportional to their number.
 pub fn append_firsts(values: &mut Vec<Held>, firsts: &[FirstRun], start: RunStart, count: usize)
     requires room { vec_len values.old + length (values_from firsts.now start count) ≤ vec_capacity values.old }
     ensures appended { values.new.items ≡ values.old.items ++ values_from firsts.now start count }
@@ -28,7 +28,7 @@ pub fn append_firsts(values: &mut Vec<Held>, firsts: &[FirstRun], start: RunStar
     }
 }
 
-/// Appends so many copies of a datum. Takes no memory.
+/// Appends `count` copies of a datum. Does not allocate.
 fn append_alike(values: &mut Vec<Held>, datum: &Datum, count: usize)
     requires room { vec_len values.old + count ≤ vec_capacity values.old }
     ensures appended { values.new.items ≡ values.old.items ++ replicate count datum.now }

@@ -16,8 +16,8 @@ use stack_code::FirstRun;
 use std::alloc::{AllocError, Global};
 use std::marker::Model;
 
-/// The data of a task's routines under way. Contracts see their frames, the innermost first, and for how many values in all
-/// and for how many frames there is room.
+/// The data of a task's active routines. Contracts see their frames, the innermost first, and the room for values in
+/// all and for frames.
 #[derive(Debug, Drop)]
 pub struct Frames {
     values: Vec<Held>,
@@ -39,7 +39,7 @@ impl Model for Frames {
 }
 
 impl Frames {
-    /// No frame, and room for so many values in all and for so many frames. Its error says that memory was refused.
+    /// No frames, with room for `room` values in all and for `depth` frames. Fails only if an allocation fails.
     pub fn new(alloc: Global, room: usize, depth: usize) -> Result<Frames, AllocError>
         ensures { IfOk result (λ f. f ≡ record { frames = []; room = room; depth = depth }) }
     {
@@ -48,22 +48,22 @@ impl Frames {
         Ok(Frames { values, marks })
     }
 
-    /// How many values all frames have.
+    /// The number of values of all frames.
     pub fn values(&self) -> usize
         ensures { result ≡ values_in self.now.frames }
     {
         self.values.len()
     }
 
-    /// How many frames there are.
+    /// The number of frames.
     pub fn count(&self) -> usize
         ensures { result ≡ length self.now.frames }
     {
         self.marks.len()
     }
 
-    /// A routine begins. Its frame has so many operands from the top as its parameters, in the order in which they were pushed,
-    /// and behind them copies of so many first values from a start on. Takes no memory, and a time in proportion to the values.
+    /// Begins a routine. The operands on top become its parameters, in the order in which they were pushed; copies of
+    /// its own first values, from a start on, follow. Does not allocate; takes time proportional to the values.
     pub fn enter(
         &mut self,
         operands: &mut Operands,
@@ -84,7 +84,7 @@ impl Frames {
         self.marks.push_reserved(Mark { base, seen: 0 });
     }
 
-    /// The innermost frame is dropped, if there is any.
+    /// Drops the innermost frame, if there is one.
     pub fn leave(&mut self)
         ensures { self.new ≡ record self.old { frames = below_first self.old.frames } }
     {
@@ -93,7 +93,7 @@ impl Frames {
         }
     }
 
-    /// How many changes by others the last Look of the innermost frame found; 0 without a frame.
+    /// The number of changes by others that the last Look of the innermost frame found; 0 without a frame.
     pub fn seen(&self) -> u32
         ensures { result ≡ seen_in self.now.frames }
     {
@@ -103,7 +103,7 @@ impl Frames {
         }
     }
 
-    /// A Look of the innermost frame found so many changes by others.
+    /// Records how many changes by others a Look of the innermost frame found.
     pub fn set_seen(&mut self, seen: u32)
         ensures { self.new ≡ record self.old { frames = with_seen seen self.old.frames } }
     {
@@ -113,8 +113,7 @@ impl Frames {
         }
     }
 
-    /// A value of a frame, by the number of frames below it and the index of the value in it; none where the frame has
-    /// none there.
+    /// A value of a frame, by the number of frames below it and its index in the frame; none if there is none.
     pub fn get(&self, frame: usize, at: usize) -> Option<&Held>
         ensures { option_copied result ≡ option_and_then (λ f. slice_get f.values at) (frame_at self.now.frames frame) }
     {
@@ -122,8 +121,8 @@ impl Frames {
         value_at(&self.values, index)
     }
 
-    /// Puts a value in place of another of a frame, by the number of frames below it and the index in it. Where the
-    /// frame has none there nothing changes.
+    /// Replaces a value of a frame, by the number of frames below it and its index in the frame. Changes nothing if
+    /// there is none.
     pub fn put(&mut self, frame: usize, at: usize, datum: Held)
         ensures { self.new ≡ record self.old { frames = put_in_frame self.old.frames frame at datum (frame_at self.old.frames frame) } }
     {
@@ -131,8 +130,8 @@ impl Frames {
         write_at(&mut self.values, index, datum);
     }
 
-    /// Puts a num in place of a value of a frame, by the number of frames below it and the index in it. Where the
-    /// frame has none there nothing changes; where it has a num there, no more than the num is written.
+    /// Replaces a value of a frame by a num, by the number of frames below it and its index in the frame. Changes
+    /// nothing if there is none; over a num it writes only the num.
     pub fn put_num(&mut self, frame: usize, at: usize, number: Num)
         ensures { self.new ≡ record self.old { frames = put_in_frame self.old.frames frame at (Plain (values.Num number)) (frame_at self.old.frames frame) } }
     {

@@ -10,8 +10,8 @@ use rapid_num::{Num, Shape};
 use std::marker::Model;
 use typed_trees::{Datum, Lvalue};
 
-/// What a machine keeps of a datum. All of it lies in place, shapes too, so that a copy takes no memory: 312 bytes. Contracts
-/// see the datum.
+/// A datum as a machine keeps it: 312 bytes, shapes in place, so that a copy does not allocate. Contracts see the
+/// datum.
 #[derive(Debug, Drop)]
 pub struct Held {
     kept: Kept,
@@ -36,7 +36,7 @@ impl Model for Held {
 }
 
 impl Held {
-    /// A datum. Takes no memory.
+    /// Keeps a datum. Does not allocate.
     pub fn of(datum: &Datum) -> Held
         ensures { result ≡ datum.now }
     {
@@ -49,7 +49,7 @@ impl Held {
         }
     }
 
-    /// A value of a type that has values. Takes no memory.
+    /// Keeps a value of a type that has values. Does not allocate.
     pub fn of_value(value: Value) -> Held
         ensures { result ≡ datums.Plain value }
     {
@@ -58,7 +58,7 @@ impl Held {
         }
     }
 
-    /// The number of an interrupt or of a zone; 0 where there is none. Takes no memory.
+    /// Keeps the number of an interrupt or of a zone; 0 if there is none. Does not allocate.
     pub fn of_mark(number: u8) -> Held
         ensures { result ≡ datums.Mark number }
     {
@@ -67,7 +67,7 @@ impl Held {
         }
     }
 
-    /// A shape, once it was defined. Takes no memory.
+    /// Keeps a shape, if it was defined. Does not allocate.
     pub fn of_shape(shape: Option<Shape>) -> Held
         ensures { result ≡ datums.Shape shape }
     {
@@ -76,7 +76,7 @@ impl Held {
         }
     }
 
-    /// What a reference parameter stands for. Takes no memory.
+    /// Keeps what a reference parameter stands for. Does not allocate.
     pub fn of_place(place: Lvalue) -> Held
         ensures { result ≡ datums.Place place }
     {
@@ -85,7 +85,7 @@ impl Held {
         }
     }
 
-    /// An equal datum. Takes no memory.
+    /// An equal datum. Does not allocate.
     pub fn copy(&self) -> Held
         ensures { result ≡ self.now }
     {
@@ -97,7 +97,7 @@ impl Held {
         }
     }
 
-    /// The value; none where it is no value.
+    /// The value; none if it is no value.
     pub fn value(&self) -> Option<&Value>
         ensures { option_copied result ≡ as_value self.now }
     {
@@ -107,7 +107,7 @@ impl Held {
         }
     }
 
-    /// The value, and the datum is gone; none where it is no value.
+    /// The value, taken out of the datum; none if it is no value.
     pub fn into_value(self) -> Option<Value>
         ensures { result ≡ as_value self }
     {
@@ -118,7 +118,7 @@ impl Held {
         }
     }
 
-    /// The num; none where it is no num.
+    /// The num; none if it is no num.
     pub fn num(&self) -> Option<Num>
         ensures { result ≡ as_num self.now }
     {
@@ -128,7 +128,7 @@ impl Held {
         }
     }
 
-    /// The datum is this num now. Where it was a num, no more than that is written.
+    /// Makes the datum this num. Over a num it writes only the num.
     pub fn set_num(&mut self, number: Num)
         ensures { self.new ≡ datums.Plain (values.Num number) }
     {
@@ -138,7 +138,7 @@ impl Held {
         }
     }
 
-    /// The datum is this value now. Where both are nums, no more than the num is written.
+    /// Makes the datum this value. If both are nums it writes only the num.
     pub fn set_value(&mut self, value: Value)
         ensures { self.new ≡ datums.Plain value }
     {
@@ -148,7 +148,7 @@ impl Held {
         }
     }
 
-    /// The number of an interrupt or of a zone; none where it is no such datum.
+    /// The number of an interrupt or of a zone; none if it is no such datum.
     pub fn mark(&self) -> Option<u8>
         ensures { result ≡ as_mark self.now }
     {
@@ -158,7 +158,7 @@ impl Held {
         }
     }
 
-    /// The shape, if it was defined; none where it is no shape, defined or not.
+    /// The shape, if it was defined; none if the datum is no shape.
     pub fn shape(&self) -> Option<Option<Shape>>
         ensures { result ≡ as_shape self.now }
     {
@@ -168,7 +168,7 @@ impl Held {
         }
     }
 
-    /// What the reference parameter stands for; none where it is no such datum.
+    /// What the reference parameter stands for; none if it is no such datum.
     pub fn place(&self) -> Option<Lvalue>
         ensures { result ≡ place_in self.now }
     {

@@ -11,8 +11,8 @@ use crate::mark::Mark;
 use rapid_num::Num;
 use std::mem;
 
-/// Where a value of a frame stands among so many values of all frames, by the number of frames below it and the index in it;
-/// none where the frame has none there.
+/// The index among the values of all frames of a value of one, by the number of frames below it and its index in the
+/// frame; none if there is none.
 pub fn index_at(values: usize, marks: &[Mark], frame: usize, at: usize) -> Option<usize>
     requires { IsCut values (bases_of (reverse marks.now)) }
     ensures { result ≡ index_in values (reverse marks.now) frame at }
@@ -29,7 +29,7 @@ pub fn index_at(values: usize, marks: &[Mark], frame: usize, at: usize) -> Optio
     }
 }
 
-/// Where the frame before the next one ends: where that begins, and the last frame with the values.
+/// Where a frame ends: at the beginning of the next one, or with the values if it is the last.
 fn end_at(values: usize, marks: &[Mark], next: usize) -> usize
     ensures { result ≡ end_of values marks.now next }
 {
@@ -49,7 +49,7 @@ pub fn value_at(values: &[Held], index: Option<usize>) -> Option<&Held>
     }
 }
 
-/// Puts a value at an index, if there is one. Takes no memory.
+/// Writes a value at an index, if there is one. Does not allocate.
 pub fn write_at(values: &mut Vec<Held>, index: Option<usize>, datum: Held)
     requires { IfSome index (λ p. p < vec_len values.old) }
     ensures items { values.new.items ≡ written index datum values.old.items }
@@ -61,7 +61,7 @@ pub fn write_at(values: &mut Vec<Held>, index: Option<usize>, datum: Held)
     }
 }
 
-/// Puts a num at an index, if there is one. Takes no memory.
+/// Writes a num at an index, if there is one. Does not allocate.
 pub fn write_num_at(values: &mut Vec<Held>, index: Option<usize>, number: Num)
     requires { IfSome index (λ p. p < vec_len values.old) }
     ensures items { values.new.items ≡ written index (Plain (OfNum number)) values.old.items }

@@ -1,5 +1,5 @@
-//! The stores of a machine that runs stack code: the operands and the data of all routines under way. Each takes all its room
-//! as it is made, and none later.
+//! The memory of a machine that runs stack code: the operands and the data of all active routines. All of it is
+//! allocated when the machine is made.
 #![tactic(auto)]
 
 mod first_values;

@@ -1,4 +1,4 @@
-/// Where the values of a frame begin, and how many changes by others the last Look of its statements found.
+/// Where the values of a frame begin, and the number of changes by others that the last Look of its statements found.
 #[derive(Clone, Copy, Debug)]
 pub(crate) struct Mark {
     pub base: usize,

@@ -4,7 +4,7 @@ ghost use Rattle.std.specs.Vec.{vec_capacity};
 use crate::held::Held;
 use std::mem;
 
-/// Moves what stands in a list from an index on to the end of another list, in order. Takes no memory.
+/// Moves the rest of a list, from an index on, to the end of another list, in order. Does not allocate.
 pub fn move_tail(from: &mut Vec<Held>, at: usize, to: &mut Vec<Held>)
     requires within { at ≤ vec_len from.old }
     requires room { vec_len to.old + (vec_len from.old - at) ≤ vec_capacity to.old }

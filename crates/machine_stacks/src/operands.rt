@@ -12,9 +12,8 @@ use rapid_num::Num;
 use std::alloc::{AllocError, Global};
 use std::marker::Model;
 
-/// The operands of a task: those of the routine under way lie on top, those of the routines that wait for it below. Contracts
-/// see, of each, the list of its operands, the one pushed last first, and for how many operands and for how many routines that
-/// wait there is room.
+/// The operands of a task: those of the running routine on top, those of the routines that wait for it below. Contracts
+/// see the operands of each routine, the one pushed last first, and the room for operands and for waiting routines.
 #[derive(Debug, Drop)]
 pub struct Operands {
     items: Vec<Held>,
@@ -37,8 +36,8 @@ impl Model for Operands {
 }
 
 impl Operands {
-    /// No operands of a routine under way, and none below it; room for so many operands in all, and for so many routines that
-    /// wait. Its error says that memory was refused.
+    /// A running routine without operands and none below it, with room for `room` operands in all and for `depth`
+    /// waiting routines. Fails only if an allocation fails.
     pub fn new(alloc: Global, room: usize, depth: usize) -> Result<Operands, AllocError>
         ensures { IfOk result (λ s. s ≡ record { top = []; below = []; room = room; depth = depth }) }
     {
@@ -51,14 +50,14 @@ impl Operands {
         })
     }
 
-    /// How many operands the routine under way has.
+    /// The number of operands of the running routine.
     pub fn len(&self) -> usize
         ensures { result ≡ length self.now.top }
     {
         self.items.len() - self.base
     }
 
-    /// An operand of the routine under way, by how many lie on it, from 0; none where there are no more than so many.
+    /// An operand of the running routine, by the number of those above it; none if there are not that many.
     pub fn peek(&self, above: usize) -> Option<&Held>
         ensures { option_copied result ≡ slice_get self.now.top above }
     {
@@ -69,7 +68,7 @@ impl Operands {
         }
     }
 
-    /// Puts an operand on top. Takes no memory.
+    /// Pushes an operand. Does not allocate.
     pub fn push(&mut self, datum: Held)
         requires room { operands_in self.old < self.old.room }
         ensures { self.new ≡ record self.old { top = datum ∷ self.old.top } }
@@ -77,7 +76,7 @@ impl Operands {
         self.items.push_reserved(datum);
     }
 
-    /// Takes the operand on top away.
+    /// Pops the operand on top.
     pub fn pop(&mut self) -> Held
         requires some { self.old.top ≢ [] }
         ensures { self.old ≡ record self.new { top = result ∷ self.new.top } }
@@ -96,7 +95,7 @@ impl Operands {
         self.items.truncate(self.items.len() - 1);
     }
 
-    /// Puts a value in place of the operand on top. Where both are nums, no more than the num is written. Takes no memory.
+    /// Replaces the operand on top by a value. If both are nums it writes only the num. Does not allocate.
     pub fn set_top_value(&mut self, value: Value)
         requires some { self.old.top ≢ [] }
         ensures { self.new ≡ record self.old { top = Plain value ∷ drop 1 self.old.top } }
@@ -105,7 +104,7 @@ impl Operands {
         self.items[last].set_value(value);
     }
 
-    /// Puts a num in place of the operand on top. Where that is a num, no more than the num is written.
+    /// Replaces the operand on top by a num. Over a num it writes only the num.
     pub fn set_top_num(&mut self, number: Num)
         requires some { self.old.top ≢ [] }
         ensures { self.new ≡ record self.old { top = Plain (values.Num number) ∷ drop 1 self.old.top } }
@@ -114,7 +113,7 @@ impl Operands {
         self.items[last].set_num(number);
     }
 
-    /// A routine begins: it has no operands, and those of the routine that waits for it lie below. Takes no memory.
+    /// Begins a routine without operands, above those of the routine that waits for it. Does not allocate.
     pub fn open(&mut self)
         requires depth { length self.old.below < self.old.depth }
         ensures { self.new ≡ record self.old { top = []; below = self.old.top ∷ self.old.below } }
@@ -123,7 +122,7 @@ impl Operands {
         self.base = self.items.len();
     }
 
-    /// A routine is left: its operands are dropped, and those of the routine that waited for it are on top again.
+    /// Leaves a routine: its operands are dropped, and those of the routine that waited for it are on top again.
     pub fn close(&mut self)
         requires some { self.old.below ≢ [] }
         ensures { self.old ≡ record self.new { top = self.old.top; below = self.new.top ∷ self.new.below } }
@@ -135,14 +134,15 @@ impl Operands {
         };
     }
 
-    /// The operands of the routine under way are dropped.
+    /// Drops the operands of the running routine.
     pub fn clear(&mut self)
         ensures { self.new ≡ record self.old { top = [] } }
     {
         self.items.truncate(self.base);
     }
 
-    /// Moves so many operands from the top to the end of a list, in the order in which they were pushed. Takes no memory.
+    /// Moves `count` operands from the top to the end of a list, in the order in which they were pushed. Does not
+    /// allocate.
     pub(crate) fn move_to(&mut self, count: usize, list: &mut Vec<Held>)
         requires some { count ≤ length self.old.top }
         requires room { vec_len list.old + count ≤ vec_capacity list.old }

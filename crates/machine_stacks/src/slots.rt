@@ -4,7 +4,7 @@ use crate::held::Held;
 use std::alloc::{AllocError, Global};
 use typed_trees::Datum;
 
-/// What a machine keeps of the data of a task's modules, as they begin. Its error says that memory was refused.
+/// The first data of a task's modules, as a machine keeps them. Fails only if an allocation fails.
 pub fn slots_of(alloc: Global, first_data: &[Datum]) -> Result<Vec<Held>, AllocError>
     ensures { IfOk result (λ slots. slots.items ≡ first_data.now) }
 {

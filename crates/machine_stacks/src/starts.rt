@@ -5,8 +5,8 @@ use crate::run_start::RunStart;
 use stack_code::{FirstRun, RoutineRow};
 use std::alloc::{AllocError, Global};
 
-/// Where the first values of each routine begin, each in the run that has the value there. Rows whose first values ascend are
-/// gone through once, together with the runs. Its error says that memory was refused.
+/// Where the first values of each routine begin, each in the run that has the value there. If the rows' first values
+/// ascend, one pass over rows and runs suffices. Fails only if an allocation fails.
 pub fn starts_of(
     alloc: Global,
     rows: &[RoutineRow],
@@ -26,8 +26,8 @@ pub fn starts_of(
     Ok(starts)
 }
 
-/// A start of another index, in the run that has the value there. It walks ahead, or from the first run where the index lies
-/// before the one that it comes from.
+/// The start of another index, in the run that has the value there. Walks on from this one, or from the first run if
+/// the index lies before it.
 fn moved(firsts: &[FirstRun], from: RunStart, index: u32, to: u32) -> RunStart
     requires from { index_of firsts.now from ≡ index }
     ensures to { index_of firsts.now result ≡ to }

@@ -1,6 +1,6 @@
--- One token of looking ahead is enough for modules, and a text spells one; what is within some levels is within more; and
--- each first sign of an item and of a parameter does begin one. The items that may begin with LOCAL stand here with it
--- taken out too, as they are read.
+-- One token of lookahead is enough for modules, and a text spells at most one. A form within some levels is also within
+-- more. Each first sign of an item or a parameter can start one. The items that can start with LOCAL also appear with
+-- it factored out, as they are read.
 use Rattle.std.proofs.Common.{ℕ, suc, true, false, List, [], ◌∷◌, ◌++◌, refl, subst, ◌⊎◌, inr}
 use Rattle.std.proofs.lemmas.List.{append-nil}
 use Rattle.raw_trees.specs.Plain.{PlainItem}
@@ -18,7 +18,7 @@ use Rattle.stmt_parser.proofs.Ahead.{list_ll, list_up}
 use Rattle.module_parser.specs.Grammar.{datum_item, task_item, proc_tree, func_tree, trap_tree, rest, datum, param, params, body, local, routine, item, attribute, attributes, «module»}
 use Rattle.module_parser.specs.Reads.{datum_signs, item_signs, attribute_signs, param_signs, Proc, Func, Trap, Item, local_tree}
 
--- the signs with which bodies and routines begin
+-- the signs that bodies and routines can start with
 
 abbrev pub body_signs : List Sign
 body_signs = signs.Const ∷ signs.Var ∷ signs.Error ∷ stmt_signs
@@ -26,7 +26,7 @@ body_signs = signs.Const ∷ signs.Var ∷ signs.Error ∷ stmt_signs
 abbrev pub routine_signs : List Sign
 routine_signs = signs.Proc ∷ signs.Func ∷ signs.Trap ∷ []
 
--- the lines that begin alike, as they are read
+-- the lines with a common start, as they are read
 
 unfoldable pub proc : ℕ → Form Proc
 proc n = seq (mark signs.Proc) (seq name (seq params (seq (body n) (mark signs.EndProc))))
@@ -37,14 +37,14 @@ func n = seq (mark signs.Func) (seq name (seq name (seq params (seq (body n) (ma
 unfoldable pub trap : ℕ → Form Trap
 trap n = seq (mark signs.Trap) (seq name (seq (body n) (mark signs.EndTrap)))
 
--- a routine with no LOCAL before it
+-- a routine without LOCAL before it
 unfoldable pub bare_routine : ℕ → Form (Proc ⊎ (Func ⊎ Trap))
 bare_routine n = either (made left (proc n)) (made right (either (made left (func n)) (made right (trap n))))
 
 unfoldable pub routine_joined : ℕ → Form PlainItem
 routine_joined n = made (λ at x. local_tree at (x.0, inr x.1)) (seq local (bare_routine n))
 
--- what stands behind LOCAL, if it is there
+-- what follows an optional LOCAL
 unfoldable pub behind_local : ℕ → Form Item
 behind_local n = either (made left (datum datum_signs n)) (made right (bare_routine n))
 
@@ -69,7 +69,7 @@ item_same n =
     (same_trans (either_bracketed _ _ _)
     (either_same (same_refl _) (shared datum_item (λ at x. local_tree at (x.0, inr x.1)) local (datum datum_signs n) (bare_routine n))))))
 
--- looking ahead
+-- lookahead
 
 pub rest_ll : (n : ℕ) → LL false (signs.Name ∷ []) [] (rest n)
 unfolding rest
@@ -158,7 +158,7 @@ module_ll n =
     (seq_ll name_ll (seq_ll (made_ll _ (optional_ll attributes_ll)) (seq_ll (many_ll (item_ll n) refl) (one_ll _) refl) refl) refl) refl))
     refl refl
 
--- from one level to those above
+-- from one level to higher ones
 
 pub rest_up : (n : ℕ) → Up (rest n) (rest (suc n))
 unfolding rest
@@ -202,7 +202,7 @@ pub module_up : (n : ℕ) → Up («module» n) («module» (suc n))
 unfolding «module»
 module_up n = made_up _ (seq_up (up_refl _) (seq_up (up_refl _) (seq_up (up_refl _) (seq_up (many_up (item_up n)) (up_refl _)))))
 
--- first signs that do begin a form
+-- first signs that can start a form
 
 pub datum_opens : (words : List Sign) → Opens words (datum words)
 unfolding datum

@@ -1,4 +1,4 @@
--- The readers of modules answer for their forms, within any number of levels.
+-- The readers of modules parse their forms correctly, within any number of levels.
 use Rattle.std.proofs.Common.{ℕ, ◌≤◌, true, false, List, [], ◌∷◌, ◌++◌, refl}
 use Rattle.rapid_forms.specs.declared.sign.Sign.{Sign}
 use Rattle.rapid_forms.specs.declared.sign.Sign.TheVariants as signs

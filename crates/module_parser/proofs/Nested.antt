@@ -1,4 +1,4 @@
--- What is read behind LOCAL, if it is there, and made an item.
+-- What follows an optional LOCAL, made into an item.
 use Rattle.std.proofs.Common.{◌≡◌, ℕ, true, false, List, [], ◌∷◌, Option, Ok, Err, refl, sym, ap, ◌∙◌}
 use mathlib.Core.Logic.{inl, inr}
 use Rattle.rapid_lexer.specs.Tokens.{Lexeme}
@@ -27,7 +27,7 @@ made_often (Ok x) f g h k = refl
 made_often (Err e) f g h k = refl
 
 module _ (n at : ℕ) (local : Option Lexeme) (ts : List Lexeme) where
-  -- an item that begins at a byte, with LOCAL or none
+  -- an item that starts at a byte, with LOCAL or without
   abbrev pub placed_read : Read PlainItem
   placed_read = then_read (behind_local_read n ts) λ x rest. Ok (local_tree at (local, x), rest)
 
@@ -49,7 +49,7 @@ module _ (n at : ℕ) (local : Option Lexeme) (ts : List Lexeme) where
       unfolding behind_local_read either_read made_read
       trap_behind e = rw (no_datum, no_proc, e) (made_often (trap_read n ts) (λ x. inr x) (λ x. inr x) (λ x. inr x) (λ x. local_tree at (local, x)))
 
--- an item at the byte of its first token, of which the word LOCAL, if it is there, was read
+-- an item at the byte of its first token, after an optional LOCAL was read
 pub local_behind : (n at : ℕ) (ts : List Lexeme) (local : Option Lexeme) (rest : List Lexeme) → at ≡ first_byte ts → local_read ts ≡ Ok (local, rest) → made_read local_tree (seq_read local_read (behind_local_read n)) ts ≡ placed_read n at local rest
 unfolding made_read seq_read then_read
 local_behind n at ts local rest here e = rw e (made_twice (behind_local_read n rest) (λ x. (local, x)) (λ x. local_tree (first_byte ts) x) ∙ ap (λ p. placed_read n p local rest) (sym here))

@@ -1,4 +1,4 @@
--- A text comes to one thing: the answers exclude one another, and each of them is one.
+-- A text has one result: the answers are mutually exclusive, and each is unique.
 use Rattle.std.proofs.Common.{◌≡◌, ℕ, suc, ◌+◌, Bool, List, length, drop, Result, Ok, Err, sym, ap, subst, ◌∙◌, inl, inr, ◌⊎◌, arith}
 use Rattle.std.proofs.lemmas.List.{take_all}
 use Rattle.rapid_limits.specs.declared.TheConstants.{MOST_LEVELS}
@@ -62,7 +62,7 @@ one_module source (Ok t) (Err Memory) h h' = absurd h'
 one_module source (Err (Lex f)) (Err Memory) h h' = absurd h'
 one_module source (Err (Rule rule at)) (Err Memory) h h' = absurd h'
 
--- what a text comes to is all that it comes to
+-- a result of a text is its only one
 pub only_one : (source : List ℕ) (memory : Type 0) (a b : Result PlainModule SyntaxFault) → memory ⊎ ModuleText source a → ModuleText source b → memory ⊎ (a ≡ b)
 only_one source memory a b (inl m) h = inl m
 only_one source memory a b (inr h) h' = inr (one_module source a b h h')

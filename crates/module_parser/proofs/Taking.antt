@@ -1,4 +1,4 @@
--- What the loops read takes a token each time.
+-- What the loops read takes at least one token each time.
 use Rattle.std.proofs.Common.{ℕ, List}
 use Rattle.rapid_forms.specs.declared.sign.Sign.{Sign}
 use Rattle.rapid_forms.specs.declared.sign.Sign.TheVariants as signs

@@ -1,4 +1,4 @@
--- What a text comes to, from what is read of its tokens.
+-- The result of a text, given what is read of its tokens.
 use Rattle.std.proofs.Common.{◌≡◌, ℕ, ◌≤◌, ◌<◌, Bool, List, [], length, take, drop, Bor, Result, Ok, Err, refl, sym, ap, subst, ◌∙◌, inl, inr, ◌⊎◌, arith}
 use Rattle.std.proofs.lemmas.Bool.{cases_lt}
 use Rattle.std.proofs.lemmas.List.{append-nil, length-drop, length-map, take_all, drop_all}
@@ -25,16 +25,16 @@ use Rattle.module_parser.specs.Modules.{IsStuck, Stops, ModuleText}
 use Rattle.module_parser.proofs.Ahead.{module_ll}
 use Rattle.module_parser.proofs.Answered.{module_above, module_reads}
 
--- where no token is left, all tokens are the form
+-- if no token is left, all tokens are the form
 all_read : {A : Type 0} {F : ℕ → Form A} {n : ℕ} {ts : List Lexeme} {x : A} → IsRead F n ts x [] → (F n).Whole x ts
 all_read {F = F} {n = n} {x = x} h = subst ((F n).Whole x) (sym (h.split ∙ append-nil h.front)) h.whole
 
--- where tokens are left behind the longest that begin the form, all of them do not spell it
+-- if tokens are left after the longest prefix of the form, they do not spell it
 left_none : {A : Type 0} {F : ℕ → Form A} {ts : List Lexeme} → ((m : ℕ) (x : A) (us : List Lexeme) → (F m).Whole x us → (F m).Begun us) → (k : ℕ) → IsLongest F ts k → k < length ts → (x : A) → Spells F x ts → ⊥
 left_none {ts = ts} begun k h less x (m, w) = h.most (length ts) less (omega arith) (m, rw (take_all (length ts) ts (omega arith)) (begun m x ts w))
 
 module _ {A : Type 0} {F : ℕ → Form A} {n : ℕ} {null : Bool} {first more : List Sign} (lf : (m : ℕ) → LL null first more (F m)) (ts : List Lexeme) where
-  -- a form is read, and tokens are left
+  -- a form was read, and tokens are left
   left_stuck : (x : A) (rest : List Lexeme) → 0 < length rest → Answers F n ts (Ok (x, rest)) → (k : ℕ) × IsStuck F n ts k × (rest ≡ drop k ts)
   left_stuck x rest some (k, h, e) = (
     k,
@@ -84,7 +84,7 @@ module _ (source : List ℕ) (ts : List Lexeme) (tiles : Tiles source ts) where
 abbrev failed : (T : Type 0) → SyntaxFault → Result T SyntaxFault
 failed T fault = Err fault
 
--- What the function that reads a module over all tokens of a text gave, the text comes to.
+-- What the function returned that reads a module from all tokens of a text is the result of the text.
 module _ (source : List ℕ) (list : Bor (List Token)) (items : List Token) (same : list.now ≡ items) (tiles : Tiles source (views items)) where
   abbrev all_tokens : Tokens
   all_tokens = record { list = list; end = length source }

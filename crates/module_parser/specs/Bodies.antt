@@ -1,4 +1,4 @@
--- The body of a routine, as its parser's contracts see it.
+-- How the contracts of the parser see the body of a routine.
 use Rattle.std.specs.Prelude.{map, option_map}
 use Rattle.raw_trees.specs.Views.{view_datum, view_list}
 use Rattle.module_parser.specs.declared.body.Body.{Body}

@@ -1,5 +1,5 @@
--- The grammar of modules (RAPID Kernel, module, data and routine declarations). Braces mean any number, brackets mean
--- optional, but where they are quoted:
+-- The grammar of modules (RAPID Kernel, module, data and routine declarations). Braces mean zero or more, brackets
+-- mean optional, except where they are quoted:
 --
 --   module   = MODULE name [ "(" attr { "," attr } ")" ] { item } ENDMODULE
 --   attr     = SYSMODULE | NOVIEW | NOSTEPIN | VIEWONLY | READONLY
@@ -25,7 +25,7 @@ use Rattle.expr_parser.specs.Grammar.{inside, mark, name, expr_of, behind, inner
 use Rattle.stmt_parser.specs.Grammar.{list}
 use Rattle.module_parser.specs.Words.{attribute_of, kind_of, mode_of}
 
--- a datum behind the word that declares it: the names of its type and of itself, its length, its initial value, and ";"
+-- a datum after the word that declares it: the name of its type, its name, its length, its initial value, and ";"
 abbrev pub Rest : Type 0
 Rest = PlainName × (PlainName × (Option PlainExpr × (Option PlainExpr × Lexeme)))
 
@@ -88,7 +88,7 @@ trap_tree at x = Routine (record {
 abbrev pub module_tree : ℕ → Lexeme × (PlainName × (List Attribute × (List PlainItem × Lexeme))) → PlainModule
 module_tree at x = record { name = x.1.0; attributes = x.1.1.0; items = x.1.1.1.0; at = at }
 
--- the forms of a module, in which expressions and lists are nested so deep at most
+-- the forms of a module, with up to this many levels of nesting in expressions and lists
 
 -- name name [ "{" expr "}" ] [ ":=" expr ] ";"
 unfoldable pub rest : ℕ → Form Rest
@@ -140,7 +140,7 @@ attributes =
     (seq (mark signs.OpenParenthesis)
     (seq (made first_and_more (seq attribute (many (made behind (seq (mark signs.Comma) attribute))))) (mark signs.CloseParenthesis)))
 
--- a module, within so many levels of nesting
+-- a module, within this many levels of nesting
 unfoldable pub «module» : ℕ → Form PlainModule
 «module» n =
     made module_tree

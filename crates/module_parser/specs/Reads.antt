@@ -1,5 +1,5 @@
--- Reading modules from left to right: the readers of the forms of the grammar, by which its functions are proved. Items
--- are read with LOCAL taken out, which begins several of them.
+-- Reading modules from left to right: the readers of the grammar's forms, which the functions are proved against. Items
+-- are read with LOCAL factored out, because several of them can start with it.
 use Rattle.std.specs.Prelude.{ℕ, List, [], ◌∷◌, Option}
 use mathlib.Core.Logic.{◌⊎◌, inl, inr}
 use Rattle.rapid_lexer.specs.Tokens.{Lexeme}
@@ -14,7 +14,7 @@ use Rattle.stmt_parser.specs.Reads.{list_read, if_read}
 use Rattle.module_parser.specs.Words.{attribute_of}
 use Rattle.module_parser.specs.Grammar.{Rest, Body, datum_tree, datum_item, task_item, param_tree, proc_tree, func_tree, trap_tree, module_tree}
 
--- the signs with which items and attributes begin
+-- the signs that items and attributes can start with
 
 abbrev pub datum_signs : List Sign
 datum_signs = signs.Const ∷ signs.Var ∷ signs.Pers ∷ []
@@ -61,7 +61,7 @@ locals_read n = many_read (signs.Const ∷ signs.Var ∷ []) (datum_read (signs.
 unfoldable pub body_read : ℕ → Reader Body
 body_read n = seq_read (locals_read n) (seq_read (list_read n) (if_read signs.Error (list_read n)))
 
--- what stands behind LOCAL, if it is there: a datum, or a routine of one of three kinds
+-- what follows an optional LOCAL: a datum, or a routine of one of three kinds
 
 abbrev pub Proc : Type 0
 Proc = Lexeme × (PlainName × (List PlainParam × (Body × Lexeme)))

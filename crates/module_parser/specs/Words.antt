@@ -1,4 +1,4 @@
--- What the words of declarations stand for.
+-- The meaning of the words of declarations.
 use Rattle.std.specs.Prelude.{ℕ, Bool, [], ◌∷◌, if◌then◌else◌}
 use Rattle.rapid_lexer.specs.Tokens.{Lexeme}
 use Rattle.raw_trees.specs.declared.raw_module.Attribute.{Attribute}

@@ -1,4 +1,4 @@
-//! What a routine does.
+//! The body of a routine.
 
 ghost use Rattle.rapid_forms.specs.Reading.{Gives, rest_from};
 ghost use Rattle.module_parser.specs.Bodies.{view_body};

@@ -12,7 +12,7 @@ use rapid_forms::{Parser, Sign, SyntaxFault};
 use rapid_limits::MOST_LEVELS;
 use raw_trees::RawDatum;
 
-/// A datum that one of these words declares.
+/// A datum that is declared by one of these words.
 #[tactic(auto, unfolding(crate::specs::Reads::datum_read, crate::specs::Reads::rest_read, rapid_forms::specs::Reading::made_read, rapid_forms::specs::Reading::seq_read, rapid_forms::specs::Reading::then_read))]
 pub(crate) fn datum<'a>(
     p: &Parser<'_, 'a>,

@@ -32,7 +32,7 @@ pub(crate) fn item<'a>(p: &Parser<'_, 'a>, at: usize) -> Result<(RawItem<'a>, us
     behind_local(p, local, p.tokens.byte_at(at), next)
 }
 
-/// A persistent that each task has for itself.
+/// A persistent of which each task has its own.
 #[tactic(auto, unfolding(crate::specs::Reads::task_read, rapid_forms::specs::Reading::made_read, rapid_forms::specs::Reading::seq_read, rapid_forms::specs::Reading::then_read))]
 fn task<'a>(p: &Parser<'_, 'a>, at: usize) -> Result<(RawItem<'a>, usize), SyntaxFault>
     ensures { Gives p.now.tokens view_item result (task_read MOST_LEVELS (rest_from p.now.tokens at)) }
@@ -48,7 +48,7 @@ fn task<'a>(p: &Parser<'_, 'a>, at: usize) -> Result<(RawItem<'a>, usize), Synta
     Ok((item, end))
 }
 
-/// LOCAL, if it is there.
+/// An optional LOCAL.
 #[tactic(auto, unfolding(crate::specs::Reads::local_read, rapid_forms::specs::Reading::optional_read, rapid_forms::specs::Reading::then_read))]
 fn local_if_any<'a>(
     p: &Parser<'_, 'a>,
@@ -63,7 +63,7 @@ fn local_if_any<'a>(
     Ok((Some(word), next))
 }
 
-/// What stands behind LOCAL, if that is there, in an item that begins at this byte.
+/// What follows an optional LOCAL in an item that starts at this byte.
 fn behind_local<'a>(
     p: &Parser<'_, 'a>,
     local: Option<Token<'a>>,

@@ -1,4 +1,4 @@
-//! Modules: which texts spell one, and the tree that they spell.
+//! Modules: which texts spell one, and its tree.
 #![tactic(auto)]
 
 mod body;

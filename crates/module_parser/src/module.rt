@@ -76,7 +76,7 @@ fn attributes(p: &Parser<'_, '_>, at: usize) -> Result<(Vec<Attribute>, usize), 
     Ok((list, end))
 }
 
-/// Attributes, one at least.
+/// One or more attributes.
 #[tactic(auto, unfolding(rapid_forms::specs::Reading::made_read, rapid_forms::specs::Reading::seq_read, rapid_forms::specs::Reading::then_read))]
 fn some_attributes(p: &Parser<'_, '_>, at: usize) -> Result<(Vec<Attribute>, usize), SyntaxFault>
     ensures { Gives p.now.tokens (λ v. v.items) result (made_read first_and_more (seq_read attribute_read (many_read (Sign.Comma ∷ []) more_attribute_read)) (rest_from p.now.tokens at)) }
@@ -101,7 +101,7 @@ fn attribute(p: &Parser<'_, '_>, at: usize) -> Result<(Attribute, usize), Syntax
     Ok((attribute_of(&word), next))
 }
 
-/// A comma and the attribute behind it.
+/// A comma and the attribute after it.
 #[tactic(auto, unfolding(crate::specs::Reads::more_attribute_read, rapid_forms::specs::Reading::made_read, rapid_forms::specs::Reading::seq_read, rapid_forms::specs::Reading::then_read))]
 fn more_attribute(p: &Parser<'_, '_>, at: usize) -> Result<(Attribute, usize), SyntaxFault>
     ensures { Gives p.now.tokens (λ a. a) result (more_attribute_read (rest_from p.now.tokens at)) }

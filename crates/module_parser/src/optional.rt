@@ -1,4 +1,4 @@
-//! Parts of declarations that stand there or not.
+//! Optional parts of declarations.
 
 ghost use Rattle.std.specs.Prelude.{option_map, ◌∷◌, []};
 ghost use Rattle.raw_trees.specs.Views.{view_expr, view_list};
@@ -12,7 +12,7 @@ use rapid_limits::MOST_LEVELS;
 use raw_trees::{RawExpr, RawStmt};
 use stmt_parser::list;
 
-/// The length of an array, if it is there.
+/// The length of an array, if there is one.
 #[tactic(auto, unfolding(rapid_forms::specs::Reading::optional_read, rapid_forms::specs::Reading::then_read))]
 pub(crate) fn length_if_any<'a>(
     p: &Parser<'_, 'a>,
@@ -27,7 +27,7 @@ pub(crate) fn length_if_any<'a>(
     Ok((Some(len), next))
 }
 
-/// The initial value of a datum, if it is there.
+/// The initial value of a datum, if there is one.
 #[tactic(auto, unfolding(rapid_forms::specs::Reading::optional_read, rapid_forms::specs::Reading::then_read))]
 pub(crate) fn value_if_any<'a>(
     p: &Parser<'_, 'a>,
@@ -42,7 +42,7 @@ pub(crate) fn value_if_any<'a>(
     Ok((Some(value), next))
 }
 
-/// What stands behind the mark of a value.
+/// What follows the mark of a value.
 #[tactic(auto, unfolding(expr_parser::specs::Reads::value_read, rapid_forms::specs::Reading::made_read, rapid_forms::specs::Reading::seq_read, rapid_forms::specs::Reading::then_read))]
 fn value<'a>(p: &Parser<'_, 'a>, at: usize) -> Result<(RawExpr<'a>, usize), SyntaxFault>
     ensures { Gives p.now.tokens view_expr result (value_read (expr_of_read (inside_read MOST_LEVELS)) (rest_from p.now.tokens at)) }
@@ -51,7 +51,7 @@ fn value<'a>(p: &Parser<'_, 'a>, at: usize) -> Result<(RawExpr<'a>, usize), Synt
     expr(p, next, MOST_LEVELS)
 }
 
-/// An ERROR part, if it is there.
+/// An ERROR part, if there is one.
 #[tactic(auto, unfolding(stmt_parser::specs::Reads::if_read, stmt_parser::specs::Reads::behind_read, rapid_forms::specs::Reading::optional_read, rapid_forms::specs::Reading::made_read, rapid_forms::specs::Reading::seq_read, rapid_forms::specs::Reading::then_read))]
 pub(crate) fn handler_if_any<'a>(
     p: &Parser<'_, 'a>,

@@ -20,7 +20,7 @@ static MODE_SIGNS: [Sign; 3] = [Sign::Inout, Sign::Var, Sign::Pers];
 
 static PARAM_SIGNS: [Sign; 4] = [Sign::Name, Sign::Inout, Sign::Var, Sign::Pers];
 
-/// Parameters in parentheses, or an empty pair of them.
+/// Parenthesized parameters, possibly none.
 #[tactic(auto, unfolding(crate::specs::Reads::params_read, rapid_forms::specs::Reading::made_read, rapid_forms::specs::Reading::seq_read, rapid_forms::specs::Reading::then_read))]
 pub(crate) fn params<'a>(
     p: &Parser<'_, 'a>,
@@ -48,7 +48,7 @@ fn params_if_any<'a>(
     }
 }
 
-/// Parameters, one at least.
+/// One or more parameters.
 #[tactic(auto, unfolding(crate::specs::Reads::some_params_read, rapid_forms::specs::Reading::made_read, rapid_forms::specs::Reading::seq_read, rapid_forms::specs::Reading::then_read))]
 fn some_params<'a>(p: &Parser<'_, 'a>, at: usize) -> Result<(Vec<RawParam<'a>>, usize), SyntaxFault>
     ensures { Gives p.now.tokens (λ v. map view_param v.items) result (some_params_read (rest_from p.now.tokens at)) }
@@ -65,7 +65,7 @@ fn some_params<'a>(p: &Parser<'_, 'a>, at: usize) -> Result<(Vec<RawParam<'a>>, 
     Ok((list, next))
 }
 
-/// A comma and the parameter behind it.
+/// A comma and the parameter after it.
 #[tactic(auto, unfolding(crate::specs::Reads::more_param_read, rapid_forms::specs::Reading::made_read, rapid_forms::specs::Reading::seq_read, rapid_forms::specs::Reading::then_read))]
 fn more_param<'a>(p: &Parser<'_, 'a>, at: usize) -> Result<(RawParam<'a>, usize), SyntaxFault>
     ensures { Gives p.now.tokens view_param result (more_param_read (rest_from p.now.tokens at)) }
@@ -85,7 +85,7 @@ fn param<'a>(p: &Parser<'_, 'a>, at: usize) -> Result<(RawParam<'a>, usize), Syn
     Ok((param_of(p.tokens.byte_at(at), mode, sort, name), end))
 }
 
-/// A parameter at a byte, with the word of its mode, if that is there.
+/// A parameter at a byte, with the word of its mode, if there is one.
 fn param_of<'a>(
     at: usize,
     word: Option<Token<'a>>,
@@ -110,7 +110,7 @@ fn param_of<'a>(
     }
 }
 
-/// The word of a parameter's mode, if it is there.
+/// The word of a parameter's mode, if there is one.
 #[tactic(auto, unfolding(rapid_forms::specs::Reading::optional_read, rapid_forms::specs::Reading::then_read))]
 fn mode_if_any<'a>(p: &Parser<'_, 'a>, at: usize) -> Result<(Option<Token<'a>>, usize), SyntaxFault>
     ensures { Gives p.now.tokens (option_map view) result (optional_read mode_signs (one_read mode_signs) (rest_from p.now.tokens at)) }

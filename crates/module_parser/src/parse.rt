@@ -10,11 +10,11 @@ use rapid_lexer::{TokensFault, read_tokens};
 use raw_trees::RawModule;
 use std::alloc::Global;
 
-/// The tree that the whole text spells (RAPID Kernel, module declarations). A lexical fault, wherever it stands, comes
-/// before a fault of the tokens.
+/// The tree of the whole text (RAPID Kernel, module declarations). A lexical fault, wherever it is, wins over a fault
+/// of the tokens.
 pub fn parse_module(alloc: Global, source: &[u8]) -> Result<RawModule<'_>, SyntaxFault>
     ensures answer { (result ≡ Err SyntaxFault.Memory) ⊎ ModuleText source.now (shown result) }
-    // The text comes to nothing else.
+    // The text has no other result.
     ensures only { (other : Result PlainModule SyntaxFault) → ModuleText source.now other → (result ≡ Err SyntaxFault.Memory) ⊎ (shown result ≡ other) }
 {
     match read_tokens(alloc, source) {

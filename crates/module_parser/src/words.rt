@@ -1,4 +1,4 @@
-//! What the words of declarations stand for.
+//! The meaning of the words of declarations.
 
 ghost use Rattle.std.specs.Prelude.{◌≡◌};
 ghost use Rattle.rapid_lexer.specs.Tokens.{view};

@@ -1,5 +1,6 @@
 -- The rows of a task's routines in its typed tree.
 use Rattle.std.proofs.Common.{◌≡◌, ℕ, List, [], ◌∷◌, ◌++◌, length, Some, None, Ok, slice_get, refl, sym, ap, subst, ◌∙◌, false, length-append, arith}
+use Rattle.rapid_model.proofs.Lists.{between}
 use Rattle.raw_trees.specs.Plain.{PlainRoutine, PlainItem, Datum, Routine, stmts_of, else_of}
 use Rattle.typed_trees.specs.Plain.{TypedLocal, TypedRoutine}
 use Rattle.rule_checks.proofs.Steps.{behind, ok_same}
@@ -7,15 +8,14 @@ use Rattle.data_scopes.specs.Called.{params_of, result_of}
 use Rattle.data_scopes.specs.Loops.{loops_in, loops_in_else, loops_in_routine}
 use Rattle.data_scopes.specs.Numbers.{Tally, is_pers, is_scalar_const}
 use Rattle.data_scopes.specs.Scopes.{Names, list_at}
-use Rattle.data_scopes.proofs.Counted.{get_last}
-use Rattle.body_types.specs.Bodies.{outside, stmts, into}
-use Rattle.stmt_types.specs.Task.{handler_of, body_of, typed_params, typed_routine, item_bodies, items_bodies, bodies}
+use Rattle.stmt_types.specs.Bodies.{outside, stmts, into}
+use Rattle.task_types.specs.Task.{handler_of, body_of, typed_params, typed_routine, item_bodies, items_bodies, bodies}
 use Rattle.name_laws.proofs.Counters.{stmts_next, handler_next, routine_next}
 use Rattle.name_laws.proofs.Items.{Fact, IsWalk, IsFront, Stepped, front_more}
 use Rattle.name_laws.proofs.Seen.{no_routine}
 
 module _ (names : Names) (locals : List (List TypedLocal)) where
-  -- what is known of a routine's row before its statements are looked at
+  -- what is known of a routine's row before its statements are checked
   pub record IsHead (number routine : ℕ) (r : PlainRoutine) (t : TypedRoutine) : Type 0 where
     pub name : t.name ≡ r.name.text
     pub «module» : t.«module» ≡ number
@@ -65,7 +65,7 @@ module _ (names : Names) (locals : List (List TypedLocal)) where
       subst (Stepped AreCounted IsFront RowIn number c (Datum local task d at) rs) (ok_same rs ts e) (no_routine c (is_scalar_const d) (is_pers d.kind) ∙ h, λ k x is. is, tt)
   item_done number c (Routine r) rs ts h e =
       behind (Stepped AreCounted IsFront RowIn number c (Routine r) rs ts) ts (typed_routine names locals number (length rs) r) _ e (λ t is done.
-      let there : slice_get (rs ++ t ∷ []) c.routines ≡ Some t = ap (slice_get (rs ++ t ∷ [])) h ∙ get_last rs t in
+      let there : slice_get (rs ++ t ∷ []) c.routines ≡ Some t = ap (slice_get (rs ++ t ∷ [])) h ∙ between rs [] t in
       subst (Stepped AreCounted IsFront RowIn number c (Routine r) rs) (ok_same _ ts done) (
         omega (arith, h, length-append rs (t ∷ [])),
         front_more rs t,

@@ -1,4 +1,4 @@
--- Which CONST each number is that a name means.
+-- Which CONST each number that a name means is.
 use Rattle.std.proofs.Common.{◌≡◌, inl, inr, ℕ, zero, suc, ◌+◌, ◌<◌, Bool, true, false, List, [], length, replicate, Option, Some, None, Ok, slice_get, refl, sym, ap, subst, ◌∙◌, if◌then◌else◌, arith}
 use Rattle.std.specs.Str.{str_to_ascii_lowercase}
 use Rattle.raw_trees.specs.Plain.{PlainDatum, PlainName, PlainRoutine, PlainItem, PlainModule, Datum, Routine}
@@ -19,7 +19,7 @@ use Rattle.data_scopes.specs.Numbers.{Tally, is_pers, is_scalar_const, item_mean
 use Rattle.data_scopes.specs.Rows.{item_rows, items_rows, modules_rows, no_rows}
 use Rattle.data_scopes.specs.Scopes.{Names, Rows, Tables, meaning}
 use Rattle.decl_types.specs.Data.{Progress, beginning, data_of, item, items, sort_in}
-use Rattle.stmt_types.specs.Task.{task_of}
+use Rattle.task_types.specs.Task.{task_of}
 use Rattle.name_laws.specs.Constants.{HasItsValue, IsConst}
 use Rattle.name_laws.specs.Declared.{IsSeen, IsType}
 use Rattle.name_laws.proofs.ConstRows as rows_are

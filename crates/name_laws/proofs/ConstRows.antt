@@ -1,6 +1,7 @@
--- The rows of CONSTs that are no arrays, by their numbers over modules and routines.
+-- The rows of CONSTs that are not arrays, by their numbers over modules and routines.
 use Rattle.std.proofs.Common.{◌≡◌, ℕ, zero, suc, ◌+◌, Bool, true, false, ◌&&◌, List, [], ◌∷◌, ◌++◌, length, Option, Some, None, is_some, is_none, Ok, slice_get, refl, sym, ap, subst, ◌∙◌, if◌then◌else◌, length-append, append_assoc, arith}
 use Rattle.std.proofs.lemmas.List.{append-nil}
+use Rattle.rapid_model.proofs.Lists.{between}
 use Rattle.raw_trees.specs.Plain.{PlainExpr, PlainDatum, PlainRoutine, PlainItem, Datum, Routine}
 use Rattle.rule_checks.proofs.Steps.{behind, ok_same}
 use Rattle.data_scopes.specs.declared.data_row.DatumRow.{DatumRow}
@@ -10,13 +11,12 @@ use Rattle.data_scopes.specs.Numbers.{Tally, is_const, is_pers, is_scalar_const,
 use Rattle.data_scopes.specs.Rows.{datum_row, item_rows, items_rows, local_rows, modules_rows, param_rows, result_row, routine_row, scalar_rows, since_of, value_at, rows_by}
 use Rattle.data_scopes.specs.Scopes.{Tables, RoutineRow, Rows}
 use Rattle.data_scopes.proofs.Within.{after_by}
-use Rattle.data_scopes.proofs.Counted.{get_last}
 use Rattle.name_laws.specs.Constants.{IsConstRow}
 use Rattle.name_laws.specs.Declared.{AreEach, IsType}
 use Rattle.name_laws.proofs.Declarations.{type_found}
 use Rattle.name_laws.proofs.Items.{Fact, IsFront, IsWalk, Stepped, front_more, stays, front_append}
 
--- how many CONSTs that are no arrays stand before a place
+-- how many CONSTs that are not arrays come before a place
 abbrev pub consts_before : ℕ → List PlainDatum → ℕ
 consts_before zero ds = 0
 consts_before (suc index) [] = 0
@@ -43,7 +43,7 @@ module _ (tables : Tables) where
       behind (IsFull tables number routine d row) row (sort_at tables (spot_of number routine d.sort) d.sort) _ e (λ sort is done.
       subst (IsFull tables number routine d) (ok_same _ _ done) (record { sort = type_found tables (spot_of number routine d.sort) d.sort sort is; array = refl; since = refl }))
 
-  -- rows behind these, one for each datum
+  -- rows after these, one for each datum
   record Behind (number routine : ℕ) (ds : List PlainDatum) (before past : List DatumRow) : Type 0 where
     pub ys : List DatumRow
     pub is : past ≡ before ++ ys
@@ -65,7 +65,7 @@ module _ (tables : Tables) where
       let b = locals_behind number routine r.locals [] locals were in
       subst (λ (x : RoutineRow). AreEach (IsFull tables number (Some routine)) r.locals x.locals) (ok_same _ _ done) (subst (AreEach (IsFull tables number (Some routine)) r.locals) (sym b.is) b.each))))
 
-  -- whether a row is that of a CONST that is no array
+  -- whether a row is that of a CONST that is not an array
   abbrev row_if : Bool → DatumRow → List DatumRow → List DatumRow
   row_if b row rows = if b then row ∷ rows else rows
 
@@ -81,7 +81,7 @@ module _ (tables : Tables) where
       ∙ ap (λ s. if is_some s then (if is_some d.len then scalar_rows rows else row ∷ scalar_rows rows) else scalar_rows rows) is.since
       ∙ scalar_if (is_const d.kind) d.len (record { «module» = number; at = value_at d.name d.first }) row (scalar_rows rows)
 
-  -- a CONST that is no array has its row as such
+  -- a CONST that is not an array has its row as such
   const_is : (const : Bool) (len : Option PlainExpr) → (const && is_none len) ≡ true → (const ≡ true) × (is_some len ≡ false)
   const_is true None e = (refl, refl)
   const_is true (Some e') e = absurd (cc e)
@@ -172,7 +172,7 @@ module _ (tables : Tables) where
   datum_stepped number c d rows row true pers is h typed = (
     record { consts = omega (arith, h.consts, length-append rows.consts (row ∷ [])); routines = h.routines },
     front_more rows.consts row,
-    record { row = row; is = ap (slice_get (rows.consts ++ row ∷ [])) h.consts ∙ get_last rows.consts row; is_row = const_row number None d row is typed },
+    record { row = row; is = ap (slice_get (rows.consts ++ row ∷ [])) h.consts ∙ between rows.consts [] row; is_row = const_row number None d row is typed },
   )
   datum_stepped number c d rows row false true is h typed = (record { consts = h.consts; routines = h.routines }, stays rows.consts, tt)
   datum_stepped number c d rows row false false is h typed = (record { consts = h.consts; routines = h.routines }, stays rows.consts, tt)

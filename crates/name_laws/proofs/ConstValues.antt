@@ -1,4 +1,4 @@
--- The values that are kept for CONSTs that are no arrays, each that of its declaration.
+-- The values kept for CONSTs that are not arrays: each is that of its declaration.
 use Rattle.std.proofs.Common.{◌≡◌, ℕ, zero, suc, ◌+◌, ◌<◌, ◌≤◌, Bool, true, false, not, ◌&&◌, ◌||◌, List, [], ◌∷◌, length, set, Option, Some, None, is_some, is_none, Ok, slice_get, refl, sym, ap, subst, ◌∙◌, if◌then◌else◌, arith}
 use Rattle.std.proofs.lemmas.List.{length-append, length-replicate, length-set}
 use Rattle.raw_trees.specs.Plain.{PlainExpr, PlainDatum, PlainRoutine, PlainItem, Datum, Routine}
@@ -69,7 +69,7 @@ given_if true const is e = refl
 given_if false true is e = absurd (cc e)
 given_if false false is e = absurd (cc is)
 
--- a CONST that is no array comes to one value
+-- a CONST that is not an array has one value
 const_one : (names : Names) (number : ℕ) (around : Option ℕ) (known : Elements) (sort : Sort) (d : PlainDatum) (i : Initial) → is_scalar_const d ≡ true → initial names number around known sort d ≡ Ok i
     → (v : Value) × (i ≡ record { len = None; values = Some (v ∷ []) })
 unfolding One
@@ -155,7 +155,7 @@ module _ (rows : Rows) where
         };
       })
 
-  -- the CONSTs among a routine's data, the first of which has this place behind its parameters
+  -- the CONSTs among a routine's data, given the place of the first after its parameters
   pub record LocalsKept (number around index : ℕ) (ds : List PlainDatum) (n m : Inner) : Type 0 where
     pub count : m.consts ≡ n.consts + scalar_consts ds
     pub knows : Knows m.names m.consts

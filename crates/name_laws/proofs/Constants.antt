@@ -1,4 +1,4 @@
--- Each constant that a name means has a place among those that are kept.
+-- Each constant that a name means has a place among the kept ones.
 use Rattle.std.proofs.Common.{◌≡◌, ℕ, ◌<◌, Bool, List, [], length, None, Some, Ok, refl, sym, ap, subst, ◌∙◌, arith}
 use Rattle.std.proofs.lemmas.List.{length-replicate}
 use Rattle.raw_trees.specs.Plain.{PlainModule}

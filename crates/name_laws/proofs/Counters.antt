@@ -1,4 +1,4 @@
--- A routine has as many FORs as the number behind its last one says.
+-- The number after a routine's last FOR is how many FORs it has.
 use Rattle.std.proofs.Common.{◌≡◌, ℕ, ◌+◌, true, List, ◌++◌, length, Option, Some, None, Ok, sym, ap, ◌∙◌, length-append, arith}
 use Rattle.raw_trees.specs.Plain as Raw
 use Rattle.raw_trees.specs.Plain.{PlainStmt, PlainStmts, PlainArms, PlainCases, PlainElse, Assign, Call, Label, Goto, Return, Exit, Raise, Retry, TryNext, Connect, If, IfOne, For, While, Test, NoStmts, MoreStmts, NoArms, MoreArms, NoCases, MoreCases, NoElse, Else, stmts_of, else_of}
@@ -14,15 +14,15 @@ use Rattle.data_scopes.specs.Scopes.{Loop}
 use Rattle.named_data.specs.declared.wanted.Wanted.TheVariants.{Is, Fits}
 use Rattle.named_data.specs.Rules.{Site}
 use Rattle.expr_types.specs.Typing.{typed, sort_of}
-use Rattle.body_types.specs.Bodies.{Body, Around, Typed, outside, site, into, into_loop, assigned, called, labelled, jumped, returned, raised, in_handler, connected, bounds, case_values, then_next, stmt, stmts, branches, choices, otherwise}
-use Rattle.stmt_types.specs.Task.{handler_of}
+use Rattle.stmt_types.specs.Bodies.{Body, Around, Typed, outside, site, into, into_loop, assigned, called, labelled, jumped, returned, raised, in_handler, connected, bounds, case_values, then_next, stmt, stmts, branches, choices, otherwise}
+use Rattle.task_types.specs.Task.{handler_of}
 
 -- a statement with no FOR
 alone : (next : ℕ) (checked : Checked TypedStmt) (r : Typed TypedStmt) → then_next next checked ≡ Ok r → r.next ≡ next + 0
 alone next checked r e =
     behind (r.next ≡ next + 0) r checked _ e (λ t is done. let same : next ≡ r.next = ap (λ x. x.next) (ok_same _ r done) in omega (arith, same))
 
--- FORs in a part, and in what is behind it
+-- FORs in a part, and in what comes after it
 in_turn : (next : ℕ) (here : List Loop) (rest : ℕ → List Loop) (middle past : ℕ) → middle ≡ next + length here → past ≡ middle + length (rest middle) → past ≡ next + length (here ++ rest (next + length here))
 in_turn next here rest middle past first last =
     let more = rest (next + length here) in
@@ -113,7 +113,7 @@ mutual
       behind (r.next ≡ next + length (loops_in outer next list)) r (stmts body list (into around list) next) _ e (λ l was done.
       ap (λ x. x.next) (sym (ok_same _ r done)) ∙ stmts_next body list (into around list) outer next l was)
 
--- so too in an ERROR part
+-- the same in an ERROR part
 pub handler_next : (body : Body) (handler : Option (List Raw.PlainStmt)) (next : ℕ) (r : Typed (Option TypedStmts)) → handler_of body handler next ≡ Ok r → r.next ≡ next + length (loops_in_else None next (else_of handler))
 handler_next body None next r e = let same : next ≡ r.next = ap (λ x. x.next) (ok_same _ r e) in omega (arith, same)
 handler_next body (Some list) next r e =

@@ -4,6 +4,7 @@ use Rattle.std.proofs.lemmas.List.{append-nil, length-replicate}
 use Rattle.raw_trees.specs.Plain.{PlainExpr, PlainDatum, PlainRoutine, PlainItem, Datum, Routine}
 use Rattle.rapid_model.specs.declared.sort.Sort.{Sort}
 use Rattle.rapid_model.specs.declared.value.Value.{Value}
+use Rattle.rapid_model.proofs.Lists.{between}
 use Rattle.typed_trees.specs.Plain.{TypedLocal}
 use Rattle.constant_meaning.specs.Constants.{Elements}
 use Rattle.rule_checks.specs.TypeChecks.{Checked}
@@ -12,7 +13,6 @@ use Rattle.data_scopes.specs.Called.{local_of}
 use Rattle.data_scopes.specs.Numbers.{Tally, is_pers, is_scalar_const, after_item}
 use Rattle.data_scopes.specs.Scopes.{Names, Rows}
 use Rattle.data_scopes.proofs.Within.{after_by}
-use Rattle.data_scopes.proofs.Counted.{get_last}
 use Rattle.decl_types.specs.Values.{Initial, initial, init_rule, len_of, length_at, values_at, site_of}
 use Rattle.decl_types.specs.Data.{Progress, Inner, sort_in, keeping, with_const, with_slot, with_pers, inner_row, of_modules, datum_const, datum_pers, datum_slot, local, locals, entered, left, routine, item, items, data_of}
 use Rattle.decl_types.specs.Parts.{slot_row, pers_row}
@@ -36,7 +36,7 @@ module _ (names : Names) (number : ℕ) (around : Option ℕ) (known : Elements)
       ap (λ x. is_some x.len) (sym (ok_same _ i done)) ∙ len_some d.len len found)))
 
 module _ (rows : Rows) where
-  -- of a datum of a routine, at this place behind its parameters
+  -- of a datum of a routine, at this place after its parameters
   pub record IsLocalOf (around index : ℕ) (d : PlainDatum) (t : TypedLocal) : Type 0 where
     pub i : Initial
     pub is : t ≡ inner_row d (sort_in (local_of rows (Some around) index)) i
@@ -101,7 +101,7 @@ module _ (rows : Rows) where
         same = after.same;
       }))
 
-  -- as many rows as were counted, and the rows of the names as they were
+  -- as many rows as were counted, and the rows of the names unchanged
   pub record AreCounted (c : Tally) (p : Progress) : Type 0 where
     pub slots : c.slots ≡ length p.slots
     pub pers : c.pers ≡ length p.pers
@@ -168,7 +168,7 @@ module _ (rows : Rows) where
       let sort = sort_in (slice_get p.names.rows.pers (length p.pers)) in
       behind (Is q) q (initial p.names number None (of_modules p) sort d) _ e (λ i is done.
       let row = pers_row number own d sort i in
-      let there : slice_get (p.pers ++ row ∷ []) c.pers ≡ Some row = ap (slice_get (p.pers ++ row ∷ [])) h.pers ∙ get_last p.pers row in
+      let there : slice_get (p.pers ++ row ∷ []) c.pers ≡ Some row = ap (slice_get (p.pers ++ row ∷ [])) h.pers ∙ between p.pers [] row in
       let named : row ≡ pers_row number own d (sort_in (slice_get rows.pers c.pers)) i =
       ap (λ r. pers_row number own d (sort_in (slice_get r.pers (length p.pers))) i) h.same ∙ ap (λ k. pers_row number own d (sort_in (slice_get rows.pers k)) i) (sym h.pers) in
       subst Is (ok_same (with_pers p number own d sort i) q done) (
@@ -181,7 +181,7 @@ module _ (rows : Rows) where
       let sort = sort_in (slice_get p.names.rows.slots (length p.slots)) in
       behind (Is q) q (initial p.names number None (of_modules p) sort d) _ e (λ i is done.
       let row = slot_row d sort i in
-      let there : slice_get (p.slots ++ row ∷ []) c.slots ≡ Some row = ap (slice_get (p.slots ++ row ∷ [])) h.slots ∙ get_last p.slots row in
+      let there : slice_get (p.slots ++ row ∷ []) c.slots ≡ Some row = ap (slice_get (p.slots ++ row ∷ [])) h.slots ∙ between p.slots [] row in
       let named : row ≡ slot_row d (sort_in (slice_get rows.slots c.slots)) i =
       ap (λ r. slot_row d (sort_in (slice_get r.slots (length p.slots))) i) h.same ∙ ap (λ k. slot_row d (sort_in (slice_get rows.slots k)) i) (sym h.slots) in
       subst Is (ok_same (with_slot p d sort i) q done) (
@@ -195,7 +195,7 @@ module _ (rows : Rows) where
       let Is : Progress → Type 0 = Done AreCounted Grow (after_item c (Routine r)) (λ q. LocalsIn q c r) p in
       behind (Is q) q (locals number (length p.locals) p.known r.locals (entered p r.params)) _ e (λ n is done.
       let all = locals_done number (length p.locals) (length r.params) p.known r.locals (entered p r.params) n h.same (length-replicate (length r.params) None) is in
-      let there : slice_get (p.locals ++ n.rows ∷ []) c.routines ≡ Some n.rows = ap (slice_get (p.locals ++ n.rows ∷ [])) h.routines ∙ get_last p.locals n.rows in
+      let there : slice_get (p.locals ++ n.rows ∷ []) c.routines ≡ Some n.rows = ap (slice_get (p.locals ++ n.rows ∷ [])) h.routines ∙ between p.locals [] n.rows in
       let each : AreLocalsOf c.routines (length r.params) r.locals all.ts = subst (λ k. AreLocalsOf k (length r.params) r.locals all.ts) (sym h.routines) all.each in
       subst Is (ok_same (left p n) q done) (
         record { slots = h.slots; pers = h.pers; routines = omega (arith, h.routines, length-append p.locals (n.rows ∷ [])); same = all.same; alike = h.alike },

@@ -3,6 +3,7 @@ use Rattle.std.proofs.Common.{◌≡◌, ℕ, Bool, true, false, List, [], ◌�
 use Rattle.std.proofs.lemmas.List.{append-nil}
 use Rattle.raw_trees.specs.Plain.{PlainDatum, PlainParam, PlainRoutine, PlainItem, PlainName, Datum, Routine}
 use Rattle.rapid_model.specs.declared.sort.Sort.{Sort}
+use Rattle.rapid_model.proofs.Lists.{between}
 use Rattle.rule_checks.specs.Checks.{found_or}
 use Rattle.rule_checks.specs.declared.rule.TypeRule.TheVariants.{NoName, NotThis}
 use Rattle.rule_checks.specs.declared.spot.Spot.{Spot}
@@ -15,7 +16,6 @@ use Rattle.data_scopes.specs.Numbers.{Tally, is_pers, is_scalar_const}
 use Rattle.data_scopes.specs.Rows.{datum_row, param_row, param_rows, local_rows, result_row, routine_row, item_rows, items_rows, modules_rows, rows_by}
 use Rattle.data_scopes.specs.Scopes.{Tables, RoutineRow, Rows, meaning}
 use Rattle.data_scopes.proofs.Within.{after_by}
-use Rattle.data_scopes.proofs.Counted.{get_last}
 use Rattle.name_laws.specs.Declared.{IsType, IsResultType, AreEach}
 use Rattle.name_laws.proofs.Items.{Fact, IsWalk, Stepped, IsFront, front_more, stays}
 
@@ -34,7 +34,7 @@ type_found tables spot name sort e =
     })
 
 module _ (tables : Tables) where
-  -- of a datum, by the number of its module, and of its routine where it stands in one
+  -- of a datum, by the number of its module, and of its routine if it is in one
   abbrev pub IsDatumRow : ℕ → Option ℕ → PlainDatum → DatumRow → Type 0
   IsDatumRow number routine d row = IsType tables (spot_of number routine d.sort) d.sort row.sort
 
@@ -52,7 +52,7 @@ module _ (tables : Tables) where
       behind (IsParam number routine p row) row (sort_at tables (spot_of number (Some routine) p.sort) p.sort) _ e (λ sort is done.
       subst (IsParam number routine p) (ok_same _ _ done) (record { mode = refl; sort = type_found tables (spot_of number (Some routine) p.sort) p.sort sort is }))
 
-  -- rows behind these, one for each declaration
+  -- rows after these, one for each declaration
   record Behind {A B : Type 0} (IsSuch : A → B → Type 0) (xs : List A) (before past : List B) : Type 0 where
     pub ys : List B
     pub is : past ≡ before ++ ys
@@ -141,12 +141,12 @@ module _ (tables : Tables) where
   datum_stepped number c d rows row false true h typed = (
     record { slots = h.slots; pers = omega (arith, h.pers, length-append rows.pers (row ∷ [])); routines = h.routines },
     record { slots = stays rows.slots; pers = front_more rows.pers row; routines = stays rows.routines },
-    (row, ap (slice_get (rows.pers ++ row ∷ [])) h.pers ∙ get_last rows.pers row, typed),
+    (row, ap (slice_get (rows.pers ++ row ∷ [])) h.pers ∙ between rows.pers [] row, typed),
   )
   datum_stepped number c d rows row false false h typed = (
     record { slots = omega (arith, h.slots, length-append rows.slots (row ∷ [])); pers = h.pers; routines = h.routines },
     record { slots = front_more rows.slots row; pers = stays rows.pers; routines = stays rows.routines },
-    (row, ap (slice_get (rows.slots ++ row ∷ [])) h.slots ∙ get_last rows.slots row, typed),
+    (row, ap (slice_get (rows.slots ++ row ∷ [])) h.slots ∙ between rows.slots [] row, typed),
   )
 
   item_stepped : (number : ℕ) (c : Tally) (item : PlainItem) (rows got : Rows) → AreCounted c rows → item_rows tables number item rows ≡ Ok got → Stepped AreCounted Grow RowIn number c item rows got
@@ -161,7 +161,7 @@ module _ (tables : Tables) where
         record { slots = stays rows.slots; pers = stays rows.pers; routines = front_more rows.routines row },
         (
           row,
-          ap (slice_get (rows.routines ++ row ∷ [])) h.routines ∙ get_last rows.routines row,
+          ap (slice_get (rows.routines ++ row ∷ [])) h.routines ∙ between rows.routines [] row,
           subst (λ n. IsRoutine number n r row) (sym h.routines) (routine_typed number (length rows.routines) r row is),
         ),
       ))

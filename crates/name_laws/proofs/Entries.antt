@@ -1,4 +1,5 @@
--- What is found in scopes is as their entries are, each by its name in small letters and by what it means.
+-- What holds of the entries of scopes, each by its name in lower case and by what it means, holds of what is found in
+-- them.
 use Rattle.std.proofs.Common.{◌≡◌, ℕ, zero, suc, ◌+◌, Bool, true, false, List, [], ◌∷◌, ◌++◌, Option, Some, None, is_some, IfSome, length, refl, sym, subst, if◌then◌else◌, bytes_eq, arith}
 use Rattle.std.specs.Option.{option_map, option_or}
 use Rattle.std.specs.Str.{str_to_ascii_lowercase}
@@ -17,7 +18,7 @@ abbrev pub Holds : (List ℕ → Meant → Type 0) → Scope → Type 0
 Holds P [] = Unit {0}
 Holds P (entry ∷ entries) = P entry.0 entry.1 × Holds P entries
 
--- scopes one behind the other, the first of which has this number
+-- scopes one after the other, given the number of the first
 abbrev pub EachHolds : (ℕ → List ℕ → Meant → Type 0) → ℕ → List Scope → Type 0
 EachHolds P number [] = Unit {0}
 EachHolds P number (scope ∷ scopes) = Holds (P number) scope × EachHolds P (number + 1) scopes
@@ -51,7 +52,7 @@ holds_at P number zero (s ∷ ss) all = let e : number ≡ number + zero = omega
 holds_at P number (suc k) (s ∷ ss) all =
     let e : (number + 1) + k ≡ number + suc k = omega arith in subst (λ n. Holds (P n) (list_at ss k)) e (holds_at P (number + 1) k ss all.1)
 
--- where it is as this says, it is as that says
+-- what holds of it implies what is weaker
 pub raised : (o : Option Meant) (P Q : Meant → Type 0) → ((m : Meant) → P m → Q m) → IfSome o P → IfSome o Q
 raised None P Q f h = tt
 raised (Some m) P Q f h = f m h
@@ -65,7 +66,7 @@ module _ (tables : Tables) (spot : Spot) (name : List ℕ) (Q : Meant → Type 0
   mapped f None h = tt
   mapped f (Some x) h = h x refl
 
-  -- what no module declares is such
+  -- what no module declares has the property
   pub record IsElsewhere : Type 0 where
     pub instructions : (i : Instruction) → Q (meants.Instruction i)
     pub functions : (f : Function) → Q (meants.Function f)
@@ -77,7 +78,7 @@ module _ (tables : Tables) (spot : Spot) (name : List ℕ) (Q : Meant → Type 0
       let loops = list_at tables.loops routine in
       loop_named (length loops) (str_to_ascii_lowercase name) loops spot.within ≡ Some k
 
-  -- what is declared in each place is such
+  -- what is declared in each place has the property
   pub record AreSources : Type 0 where
     pub counters : (routine k : ℕ) → spot.routine ≡ Some routine → Counter routine k → Q (meants.For k)
     pub inner : (routine : ℕ) → spot.routine ≡ Some routine → IfSome (meant_in name (list_at tables.inner routine)) Q

@@ -1,5 +1,5 @@
--- Two FORs of one variable, one behind the other: in the second one's list the name means the second, and the law refuses the
--- first as its meaning.
+-- Two FORs with the same variable, one after the other: in the list of the second, the name means the second, and the
+-- law rejects the first as its meaning.
 use Rattle.std.proofs.Common.{◌≡◌, ℕ, zero, suc, false, [], ◌∷◌, None, Some, List, codes, refl, sym, ap, subst, slice_get}
 use Rattle.raw_trees.specs.Plain.{PlainModule, PlainName, PlainRoutine, PlainStmt, Routine, Number, For, NoStmts}
 use Rattle.rapid_model.specs.declared.routine_kind.RoutineKind.TheVariants as routines
@@ -17,7 +17,7 @@ word text = record { text = text; at = 0 }
 abbrev count : PlainStmt
 count = For 0 (word (codes "i")) (Number 0 (codes "1")) (Number 0 (codes "2")) None NoStmts
 
--- PROC main(), with FOR i and once more FOR i
+-- PROC main(), with FOR i and again FOR i
 abbrev main : PlainRoutine
 main = record {
   local = false;
@@ -61,7 +61,7 @@ routine_is : (index : ℕ) (r : PlainRoutine) → slice_get one.items index ≡ 
 routine_is zero r e = cc
 routine_is (suc index) r e = absurd (cc)
 
--- so the law refuses the first one as what the name means, whatever the typed tree
+-- so the law rejects the first one as what the name means, for any typed tree
 first_is_refused : (tree : TypedTree) → HasItsRow (one ∷ []) [] tree spot (codes "i") (meants.For 0) → ⊥
 first_is_refused tree h =
     let s = h.inside.stands in

@@ -1,4 +1,4 @@
--- What is true of each item of modules where it stands: by the number of its module, and by how many of each kind stand before.
+-- What holds of each item of modules, by the number of its module and by the counts before it.
 use Rattle.std.proofs.Common.{◌≡◌, ℕ, zero, suc, ◌+◌, List, [], ◌∷◌, ◌++◌, Some, Ok, slice_get, sym, ap, subst, ◌∙◌, arith}
 use Rattle.raw_trees.specs.Plain.{PlainItem, PlainModule}
 use Rattle.rule_checks.specs.Checks.{◌>>=◌}
@@ -43,7 +43,7 @@ rest_first all index x rest is = let e : index ≡ index + 0 = omega arith in ap
 pub rest_more : {A : Type 0} (all : List A) (index : ℕ) (x : A) (rest : List A) → Rest all index (x ∷ rest) → Rest all (index + 1) rest
 rest_more all index x rest is k = let e : (index + 1) + k ≡ index + suc k = omega arith in ap (slice_get all) e ∙ is (suc k)
 
--- each item stands in the module of its number
+-- each item is in the module with its number
 module _ (modules : List PlainModule) where
   abbrev pub Stands : Fact
   Stands number c item = StandsIn modules number item
@@ -62,7 +62,7 @@ module _ (modules : List PlainModule) where
     modules_stand (number + 1) (after_items c m.items) ms (rest_more modules number m ms rest),
   )
 
--- what a step makes of what it began with: there is as much as is counted, what was there stays, and this holds of it
+-- what a step makes of its start: there is as much as is counted, what was there stays, and this holds of it
 abbrev pub Done : {S : Type 0} → (Tally → S → Type 0) → (S → S → Type 0) → Tally → (S → Type 0) → S → S → Type 0
 Done Counted Grows c In s t = Counted c t × Grows s t × In t
 
@@ -70,7 +70,7 @@ Done Counted Grows c In s t = Counted c t × Grows s t × In t
 abbrev pub Stepped : {S : Type 0} → (Tally → S → Type 0) → (S → S → Type 0) → (S → Fact) → ℕ → Tally → PlainItem → S → S → Type 0
 Stepped Counted Grows B number c item s t = Done Counted Grows (after_item c item) (λ u. B u number c item) s t
 
--- a walk over the items of modules that ends at the first broken rule: what its steps make stays
+-- a pass over the items of modules that stops at the first broken rule: what its steps make stays
 pub record IsWalk (S : Type 0) (step : ℕ → PlainItem → S → Checked S) (fold : ℕ → List PlainItem → S → Checked S) (walk : ℕ → List PlainModule → S → Checked S)
     (Counted : Tally → S → Type 0) (Grows : S → S → Type 0) (B : S → Fact) : Type 0 where
   pub no_items : (number : ℕ) (s : S) → fold number [] s ≡ Ok s
@@ -127,7 +127,7 @@ module _ (S : Type 0) (step : ℕ → PlainItem → S → Checked S) (fold : ℕ
         all = (items_later u t number c m.items after.grows here.all, after.all);
       })
 
--- what stands in a list stands in another one at the same place
+-- each element of a list is in another one at the same place
 abbrev pub IsFront : {A : Type 0} → List A → List A → Type 0
 IsFront {A = A} xs ys = (k : ℕ) (x : A) → slice_get xs k ≡ Some x → slice_get ys k ≡ Some x
 

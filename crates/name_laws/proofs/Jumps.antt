@@ -1,4 +1,4 @@
--- The GOTOs of statements go to labels of their own list or of a list around.
+-- The GOTOs of statements go to labels of their own list or of an enclosing list.
 use Rattle.std.proofs.Common.{◌≡◌, ℕ, zero, suc, ◌+◌, ◌==◌, Bool, true, false, not, ◌||◌, List, [], ◌∷◌, ◌++◌, map, Option, Some, None, Ok, slice_get, refl, sym, ap, subst, ◌∙◌, if◌then◌else◌, bytes_eq, arith}
 use Rattle.std.specs.List.{Contains, list_any}
 use Rattle.std.specs.Option.{option_map}
@@ -32,9 +32,9 @@ use Rattle.named_data.specs.Rules.{Site, at_byte, fail}
 use Rattle.expr_types.specs.Calls.{routine_signature, instruction_signature}
 use Rattle.expr_types.specs.Places.{lent_place}
 use Rattle.expr_types.specs.Typing.{typed, call_arguments, sort_of}
-use Rattle.body_types.specs.Bodies.{Body, Around, Typed, outside, site, into, into_loop, target, place_sort, name_of, no_signal, is_function, trap_meant, assigned, called, call_meant, procedure, labelled, jumped, returned, returned_value, raised, in_handler, connected, bounds, case_values, then_next, stmt, stmts, branches, choices, otherwise}
-use Rattle.body_types.specs.Labels.{own_labels, names_label, labels_of, labels_in, labels_in_arms, labels_in_cases, labels_in_else, label_number, is_first, is_visible}
-use Rattle.stmt_types.specs.Task.{handler_of}
+use Rattle.stmt_types.specs.Bodies.{Body, Around, Typed, outside, site, into, into_loop, target, place_sort, name_of, no_signal, is_function, trap_meant, assigned, called, call_meant, procedure, labelled, jumped, returned, returned_value, raised, in_handler, connected, bounds, case_values, then_next, stmt, stmts, branches, choices, otherwise}
+use Rattle.stmt_types.specs.Labels.{own_labels, names_label, labels_of, labels_in, labels_in_arms, labels_in_cases, labels_in_else, label_number, is_first, is_visible}
+use Rattle.task_types.specs.Task.{handler_of}
 use Rattle.name_laws.specs.Jumps.{own_label, own, Lands, Land, LandInArms, LandInCases, LandInElse, IsApart, AreApart, AreInOrder}
 
 -- a form without labels, jumps and lists
@@ -130,7 +130,7 @@ first_by : (l label : PlainName) (labels : List PlainName) (b : Bool) → (if b 
 first_by l label labels true h rest = ap Some ((Decides-eqb label.at l.at).0 h)
 first_by l label labels false h rest = rest h
 
--- the label of a first one's number stands at its byte
+-- the label with a first one's number is at its byte
 first_at : (l : PlainName) (labels : List PlainName) → is_first l labels ≡ true → at_in labels (label_number l.text labels) ≡ Some l.at
 first_at l [] h = absurd (cc)
 first_at l (label ∷ labels) h = first_by l label labels (names_label l.text label) h (first_at l labels)
@@ -148,7 +148,7 @@ module _ (labels : List PlainName) where
   all_apart [] fs h = tt
   all_apart (l ∷ ls) fs h = (one_apart l ls fs.0 fs.1 h.0, all_apart ls fs.1 h.1)
 
--- what stands at one place alone
+-- what is at only one place
 not_behind : (n : ℕ) (ns : List ℕ) (k : ℕ) → IsApart n ns → slice_get ns k ≡ Some n → ⊥
 not_behind n [] k apart at = absurd (cc at)
 not_behind n (m ∷ ns) zero apart at = let e : m ≡ n = cc at in apart.0 (sym e)
@@ -166,7 +166,7 @@ first_there labels [] k l fs at = absurd (cc at)
 first_there labels (m ∷ ls) zero l fs at = let e : m ≡ l = cc at in subst (λ x. is_first x labels ≡ true) e fs.0
 first_there labels (m ∷ ls) (suc k) l fs at = first_there labels ls k l fs.1 at
 
--- first labels that stand apart are numbered in their order
+-- first labels at different bytes are numbered in order
 pub in_order : (labels : List PlainName) → AreFirst labels labels → AreApart (map (λ x. x.at) labels) → AreInOrder (numbered labels labels)
 in_order labels fs apart index n at = there (slice_get labels index) refl (sym (slice_get-map (number labels) labels index) ∙ at)
   where
@@ -216,7 +216,7 @@ module _ (body : Body) where
     pub all : numbers_in_else t ≡ numbered body.labels (labels_in_else other)
     pub first : AreFirst body.labels (labels_in_else other)
 
-  -- in a list of its own the labels are around too
+  -- in a list of its own, the labels are around it too
   pub within : (around : List PlainName) (list : PlainStmts) (t : TypedStmts) → ListDone (own_labels list ++ around) list t → Land (own t ++ numbered body.labels around) t
   within around list t d =
       subst (λ ns. Land ns t)
@@ -375,7 +375,7 @@ module _ (body : Body) where
         subst (ElseDone around.labels (Else list)) (ap (λ x. x.tree) (ok_same _ r done))
         (record { lands = within around.labels list l.tree here; all = here.all; first = here.first }))
 
-  -- so too in an ERROR part
+  -- the same in an ERROR part
   pub handler_done : (handler : Option (List Raw.PlainStmt)) (next : ℕ) (r : Typed (Option TypedStmts)) → handler_of body handler next ≡ Ok r → ElseDone [] (else_of handler) (error_part r.tree)
   handler_done None next r e =
       subst (λ t. ElseDone [] NoElse (error_part t)) (ap (λ x. x.tree) (ok_same _ r e)) (record { lands = tt; all = refl; first = tt })

@@ -92,7 +92,7 @@ module _ (modules : List PlainModule) (signals : List SignalRow) (axes : ℕ) (t
   own_row first inside meant (inr e) =
       subst Q (sym e.means) (local_row inside e.index e.consts e.d e.is_datum e.named (is_scalar_const e.d) refl)
 
-  -- the routine in which the spot stands
+  -- the routine around the spot
   abbrev around : (number : ℕ) (c : Tally) (r : PlainRoutine) → A number c (Routine r) → spot.routine ≡ Some c.routines → Inside modules signals tree spot name
   around number c r h is = record { routine = c.routines; number = number; r = r; row = h.1.row; is_inside = is; stands = h.0; has_row = h.1.has_row; is_row = h.1.is_row }
 

@@ -8,7 +8,7 @@ use Rattle.typed_trees.specs.Plain.{TypedSlot}
 use Rattle.data_scopes.specs.declared.data_row.DatumRow.{DatumRow}
 use Rattle.data_scopes.specs.Meetings.{is_meeting, meetings_before}
 use Rattle.data_scopes.specs.Sorts.{same_sort}
-use Rattle.stmt_types.specs.Task.{meeting_names}
+use Rattle.task_types.specs.Task.{meeting_names}
 use Rattle.decl_types.specs.Data.{sort_in}
 use Rattle.name_laws.specs.Meetings.{IsMeeting}
 
@@ -46,7 +46,7 @@ is_meeting_sort sorts.ShapeData is = absurd (cc)
 is_meeting_sort sorts.WzTemporary is = absurd (cc)
 is_meeting_sort sorts.WzStationary is = absurd (cc)
 
--- so many meetings before, where the first one of the rest is one or is none
+-- this many meetings before, and the first one of the rest is one or not
 number_by : (b : Bool) (name : List ℕ) (names : List (List ℕ)) (n : ℕ) (x : Option (List ℕ)) → slice_get names n ≡ x → slice_get (if b then name ∷ names else names) ((if b then 1 else 0) + n) ≡ x
 number_by true name names n x is = let e : 1 + n ≡ suc n = omega arith in ap (slice_get (name ∷ names)) e ∙ is
 number_by false name names n x is = let e : 0 + n ≡ n = omega arith in ap (slice_get names) e ∙ is

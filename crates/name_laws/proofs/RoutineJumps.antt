@@ -13,9 +13,9 @@ use Rattle.data_scopes.specs.Naming.{names_of}
 use Rattle.data_scopes.specs.Scopes.{Names}
 use Rattle.named_data.specs.Rules.{at_byte}
 use Rattle.decl_types.specs.Data.{beginning, data_of}
-use Rattle.body_types.specs.Bodies.{outside, stmts, into}
-use Rattle.body_types.specs.Labels.{labels_in, labels_in_else, labels_in_routine}
-use Rattle.stmt_types.specs.Task.{task_of, handler_of, body_of, typed_routine, item_bodies, items_bodies, bodies, main_or, top, main_among, routines_of, tree_of}
+use Rattle.stmt_types.specs.Bodies.{outside, stmts, into}
+use Rattle.stmt_types.specs.Labels.{labels_in, labels_in_else, labels_in_routine}
+use Rattle.task_types.specs.Task.{task_of, handler_of, body_of, typed_routine, item_bodies, items_bodies, bodies, main_or, top, main_among, routines_of, tree_of}
 use Rattle.name_laws.specs.Declared.{StandsIn}
 use Rattle.name_laws.specs.Jumps.{JumpsLand, AreApart, AreInOrder, LabelsApart}
 use Rattle.name_laws.proofs.Items.{Rest, rest_all, rest_first, rest_more}

@@ -1,4 +1,4 @@
--- Each entry of the scopes of a task's modules is that of a declaration, of which this is true where it stands.
+-- Each entry of the scopes of a task's modules is that of a declaration, of which this holds where it is.
 use Rattle.std.proofs.Common.{◌≡◌, ◌≢◌, ◌⊎◌, inl, inr, ℕ, zero, suc, ◌+◌, Bool, true, false, List, [], ◌∷◌, ◌++◌, length, Option, Some, None, slice_get, refl, sym, ap, subst, ◌∙◌, if◌then◌else◌, bytes_eq, true≢false, arith}
 use Rattle.std.specs.Str.{str_to_ascii_lowercase}
 use Rattle.std.proofs.lemmas.Slice.Eq.{bytes_eq-Decides}
@@ -23,7 +23,7 @@ pub record ParamEntry (r : PlainRoutine) (key : List ℕ) (meant : Meant) : Type
   pub named : key ≡ str_to_ascii_lowercase p.name.text
   pub means : meant ≡ param_meant index p.mode
 
--- a datum of a routine, by its place behind the parameters, and by how many CONSTs stand before it
+-- a datum of a routine, by its place after the parameters, and by how many CONSTs come before it
 pub record LocalEntry (first : ℕ) (r : PlainRoutine) (key : List ℕ) (meant : Meant) : Type 0 where
   pub index : ℕ
   pub consts : ℕ
@@ -66,19 +66,19 @@ routine_entered c r =
     subst (λ n. Holds (PlaceEntry c.consts r) (declare_locals n c.consts r.locals params)) e
     (locals_entered c.consts r 0 c.consts r.locals params (rest_all r.locals) (omega arith) (params_entered c.consts r 0 r.params [] (rest_all r.params) tt))
 
--- entries that are such by one test are by another
+-- what holds of entries implies what is weaker
 holds_more : (P Q : List ℕ → Meant → Type 0) (scope : Scope) → ((key : List ℕ) (meant : Meant) → P key meant → Q key meant) → Holds P scope → Holds Q scope
 holds_more P Q [] f all = tt
 holds_more P Q (e ∷ es) f all = (f e.0 e.1 all.0, holds_more P Q es f all.1)
 
--- a datum of a module is no routine
+-- a datum of a module is not a routine
 pub no_routine : (c : Tally) (scalar pers : Bool) → (after_by c scalar pers).routines ≡ c.routines
 no_routine c true pers = refl
 no_routine c false true = refl
 no_routine c false false = refl
 
 module _ (A : Fact) where
-  -- an item of the module of this number
+  -- an item of the module with this number
   pub record ItemEntry (local : Bool) (number : ℕ) (key : List ℕ) (meant : Meant) : Type 0 where
     pub c : Tally
     pub item : PlainItem
@@ -91,7 +91,7 @@ module _ (A : Fact) where
   abbrev pub TaskEntry : List ℕ → Meant → Type 0
   TaskEntry key meant = (number : ℕ) × ItemEntry false number key meant
 
-  -- a parameter or a datum of the routine of this number
+  -- a parameter or a datum of the routine with this number
   pub record InnerEntry (routine : ℕ) (key : List ℕ) (meant : Meant) : Type 0 where
     pub number : ℕ
     pub c : Tally
@@ -150,7 +150,7 @@ module _ (A : Fact) where
   inner_scopes_entered number c (m ∷ ms) h =
       inner_entered number c m.items (inner_scopes (after_items c m.items) ms) h.0 (inner_scopes_entered (number + 1) (after_items c m.items) ms h.1)
 
-  -- the FORs of the routine of this number
+  -- the FORs of the routine with this number
   pub record RoutineLoops (routine : ℕ) (loops : List Loop) : Type 0 where
     pub number : ℕ
     pub c : Tally
@@ -189,7 +189,7 @@ module _ (A : Fact) where
       let e : 0 + routine ≡ routine = omega arith in
       subst (λ n. RoutineLoops n (list_at (all_loops modules) routine)) e (loops_at 0 routine (all_loops modules) index loop (all_loops_entered 0 no_counts modules h) is)
 
--- the nearest FOR of the variable, from this one outward
+-- the nearest FOR with the variable, from this one outward
 pub record LoopFound (key : List ℕ) (loops : List Loop) (k : ℕ) (innermost : Option ℕ) : Type 0 where
   pub loop : Loop
   pub nearer : List ℕ

@@ -1,4 +1,4 @@
--- What a name means is such where each declaration that it may be is such.
+-- What holds of each declaration that a name may mean holds of what it means.
 use Rattle.std.proofs.Common.{◌≡◌, ℕ, ◌+◌, true, List, [], length, Some, slice_get, IfSome, refl, sym, ap, subst, ◌∙◌, true≢false, arith, Bool, false}
 use Rattle.std.specs.Str.{str_to_ascii_lowercase}
 use Rattle.raw_trees.specs.Plain.{PlainRoutine, PlainItem, PlainModule, Routine}
@@ -20,7 +20,7 @@ module _ (modules : List PlainModule) (signals : List SignalRow) (spot : Spot) (
   abbrev tables : Tables
   tables = tables_of modules signals
 
-  -- items, places of a routine, FORs and the script's signals are such
+  -- items, places of a routine, FORs and the script's signals have the property
   pub record AreSuch : Type 0 where
     pub items : (number : ℕ) (c : Tally) (item : PlainItem) → A number c item → IsSeen modules spot name number item → Q (item_meant c item)
     pub places : (number : ℕ) (c : Tally) (r : PlainRoutine) → A number c (Routine r) → spot.routine ≡ Some c.routines → (meant : Meant) → PlaceEntry c.consts r (str_to_ascii_lowercase name) meant → Q meant

@@ -19,7 +19,7 @@ use Rattle.data_scopes.specs.Rows.{item_rows, items_rows, modules_rows, no_rows}
 use Rattle.data_scopes.specs.Scopes.{Names, RoutineRow, Rows, Tables, list_at}
 use Rattle.named_data.specs.Rules.{at_byte}
 use Rattle.decl_types.specs.Data.{Progress, sort_in, beginning, item, items, data_of}
-use Rattle.stmt_types.specs.Task.{task_of, typed_params, item_bodies, items_bodies, bodies, main_or, top, main_among, routines_of, tree_of}
+use Rattle.task_types.specs.Task.{task_of, typed_params, item_bodies, items_bodies, bodies, main_or, top, main_among, routines_of, tree_of}
 use Rattle.name_laws.specs.Declared.{StandsIn, IsType, IsResultType, AreEach}
 use Rattle.name_laws.specs.Rows.{IsSlotRow, IsPersRow, IsParamRow, IsLocalRow, IsRoutineRow}
 use Rattle.data_scopes.specs.Meetings.{is_meeting}
@@ -42,7 +42,7 @@ list_there [] k list is = absurd (cc)
 list_there (x ∷ xs) zero list is = cc
 list_there (x ∷ xs) (suc k) list is = list_there xs k list is
 
--- behind the parameters are the data
+-- the data come after the parameters
 place_found : (row : RoutineRow) (n index : ℕ) → n ≡ length row.params → own_row row (n + index) ≡ slice_get row.locals index
 place_found row n index as_many =
     let le : length row.params ≤ n + index = omega (arith, as_many) in
@@ -107,7 +107,7 @@ module _ (tables : Tables) (slots : List TypedSlot) (pers : List TypedPers) (rou
   HasRow number c (Datum local task d at) = DatumIn number c (local || task) d (is_scalar_const d) (is_pers d.kind)
   HasRow number c (Routine r) = RoutineIn number c r
 
-  -- where it stands, and its row
+  -- where it is, and its row
   abbrev pub IsInTree : List PlainModule → Fact
   IsInTree modules number c item = StandsIn modules number item × HasRow number c item
 
@@ -187,7 +187,7 @@ module _ (tables : Tables) (rows : Rows) (p : Progress) (routines : List TypedRo
       modules_made (Stands modules) (HasRow tables p.slots p.pers routines) (IsInTree tables p.slots p.pers routines modules) (λ number c item a b. (a, b)) 0 no_counts modules
       (modules_stand modules 0 no_counts modules (rest_all modules)) all
 
--- the tree of modules that were checked, as far as rows go
+-- the tree of checked modules, as far as rows go
 pub record Checked (modules : List PlainModule) (signals : List SignalRow) (axes : ℕ) (tree : TypedTree) : Type 0 where
   pub names : Names
   pub named : names_of modules signals axes ≡ Ok names

@@ -1,4 +1,5 @@
--- Which CONST that is no array a number is: those of modules and of routines are numbered together, and each has a row and a value.
+-- Which CONST, other than an array, a number means: those of modules and of routines are numbered together, and each
+-- has a row and a value.
 use Rattle.std.specs.Prelude.{◌≡◌, ◌⊎◌, ℕ, ◌<◌, ◌≤◌, Bool, true, false, List, [], ◌∷◌, Option, Some, None, Ok, slice_get}
 use Rattle.raw_trees.specs.Plain.{PlainDatum, PlainModule, Datum}
 use Rattle.rapid_model.specs.declared.signal_row.SignalRow.{SignalRow}
@@ -17,16 +18,16 @@ use Rattle.decl_types.specs.Values.{initial}
 use Rattle.name_laws.specs.Declared.{IsSeen, IsType}
 use Rattle.name_laws.specs.Meant.{Inside}
 
--- a CONST that is no array of the module of this number, and of this routine where it stands in one; what begins behind its value may
--- name it
+-- a CONST, other than an array, of the module with this number, and of this routine if it is in one; what starts after
+-- its value may name it
 pub record IsConstRow (tables : Tables) (number : ℕ) (routine : Option ℕ) (d : PlainDatum) (row : DatumRow) : Type 0 where
   pub constant : is_scalar_const d ≡ true
   pub sort : IsType tables (spot_of number routine d.sort) d.sort row.sort
   pub no_array : row.array ≡ false
   pub since : row.since ≡ Some (record { «module» = number; at = value_at d.name d.first })
 
--- These names, after all data were checked, have the value of this number, and it is the one that this declaration came to, where
--- just the values of the numbers below were known.
+-- After all data were checked, these names have the value with this number. It is the value of this declaration when
+-- just the values with lower numbers were known.
 pub record HasItsValue (names : Names) (k number : ℕ) (routine : Option ℕ) (d : PlainDatum) (sort : Sort) : Type 0 where
   pub before : Names
   pub known : Elements
@@ -38,7 +39,7 @@ pub record HasItsValue (names : Names) (k number : ℕ) (routine : Option ℕ) (
   pub above : (j : ℕ) (value : Option Value) → k ≤ j → slice_get before.kept j ≡ Some value → value ≡ None
 
 module _ (modules : List PlainModule) (signals : List SignalRow) (tree : TypedTree) (names : Names) (spot : Spot) (name : List ℕ) where
-  -- a CONST of a module that is seen, its row and its value
+  -- a visible CONST of a module, its row and its value
   pub record IsModuleConst (k : ℕ) : Type 0 where
     pub number : ℕ
     pub local : Bool
@@ -51,7 +52,7 @@ module _ (modules : List PlainModule) (signals : List SignalRow) (tree : TypedTr
     pub is_row : IsConstRow (tables_of modules signals) number None d row
     pub has_value : HasItsValue names k number None d row.sort
 
-  -- a CONST of the routine around, its row and its value
+  -- a CONST of the enclosing routine, its row and its value
   pub record IsRoutineConst (k : ℕ) : Type 0 where
     pub inside : Inside modules signals tree spot name
     pub index : ℕ
@@ -63,6 +64,6 @@ module _ (modules : List PlainModule) (signals : List SignalRow) (tree : TypedTr
     pub is_row : IsConstRow (tables_of modules signals) inside.number (Some inside.routine) d row
     pub has_value : HasItsValue names k inside.number (Some inside.routine) d row.sort
 
-  -- the number of a CONST that is seen
+  -- the number of a visible CONST
   abbrev pub IsConst : ℕ → Type 0
   IsConst k = IsModuleConst k ⊎ IsRoutineConst k

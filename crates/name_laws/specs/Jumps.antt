@@ -1,12 +1,12 @@
--- To which labels the GOTOs of a typed routine go, that no label is another one, and how labels are numbered.
+-- Which labels the GOTOs of a typed routine go to, that all labels differ, and how labels are numbered.
 use Rattle.std.specs.Prelude.{◌≡◌, ◌≢◌, ℕ, List, [], ◌∷◌, ◌++◌, map, Some, slice_get}
 use Rattle.std.specs.List.{Contains}
 use Rattle.raw_trees.specs.Plain.{PlainRoutine}
 use Rattle.typed_trees.specs.Plain.{TypedStmt, TypedStmts, TypedArms, TypedCases, TypedElse, TypedRoutine, Label, Goto, If, IfOne, For, While, Test, NoStmts, MoreStmts, NoArms, MoreArms, NoCases, MoreCases, NoElse, Else}
 use Rattle.typed_trees.specs.Labels.{error_part}
-use Rattle.body_types.specs.Labels.{labels_in_routine}
+use Rattle.stmt_types.specs.Labels.{labels_in_routine}
 
--- the labels that stand in a list itself
+-- a list's own labels
 abbrev pub own_label : TypedStmt → List ℕ
 own_label (Label at number) = number ∷ []
 own_label _ = []
@@ -15,7 +15,7 @@ abbrev pub own : TypedStmts → List ℕ
 own NoStmts = []
 own (MoreStmts stmt list) = own_label stmt ++ own list
 
--- each GOTO goes to a label of its own list or of a list around it; these are the labels of the lists around
+-- each GOTO goes to a label of its own list or of an enclosing list; these are the labels of the enclosing lists
 abbrev mutual
   pub Lands : List ℕ → TypedStmt → Type 0
   Lands around (Goto at number) = Contains around number
@@ -60,6 +60,6 @@ AreApart (x ∷ xs) = IsApart x xs × AreApart xs
 abbrev pub AreInOrder : List ℕ → Type 0
 AreInOrder numbers = (index number : ℕ) → slice_get numbers index ≡ Some number → number ≡ index
 
--- the labels of a routine stand at different bytes, as those of each text do
+-- the labels of a routine are at different bytes, as in every text
 abbrev pub LabelsApart : PlainRoutine → Type 0
 LabelsApart r = AreApart (map (λ label. label.at) (labels_in_routine r))

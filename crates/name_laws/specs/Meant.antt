@@ -1,4 +1,4 @@
--- Which row each number has that a name means at a spot of a task's modules.
+-- The row of each number that a name means at a spot of a task's modules.
 use Rattle.std.specs.Prelude.{◌≡◌, ◌≢◌, ◌⊎◌, ℕ, ◌+◌, ◌<◌, ◌||◌, Bool, true, false, List, [], ◌∷◌, length, Option, Some, slice_get}
 use Rattle.std.specs.Str.{str_to_ascii_lowercase}
 use Rattle.raw_trees.specs.Plain.{PlainDatum, PlainParam, PlainRoutine, PlainModule, Datum, Routine}
@@ -16,22 +16,23 @@ use Rattle.data_scopes.specs.Scopes.{Loop}
 use Rattle.name_laws.specs.Declared.{StandsIn, IsSeen}
 use Rattle.name_laws.specs.Rows.{IsSlotRow, IsPersRow, IsParamRow, IsLocalRow, IsRoutineRow}
 
--- an argument by value is the routine's own; any other parameter is a reference
+-- a by-value parameter is the routine's own; any other parameter is a reference
 abbrev pub is_by_value : Mode → Bool
 is_by_value modes.Value = true
 is_by_value modes.Inout = false
 is_by_value modes.Var = false
 is_by_value modes.Pers = false
 
--- A spot stands in FOR k of a routine, and nearer in these FORs, none of which has the variable: the first of them is the innermost
--- one around the spot, each stands in the list of the next, and the last in that of FOR k. With none nearer FOR k is the innermost.
+-- A spot is in FOR k of a routine, with these FORs nearer, none of which has the variable: the first of them is the
+-- innermost one around the spot, each is in the list of the next, and the last in that of FOR k. If none is nearer, FOR
+-- k is the innermost.
 abbrev pub StandsInFor : List Loop → List ℕ → ℕ → Option ℕ → List ℕ → Type 0
 StandsInFor loops variable k innermost [] = innermost ≡ Some k
 StandsInFor loops variable k innermost (n ∷ nearer) =
     (innermost ≡ Some n) × (loop : Loop) × (slice_get loops n ≡ Some loop) × (variable ≢ loop.name) × StandsInFor loops variable k loop.outer nearer
 
 module _ (modules : List PlainModule) (signals : List SignalRow) (tree : TypedTree) (spot : Spot) (name : List ℕ) where
-  -- a VAR or an array CONST that is seen, and its row
+  -- a visible VAR or array CONST, and its row
   pub record IsSlot (k : ℕ) : Type 0 where
     pub number : ℕ
     pub local : Bool
@@ -43,7 +44,7 @@ module _ (modules : List PlainModule) (signals : List SignalRow) (tree : TypedTr
     pub has_row : slice_get tree.slots k ≡ Some row
     pub is_row : IsSlotRow (tables_of modules signals) number d row
 
-  -- a PERS that is seen, and its row
+  -- a visible PERS, and its row
   pub record IsPers (k : ℕ) : Type 0 where
     pub number : ℕ
     pub local : Bool
@@ -55,7 +56,7 @@ module _ (modules : List PlainModule) (signals : List SignalRow) (tree : TypedTr
     pub has_row : slice_get tree.pers k ≡ Some row
     pub is_row : IsPersRow (tables_of modules signals) number (local || task) d row
 
-  -- a routine that is seen, and its row
+  -- a visible routine, and its row
   pub record IsRoutine (k : ℕ) : Type 0 where
     pub number : ℕ
     pub r : PlainRoutine
@@ -64,7 +65,7 @@ module _ (modules : List PlainModule) (signals : List SignalRow) (tree : TypedTr
     pub has_row : slice_get tree.routines k ≡ Some row
     pub is_row : IsRoutineRow (tables_of modules signals) number k r row
 
-  -- the routine in which the spot stands, and its row
+  -- the routine around the spot, and its row
   pub record Inside : Type 0 where
     pub routine : ℕ
     pub number : ℕ
@@ -75,7 +76,7 @@ module _ (modules : List PlainModule) (signals : List SignalRow) (tree : TypedTr
     pub has_row : slice_get tree.routines routine ≡ Some row
     pub is_row : IsRoutineRow (tables_of modules signals) number routine r row
 
-  -- a parameter of the routine around, and its row
+  -- a parameter of the enclosing routine, and its row
   pub record IsParam (by_value : Bool) (k : ℕ) : Type 0 where
     pub inside : Inside
     pub p : PlainParam
@@ -86,7 +87,7 @@ module _ (modules : List PlainModule) (signals : List SignalRow) (tree : TypedTr
     pub has_row : slice_get inside.row.params k ≡ Some row
     pub is_row : IsParamRow (tables_of modules signals) inside.number inside.routine p row
 
-  -- a VAR or an array CONST of the routine around, behind its parameters, and its row
+  -- a VAR or an array CONST of the enclosing routine, after its parameters, and its row
   pub record IsLocal (k : ℕ) : Type 0 where
     pub inside : Inside
     pub index : ℕ
@@ -99,7 +100,7 @@ module _ (modules : List PlainModule) (signals : List SignalRow) (tree : TypedTr
     pub has_row : slice_get inside.row.locals index ≡ Some row
     pub is_row : IsLocalRow (tables_of modules signals) inside.number inside.routine d row
 
-  -- the nearest FOR of this variable that the spot stands in, of those of the routine around; the routine has a place for it
+  -- the nearest FOR with this variable around the spot, in the enclosing routine, which has a place for it
   pub record IsCounter (k : ℕ) : Type 0 where
     pub inside : Inside
     pub loop : Loop
@@ -115,7 +116,8 @@ module _ (modules : List PlainModule) (signals : List SignalRow) (tree : TypedTr
     pub has_row : slice_get signals k ≡ Some row
     pub named : IsOneName name row.name
 
-  -- what the name means is a declaration of that name that is seen there, and the row of its number is that of it
+  -- what the name means is a declaration of that name that is visible there, and the row of its number is that
+  -- declaration's
   abbrev pub HasItsRow : Meant → Type 0
   HasItsRow (meants.Slot k) = IsSlot k
   HasItsRow (meants.Pers k) = IsPers k

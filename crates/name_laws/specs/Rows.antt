@@ -1,5 +1,5 @@
--- Which row of a typed tree is that of a declaration: it has its name, its type, its kind, and whether it is an array; a
--- persistent and a routine also their module and their byte.
+-- Which row of a typed tree is that of a declaration: it has the same name, type and kind, and says whether it is an
+-- array; for a persistent and a routine, also the same module and byte.
 use Rattle.std.specs.Prelude.{◌≡◌, ℕ, Bool, true, false, not, length, Some, None, is_some}
 use Rattle.raw_trees.specs.Plain.{PlainDatum, PlainParam, PlainRoutine}
 use Rattle.typed_trees.specs.Plain.{TypedParam, TypedLocal, TypedRoutine, TypedSlot, TypedPers}
@@ -9,7 +9,7 @@ use Rattle.data_scopes.specs.Numbers.{is_const, is_pers, is_scalar_const}
 use Rattle.data_scopes.specs.Scopes.{Tables}
 use Rattle.name_laws.specs.Declared.{IsType, IsResultType, AreEach}
 
--- a VAR or an array CONST of the module of this number
+-- a VAR or an array CONST of the module with this number
 pub record IsSlotRow (tables : Tables) (number : ℕ) (d : PlainDatum) (row : TypedSlot) : Type 0 where
   pub no_constant : is_scalar_const d ≡ false
   pub no_persistent : is_pers d.kind ≡ false
@@ -18,7 +18,7 @@ pub record IsSlotRow (tables : Tables) (number : ℕ) (d : PlainDatum) (row : Ty
   pub sort : IsType tables (spot_of number None d.sort) d.sort row.sort
   pub array : is_some row.len ≡ is_some d.len
 
--- a PERS of the module of this number; a LOCAL or a TASK one is the task's own
+-- a PERS of the module with this number; a LOCAL or a TASK one is the task's own
 pub record IsPersRow (tables : Tables) (number : ℕ) (owned : Bool) (d : PlainDatum) (row : TypedPers) : Type 0 where
   pub persistent : is_pers d.kind ≡ true
   pub name : row.name ≡ d.name.text
@@ -28,20 +28,20 @@ pub record IsPersRow (tables : Tables) (number : ℕ) (owned : Bool) (d : PlainD
   pub sort : IsType tables (spot_of number None d.sort) d.sort row.sort
   pub array : is_some row.len ≡ is_some d.len
 
--- a parameter of the routine of this number
+-- a parameter of the routine with this number
 pub record IsParamRow (tables : Tables) (number routine : ℕ) (p : PlainParam) (row : TypedParam) : Type 0 where
   pub name : row.name ≡ p.name.text
   pub mode : row.mode ≡ p.mode
   pub sort : IsType tables (spot_of number (Some routine) p.sort) p.sort row.sort
 
--- a datum of the routine of this number
+-- a datum of the routine with this number
 pub record IsLocalRow (tables : Tables) (number routine : ℕ) (d : PlainDatum) (row : TypedLocal) : Type 0 where
   pub name : row.name ≡ d.name.text
   pub variable : row.variable ≡ not (is_const d.kind)
   pub sort : IsType tables (spot_of number (Some routine) d.sort) d.sort row.sort
   pub array : is_some row.len ≡ is_some d.len
 
--- a routine of this number, with its parameters and its data, and the number of its FORs
+-- a routine with this number, with its parameters and its data, and the number of its FORs
 pub record IsRoutineRow (tables : Tables) (number routine : ℕ) (r : PlainRoutine) (row : TypedRoutine) : Type 0 where
   pub name : row.name ≡ r.name.text
   pub «module» : row.«module» ≡ number

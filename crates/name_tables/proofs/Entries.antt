@@ -1,4 +1,4 @@
--- The entries of a table as names.
+-- The entries of a table as a list of names.
 use Rattle.std.proofs.Common.{◌≡◌, ℕ, ◌<◌, ◌≤◌, Bool, true, false, List, [], ◌∷◌, ◌++◌, length, map, Some, None, is_some, refl, sym, ap, subst, ◌∙◌, if◌then◌else◌, bytes_eq, nat_eq, true≢false, arith}
 use Rattle.std.specs.Map.{lookup}
 use Rattle.std.specs.Str.{str_to_ascii_lowercase}
@@ -16,7 +16,7 @@ key_found : {V : Type 0} (key : ArrayVec ℕ) (es : List (ArrayVec ℕ × V)) �
 key_found key [] = refl
 key_found key (e ∷ es) = ap (λ rest. if bytes_eq key.items e.0.items then Some e.1 else rest) (key_found key es)
 
--- a key past 32 bytes is found nowhere
+-- no entry has a key of more than 32 bytes
 not_by : {V : Type 0} (key : List ℕ) (names : NameList V) → AreShort names → 32 < length key → found_by key names ≡ None
 not_by key [] short long = refl
 not_by key (e ∷ es) short long = by (bytes_eq key e.0) refl (not_by key es short.1 long)
@@ -33,7 +33,7 @@ too_long name inside names is short long =
 pub found : {V : Type 0} (name : List ℕ) (key : ArrayVec ℕ) (es : List (ArrayVec ℕ × V)) (names : NameList V) → map entry_of es ≡ names → key.items ≡ str_to_ascii_lowercase name → lookup (is_key key) es ≡ found_in name names
 found name key es names is folded = key_found key es ∙ ap (λ k. found_by k (map entry_of es)) folded ∙ ap (found_in name) is
 
--- a table without entries has no name
+-- an empty table has no names
 pub nowhere : {V : Type 0} (name : List ℕ) (es : List (ArrayVec ℕ × V)) (names : NameList V) → map entry_of es ≡ names → length es ≡ 0 → None ≡ found_in name names
 nowhere name [] names is none = ap (found_in name) is
 nowhere name (e ∷ es) names is none = absurd (omega (arith, none))

@@ -1,4 +1,4 @@
--- A table of what names stand for, as one more is entered.
+-- A table of names after one more is entered.
 use Rattle.std.proofs.Common.{◌≡◌, ℕ, suc, Bool, true, false, List, [], ◌∷◌, ◌++◌, length, Option, Some, None, is_some, option_map, if◌then◌else◌, bytes_eq, refl, ap, sym, ◌∙◌, true≢false}
 use Rattle.std.specs.Option.{option_or}
 use Rattle.std.specs.Str.{str_to_ascii_lowercase, str_eq_ignore_ascii_case}
@@ -14,7 +14,7 @@ by_last key (e ∷ names) entry = by (bytes_eq key e.0) (by_last key names entry
     by true more = refl
     by false more = more
 
--- a name that the table has already
+-- a name that is already in the table
 there : {V : Type 0} (key other : List ℕ) (value : V) (names : NameList V) → is_some (found_by key names) ≡ true → found_by other names ≡ option_or (found_by other names) (if bytes_eq other key then Some value else None)
 there key other value names has = by (found_by other names) (bytes_eq other key) refl refl
   where
@@ -36,7 +36,7 @@ next_or (Some k) t n = refl
 next_or None true n = refl
 next_or None false n = refl
 
--- a recursion that finds the first index of a name, past one more element
+-- a recursion for the first index of a name, on a list with one more element
 pub index_last : {X : Type 0} (find : List X → Option ℕ) (p : X → Bool) → find [] ≡ None
     → ((x : X) (xs : List X) → find (x ∷ xs) ≡ (if p x then Some 0 else option_map suc (find xs))) → (xs : List X) (x : X) → find (xs ++ x ∷ []) ≡ option_or (find xs) (if p x then Some (length xs) else None)
 index_last find p none more [] x =
@@ -49,7 +49,7 @@ index_last find p none more (y ∷ xs) x =
     by true last = refl
     by false last = ap (option_map suc) last ∙ next_or (find xs) (p x) (length xs)
 
--- a table of the first indexes of a list's elements, with one more element
+-- a table of the first index of each element of a list, with one more element
 pub index_entered : {X : Type 0} (table new : NameList ℕ) (find : List ℕ → List X → Option ℕ) (p : List ℕ → X → Bool) (xs : List X) (x : X) (number : ℕ)
     → ((name : List ℕ) → find name (xs ++ x ∷ []) ≡ option_or (find name xs) (if p name x then Some (length xs) else None))
     → Finds table (λ name. find name xs) → Enters table new (λ name. p name x) number → number ≡ length xs → Finds new (λ name. find name (xs ++ x ∷ []))

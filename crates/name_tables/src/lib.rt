@@ -1,4 +1,4 @@
-//! Tables by names, letters of either case being the same.
+//! Tables by name, case-insensitive.
 #![tactic(auto)]
 
 mod key;

@@ -3,7 +3,7 @@ ghost use Rattle.name_tables.specs.declared.not_entered.NotEntered.TheVariants.{
 
 use std::alloc::AllocFailed;
 
-/// Why a name was not entered in a table: it has more than 32 bytes, or memory was refused.
+/// Why a name was not entered: it has more than 32 bytes, or out of memory.
 #[derive(Clone, Copy, Debug, PartialEq, Eq)]
 pub enum NotEntered {
     Long,

@@ -9,8 +9,8 @@ use rapid_limits::LONGEST_NAME;
 use std::alloc::Global;
 use std::marker::Model;
 
-/// What each name of a scope stands for; of names that differ only in the case of letters the first. Contracts see it as the
-/// list of the names, in small letters, with that.
+/// The value of each name in a scope. Of names that are equal but for case, the first wins. Contracts see it as the
+/// list of the lowercase names with their values.
 #[derive(Drop)]
 pub struct NameTable<V> {
     entries: IndexMap<Key, V>,
@@ -29,7 +29,7 @@ impl<V> Model for NameTable<V> {
 }
 
 impl<V: Copy + Drop> NameTable<V> {
-    /// No names.
+    /// An empty table.
     pub fn new(alloc: Global) -> NameTable<V>
         ensures { result ≡ [] }
     {
@@ -38,7 +38,7 @@ impl<V: Copy + Drop> NameTable<V> {
         }
     }
 
-    /// What the name stands for; `None` exactly where the table has no name that is the same but for the case of its letters.
+    /// The value of the name, case-insensitive. `None` exactly if the table does not have the name.
     pub fn find(&self, name: &[u8]) -> Option<V>
         ensures { result ≡ found_in name.now self.now }
     {
@@ -50,7 +50,7 @@ impl<V: Copy + Drop> NameTable<V> {
         entries.get(&key).copied()
     }
 
-    /// One more name; where the table has it already, that stands.
+    /// Enters a name. If the table already has it, the old value stays.
     pub fn enter(&mut self, name: &[u8], value: V) -> Result<(), NotEntered>
         ensures ok { OnOk result (self.new ≡ entered name.now value self.old) }
         ensures short { OnOk result (length name.now ≤ LONGEST_NAME) }

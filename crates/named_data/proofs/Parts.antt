@@ -47,7 +47,7 @@ pub goes_on : (site : Site) (found next : Part) (names : List RawName) (i : ℕ)
 goes_on site found next names i d whole lt first all =
     sym (ap (λ (r : Checked Part). r >>= (λ p. part_at site p (map view_name (drop (i + 1) names)))) first) ∙ sym (from_here site found names i d lt) ∙ all
 
--- a component that is none: so fails the whole
+-- a name that is not a component: the whole fails
 pub fails_here : (fault : TypeFault) (site : Site) (found : Part) (names : List RawName) (i : ℕ) (d : RawName) (whole : Checked Part) → i < length names
     → Fails fault (part_at site found (view_name (get_or names i d) ∷ [])) → part_at site found (map view_name (drop i names)) ≡ whole
     → Fails fault whole

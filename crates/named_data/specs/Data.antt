@@ -1,4 +1,4 @@
--- What a name stands for where a value or a place is written, and the part of it that is meant.
+-- What a name stands for as a value or a place, and which part of it is meant.
 use Rattle.std.specs.Prelude.{ℕ, ◌+◌, Bool, true, false, not, ◌&&◌, ◌||◌, ◌==◌, nat_lt, List, [], ◌∷◌, Option, Some, None, slice_get, Ok}
 use Rattle.raw_trees.specs.Plain.{PlainName}
 use Rattle.rapid_model.specs.declared.mode.Mode.{Mode}
@@ -38,7 +38,7 @@ use Rattle.named_data.specs.declared.wanted.Wanted.{Wanted}
 use Rattle.named_data.specs.Rules.{Site, fail, at_byte}
 use Rattle.named_data.specs.Wants.{fits, clash}
 
--- what is declared there stands before the expression at the spot
+-- the declaration comes before the expression at the spot
 abbrev pub is_before : Spot → Option Since → Bool
 is_before spot None = true
 is_before spot (Some since) = nat_lt since.«module» spot.«module» || (since.«module» == spot.«module» && nat_lt since.at spot.at)
@@ -59,7 +59,7 @@ abbrev pub persistent : Site → ℕ → ℕ → Option DatumRow → Checked Nam
 persistent site at number None = fail site at NoName
 persistent site at number (Some row) = Ok (record { source = sources.Place (roots.Pers number) accesses.Pers; sort = row.sort; array = row.array })
 
--- how what a parameter stands for is lent further
+-- how what a parameter refers to may be passed on
 abbrev pub access_by : Mode → Access
 access_by modes.Value = accesses.Var
 access_by modes.Var = accesses.Var
@@ -70,7 +70,7 @@ abbrev pub parameter : Site → ℕ → ℕ → Option ParamRow → Checked Name
 parameter site at index None = fail site at NoName
 parameter site at index (Some row) = Ok (record { source = sources.Place (roots.Ref index) (access_by row.mode); sort = row.sort; array = false })
 
--- a CONST that is no array, by the value that is kept of it
+-- a CONST that is not an array, by its kept value
 abbrev pub constant : Site → ℕ → Option DatumRow → Option (Option Value) → Checked NamedDatum
 constant site at None kept = fail site at NoName
 constant site at (Some row) (Some (Some value)) =
@@ -78,7 +78,7 @@ constant site at (Some row) (Some (Some value)) =
     Ok (record { source = sources.Value value; sort = row.sort; array = false }))
 constant site at (Some row) _ = fail site at ConstOrder
 
--- the variable of a FOR has an index behind the parameters and data of its routine
+-- the index of a FOR's variable comes after the parameters and data of its routine
 abbrev pub counter : Site → ℕ → NamedDatum
 counter site number = record {
   source = sources.Place (roots.Local (data_count_of site.names.rows site.spot.routine + number)) accesses.Fixed;
@@ -117,7 +117,7 @@ datum_at site name = datum_meant site name.at (named site name)
 abbrev pub as_part : Component → Part
 as_part c = record { name = c.part; sort = c.sort }
 
--- the part of a value that components name, from the left to the right, behind a part that is found
+-- the part of a value that components name, from left to right, after a part that is found
 abbrev pub part_at : Site → Part → List PlainName → Checked Part
 part_at site found [] = Ok found
 part_at site found (name ∷ more) =
@@ -135,12 +135,12 @@ pub record NamedPart : Type 0 where
   pub part : PartName
   pub sort : Sort
 
--- there are none of them
+-- the list is empty
 abbrev pub is_empty : {A : Type 0} → List A → Bool
 is_empty [] = true
 is_empty (x ∷ xs) = false
 
--- A place: its name, its index where it is indexed, its components. An array has an index unless the whole may be named.
+-- A place: its name, its index if it has one, its components. An array has an index unless the whole may be named.
 abbrev pub place : Site → Bool → PlainName → Bool → Checked TypedHeld → List PlainName → Checked NamedPart
 place site whole name indexed index components =
     datum_at site name >>= (λ d.
@@ -160,7 +160,7 @@ value_from at p (sources.Value value) = Known at p.sort (or_whole value (part_of
 value_from at p sources.Errno = ErrorNumber at p.sort
 value_from at p (sources.Signal number) = SignalValue at p.sort number
 
--- an expression of this type stands where something is wanted
+-- an expression of this type in a place with a requirement
 abbrev pub given : Site → Wanted → ℕ → Sort → TypedExpr → Checked TypedExpr
 given site want at sort tree = must (fits want sort) (at_byte site at (clash want)) >>= (λ _. Ok tree)
 

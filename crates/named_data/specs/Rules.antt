@@ -1,11 +1,11 @@
--- Rules that stand at a byte of a module.
+-- Rules that are reported at a byte of a module.
 use Rattle.std.specs.Prelude.{ℕ, Err}
 use Rattle.rule_checks.specs.declared.rule.TypeRule.{TypeRule}
 use Rattle.rule_checks.specs.declared.spot.Spot.{Spot}
 use Rattle.rule_checks.specs.TypeChecks.{Checked, TypeBreak}
 use Rattle.data_scopes.specs.Scopes.{Names}
 
--- the names of a task's modules, and the spot of the expression or statement at hand
+-- the names of a task's modules, and the spot of the current expression or statement
 pub record Site : Type 0 where
   pub names : Names
   pub spot : Spot

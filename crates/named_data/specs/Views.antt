@@ -1,4 +1,4 @@
--- How contracts see where checking stands.
+-- How contracts see the context of checking.
 use Rattle.named_data.specs.declared.site.Site.{Site}
 use Rattle.named_data.specs.Rules
 

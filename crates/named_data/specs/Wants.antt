@@ -1,4 +1,4 @@
--- What the place of an expression wants of its type.
+-- Which type the place of an expression requires.
 use Rattle.std.specs.Prelude.{Bool, true, false, List, [], ◌∷◌}
 use Rattle.rapid_model.specs.declared.operator.Operator.{Operator}
 use Rattle.rapid_model.specs.declared.operator.Operator.TheVariants as operators
@@ -13,7 +13,7 @@ pub use Rattle.data_scopes.specs.Sorts.{same_sort}
 use Rattle.named_data.specs.declared.wanted.Wanted.{Wanted}
 use Rattle.named_data.specs.declared.wanted.Wanted.TheVariants.{Any, Brackets, Is, Same, Fits, Nothing, Reference, ReferenceTo, Meeting}
 
--- an operator takes operands of this type, both of one type
+-- an operator takes operands of this type, both of the same type
 abbrev pub suits : Operator → Sort → Bool
 suits operators.Equal sort = is_compared sort
 suits operators.NotEqual sort = is_compared sort
@@ -23,7 +23,7 @@ suits operators.Xor sort = same_sort sort sorts.Bool
 suits operators.Add sorts.Text = true
 suits _ sort = same_sort sort sorts.Num
 
--- the type of what an operator comes to between operands of this type
+-- the type of an operator's result on operands of this type
 abbrev pub comes_to : Operator → Sort → Sort
 comes_to operators.Add sort = sort
 comes_to operators.Sub sort = sorts.Num
@@ -33,7 +33,7 @@ comes_to operators.IntDiv sort = sorts.Num
 comes_to operators.Mod sort = sorts.Num
 comes_to _ sort = sorts.Bool
 
--- a type is what is wanted
+-- a type meets the requirement
 abbrev pub fits : Wanted → Sort → Bool
 fits Any sort = true
 fits (Brackets taken) sort = true
@@ -45,33 +45,33 @@ fits Reference sort = false
 fits (ReferenceTo wanted) sort = false
 fits Meeting sort = false
 
--- the rule that a value breaks whose type is not what is wanted
+-- the rule that a value of a wrong type breaks
 abbrev pub clash : Wanted → TypeRule
 clash Reference = BadRef
 clash (ReferenceTo sort) = BadRef
 clash Meeting = SyncName
 clash _ = TypeClash
 
--- the rule that brackets break of which no type is known
+-- the rule that brackets break if their type is not known
 abbrev pub untyped : Wanted → TypeRule
 untyped Meeting = SyncName
 untyped _ = TypeClash
 
--- what is wanted of what parentheses hold: they hand on the type
+-- what is required inside parentheses: they pass the type on
 abbrev pub inside : Wanted → Wanted
 inside Reference = Any
 inside (ReferenceTo sort) = Brackets sort
 inside Meeting = Any
 inside wanted = wanted
 
--- an expression in parentheses may stand there, if what they hold may
+-- parentheses are allowed there, if what is inside them is
 abbrev pub hands_on : Wanted → Bool
 hands_on Reference = false
 hands_on (ReferenceTo sort) = false
 hands_on Meeting = false
 hands_on _ = true
 
--- the components that brackets are to have: those of the type that is needed. An operand hands its type to no brackets.
+-- the components that brackets must have: those of the required type. An operand passes no type to brackets.
 abbrev pub needed_components : Wanted → List Component
 needed_components (Is sort) = components sort
 needed_components (Brackets sort) = components sort
@@ -85,12 +85,12 @@ needed_sort (Brackets sort) = sort
 needed_sort (ReferenceTo sort) = sort
 needed_sort _ = sorts.Num
 
--- what is wanted of the next element
+-- what is required of the next element
 abbrev pub of_component : List Component → Wanted
 of_component [] = Any
 of_component (c ∷ cs) = Is c.sort
 
--- what is wanted of the first operand of a chain
+-- what is required of the first operand of a chain
 abbrev pub first_operand : PlainSteps → Wanted
 first_operand NoSteps = Any
 first_operand (MoreSteps operator e steps) = Fits operator

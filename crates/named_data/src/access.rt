@@ -1,4 +1,4 @@
-//! Where a name may be used, and how the place that it stands for may be written and lent.
+//! Where a name may be used, and how its place may be written and passed by reference.
 
 ghost use Rattle.std.specs.Prelude.{◌≡◌};
 ghost use Rattle.named_data.specs.Data;
@@ -8,7 +8,7 @@ use data_scopes::Since;
 use rapid_model::Mode;
 use rule_checks::Spot;
 
-/// Whether what is declared there stands before the expression at the spot.
+/// Whether the declaration comes before the expression at the spot.
 pub(crate) fn is_before(spot: Spot, since: Option<Since>) -> bool
     ensures { result ≡ Data.is_before spot since }
 {
@@ -20,7 +20,7 @@ pub(crate) fn is_before(spot: Spot, since: Option<Since>) -> bool
     }
 }
 
-/// How a datum at a place of its own may be written and lent: a VAR as one, a CONST array not at all.
+/// How a datum with a place of its own may be written and passed by reference: a VAR as one, a CONST array not at all.
 pub(crate) fn access_of(since: Option<Since>) -> Access
     ensures { result ≡ Data.access_of since }
 {
@@ -30,7 +30,7 @@ pub(crate) fn access_of(since: Option<Since>) -> Access
     }
 }
 
-/// How what a parameter stands for is lent further (RAPID Kernel, parameter declarations).
+/// How what a parameter refers to may be passed on (RAPID Kernel, parameter declarations).
 pub(crate) fn access_by(mode: Mode) -> Access
     ensures { result ≡ Data.access_by mode }
 {

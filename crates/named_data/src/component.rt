@@ -30,7 +30,7 @@ fn whole_of(sort: Sort) -> Part
     }
 }
 
-/// The component of this name of a part: NoName stands at the name.
+/// The component of a part with this name. NoName is reported at the name.
 fn component_at(site: &Site<'_>, found: Part, name: &RawName<'_>) -> Result<Part, TypeFault>
     ensures { Gives (λ p. p) result (Data.part_at (view_site site.now) found (view_name name.now ∷ [])) }
 {
@@ -40,8 +40,8 @@ fn component_at(site: &Site<'_>, found: Part, name: &RawName<'_>) -> Result<Part
     }
 }
 
-/// The part of a value of this type that components name, from the left to the right. NoName stands at the first of them that
-/// is none of the type before it.
+/// The part of a value of this type that components name, from left to right. NoName is reported at the first one that
+/// the type before it does not have.
 pub fn part_at(site: &Site<'_>, sort: Sort, components: &[RawName<'_>]) -> Result<Part, TypeFault>
     ensures { Gives (λ p. p) result (Data.part_at (view_site site.now) (Data.whole_of sort) (map view_name components.now)) }
 {

@@ -1,4 +1,4 @@
-//! What a name stands for where a value or a place is written.
+//! What a name stands for as a value or a place.
 
 ghost use Rattle.std.specs.Prelude.{◌≡◌, ◌<◌, ℕ, false, length};
 ghost use Rattle.raw_trees.specs.Views.{view_name};
@@ -58,7 +58,7 @@ fn signal(number: u32) -> NamedDatum
     }
 }
 
-/// The datum that a name means: NoName, NotThis and ConstOrder stand at the name.
+/// The datum that a name means. NoName, NotThis and ConstOrder are reported at the name.
 pub fn datum_at(site: &Site<'_>, name: &RawName<'_>) -> Result<NamedDatum, TypeFault>
     ensures { Gives (λ d. d) result (Data.datum_at (view_site site.now) (view_name name.now)) }
 {

@@ -1,4 +1,4 @@
-//! What a name stands for in an expression, and what the place of an expression wants of its type.
+//! What a name stands for in an expression, and which type the place of an expression requires.
 #![tactic(auto)]
 
 mod access;

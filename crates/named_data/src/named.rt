@@ -1,16 +1,16 @@
-//! What a name stands for where a value or a place is written.
+//! What a name stands for as a value or a place.
 
 use rapid_model::{Sort, Value};
 use typed_trees::TreeRoot;
 
-/// How a place may be written and lent.
+/// How a place may be written and passed by reference.
 #[derive(Clone, Copy, Debug, PartialEq, Eq)]
 pub enum Access {
     /// As a VAR.
     Var,
     /// As a PERS.
     Pers,
-    /// As what an INOUT parameter stands for, a VAR or a PERS.
+    /// As what an INOUT parameter refers to: a VAR or a PERS.
     Either,
     /// Not at all: an element of a CONST array, the variable of a FOR.
     Fixed,
@@ -21,11 +21,11 @@ pub enum Access {
 pub enum Source {
     /// At a place of the task's data.
     Place { root: TreeRoot, access: Access },
-    /// It is known: a CONST that is no array, or a predefined datum.
+    /// It is known: a CONST that is not an array, or a predefined datum.
     Value(Value),
     /// It is the number of the task's last error.
     Errno,
-    /// It is that of a signal, by the signal's number in the script.
+    /// It is the value of a signal, by the signal's number in the script.
     Signal(u32),
 }
 

@@ -6,8 +6,8 @@ ghost use Rattle.rule_checks.specs.TypeChecks.{Gives};
 use rapid_model::NameText;
 use rule_checks::TypeFault;
 
-/// The name as it is spelled. Its error is want of memory, also where the name has more than 32 bytes or others than printable
-/// ones.
+/// The name as spelled. Fails only as out of memory, also if the name has more than 32 bytes or bytes that are not
+/// printable.
 pub fn name_text(text: &[u8]) -> Result<NameText, TypeFault>
     ensures { Gives (λ name. name) result (Ok text.now) }
 {

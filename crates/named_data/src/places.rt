@@ -14,7 +14,7 @@ use rapid_model::Sort;
 use rule_checks::{TypeFault, TypeRule};
 use typed_trees::TreeRoot;
 
-/// A datum at a place of its own: ConstOrder where it is a CONST array that is declared later.
+/// A datum at a place of its own: ConstOrder if it is a CONST array that is declared later.
 pub(crate) fn stored(
     site: &Site<'_>,
     at: usize,
@@ -36,7 +36,7 @@ pub(crate) fn stored(
     })
 }
 
-/// The PERS of a number.
+/// The PERS with a number.
 pub(crate) fn persistent(
     site: &Site<'_>,
     at: usize,
@@ -57,7 +57,7 @@ pub(crate) fn persistent(
     })
 }
 
-/// What the reference parameter at an index of the routine stands for.
+/// What the reference parameter at an index of the routine refers to.
 pub(crate) fn parameter(
     site: &Site<'_>,
     at: usize,
@@ -78,8 +78,8 @@ pub(crate) fn parameter(
     })
 }
 
-/// The variable of the routine's FOR of this number, whose index is behind the routine's parameters and data (RAPID Kernel,
-/// FOR statement). Its error is want of memory.
+/// The variable of the routine's FOR with this number; its index comes after the routine's parameters and data (RAPID
+/// Kernel, FOR statement). Fails only if an allocation fails.
 pub(crate) fn counter(site: &Site<'_>, number: u32) -> Result<NamedDatum, TypeFault>
     ensures { Gives (λ d. d) result (Ok (Data.counter (view_site site.now) number)) }
 {

@@ -1,4 +1,4 @@
-//! Rules that stand at a byte of the module at hand.
+//! Rules that are reported at a byte of the current module.
 
 ghost use Rattle.std.specs.Prelude.{◌≡◌};
 ghost use Rattle.rule_checks.specs.Checks.{must};
@@ -9,7 +9,7 @@ ghost use Rattle.named_data.specs.Views.{view_site};
 use crate::site::Site;
 use rule_checks::{Spot, TypeFault, TypeRule};
 
-/// The fault that a rule is broken at this byte.
+/// The error that a rule is broken at this byte.
 pub fn fault(site: &Site<'_>, at: usize, rule: TypeRule) -> TypeFault
     ensures { result ≡ TypeFault.Rule site.now.spot.«module» at rule }
 {
@@ -20,7 +20,7 @@ pub fn fault(site: &Site<'_>, at: usize, rule: TypeRule) -> TypeFault
     }
 }
 
-/// The rule holds, or it is broken at this byte.
+/// Checks that the rule holds; else it is broken at this byte.
 pub fn must(site: &Site<'_>, holds: bool, at: usize, rule: TypeRule) -> Result<(), TypeFault>
     ensures { Gives (λ u. u) result (must holds (at_byte (view_site site.now) at rule)) }
 {

@@ -14,7 +14,7 @@ use rapid_builtins::predefined_datum;
 use rapid_model::{Predefined, Sort, Value};
 use rule_checks::{TypeFault, TypeRule};
 
-/// A CONST that is no array, by the value that is kept of it: ConstOrder where none is kept yet, or where it is declared later.
+/// A CONST that is not an array, by its kept value: ConstOrder if none is kept yet, or if it is declared later.
 pub(crate) fn constant(
     site: &Site<'_>,
     at: usize,
@@ -38,7 +38,7 @@ pub(crate) fn constant(
     })
 }
 
-/// A predefined datum by its type and value: NotThis where the name stands for none.
+/// A predefined datum by its type and value: NotThis if it has none.
 fn with_value(
     site: &Site<'_>,
     at: usize,
@@ -58,8 +58,8 @@ fn with_value(
     }
 }
 
-/// A predefined name, where it is a datum's (RAPID Instructions, Functions and Data types; RAPID Overview, error recovery, for
-/// `ERRNO`).
+/// A predefined name, if it is a datum's (RAPID Instructions, Functions and Data types; RAPID Overview, error recovery,
+/// for `ERRNO`).
 pub(crate) fn predefined(
     site: &Site<'_>,
     at: usize,

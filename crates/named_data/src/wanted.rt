@@ -1,15 +1,15 @@
 use rapid_model::{Operator, Sort};
 
-/// What the place of an expression wants of it.
+/// What the place of an expression requires of it.
 #[derive(Clone, Copy, Debug, PartialEq, Eq)]
 pub enum Wanted {
-    /// A value of any type; brackets have none there.
+    /// A value of any type; brackets have no type there.
     Any,
-    /// A value of any type; brackets are of this one.
+    /// A value of any type; brackets have this type.
     Brackets(Sort),
-    /// A value of the type, which brackets take.
+    /// A value of the type; brackets have that type.
     Is(Sort),
-    /// An operand of the type; brackets have none there.
+    /// An operand of the type; brackets have no type there.
     Same(Sort),
     /// The first operand of the operator.
     Fits(Operator),
@@ -17,7 +17,7 @@ pub enum Wanted {
     Nothing,
     /// No value: the place takes a reference.
     Reference,
-    /// No value: the place takes a reference to a datum of the type, which brackets take.
+    /// No value: the place takes a reference to a datum of the type; brackets have that type.
     ReferenceTo(Sort),
     /// No value: the place takes the name of a meeting.
     Meeting,

@@ -1,4 +1,4 @@
-//! What the place of an expression wants of its type.
+//! Which type the place of an expression requires.
 
 ghost use Rattle.std.specs.Prelude.{◌≡◌, length};
 ghost use Rattle.rapid_model.specs.Sorts.{is_compared};
@@ -26,7 +26,7 @@ fn is_compared(sort: Sort) -> bool
     )
 }
 
-/// Whether an operator takes operands of the type, both of one type (RAPID Overview, expressions).
+/// Whether an operator takes operands of the type, both of the same type (RAPID Overview, expressions).
 pub fn suits(operator: Operator, sort: Sort) -> bool
     ensures { result ≡ Wants.suits operator sort }
 {
@@ -38,7 +38,7 @@ pub fn suits(operator: Operator, sort: Sort) -> bool
     }
 }
 
-/// The type of what an operator comes to between operands of this type.
+/// The type of an operator's result on operands of this type.
 pub fn comes_to(operator: Operator, sort: Sort) -> Sort
     ensures { result ≡ Wants.comes_to operator sort }
 {
@@ -50,7 +50,7 @@ pub fn comes_to(operator: Operator, sort: Sort) -> Sort
     }
 }
 
-/// Whether a type is what is wanted.
+/// Whether a type meets the requirement.
 pub fn fits(want: Wanted, sort: Sort) -> bool
     ensures { result ≡ Wants.fits want sort }
 {
@@ -62,7 +62,7 @@ pub fn fits(want: Wanted, sort: Sort) -> bool
     }
 }
 
-/// The rule that a value breaks whose type is not what is wanted.
+/// The rule that a value of a wrong type breaks.
 pub fn clash(want: Wanted) -> TypeRule
     ensures { result ≡ Wants.clash want }
 {
@@ -73,7 +73,7 @@ pub fn clash(want: Wanted) -> TypeRule
     }
 }
 
-/// The rule that brackets break of which no type is known.
+/// The rule that brackets break if their type is not known.
 pub fn untyped(want: Wanted) -> TypeRule
     ensures { result ≡ Wants.untyped want }
 {
@@ -83,7 +83,7 @@ pub fn untyped(want: Wanted) -> TypeRule
     }
 }
 
-/// What is wanted of what parentheses hold.
+/// What is required inside parentheses.
 pub fn inside(want: Wanted) -> Wanted
     ensures { result ≡ Wants.inside want }
 {
@@ -94,7 +94,7 @@ pub fn inside(want: Wanted) -> Wanted
     }
 }
 
-/// Whether an expression in parentheses may stand there, if what they hold may.
+/// Whether parentheses are allowed there, if what is inside them is.
 pub fn hands_on(want: Wanted) -> bool
     ensures { result ≡ Wants.hands_on want }
 {

@@ -1,4 +1,5 @@
-//! Worked numbers, names and moves, compared with what the crates of numbers, names and setpoints answer. It holds only tests.
+//! Worked examples of numbers, names and moves, compared with the results of the crates for numbers, names and
+//! setpoints. Tests only.
 #![tactic(auto)]
 
 #[cfg(test)]

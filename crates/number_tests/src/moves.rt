@@ -1,4 +1,4 @@
-//! Moves by hand: the setpoints of a plan.
+//! Worked moves: the setpoints of a plan.
 
 use joint_planner::plan;
 use rapid_num::{Joints, Num};

@@ -1,4 +1,4 @@
-//! Names that differ in the case of their letters alone, names that are too long, and a name that is entered twice.
+//! Names that differ only in case, names that are too long, and a name that is entered twice.
 
 use name_tables::{NameTable, NotEntered};
 use std::test::*;

@@ -1,4 +1,4 @@
-//! Numbers worked by hand: their arithmetic, their literals and their texts.
+//! Worked numbers: arithmetic, literals and texts.
 
 use arrayvec::ArrayString;
 use rapid_num::{BadLiteral, Num, read_literal, round_ratio, write_fixed, write_num};

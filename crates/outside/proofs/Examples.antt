@@ -1,4 +1,4 @@
--- The definitions on examples worked by hand.
+-- The definitions on worked examples.
 use Rattle.std.proofs.Common.{◌≡◌, refl, Some, None, true, [], ◌∷◌, ◌-◌, ◌^◌, false, ℕ}
 use Rattle.std.specs.Prelude.{codes, Ok, Err}
 use Rattle.outside.specs.Count.{raised}
@@ -46,7 +46,7 @@ too_long_by_two = refl
 none_found : answer_for None 1 ≡ Err Failed
 none_found = refl
 
--- room for three bytes, one held; the second write fails
+-- room for three bytes, one of them used; the second write fails
 abbrev one_held : MemorySinkState
 one_held = record { bytes = 7 ∷ []; calls = record { handed = 1; taken = 1 } ∷ []; room = 3; writes = 0; failing = 1 ∷ []; faults = 0 }
 

@@ -1,8 +1,8 @@
-/// A call of `write` that took something.
+/// A call of `write` that wrote something.
 #[derive(Clone, Copy, Debug, PartialEq, Eq)]
 pub struct Call {
-    /// How many bytes it was handed.
+    /// The number of bytes that it was given.
     pub handed: usize,
-    /// How many of them it took.
+    /// The number of those bytes that it wrote.
     pub taken: usize,
 }

@@ -1,3 +1,3 @@
-/// A write failed. The sink has taken nothing of the piece, and has counted a fault.
+/// A write failed. The sink took nothing of the piece and counted a fault.
 #[derive(Clone, Copy, Debug, PartialEq, Eq)]
 pub struct Failed;

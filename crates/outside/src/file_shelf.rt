@@ -1,4 +1,4 @@
-ghost use Rattle.std.specs.Prelude.{◌≡◌, ℕ, ◌+◌, ◌≤◌, ◌<◌, List, ◌++◌, length, None, ◌≢◌, OnOk, IfOk};
+ghost use Rattle.std.specs.Prelude.{◌≡◌, ℕ, ◌+◌, ◌≤◌, ◌<◌, List, ◌++◌, length, None, ◌≢◌, OnOk, IfOk, IsErr};
 ghost use Rattle.std.specs.Io.{appended_bytes};
 ghost use Rattle.std.specs.Io.KnownBytes.{Consumes, IsAtEnd};
 ghost use Rattle.std.specs.Path.{path_buf_bytes};
@@ -9,17 +9,17 @@ ghost use Rattle.outside.specs.Reads.{Gains, Extends, faults_after_read};
 use super::memory_shelf::append;
 use super::{Shelf, ShelfFault};
 use std::alloc::{AllocError, Global};
-use std::fs;
 use std::io::Read;
 use std::marker::Model;
 use std::path::{Path, PathBuf};
 use std::rt::Files;
+use std::{fs, io};
 
-// The most bytes that are asked for at once.
+// The maximum number of bytes to ask for at once.
 const CHUNK: usize = 4096;
 
-/// The files of the runtime; names are paths. The script's own name is a path from the caller's folder, every other one
-/// a path from the script's folder. It tells nothing of the files. Contracts see it as its count of faults.
+/// The files of the runtime, by path. The script's own name is relative to the caller's folder, every other name to the
+/// script's folder. This shelf reports nothing about its files. Contracts see it as its number of faults.
 #[derive(Drop)]
 pub struct FileShelf<'a, R: Files> {
     runtime: &'a R,
@@ -36,8 +36,8 @@ impl<'a, R: Files> Model for FileShelf<'a, R> {
 }
 
 impl<'a, R: Files> FileShelf<'a, R> {
-    /// The files that the runtime gives. The name `script` is opened as it stands, and every other name beside that
-    /// file, unless it is absolute; so a file that is spelled as the script is the script.
+    /// The files of the runtime. The name `script` is opened as it is. Any other name is relative to the folder of that
+    /// file, unless it is absolute. So a name that is spelled like `script` is the script itself.
     pub fn new(runtime: &'a R, script: &'a str) -> FileShelf<'a, R>
         ensures no_faults_yet { result ≡ 0 }
     {
@@ -54,8 +54,8 @@ impl<'a, R: Files> Shelf for FileShelf<'a, R> {
 
     ghost faults = { λ shelf. shelf };
 
-    /// A file that cannot be opened, and any error of a call, an interruption included, are failures; each raises the
-    /// count of faults by one.
+    /// It is a failure if the file cannot be opened or a call reports an error, including an interruption. Each failure
+    /// increments the number of faults.
     fn read(
         &mut self,
         alloc: Global,
@@ -66,6 +66,7 @@ impl<'a, R: Files> Shelf for FileShelf<'a, R> {
         ensures faults_never_fall { self.old ≤ self.new }
         ensures failed_only_where_faults_rose { result ≡ Err ShelfFault.Failed → Rose self.old self.new }
         ensures into_gains { Gains limit into.old.items into.new.items result }
+        ensures memory_counts_nothing { result ≡ Err ShelfFault.Memory → self.new ≡ self.old }
 
         ensures failures_are_counted { self.new ≡ faults_after_read self.old result }
     {
@@ -86,7 +87,7 @@ impl<'a, R: Files> Shelf for FileShelf<'a, R> {
     }
 }
 
-// The path of the file of this name.
+// The path of the file with this name.
 fn path_from(alloc: Global, script: &str, name: &str) -> Result<PathBuf, AllocError>
     ensures { IfOk result (λ path. path_buf_bytes path ≡ path_from script.now name.now) }
 {
@@ -99,7 +100,7 @@ fn path_from(alloc: Global, script: &str, name: &str) -> Result<PathBuf, AllocEr
     }
 }
 
-// Appends the file's bytes, up to one more than the limit.
+// Appends the file's bytes, at most one more than the limit.
 fn read_path<R: Files>(
     runtime: &R,
     path: Path<'_>,
@@ -108,13 +109,25 @@ fn read_path<R: Files>(
 ) -> Result<(), ShelfFault>
     ensures { Extends limit into.old.items into.new.items result }
 {
-    match fs::open(runtime, path) {
+    read_opened(fs::open(runtime, path), limit, into)
+}
+
+// Appends the bytes of a file, at most one more than the limit. It is a failure if the file was not opened.
+fn read_opened<F: Read + Drop>(
+    opened: io::Result<F>,
+    limit: usize,
+    into: &mut Vec<u8>,
+) -> Result<(), ShelfFault>
+    ensures into_extends { Extends limit into.old.items into.new.items result }
+    ensures not_opened { IsErr opened → result ≡ Err ShelfFault.Failed }
+{
+    match opened {
         Ok(mut file) => read_to_limit(&mut file, limit, into),
         Err(_) => Err(ShelfFault::Failed),
     }
 }
 
-// Appends what the reader gives, up to one byte more than the limit.
+// Appends the reader's bytes, at most one more than the limit.
 fn read_to_limit<F: Read>(file: &mut F, limit: usize, into: &mut Vec<u8>) -> Result<(), ShelfFault>
     ensures into_extends { Extends limit into.old.items into.new.items result }
     ensures reads_to_the_end { OnOk result (IsAtEnd (F.remaining file.new)) }

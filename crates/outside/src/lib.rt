@@ -1,4 +1,4 @@
-//! What the product reads and writes: shelves of named files and sinks of bytes, with their faults counted.
+//! Input and output of the controller: shelves of named files and sinks for bytes, which count their faults.
 #![tactic(auto)]
 
 mod call;

@@ -10,7 +10,7 @@ use super::{Shelf, ShelfFault};
 use std::alloc::Global;
 use std::marker::Model;
 
-/// Files in memory, with the reads that fail chosen beforehand. Contracts see it as what it tells and its count of
+/// Files in memory, with a list of the reads that fail. Contracts see it as its reported state and its number of
 /// faults.
 #[derive(Drop)]
 pub struct MemoryShelf {
@@ -29,7 +29,7 @@ impl Model for MemoryShelf {
 }
 
 impl MemoryShelf {
-    /// A shelf of these files, by name; no name stands twice. The reads whose numbers, from 0, stand in `failing` fail.
+    /// A shelf of these files, by name. No two names are equal. `failing` lists the reads that fail, numbered from 0.
     pub fn new(files: Vec<(String, Vec<u8>)>, failing: Vec<u32>) -> MemoryShelf
         requires names_differ { IsTrue (names_differ (files_of files.items)) }
         ensures files { result.told.files ≡ files_of files.items }
@@ -51,7 +51,7 @@ impl Shelf for MemoryShelf {
 
     ghost faults = { λ shelf. shelf.faults };
 
-    /// A read of an absent name and a read that is listed fail, and raise the count of faults by one.
+    /// A read of a missing name and a listed read fail, and increment the number of faults.
     fn read(
         &mut self,
         _alloc: Global,
@@ -81,7 +81,7 @@ impl Shelf for MemoryShelf {
     }
 }
 
-// The bytes of the file of this name.
+// The contents of the file with this name.
 fn bytes_at<'a>(files: &'a [(String, Vec<u8>)], name: &str) -> Option<&'a [u8]>
     ensures { option_map (λ bytes. bytes.now) result ≡ lookup (bytes_eq name.now) (files_of files.now) }
 {
@@ -93,7 +93,7 @@ fn bytes_at<'a>(files: &'a [(String, Vec<u8>)], name: &str) -> Option<&'a [u8]>
     None
 }
 
-// Appends the bytes, or the first of them where there are more than the limit.
+// Appends the bytes, or only the first ones if there are more than the limit.
 fn append_within(bytes: &[u8], limit: usize, into: &mut Vec<u8>) -> Result<(), ShelfFault>
     ensures { Follows (Some bytes.now) limit into.old.items into.new.items result }
 {

@@ -8,9 +8,9 @@ use super::{Call, Failed, Memory, Sink};
 use std::alloc::Global;
 use std::marker::Model;
 
-/// Bytes in memory, with room for so many, and with the writes that fail chosen beforehand. Contracts see it as these
-/// bytes, the calls that took them, the room, the number of writes so far, the numbers of the writes that fail, and the
-/// count of faults.
+/// Bytes in memory, with a fixed capacity and a list of the writes that fail. Contracts see it as these bytes, the
+/// calls that wrote them, the capacity, the number of writes so far, the numbers of the writes that fail, and the
+/// number of faults.
 #[derive(Drop)]
 pub struct MemorySink {
     bytes: Vec<u8>,
@@ -29,12 +29,12 @@ impl Model for MemorySink {
 
     ghost view = { λ sink. record { bytes = sink.bytes.items; calls = sink.calls.items; room = sink.room; writes = sink.writes; failing = sink.failing.items; faults = sink.faults } };
 
-    // Each call took at least one byte, so that there is room for as many calls as bytes.
+    // Each call wrote at least one byte, so room for as many calls as bytes is enough.
     ghost invariant = { λ sink. (vec_len sink.bytes ≤ sink.room) × (sink.room ≤ vec_capacity sink.bytes) × (vec_len sink.calls ≤ vec_len sink.bytes) × (sink.room ≤ vec_capacity sink.calls) };
 }
 
 impl MemorySink {
-    /// An empty sink with room for so many bytes. The writes whose numbers, from 0, stand in `failing` fail.
+    /// An empty sink with a capacity of `room` bytes. `failing` lists the writes that fail, numbered from 0.
     pub fn new(alloc: Global, room: usize, failing: Vec<u32>) -> Result<MemorySink, Memory>
         ensures empty { IfOk result (λ sink. sink.bytes ≡ []) }
         ensures no_calls_yet { IfOk result (λ sink. sink.calls ≡ []) }
@@ -55,14 +55,14 @@ impl MemorySink {
         })
     }
 
-    /// The bytes that it holds.
+    /// The bytes in the sink.
     pub fn bytes(&self) -> &[u8]
         ensures { result.now ≡ self.now.bytes }
     {
         self.bytes.as_slice()
     }
 
-    /// The calls of `write` that took something, the oldest first.
+    /// The calls of `write` that wrote something, oldest first.
     pub fn calls(&self) -> &[Call]
         ensures { result.now ≡ self.now.calls }
     {
@@ -77,8 +77,8 @@ impl Sink for MemorySink {
 
     ghost faults = { λ sink. sink.faults };
 
-    /// Takes what it has room for. A write into a full sink and a write that is listed fail, and raise the count of
-    /// faults by one.
+    /// Takes as much of the piece as fits. A write to a full sink and a listed write fail, and increment the number of
+    /// faults.
     fn write(&mut self, piece: &[u8]) -> Result<usize, Failed>
         requires not_empty { 0 < length piece.now }
         ensures faults_never_fall { self.old.faults ≤ self.new.faults }

@@ -1,6 +1,6 @@
 use super::Pace;
 
-/// Tasks go on at once.
+/// Tasks continue without a pause.
 pub struct NoPace;
 
 impl Pace for NoPace {

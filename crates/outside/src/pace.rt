@@ -1,5 +1,6 @@
-/// What is done between the steps of a task. Threads share it. It changes nothing and promises nothing.
+/// What happens between the steps of a task. It is shared by threads. It does not affect the run, and its contract
+/// promises nothing.
 pub trait Pace {
-    /// Is called after each answered step of the task of this number, its End included.
+    /// Called after each answered step of the task with this number, including its End.
     fn pause(&self, task: u32);
 }

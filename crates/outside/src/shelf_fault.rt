@@ -1,10 +1,10 @@
-/// Why a read of a shelf gave no whole file.
+/// Why a read of a shelf did not return a whole file.
 #[derive(Clone, Copy, Debug, PartialEq, Eq)]
 pub enum ShelfFault {
-    /// The file cannot be had. Nothing was appended, and the shelf has counted a fault.
+    /// The file is not available. Nothing was appended, and the shelf counted a fault.
     Failed,
     /// The file has more bytes than the limit. The first of them, one more than the limit, were appended.
     TooLong,
-    /// Memory was refused. Nothing was appended.
+    /// Out of memory. Nothing was appended.
     Memory,
 }

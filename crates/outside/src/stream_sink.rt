@@ -6,7 +6,8 @@ use super::{Failed, Sink};
 use std::io::Write;
 use std::marker::Model;
 
-/// A sink over a writer. It tells the bytes that the writer tells, and no calls. Contracts see it as its writer and its count of faults.
+/// A sink over a writer. It reports the bytes that the writer reports, and no calls. Contracts see it as its writer and
+/// its number of faults.
 #[derive(Drop)]
 pub struct StreamSink<W: Write> {
     writer: W,
@@ -22,7 +23,7 @@ impl<W: Write> Model for StreamSink<W> {
 }
 
 impl<W: Write> StreamSink<W> {
-    /// A sink that hands each piece on to `writer`, which takes as much of it as it likes.
+    /// A sink that passes each piece to `writer`, which writes as much of it as it likes.
     pub fn new(writer: W) -> StreamSink<W>
         ensures writer { result.writer ≡ writer }
         ensures no_faults_yet { result.faults ≡ 0 }
@@ -38,8 +39,8 @@ impl<W: Write> Sink for StreamSink<W> {
 
     ghost faults = { λ sink. sink.faults };
 
-    /// An error of the writer, and a call that takes nothing, are failures; each raises the count of faults by one. What
-    /// the writer tells grows by the bytes that were taken.
+    /// An error of the writer and a call that writes nothing are failures. Each increments the number of faults. The
+    /// bytes that were written are appended to what the writer reports.
     fn write(&mut self, piece: &[u8]) -> Result<usize, Failed>
         requires not_empty { 0 < length piece.now }
         ensures faults_never_fall { self.old.faults ≤ self.new.faults }

@@ -1,5 +1,5 @@
--- Where a reader answers for a form within each number of levels, and one token of looking ahead is enough for that, each
--- list of tokens has one answer, and who reads so is given it.
+-- If a reader parses a form correctly at each nesting depth, and one token of lookahead is enough for the form, then
+-- each list of tokens has exactly one answer, and a caller of the reader gets it.
 use Rattle.std.proofs.Common.{ℕ, Err}
 use Rattle.rapid_forms.specs.Forms.{Form}
 use Rattle.rapid_forms.specs.Reading.{Reader}

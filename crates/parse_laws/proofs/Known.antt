@@ -1,4 +1,4 @@
--- The readers of the parts of expressions answer for their forms.
+-- The readers of the parts of expressions parse their forms correctly.
 use Rattle.std.proofs.Common.{ℕ}
 use Rattle.rapid_forms.specs.Reading.{made_read, optional_read}
 use Rattle.rapid_forms.proofs.Up.{up_levels}

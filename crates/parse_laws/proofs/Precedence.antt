@@ -1,4 +1,4 @@
--- How NOT and AND are read, worked by the readers.
+-- How NOT and AND are parsed, computed with the readers.
 use Rattle.std.proofs.Common.{◌≡◌, ℕ, List, [], Ok, refl, sym, subst, ◌∙◌}
 use Rattle.std.proofs.lemmas.List.{append-nil}
 use Rattle.rapid_forms.specs.Signs.{has, sign_of, begins_with}

@@ -1,5 +1,5 @@
-//! Laws alone: of each list of tokens the calls for the parts of expressions have one answer, and give it; NOT covers the
-//! AND behind it.
+//! Theorems only: for each part of expressions, each list of tokens has exactly one answer, and the parser's call
+//! returns it; NOT applies to the AND after it.
 #![tactic(auto)]
 
 mod laws;

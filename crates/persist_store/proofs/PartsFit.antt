@@ -16,20 +16,20 @@ use Rattle.rapid_model.specs.declared.value.Value.TheVariants as values
 use Rattle.rapid_values.specs.Values.{num_at, part_of, put_part, with_axes, with_num}
 use Rattle.rapid_values.proofs.Changed.{some_same, put_full}
 
--- the value is there, and of the type
+-- the value exists and has the type
 abbrev pub IsOf : Sort → Option Value → Type 0
 IsOf sort o = IsSomeAnd o (λ w. IsTrue (has_sort sort w))
 
 -- a num at an index that the list has
-num_there : (nums : List ℤ) (i : ℕ) → i < length nums → IsOf sorts.Num (num_at nums i)
+pub num_there : (nums : List ℤ) (i : ℕ) → i < length nums → IsOf sorts.Num (num_at nums i)
 num_there nums i lt = subst (λ o. IsOf sorts.Num (option_map values.Num o)) (sym (slice_get-get_or nums i (pos 0) lt)) refl
 
--- a choice that is Some was made for it
-chosen : (there : Bool) (inner : Sort) → num_where there ≡ Some inner → (there ≡ true) × (sorts.Num ≡ inner)
+-- a conditional type that is Some has its condition true
+pub chosen : (there : Bool) (inner : Sort) → num_where there ≡ Some inner → (there ≡ true) × (sorts.Num ≡ inner)
 chosen true inner is = (refl, some_same is)
 chosen false inner is = absurd (none-some _ is)
 
-below : (i many count : ℕ) → nat_lt i many ≡ true → nat_eq count many ≡ true → i < count
+pub below : (i many count : ℕ) → nat_lt i many ≡ true → nat_eq count many ≡ true → i < count
 below i many count lt is = rw (eqb-true count many is) (ltb-true i many lt)
 
 -- an axis of an extjoint, whose axes are numbered from 6
@@ -98,25 +98,25 @@ fits_none sort p value is = rw is refl
 pub fits_some : (sort inner : Sort) (p : PartName) (value : Value) → part_sort sort p ≡ Some inner → fits_part sort p value ≡ has_sort inner value
 fits_some sort inner p value is = rw is refl
 
--- a part that a value fits has a type, which the value has
-fitting : (sort : Sort) (p : PartName) (value : Value) → IsTrue (fits_part sort p value) → (inner : Sort) × (part_sort sort p ≡ Some inner) × IsTrue (has_sort inner value)
+-- a part that a value fits has a type, and the value has that type
+pub fitting : (sort : Sort) (p : PartName) (value : Value) → IsTrue (fits_part sort p value) → (inner : Sort) × (part_sort sort p ≡ Some inner) × IsTrue (has_sort inner value)
 fitting sort p value fits = at (part_sort sort p) refl
   where
     at : (o : Option Sort) → part_sort sort p ≡ o → (inner : Sort) × (part_sort sort p ≡ Some inner) × IsTrue (has_sort inner value)
     at None is = absurd (false≢true (sym (fits_none sort p value is) ∙ fits))
     at (Some inner) is = (inner, is, sym (fits_some sort inner p value is) ∙ fits)
 
--- a value is there, and it is one of the type but for its count of nums
+-- a value exists, and has the type apart from the number of its nums
 abbrev IsLike : Sort → Option Value → Type 0
 IsLike sort o = IsSomeAnd o (λ w. IsTrue (is_value_of sort w))
 
--- a num written at an index that the list has
+-- a num written at an index within the list
 written : (sort : Sort) (make : List ℤ → Value) (nums : List ℤ) (i : ℕ) (new : Value) → ((ns : List ℤ) → IsTrue (is_value_of sort (make ns))) → i < length nums → IsTrue (has_sort sorts.Num new)
     → IsLike sort (option_map make (with_num nums i new))
 written sort make nums i (values.Num n) made lt fits = rw (lt-ltb i (length nums) lt) (made _)
 written sort make nums i _ made lt fits = absurd (false≢true fits)
 
-num_fits : (inner : Sort) (new : Value) → sorts.Num ≡ inner → IsTrue (has_sort inner new) → IsTrue (has_sort sorts.Num new)
+pub num_fits : (inner : Sort) (new : Value) → sorts.Num ≡ inner → IsTrue (has_sort inner new) → IsTrue (has_sort sorts.Num new)
 num_fits inner new is fits = subst (λ s. IsTrue (has_sort s new)) (sym is) fits
 
 high_written : (axes : List ℤ) (i : ℕ) (new : Value) → nat_eq (length axes) 6 ≡ true → (nat_le 6 i && nat_lt i 12) ≡ true → IsTrue (has_sort sorts.Num new)

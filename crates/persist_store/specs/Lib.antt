@@ -1,2 +1,3 @@
 pub mod Stores
+pub mod Rows
 pub mod Lending

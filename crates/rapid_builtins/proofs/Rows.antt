@@ -10,7 +10,7 @@ use Rattle.rapid_builtins.specs.Names.{meant_by, names_of}
 same_name : (name : List ℕ) → str_eq_ignore_ascii_case name name ≡ true
 same_name name = (bytes_eq-Decides (str_to_ascii_lowercase name) (str_to_ascii_lowercase name)).1 refl
 
--- a name that is not among those of a table is not that of row k
+-- a name that is not in a table is not the name of its row k
 other_name : {A : Type 0} (rows : List (List ℕ × A)) (name : List ℕ) (k : ℕ) (row : List ℕ × A) → is_among name (names_of rows) ≡ false → k < length rows → get_or rows k row ≡ row → str_eq_ignore_ascii_case name row.0 ≡ false
 other_name [] name k row none lt is = absurd (omega arith)
 other_name (r ∷ rows) name zero row none lt is = ap (λ x. str_eq_ignore_ascii_case name x.0) (sym is) ∙ (or_parts _ _ none).0

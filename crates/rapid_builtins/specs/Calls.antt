@@ -25,7 +25,7 @@ function_needs functions.TestDI = needs.Signal false ∷ []
 function_needs functions.DOutput = needs.Signal true ∷ []
 function_needs functions.TestAndSet = needs.VarOrPers sorts.Bool ∷ []
 
--- the type of a function's answer
+-- the type of a function's result
 abbrev pub function_result : Function → Sort
 function_result functions.Abs = sorts.Num
 function_result functions.Trunc = sorts.Num
@@ -37,7 +37,7 @@ function_result functions.TestDI = sorts.Bool
 function_result functions.DOutput = sorts.Num
 function_result functions.TestAndSet = sorts.Bool
 
--- the arguments of an instruction but its options
+-- the arguments of an instruction, without its options
 abbrev pub instruction_needs : Instruction → List Need
 instruction_needs instructions.MoveAbsJ = needs.Value sorts.JointTarget ∷ needs.Value sorts.SpeedData ∷ needs.Fine ∷ needs.Tool ∷ []
 instruction_needs instructions.Set = needs.Signal true ∷ []
@@ -71,7 +71,7 @@ instruction_needs instructions.Decr = needs.Written sorts.Num ∷ []
 instruction_needs instructions.Clear = needs.Written sorts.Num ∷ []
 instruction_needs instructions.Add = needs.Written sorts.Num ∷ needs.Value sorts.Num ∷ []
 
--- an option of an instruction: its name, and what its value has to be, if it has one
+-- an option of an instruction: its name, and what its value must be, if it has one
 pub record OptionRow : Type 0 where
   pub name : List ℕ
   pub value : Option Need
@@ -99,12 +99,12 @@ options instructions.WZLimSup = plain (codes "Temp") ∷ plain (codes "Stat") �
 options instructions.WZDOSet = plain (codes "Temp") ∷ plain (codes "Stat") ∷ []
 options _ = []
 
--- the first of the rows whose name is this one, letters of either case being the same
+-- the first of the rows whose name is this one, case-insensitively
 abbrev pub option_named : List ℕ → List OptionRow → Option OptionRow
 option_named name [] = None
 option_named name (row ∷ rows) = if str_eq_ignore_ascii_case row.name name then Some row else option_named name rows
 
--- how many of the options of an instruction may stand
+-- how many of an instruction's options one call may have
 abbrev pub choice : Instruction → Choice
 choice instructions.TPWrite = choices.OneAtMost
 choice instructions.WZLimJointDef = choices.JustOne
@@ -113,7 +113,7 @@ choice instructions.WZLimSup = choices.JustOne
 choice instructions.WZDOSet = choices.Never
 choice _ = choices.Any
 
--- an instruction of a task with an arm
+-- an instruction that is allowed only in a task with an arm
 abbrev pub needs_arm : Instruction → Bool
 needs_arm instructions.MoveAbsJ = true
 needs_arm instructions.WZLimJointDef = true
@@ -125,7 +125,7 @@ needs_arm instructions.WZEnable = true
 needs_arm instructions.WZFree = true
 needs_arm _ = false
 
--- a function of a task with an arm
+-- a function that is allowed only in a task with an arm
 abbrev pub function_needs_arm : Function → Bool
 function_needs_arm functions.CJointT = true
 function_needs_arm _ = false

@@ -1,4 +1,5 @@
--- The values of the predefined data (RAPID Instructions, Functions and Data types, speeddata; RAPID Overview, error recovery).
+-- The values of the predefined data (RAPID Instructions, Functions and Data types, speeddata; RAPID Overview, error
+-- recovery).
 use Rattle.std.specs.Prelude.{ℕ, ◌*◌, pos, [], ◌∷◌, Option, None, Some}
 use Rattle.rapid_model.specs.declared.predefined.Predefined.{Predefined}
 use Rattle.rapid_model.specs.declared.predefined.Predefined.TheVariants as names
@@ -6,15 +7,16 @@ use Rattle.rapid_model.specs.declared.sort.Sort.{Sort}
 use Rattle.rapid_model.specs.declared.sort.Sort.TheVariants as sorts
 use Rattle.rapid_model.specs.declared.value.Value.{Value}
 use Rattle.rapid_model.specs.declared.value.Value.TheVariants as values
+use Rattle.rapid_model.specs.declared.errors.TheConstants.{ERR_ALRDYCNT, ERR_DIVZERO, ERR_INOMAX, ERR_STRTOOLNG, ERR_UNKINO}
 
 abbrev pub num : ℕ → Option (Sort × Value)
 num n = Some (sorts.Num, values.Num (pos (n * 1_000)))
 
--- a speed of the tool; the other three are those of every predefined speed
+-- a speed of the tool; the other three components are the same for all predefined speeds
 abbrev pub speed : ℕ → Option (Sort × Value)
 speed n = Some (sorts.SpeedData, values.Speed (pos (n * 1_000) ∷ pos 500_000 ∷ pos 5_000_000 ∷ pos 1_000_000 ∷ []))
 
--- the type and the value of a predefined datum; none where the name stands for no value that is known
+-- the type and the value of a predefined datum; none if the name has no value known before the run
 abbrev pub predefined_datum : Predefined → Option (Sort × Value)
 predefined_datum names.V5 = speed 5
 predefined_datum names.V10 = speed 10
@@ -44,9 +46,9 @@ predefined_datum names.V7000 = speed 7_000
 predefined_datum names.VMax = speed 5_000
 predefined_datum names.Low = num 0
 predefined_datum names.High = num 1
-predefined_datum names.ErrDivZero = num 101
-predefined_datum names.ErrStrTooLng = num 102
-predefined_datum names.ErrAlrdyCnt = num 103
-predefined_datum names.ErrUnkIno = num 104
-predefined_datum names.ErrINoMax = num 105
+predefined_datum names.ErrDivZero = num ERR_DIVZERO
+predefined_datum names.ErrStrTooLng = num ERR_STRTOOLNG
+predefined_datum names.ErrAlrdyCnt = num ERR_ALRDYCNT
+predefined_datum names.ErrUnkIno = num ERR_UNKINO
+predefined_datum names.ErrINoMax = num ERR_INOMAX
 predefined_datum _ = None

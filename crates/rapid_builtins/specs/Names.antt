@@ -1,5 +1,5 @@
 -- The predefined names of this profile, and what each stands for (RAPID Instructions, Functions and Data types; RAPID
--- Overview, error recovery). Letters of either case are the same.
+-- Overview, error recovery). Names are case-insensitive.
 use Rattle.std.specs.Prelude.{ℕ, Bool, ◌||◌, List, [], ◌∷◌, ◌++◌, map, codes, Option, None, Some, is_some, if◌then◌else◌}
 use Rattle.std.specs.Str.{str_eq_ignore_ascii_case}
 use Rattle.rapid_model.specs.declared.instruction.Instruction.{Instruction}
@@ -59,7 +59,7 @@ data_rows =
     ∷ (codes "ERR_STRTOOLNG", predefineds.ErrStrTooLng) ∷ (codes "ERR_ALRDYCNT", predefineds.ErrAlrdyCnt)
     ∷ (codes "ERR_UNKINO", predefineds.ErrUnkIno) ∷ (codes "ERR_INOMAX", predefineds.ErrINoMax) ∷ (codes "ERRNO", predefineds.ErrNo) ∷ []
 
--- what a name stands for in a table
+-- what a name means in a table
 abbrev pub meant_by : {A : Type 0} → List ℕ → List (List ℕ × A) → Option A
 meant_by name [] = None
 meant_by name (row ∷ rows) = if str_eq_ignore_ascii_case row.0 name then Some row.1 else meant_by name rows

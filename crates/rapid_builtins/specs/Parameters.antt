@@ -1,4 +1,4 @@
--- What an argument for a parameter of a routine has to be.
+-- What an argument for a parameter of a routine must be.
 use Rattle.rapid_model.specs.declared.mode.Mode.{Mode}
 use Rattle.rapid_model.specs.declared.mode.Mode.TheVariants as modes
 use Rattle.rapid_model.specs.declared.sort.Sort.{Sort}

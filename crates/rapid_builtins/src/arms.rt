@@ -1,12 +1,12 @@
-//! What moves an arm, reads its joints, or watches where it goes.
+//! Instructions and functions that move an arm, read its joints, or watch where it goes.
 
 ghost use Rattle.std.specs.Prelude.{◌≡◌};
 ghost use Rattle.rapid_builtins.specs.Calls.{needs_arm, function_needs_arm};
 
 use rapid_model::{Function, Instruction};
 
-/// Whether an instruction stands only in a motion task, one with an arm: the movement and the world zones (RAPID Instructions,
-/// Functions and Data types). A checker of types refuses it in a task without an arm.
+/// Whether an instruction is allowed only in a motion task, one with an arm: motion and world zones (RAPID
+/// Instructions, Functions and Data types). Type checking rejects it in a task without an arm.
 pub fn needs_arm(instruction: Instruction) -> bool
     ensures { result ≡ needs_arm instruction }
 {
@@ -23,8 +23,8 @@ pub fn needs_arm(instruction: Instruction) -> bool
     )
 }
 
-/// Whether a function stands only in a motion task, one with an arm: `CJointT`, which reads the joints (RAPID Instructions,
-/// Functions and Data types). A checker of types refuses it in a task without an arm.
+/// Whether a function is allowed only in a motion task, one with an arm: `CJointT`, which reads the joints (RAPID
+/// Instructions, Functions and Data types). Type checking rejects it in a task without an arm.
 pub fn function_needs_arm(function: Function) -> bool
     ensures { result ≡ function_needs_arm function }
 {

@@ -1,14 +1,17 @@
-//! The values of the predefined data (RAPID Instructions, Functions and Data types, speeddata; RAPID Overview, error recovery).
+//! The values of the predefined data (RAPID Instructions, Functions and Data types, speeddata; RAPID Overview, error
+//! recovery).
 
 ghost use Rattle.std.specs.Prelude.{◌≡◌};
 ghost use Rattle.rapid_builtins.specs.Data.{num, predefined_datum, speed};
 
-use rapid_model::{Predefined, Sort, Value};
+use rapid_model::{
+    ERR_ALRDYCNT, ERR_DIVZERO, ERR_INOMAX, ERR_STRTOOLNG, ERR_UNKINO, Predefined, Sort, Value,
+};
 use rapid_num::Num;
 
-/// The type and the value of a predefined datum (RAPID Instructions, Functions and Data types, speeddata; RAPID Overview,
-/// error recovery). `None` exactly where the name stands for no value that is known: a type, `fine`, `tool0`, `wobj0`, and
-/// `ERRNO`, which changes.
+/// The type and the value of a predefined datum (RAPID Instructions, Functions and Data types, speeddata; RAPID
+/// Overview, error recovery). `None` exactly if the name has no value known before the run: a type, `fine`, `tool0`,
+/// `wobj0`, and `ERRNO`, which changes.
 pub fn predefined_datum(name: Predefined) -> Option<(Sort, Value)>
     ensures { result ≡ predefined_datum name }
 {
@@ -40,16 +43,23 @@ pub fn predefined_datum(name: Predefined) -> Option<(Sort, Value)>
         Predefined::V7000 => speed(7_000),
         Predefined::Low => num(0),
         Predefined::High => num(1),
-        Predefined::ErrDivZero => num(101),
-        Predefined::ErrStrTooLng => num(102),
-        Predefined::ErrAlrdyCnt => num(103),
-        Predefined::ErrUnkIno => num(104),
-        Predefined::ErrINoMax => num(105),
+        Predefined::ErrDivZero => error(ERR_DIVZERO),
+        Predefined::ErrStrTooLng => error(ERR_STRTOOLNG),
+        Predefined::ErrAlrdyCnt => error(ERR_ALRDYCNT),
+        Predefined::ErrUnkIno => error(ERR_UNKINO),
+        Predefined::ErrINoMax => error(ERR_INOMAX),
         _ => None,
     }
 }
 
-/// A whole num, which is in range.
+/// The number of an error.
+fn error(number: u8) -> Option<(Sort, Value)>
+    ensures { result ≡ num number }
+{
+    num(u16::from(number))
+}
+
+/// An integer num, always in range.
 fn num(whole: u16) -> Option<(Sort, Value)>
     ensures { result ≡ num whole }
 {
@@ -57,8 +67,8 @@ fn num(whole: u16) -> Option<(Sort, Value)>
     Some((Sort::Num, Value::Num(number)))
 }
 
-/// A speed of the tool in millimetres a second; the other three are those of every predefined speed: 500 degrees, 5000
-/// millimetres and 1000 degrees a second.
+/// A speed of the tool in millimetres per second. The other three components are the same for all predefined speeds:
+/// 500 degrees, 5000 millimetres and 1000 degrees per second.
 fn speed(tool: u16) -> Option<(Sort, Value)>
     ensures { result ≡ speed tool }
 {

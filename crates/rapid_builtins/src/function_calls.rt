@@ -1,4 +1,4 @@
-//! What the predefined functions take and answer (RAPID Instructions, Functions and Data types).
+//! What the predefined functions take and return (RAPID Instructions, Functions and Data types).
 
 ghost use Rattle.std.specs.Prelude.{◌≡◌};
 ghost use Rattle.rapid_builtins.specs.Calls.{function_needs, function_result};
@@ -6,8 +6,8 @@ ghost use Rattle.rapid_builtins.specs.Calls.{function_needs, function_result};
 use crate::Need;
 use rapid_model::{Function, Sort};
 
-/// The arguments of a function in order (RAPID Instructions, Functions and Data types, arguments): a checker of types holds
-/// each argument of a call to its need, and their number to the length.
+/// The arguments of a function, in order (RAPID Instructions, Functions and Data types, arguments). Type checking
+/// compares each argument of a call with its need, and their number with the length.
 pub fn function_needs(function: Function) -> &'static [Need]
     ensures { result.now ≡ function_needs function }
 {
@@ -24,7 +24,7 @@ pub fn function_needs(function: Function) -> &'static [Need]
     }
 }
 
-/// The type of a function's answer (RAPID Instructions, Functions and Data types, return value): a checker of types gives it
+/// The type of a function's result (RAPID Instructions, Functions and Data types, return value). Type checking gives it
 /// to a call.
 pub fn function_result(function: Function) -> Sort
     ensures { result ≡ function_result function }

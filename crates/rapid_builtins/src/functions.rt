@@ -18,8 +18,8 @@ static FUNCTIONS: [(&[u8], Function); 9] = [
     (b"TestAndSet", Function::TestAndSet),
 ];
 
-/// The function of a name; `None` exactly for other names. Letters of either case are the same (RAPID Instructions,
-/// Functions and Data types; RAPID Kernel, identifiers).
+/// The function with a name; `None` exactly for other names. Names are case-insensitive (RAPID Instructions, Functions
+/// and Data types; RAPID Kernel, identifiers).
 pub fn function(name: &[u8]) -> Option<Function>
     ensures { result ≡ function_of name.now }
 {

@@ -6,8 +6,8 @@ ghost use Rattle.rapid_builtins.specs.Calls.{instruction_needs};
 use crate::Need;
 use rapid_model::{Instruction, Sort};
 
-/// The arguments of an instruction in order, its options left out (RAPID Instructions, Functions and Data types, arguments): a
-/// checker of types holds each argument of a call to its need, and their number to the length.
+/// The arguments of an instruction, in order and without its options (RAPID Instructions, Functions and Data types,
+/// arguments). Type checking compares each argument of a call with its need, and their number with the length.
 pub fn instruction_needs(instruction: Instruction) -> &'static [Need]
     ensures { result.now ≡ instruction_needs instruction }
 {

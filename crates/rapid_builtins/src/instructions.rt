@@ -39,7 +39,7 @@ static INSTRUCTIONS: [(&[u8], Instruction); 30] = [
     (b"Add", Instruction::Add),
 ];
 
-/// The instruction of a name; `None` exactly for other names. Letters of either case are the same (RAPID Instructions,
+/// The instruction with a name; `None` exactly for other names. Names are case-insensitive (RAPID Instructions,
 /// Functions and Data types; RAPID Kernel, identifiers).
 pub fn instruction(name: &[u8]) -> Option<Instruction>
     ensures { result ≡ instruction_of name.now }

@@ -8,7 +8,7 @@ ghost use Rattle.rapid_model.specs.declared.function.Function.{Function};
 ghost use Rattle.rapid_model.specs.declared.predefined.Predefined.{Predefined};
 ghost use Rattle.rapid_builtins.specs.Names.{instruction_rows, instruction_of, function_rows, function_of, type_rows, data_rows, predefined_of, all_names};
 
-/// No two of the predefined names are the same, so each stands for one thing; and each row of a table is found by its name.
+/// The predefined names all differ, so each has one meaning, and each row of a table is found by its name.
 pub fn names_differ()
     ensures differ { differ all_names ≡ true }
     ensures instructions { (name : List ℕ) (x : Instruction) → Contains instruction_rows (name, x) → instruction_of name ≡ Some x }

@@ -1,5 +1,5 @@
-//! RAPID's predefined names of this profile, and what they take: its instructions, functions, types and data, the arguments and
-//! options of calls, and whether they need an arm; and what arguments for parameters have to be.
+//! The predefined names of this RAPID profile: its instructions, functions, types and data; the arguments and options
+//! that calls take; which calls need an arm; and what arguments for parameters must be.
 #![tactic(auto)]
 
 mod arms;

@@ -1,25 +1,25 @@
 use rapid_model::Sort;
 
-/// What an argument has to be in this profile (RAPID Instructions, Functions and Data types, arguments).
+/// What an argument must be in this profile (RAPID Instructions, Functions and Data types, arguments).
 #[derive(Clone, Copy, Debug, PartialEq, Eq)]
 pub enum Need {
     /// A value of the type.
     Value(Sort),
-    /// The name of a signal, of an output where `output` holds, else of an input.
+    /// The name of a signal: an output if `output` is true, else an input.
     Signal { output: bool },
     /// A place of the type that is a VAR.
     Var(Sort),
     /// A place of the type that is a PERS.
     Pers(Sort),
-    /// A place of the type that is lent: a VAR or a PERS.
+    /// A place of the type, passed by reference: a VAR or a PERS.
     VarOrPers(Sort),
     /// A place of the type that is read and then written: a VAR or a PERS.
     Written(Sort),
-    /// A place of the type, of whatever kind.
+    /// A place of the type, of any kind.
     Place(Sort),
     /// An array of any type that has values, named without an index.
     Array,
-    /// A number literal of the value 1, as `1` or `1.0`, which names the one dimension of an array.
+    /// A number literal with value 1, such as `1` or `1.0`: the only dimension of an array.
     One,
     /// The zone `fine`.
     Fine,
@@ -31,9 +31,9 @@ pub enum Need {
     Meeting,
     /// An array of tasks, named without an index.
     TaskList,
-    /// The name of a declared PERS, without an index and a component.
+    /// The name of a declared PERS, without index or component.
     PersName,
-    /// The variable of a world zone: a VAR wztemporary where `Temp` is the first of the options `Temp` and `Stat`, a VAR
-    /// wzstationary where `Stat` is; where neither stands, a VAR of one of these types.
+    /// The variable of a world zone: a VAR wztemporary if `Temp` is the first of the options `Temp` and `Stat`, a VAR
+    /// wzstationary if `Stat` is, and a VAR of either type if the call has neither.
     WorldZone,
 }

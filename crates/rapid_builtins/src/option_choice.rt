@@ -1,12 +1,12 @@
-/// How many of an instruction's options may stand in one call (RAPID Instructions, Functions and Data types, arguments).
+/// How many of an instruction's options one call may have (RAPID Instructions, Functions and Data types, arguments).
 #[derive(Clone, Copy, Debug, PartialEq, Eq)]
 pub enum Choice {
-    /// Any of them, each once at most.
+    /// Any of them, each at most once.
     Any,
-    /// None of them or one: they exclude each other.
+    /// At most one: they exclude each other.
     OneAtMost,
-    /// Just one: they exclude each other, and one has to stand.
+    /// Exactly one: they exclude each other, and one must be present.
     JustOne,
-    /// No call is right, whichever of them stand.
+    /// No call is valid, whichever of them it has.
     Never,
 }

@@ -6,8 +6,8 @@ ghost use Rattle.rapid_model.specs.declared.instruction.Instruction.{Instruction
 ghost use Rattle.rapid_builtins.specs.declared.option_choice.Choice.{Choice};
 ghost use Rattle.rapid_builtins.specs.Calls.{options, choice};
 
-/// No two options of an instruction have the same name, so each name stands for one; and an instruction whose options exclude
-/// each other has two of them.
+/// The options of an instruction have different names, so each name means one option; and an instruction whose options
+/// exclude each other has two.
 pub fn options_differ()
     ensures differ { (i : Instruction) → differ (map (λ o. o.name) (options i)) ≡ true }
     ensures two { (i : Instruction) → ¬ (choice i ≡ Choice.Any) → length (options i) ≡ 2 }

@@ -7,9 +7,9 @@ ghost use Rattle.rapid_builtins.specs.Calls.{row_of, options, option_named, choi
 use crate::{Choice, InstructionOption, Need};
 use rapid_model::{Instruction, Sort};
 
-/// The options of an instruction, in the manual's order; empty where it has none (RAPID Instructions, Functions and Data types,
-/// arguments). A checker of types refuses an option that is not among them, and one with a value where none is asked, or
-/// without one where one is.
+/// The options of an instruction, in the manual's order; empty if it has none (RAPID Instructions, Functions and Data
+/// types, arguments). Type checking rejects any other option, a value for an option that takes none, and a missing
+/// value for one that takes a value.
 pub fn options(instruction: Instruction) -> &'static [InstructionOption]
     ensures { map row_of result.now ≡ options instruction }
 {
@@ -64,8 +64,8 @@ pub fn options(instruction: Instruction) -> &'static [InstructionOption]
     }
 }
 
-/// How many of an instruction's options may stand in one call (RAPID Instructions, Functions and Data types, arguments): a
-/// checker of types counts those that do.
+/// How many of an instruction's options one call may have (RAPID Instructions, Functions and Data types, arguments).
+/// Type checking counts them.
 pub fn choice(instruction: Instruction) -> Choice
     ensures { result ≡ choice instruction }
 {
@@ -78,15 +78,15 @@ pub fn choice(instruction: Instruction) -> Choice
     }
 }
 
-/// Whether an option has this name, letters of either case being the same.
+/// Whether an option has this name, case-insensitively.
 fn is_named(option: &InstructionOption, name: &[u8]) -> bool
     ensures { result ≡ str_eq_ignore_ascii_case option.now.name.now name.now }
 {
     option.name.eq_ignore_ascii_case(name)
 }
 
-/// The first of these options that has this name, letters of either case being the same; `None` exactly where none has (RAPID
-/// Kernel, identifiers). A checker of types asks it at each option of a call.
+/// The first of these options that has this name, case-insensitively; `None` exactly if none has (RAPID Kernel,
+/// identifiers). Type checking calls this for each option of a call.
 pub fn first_named(rows: &[InstructionOption], name: &[u8]) -> Option<InstructionOption>
     ensures { option_map row_of result ≡ option_named name.now (map row_of rows.now) }
 {
@@ -98,8 +98,8 @@ pub fn first_named(rows: &[InstructionOption], name: &[u8]) -> Option<Instructio
     None
 }
 
-/// The option of this name; `None` exactly where the instruction has none. Letters of either case are the same (RAPID Kernel,
-/// identifiers). A checker of types asks it at each option of a call.
+/// The option with this name; `None` exactly if the instruction has none. Names are case-insensitive (RAPID Kernel,
+/// identifiers). Type checking calls this for each option of a call.
 pub fn option_of(instruction: Instruction, name: &[u8]) -> Option<InstructionOption>
     ensures { option_map row_of result ≡ option_named name.now (options instruction) }
 {

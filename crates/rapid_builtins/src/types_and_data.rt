@@ -66,7 +66,7 @@ static TYPES_AND_DATA: [(&[u8], Predefined); 54] = [
     (b"ERRNO", Predefined::ErrNo),
 ];
 
-/// The type or datum of a name; `None` exactly for other names. Letters of either case are the same (RAPID Instructions,
+/// The type or datum with a name; `None` exactly for other names. Names are case-insensitive (RAPID Instructions,
 /// Functions and Data types; RAPID Overview, error recovery, for the error numbers).
 pub fn predefined(name: &[u8]) -> Option<Predefined>
     ensures { result ≡ predefined_of name.now }
@@ -74,8 +74,8 @@ pub fn predefined(name: &[u8]) -> Option<Predefined>
     meant_by(&TYPES_AND_DATA, name)
 }
 
-/// Whether a name is predefined: whether it is that of an instruction, a function, a type or a datum. Letters of either case
-/// are the same (RAPID Kernel, identifiers).
+/// Whether a name is predefined: the name of an instruction, a function, a type or a datum. Names are case-insensitive
+/// (RAPID Kernel, identifiers).
 pub fn is_predefined(name: &[u8]) -> bool
     ensures { result ≡ is_predefined name.now }
 {

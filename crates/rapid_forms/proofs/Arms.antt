@@ -1,4 +1,4 @@
--- What is known of a sign in the arms of a match.
+-- What each arm of a match knows about a sign.
 use Rattle.std.proofs.Common.{◌≡◌, Bool, true, false, if◌then◌else◌, [], ◌∷◌, refl, sym}
 use denote.Enum.Bare.{tag_one}
 use Rattle.rapid_forms.specs.contracts.sign.Sign.{the_type}

@@ -1,4 +1,5 @@
--- Looking one token ahead: what may begin a form, what may go on with one, and that tokens stand for one thing.
+-- One token of lookahead: the signs that a form can start with, those that it can continue with, and why tokens denote
+-- only one thing.
 use Rattle.std.proofs.Common.{◌≡◌, ℕ, Bool, true, false, ◌&&◌, ◌||◌, ◌⊎◌, inl, inr, List, [], ◌∷◌, ◌++◌, Option, None, Some, refl, sym, ◌∙◌, ap, subst}
 use Rattle.std.proofs.lemmas.Bool.{false_from_ne_true, both_ways, and_from, or_left, or_right, cases_Bool}
 use Rattle.std.proofs.lemmas.List.{append_assoc, append-nil}
@@ -9,8 +10,8 @@ use Rattle.rapid_forms.specs.Forms.{Form, one, seq, either, optional, many, made
 use Rattle.rapid_forms.proofs.Cuts.{Even, Shorter, Longer, cuts, both_empty, heads, behind, no_middle, no_front}
 use Rattle.rapid_forms.proofs.Sets.{apart, covered, when, has_apart, has_covered, has_left, has_right, has_when}
 
--- A form that no token at all may be a whole of only where null says so, whose first token has a sign of first, and whose
--- whole ones go on, within something begun, with a sign of more alone.
+-- A form that can be empty only if null says so, that starts only with a sign in first, that can continue after it is
+-- complete only with a sign in more, and whose tokens denote only one thing.
 pub record LL {A : Type 0} (null : Bool) (first more : List Sign) (f : Form A) : Type 0 where
   pub start : f.Begun []
   pub front : (ts us : List Lexeme) → f.Begun (ts ++ us) → f.Begun ts
@@ -21,7 +22,7 @@ pub record LL {A : Type 0} (null : Bool) (first more : List Sign) (f : Form A) :
       → has more (sign_of t) ≡ true
   pub only : (x y : A) (ts : List Lexeme) → f.Whole x ts → f.Whole y ts → x ≡ y
 
--- a form whose first signs and signs that go on are among these
+-- a form whose start and continuation signs are among these
 pub larger_ll : {A : Type 0} {null : Bool} {fa ma first more : List Sign} {a : Form A} → LL null fa ma a
     → covered fa first ≡ true → covered ma more ≡ true → LL null first more a
 larger_ll l e e' = record {
@@ -34,7 +35,7 @@ larger_ll l e e' = record {
   only = l.only;
 }
 
--- tokens that begin with a first sign stop a form whose more is apart from first
+-- tokens that start with a sign in first stop a form if its more and first are disjoint
 stops : (more first : List Sign) (Begun : List Lexeme → Type 0)
     → ((t : Lexeme) (ts : List Lexeme) → Begun (t ∷ ts) → has first (sign_of t) ≡ true) → apart more first ≡ true
     → (ts : List Lexeme) → Begun ts → begins_with more ts ≡ false
@@ -42,12 +43,12 @@ unfolding begins_with
 stops more first Begun head e [] b = refl
 stops more first Begun head e (t ∷ ts) b = false_from_ne_true _ (λ h. has_apart more first (sign_of t) e h (head t ts b))
 
--- a token that goes on does not stop
+-- a token that continues a form does not stop it
 clash : (more : List Sign) (t : Lexeme) (us ts : List Lexeme) → ts ≡ t ∷ us → begins_with more ts ≡ false → has more (sign_of t) ≡ true → ⊥
 unfolding begins_with
 clash more t us ts e s h = both_ways _ (subst (λ l. begins_with more l ≡ false) e s) h
 
--- where what stands behind two whole ones does not go on with them, they are the same
+-- if neither of two complete forms is continued by what follows it, they are the same
 parts : {A : Type 0} {null : Bool} {fa ma : List Sign} {a : Form A} → LL null fa ma a → (x y : A) (u v u' v' : List Lexeme)
     → a.Whole x u → a.Whole y u' → begins_with ma v ≡ false → begins_with ma v' ≡ false → u ++ v ≡ u' ++ v'
     → (u ≡ u') × (v ≡ v')
@@ -88,8 +89,8 @@ no_more : {A : Type 0} {null : Bool} {fa ma : List Sign} {a : Form A} → LL nul
 no_more l x u [] w s b = refl
 no_more l x u (t ∷ v) w s b = absurd (clash _ t v (t ∷ v) refl s (l.goes x u t v w b))
 
--- A first form, whole in u, and behind it Rest, begun in v. A token t that goes on with both goes on with Rest; or with the
--- first form, where v is empty.
+-- A first form, complete in u, then Rest, a prefix of which is v. A token t that continues both continues Rest, or the
+-- first form if v is empty.
 behind_first : {A : Type 0} {na : Bool} {fa ma : List Sign} {a : Form A} → LL na fa ma a
     → (fb more : List Sign) (Rest : List Lexeme → Type 0)
     → ((t : Lexeme) (ts : List Lexeme) → Rest (t ∷ ts) → has fb (sign_of t) ≡ true) → apart ma fb ≡ true
@@ -158,7 +159,7 @@ seq_ll {A} {B} {na} {nb} {fa} {ma} {fb} {mb} {a} {b} la lb e = record {
       let both = parts la x.0 y.0 u v u' v' w w' (stop _ v q) (stop _ v' q') (sym p ∙ p') in
       same_pair x y (la.only _ _ u w (subst (a.Whole y.0) (sym both.0) w')) (lb.only _ _ v q (subst (b.Whole y.1) (sym both.1) q'))
 
--- premises: of the two at most one may be empty
+-- premise: at most one of the two can be empty
 pub either_ll : {A : Type 0} {na nb : Bool} {fa ma fb mb : List Sign} {a b : Form A} → LL na fa ma a → LL nb fb mb b
     → apart fa fb ≡ true → (na && nb) ≡ false → LL (na || nb) (fa ++ fb) (ma ++ mb ++ when na fb ++ when nb fa) (either a b)
 unfolding either
@@ -187,7 +188,7 @@ either_ll {A} {na} {nb} {fa} {ma} {fb} {mb} {a} {b} la lb e e' = record {
   empty x (inl w) = or_left na nb (la.empty x w)
   empty x (inr w) = or_right na nb (lb.empty x w)
 
-  -- tokens that begin both are none
+  -- tokens that both can start with are none
   none : (ts : List Lexeme) → a.Begun ts → b.Begun ts → ts ≡ []
   none [] p q = refl
   none (t ∷ ts) p q = absurd (has_apart fa fb _ e (la.head t ts p) (lb.head t ts q))
@@ -252,17 +253,17 @@ optional_ll {A} {fa} {ma} {a} la = record {
   only None (Some y) ts w w' = absurd (some y ts w' w)
   only (Some x) None ts w w' = absurd (some x ts w w')
 
--- what begins one form begins a list of it
+-- a prefix of a form is a prefix of a list of it
 pub begun_one : {A : Type 0} (a : Form A) (ts : List Lexeme) → a.Begun ts → (many a).Begun ts
 unfolding many
 begun_one a ts b = ([], [], ts, refl, refl, inr b)
 
--- and what begins a list of it does so behind a whole one
+-- and so is a complete form followed by a prefix of a list
 pub begun_more : {A : Type 0} (a : Form A) (x : A) (ts u v : List Lexeme) → ts ≡ u ++ v → a.Whole x u → (many a).Begun v → (many a).Begun ts
 unfolding many
 begun_more a x ts u v p w (xs, u', v', q, ws, b) = (x ∷ xs, u ++ u', v', p ∙ ap (λ l. u ++ l) q ∙ sym (append_assoc u u' v'), (u, u', refl, w, ws), b)
 
--- what begins a list of a form: nothing, what begins one, or one and what begins a list
+-- a prefix of a list of a form: nothing, a prefix of one, or one followed by a prefix of a list
 pub begun_many : {A : Type 0} (a : Form A) (ts : List Lexeme) → (many a).Begun ts
     → (ts ≡ []) ⊎ a.Begun ts ⊎ ((x : A) × (u v : List Lexeme) × (ts ≡ u ++ v) × a.Whole x u × (many a).Begun v)
 unfolding many
@@ -270,7 +271,7 @@ begun_many a ts ([], u, v, p, w, inl q) = inl (no_front ts u v p w ∙ q)
 begun_many a ts ([], u, v, p, w, inr q) = inr (inl (subst a.Begun (sym (no_front ts u v p w)) q))
 begun_many a ts (x ∷ xs, u, v, p, (u', v', p', w, ws), b) = inr (inr (x, u', v' ++ v, p ∙ behind u u' v' v p', w, (xs, v', v, refl, ws, b)))
 
--- premise: the form takes a token, and its more is apart from its first
+-- premise: the form takes at least one token, and its more and first are disjoint
 pub many_ll : {A : Type 0} {fa ma : List Sign} {a : Form A} → LL false fa ma a → apart ma fa ≡ true → LL true fa (ma ++ fa) (many a)
 unfolding many
 many_ll {A} {fa} {ma} {a} l e = record {

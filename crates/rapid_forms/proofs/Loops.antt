@@ -1,4 +1,4 @@
--- A loop that reads one form after another, with what it has read so far, also as views of the trees that it collects.
+-- A loop that reads one form after another, given what it has read so far, also as views of the trees that it collects.
 use Rattle.std.proofs.Common.{◌≡◌, ℕ, zero, suc, ◌-◌, ◌≤◌, ◌<◌, true, false, if◌then◌else◌, List, [], ◌∷◌, ◌++◌, length, map, Ok, Err, refl, sym, ap, ◌∙◌, subst, arith}
 use Rattle.std.proofs.lemmas.List.{append_assoc, append-nil, length-drop, length-map, map_push}
 use Rattle.rapid_lexer.specs.Tokens.{Lexeme, view, views}
@@ -12,14 +12,14 @@ use Rattle.rapid_forms.specs.Reading.{Halt, Read, Reader, then_read, seq_read, m
 use Rattle.rapid_forms.proofs.Laws.{LL}
 use Rattle.rapid_forms.proofs.Right.{Right, Reads, less_left}
 
--- each form that the reader takes has a token
+-- each form that the reader reads takes at least one token
 pub record Takes {A : Type 0} (a : Reader A) : Type 0 where
   pub less : (ts : List Lexeme) (x : A) (rest : List Lexeme) → a ts ≡ Ok (x, rest) → length rest < length ts
 
 pub reads_take : {A : Type 0} {first more : List Sign} {F : ℕ → Form A} {n : ℕ} {a : Reader A} → Reads F n a → LL false first more (F n) → Takes a
 reads_take {F = F} {n} ra l = record { less = λ ts x rest e. less_left x l (subst (Right F n ts) e (ra.right ts)) }
 
--- what was read so far, and behind it what is read yet
+-- what was read so far, followed by what is still to be read
 unfoldable pub with_front : {A : Type 0} → List A → Read (List A) → Read (List A)
 with_front xs read = then_read read λ ys rest. Ok (xs ++ ys, rest)
 
@@ -63,12 +63,12 @@ unfolding with_front then_read
 front_more xs x (Ok ys) = ap (λ l. Ok (l, ys.1)) (sym (append_assoc xs (x ∷ []) ys.0))
 front_more xs x (Err h) = refl
 
--- The loop goes on: one more is read.
+-- The loop continues: it reads one more form.
 pub loop_more : {A : Type 0} {a : Reader A} → Takes a → (signs : List Sign) (xs : List A) (ts : List Lexeme) (x : A) (rest : List Lexeme) → begins_with signs ts ≡ true → a ts ≡ Ok (x, rest) → with_front xs (many_read signs a ts) ≡ with_front (xs ++ x ∷ []) (many_read signs a rest)
 unfolding then_read
 loop_more {a = a} t signs xs ts x rest h e = rw (many_opened t signs ts h, e) (front_more xs x (many_read signs a rest))
 
--- One more tree is behind the others.
+-- One more tree is after the others.
 pub loop_pushes : {X A : Type 0} {a : Reader A} → Takes a → (view : X → A) (signs : List Sign) (items : List X) (ts : List Lexeme) (x : X) (rest : List Lexeme) → begins_with signs ts ≡ true → a ts ≡ Ok (view x, rest) → with_front (map view (items ++ x ∷ [])) (many_read signs a rest) ≡ with_front (map view items) (many_read signs a ts)
 loop_pushes {a = a} t view signs items ts x rest h e =
     ap (λ xs. with_front xs (many_read signs a rest)) (map_push view items x) ∙ sym (loop_more t signs (map view items) ts (view x) rest h e)
@@ -78,28 +78,28 @@ unfolding with_front then_read
 front_first x (Ok p) = refl
 front_first x (Err h) = refl
 
--- The loop begins behind a first one.
+-- The loop starts after a first form.
 pub loop_first : {A : Type 0} (e : Reader A) (more : Reader (List A)) (ts : List Lexeme) (x : A) (rest : List Lexeme) → e ts ≡ Ok (x, rest) → with_front (x ∷ []) (more rest) ≡ made_read (λ at p. p.0 ∷ p.1) (seq_read e more) ts
 unfolding made_read seq_read then_read
 loop_first e more ts x rest h = rw h (front_first x (more rest))
 
--- The loop breaks off where one is not read.
+-- The loop stops with a fault if a form cannot be read.
 pub loop_stops : {A : Type 0} {a : Reader A} → Takes a → (signs : List Sign) (xs : List A) (ts : List Lexeme) (halt : Halt) → begins_with signs ts ≡ true → a ts ≡ Err halt → with_front xs (many_read signs a ts) ≡ Err halt
 unfolding then_read with_front
 loop_stops t signs xs ts halt h e = rw (many_opened t signs ts h, e)
 
--- The loop ends: no more is there.
+-- The loop ends: there are no more forms.
 pub loop_done : {A : Type 0} (a : Reader A) (signs : List Sign) (xs : List A) (ts : List Lexeme) → begins_with signs ts ≡ false → with_front xs (many_read signs a ts) ≡ Ok (xs, ts)
 unfolding then_read with_front
 loop_done a signs xs ts h = rw (many_closed a signs ts h) (ap (λ l. Ok (l, ts)) (append-nil xs))
 
--- What a function gives that returns from the loop with the fault of one more. What is given with a fault has no view.
+-- What a function returns that leaves the loop with the fault of the next form. With a fault there is nothing to view.
 pub loop_fails : {A : Type 0} {a : Reader A} → Takes a → (signs : List Sign) (xs : List A) (tokens : Tokens) (fault : SyntaxFault) (next : ℕ) (read : Read (List A)) → begins_with signs (rest_from tokens next) ≡ true → with_front xs (many_read signs a (rest_from tokens next)) ≡ read → Gives tokens (λ (x : A). x) (Err fault) (a (rest_from tokens next)) → Gives tokens (λ (x : List A). x) (Err fault) read
 loop_fails t signs xs tokens (Rule rule byte) next read h same (halt, e, is) = (halt, sym same ∙ loop_stops t signs xs (rest_from tokens next) halt h e, is)
 loop_fails t signs xs tokens (Lex f) next read h same (halt, e, is) = (halt, sym same ∙ loop_stops t signs xs (rest_from tokens next) halt h e, is)
 loop_fails t signs xs tokens Memory next read h same g = tt
 
--- fewer tokens are left behind one more
+-- after one more form fewer tokens are left
 pub loop_smaller : {A : Type 0} {a : Reader A} → Takes a → (tokens : Tokens) (next after : ℕ) (x : A) → a (rest_from tokens next) ≡ Ok (x, rest_from tokens after) → length tokens.list.now - after < length tokens.list.now - next
 loop_smaller t tokens next after x e =
     let less = t.less (rest_from tokens next) x (rest_from tokens after) e in

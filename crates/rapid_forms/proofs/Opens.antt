@@ -1,4 +1,4 @@
--- First signs, each of which does begin a form at some level.
+-- First signs, each of which can start the form at some level.
 use Rattle.std.proofs.Common.{◌≡◌, ℕ, suc, true, inl, inr, List, [], ◌∷◌, ◌++◌, None, refl}
 use Rattle.rapid_lexer.specs.Tokens.{Lexeme}
 use Rattle.rapid_forms.specs.declared.sign.Sign.{Sign}
@@ -10,7 +10,7 @@ use Rattle.rapid_forms.proofs.Sets.{covered, has_cases, has_covered}
 pub record Opens {A : Type 0} (first : List Sign) (F : ℕ → Form A) : Type 0 where
   pub opens : (t : Lexeme) → has first (sign_of t) ≡ true → (m : ℕ) × (F m).Begun (t ∷ [])
 
--- no token at all is a whole one, at each level
+-- no tokens are a complete form, at each level
 pub record Empties {A : Type 0} (F : ℕ → Form A) : Type 0 where
   pub empty : (m : ℕ) → (x : A) × (F m).Whole x []
 
@@ -25,7 +25,7 @@ pub seq_opens : {A B : Type 0} {first : List Sign} {F : ℕ → Form A} (G : ℕ
 unfolding seq
 seq_opens G o = record { opens = λ t h. let (m, b) = o.opens t h in (m, inl b) }
 
--- a sequence whose first part may be empty
+-- a sequence whose first part can be empty
 pub both_open : {A B : Type 0} {fa fb : List Sign} {F : ℕ → Form A} {G : ℕ → Form B} → Opens fa F → Empties F → Opens fb G
     → Opens (fa ++ fb) (λ n. seq (F n) (G n))
 unfolding seq
@@ -54,7 +54,7 @@ pub made_opens : {A B : Type 0} {first : List Sign} {F : ℕ → Form A} (f : �
 unfolding made
 made_opens f o = record { opens = λ t h. o.opens t h }
 
--- a form that is, within a level more, what the signs open
+-- a form that is, one level deeper, what the signs open
 pub deeper_opens : {A : Type 0} {first : List Sign} (F : ℕ → Form A) → Opens first (λ n. F (suc n)) → Opens first F
 deeper_opens F o = record { opens = λ t h. let (m, b) = o.opens t h in (suc m, b) }
 

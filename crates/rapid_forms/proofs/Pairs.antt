@@ -1,4 +1,4 @@
--- Readers of forms made of two: one after the other, one behind a token, one between two tokens.
+-- Readers of forms made of two: one after the other, one after a token, one between two tokens.
 use Rattle.std.proofs.Common.{◌≡◌, ℕ, ◌≤◌, Bool, false, ◌&&◌, true, List, ◌++◌, refl, subst}
 use Rattle.rapid_lexer.specs.Tokens.{Lexeme}
 use Rattle.rapid_forms.specs.declared.sign.Sign.{Sign}
@@ -10,12 +10,12 @@ use Rattle.rapid_forms.proofs.Up.{Up, up_refl}
 use Rattle.rapid_forms.proofs.Right.{Reads, one_reads, seq_reads, made_reads}
 use Rattle.rapid_forms.proofs.Loops.{Takes, reads_take}
 
--- two forms, one after the other, of which one takes a token at least, and what is made of them
+-- two forms, one after the other, at least one of which takes a token, and what is made of them
 pub both_reads : {A B C : Type 0} {na nb : Bool} {fa ma fb mb : List Sign} {F : ℕ → Form A} {G : ℕ → Form B} {n : ℕ} {a : Reader A} {b : Reader B} (f : ℕ → A × B → C) → Reads F n a → Reads G n b → ((m : ℕ) → LL na fa ma (F m)) → ((m : ℕ) → LL nb fb mb (G m)) → apart ma fb ≡ true → (na && nb) ≡ false → ((k m : ℕ) → k ≤ m → Up (F k) (F m)) → Reads (λ m. made f (seq (F m) (G m))) n (made_read f (seq_read a b))
 both_reads {na = na} {nb} {fa} {ma} {fb} {mb} {F} {G} f ra rb lf lg e some up =
     made_reads f (seq_reads ra rb lf lg e up) (λ m. subst (λ null. LL null (fa ++ when na fb) (mb ++ when nb ma) (seq (F m) (G m))) some (seq_ll (lf m) (lg m) e))
 
--- one token, and a form behind it
+-- a token, then a form
 pub token_reads : {B C : Type 0} {null : Bool} {first more : List Sign} {G : ℕ → Form B} {n : ℕ} {b : Reader B} (set : List Sign) (f : ℕ → Lexeme × B → C) → Reads G n b → ((m : ℕ) → LL null first more (G m)) → Reads (λ m. made f (seq (one set) (G m))) n (made_read f (seq_read (one_read set) b))
 token_reads set f r l = both_reads f (one_reads set) r (λ m. one_ll set) l refl refl (λ k m le. up_refl _)
 

@@ -1,4 +1,4 @@
--- A form stands at the byte of the token that begins it.
+-- A form is at the byte of its first token.
 use Rattle.std.proofs.Common.{◌≡◌, Bool, true, false, if◌then◌else◌, ◌⊎◌, inl, inr, List, [], ◌∷◌, Ok, Err, ap}
 use Rattle.rapid_lexer.specs.Tokens.{Lexeme}
 use Rattle.rapid_forms.specs.declared.sign.Sign.{Sign}
@@ -16,7 +16,7 @@ one_of : {X : Type 0} (b : Bool) (r s z : X) → (if b then r else s) ≡ z → 
 one_of true r s z e = inl e
 one_of false r s z e = inr e
 
--- the token that is read stands first
+-- the token that was read is the first
 one_gave : (signs : List Sign) (ts : List Lexeme) (t : Lexeme) (rest : List Lexeme) → one_read signs ts ≡ Ok (t, rest) → ts ≡ t ∷ rest
 unfolding one_read
 one_gave signs [] t rest e = cc
@@ -26,6 +26,6 @@ one_gave signs (c ∷ ts) t rest e =
       | inr p ↦ cc
     ]
 
--- and a form that it begins stands at its byte
+-- and a form that starts with it is at its byte
 pub one_placed : (signs : List Sign) (ts : List Lexeme) (t : Lexeme) (rest : List Lexeme) → one_read signs ts ≡ Ok (t, rest) → first_byte ts ≡ t.at
 one_placed signs ts t rest e = ap first_byte (one_gave signs ts t rest e)

@@ -1,5 +1,5 @@
--- What a reader's answer says of the form that it reads. F n is the form within n levels; an answer speaks of every level
--- from n up, since a form that stands within others is looked at with more levels too.
+-- The meaning of a reader's result for its form. F n is the form within n levels. The result covers every level from n
+-- up, because a form inside others is also looked at with more levels.
 use Rattle.std.proofs.Common.{◌≡◌, ℕ, zero, suc, ◌+◌, ◌≤◌, ◌<◌, arith, Bool, true, false, List, [], ◌∷◌, ◌++◌, length, Option, None, Some, Ok, Err, refl, sym, ap, subst, ◌∙◌, inl, inr}
 use Rattle.std.proofs.lemmas.Bool.{cond_both, both_ways}
 use Rattle.std.proofs.lemmas.List.{append_assoc, append-nil, length-append}
@@ -15,18 +15,18 @@ use Rattle.rapid_forms.proofs.Up.{Up, seq_up, many_up}
 use Rattle.rapid_forms.proofs.Opens.{Opens, seq_opens}
 use Rattle.rapid_forms.proofs.Same.{Same, either_swapped, byte_front}
 
--- the next token, if there is one, does not go on with the front
+-- the next token, if there is one, does not continue the front
 abbrev pub Ends : {A : Type 0} → Form A → List Lexeme → List Lexeme → Type 0
 Ends f front rest = (c : Lexeme) (r : List Lexeme) → rest ≡ c ∷ r → f.Begun (front ++ c ∷ []) → ⊥
 
--- a front is whole, and no level goes on with it
+-- a front is complete, and is not continued at any level
 pub record IsRead {A : Type 0} (F : ℕ → Form A) (n : ℕ) (ts : List Lexeme) (x : A) (rest : List Lexeme) : Type 0 where
   pub front : List Lexeme
   pub split : ts ≡ front ++ rest
   pub whole : (F n).Whole x front
   pub ends : (m : ℕ) → n ≤ m → Ends (F m) front rest
 
--- a front is begun, but whole at no level, and no level goes on with it
+-- a front is a prefix of the form, but not complete at any level, and is not continued at any level
 pub record IsStopped {A : Type 0} (F : ℕ → Form A) (n : ℕ) (ts rest : List Lexeme) : Type 0 where
   pub front : List Lexeme
   pub split : ts ≡ front ++ rest
@@ -34,7 +34,7 @@ pub record IsStopped {A : Type 0} (F : ℕ → Form A) (n : ℕ) (ts rest : List
   pub ends : (m : ℕ) → n ≤ m → Ends (F m) front rest
   pub none : (m : ℕ) → n ≤ m → (x : A) → (F m).Whole x front → ⊥
 
--- a front is begun, and the next token goes on with it at a level above, but not at this one
+-- a front is a prefix of the form, and the next token continues it at a higher level, but not at this one
 pub record IsAbove {A : Type 0} (F : ℕ → Form A) (n : ℕ) (ts rest : List Lexeme) : Type 0 where
   pub front : List Lexeme
   pub split : ts ≡ front ++ rest
@@ -52,21 +52,21 @@ Right F n ts (Ok x) = IsRead F n ts x.0 x.1
 Right F n ts (Err (Fails rest)) = IsStopped F n ts rest
 Right F n ts (Err (Deep rest)) = IsAbove F n ts rest
 
--- a reader answers for a form within n levels
+-- a reader parses a form correctly within n levels
 pub record Reads {A : Type 0} (F : ℕ → Form A) (n : ℕ) (reader : Reader A) : Type 0 where
   pub right : (ts : List Lexeme) → Right F n ts (reader ts)
 
--- where the next token does not go on, no more tokens do
+-- if the next token does not continue a front, no more tokens do
 stuck : {A : Type 0} {null : Bool} {first more : List Sign} {f : Form A} → LL null first more f → (front rest w tail : List Lexeme) → Ends f front rest → (w ≡ [] → ⊥) → rest ≡ w ++ tail → f.Begun (front ++ w) → ⊥
 stuck l front rest [] tail ends some e b = some refl
 stuck {f = f} l front rest (c ∷ w) tail ends some e b = ends c (w ++ tail) e (l.front (front ++ c ∷ []) w (subst f.Begun (sym (append_assoc front (c ∷ []) w)) b))
 
 module _ {A B : Type 0} {na nb : Bool} {fa ma fb mb : List Sign} {f : Form A} {g : Form B} (lf : LL na fa ma f) (lg : LL nb fb mb g) (e : apart ma fb ≡ true) where
-  -- no token goes on with a whole first form and begins the second
+  -- no token both continues a complete first form and starts the second
   clash : (x : A) (u : List Lexeme) (c : Lexeme) (w v : List Lexeme) → f.Whole x u → f.Begun (u ++ c ∷ w) → g.Begun (c ∷ v) → ⊥
   clash x u c w v h b b' = has_apart ma fb (sign_of c) e (lf.goes x u c w h b) (lg.head c v b')
 
-  -- where the next token does not go on with a front of the first form, the second form begins there alone
+  -- if the next token does not continue a front of the first form, the second form starts only there
   one_split : (front rest w tail : List Lexeme) → f.Begun front → Ends f front rest → rest ≡ w ++ tail → (x : A) (u v : List Lexeme) → front ++ w ≡ u ++ v → f.Whole x u → g.Begun v → (front ≡ u) × (w ≡ v)
   one_split front rest w tail b ends at x u v same h b' =
       elim (cuts front w u v same) [
@@ -75,7 +75,7 @@ module _ {A B : Type 0} {na nb : Bool} {fa ma fb mb : List Sign} {f : Form A} {g
         | Longer c m p q ↦ absurd (clash x u c m (m ++ w) h (subst f.Begun p b) (subst g.Begun q b'))
       ]
 
-  -- behind a whole first form stands a front of the second
+  -- after a complete first form comes a front of the second
   seq_ends : (front rest mid left : List Lexeme) → f.Begun front → Ends f front rest → rest ≡ mid ++ left → Ends g mid left → Ends (seq f g) (front ++ mid) left
   unfolding seq
   seq_ends front rest mid left b ends split ends' c r at (inl h) =
@@ -90,7 +90,7 @@ module _ {A B : Type 0} {na nb : Bool} {fa ma fb mb : List Sign} {f : Form A} {g
       let both = one_split front rest mid left b ends split z.0 u v same h (lg.begun z.1 v h') in
       none z.1 (subst (g.Whole z.1) (sym both.1) h')
 
-  -- a front of the first form that is not whole
+  -- a front of the first form that is not complete
   first_ends : (front rest : List Lexeme) → f.Begun front → Ends f front rest → ((x : A) → f.Whole x front → ⊥) → Ends (seq f g) front rest
   unfolding seq
   first_ends front rest b ends none c r at (inl h) = ends c r at h
@@ -102,7 +102,7 @@ module _ {A B : Type 0} {na nb : Bool} {fa ma fb mb : List Sign} {f : Form A} {g
   first_none front rest b ends none z (u, v, same, h, h') =
       none z.0 (subst (f.Whole z.0) (sym (one_split front rest [] rest b ends refl z.0 u v (append-nil front ∙ same) h (lg.begun z.1 v h')).0) h)
 
-  -- a front of the first form with which f, of a level above, goes on
+  -- a front of the first form that f, at a higher level, continues
   first_above : (f' : Form A) → LL na fa ma f' → Up f' f → (front rest : List Lexeme) (c : Lexeme) (r : List Lexeme) → rest ≡ c ∷ r → Ends f' front rest → f.Begun (front ++ c ∷ []) → Ends (seq f' g) front rest
   unfolding seq
   first_above f' l up front rest c r at ends deeper c' r' at' (inl h) = ends c' r' at' h
@@ -170,7 +170,7 @@ module _ {A B : Type 0} {na nb : Bool} {fa ma fb mb : List Sign} {F : ℕ → Fo
     deeper = inl h.deeper;
   }
 
--- premises: what goes on with the first form and what begins the second are apart
+-- premise: the signs that continue the first form and those that start the second are disjoint
 pub seq_reads : {A B : Type 0} {na nb : Bool} {fa ma fb mb : List Sign} {F : ℕ → Form A} {G : ℕ → Form B} {n : ℕ} {a : Reader A} {b : Reader B} → Reads F n a → Reads G n b → ((m : ℕ) → LL na fa ma (F m)) → ((m : ℕ) → LL nb fb mb (G m)) → apart ma fb ≡ true → ((k m : ℕ) → k ≤ m → Up (F k) (F m)) → Reads (λ m. seq (F m) (G m)) n (seq_read a b)
 unfolding seq_read
 seq_reads {n = n} {a = a} {b = b} ra rb lf lg e up = record { right = λ ts. seq_right lf lg e up n ts (a ts) b (ra.right ts) (λ x rest _. rb.right rest) }
@@ -190,7 +190,7 @@ one_reads {n} signs = record { right = right } where
         none = λ m le x h. let no = h.0 in cc;
       })
 
--- a form that is another one, at every level
+-- a form that equals another at every level
 same_right : {A : Type 0} {F G : ℕ → Form A} → ((m : ℕ) → Same (F m) (G m)) → (n : ℕ) (ts : List Lexeme) (read : Read A) → Right F n ts read → Right G n ts read
 same_right same n ts (Ok x) h = record {
   front = h.front;
@@ -218,7 +218,7 @@ same_right same n ts (Err (Deep rest)) h = record {
   deeper = (same h.level).to.begun (h.front ++ h.token ∷ []) h.deeper;
 }
 
--- the first token begins the form at some level
+-- the first token starts the form at some level
 record Starts {A : Type 0} (F : ℕ → Form A) (n : ℕ) (ts : List Lexeme) : Type 0 where
   token : Lexeme
   behind : List Lexeme
@@ -237,7 +237,7 @@ not_bare : {A : Type 0} {F : ℕ → Form A} {n : ℕ} {ts rest : List Lexeme} �
 not_bare {F = F} {ts = ts} {rest = rest} s h e =
     h.ends s.level s.above s.token s.behind (sym (no_front ts h.front rest h.split e) ∙ s.at) (subst (λ l. (F s.level).Begun (l ++ s.token ∷ [])) (sym e) s.begun)
 
--- what begins a form begins with one of its first signs
+-- a prefix of the form starts with one of its first signs
 begins : {A : Type 0} {null : Bool} {first more : List Sign} {f : Form A} → LL null first more f → (ts w tail : List Lexeme) → ts ≡ w ++ tail → (w ≡ [] → ⊥) → f.Begun w → begins_with first ts ≡ true
 unfolding begins_with
 begins l ts [] tail e some b = absurd (some refl)
@@ -248,7 +248,7 @@ unfolding begins_with
 apart_begins xs ys [] e h h' = cc
 apart_begins xs ys (t ∷ ts) e h h' = has_apart xs ys (sign_of t) e h h'
 
--- one of two forms, where the other begins with none of these tokens
+-- one of two forms, if the other starts with none of these tokens
 module _ {A : Type 0} {F : ℕ → Form A} (G : ℕ → Form A) {n : ℕ} (ts : List Lexeme) (foreign : (m : ℕ) (w tail : List Lexeme) → ts ≡ w ++ tail → (w ≡ [] → ⊥) → (G m).Begun w → ⊥) (bare : (m : ℕ) (y : A) → (G m).Whole y [] → Starts F n ts) (gb : (m : ℕ) (y : A) (w : List Lexeme) → (G m).Whole y w → (G m).Begun w) where
   other : (front rest : List Lexeme) → ts ≡ front ++ rest → (m : ℕ) → Ends (G m) front rest
   other front rest split m c r at b = foreign m (front ++ c ∷ []) r (split ∙ ap (λ l. front ++ l) at ∙ sym (append_assoc front (c ∷ []) r)) (no_middle front c []) b
@@ -285,8 +285,8 @@ module _ {A : Type 0} {F : ℕ → Form A} (G : ℕ → Form A) {n : ℕ} (ts : 
     deeper = inl h.deeper;
   }
 
--- premises: the first form takes a token; what begins the two is apart; and where the second may be empty, each first sign
--- opens the first
+-- premises: the first form takes at least one token; the signs that start the two are disjoint; and if the second can
+-- be empty, each first sign opens the first
 pub either_reads : {A : Type 0} {nb : Bool} {fa ma fb mb : List Sign} {F G : ℕ → Form A} {n : ℕ} {a b : Reader A} → Reads F n a → Reads G n b → ((m : ℕ) → LL false fa ma (F m)) → ((m : ℕ) → LL nb fb mb (G m)) → apart fa fb ≡ true → (nb ≡ true → Opens fa F) → ((k m : ℕ) → k ≤ m → Up (F k) (F m)) → Reads (λ m. either (F m) (G m)) n (either_read fa a b)
 unfolding either_read
 either_reads {A} {nb} {fa} {ma} {fb} {mb} {F} {G} {n} {a} {b} ra rb lf lg e o up = record {
@@ -341,7 +341,7 @@ optional_reads {A} {null} {first} {more} {F} {n} {a} ra lf o up = record {
       (λ h. optional_right n ts (starts o up n ts h) (a ts) (ra.right ts)) (none_right lf n ts);
 }
 
--- premise: what is made of a whole one does not depend on where no token stands
+-- premise: what is made of a complete form does not depend on the byte if there is no token
 made_right : {A B : Type 0} (F : ℕ → Form A) (f : ℕ → A → B) (n : ℕ) (ts : List Lexeme) → ((x : A) (front rest : List Lexeme) → ts ≡ front ++ rest → (F n).Whole x front → f (first_byte ts) x ≡ f (first_byte front) x) → (read : Read A) → Right F n ts read → Right (λ m. made f (F m)) n ts (then_read read λ x rest. Ok (f (first_byte ts) x, rest))
 unfolding made then_read
 made_right F f n ts same (Ok x) h = record { front = h.front; split = h.split; whole = (x.0, h.whole, same x.0 h.front x.1 h.split h.whole); ends = h.ends }
@@ -359,19 +359,19 @@ made_right F f n ts same (Err (Deep rest)) h = record {
   deeper = h.deeper;
 }
 
--- premise: the form takes a token, whose place is that of all the tokens
+-- premise: the form takes at least one token, whose byte is that of the whole
 pub made_reads : {A B : Type 0} {first more : List Sign} {F : ℕ → Form A} {n : ℕ} {a : Reader A} (f : ℕ → A → B) → Reads F n a → ((m : ℕ) → LL false first more (F m)) → Reads (λ m. made f (F m)) n (made_read f a)
 unfolding made_read
 made_reads {F = F} {n = n} {a = a} f ra lf = record {
   right = λ ts. made_right F f n ts (λ x front rest split w. ap (λ at. f at x) (byte_front (lf n) x ts front rest split w)) (a ts) (ra.right ts);
 }
 
--- premise: the place counts for nothing
+-- premise: the byte does not matter
 pub remade_reads : {A B : Type 0} {F : ℕ → Form A} {n : ℕ} {a : Reader A} (f : ℕ → A → B) → Reads F n a → ((p q : ℕ) (x : A) → f p x ≡ f q x) → Reads (λ m. made f (F m)) n (made_read f a)
 unfolding made_read
 remade_reads {F = F} {n = n} {a = a} f ra same = record { right = λ ts. made_right F f n ts (λ x front rest split w. same (first_byte ts) (first_byte front) x) (a ts) (ra.right ts) }
 
--- a reader answers for a form that is the same
+-- a reader parses an equal form correctly
 pub same_reads : {A : Type 0} {F G : ℕ → Form A} {n : ℕ} {a : Reader A} → Reads F n a → ((m : ℕ) → Same (F m) (G m)) → Reads G n a
 same_reads {n = n} {a = a} ra same = record { right = λ ts. same_right same n ts (a ts) (ra.right ts) }
 
@@ -398,7 +398,7 @@ deep_right zeroth s o (t ∷ ts) h =
       deeper = b;
     }
 
--- premises: no level is left; the form takes a token; and each first sign opens it
+-- premises: no level is left; the form takes at least one token; and each first sign opens it
 pub nothing_reads : {A : Type 0} {first more : List Sign} {F : ℕ → Form A} → F 0 ≡ nothing → ((m : ℕ) → LL false first more (F m)) → Opens first F → Reads F 0 (nothing_read first)
 unfolding nothing_read
 nothing_reads {A} {first} {more} {F} zeroth lf o = record {
@@ -412,7 +412,7 @@ nothing_reads {A} {first} {more} {F} zeroth lf o = record {
       });
 }
 
--- a form that stands a level further in
+-- a form one level deeper
 module _ {A : Type 0} (F G : ℕ → Form A) (same : (m : ℕ) → G (suc m) ≡ F m) (n : ℕ) where
   inner : (P : Form A → Type 0) → ((m : ℕ) → n ≤ m → P (F m)) → (m : ℕ) → suc n ≤ m → P (G m)
   inner P p zero le = absurd (omega arith)
@@ -443,7 +443,7 @@ module _ {A : Type 0} (F G : ℕ → Form A) (same : (m : ℕ) → G (suc m) ≡
 pub level_reads : {A : Type 0} {F G : ℕ → Form A} {n : ℕ} {a : Reader A} → Reads F n a → ((m : ℕ) → G (suc m) ≡ F m) → Reads G (suc n) a
 level_reads {F = F} {G = G} {n = n} {a = a} ra same = record { right = λ ts. level_right F G same n ts (a ts) (ra.right ts) }
 
--- A list is nothing, or one and a list: many is made of optional and seq, and what holds of those holds of it.
+-- A list is nothing, or one element and a list: many is made of optional and seq, and inherits their properties.
 join_list : {A : Type 0} → Option (A × List A) → List A
 join_list None = []
 join_list (Some x) = x.0 ∷ x.1
@@ -472,14 +472,14 @@ unrolled {A} f = record { whole = whole; begun = begun } where
   begun ts ([], u, v, e, w, inr b) = inr (inl (subst f.Begun (sym (no_front ts u v e w)) b))
   begun ts (x ∷ xs, u, v, e, (u', v', e', w, ws), b) = inr (inr (x, u', v' ++ v, e ∙ behind u u' v' v e', w, (xs, v', v, refl, ws, b)))
 
--- what is left behind a form that takes a token is less
+-- after a form that takes a token, less is left
 pub less_left : {A : Type 0} {first more : List Sign} {F : ℕ → Form A} {n : ℕ} {ts rest : List Lexeme} (x : A) → LL false first more (F n) → IsRead F n ts x rest → length rest < length ts
 less_left {F = F} {n} {ts} {rest} x l h = go h.front h.split h.whole where
   go : (front : List Lexeme) → ts ≡ front ++ rest → (F n).Whole x front → length rest < length ts
   go [] e w = let no = l.empty x w in cc
   go (c ∷ front) e w = omega (arith, ap length e, length-append front rest)
 
--- and so is its reader
+-- and its reader does too
 as_one : {A : Type 0} (read : Read A) (b : Reader (List A)) → then_read (then_read (then_read read λ x rest. then_read (b rest) λ xs left. Ok ((x, xs), left)) λ o rest. Ok (Some o, rest)) (λ o rest. Ok (join_list o, rest)) ≡ then_read read (λ x rest. then_read (b rest) λ xs left. Ok (x ∷ xs, left))
 unfolding then_read join_list
 as_one (Err h) b = refl
@@ -508,7 +508,8 @@ module _ {A : Type 0} {first more : List Sign} {F : ℕ → Form A} {n : ℕ} {a
   many_right (suc k) ts le = cond_both (begins_with first ts) (then_read (a ts) λ x rest. then_read (many_within k first a rest) λ xs left. Ok (x ∷ xs, left)) (Ok ([], ts)) (Right (λ m. many (F m)) n ts)
       (one_more k ts (λ rest less. many_right k rest (omega arith))) (no_more ts)
 
--- premises: the form takes a token; what goes on with it and what begins it are apart; each first sign opens it
+-- premises: the form takes at least one token; the signs that continue it and those that start it are disjoint; each
+-- first sign opens it
 pub many_reads : {A : Type 0} {first more : List Sign} {F : ℕ → Form A} {n : ℕ} {a : Reader A} → Reads F n a → ((m : ℕ) → LL false first more (F m)) → apart more first ≡ true → Opens first F → ((k m : ℕ) → k ≤ m → Up (F k) (F m)) → Reads (λ m. many (F m)) n (many_read first a)
 unfolding many_read
 many_reads ra lf e o up = record { right = λ ts. many_right ra lf e o up (length ts) ts (omega arith) }

@@ -1,4 +1,5 @@
--- Forms that take the same tokens for the same things. Lines that begin alike are read with the common part taken out.
+-- Equal forms: they take the same tokens and denote the same things. Lines with a common start are read with that part
+-- factored out.
 use Rattle.std.proofs.Common.{◌≡◌, ℕ, Bool, false, ◌⊎◌, inl, inr, List, [], ◌∷◌, ◌++◌, Option, None, Some, refl, sym, ◌∙◌, ap, subst}
 use Rattle.rapid_lexer.specs.Tokens.{Lexeme}
 use Rattle.rapid_forms.specs.declared.sign.Sign.{Sign}
@@ -63,7 +64,7 @@ exchange a b c d = record {
   begun = λ ts. elim [ inl (inl w) ↦ inl (inl w) | inl (inr w) ↦ inr (inl w) | inr (inl w) ↦ inl (inr w) | inr (inr w) ↦ inr (inr w) ];
 }
 
--- two pairs of lines, each pair's first ones and each pair's second ones together
+-- two pairs of lines: the first of each pair together, and the second of each
 pub crossed : {A : Type 0} (a b c d : Form A) → Same (either (either a b) (either c d)) (either (either a c) (either b d))
 unfolding either
 crossed a b c d = record { to = exchange a b c d; back = exchange a c b d }
@@ -120,7 +121,7 @@ shared {A} {B} {C} {D} f g a b c = record {
   whole t ts (x, s) (u, v, p, w, inl (y, q, e)) r = inl ((x, y), (u, v, p, w, q), r ∙ ap (λ z. joined f g (first_byte ts) (x, z)) e)
   whole t ts (x, s) (u, v, p, w, inr (y, q, e)) r = inr ((x, y), (u, v, p, w, q), r ∙ ap (λ z. joined f g (first_byte ts) (x, z)) e)
 
--- of two lines that begin alike and go on with things of one kind
+-- of two lines with a common start and the same kind of rest
 pub alike : {A B C : Type 0} (f : ℕ → A × B → C) (a : Form A) (b b' : Form B)
     → Same (either (made f (seq a b)) (made f (seq a b'))) (made f (seq a (either b b')))
 unfolding seq either made
@@ -154,7 +155,7 @@ made_itself a = record {
   back = record { whole = λ t ts w. (t, w, refl); begun = λ ts b. b };
 }
 
--- what is made of a second part alone, whatever its place
+-- what is made of the second part alone, independent of its byte
 pub made_behind : {A B C : Type 0} (f : B → C) (a : Form A) (b : Form B)
     → Same (seq a (made (λ at x. f x) b)) (made (λ at x. (x.0, f x.1)) (seq a b))
 unfolding seq made
@@ -198,7 +199,7 @@ bracketed a b c = record {
   };
 }
 
--- a first and a second part, taken out of two lines
+-- a first and a second part, factored out of two lines
 pub both_shared : {A B C D E : Type 0} (f : ℕ → A × (B × C) → E) (g : ℕ → A × (B × D) → E) (a : Form A) (b : Form B) (c : Form C) (d : Form D)
     → Same (either (made f (seq a (seq b c))) (made g (seq a (seq b d))))
     (made (λ at x. joined {A = A × B} (λ at y. f at (y.0.0, (y.0.1, y.1))) (λ at y. g at (y.0.0, (y.0.1, y.1))) at ((x.0, x.1.0), x.1.1)) (seq a (seq b (either (made left c) (made right d)))))
@@ -210,13 +211,13 @@ both_shared {A} {B} {E = E} f g a b c d =
     front : {F : Type 0} (h : ℕ → A × (B × F) → E) (e : Form F) → Same (made h (seq a (seq b e))) (made {A = (A × B) × F} (λ at y. h at (y.0.0, (y.0.1, y.1))) (seq (seq a b) e))
     front h e = same_sym (same_trans (made_same _ (bracketed a b e)) (made_made _ _ _))
 
--- a whole one that takes a token stands at the same place as what it is the front of
+-- a complete form that takes a token is at the same byte as what it is the front of
 pub byte_front : {A : Type 0} {first more : List Sign} {a : Form A} → LL false first more a → (x : A) (ts u v : List Lexeme)
     → ts ≡ u ++ v → a.Whole x u → first_byte ts ≡ first_byte u
 byte_front l x ts [] v p w = let h = l.empty x w in cc
 byte_front l x ts (t ∷ u) v p w = ap first_byte p
 
--- premise: the first form takes a token, so that its place is that of the whole
+-- premise: the first form takes at least one token, so its byte is that of the whole
 pub regrouped : {A B C : Type 0} {first more : List Sign} {a : Form A} (f : ℕ → A → B) (c : Form C) → LL false first more a
     → Same (seq (made f a) c) (made (λ at x. (f at x.0, x.1)) (seq a c))
 unfolding seq made
@@ -238,15 +239,15 @@ regrouped {a = a} f c l = record {
   };
 }
 
--- the first part of a front, taken out of it
+-- the first part of a front, factored out
 pub fronted : {A B C D E : Type 0} {first more : List Sign} (f : ℕ → A × B → C) (g : ℕ → C × D → E) (a : Form A) (b : Form B) (d : Form D)
     → LL false first more (seq a b)
     → Same (made g (seq (made f (seq a b)) d)) (made (λ at x. g at (f at (x.0, x.1.0), x.1.1)) (seq a (seq b d)))
 fronted f g a b d l =
     same_trans (made_same g (regrouped f d l)) (same_trans (made_made _ g _) (same_trans (made_same _ (bracketed a b d)) (made_made _ _ _)))
 
--- Of a line that begins with k and one that may begin with it: behind k comes either, and without it the second. Premise:
--- no token at all begins the second.
+-- Of a line that starts with k and one that may start with it: after k comes either, and without k the second. Premise:
+-- the second is not empty.
 pub commas : {A B C D : Type 0} (f : ℕ → A × B → D) (g : ℕ → Option A × C → D) (k : Form A) (b : Form B) (c : Form C) → c.Begun []
     → Same (either (made f (seq k b)) (made g (seq (optional k) c)))
     (either (made (joined f (λ at x. g at (Some x.0, x.1))) (seq k (either (made left b) (made right c)))) (made (λ at y. g at (None, y)) c))

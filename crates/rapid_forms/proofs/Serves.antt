@@ -1,5 +1,6 @@
--- A reader that answers for a form of which all is known that reading needs: at each level one token of looking ahead is
--- enough for it, and what is within some levels is within more. Each way of making a form of others keeps all three.
+-- A correct reader of a form, with everything that reading needs to know about the form: at each level one token of
+-- lookahead is enough, and a form within some levels is also within more. Each way to build forms from others preserves
+-- all three.
 use Rattle.std.proofs.Common.{◌≡◌, ℕ, ◌≤◌, Bool, true, false, ◌&&◌, List, [], ◌++◌, refl}
 use Rattle.rapid_forms.specs.declared.sign.Sign.{Sign}
 use Rattle.rapid_forms.specs.Forms.{Form, one, seq, either, optional, many, made}
@@ -32,7 +33,7 @@ module _ {n : ℕ} where
       above = λ k m le. up_trans (s k).back (up_trans (x.above k m le) (s m).to);
     }
 
-    -- premise: what goes on with the first form and what begins the second are apart
+    -- premise: the signs that continue the first form and those that start the second are disjoint
     pub both_serve : {B : Type 0} {null' : Bool} {first' more' : List Sign} {G : ℕ → Form B} {b : Reader B} → Serves null' first' more' G n b → apart more first' ≡ true → Serves (null && null') (first ++ when null first') (more' ++ when null' more) (λ m. seq (F m) (G m)) n (seq_read a b)
     both_serve y e = record {
       reads = seq_reads x.reads y.reads x.ahead y.ahead e x.above;
@@ -43,7 +44,7 @@ module _ {n : ℕ} where
   pub made_serves : {A B : Type 0} {first more : List Sign} {F : ℕ → Form A} {a : Reader A} (f : ℕ → A → B) → Serves false first more F n a → Serves false first more (λ m. made f (F m)) n (made_read f a)
   made_serves f x = record { reads = made_reads f x.reads x.ahead; ahead = λ m. made_ll f (x.ahead m); above = λ k m le. made_up f (x.above k m le) }
 
-  -- premise: the place counts for nothing
+  -- premise: the byte does not matter
   pub remade_serves : {A B : Type 0} {null : Bool} {first more : List Sign} {F : ℕ → Form A} {a : Reader A} (f : ℕ → A → B) → Serves null first more F n a → ((p q : ℕ) (x : A) → f p x ≡ f q x) → Serves null first more (λ m. made f (F m)) n (made_read f a)
   remade_serves f x same = record { reads = remade_reads f x.reads same; ahead = λ m. made_ll f (x.ahead m); above = λ k m le. made_up f (x.above k m le) }
 
@@ -51,7 +52,7 @@ module _ {n : ℕ} where
     pub serves_take : Takes a
     serves_take = reads_take x.reads (x.ahead n)
 
-    -- premise: what begins the two forms is apart
+    -- premise: the signs that start the two forms are disjoint
     pub either_serves : {first' more' : List Sign} {G : ℕ → Form A} {b : Reader A} → Serves false first' more' G n b → apart first first' ≡ true → Serves false (first ++ first') (more ++ more' ++ [] ++ []) (λ m. either (F m) (G m)) n (either_read first a b)
     either_serves y e = record {
       reads = either_reads x.reads y.reads x.ahead y.ahead e (λ no. cc) x.above;
@@ -63,6 +64,6 @@ module _ {n : ℕ} where
     pub optional_serves : Opens first F → Serves true first (more ++ first) (λ m. optional (F m)) n (optional_read first a)
     optional_serves o = record { reads = optional_reads x.reads x.ahead o x.above; ahead = λ m. optional_ll (x.ahead m); above = λ k m le. optional_up (x.above k m le) }
 
-    -- premises: each first sign opens the form; and what goes on with it and what begins it are apart
+    -- premises: each first sign opens the form; the signs that continue it and those that start it are disjoint
     pub many_serves : Opens first F → apart more first ≡ true → Serves true first (more ++ first) (λ m. many (F m)) n (many_read first a)
     many_serves o e = record { reads = many_reads x.reads x.ahead e o x.above; ahead = λ m. many_ll (x.ahead m) e; above = λ k m le. many_up (x.above k m le) }

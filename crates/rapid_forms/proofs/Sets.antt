@@ -1,4 +1,4 @@
--- Sets of signs, as lists: that two are apart, or that one covers the other, is computed.
+-- Sets of signs, as lists. Whether two are disjoint, or one contains the other, is computed.
 use Rattle.std.proofs.Common.{◌≡◌, ℕ, Bool, true, false, not, ◌||◌, ◌&&◌, ◌==◌, cond, ◌⊎◌, inl, inr, List, [], ◌∷◌, ◌++◌, map, refl, sym, ◌∙◌, ap}
 use Rattle.std.proofs.lemmas.Bool.{or_cases, or_left, or_right, and_parts, not-true, both_ways, eqb-true}
 use Rattle.std.proofs.lemmas.List.Folds.{list_any-append}
@@ -21,11 +21,11 @@ all_listed (c ∷ cs) ds = listed ds c && all_listed cs ds
 abbrev pub apart : List Sign → List Sign → Bool
 apart xs ys = none_listed (map code xs) (map code ys)
 
--- the second set has each sign of the first
+-- the second set contains the first
 abbrev pub covered : List Sign → List Sign → Bool
 covered xs ys = all_listed (map code xs) (map code ys)
 
--- a set that counts under a condition alone
+-- a set, but empty unless a condition holds
 abbrev pub when : Bool → List Sign → List Sign
 when b xs = cond b xs []
 
@@ -71,7 +71,7 @@ has_right xs ys s h = has_append xs ys s ∙ or_right _ _ h
 pub has_cases : (xs ys : List Sign) (s : Sign) → has (xs ++ ys) s ≡ true → (has xs s ≡ true) ⊎ (has ys s ≡ true)
 has_cases xs ys s h = or_cases _ _ (sym (has_append xs ys s) ∙ h)
 
--- a set behind another, under a condition that holds
+-- a set after another, under a condition that holds
 pub has_when : (b : Bool) (xs ys : List Sign) (s : Sign) → b ≡ true → has ys s ≡ true → has (xs ++ when b ys) s ≡ true
 has_when true xs ys s e h = has_right xs ys s h
 has_when false xs ys s e h = cc

@@ -1,4 +1,4 @@
--- What a reader's answer means, in the public words; and that the answers of those words exclude one another.
+-- The meaning of a reader's result in the public words, and that the answers in those words are mutually exclusive.
 use Rattle.std.proofs.Common.{◌≡◌, ℕ, suc, ◌+◌, ◌≤◌, ◌<◌, Bool, List, [], ◌∷◌, ◌++◌, length, take, drop, min, IfOk, Result, Ok, Err, refl, sym, ap, subst, ◌∙◌, inl, inr, ◌⊎◌, arith}
 use Rattle.std.proofs.lemmas.Bool.{cases_order, cases_lt}
 use Rattle.std.proofs.lemmas.List.{take-append-drop, take-take, take_at, drop_at, length-append, length-drop, length-map, drop-drop, drop_min}
@@ -15,23 +15,23 @@ use Rattle.rapid_forms.proofs.Laws.{LL}
 use Rattle.rapid_forms.proofs.Up.{Up}
 use Rattle.rapid_forms.proofs.Right.{Right, Reads, Ends}
 
--- fewer tokens begin a form as well
+-- fewer tokens are a prefix of the form too
 pub fewer : {A : Type 0} {null : Bool} {first more : List Sign} {f : Form A} → LL null first more f → (ts : List Lexeme) (i j : ℕ) → i ≤ j → f.Begun (take j ts) → f.Begun (take i ts)
 fewer {f = f} l ts i j le b =
     subst f.Begun (take-take i j ts le) (l.front (take i (take j ts)) (drop i (take j ts)) (subst f.Begun (sym (take-append-drop i (take j ts))) b))
 
--- of two numbers, neither of which may be less
+-- of two numbers, neither of which is less
 neither_less : (j k : ℕ) → (j < k → ⊥) → (k < j → ⊥) → j ≡ k
 neither_less j k p q = elim (cases_order j k) [ inl e ↦ e | inr (inl l) ↦ absurd (p l) | inr (inr l) ↦ absurd (q l) ]
 
 pub longest_one : {A : Type 0} {F : ℕ → Form A} {ts : List Lexeme} {j k : ℕ} → IsLongest F ts j → IsLongest F ts k → j ≡ k
 longest_one {j = j} {k = k} h h' = neither_less j k (λ l. h.most k l h'.there h'.begins) (λ l. h'.most j l h.there h.begins)
 
--- what begins within n levels up to the longest does not open a level too many
+-- the longest prefix, if it is within n levels, does not open a level too many
 pub longest_deep : {A : Type 0} {null : Bool} {first more : List Sign} {F : ℕ → Form A} {n : ℕ} {ts : List Lexeme} {j k : ℕ} → LL null first more (F n) → IsLongest F ts j → (F n).Begun (take j ts) → IsTooDeep F n ts k → ⊥
 longest_deep {ts = ts} {j = j} {k = k} l h b d = elim (cases_lt j (suc k)) [ inl less ↦ h.most (suc k) less d.there d.begins | inr le ↦ d.deep (fewer l ts (suc k) j le b) ]
 
--- The answers exclude one another, and each of them is one.
+-- The answers are mutually exclusive, and each is unique.
 module _ {A : Type 0} {F : ℕ → Form A} {n : ℕ} {ts : List Lexeme} {j k : ℕ} where
   pub parsed_once : {x y : A} → IsParsed F n ts x j → IsParsed F n ts y k → (x ≡ y) × (j ≡ k)
   parsed_once {x = x} h h' =
@@ -54,7 +54,7 @@ module _ {A : Type 0} {F : ℕ → Form A} {n : ℕ} {ts : List Lexeme} {j k : �
     pub deep_once : IsTooDeep F n ts j → IsTooDeep F n ts k → j ≡ k
     deep_once d d' = neither_less j k (λ less. d.deep (fewer l ts (suc j) k less d'.begun)) (λ less. d'.deep (fewer l ts (suc k) j less d.begun))
 
--- what a reader's answer says in the public words
+-- what a reader's result says in the public words
 abbrev pub Answers : {A : Type 0} → (ℕ → Form A) → ℕ → List Lexeme → Read A → Type 0
 Answers F n ts (Ok x) = (k : ℕ) × IsParsed F n ts x.0 k × (x.1 ≡ drop k ts)
 Answers F n ts (Err (Fails rest)) = (k : ℕ) × IsFaulty F n ts k × (rest ≡ drop k ts)
@@ -118,7 +118,7 @@ module _ {A : Type 0} {null : Bool} {first more : List Sign} {F : ℕ → Form A
     drop_front ts h.front rest h.split,
   )
 
--- premises: one token of looking ahead suffices at each level, and what is within n levels is within more
+-- premises: one token of lookahead is enough at each level, and a form within n levels is within more
 pub reads_answer : {A : Type 0} {null : Bool} {first more : List Sign} {F : ℕ → Form A} {n : ℕ} {a : Reader A} → Reads F n a → ((m : ℕ) → LL null first more (F m)) → ((k m : ℕ) → k ≤ m → Up (F k) (F m)) → (ts : List Lexeme) → Answers F n ts (a ts)
 reads_answer {n = n} {a = a} ra lf up ts = answers lf up n ts (a ts) (ra.right ts)
 
@@ -148,17 +148,17 @@ module _ {A : Type 0} (F : ℕ → Form A) (n : ℕ) where
     answer_parses (Err (Lex f)) read a within (Deep rest, e, same) = cc
     answer_parses (Err Memory) read a within g = tt
 
--- What a function gives is what its caller is told. Premises: the tokens are read from one that is there or from their
--- end, and so is what is left.
+-- The result of a function is what its callers are promised. Premises: reading starts at an existing token or at the
+-- end, and so does what is left.
 pub gives_parses : {X A : Type 0} {null : Bool} {first more : List Sign} {F : ℕ → Form A} {n : ℕ} {a : Reader A} → Reads F n a → ((m : ℕ) → LL null first more (F m)) → ((k m : ℕ) → k ≤ m → Up (F k) (F m)) → (tokens : Tokens) (at : ℕ) (view : X → A) (result : Result (X × ℕ) SyntaxFault) → IfOk result (λ x. (at ≤ length tokens.list.now) × (x.1 ≤ length tokens.list.now)) → Gives tokens view result (a (rest_from tokens at)) → Parses F n (views tokens.list.now) tokens.end at view result
 gives_parses {F = F} {n = n} {a = a} ra lf up tokens at view result within g =
     answer_parses F n tokens at view result (a (rest_from tokens at)) (reads_answer ra lf up (rest_from tokens at)) within g
 
--- what is given with a fault has no view
+-- with a fault there is nothing to view
 pub fails_parses : {A : Type 0} {null : Bool} {first more : List Sign} {F : ℕ → Form A} {n : ℕ} {a : Reader A} → Reads F n a → ((m : ℕ) → LL null first more (F m)) → ((k m : ℕ) → k ≤ m → Up (F k) (F m)) → (tokens : Tokens) (at : ℕ) (fault : SyntaxFault) → Gives tokens (λ (x : A). x) (Err fault) (a (rest_from tokens at)) → Parses F n (views tokens.list.now) tokens.end at (λ (x : A). x) (Err fault)
 fails_parses ra lf up tokens at fault g = gives_parses ra lf up tokens at (λ x. x) (Err fault) tt g
 
--- a number past the tokens is as good as their end
+-- a number beyond the last token means the end
 pub least_gives : {X A : Type 0} (tokens : Tokens) (view : X → A) (x : X) (next : ℕ) (read : Read A) → Gives tokens view (Ok (x, next)) read → Gives tokens view (Ok (x, min next (length tokens.list.now))) read
 least_gives tokens view x next read g =
     g ∙ ap (λ l. Ok (view x, l)) (sym (drop_min next (views tokens.list.now)) ∙ ap (λ k. drop (min next k) (views tokens.list.now)) (length-map tokens.list.now lexeme))

@@ -12,7 +12,7 @@ use Rattle.rapid_forms.specs.declared.tokens.Tokens.{Tokens}
 use Rattle.rapid_forms.specs.Signs.{begins_with}
 use Rattle.rapid_forms.specs.Reading.{Halt, Fails, Deep, Read, Gives, fault_of, one_read}
 
--- the tokens from one on, where it is there and where it is not
+-- the tokens from one on, if it exists and if it does not
 pub rest_here : (list : List Token) (at : ℕ) (token : Bor Token) → IsItemAt list at (Some token) → drop at (views list) ≡ view token.now ∷ drop (at + 1) (views list)
 rest_here list at token h =
     drop-map view at list
@@ -27,7 +27,7 @@ unfolding one_read begins_with
 one_fails signs [] e = refl
 one_fails signs (t ∷ ts) e = rw e
 
--- a function gives the fault at which reading stopped
+-- a function returns the fault where reading stopped
 pub gives_halt : {X A : Type 0} (tokens : Tokens) (view : X → A) (fault : SyntaxFault) (read : Read A) (halt : Halt) → fault ≡ fault_of tokens.end halt → read ≡ Err halt → Gives tokens view (Err fault) read
 gives_halt tokens view fault read (Fails ts) is e = rw is (Fails ts, e, refl)
 gives_halt tokens view fault read (Deep ts) is e = rw is (Deep ts, e, refl)

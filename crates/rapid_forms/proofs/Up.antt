@@ -1,10 +1,10 @@
--- Forms of which one takes all that the other takes, as a form within more levels does.
+-- One form contains another, as a form within more levels contains it within fewer.
 use Rattle.std.proofs.Common.{◌≡◌, ℕ, zero, suc, ◌≤◌, inl, inr, List, [], ◌∷◌, None, Some, arith}
 use Rattle.std.proofs.Math.Nat.{eq-or-lt_of_le}
 use Rattle.rapid_lexer.specs.Tokens.{Lexeme}
 use Rattle.rapid_forms.specs.Forms.{Form, seq, either, optional, many, made, nothing, WholeEach}
 
--- what is whole of f is whole of g, and what begins f begins g
+-- the complete forms and the prefixes of f are those of g too
 pub record Up {A : Type 0} (f g : Form A) : Type 0 where
   pub whole : (x : A) (ts : List Lexeme) → f.Whole x ts → g.Whole x ts
   pub begun : (ts : List Lexeme) → f.Begun ts → g.Begun ts
@@ -58,7 +58,7 @@ pub nothing_up : {A : Type 0} (f : Form A) → f.Begun [] → Up nothing f
 unfolding nothing
 nothing_up f s = record { whole = λ x ts w. absurd w; begun = λ ts e. rw e s }
 
--- from one level to any above
+-- from one level to any higher one
 pub up_levels : {A : Type 0} (F : ℕ → Form A) → ((m : ℕ) → Up (F m) (F (suc m))) → (n m : ℕ) → n ≤ m → Up (F n) (F m)
 up_levels F p n zero h = let e : n ≡ zero = omega arith in rw e (up_refl (F zero))
 up_levels F p n (suc m) h = elim (eq-or-lt_of_le h) [ inl e ↦ rw e (up_refl (F (suc m))) | inr l ↦ up_trans (up_levels F p n m (omega arith)) (p m) ]

@@ -1,4 +1,4 @@
--- The names by which refusals tell the rules of syntax.
+-- The names of the rules of syntax in error messages.
 use Rattle.std.specs.Prelude.{ℕ, List, codes}
 use Rattle.rapid_forms.specs.declared.fault.SyntaxRule.{SyntaxRule}
 use Rattle.rapid_forms.specs.declared.fault.SyntaxRule.TheVariants as syntaxes

@@ -1,5 +1,5 @@
--- Reading forms from left to right, with a look at one token: each reader takes a form from the front, and leaves the
--- tokens behind it.
+-- Reading forms from left to right, with one token of lookahead. Each reader takes a form from the front and leaves the
+-- tokens after it.
 use Rattle.std.specs.Prelude.{◌≡◌, ℕ, zero, suc, List, [], ◌∷◌, length, drop, Option, None, Some, Result, Ok, Err, if◌then◌else◌}
 use Rattle.rapid_lexer.specs.Tokens.{Lexeme, views}
 use Rattle.rapid_forms.specs.declared.sign.Sign.{Sign}
@@ -10,9 +10,9 @@ use Rattle.rapid_forms.specs.Signs.{has, sign_of, begins_with}
 use Rattle.rapid_forms.specs.Forms.{first_byte}
 use Rattle.rapid_forms.specs.Parsed.{syntax_fault, depth_fault}
 
--- where reading stopped: the tokens that are left there
+-- where reading stopped, with the tokens left there
 pub data Halt : Type 0 where
-  -- the first of them goes on with nothing
+  -- the first of them does not continue those before it
   Fails : List Lexeme → Halt
   -- the first of them opens a level too many
   Deep : List Lexeme → Halt
@@ -34,14 +34,14 @@ one_read signs (t ∷ ts) = if has signs (sign_of t) then Ok (t, ts) else Err (F
 unfoldable pub seq_read : {A B : Type 0} → Reader A → Reader B → Reader (A × B)
 seq_read a b ts = then_read (a ts) λ x rest. then_read (b rest) λ y left. Ok ((x, y), left)
 
--- the first where one of these signs stands in front, else the second
+-- the first if the next token has one of these signs, else the second
 unfoldable pub either_read : {A : Type 0} → List Sign → Reader A → Reader A → Reader A
 either_read signs a b ts = if begins_with signs ts then a ts else b ts
 
 unfoldable pub optional_read : {A : Type 0} → List Sign → Reader A → Reader (Option A)
 optional_read signs a ts = if begins_with signs ts then then_read (a ts) (λ x rest. Ok (Some x, rest)) else Ok (None, ts)
 
--- one more as long as one of these signs stands in front; each takes a token, so there are at most so many
+-- one more as long as the next token has one of these signs; each takes a token, which bounds their number
 unfoldable pub many_within : {A : Type 0} → ℕ → List Sign → Reader A → Reader (List A)
 many_within zero signs a ts = Ok ([], ts)
 many_within (suc n) signs a ts =
@@ -54,7 +54,7 @@ many_read signs a ts = many_within (length ts) signs a ts
 unfoldable pub made_read : {A B : Type 0} → (ℕ → A → B) → Reader A → Reader B
 made_read f a ts = then_read (a ts) λ x rest. Ok (f (first_byte ts) x, rest)
 
--- no level is left: one of these signs would open one
+-- no level is left, and one of these signs would open one
 unfoldable pub nothing_read : {A : Type 0} → List Sign → Reader A
 nothing_read signs ts = if begins_with signs ts then Err (Deep ts) else Err (Fails ts)
 
@@ -67,14 +67,14 @@ abbrev pub fault_of : ℕ → Halt → SyntaxFault
 fault_of end (Fails ts) = syntax_fault end ts
 fault_of end (Deep ts) = depth_fault end ts
 
--- What a function over tokens returned, a tree and the number of the next token, is what reading gives. Want of memory
--- aside.
+-- What a function over tokens returned, a tree and the number of the next token, is the result of reading. Says nothing
+-- if out of memory.
 abbrev pub Gives : {X A : Type 0} → Tokens → (X → A) → Result (X × ℕ) SyntaxFault → Read A → Type 0
 Gives tokens view (Ok x) read = read ≡ Ok (view x.0, rest_from tokens x.1)
 Gives tokens view (Err Memory) read = Unit {0}
 Gives tokens view (Err fault) read = (halt : Halt) × (read ≡ Err halt) × (fault ≡ fault_of tokens.end halt)
 
--- a tree made of others, or want of memory
+-- a tree made of others, or out of memory
 abbrev pub Makes : {X A : Type 0} → (X → A) → Result X SyntaxFault → A → Type 0
 Makes view (Ok x) tree = view x ≡ tree
 Makes view (Err fault) tree = fault ≡ Memory

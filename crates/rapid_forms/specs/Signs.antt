@@ -106,7 +106,7 @@ sign_of_kind (kinds.Mark mark) = sign_of_mark mark
 unfoldable pub sign_of : Lexeme → Sign
 sign_of t = sign_of_kind t.kind
 
--- signs are compared by their numbers in the order of their declaration
+-- signs are compared by their numbers in declaration order
 abbrev pub code : Sign → ℕ
 code Name = 0
 code Number = 1
@@ -197,7 +197,7 @@ code Xor = 83
 unfoldable pub has : List Sign → Sign → Bool
 has signs sign = list_any (λ s. code s == code sign) signs
 
--- the sign of the first of some tokens, if there is one
+-- the sign of the first token, if there is one
 abbrev pub first_sign : List Lexeme → Option Sign
 first_sign [] = None
 first_sign (t ∷ ts) = Some (sign_of t)
@@ -207,6 +207,6 @@ abbrev pub is_seen : List Sign → Option Sign → Bool
 is_seen signs None = false
 is_seen signs (Some sign) = has signs sign
 
--- the first of some tokens has one of these signs
+-- the first token has one of these signs
 unfoldable pub begins_with : List Sign → List Lexeme → Bool
 begins_with signs ts = is_seen signs (first_sign ts)

@@ -7,19 +7,19 @@ ghost use Rattle.rapid_forms.specs.declared.fault.SyntaxFault.TheVariants.{Memor
 use rapid_lexer::LexFault;
 use std::alloc::{AllocError, AllocFailed};
 
-/// What is wrong at the first token with which the tokens so far are no beginning of the form.
+/// The error at the first token that makes the tokens so far no prefix of the form.
 #[derive(Clone, Copy, Debug, PartialEq, Eq)]
 pub enum SyntaxRule {
-    /// The tokens so far go on with no such token, or the text ends too early.
+    /// The token cannot come here, or the text ends too early.
     Syntax,
-    /// The token is a word of RAPID that this profile leaves out: ALIAS, RECORD, UNDO or BACKWARD.
+    /// The token is a word of RAPID that this profile does not support: ALIAS, RECORD, UNDO or BACKWARD.
     LeftOut,
     /// The token opens a 65th level of nesting.
     TooDeep,
 }
 
 impl SyntaxRule {
-    /// The name of the rule, as refusals print it: of at most 7 bytes.
+    /// The name of the rule in error messages, at most 7 bytes.
     pub fn name(self) -> &'static [u8]
         ensures same { result.now ≡ syntax_rule_name self }
         ensures short { length result.now ≤ 7 }
@@ -35,11 +35,11 @@ impl SyntaxRule {
 /// Why there is no tree.
 #[derive(Clone, Copy, Debug, PartialEq, Eq)]
 pub enum SyntaxFault {
-    /// The rule, and the byte of the source where it is broken, from 0.
+    /// The rule, and the byte in the source where it is broken, from 0.
     Rule { rule: SyntaxRule, at: usize },
-    /// The text is not made of tokens.
+    /// The text is not a list of tokens.
     Lex(LexFault),
-    /// Memory was refused.
+    /// Out of memory.
     Memory,
 }
 

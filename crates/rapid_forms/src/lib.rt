@@ -1,4 +1,4 @@
-//! The forms that RAPID's grammar is made of, what a parser of such a form answers, and the steps of its code.
+//! The building blocks of RAPID's grammar, the answer of a parser of such a form, and the steps of its code.
 #![tactic(auto)]
 
 mod fault;

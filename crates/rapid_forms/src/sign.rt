@@ -1,5 +1,5 @@
-/// What a grammar sees of a token: a name, a literal, or which reserved word or mark it is (RAPID Kernel, lexical
-/// elements).
+/// What a grammar sees of a token: a name, a number, a string, or which reserved word or mark it is (RAPID Kernel,
+/// lexical elements).
 #[derive(Clone, Copy, Debug, PartialEq, Eq)]
 pub enum Sign {
     Name,

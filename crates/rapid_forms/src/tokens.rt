@@ -12,7 +12,7 @@ use crate::sign::Sign;
 use crate::signs::sign_of;
 use rapid_lexer::Token;
 
-/// The tokens of a text, and the text's length in bytes.
+/// The tokens of a text, and the length of the text in bytes.
 #[derive(Clone, Copy, Debug)]
 pub struct Tokens<'t, 'a> {
     pub list: &'t [Token<'a>],
@@ -41,7 +41,7 @@ pub fn is_seen(seen: Option<Sign>, sign: Sign) -> bool
 }
 
 impl<'t, 'a> Tokens<'t, 'a> {
-    /// The sign of token `at`, if it is there.
+    /// The sign of token `at`, if there is one.
     pub fn sign(&self, at: usize) -> Option<Sign>
         ensures { result ≡ first_sign (rest_from self.now at) }
     {
@@ -51,7 +51,7 @@ impl<'t, 'a> Tokens<'t, 'a> {
         }
     }
 
-    /// Whether token `at` is there and has one of these signs.
+    /// Whether there is a token `at`, and it has one of these signs.
     pub fn sees(&self, at: usize, signs: &[Sign]) -> bool
         ensures { result ≡ begins_with signs.now (rest_from self.now at) }
     {
@@ -71,7 +71,7 @@ impl<'t, 'a> Tokens<'t, 'a> {
         }
     }
 
-    /// The byte at which token `at` stands; 0 where there is none.
+    /// The byte of token `at`; 0 if there is none.
     pub fn byte_at(&self, at: usize) -> usize
         ensures { result ≡ first_byte (rest_from self.now at) }
     {
@@ -81,7 +81,7 @@ impl<'t, 'a> Tokens<'t, 'a> {
         }
     }
 
-    /// The byte at which token `at` stands, or the text's end.
+    /// The byte of token `at`, or the end of the text.
     fn byte_or_end(&self, at: usize) -> usize
         ensures { result ≡ byte_or self.now.end (rest_from self.now at) }
     {
@@ -91,7 +91,7 @@ impl<'t, 'a> Tokens<'t, 'a> {
         }
     }
 
-    /// The fault where the tokens before token `at` do not go on with it.
+    /// The fault if token `at` does not continue those before it.
     pub fn fails(&self, at: usize) -> SyntaxFault
         ensures { result ≡ syntax_fault self.now.end (rest_from self.now at) }
     {
@@ -106,8 +106,8 @@ impl<'t, 'a> Tokens<'t, 'a> {
         }
     }
 
-    /// The fault where no level is left for a form that begins with one of these signs: token `at` opens a level too many
-    /// where it has one of them, and else it goes on with nothing.
+    /// The fault if no level is left for a form that starts with one of these signs. If token `at` has one of them, it
+    /// opens a level too many; else it does not continue those before it.
     pub fn no_level(&self, at: usize, signs: &[Sign]) -> SyntaxFault
         ensures { result ≡ (if begins_with signs.now (rest_from self.now at) then depth_fault self.now.end (rest_from self.now at) else syntax_fault self.now.end (rest_from self.now at)) }
     {

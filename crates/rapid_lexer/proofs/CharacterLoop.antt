@@ -1,11 +1,11 @@
--- The characters of a string, one character further.
+-- The characters of a string, with one more in front.
 use Rattle.std.proofs.Common.{◌≡◌, ℕ, zero, suc, ◌+◌, ◌-◌, ◌≤◌, ◌<◌, List, drop, Option, Some, None, refl, sym, ap, ◌∙◌, arith}
 use Rattle.std.specs.Option.{option_map}
 use Rattle.std.proofs.lemmas.List.{drop-drop}
 use Rattle.std.proofs.lemmas.Bool.{ne_eqb}
 use Rattle.rapid_lexer.specs.Reading.{character_len, characters_len, stopped, broken}
 
--- so many bytes, and what follows
+-- this many bytes more, if there is a number
 abbrev pub plus : ℕ → Option ℕ → Option ℕ
 plus n o = option_map (λ k. n + k) o
 

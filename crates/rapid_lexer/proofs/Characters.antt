@@ -1,4 +1,4 @@
--- The scanner goes through a string character by character.
+-- The scanner reads a string one character at a time.
 use Rattle.std.proofs.Common.{◌≡◌, ℕ, zero, suc, ◌≤◌, Bool, true, false, not, ◌&&◌, cond, eqb, List, [], ◌∷◌, ◌++◌, length, Some, None, refl, sym, ap, subst, ◌∙◌, append_assoc, arith, inl, inr}
 use Rattle.std.specs.List.{concat}
 use Rattle.std.proofs.lemmas.Bool.{eqb-true, and_parts, or_cases, ne_eqb, not-true}
@@ -36,7 +36,7 @@ code_state c p = rw (p.1, p.0) refl
 pair_at : (b c : ℕ) (rest : List ℕ) (n : ℕ) → b ≡ n → c ≡ n → accepted Inside (n ∷ n ∷ rest) ≡ accepted Inside rest → accepted Inside (b ∷ c ∷ rest) ≡ accepted Inside rest
 pair_at b c rest n p q h = subst (λ (x : ℕ). accepted Inside (x ∷ c ∷ rest) ≡ accepted Inside rest) (sym p) (subst (λ (x : ℕ). accepted Inside (n ∷ x ∷ rest) ≡ accepted Inside rest) (sym q) h)
 
--- one character further
+-- the scanner after one more character
 pub character_step : (c rest : List ℕ) → is_character c ≡ true → accepted Inside (c ++ rest) ≡ accepted Inside rest
 unfolding accepted
 character_step [] rest e = absurd cc
@@ -58,7 +58,7 @@ characters_step [] rest are = refl
 characters_step (c ∷ cs) rest are =
     ap (accepted Inside) (append_assoc c (concat cs) rest) ∙ character_step c (concat cs ++ rest) are.0 ∙ characters_step cs rest are.1
 
--- what is accepted behind a quote is characters and a quote
+-- whatever is accepted after a quote is characters and a closing quote
 pub record IsInside (bs : List ℕ) (k : Kind) : Type 0 where
   pub kind : k ≡ Quoted
   pub characters : List (List ℕ)
@@ -115,7 +115,7 @@ behind_character b bs k false true v q r p one two three e = subst (λ (n : ℕ)
 behind_character b bs k false false true q r p one two three e = one_more (b ∷ []) bs k (plain_character b p q r) (one e)
 behind_character b bs k false false false q r p one two three e = absurd (let x : None ≡ Some k = sym (dead_accepted bs) ∙ e in cc)
 
--- by the number of bytes
+-- by induction on the number of bytes
 inside_within : (n : ℕ) (bs : List ℕ) (k : Kind) → length bs ≤ n → accepted Inside bs ≡ Some k → IsInside bs k
 unfolding accepted
 inside_within n [] k le e = absurd (let x : None ≡ Some k = e in cc)

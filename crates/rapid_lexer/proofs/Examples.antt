@@ -1,4 +1,4 @@
--- The definitions on examples worked by hand.
+-- The definitions on worked examples.
 use Rattle.std.proofs.Common.{◌≡◌, true, false, [], ◌∷◌, ◌++◌, Some, Ok, Err, refl, lit<}
 use Rattle.std.specs.Prelude.{codes, is_some}
 use Rattle.rapid_num.specs.Characters.{is_name}
@@ -66,17 +66,17 @@ second_line = refl
 first_column : column_of (97 ∷ 10 ∷ 98 ∷ []) 2 ≡ 1
 first_column = refl
 
--- a doubled quote and then a line's end: the token is the string of one character
+-- after a doubled quote and the end of the line, the token is the string of one character
 doubled_then_end : next_of 0 (codes "\"a\"\"" ++ 10 ∷ []) ≡ Some (Ok (record { kind = Quoted; text = codes "\"a\""; at = 0 }))
 unfolding next_of token_at longest gap_len characters_len
 doubled_then_end = refl
 
--- and the fault stands at the second quote
+-- and the error is at the second quote
 open_behind : next_of 3 (34 ∷ 10 ∷ []) ≡ Some (Err (record { rule = OpenString; at = 3 }))
 unfolding next_of token_at longest gap_len characters_len broken
 open_behind = refl
 
--- a word in letters of either case, and a mark of two bytes
+-- a word in mixed case, and a mark of two bytes
 word_first : next_of 0 (codes "eLse<>") ≡ Some (Ok (record { kind = Word Else; text = codes "eLse"; at = 0 }))
 unfolding next_of token_at longest gap_len
 word_first = refl
@@ -85,7 +85,7 @@ mark_of_two : next_of 4 (codes "<>") ≡ Some (Ok (record { kind = Mark NotEqual
 unfolding next_of token_at longest gap_len
 mark_of_two = refl
 
--- digits and an exponent without digits
+-- digits, then an exponent without digits
 falls_back : next_of 0 (codes "1e+") ≡ Some (Ok (record { kind = Number; text = codes "1"; at = 0 }))
 unfolding next_of token_at longest gap_len
 falls_back = refl

@@ -1,4 +1,4 @@
--- The gap that is skipped is one, and the whole of it.
+-- What is skipped is a gap, and the longest one.
 use Rattle.std.proofs.Common.{◌≡◌, ◌≢◌, ℕ, suc, ◌+◌, ◌≤◌, ◌<◌, Bool, true, false, not, ◌&&◌, ◌||◌, cond, eqb, List, [], ◌∷◌, ◌++◌, length, take, drop, Some, None, refl, sym, ap, subst, ◌∙◌, arith, inl, inr}
 use Rattle.std.specs.List.{concat}
 use Rattle.std.proofs.lemmas.Bool.{eqb-true, eqb-false, ne_eqb, and_parts, or_cases}
@@ -19,11 +19,11 @@ use Rattle.rapid_lexer.proofs.Scan.{dead_accepted}
 use Rattle.rapid_lexer.proofs.Shapes.{shape_accepted}
 use Rattle.rapid_lexer.proofs.Longest.{scanned, token_shape}
 
--- what gap_len comes to at one more byte
+-- the value of gap_len after one more byte
 abbrev further : Bool → Bool → Bool → Bool → List ℕ → ℕ
 further comment line bang blank bs = cond comment (suc (gap_len (not line) bs)) (cond bang (suc (gap_len true bs)) (cond blank (suc (gap_len false bs)) 0))
 
--- a gap was skipped, and none goes on
+-- a gap was skipped, and it does not continue
 pub record IsSkipped (comment : Bool) (bs : List ℕ) (n : ℕ) : Type 0 where
   pub is_gap : is_gap_within comment (take n bs) (drop n bs) ≡ true
   pub stops : gap_len false (drop n bs) ≡ 0
@@ -52,7 +52,7 @@ unfolding gap_len
 skipped [] comment = record { is_gap = at_start comment; stops = refl; within = omega arith }
 skipped (b ∷ bs) comment = skipped_from comment b bs (eqb b 33) (is_blank b) refl refl (skipped bs)
 
--- where no gap goes on, the first byte begins none
+-- if no gap continues, the first byte does not start one
 pub begins_no_gap : (b : ℕ) (bs : List ℕ) → gap_len false (b ∷ bs) ≡ 0 → (is_blank b ≡ false) × (b ≢ 33)
 unfolding gap_len
 begins_no_gap b bs e = at (eqb b 33) (is_blank b) refl refl e
@@ -81,7 +81,7 @@ gap_from b bs rest false e h each =
     let x = and_parts (is_blank b) (is_gap_within false bs rest) h in
     rw (e, x.0) (ap suc (each false x.1))
 
--- a gap where none goes on behind it is all that is skipped
+-- a gap that does not continue is all that is skipped
 pub gap_is : (gap rest : List ℕ) (comment : Bool) → is_gap_within comment gap rest ≡ true → gap_len false rest ≡ 0 → gap_len comment (gap ++ rest) ≡ length gap
 unfolding gap_len
 gap_is [] rest true h stops = line_over_stops rest h stops
@@ -89,7 +89,7 @@ gap_is [] rest false h stops = stops
 gap_is (b ∷ bs) rest true h stops = ap suc (gap_is bs rest (not (eqb b 10)) h stops)
 gap_is (b ∷ bs) rest false h stops = gap_from b bs rest (eqb b 33) refl h (λ c g. gap_is bs rest c g stops)
 
--- ---- no gap begins where a token or a misfit does
+-- ---- where a token or a misfit starts, no gap does
 
 blank_dead : (b : ℕ) → is_blank b ≡ true → after_start b ≡ Dead
 blank_dead b e =
@@ -113,7 +113,7 @@ dead_none b u k e h =
     let x : None ≡ Some k = sym (ap (λ (s : State). accepted s u) e ∙ dead_accepted u) ∙ h in
     cc
 
--- a token has a byte, and it begins no gap
+-- a token has a first byte, and it does not start a gap
 accepted_no_gap : (u after : List ℕ) (k : Kind) → accepted Start u ≡ Some k → (gap_len false (u ++ after) ≡ 0) × (0 < length u)
 unfolding accepted
 accepted_no_gap [] after k e = absurd (let x : None ≡ Some k = e in cc)

@@ -19,12 +19,12 @@ use Rattle.rapid_lexer.proofs.Longest.{scanned}
 use Rattle.rapid_lexer.proofs.Reserved.{word_yes, word_no, yes_word, no_word, word_short}
 use Rattle.rapid_lexer.proofs.Walks.{walk_of, walk_over}
 
--- what begins the bytes at a place where no gap does: a token, or a misfit
+-- what the bytes start with at a position where no gap does: a token or a misfit
 abbrev pub IsAt : ℕ → List ℕ → Result Lexeme LexFault → Type 0
 IsAt at bytes (Ok t) = (after : List ℕ) × (bytes ≡ t.text ++ after) × (t.at ≡ at) × IsToken t.kind t.text × IsLongest t.text after × IsWithinLimits t.kind t.text
 IsAt at bytes (Err f) = IsMisfit f.rule at bytes f.at
 
--- a string's characters, with the quote that closes it
+-- the characters of a string, with the closing quote
 pub inside_walk : (text : List ℕ) (cs : List (List ℕ)) → IsString text cs → length cs ≤ 80 → is_some (characters_len 80 (drop 1 text)) ≡ true
 inside_walk text cs s le =
     let e : characters_len 80 (drop 1 text) ≡ Some (length (concat cs)) = ap (λ (t : List ℕ). characters_len 80 (drop 1 t)) s.whole ∙ walk_of 80 cs (34 ∷ []) s.characters refl le in
@@ -35,7 +35,7 @@ inside_over text cs s lt =
     let e : characters_len 80 (drop 1 text) ≡ None = ap (λ (t : List ℕ). characters_len 80 (drop 1 t)) s.whole ∙ walk_over 80 cs (34 ∷ []) s.characters lt in
     ap is_some e
 
--- ---- what is found is right
+-- ---- what is found is correct
 
 name_at : (at : ℕ) (bytes text after : List ℕ) (short : Bool) (word : Option OneWord) → ltb (length text) 33 ≡ short → word_of text ≡ word → bytes ≡ text ++ after → IsShape Name text → IsLongest text after
     → IsAt at bytes (checked short (lexeme (name_kind word) at text) (fault LongName at))
@@ -91,7 +91,7 @@ token_of_right Number at bytes text after whole h most = number_at at bytes text
 token_of_right Quoted at bytes text after whole h most = quoted_at at bytes text after (is_some (characters_len 80 (drop 1 text))) refl whole h most
 token_of_right (Mark m) at bytes text after whole h most = (after, whole, refl, h, most, tt)
 
--- ---- what is right is found
+-- ---- what is correct is found
 
 short_word : (text : List ℕ) (w : OneWord) → IsWord w text → ltb (length text) 33 ≡ true
 short_word text w r = lt-ltb (length text) 33 (let x : length text ≤ 9 = word_short text w r in omega arith)

@@ -1,4 +1,4 @@
--- The longest token by the scanner is the longest token, and there is none where it finds none.
+-- The longest token that the scanner finds is the longest one. If it finds none, there is none.
 use Rattle.std.proofs.Common.{◌≡◌, ℕ, ◌≤◌, List, ◌++◌, length, take, drop, Option, Some, None, refl, sym, ap, subst, ◌∙◌, arith}
 use Rattle.std.proofs.lemmas.List.{take-append-drop, length-take-le, take_at}
 use Rattle.rapid_lexer.specs.declared.kind.Kind.{Kind}
@@ -13,7 +13,7 @@ use Rattle.rapid_lexer.proofs.Scan.{found, at_most}
 use Rattle.rapid_lexer.proofs.Shapes.{IsShape, shape_of, shape_accepted}
 use Rattle.rapid_lexer.proofs.Reserved.{word_yes, word_no}
 
--- the kind by the scanner, which takes words for names
+-- the kind that the scanner finds, which treats words as names
 abbrev pub scanned : Kind → Kind
 scanned Name = Name
 scanned (Word w) = Name
@@ -40,7 +40,7 @@ shape_token Number u h = (Number, h)
 shape_token Quoted u h = (Quoted, h)
 shape_token (Mark m) u h = (Mark m, h)
 
--- what the scanner finds is a token, and no longer one begins there
+-- the scanner finds a token, and no longer one starts there
 pub record IsFoundLongest (bytes : List ℕ) (k : Kind) (n : ℕ) : Type 0 where
   pub len : length (take n bytes) ≡ n
   pub shape : IsShape k (take n bytes)
@@ -69,7 +69,7 @@ longest_none bytes e kind text after whole h =
     let same : Some m.0 ≡ None = sym m.1 ∙ ap (longest Start) (sym whole) ∙ e in
     cc
 
--- the longest that is found is the longest token
+-- the longest token found is the longest token
 found_is : (text after : List ℕ) (k : Kind) (x : Kind × ℕ) → accepted Start text ≡ Some (scanned k) → IsLongest text after → longest Start (text ++ after) ≡ Some x → length text ≤ x.1
     → longest Start (text ++ after) ≡ Some (scanned k, length text)
 found_is text after k x a most e le =

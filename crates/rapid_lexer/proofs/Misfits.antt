@@ -1,4 +1,4 @@
--- The fault where no token begins, and the token where one does.
+-- The error if no token starts, and the token if one does.
 use Rattle.std.proofs.Common.{◌≡◌, ◌≢◌, ℕ, ◌+◌, ◌≤◌, Bool, true, false, ◌||◌, cond, eqb, List, [], ◌∷◌, ◌++◌, length, take, drop, Option, Some, None, Result, Ok, Err, refl, sym, ap, subst, ◌∙◌, append_assoc, arith, inl, inr}
 use Rattle.std.specs.List.{concat}
 use Rattle.std.proofs.lemmas.Bool.{eqb-true, eqb-false, ne_eqb, or_cases, or_parts}
@@ -22,7 +22,7 @@ use Rattle.rapid_lexer.proofs.Limits.{IsAt, token_of_right, token_of_is, long_na
 
 -- ---- a string that stops
 
--- a single quote behind characters closes a string
+-- a single quote after characters closes a string
 closes : (cs : List (List ℕ)) (left : List ℕ) → AreCharacters cs → NoToken (34 ∷ (concat cs ++ 34 ∷ left)) → ⊥
 closes cs left are none =
     none Quoted (34 ∷ (concat cs ++ 34 ∷ [])) left (ap (λ (r : List ℕ). 34 ∷ r) (sym (append_assoc (concat cs) (34 ∷ []) left))) (cs, record { characters = are; whole = refl })
@@ -99,7 +99,7 @@ pub token_at_right : (here b : ℕ) (bs : List ℕ) → is_blank b ≡ false →
 unfolding token_at
 token_at_right here b bs blank bang = token_from here b bs (longest Start (b ∷ bs)) refl blank bang
 
--- ---- what is right is found
+-- ---- what is correct is found
 
 begin_is : (here : ℕ) (bytes text after : List ℕ) (k : Kind) → bytes ≡ text ++ after → IsToken k text → IsLongest text after → token_at here bytes ≡ token_of (scanned k) here text
 unfolding token_at

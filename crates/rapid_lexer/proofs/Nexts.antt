@@ -1,4 +1,4 @@
--- What comes next is found, and nothing else is.
+-- What comes next is found, and nothing else.
 use Rattle.std.proofs.Common.{◌≡◌, ℕ, ◌+◌, ◌≤◌, ◌<◌, Bool, true, false, cond, ltb, List, [], ◌∷◌, ◌++◌, length, take, drop, Option, Some, None, Result, Ok, Err, refl, sym, ap, subst, ◌∙◌, arith}
 use Rattle.std.specs.Prelude.{IfSome, IfOk}
 use Rattle.std.proofs.lemmas.Bool.{ltb-true, ltb-false, lt-ltb, le-ltb}
@@ -14,7 +14,7 @@ use Rattle.rapid_lexer.proofs.Limits.{IsAt}
 use Rattle.rapid_lexer.proofs.Misfits.{token_at_right, token_at_is}
 use Rattle.rapid_lexer.proofs.GapWalks.{IsSkipped, skipped, begins_no_gap, gap_is, token_no_gap, misfit_no_gap}
 
--- ---- what is found is right
+-- ---- what is found is correct
 
 right_behind : (at n : ℕ) (bytes left : List ℕ) (r : Result Lexeme LexFault) → n ≤ length bytes → drop n bytes ≡ left → is_gap_within false (take n bytes) (drop n bytes) ≡ true
     → IsAt (at + n) left r → IsNext at bytes (Some r)
@@ -58,7 +58,7 @@ pub next_right : (at : ℕ) (bytes : List ℕ) → IsNext at bytes (next_of at b
 unfolding next_of
 next_right at bytes = right_from at (gap_len false bytes) bytes (ltb (gap_len false bytes) (length bytes)) refl (skipped bytes false)
 
--- ---- what is right is found
+-- ---- what is correct is found
 
 behind_gap : (at : ℕ) (bytes gap left : List ℕ) → bytes ≡ gap ++ left → IsGap gap left → gap_len false left ≡ 0 → 0 < length left
     → next_of at bytes ≡ Some (token_at (at + length gap) left)
@@ -86,7 +86,7 @@ next_is at bytes (Some (Err f)) (gap, left, whole, g, h) =
     let found = token_at_is (at + length gap) left (Err f) h in
     ap (λ (r : Result Lexeme LexFault). Some r) found ∙ sym (behind_gap at bytes gap left whole g x.0 x.1)
 
--- a token that comes next lies in the source
+-- the next token is inside the source
 follows_within : (at : ℕ) (source : List ℕ) (t : Lexeme) (after : List ℕ) → at ≤ length source → Follows at (drop at source) t after → t.at + length t.text ≤ length source
 follows_within at source t after le h =
     omega (arith, h.is_at, ap length h.whole, length-drop at source, length-append h.gap (t.text ++ after), length-append t.text after)
@@ -99,7 +99,7 @@ next_within at source (Some (Ok t)) le e =
     let h : IsNext at (drop at source) (Some (Ok (view t))) = subst (λ (a : Option (Result Lexeme LexFault)). IsNext at (drop at source) a) (sym e) (next_right at (drop at source)) in
     follows_within at source (view t) h.0 le h.1
 
--- a lexer's answer
+-- an answer of a lexer
 pub answer_right : (l lexer : Lexing) (a : Option (Result Lexeme LexFault)) → l ≡ lexer → l.fault ≡ None → a ≡ next_of l.at (drop l.at l.source) → IsAnswer lexer a
 answer_right l lexer a same none e =
     let h : IsNext l.at (drop l.at l.source) a = subst (λ (x : Option (Result Lexeme LexFault)). IsNext l.at (drop l.at l.source) x) (sym e) (next_right l.at (drop l.at l.source)) in

@@ -58,7 +58,7 @@ digits_in-cons b m = rw (before_first-cons is_point b m, after_first-cons is_poi
     at true = refl
     at false = refl
 
--- whether the exponent, where there is one, has its digits
+-- whether the exponent, if there is one, has its digits
 abbrev has_exponent : List ℕ → Bool
 has_exponent text = is_some (cond (list_any is_exponent_letter text) (exponent_of (after_first is_exponent_letter text)) (Some (pos 0)))
 
@@ -69,7 +69,7 @@ has_exponent-cons b bs = rw (after_first-cons is_exponent_letter b bs) (at (is_e
     at true = refl
     at false = refl
 
--- digits, of which some stood before, and what follows them
+-- digits, with or without digits before them, and what follows
 abbrev all_digits : Bool → List ℕ → Bool → Bool
 all_digits before ds rest = (before || not (eqb (length ds) 0)) && list_all is_ten ds && rest
 
@@ -86,7 +86,7 @@ all_digits-cons before b ds rest = rw (suc_not_zero (length ds)) (at before (is_
     at false true = refl
     at false false = refl
 
--- a decimal from here on, with digits before or not: where a point stood already, and where none did
+-- the rest of a decimal, with or without digits before: after a point, and before any
 abbrev past_point : Bool → List ℕ → Bool
 past_point before text = all_digits before (before_first is_exponent_letter text) (has_exponent text)
 
@@ -156,7 +156,7 @@ exponent_all [] = refl
 exponent_all (b ∷ bs) =
     rw some_chain (rw (suc_not_zero (length bs), is_ten-digit b) (exponent_from b bs (eqb b 43) (eqb b 45) (is_digit b)))
 
--- where a test holds, the bytes go on with a state, else by the next test
+-- if a test holds, the bytes continue in a state, else by the next test
 fraction_from : (b : ℕ) (bs : List ℕ) (d e : Bool) → is_digit b ≡ d → is_exponent_letter b ≡ e → accepted Fraction bs ≡ kind_if Number (past_point true bs)
     → accepted (cond d Fraction (cond e Exponent Dead)) bs ≡ kind_if Number (cond e (is_some (exponent_of bs)) (d && past_point true bs))
 fraction_from b bs true true di ei h = absurd (let x : true ≡ false = sym ei ∙ (digit_plain b di).0 in cc)
@@ -198,7 +198,7 @@ binary_all bs = some_run BinaryMark Binary (λ b. ltb (digit_value b) 2) Number 
 abbrev pub is_number : List ℕ → Bool
 is_number text = is_some (spelled_thousandths text)
 
--- the literal of two bytes or more, by the base that its second byte stands for
+-- a literal of two bytes or more, by the base for its second byte
 spelled_one : (a b : ℕ) (ds : List ℕ) → (eqb a 48 ≡ false) → is_number (a ∷ b ∷ ds) ≡ is_some (decimal_thousandths (a ∷ b ∷ ds))
 spelled_one a b ds e = rw e refl
 

@@ -1,4 +1,4 @@
--- What a loop over the tokens keeps.
+-- The invariant of a loop over the tokens.
 use Rattle.std.proofs.Common.{◌≡◌, ℕ, ◌+◌, ◌-◌, ◌≤◌, ◌<◌, List, [], ◌∷◌, ◌++◌, length, take, drop, Option, Some, None, Result, Ok, Err, refl, sym, ap, subst, ◌∙◌, arith, inl, inr}
 use Rattle.std.specs.Prelude.{IfOk}
 use Rattle.std.specs.List.{All, AllByRecursion}
@@ -15,7 +15,7 @@ use Rattle.rapid_lexer.specs.Lexing.{Lexing, IsAtFront, IsAnswerBehind, IsAnswer
 use Rattle.rapid_lexer.proofs.GapWalks.{token_no_gap}
 use Rattle.rapid_lexer.proofs.Tilings.{after_is, one_tiling, no_fault, one_fault}
 
--- these tokens were passed, or a fault was met
+-- these tokens were read, or an error was found
 abbrev IsReadBehind : Option LexFault → List ℕ → Lexing → List Lexeme → Type 0
 IsReadBehind None source l ts = Begins source ts l.at (drop l.at source)
 IsReadBehind (Some f) source l ts = IsFirstMisfit source f
@@ -63,7 +63,7 @@ passes_slices (t ∷ ts) at source there left p =
 pub tiles_slices : (source : List ℕ) (ts : List Lexeme) → Tiles source ts → All (IsSliceOf source) ts
 tiles_slices source ts t = All-from_recursion (IsSliceOf source) ts (passes_slices ts t.begins.front source t.there t.left t.begins.passes)
 
--- a token of an answer follows
+-- a token in an answer comes next
 pub answer_follows : (l : Lexing) (t : Lexeme) → IsAnswer l (Some (Ok t)) → (l.fault ≡ None) × (after : List ℕ) × Follows l.at (drop l.at l.source) t after
 answer_follows l t h = at l.fault refl h
   where
@@ -82,7 +82,7 @@ read_more source l newer ts t r h e =
     let there : IsRead source (lexing_after l (Some (Ok t))) (ts ++ t ∷ []) = record { same = r.same; read = more } in
     subst (λ (n : Lexing). IsRead source n (ts ++ t ∷ [])) (sym e) there
 
--- the same, where the call's answer is known to be a token
+-- the same, if the answer is known to be a token
 pub read_token : (source : List ℕ) (l newer : Lexing) (ts : List Lexeme) (next : Result Token LexFault) (t : Token) → next ≡ Ok t → IsRead source l ts
     → IsAnswer l (Some (seen next)) → newer ≡ lexing_after l (Some (seen next)) → IsRead source newer (ts ++ view t ∷ [])
 read_token source l newer ts next t is r h e =
@@ -110,7 +110,7 @@ pub read_error : (source : List ℕ) (l : Lexing) (ts : List Lexeme) (next : Res
 read_error source l ts next e f is r h same =
     subst (IsFirstMisfit source) same (read_fault source l ts e r (subst (λ (n : Result Token LexFault). IsAnswer l (Some (seen n))) is h))
 
--- ---- no other answer is right
+-- ---- no other answer is correct
 
 pub finds_tokens : {Z : Type 0} (items : Z → List Token) (source : List ℕ) (r : Result Z TokensFault) → IfOk r (λ v. Tiles source (views (items v))) → ((f : LexFault) → r ≡ Err (Lex f) → IsFirstMisfit source f)
     → (ts : List Lexeme) → Tiles source ts → FindsTokens items r ts

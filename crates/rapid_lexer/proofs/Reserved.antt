@@ -1,4 +1,4 @@
--- The lookup of a word finds which word a name is.
+-- The lookup of words finds which word a name is.
 use Rattle.std.proofs.Common.{◌≡◌, ℕ, zero, suc, ◌≤◌, ◌<◌, Bool, true, false, cond, List, [], ◌∷◌, length, get_or, map, Option, Some, None, refl, sym, ap, subst, ◌∙◌, arith}
 use Rattle.std.specs.List.{Contains, AllByRecursion}
 use Rattle.std.specs.Str.{bytes_eq}
@@ -26,7 +26,7 @@ found_row : (rows : Rows) (capitals : List ℕ) (word : Word) → word_in rows c
 found_row [] capitals word e = absurd cc
 found_row (row ∷ rows) capitals word e = row_here row rows capitals word (bytes_eq row.0 capitals) refl (found_row rows capitals word) e
 
--- each word is found by its capitals
+-- each word is found by its uppercase letters
 each_found : AllByRecursion (λ row. word_in words row.0 ≡ Some row.1) words
 each_found = search
 
@@ -52,7 +52,7 @@ no_word text none = at (word_of text) refl
     at None e = refl
     at (Some word) e = absurd (none (word, word_yes text word e))
 
--- no reserved word is longer than nine letters
+-- no reserved word has more than nine letters
 short_row : (rows : Rows) (text : List ℕ) (word : Word) (k : ℕ) → AllByRecursion (λ row. length row.0 ≤ 9) rows → k < length rows → get_or rows k (text, word) ≡ (text, word) → length text ≤ 9
 short_row [] text word k all lt e = absurd (omega arith)
 short_row (row ∷ rows) text word zero all lt e = omega (arith, all.0, ap (λ (r : List ℕ × Word). length r.0) e)

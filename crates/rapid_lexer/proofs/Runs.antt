@@ -1,4 +1,4 @@
--- Runs of bytes that pass one test: the states that stay.
+-- Runs of bytes that pass a test: the states that loop.
 use Rattle.std.proofs.Common.{◌≡◌, ℕ, suc, Bool, true, false, not, ◌&&◌, cond, eqb, List, [], ◌∷◌, length, Option, Some, None, refl, ap, ◌∙◌, arith}
 use Rattle.std.proofs.lemmas.Bool.{ne_eqb}
 use Rattle.std.specs.List.{list_all}
@@ -8,7 +8,7 @@ use Rattle.rapid_lexer.specs.declared.state.State.TheVariants.{Dead}
 use Rattle.rapid_lexer.specs.Scanning.{step, kind_at, accepted}
 use Rattle.rapid_lexer.proofs.Scan.{dead_accepted}
 
--- the kind where the test holds
+-- the kind if the test holds
 abbrev pub kind_if : Kind → Bool → Option Kind
 kind_if k t = cond t (Some k) None
 
@@ -24,7 +24,7 @@ run s p k goes is (b ∷ bs) = ap (λ (n : State). accepted n bs) (goes b) ∙ g
 pub suc_not_zero : (n : ℕ) → eqb (suc n) 0 ≡ false
 suc_not_zero n = ne_eqb (suc n) 0 (λ e. omega arith)
 
--- at least one byte, and each passes
+-- at least one byte, each of which passes
 pub some_run : (m s : State) (p : ℕ → Bool) (k : Kind) → ((b : ℕ) → step m b ≡ cond (p b) s Dead) → kind_at m ≡ None → ((b : ℕ) → step s b ≡ cond (p b) s Dead) → kind_at s ≡ Some k
     → (bs : List ℕ) → accepted m bs ≡ kind_if k (not (eqb (length bs) 0) && list_all p bs)
 unfolding accepted

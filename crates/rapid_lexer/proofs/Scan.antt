@@ -1,4 +1,4 @@
--- The longest token that the scanner finds is one, and no longer one is.
+-- The longest token that the scanner finds is a token, and no longer one is.
 use Rattle.std.proofs.Common.{◌≡◌, ℕ, suc, ◌+◌, ◌≤◌, ◌<◌, List, [], ◌∷◌, ◌++◌, length, get_or, take, drop, Option, Some, None, refl, sym, ap, subst, ◌∙◌, arith}
 use Rattle.std.specs.Prelude.{IfSome}
 use Rattle.std.proofs.lemmas.List.{drop_more, drop_all}
@@ -94,7 +94,7 @@ at_most s (b ∷ u) rest k e =
     let f = at_most (step s b) u rest k e in
     ((f.0.0, 1 + f.0.1), rw f.1 refl, omega (arith, f.2))
 
--- the longest token of a list is not longer than it
+-- the longest token is at most as long as the list
 pub longest_within : (bs : List ℕ) (s : State) → IfSome (longest s bs) (λ x. x.1 ≤ length bs)
 longest_within bs s = within (longest s bs) (λ x e. (found s bs x e).1)
   where
@@ -112,7 +112,7 @@ longest_some_bytes (b ∷ bs) = some_bytes (longest (step Start b) bs)
     some_bytes None = tt
     some_bytes (Some x) = omega arith
 
--- what the loop over the bytes keeps
+-- the invariant of the loop over the bytes
 pub record IsScanned (bs : List ℕ) (last : Option (Kind × ℕ)) (i : ℕ) (s : State) : Type 0 where
   pub same : behind last i (longest s (drop i bs)) ≡ longest Start bs
   pub includes : behind last i (with_length 0 (kind_at s)) ≡ last

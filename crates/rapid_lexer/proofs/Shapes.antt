@@ -1,4 +1,4 @@
--- The scanner accepts the tokens and nothing else.
+-- The scanner accepts exactly the tokens.
 use Rattle.std.proofs.Common.{◌≡◌, ℕ, Bool, true, false, cond, eqb, List, [], ◌∷◌, Option, Some, None, refl, sym, ap, subst, ◌∙◌, arith}
 use Rattle.std.specs.Prelude.{IsSome}
 use Rattle.std.specs.List.{list_all}
@@ -22,7 +22,7 @@ use Rattle.rapid_lexer.proofs.Runs.{kind_if, run, kind_from}
 use Rattle.rapid_lexer.proofs.Numbers.{is_number, zero_all, digit_all, dot_all, no_number}
 use Rattle.rapid_lexer.proofs.Characters.{inside_is, characters_step}
 
--- the shape of a text that the scanner accepts, a reserved word as a name
+-- the shape of a text that the scanner accepts, with a reserved word as a name
 abbrev pub IsShape : Kind → List ℕ → Type 0
 IsShape Name u = is_name u ≡ true
 IsShape (Word w) u = ⊥
@@ -63,7 +63,7 @@ single_shape : (ms : List OneMark) (b : ℕ) (bs : List ℕ) (k : Kind) → acce
 single_shape [] b bs k e = absurd (let x : None ≡ Some k = sym (dead_accepted bs) ∙ e in cc)
 single_shape (m ∷ ms) b bs k e = single_at m b bs k (mark_in ms b) (bytes_eq (mark_text m) (b ∷ [])) refl (single_shape ms b bs k) e
 
--- a mark that one byte more makes another one
+-- a mark that one more byte turns into another
 two_shape : (a : ℕ) (s : State) (one two : OneMark) (bs : List ℕ) (k : Kind) → kind_at s ≡ Some (Mark one) → ((c : ℕ) → step s c ≡ where_so (eqb c 61) (Single two))
     → a ∷ [] ≡ mark_text one → a ∷ 61 ∷ [] ≡ mark_text two → accepted s bs ≡ Some k → IsShape k (a ∷ bs)
 unfolding accepted

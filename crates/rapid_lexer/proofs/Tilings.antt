@@ -1,4 +1,4 @@
--- A text has at most one list of tokens, or one first fault.
+-- A text has at most one list of tokens, or one first error.
 use Rattle.std.proofs.Common.{◌≡◌, ℕ, ◌+◌, ◌-◌, List, [], ◌∷◌, ◌++◌, length, drop, Option, Some, None, Result, Ok, Err, refl, sym, ap, subst, ◌∙◌, append_assoc, arith, inl, inr}
 use Rattle.std.proofs.lemmas.List.{drop_at, length-append}
 use Rattle.rapid_lexer.specs.declared.fault.LexRule.{LexRule}
@@ -11,13 +11,13 @@ use Rattle.rapid_lexer.proofs.Nexts.{next_is}
 next_one : (at : ℕ) (bytes : List ℕ) (a b : Option (Result Lexeme LexFault)) → IsNext at bytes a → IsNext at bytes b → a ≡ b
 next_one at bytes a b h k = next_is at bytes a h ∙ sym (next_is at bytes b k)
 
--- an answer behind which nothing more is asked
+-- an answer after which nothing more is asked
 abbrev IsFinal : Option (Result Lexeme LexFault) → Type 0
 IsFinal None = Unit {0}
 IsFinal (Some (Ok t)) = ⊥
 IsFinal (Some (Err f)) = Unit {0}
 
--- tokens, and the answer behind the last
+-- tokens, and the answer after the last
 pub record Ends (at : ℕ) (bytes : List ℕ) (ts : List Lexeme) (answer : Option (Result Lexeme LexFault)) : Type 0 where
   pub there : ℕ
   pub left : List ℕ
@@ -25,7 +25,7 @@ pub record Ends (at : ℕ) (bytes : List ℕ) (ts : List Lexeme) (answer : Optio
   pub next : IsNext there left answer
   pub final : IsFinal answer
 
--- what a token leaves
+-- the text after a token
 pub after_is : (at : ℕ) (bytes : List ℕ) (t : Lexeme) (after : List ℕ) → Follows at bytes t after → after ≡ drop (t.at + length t.text - at) bytes
 after_is at bytes t after h =
     let n : length (h.gap ++ t.text) ≡ t.at + length t.text - at = omega (arith, h.is_at, length-append h.gap t.text) in
@@ -56,7 +56,7 @@ ends_same (t ∷ ts) (u ∷ us) at bytes a b e f =
     let rest = ends_same ts us (t.at + length t.text) e.passes.0 a b (ends_later at bytes t ts a e) other in
     (ap (λ (x : Lexeme). x ∷ ts) same ∙ ap (λ (x : List Lexeme). u ∷ x) rest.0, rest.1)
 
--- what a source is: its tokens, and the answer behind the last
+-- what a source is: its tokens, and the answer after the last
 pub record Is (source : List ℕ) (ts : List Lexeme) (answer : Option (Result Lexeme LexFault)) : Type 0 where
   pub front : ℕ
   pub is_front : front_of source ≡ Ok front

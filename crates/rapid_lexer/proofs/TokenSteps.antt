@@ -1,4 +1,4 @@
--- What a place of a text begins with, joined from what the parts find.
+-- What a text starts with at a position, put together from what the parts find.
 use Rattle.std.proofs.Common.{◌≡◌, ℕ, suc, ◌+◌, ◌-◌, ◌≤◌, ◌<◌, Bool, true, false, cond, ltb, List, ◌∷◌, length, get_or, take, drop, Option, Some, None, Result, Err, refl, sym, ap, ◌∙◌, arith}
 use Rattle.std.specs.Option.{option_map}
 use Rattle.std.proofs.lemmas.List.{drop_more, drop-drop, take_rest, length-drop}

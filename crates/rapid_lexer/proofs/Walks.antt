@@ -1,4 +1,4 @@
--- The characters at the front of some bytes.
+-- The characters at the front of bytes.
 use Rattle.std.proofs.Common.{◌≡◌, ◌≢◌, ℕ, zero, suc, ◌+◌, ◌≤◌, ◌<◌, Bool, true, false, ◌&&◌, cond, eqb, List, [], ◌∷◌, ◌++◌, length, take, drop, Option, Some, None, refl, sym, ap, subst, ◌∙◌, append_assoc, arith, inl, inr}
 use Rattle.std.specs.Option.{option_map}
 use Rattle.std.specs.List.{concat}
@@ -40,7 +40,7 @@ character_front (b ∷ c ∷ d ∷ []) rest e =
     subst (λ (n : ℕ). character_len (n ∷ c ∷ d ∷ rest) ≡ 3) (sym (eqb-true b 92 x.0)) here
 character_front (b ∷ c ∷ d ∷ f ∷ bs) rest e = absurd (let x : false ≡ true = e in cc)
 
--- so many bytes at the front are a character, or none are
+-- this many bytes at the front are a character, or none are
 abbrev IsRead : List ℕ → ℕ → Type 0
 IsRead bytes n = n ≢ 0 → is_character (take n bytes) ≡ true
 
@@ -80,7 +80,7 @@ character_some : (c : List ℕ) → is_character c ≡ true → length c ≢ 0
 character_some [] e h = let x : false ≡ true = e in cc
 character_some (b ∷ bs) e h = omega arith
 
--- where no character is found, none begins
+-- if no character is found, none starts there
 pub none_begins : (bytes : List ℕ) → character_len bytes ≡ 0 → (text after : List ℕ) → bytes ≡ text ++ after → is_character text ≡ false
 none_begins bytes e text after whole = at (is_character text) refl
   where
@@ -119,7 +119,7 @@ walk_here left bytes n e s =
     let zero_is : 0 ≡ n = cc in
     subst (λ (m : ℕ). IsWalk left bytes m) zero_is (record { characters = []; are = tt; whole = refl; len = refl; few = omega arith; stops = e })
 
--- the part before, and what is left of it
+-- the front, and what is left after it
 front_back : (bytes : List ℕ) → bytes ≡ take (character_len bytes) bytes ++ drop (character_len bytes) bytes
 front_back bytes = sym (take-append-drop (character_len bytes) bytes)
 
@@ -191,7 +191,7 @@ walk_none (suc left) bytes e =
           (ap (λ (t : Bool). cond t (Some 0) inner) (sym (ne_eqb (character_len bytes) 0 ne)) ∙ e)))
     ]
 
--- one character, and then the walk goes on
+-- after one character the walk continues
 characters_step : (left : ℕ) (c rest : List ℕ) → is_character c ≡ true → characters_len (suc left) (c ++ rest) ≡ option_map (λ k. length c + k) (characters_len left rest)
 unfolding characters_len
 characters_step left c rest e =

@@ -36,11 +36,11 @@ word_in_kept q text h (row ∷ rows) =
     filtered true = refl
     filtered false = refl
 
--- among the words of its length, a text is the word that it is at all
+-- among the words of the same length, a text is the same word as among all
 pub words_of_length : (text : List ℕ) → word_in (filter (λ row. eqb (length row.0) (length text)) words) (map upper text) ≡ word_of text
 words_of_length text = word_in_kept (λ row. eqb (length row.0) (length text)) text (λ row e. eq-eqb (length row.0) (length text) (is_word-length row.0 text e)) words
 
--- the table from row i on, where test says whether the row's text is this one
+-- the table from row i on, where test says whether the text of the row is this text
 pub row_more : (rows : List (Bor (List ℕ) × Word)) (text : List ℕ) (i : ℕ) (d : Bor (List ℕ) × Word) (test : Bool) → i < length rows → test ≡ is_word (get_or rows i d).0.now text
     → word_in (plain (drop i rows)) (map upper text) ≡ (if test then Some (get_or rows i d).1 else word_in (plain (drop (i + 1) rows)) (map upper text))
 row_more rows text i d test lt is =

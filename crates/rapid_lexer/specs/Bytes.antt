@@ -1,8 +1,8 @@
--- The bytes that tokens are made of.
+-- The bytes of tokens.
 use Rattle.std.specs.Prelude.{ℕ, ◌-◌, Bool, ◌&&◌, ◌||◌, nat_lt, nat_le, ◌==◌, if◌then◌else◌}
 use Rattle.rapid_num.specs.Literal.{digit_value}
 
--- the capital of a letter; any other byte stays
+-- the uppercase of a letter; any other byte is unchanged
 abbrev pub upper : ℕ → ℕ
 upper b = if nat_le 97 b && nat_le b 122 then b - 32 else b
 

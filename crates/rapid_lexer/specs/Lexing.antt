@@ -1,4 +1,4 @@
--- A lexer, as its callers see it.
+-- How callers see a lexer.
 use Rattle.std.specs.Prelude.{◌≡◌, ℕ, ◌+◌, List, length, drop, Option, Some, None, Result, Ok, Err, ◌⊎◌}
 use Rattle.std.specs.Option.{option_map}
 use Rattle.rapid_lexer.specs.declared.fault.LexRule.TheVariants.{OpenHeader}
@@ -9,18 +9,18 @@ use Rattle.rapid_lexer.specs.declared.token.Token.{Token}
 use Rattle.rapid_lexer.specs.Tokens.{Lexeme, views}
 use Rattle.rapid_lexer.specs.Faults.{IsNext, seen}
 
--- the text, the place behind the last token, and the fault that was met
+-- the text, the position after the last token, and the error if one was found
 pub record Lexing : Type 0 where
   pub source : List ℕ
   pub at : ℕ
   pub fault : Option LexFault
 
--- a lexer before its first token: behind the front, or at a header without an end
+-- a lexer before its first token: after the front, or at a header without an end
 abbrev pub IsAtFront : Lexing → Result ℕ ℕ → Type 0
 IsAtFront l (Ok n) = (l.at ≡ n) × (l.fault ≡ None)
 IsAtFront l (Err at) = l.fault ≡ Some (record { rule = OpenHeader; at = at })
 
--- what a lexer answers: the fault that was met, or what comes next
+-- the answer of a lexer: the error that was found, or what comes next
 abbrev pub IsAnswerBehind : Option LexFault → Lexing → Option (Result Lexeme LexFault) → Type 0
 IsAnswerBehind None l answer = IsNext l.at (drop l.at l.source) answer
 IsAnswerBehind (Some f) l answer = answer ≡ Some (Err f)
@@ -37,12 +37,12 @@ lexing_after l None = l
 lexing_after l (Some (Ok t)) = record { source = l.source; at = t.at + length t.text; fault = None }
 lexing_after l (Some (Err f)) = record { source = l.source; at = l.at; fault = Some f }
 
--- all tokens were found, and they are these, unless memory was refused
+-- these are all tokens of the source, unless out of memory
 abbrev pub FindsTokens : {Z : Type 0} → (Z → List Token) → Result Z TokensFault → List Lexeme → Type 0
 FindsTokens items (Ok v) ts = views (items v) ≡ ts
 FindsTokens items (Err e) ts = e ≡ Memory
 
--- this fault was found, unless memory was refused
+-- this error is found, unless out of memory
 abbrev pub FindsFault : {Z : Type 0} → Result Z TokensFault → LexFault → Type 0
 FindsFault (Ok v) f = ⊥
 FindsFault (Err e) f = (e ≡ Memory) ⊎ (e ≡ Lex f)

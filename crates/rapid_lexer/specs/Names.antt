@@ -1,4 +1,4 @@
--- The names by which refusals tell the rules of tokens.
+-- The names of the rules for tokens in error messages.
 use Rattle.std.specs.Prelude.{ℕ, List, codes}
 use Rattle.rapid_lexer.specs.declared.fault.LexRule.{LexRule}
 use Rattle.rapid_lexer.specs.declared.fault.LexRule.TheVariants as lexes

@@ -18,11 +18,11 @@ use Rattle.rapid_lexer.specs.Strings.{is_code}
 use Rattle.rapid_lexer.specs.Tokens.{Lexeme}
 use Rattle.rapid_lexer.specs.Scanning.{longest}
 
--- the text is this word in capitals, its own letters in either case
+-- the text is this uppercase word, case-insensitive
 abbrev pub is_word : List ℕ → List ℕ → Bool
 is_word word text = bytes_eq word (map upper text)
 
--- how many bytes of gaps come first, within a comment or outside
+-- the number of bytes of gaps at the front, starting inside a comment or not
 unfoldable pub gap_len : Bool → List ℕ → ℕ
 gap_len comment [] = 0
 gap_len comment (b ∷ bs) =
@@ -31,18 +31,18 @@ gap_len comment (b ∷ bs) =
     else if is_blank b then suc (gap_len false bs)
     else 0
 
--- how many bytes the escape behind a backslash has, the backslash included; 0 where there is none
+-- the number of bytes of the escape after a backslash, backslash included; 0 if there is none
 abbrev pub escape_len : List ℕ → ℕ
 escape_len [] = 0
 escape_len (b ∷ []) = if b == 92 then 2 else 0
 escape_len (b ∷ c ∷ bs) = if b == 92 then 2 else if is_code b c then 3 else 0
 
--- how many bytes a doubled quote has, from behind its first; 0 where the quote stands alone
+-- the number of bytes of a doubled quote, given what follows its first; 0 if the quote is single
 abbrev pub doubled_len : List ℕ → ℕ
 doubled_len [] = 0
 doubled_len (c ∷ cs) = if c == 34 then 2 else 0
 
--- how many bytes the character has that comes first; 0 where none does
+-- the number of bytes of the first character; 0 if there is none
 abbrev pub character_len : List ℕ → ℕ
 character_len [] = 0
 character_len (b ∷ bs) =
@@ -50,7 +50,7 @@ character_len (b ∷ bs) =
     else if b == 92 then escape_len bs
     else if is_printable b then 1 else 0
 
--- how many bytes the characters have that come first, where they are at most so many
+-- the number of bytes of the characters at the front, if there are at most this many
 unfoldable pub characters_len : ℕ → List ℕ → Option ℕ
 characters_len zero bytes = if character_len bytes == 0 then Some 0 else None
 characters_len (suc n) bytes =
@@ -60,7 +60,7 @@ characters_len (suc n) bytes =
 abbrev pub fault : LexRule → ℕ → LexFault
 fault rule at = record { rule = rule; at = at }
 
--- why a string stops at a place, where this is left
+-- why a string stops at a position, given the bytes left
 abbrev pub stopped : ℕ → ℕ → List ℕ → LexFault
 stopped quote at [] = fault OpenString quote
 stopped quote at (b ∷ bs) =
@@ -72,28 +72,28 @@ abbrev pub broken_behind : ℕ → List ℕ → Option ℕ → LexFault
 broken_behind quote bytes None = fault LongString quote
 broken_behind quote bytes (Some n) = stopped quote (quote + 1 + n) (drop n bytes)
 
--- the fault of a string that has no end, from what stands behind its quote
+-- the error of a string without an end, given what follows its quote
 unfoldable pub broken : ℕ → List ℕ → LexFault
 broken quote bytes = broken_behind quote bytes (characters_len LONGEST_STRING bytes)
 
--- the fault where no token begins
+-- the error where no token starts
 abbrev pub misfit : ℕ → List ℕ → LexFault
 misfit at [] = fault BadByte at
 misfit at (b ∷ bs) = if b == 34 then broken at bs else fault BadByte at
 
--- a token, or the fault where its text passes a limit
+-- a token, or the error if its text exceeds a limit
 abbrev pub checked : Bool → Lexeme → LexFault → Result Lexeme LexFault
 checked fits t f = if fits then Ok t else Err f
 
 abbrev pub lexeme : Kind → ℕ → List ℕ → Lexeme
 lexeme kind at text = record { kind = kind; text = text; at = at }
 
--- the kind of a name that is this reserved word, or none
+-- the kind of a name: this reserved word, or a plain name
 abbrev pub name_kind : Option Word → Kind
 name_kind None = kinds.Name
 name_kind (Some word) = kinds.Word word
 
--- the token that a text of a kind is at a place, a name being a word where it is reserved
+-- the token of a kind with a text at a position; a name that is reserved is a word
 abbrev pub token_of : Kind → ℕ → List ℕ → Result Lexeme LexFault
 token_of kinds.Name at text = checked (nat_lt (length text) 33) (lexeme (name_kind (word_of text)) at text) (fault LongName at)
 token_of (kinds.Word word) at text = Ok (lexeme (kinds.Word word) at text)
@@ -105,11 +105,11 @@ abbrev pub token_found : ℕ → List ℕ → Option (Kind × ℕ) → Result Le
 token_found at bytes None = Err (misfit at bytes)
 token_found at bytes (Some x) = token_of x.0 at (take x.1 bytes)
 
--- what begins the bytes, where no gap does
+-- what the bytes start with where no gap does
 unfoldable pub token_at : ℕ → List ℕ → Result Lexeme LexFault
 token_at at bytes = token_found at bytes (longest Start bytes)
 
--- what comes next from a place on
+-- what comes next from a position on
 unfoldable pub next_of : ℕ → List ℕ → Option (Result Lexeme LexFault)
 next_of at bytes =
     if nat_lt (gap_len false bytes) (length bytes) then Some (token_at (at + gap_len false bytes) (drop (gap_len false bytes) bytes))

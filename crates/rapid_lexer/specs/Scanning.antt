@@ -1,4 +1,4 @@
--- The longest token at the front of some bytes, byte by byte: the states of a scanner.
+-- The longest token at the front of bytes, byte by byte: the states of a scanner.
 use Rattle.std.specs.Prelude.{ℕ, ◌+◌, Bool, ◌||◌, ◌==◌, nat_lt, if◌then◌else◌, List, [], ◌∷◌, Option, Some, None}
 use Rattle.std.specs.Str.{bytes_eq}
 use Rattle.rapid_num.specs.Literal.{digit_value, is_exponent_letter}
@@ -13,14 +13,14 @@ use Rattle.rapid_lexer.specs.Bytes.{is_hex}
 use Rattle.rapid_lexer.specs.Strings.{is_code}
 use Rattle.rapid_lexer.specs.Marks.{mark_text}
 
--- the marks of one byte that begin no longer one
+-- the marks of one byte that no longer mark starts with
 abbrev pub singles : List Mark
 singles =
     marks.OpenBrace ∷ marks.CloseBrace ∷ marks.OpenBracket ∷ marks.CloseBracket ∷ marks.OpenParenthesis ∷ marks.CloseParenthesis
     ∷ marks.Comma ∷ marks.Semicolon ∷ marks.Equal ∷ marks.Plus ∷ marks.Minus ∷ marks.Star ∷ marks.Slash ∷ marks.Backslash
     ∷ marks.Question ∷ []
 
--- the first of some marks that is this byte
+-- the first of the marks that is this byte
 abbrev pub mark_in : List Mark → ℕ → Option Mark
 mark_in [] b = None
 mark_in (m ∷ ms) b = if bytes_eq (mark_text m) (b ∷ []) then Some m else mark_in ms b
@@ -28,7 +28,7 @@ mark_in (m ∷ ms) b = if bytes_eq (mark_text m) (b ∷ []) then Some m else mar
 abbrev pub single_of : ℕ → Option Mark
 single_of b = mark_in singles b
 
--- behind a mark that begins no longer one, where it is one
+-- after a mark that no longer mark starts with, if it is one
 abbrev pub where_single : Option Mark → State
 where_single None = Dead
 where_single (Some m) = Single m
@@ -51,7 +51,7 @@ after_less b =
     else if b == 62 then Single marks.NotEqual
     else Dead
 
--- behind digits, with no point yet
+-- after digits without a point so far
 abbrev pub after_whole : ℕ → State
 after_whole b =
     if is_digit b then Whole
@@ -59,7 +59,7 @@ after_whole b =
     else if is_exponent_letter b then Exponent
     else Dead
 
--- behind a first 0
+-- after an initial 0
 abbrev pub after_zero : ℕ → State
 after_zero b =
     if b == 120 || b == 88 then HexMark
@@ -67,7 +67,7 @@ after_zero b =
     else if b == 98 || b == 66 then BinaryMark
     else after_whole b
 
--- behind a point and digits on one of its sides
+-- after a point with digits on at least one side
 abbrev pub after_fraction : ℕ → State
 after_fraction b =
     if is_digit b then Fraction
@@ -80,7 +80,7 @@ after_exponent b =
     else if is_digit b then Power
     else Dead
 
--- within a string, behind its quote or a character
+-- inside a string, after its quote or a character
 abbrev pub after_character : ℕ → State
 after_character b =
     if b == 34 then Closed
@@ -94,7 +94,7 @@ after_escape b =
     else if is_hex b then Code b
     else Dead
 
--- one state where the test holds, else no token
+-- this state if the test holds, else no token
 abbrev pub where_so : Bool → State → State
 where_so b s = if b then s else Dead
 
@@ -124,7 +124,7 @@ step Greater b = where_so (b == 61) (Single marks.GreaterEqual)
 step (Single m) b = Dead
 step Dead b = Dead
 
--- the kind of the token that ends here, a reserved word as a name
+-- the kind of a token that ends here, with a reserved word as a name
 abbrev pub kind_at : State → Option Kind
 kind_at Start = None
 kind_at InName = Some kinds.Name
@@ -151,7 +151,7 @@ kind_at Greater = Some (kinds.Mark marks.Greater)
 kind_at (Single m) = Some (kinds.Mark m)
 kind_at Dead = None
 
--- the kind of the token that all of the bytes are
+-- the kind of the token that all the bytes are
 unfoldable pub accepted : State → List ℕ → Option Kind
 accepted s [] = kind_at s
 accepted s (b ∷ bs) = accepted (step s b) bs
@@ -160,12 +160,12 @@ abbrev pub with_length : ℕ → Option Kind → Option (Kind × ℕ)
 with_length n None = None
 with_length n (Some k) = Some (k, n)
 
--- what was found behind so many bytes, else what was found before
+-- what was found after this many bytes, else what was found before
 abbrev pub behind : Option (Kind × ℕ) → ℕ → Option (Kind × ℕ) → Option (Kind × ℕ)
 behind last n None = last
 behind last n (Some x) = Some (x.0, n + x.1)
 
--- the longest front of the bytes that is a token: its kind and its length
+-- the longest token at the front of the bytes: its kind and its length
 unfoldable pub longest : State → List ℕ → Option (Kind × ℕ)
 longest s [] = with_length 0 (kind_at s)
 longest s (b ∷ bs) = behind (with_length 0 (kind_at s)) 1 (longest (step s b) bs)

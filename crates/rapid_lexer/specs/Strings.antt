@@ -5,12 +5,12 @@ use Rattle.rapid_num.specs.Literal.{digit_value}
 use Rattle.rapid_num.specs.Characters.{is_printable}
 use Rattle.rapid_lexer.specs.Bytes.{is_hex}
 
--- two hexadecimal digits that name a printable character
+-- two hexadecimal digits that encode a printable character
 abbrev pub is_code : ℕ → ℕ → Bool
 is_code h l = is_hex h && is_hex l && is_printable (digit_value h * 16 + digit_value l)
 
--- the bytes of one character: a printable byte other than the quote and the backslash; two quotes or two
--- backslashes for one; or a backslash and a code
+-- the bytes of one character: a printable byte other than the quote and the backslash; two quotes or two backslashes
+-- for one; or a backslash and a code
 abbrev pub is_character : List ℕ → Bool
 is_character [] = false
 is_character (b ∷ []) = is_printable b && not (b == 34) && not (b == 92)

@@ -11,7 +11,7 @@ use Rattle.rapid_lexer.specs.Marks.{mark_text}
 use Rattle.rapid_lexer.specs.Strings.{IsString}
 use Rattle.rapid_lexer.specs.Gaps.{IsGap, front_of}
 
--- a token without where its text lies in memory
+-- a token, without where its text is in memory
 pub record Lexeme : Type 0 where
   pub kind : Kind
   pub text : List ℕ
@@ -23,7 +23,7 @@ view t = record { kind = t.kind; text = t.text.now; at = t.at }
 abbrev pub views : List Token → List Lexeme
 views ts = map view ts
 
--- the shape of each kind of token, whatever its length and value
+-- the shape of each kind of token, for any length and value
 abbrev pub IsToken : Kind → List ℕ → Type 0
 IsToken Name text = (is_name text ≡ true) × ¬ IsReserved text
 IsToken (Word word) text = (is_name text ≡ true) × IsWord word text
@@ -31,7 +31,7 @@ IsToken Number text = IsSome (spelled_thousandths text)
 IsToken Quoted text = (cs : List (List ℕ)) × IsString text cs
 IsToken (Mark mark) text = text ≡ mark_text mark
 
--- no longer token begins where this text does
+-- no longer token starts where this text does
 abbrev pub IsLongest : List ℕ → List ℕ → Type 0
 IsLongest text after = (kind : Kind) (other rest : List ℕ) → text ++ after ≡ other ++ rest → IsToken kind other → length other ≤ length text
 
@@ -43,7 +43,7 @@ IsWithinLimits Number text = IsSome (literal_value text)
 IsWithinLimits Quoted text = (cs : List (List ℕ)) × IsString text cs × (length cs ≤ LONGEST_STRING)
 IsWithinLimits (Mark mark) text = Unit {0}
 
--- of the bytes from a place on, a gap and a token come first, and then the bytes after
+-- from this position on come a gap, a token, and then the bytes after it
 pub record Follows (at : ℕ) (bytes : List ℕ) (token : Lexeme) (after : List ℕ) : Type 0 where
   pub gap : List ℕ
   pub whole : bytes ≡ gap ++ (token.text ++ after)
@@ -53,24 +53,24 @@ pub record Follows (at : ℕ) (bytes : List ℕ) (token : Lexeme) (after : List 
   pub is_longest : IsLongest token.text after
   pub within_limits : IsWithinLimits token.kind token.text
 
--- of the bytes from a place on, gaps and these tokens come first; what is left stands from a place there on
+-- from this position on come gaps and these tokens; what is left starts at a position there
 abbrev pub Passes : ℕ → List ℕ → List Lexeme → ℕ → List ℕ → Type 0
 Passes at bytes [] there left = (there ≡ at) × (left ≡ bytes)
 Passes at bytes (t ∷ ts) there left = (after : List ℕ) × Follows at bytes t after × Passes (t.at + length t.text) after ts there left
 
--- behind the source's front, gaps and these tokens come first
+-- after the front of the source come gaps and these tokens
 pub record Begins (source : List ℕ) (tokens : List Lexeme) (there : ℕ) (left : List ℕ) : Type 0 where
   pub front : ℕ
   pub is_front : front_of source ≡ Ok front
   pub passes : Passes front (drop front source) tokens there left
 
--- gaps and tokens in order, put together, are the source, and each token is the longest that begins at its place
+-- gaps and tokens in order, put together, are the source, and each token is the longest that starts at its position
 pub record Tiles (source : List ℕ) (tokens : List Lexeme) : Type 0 where
   pub there : ℕ
   pub left : List ℕ
   pub begins : Begins source tokens there left
   pub is_gap : IsGap left []
 
--- a token's text is the part of the source at its place
+-- the text of a token is the part of the source at its position
 abbrev pub IsSliceOf : List ℕ → Lexeme → Type 0
 IsSliceOf source t = t.text ≡ take (length t.text) (drop t.at source)

@@ -6,7 +6,7 @@ use Rattle.rapid_lexer.specs.declared.word.Word.{Word}
 use Rattle.rapid_lexer.specs.declared.word.Word.TheVariants.{Alias, And, Backward, Case, Connect, Const, Default, Div, Do, Else, ElseIf, EndFor, EndFunc, EndIf, EndModule, EndProc, EndRecord, EndTest, EndTrap, EndWhile, Error, Exit, False, For, From, Func, Goto, If, Inout, Local, Mod, Module, NoStepIn, Not, NoView, Or, Pers, Proc, Raise, ReadOnly, Record, Retry, Return, Step, SysModule, Task, Test, Then, To, Trap, True, TryNext, Undo, Var, ViewOnly, While, With, Xor}
 use Rattle.rapid_lexer.specs.Bytes.{upper}
 
--- each reserved word, in capitals
+-- each reserved word, in uppercase
 abbrev pub words : List (List ℕ × Word)
 words =
     (codes "ALIAS", Alias) ∷ (codes "AND", And) ∷ (codes "BACKWARD", Backward) ∷ (codes "CASE", Case)
@@ -25,7 +25,7 @@ words =
     ∷ (codes "UNDO", Undo) ∷ (codes "VAR", Var) ∷ (codes "VIEWONLY", ViewOnly) ∷ (codes "WHILE", While)
     ∷ (codes "WITH", With) ∷ (codes "XOR", Xor) ∷ []
 
--- the text is this word, its letters in either case
+-- the text is this word, case-insensitive
 abbrev pub IsWord : Word → List ℕ → Type 0
 IsWord word text = Contains words (map upper text, word)
 
@@ -33,7 +33,7 @@ IsWord word text = Contains words (map upper text, word)
 abbrev pub IsReserved : List ℕ → Type 0
 IsReserved text = (word : Word) × IsWord word text
 
--- the word of the first row with these capitals
+-- the word of the first row with these uppercase letters
 abbrev pub word_in : List (List ℕ × Word) → List ℕ → Option Word
 word_in [] capitals = None
 word_in (row ∷ rows) capitals = if bytes_eq row.0 capitals then Some row.1 else word_in rows capitals

@@ -1,4 +1,4 @@
-//! Tests of bytes.
+//! Byte tests.
 
 ghost use Rattle.std.specs.Prelude.{◌≡◌};
 ghost use Rattle.rapid_num.specs.Literal.{is_exponent_letter};
@@ -16,14 +16,14 @@ pub(crate) fn is_digit(byte: u8) -> bool
     byte >= 48 && byte <= 57
 }
 
-/// Whether a byte is a letter, in either case.
+/// Whether a byte is a letter, in upper or lower case.
 pub fn is_letter(byte: u8) -> bool
     ensures { result ≡ is_letter byte }
 {
     (byte >= 65 && byte <= 90) || (byte >= 97 && byte <= 122)
 }
 
-/// Whether a byte may stand in a name behind its first letter.
+/// Whether a byte may occur in a name after its first letter.
 pub fn is_name_byte(byte: u8) -> bool
     ensures { result ≡ is_name_byte byte }
 {
@@ -46,14 +46,14 @@ pub(crate) fn is_blank(byte: u8) -> bool
     byte == 9 || byte == 10 || byte == 12 || byte == 13 || byte == 32
 }
 
-/// Whether a byte is a hexadecimal digit, its letter in either case.
+/// Whether a byte is a hexadecimal digit, case-insensitive.
 pub fn is_hex(byte: u8) -> bool
     ensures { result ≡ is_hex byte }
 {
     digit_value(byte) < 16
 }
 
-/// Whether two hexadecimal digits are the code of a printable character.
+/// Whether two hexadecimal digits encode a printable character.
 pub(crate) fn is_code(high: u8, low: u8) -> bool
     ensures { result ≡ is_code high low }
 {
@@ -66,7 +66,7 @@ pub(crate) fn is_exponent_letter(byte: u8) -> bool
     byte == 69 || byte == 101
 }
 
-/// The mark that a byte is, where it begins no longer one.
+/// The mark that a byte is, if no longer mark starts with it.
 pub(crate) fn single_of(byte: u8) -> Option<Mark>
     ensures { result ≡ single_of byte }
 {

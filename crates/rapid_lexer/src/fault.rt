@@ -1,4 +1,4 @@
-//! Why a text is not made of tokens.
+//! Why a text is not a list of tokens.
 
 ghost use Rattle.std.specs.Prelude.{◌≡◌, ◌≤◌, length};
 ghost use Rattle.rapid_lexer.specs.Names.{lex_rule_name};
@@ -6,14 +6,14 @@ ghost use Rattle.rapid_lexer.specs.declared.fault.TokensFault.TheVariants.{Memor
 
 use std::alloc::{AllocError, AllocFailed};
 
-/// What is wrong at the first place where no token fits (RAPID Kernel, lexical elements).
+/// The error at the first position where no token fits (RAPID Kernel, lexical elements).
 #[derive(Clone, Copy, Debug, PartialEq, Eq)]
 pub enum LexRule {
-    /// No token or gap begins with the byte, or a string holds a byte below 20 or above 7E, hexadecimal.
+    /// The byte starts neither a token nor a gap, or a string contains a byte below 20 or above 7E hexadecimal.
     BadByte,
     /// The line or the text ends inside a string.
     OpenString,
-    /// A backslash in a string begins no escape.
+    /// A backslash in a string does not start an escape.
     BadEscape,
     /// A string has more than 80 characters.
     LongString,
@@ -26,7 +26,7 @@ pub enum LexRule {
 }
 
 impl LexRule {
-    /// The name of the rule, as refusals print it: of at most 10 bytes.
+    /// The name of the rule in error messages, at most 10 bytes.
     pub fn name(self) -> &'static [u8]
         ensures same { result.now ≡ lex_rule_name self }
         ensures short { length result.now ≤ 10 }
@@ -43,14 +43,14 @@ impl LexRule {
     }
 }
 
-/// A rule, and the byte of the source where it is broken, from 0.
+/// A rule, and the byte in the source where it is broken, from 0.
 #[derive(Clone, Copy, Debug, PartialEq, Eq)]
 pub struct LexFault {
     pub rule: LexRule,
     pub at: usize,
 }
 
-/// Why there is no list of tokens: no token fits at some place, or memory was refused.
+/// Why there is no list of tokens: no token fits at some position, or out of memory.
 #[derive(Clone, Copy, Debug, PartialEq, Eq)]
 pub enum TokensFault {
     Lex(LexFault),

@@ -1,4 +1,4 @@
-//! What may stand before the first token: a byte order mark, and a header behind blanks.
+//! What may come before the first token: a byte order mark, and a header after blanks.
 
 ghost use Rattle.std.specs.Prelude.{◌≡◌, ◌≤◌, ◌+◌, IfOk, IfSome, length, drop};
 ghost use Rattle.std.specs.List.{prefix_len};
@@ -7,7 +7,7 @@ ghost use Rattle.rapid_lexer.specs.Gaps.{before_fence, front_of, is_fence, mark_
 
 use crate::bytes::is_blank;
 
-/// How many bytes a byte order mark takes at the front.
+/// The number of bytes of a byte order mark at the front.
 fn mark_len(source: &[u8]) -> usize
     ensures same { result ≡ mark_len source.now }
     ensures within { result ≤ length source.now }
@@ -28,7 +28,7 @@ fn is_fence(bytes: &[u8]) -> bool
     }
 }
 
-/// How many bytes stand before the next fence, where there is one.
+/// The number of bytes before the next fence, if there is one.
 fn before_fence(bytes: &[u8]) -> Option<usize>
     ensures same { result ≡ before_fence bytes.now }
     ensures within { IfSome result (λ n. n + 3 ≤ length bytes.now) }
@@ -41,7 +41,7 @@ fn before_fence(bytes: &[u8]) -> Option<usize>
     None
 }
 
-/// The place behind the blanks from a place on.
+/// The position after any blanks at a position.
 fn skip_blanks(source: &[u8], at: usize) -> usize
     requires { at ≤ length source.now }
     ensures same { result ≡ at + prefix_len is_blank (drop at source.now) }
@@ -54,8 +54,8 @@ fn skip_blanks(source: &[u8], at: usize) -> usize
     now
 }
 
-/// The place of the first gap or token, behind a byte order mark and a header; an `Err` is the place where a header
-/// begins that has no end.
+/// The position of the first gap or token, after a byte order mark and a header. An `Err` is the position of a header
+/// without an end.
 pub(crate) fn front_of(source: &[u8]) -> Result<usize, usize>
     ensures same { result ≡ front_of source.now }
     ensures within { IfOk result (λ n. n ≤ length source.now) }

@@ -1,11 +1,11 @@
-//! What stands between tokens.
+//! What is between tokens.
 
 ghost use Rattle.std.specs.Prelude.{◌≡◌, ◌≤◌, ◌+◌, length, drop, true, false};
 ghost use Rattle.rapid_lexer.specs.Reading.{gap_len};
 
 use crate::bytes::is_blank;
 
-/// The place of the next line feed, or the end, from a place in a comment on.
+/// The position of the next line feed, or the end, from a position in a comment.
 fn line_end(source: &[u8], at: usize) -> usize
     requires { at ≤ length source.now }
     ensures same { result + gap_len false (drop result source.now) ≡ at + gap_len true (drop at source.now) }
@@ -19,7 +19,7 @@ fn line_end(source: &[u8], at: usize) -> usize
     now
 }
 
-/// The place behind the blanks and comments from a place on.
+/// The position after any blanks and comments at a position.
 pub(crate) fn skip_gaps(source: &[u8], at: usize) -> usize
     requires { at ≤ length source.now }
     ensures same { result ≡ at + gap_len false (drop at source.now) }

@@ -1,17 +1,17 @@
 use crate::mark::Mark;
 use crate::word::Word;
 
-/// What a token is.
+/// The kind of a token.
 #[derive(Clone, Copy, Debug, PartialEq, Eq)]
 pub enum Kind {
-    /// A letter, then letters, digits and `_`: no reserved word.
+    /// A letter, then letters, digits and `_`, but not a reserved word.
     Name,
-    /// A reserved word, its letters in either case.
+    /// A reserved word, case-insensitive.
     Word(Word),
     /// A numerical literal.
     Number,
     /// A string with its quotes.
     Quoted,
-    /// One of the signs.
+    /// A mark.
     Mark(Mark),
 }

@@ -6,7 +6,7 @@ ghost use Rattle.rapid_lexer.specs.Tokens.{IsSliceOf, Lexeme, Tiles};
 ghost use Rattle.rapid_lexer.specs.Faults.{IsFirstMisfit};
 ghost use Rattle.rapid_lexer.specs.declared.fault.LexFault.{LexFault};
 
-/// A text has one list of tokens, or one first fault, and never both. The tokens' texts are slices of it.
+/// A text has one list of tokens or one first error, never both. The tokens' texts are slices of it.
 pub fn one_reading()
     ensures tokens { (source : List ℕ) (ts us : List Lexeme) → Tiles source ts → Tiles source us → ts ≡ us }
     ensures fault { (source : List ℕ) (f g : LexFault) → IsFirstMisfit source f → IsFirstMisfit source g → f ≡ g }

@@ -1,4 +1,4 @@
-//! The tokens of a source, one after the other.
+//! The tokens of a source, one at a time.
 
 ghost use Rattle.std.specs.Prelude.{◌≡◌, ◌<◌, ◌≤◌, ◌+◌, ◌^◌, IfOk, IfSome, Option, Result, is_some, length, drop};
 ghost use Rattle.rapid_num.specs.Literal.{literal_value};
@@ -21,8 +21,8 @@ use rapid_limits::{LONGEST_NAME, LONGEST_STRING};
 use rapid_num::read_literal;
 use std::marker::Model;
 
-/// The tokens of a source from some place on. Contracts see the source, the place behind the last token, and the fault
-/// that was met.
+/// The tokens of a source from a position on. Contracts see the source, the position after the last token, and the
+/// error if one was found.
 #[derive(Drop)]
 pub struct Lexer<'a> {
     source: &'a [u8],
@@ -48,7 +48,7 @@ fn is_literal(text: &[u8]) -> bool
     read_literal(text).is_ok()
 }
 
-/// Whether a string, its quotes included, has at most 80 characters.
+/// Whether a string, including its quotes, has at most 80 characters.
 fn is_short(text: &[u8]) -> bool
     requires { 0 < length text.now }
     ensures { result ≡ is_some (characters_len LONGEST_STRING (drop 1 text.now)) }
@@ -65,7 +65,7 @@ fn name_kind(text: &[u8]) -> Kind
     }
 }
 
-/// The token that a text of some kind is, or the limit that it passes.
+/// The token of a kind with this text, or the limit that it exceeds.
 fn token_of(kind: Kind, at: usize, text: &[u8]) -> Result<Token<'_>, LexFault>
     requires { 0 < length text.now }
     ensures { seen result ≡ token_of kind at text.now }
@@ -106,7 +106,7 @@ fn token_of(kind: Kind, at: usize, text: &[u8]) -> Result<Token<'_>, LexFault>
     }
 }
 
-/// The fault at a place where no token begins.
+/// The error at a position where no token starts.
 fn misfit(at: usize, bytes: &[u8]) -> LexFault
     requires { at + length bytes.now < 2 ^ 64 }
     ensures { result ≡ misfit at bytes.now }
@@ -120,7 +120,7 @@ fn misfit(at: usize, bytes: &[u8]) -> LexFault
     }
 }
 
-/// The token that begins at a place, or the fault there.
+/// The token that starts at a position, or the error there.
 fn token_at(source: &[u8], at: usize) -> Result<Token<'_>, LexFault>
     requires { at ≤ length source.now }
     ensures { seen result ≡ token_at at (drop at source.now) }
@@ -132,7 +132,7 @@ fn token_at(source: &[u8], at: usize) -> Result<Token<'_>, LexFault>
     }
 }
 
-/// What comes next from a place on.
+/// What comes next from a position on.
 fn next_of(source: &[u8], at: usize) -> Option<Result<Token<'_>, LexFault>>
     requires { at ≤ length source.now }
     ensures same { seen_next result ≡ next_of at (drop at source.now) }
@@ -149,8 +149,7 @@ impl<'a> Lexer<'a> {
     ghost use Rattle.rapid_lexer.specs.Gaps.{front_of};
     ghost use Rattle.rapid_lexer.specs.Lexing.{IsAnswer, IsAtFront, lexing_after};
 
-    /// The tokens of a source, from its front on: behind a byte order mark, and behind a header (RAPID Kernel, file
-    /// headers).
+    /// The tokens of a source, from after its byte order mark and header (RAPID Kernel, file headers).
     pub fn new(source: &'a [u8]) -> Lexer<'a>
         ensures source { result.source ≡ source.now }
         ensures front { IsAtFront result (front_of source.now) }
@@ -172,8 +171,8 @@ impl<'a> Lexer<'a> {
         }
     }
 
-    /// The next token, a slice of the source; `None` where only gaps are left; the fault at the first place where no
-    /// token fits, and the same fault ever after.
+    /// The next token, as a slice of the source. `None` if only gaps are left. At the first position where no token
+    /// fits, returns the error, and the same error in every later call.
     pub fn next_token(&mut self) -> Option<Result<Token<'a>, LexFault>>
         ensures answer { IsAnswer self.old (seen_next result) }
         ensures only { (other : Option (Result Lexeme LexFault)) → IsAnswer self.old other → other ≡ seen_next result }

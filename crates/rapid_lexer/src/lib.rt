@@ -1,4 +1,4 @@
-//! The tokens of a RAPID module: slices of its text, and the first place where no token fits.
+//! The tokens of a RAPID module as slices of its text, and the first position where no token fits.
 #![tactic(auto)]
 
 mod bytes;

@@ -1,4 +1,4 @@
-/// A sign of RAPID (RAPID Kernel, lexical elements).
+/// A mark of RAPID (RAPID Kernel, lexical elements).
 #[derive(Clone, Copy, Debug, PartialEq, Eq)]
 pub enum Mark {
     /// `{`

@@ -1,15 +1,14 @@
 ghost use Rattle.std.specs.Prelude.{◌≡◌, ◌≤◌, ◌<◌, ◌^◌, length};
 ghost use Rattle.rapid_lexer.specs.Places.{line_of, column_of};
 
-/// Where a byte stands in a text, as people count: the line from 1, where lines end with a line feed, and the
-/// column from 1 in bytes.
+/// A position in a text for people: the line from 1, where lines end with a line feed, and the column from 1, in bytes.
 #[derive(Clone, Copy, Debug, PartialEq, Eq)]
 pub struct Place {
     pub line: u32,
     pub column: u32,
 }
 
-/// The line and the column of the byte at a place, from 0; the place may be the end.
+/// The line and the column of the byte at a position, from 0. The position may be the end.
 pub fn place_of(source: &[u8], at: usize) -> Place
     requires within { at ≤ length source.now }
     requires short { length source.now < 2 ^ 31 }

@@ -1,4 +1,4 @@
-//! The longest token at the front of some bytes.
+//! The longest token at the front of bytes.
 
 ghost use Rattle.std.specs.Prelude.{◌≡◌, ◌≤◌, ◌<◌, IfSome, length};
 ghost use Rattle.rapid_lexer.specs.Scanning.{longest};
@@ -7,7 +7,7 @@ ghost use Rattle.rapid_lexer.specs.declared.state.State.TheVariants.{Start};
 use crate::kind::Kind;
 use crate::state::State;
 
-/// The kind of the longest token that begins the bytes, a reserved word as a name, and how many bytes it has.
+/// The kind and the number of bytes of the longest token at the front of the bytes, with a reserved word as a name.
 pub(crate) fn longest_token(bytes: &[u8]) -> Option<(Kind, usize)>
     ensures same { result ≡ longest Start bytes.now }
     ensures within { IfSome result (λ x. x.1 ≤ length bytes.now) }

@@ -1,4 +1,4 @@
-//! The states of the scanner: what the bytes so far are the beginning of.
+//! The states of the scanner: what the bytes so far are a prefix of.
 
 ghost use Rattle.std.specs.Prelude.{◌≡◌, ◌↔◌, IsTrue};
 ghost use Rattle.rapid_lexer.specs.Scanning.{
@@ -26,21 +26,21 @@ use rapid_num::{digit_value, is_printable};
 
 #[derive(Clone, Copy, Debug, PartialEq, Eq)]
 pub(crate) enum State {
-    /// No byte yet.
+    /// No bytes yet.
     Start,
     InName,
-    /// A first `0`.
+    /// An initial `0`.
     Zero,
-    /// Digits, with no point yet.
+    /// Digits without a point so far.
     Whole,
-    /// A point alone.
+    /// Only a point.
     Dot,
-    /// A point, and digits on one of its sides.
+    /// A point with digits on at least one side.
     Fraction,
     /// The letter of an exponent.
     Exponent,
     ExponentSign,
-    /// Digits of an exponent.
+    /// The digits of an exponent.
     Power,
     HexMark,
     Hex,
@@ -48,20 +48,20 @@ pub(crate) enum State {
     Octal,
     BinaryMark,
     Binary,
-    /// A quote, and characters.
+    /// A quote and characters.
     Inside,
-    /// A quote that may be a string's last byte.
+    /// A quote that may close the string.
     Closed,
     /// A backslash in a string.
     Escape,
-    /// A backslash in a string, and this hexadecimal digit.
+    /// A backslash in a string and this hexadecimal digit.
     Code(u8),
     Colon,
     Less,
     Greater,
-    /// A mark that begins no longer one.
+    /// A mark that no longer mark starts with.
     Single(Mark),
-    /// No token begins so.
+    /// Not a prefix of a token.
     Dead,
 }
 
@@ -195,7 +195,7 @@ fn where_so(test: bool, state: State) -> State
 }
 
 impl State {
-    /// The state one byte further.
+    /// The state after one more byte.
     pub(crate) fn step(self, byte: u8) -> State
         ensures { result ≡ step self byte }
     {
@@ -222,7 +222,7 @@ impl State {
         }
     }
 
-    /// The kind of the token that the bytes so far are, a reserved word as a name.
+    /// The kind of the token that the bytes so far are, with a reserved word as a name.
     pub(crate) fn kind(self) -> Option<Kind>
         ensures { result ≡ kind_at self }
     {
@@ -242,7 +242,7 @@ impl State {
         }
     }
 
-    /// Whether no token begins so.
+    /// Whether the bytes so far are not a prefix of a token.
     pub(crate) fn is_dead(self) -> bool
         ensures { IsTrue result ↔ (self ≡ Dead) }
     {

@@ -1,4 +1,4 @@
-//! Strings that are too long, or that have no end.
+//! Strings that are too long or have no end.
 
 ghost use Rattle.std.specs.Prelude.{◌≡◌, ◌≤◌, ◌<◌, ◌+◌, ◌^◌, IfSome, length, drop};
 ghost use Rattle.rapid_lexer.specs.Reading.{broken, character_len, characters_len, doubled_len, escape_len, stopped};
@@ -18,7 +18,7 @@ fn doubled_len(bytes: &[u8]) -> usize
     }
 }
 
-/// How many bytes the escape has whose backslash stands before these bytes; 0 where there is none.
+/// The number of bytes of the escape whose backslash comes before these bytes; 0 if there is none.
 fn escape_len(bytes: &[u8]) -> usize
     ensures same { result ≡ escape_len bytes.now }
     ensures within { result ≤ length bytes.now + 1 }
@@ -30,7 +30,7 @@ fn escape_len(bytes: &[u8]) -> usize
     }
 }
 
-/// How many bytes the character has that comes first; 0 where none does.
+/// The number of bytes of the first character; 0 if there is none.
 fn character_len(bytes: &[u8]) -> usize
     ensures same { result ≡ character_len bytes.now }
     ensures within { result ≤ length bytes.now }
@@ -43,7 +43,7 @@ fn character_len(bytes: &[u8]) -> usize
     }
 }
 
-/// How many bytes the characters have that come first, where they are at most 80.
+/// The number of bytes of the characters at the front, if there are at most 80.
 pub(crate) fn characters_len(bytes: &[u8]) -> Option<usize>
     ensures same { result ≡ characters_len LONGEST_STRING bytes.now }
     ensures within { IfSome result (λ n. n ≤ length bytes.now) }
@@ -63,7 +63,7 @@ pub(crate) fn characters_len(bytes: &[u8]) -> Option<usize>
     }
 }
 
-/// The fault of a string that stops at a place, where these bytes are left.
+/// The error of a string that stops at a position, given the bytes left.
 fn stopped(quote: usize, at: usize, bytes: &[u8]) -> LexFault
     ensures { result ≡ stopped quote at bytes.now }
 {
@@ -83,7 +83,7 @@ fn stopped(quote: usize, at: usize, bytes: &[u8]) -> LexFault
     }
 }
 
-/// The fault of a string that has no end, from the bytes behind its quote.
+/// The error of a string without an end, given the bytes after its quote.
 pub(crate) fn broken(quote: usize, bytes: &[u8]) -> LexFault
     requires { quote + 1 + length bytes.now < 2 ^ 64 }
     ensures { result ≡ broken quote bytes.now }

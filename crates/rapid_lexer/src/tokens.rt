@@ -27,16 +27,16 @@ fn all_tokens(alloc: Global, source: &[u8]) -> Result<Vec<Token<'_>>, TokensFaul
     Ok(tokens)
 }
 
-/// All tokens of a source, slices of it. `Lex` is the fault at the first place where no token fits; `Memory` comes only
-/// where memory was refused.
+/// All tokens of a source, as slices of it. `Lex` is the error at the first position where no token fits. `Memory` is
+/// returned only if an allocation fails.
 pub fn read_tokens(alloc: Global, source: &[u8]) -> Result<Vec<Token<'_>>, TokensFault>
     // Gaps and the tokens, put together, are the source.
     ensures tiles { IfOk result (λ v. Tiles source.now (views v.items)) }
-    // No other tokens are.
+    // No other tokens tile the source.
     ensures only { (ts : List Lexeme) → Tiles source.now ts → FindsTokens (λ v. v.items) result ts }
-    // The fault is that at the first place where no token fits.
+    // The error is the one at the first position where no token fits.
     ensures fault { (f : LexFault) → result ≡ Err (Lex f) → IsFirstMisfit source.now f }
-    // It is found exactly where there is one.
+    // It is found exactly if there is one.
     ensures fault_only { (f : LexFault) → IsFirstMisfit source.now f → FindsFault result f }
 {
     all_tokens(alloc, source)

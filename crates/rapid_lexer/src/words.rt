@@ -90,7 +90,7 @@ static OF_NINE: [(&[u8], Word); 3] = [
     (b"SYSMODULE", Word::SysModule),
 ];
 
-/// The reserved words of so many letters, each in capitals.
+/// The reserved words with `len` letters, in uppercase.
 fn words_of(len: usize) -> &'static [(&'static [u8], Word)]
     ensures { map (λ row. (row.0.now, row.1)) result.now ≡ filter (λ row. length row.0 == len) words }
 {
@@ -107,7 +107,7 @@ fn words_of(len: usize) -> &'static [(&'static [u8], Word)]
     }
 }
 
-/// Whether a text is this word in capitals, its own letters in either case.
+/// Whether a text is this uppercase word, case-insensitive.
 fn is_word(word: &[u8], text: &[u8]) -> bool
     ensures { result ≡ is_word word.now text.now }
 {
@@ -122,7 +122,7 @@ fn is_word(word: &[u8], text: &[u8]) -> bool
     true
 }
 
-/// The reserved word that a name is, its letters in either case.
+/// The reserved word that a name is, case-insensitive.
 pub(crate) fn word_of(text: &[u8]) -> Option<Word>
     ensures { result ≡ word_of text.now }
 {
@@ -134,7 +134,7 @@ pub(crate) fn word_of(text: &[u8]) -> Option<Word>
     None
 }
 
-/// Whether a name is a reserved word, its letters in either case.
+/// Whether a name is a reserved word, case-insensitive.
 pub fn is_reserved(text: &[u8]) -> bool
     ensures { result ≡ is_reserved text.now }
 {

@@ -1,4 +1,4 @@
--- What a task asks along some answers, for the examples.
+-- What a task asks, answer by answer, for the examples.
 use Rattle.std.proofs.Common.{ℤ, pos, List, [], ◌∷◌, ◌++◌}
 use Rattle.std.specs.Prelude.{map, replicate}
 use Rattle.rapid_num.specs.Reach.{absent_axes}
@@ -21,7 +21,7 @@ use Rattle.rapid_meaning.specs.Moves.{setpoints}
 use Rattle.rapid_meaning.specs.Zones.{on_axes}
 use Rattle.rapid_meaning.specs.Runs.{Next, asks, ended, asked_after, data_after, deep, state_after}
 
--- what a task asks before the first of some answers, before the second, and so on, and behind the last
+-- what a task asks before the first answer, before the second and so on, and after the last
 unfoldable pub asked_along : TypedTree → List Answer → List Answer → List Next
 unfolding asked_after data_after state_after deep performed after frame_at with_frame sort_of_pers last_digits on_axes has setpoints with_tasks greatest_change step_of
 asked_along tree before [] = asked_after tree before ∷ []
@@ -37,7 +37,7 @@ done = End fates.Done
 abbrev pub fault : Fault → Request
 fault f = End (fates.Fault f)
 
--- axis 1 at this angle, the other five at 0
+-- axis 1 at this angle, the other robot axes at 0
 abbrev pub joints : ℤ → Joints
 joints angle = record { axis = angle ∷ replicate 5 (pos 0) ++ absent_axes 6 }
 

@@ -1,4 +1,4 @@
--- Who asks: after given answers one request at most, of a task that is there.
+-- Only a task of the cell asks, and at most one request after given answers.
 use Rattle.std.proofs.Common.{◌≡◌, refl, sym, ◌∙◌, ℕ, zero, suc, ◌<◌, List, [], ◌∷◌, length, Option, None, Some, slice_get, arith}
 use Rattle.std.specs.Prelude.{IsSomeAnd}
 use Rattle.rapid_model.specs.declared.answer.Answer.{Answer}
@@ -23,7 +23,7 @@ within [] actor answers request p = absurd p
 within (tree ∷ trees) zero answers request p = omega arith
 within (tree ∷ trees) (suc actor) answers request p = omega (arith, within trees actor answers request p)
 
--- the second of two tasks looks, and then asks where its arm is; there is no third
+-- the second of two tasks looks, and then asks for its arm's position; there is no third task
 looks_first : tree_asks (moving ∷ moving ∷ []) 1 [] Look
 unfolding asked_along
 looks_first = refl

@@ -1,4 +1,4 @@
--- A part of a program asks before it does another part.
+-- Each part of a program asks before it does another part.
 use Rattle.std.proofs.Common.{ℕ, Bool, true, false, List, ◌∷◌, Option, Some, None, if◌then◌else◌}
 use Rattle.std.specs.Prelude.{⊤, slice_get}
 use Rattle.rapid_model.specs.declared.fate.Fault.TheVariants.{DepthLimit}
@@ -15,7 +15,7 @@ use Rattle.rapid_meaning.specs.Frames.{enters, frame_of, has_room}
 use Rattle.rapid_meaning.specs.Lists.{ended, items, rest}
 use Rattle.rapid_meaning.specs.Statements.{and_then, stmt}
 
--- no part is done before the first request, and this holds of what is given before it
+-- no part is done before the first request, and this holds of a result that comes before it
 abbrev pub Begins : {A : Type 0} → (A → Type 0) → Doing A → Type 0
 Begins P (Gives v) = P v
 Begins P (Raises n) = ⊤

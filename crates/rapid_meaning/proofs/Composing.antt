@@ -1,4 +1,4 @@
--- What one doing after another comes to.
+-- The outcome of one doing after another.
 use Rattle.std.proofs.Common.{◌≡◌, refl, ap, ◌∙◌, ℕ, Bool, true, false, List, [], ◌∷◌, if◌then◌else◌}
 use Rattle.rapid_model.specs.Fits.{Fitting, fits_request}
 use Rattle.rapid_model.specs.declared.answer.Answer.{Answer}
@@ -25,7 +25,7 @@ when_joined : {A B : Type 0} (b : Bool) (o : Outcome B) (p : Outcome A) (f : A �
 when_joined true o p f h e = e
 when_joined false o p f h e = refl
 
-ending_joined : {A B : Type 0} (by : Bool → Fitting) (fate : Fate) (d : Data) (left : List Answer) (f : A → Data → List Answer → Outcome B) (h : ℕ → Data → List Answer → Outcome B)
+pub ending_joined : {A B : Type 0} (by : Bool → Fitting) (fate : Fate) (d : Data) (left : List Answer) (f : A → Data → List Answer → Outcome B) (h : ℕ → Data → List Answer → Outcome B)
     → ending {A = B} by fate d left ≡ joined (ending {A = A} by fate d left) f h
 ending_joined by fate d [] f h = refl
 ending_joined {A} {B} by fate d (a ∷ left) f h = when_joined {A = A} {B = B} (fits_request (by d.trapped) (End fate) a) (Ended d) (Ended d) f h refl
@@ -50,7 +50,7 @@ performed_after by run (Does p k h) next failed d left =
     (λ v e rest. performed by run (next v) e rest) (λ n e rest. performed by run (failed n) e rest)
     (λ flow e rest. performed_after by run (k flow) next failed e rest) (λ x e rest. performed_after by run (h x) next failed e rest)
 
--- it asks nothing, changes no data, and gives this
+-- it asks nothing, changes no data, and gives this value
 abbrev pub Comes : {A : Type 0} → Doing A → Data → A → Type 0
 Comes m d v = (by : Bool → Fitting) (run : Run) (left : List Answer) → performed by run m d left ≡ Gave v d left
 

@@ -1,4 +1,4 @@
--- A task with a constant array, whose data hold it: the law on constants speaks of something.
+-- A task whose data hold a constant array, so the law about constants is not vacuous.
 use Rattle.std.proofs.Common.{◌≡◌, refl, subst, ℕ, zero, suc, ◌+◌, List, [], ◌∷◌, length, Some, slice_get}
 use Rattle.rapid_model.specs.declared.part_name.PartName.TheVariants as parts
 use Rattle.rapid_model.specs.declared.sort.Sort.TheVariants as sorts
@@ -30,7 +30,7 @@ tree = task_of (datum_row sorts.Num (Some 3) (Plain (number 10) ∷ Plain (numbe
 abbrev known : Elements
 known = record { slots = Some tens ∷ []; locals = [] }
 
--- main is under way
+-- main is running
 abbrev running : Data
 running = record (initial tree) { frames = frame_of main [] ∷ [] }
 

@@ -1,4 +1,4 @@
--- An expression that is known before the run comes to its constant value.
+-- An expression that is known before the run gives its constant value.
 use Rattle.std.proofs.Common.{◌≡◌, refl, sym, ap, ◌∙◌, subst, ℕ, ◌+◌, ◌-◌, Bool, true, false, ℤ, List, [], ◌∷◌, length, Option, Some, None, slice_get, arith}
 use Rattle.std.specs.Prelude.{⊤}
 use Rattle.std.specs.Option.{option_and_then, option_map}
@@ -8,12 +8,12 @@ use Rattle.rapid_model.specs.declared.value.Value.{Value}
 use Rattle.rapid_model.specs.declared.value.Value.TheVariants as values
 use Rattle.rapid_model.specs.declared.operator.Operator.{Operator}
 use Rattle.rapid_model.specs.declared.operator.Operator.TheVariants as operators
-use Rattle.rapid_operators.specs.Operators.{apply}
-use Rattle.rapid_operators.specs.declared.applied.Applied.{Applied}
-use Rattle.rapid_operators.specs.declared.applied.Applied.TheVariants as applies
+use Rattle.rapid_values.specs.Operators.{apply}
+use Rattle.rapid_values.specs.declared.applied.Applied.{Applied}
+use Rattle.rapid_values.specs.declared.applied.Applied.TheVariants as applies
 use Rattle.rapid_values.specs.Values.{made_of, part_of}
 use Rattle.constant_meaning.specs.Constants as constants
-use Rattle.rapid_operators.specs.Elements.{element_number}
+use Rattle.rapid_values.specs.Elements.{element_number}
 use Rattle.constant_meaning.specs.Constants.{Elements, Outcomes, all, stops, constant_value, constant_values, array_of}
 use Rattle.constant_meaning.specs.declared.outcome.Outcome.{Outcome}
 use Rattle.constant_meaning.specs.declared.outcome.Outcome.TheVariants as outcomes
@@ -25,7 +25,7 @@ use Rattle.typed_trees.specs.declared.datum.Root.{Root}
 use Rattle.typed_trees.specs.declared.datum.Root.TheVariants as roots
 use Rattle.typed_trees.specs.declared.expr.TreeRoot.{TreeRoot}
 use Rattle.typed_trees.specs.declared.expr.TreeRoot.TheVariants as tree_roots
-use Rattle.rapid_meaning.specs.Answering.{performed}
+use Rattle.rapid_meaning.specs.Answering.{Gave, performed}
 use Rattle.rapid_meaning.specs.Constants.{HoldsArrays}
 use Rattle.rapid_meaning.specs.Data.{Data, Frame, datum_at}
 use Rattle.rapid_meaning.specs.Doings.{Doing, Gives, Raises, after, or_misfit}
@@ -64,7 +64,7 @@ applied_comes d (applies.Raises n) v e = never_raises n v e
 applied_comes d applies.OutOfRange v e = never_out_of_range v e
 applied_comes d applies.Unfit v e = never_not_known v e
 
--- it is a value u, from which this comes to v
+-- the outcome is a value u, from which `next` comes to v
 abbrev Through : Outcome → (Value → Doing Value) → Data → Value → Type 0
 Through o next d v = (u : Value) × (o ≡ outcomes.Value u) × Comes (next u) d v
 
@@ -90,7 +90,7 @@ signed_comes d false outcomes.OutOfRange v e = never_out_of_range v e
 signed_comes d false outcomes.OutOfArray v e = never_out_of_array v e
 signed_comes d false outcomes.NotKnown v e = never_not_known v e
 
--- AND and OR are of bools alone
+-- AND and OR take bools only
 abbrev IsBool : Value → Type 0
 IsBool (values.Bool b) = ⊤
 IsBool _ = ⊥
@@ -115,7 +115,7 @@ right_value o u v outcomes.OutOfRange e = never_out_of_range v e
 right_value o u v outcomes.OutOfArray e = never_out_of_array v e
 right_value o u v outcomes.NotKnown e = never_not_known v e
 
--- the right operand comes to what its outcome says
+-- the right operand gives what its outcome says
 abbrev pub ComesAs : Doing Value → Data → Outcome → Type 0
 ComesAs right d r = (w : Value) → r ≡ outcomes.Value w → Comes right d w
 
@@ -179,7 +179,7 @@ made_value known sort es (stops other) v is e = absurd (no_stop known es v (is �
 pub or_misfit_comes : {A : Type 0} (d : Data) (o : Option A) (v : A) → o ≡ Some v → Comes (or_misfit o) d v
 or_misfit_comes d o v e = subst (λ (x : Option _). Comes (or_misfit x) d v) (sym e) (gives d v)
 
--- an element of a constant array: its array, its number, the element, and that the part of it is the value
+-- an element of a constant array: the array, its number, the element, and that the value is a part of it
 record IsElement (array : Option (List Value)) (part : PartName) (index : Outcome) (v : Value) : Type 0 where
   elements : List Value
   n : ℤ
@@ -225,11 +225,11 @@ pub read_comes : (d : Data) (root : Root) (part : PartName) (u v : Value) → da
     → Comes (read_value (record { root = root; part = part })) d v
 read_comes d root part u v is of_it = comes_after (load_from root part) meaning.value_in Raises d (datums.Plain v) v (load_comes d root part u v is of_it) (gives d v)
 
-own_frame : (frames : List Frame) (below start : ℕ) → length frames ≡ below + 1 → own_place start frames ≡ Some (at_root (roots.Frame below start))
+own_frame : (frames : List Frame) (below start : ℕ) → length frames ≡ below + 1 → own_place start frames ≡ at_root (roots.Frame below start)
 own_frame [] below start e = absurd (omega (arith, e))
-own_frame (frame ∷ rest) below start e = let same : length rest ≡ below = omega (arith, e) in ap (λ (n : ℕ). Some (at_root (roots.Frame n start))) same
+own_frame (frame ∷ rest) below start e = let same : length rest ≡ below = omega (arith, e) in ap (λ (n : ℕ). at_root (roots.Frame n start)) same
 
--- where the array of a root begins, and that its elements are there
+-- the start of the array at a root, and that its elements exist
 pub record IsRooted (tree : TypedTree) (routine : TypedRoutine) (d : Data) (root : TreeRoot) (elements : List Value) : Type 0 where
   pub start : Root
   pub comes : Comes (rooted tree routine root) d (at_root start)
@@ -245,13 +245,13 @@ is_rooted tree routine known d held (tree_roots.Slot row) elements is = record {
 }
 is_rooted tree routine known d held (tree_roots.Local row) elements is = record {
   start = roots.Frame held.below (local_start routine row);
-  comes = λ by run left. or_misfit_comes d (own_place (local_start routine row) d.frames) _ (own_frame d.frames held.below (local_start routine row) held.under_way) by run left;
+  comes = λ by run left. ap (λ (q : Lvalue). Gave q d left) (own_frame d.frames held.below (local_start routine row) held.under_way);
   holds = λ number u there. (held.locals row elements is).at (number - 1) u there;
 }
 is_rooted tree routine known d held (tree_roots.Ref row) elements is = absurd cc
 is_rooted tree routine known d held (tree_roots.Pers row) elements is = absurd cc
 
--- a place whose datum is there
+-- a place whose datum exists
 there_comes : (d : Data) (p : Lvalue) (root : Root) (x : Datum) → datum_at root d ≡ Some x → there_in d p root ≡ Some p
 there_comes d p (roots.Slot slot) x is = ap (option_map (λ (held : Datum). p)) is
 there_comes d p (roots.Frame frame at) x is = ap (option_map (λ (held : Datum). p)) is

@@ -1,4 +1,4 @@
--- An expression that is known before the run, and whose constant value is an error or a fault, ends with that in a run.
+-- If evaluating an expression before the run gives an error or a fault, the run ends with that too.
 use Rattle.std.proofs.Common.{◌≡◌, ◌≢◌, ◌⊎◌, inl, inr, refl, sym, ap, ◌∙◌, subst, ℕ, ◌-◌, Bool, true, false, ℤ, List, [], ◌∷◌, length, Option, Some, None, if◌then◌else◌, slice_get}
 use Rattle.std.specs.Prelude.{⊤}
 use Rattle.std.specs.Option.{option_and_then}
@@ -15,10 +15,10 @@ use Rattle.rapid_model.specs.declared.value.Value.{Value}
 use Rattle.rapid_model.specs.declared.value.Value.TheVariants as values
 use Rattle.rapid_model.specs.declared.operator.Operator.{Operator}
 use Rattle.rapid_model.specs.declared.operator.Operator.TheVariants as operators
-use Rattle.rapid_operators.specs.Elements.{element_number}
-use Rattle.rapid_operators.specs.Operators.{apply}
-use Rattle.rapid_operators.specs.declared.applied.Applied.{Applied}
-use Rattle.rapid_operators.specs.declared.applied.Applied.TheVariants as applies
+use Rattle.rapid_values.specs.Elements.{element_number}
+use Rattle.rapid_values.specs.Operators.{apply}
+use Rattle.rapid_values.specs.declared.applied.Applied.{Applied}
+use Rattle.rapid_values.specs.declared.applied.Applied.TheVariants as applies
 use Rattle.rapid_values.specs.Values.{made_of, part_of}
 use Rattle.constant_meaning.specs.Constants as constants
 use Rattle.constant_meaning.specs.Constants.{Elements, Outcomes, all, stops, constant_value, constant_values, array_of}
@@ -39,7 +39,7 @@ use Rattle.rapid_meaning.specs.Values as meaning
 use Rattle.rapid_meaning.proofs.Composing.{Comes, performed_after}
 use Rattle.rapid_meaning.proofs.ConstantsAgree.{between_comes, expr_comes, is_rooted}
 
--- how a doing stops before it gives anything
+-- how a doing stops without a result
 data Stop : Type 0 where
   by_error : ℕ → Stop
   by_fault : Fault → Stop
@@ -50,7 +50,7 @@ stopped (by_error n) = Raises n
 stopped (by_fault f) = fault f
 stopped by_misfit = Misfit
 
--- it stops so, whatever answers come
+-- it stops so for all answers
 abbrev Stops : (A : Type 0) → Doing A → Data → Stop → Type 0
 Stops A m d stop = (by : Bool → Fitting) (run : Run) (left : List Answer) → performed by run m d left ≡ performed by run (stopped {A = A} stop) d left
 
@@ -59,7 +59,7 @@ when_joined : {A B : Type 0} (b : Bool) (d : Data) (f : A → Data → List Answ
 when_joined true d f h = refl
 when_joined false d f h = refl
 
--- what follows is left out
+-- what follows is skipped
 stop_stays : {A B : Type 0} (by : Bool → Fitting) (run : Run) (stop : Stop) (next : A → Doing B) (d : Data) (left : List Answer)
     → joined (performed by run (stopped {A = A} stop) d left) (λ v e rest. performed by run (next v) e rest) (λ n e rest. performed by run (Raises n) e rest)
     ≡ performed by run (stopped {A = B} stop) d left
@@ -86,7 +86,7 @@ comes_then_stops A B m next d v stop comes s = λ by run left.
 abbrev StopsOr : (A : Type 0) → Doing A → Data → Stop → Type 0
 StopsOr A m d stop = Stops A m d stop ⊎ Stops A m d by_misfit
 
--- where the constant value is an error or a fault, it stops with that, or misfits
+-- if the constant value is an error or a fault, it stops with that, or misfits
 abbrev FailsAs : (A : Type 0) → Doing A → Data → Outcome → Type 0
 FailsAs A m d (outcomes.Value v) = ⊤
 FailsAs A m d (outcomes.Raises n) = StopsOr A m d (by_error n)
@@ -133,7 +133,7 @@ applied_fails d (applies.Raises n) = inl (λ by run left. refl)
 applied_fails d applies.OutOfRange = inl (λ by run left. refl)
 applied_fails d applies.Unfit = tt
 
--- what is known of a doing by its outcome: the value that it comes to, or how it fails
+-- what an outcome says of a doing: the value that it gives, or how it fails
 record Agrees (m : Doing Value) (d : Data) (o : Outcome) : Type 0 where
   comes : (v : Value) → o ≡ outcomes.Value v → Comes m d v
   fails : FailsAs Value m d o
@@ -179,7 +179,7 @@ signed_fails false m d outcomes.OutOfArray f = fails_after Value Value m (meanin
 signed_fails true m d outcomes.NotKnown f = tt
 signed_fails false m d outcomes.NotKnown f = tt
 
--- what is no value goes through a chain as it is
+-- an outcome that is not a value passes through a chain unchanged
 abbrev IsValue : Outcome → Type 0
 IsValue (outcomes.Value v) = ⊤
 IsValue o = ⊥
@@ -215,7 +215,7 @@ more_fail m ms d outcomes.OutOfRange more agrees f = fails_after Value (List Val
 more_fail m ms d outcomes.OutOfArray more agrees f = fails_after Value (List Value) m (λ u. after ms (λ vs. Gives (u ∷ vs)) Raises) d outcomes.OutOfArray agrees.fails
 more_fail m ms d outcomes.NotKnown more agrees f = tt
 
--- an element: the index first, and whether there is such an element
+-- an element: first the index, then whether that element exists
 abbrev element : TypedTree → TypedRoutine → TreeRoot → TypedExpr → PartName → Doing Value
 element tree routine root index part =
     after (after (rooted tree routine root) (λ p. after (expr tree routine index) (λ v. after (indexed (length_at tree routine root) p v) (λ q. part_at part q) Raises) Raises) Raises) read_value Raises
@@ -226,7 +226,7 @@ outside_fails len p count n d is past =
     subst (λ (l : Option ℕ). Stops Lvalue (indexed l p (values.Num n)) d (by_fault faults.IndexRange)) (sym is)
     (subst (λ (l : Option ℕ). Stops Lvalue (element_or_fault p l) d (by_fault faults.IndexRange)) (sym past) (λ by run left. refl))
 
--- where the array begins, and then its index
+-- first the start of the array, then its index
 from_index : (tree : TypedTree) (routine : TypedRoutine) (known : Elements) (d : Data) → HoldsArrays tree routine known d → (root : TreeRoot) (elements : List Value)
     → array_of known root ≡ Some elements → (index : TypedExpr) (part : PartName) (o : Outcome)
     → ((p : Lvalue) → FailsAs Lvalue (after (expr tree routine index) (λ v. after (indexed (length_at tree routine root) p v) (λ q. part_at part q) Raises) Raises) d o)
@@ -299,7 +299,7 @@ mutual
       more_fail (expr tree routine e) (exprs tree routine es) d (constant_value known e) (constant_values known es)
       (agrees_by tree routine known d held e (expr_fails tree routine known d held e)) (exprs_fail tree routine known d held es)
 
-  -- a chain, from an operand on
+  -- a chain that starts with an operand
   chain_fails : (tree : TypedTree) (routine : TypedRoutine) (known : Elements) (d : Data) → HoldsArrays tree routine known d → (steps : TypedSteps) (m : Doing Value) (o : Outcome)
       → Agrees m d o → FailsAs Value (after m (λ u. along tree routine steps u) Raises) d (constants.along known o steps)
   chain_fails tree routine known d held NoSteps m o agrees = fails_after Value Value m (λ u. Gives u) d o agrees.fails
@@ -323,7 +323,7 @@ mutual
   chain_fails tree routine known d held (MoreSteps op e steps) m outcomes.NotKnown agrees =
       stays_failed Value (after m (λ u. along tree routine (MoreSteps op e steps) u) Raises) d known outcomes.NotKnown steps (λ h. h) tt
 
--- one of both, and not the second
+-- one of two, and not the second
 not_misfit : (A : Type 0) (m : Doing A) (d : Data) (stop : Stop) (by : Bool → Fitting) (run : Run) (left : List Answer) → StopsOr A m d stop
     → performed by run m d left ≢ Misfits → performed by run m d left ≡ performed by run (stopped {A = A} stop) d left
 unfolding performed

@@ -1,4 +1,4 @@
--- An ERROR part without statements.
+-- An empty ERROR part.
 use Rattle.std.proofs.Common.{◌≡◌, refl, ℕ, suc, List}
 use Rattle.rapid_model.specs.declared.answer.Answer.{Answer}
 use Rattle.typed_trees.specs.Plain.{TypedStmt, TypedTree, NoStmts}

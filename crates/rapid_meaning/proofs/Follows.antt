@@ -1,4 +1,4 @@
--- What follows what follows.
+-- Composition of doings is associative.
 use Rattle.std.proofs.Common.{◌≡◌, refl, ℕ}
 use Rattle.rapid_meaning.specs.Doings.{Doing, Gives, Raises, Asks, Ends, Misfit, Reads, Writes, Does, after}
 

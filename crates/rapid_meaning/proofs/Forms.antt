@@ -1,4 +1,4 @@
--- The forms, instructions and functions that the other examples leave out, each as its whole list of requests.
+-- The forms, instructions and functions that the other examples leave out, each with its complete list of requests.
 use Rattle.std.proofs.Common.{◌≡◌, refl, ℕ, true, false, ℤ, pos, neg_ℤ, [], ◌∷◌, None, Some}
 use Rattle.std.specs.Prelude.{codes, replicate}
 use Rattle.std.specs.Fmt.{digits}
@@ -26,7 +26,7 @@ use Rattle.rapid_meaning.specs.Runs.{asks, unfit, data_after}
 use Rattle.rapid_meaning.proofs.Asked.{asked_along, all_of, done, fault, go, joints}
 use Rattle.rapid_meaning.proofs.Trees.{assigns, between, bool, bool_row, calls, datum_row, does, element, first_at, first_bound, func, literal, mark_row, module_bool, module_num, module_place, moves, num, num_row, number, param, pers_row, proc, quoted, raises, says, says_bool, says_num, shape_row, stored, task_of, the_num, thousandths, trap, whole_of, with_handler, with_pers}
 
--- a loop by GOTO, TEST in it, an IF with ELSEIF and ELSE, and EXIT
+-- a loop made with GOTO, with TEST inside it, an IF with ELSEIF and ELSE, and EXIT
 abbrev pub jumping : TypedTree
 jumping = task_of (num_row 0 ∷ []) (proc (
     Label 0 0
@@ -51,7 +51,7 @@ chooses_the_rest : asked_along choosing [] (go ∷ go ∷ Ok ∷ go ∷ go ∷ O
 unfolding asked_along
 chooses_the_rest = refl
 
--- a function that returns from within a loop, and one that reaches its end
+-- a function that returns from inside a loop, and one that reaches its end
 abbrev pub returning : TypedTree
 returning = task_of [] (proc (says_num (codes "f=") (Invoke 0 sorts.Num 1 NoArgs) ∷ says_num (codes "g=") (Invoke 0 sorts.Num 2 NoArgs) ∷ [])
     ∷ func (While 0 (bool true) (stmts_of (Return 0 (Some (num 3)) ∷ [])) ∷ []) ∷ func [] ∷ [])
@@ -70,7 +70,7 @@ leaves_the_routine : asked_along leaving [] (go ∷ go ∷ go ∷ go ∷ go ∷ 
 unfolding asked_along
 leaves_the_routine = refl
 
--- a FOR with a step, whose variable would pass 5
+-- a FOR with a step; its variable would pass 5
 abbrev pub stepping : TypedTree
 stepping = task_of [] (record (proc (For 0 0 (num 1) (num 5) (Some (num 3)) (stmts_of (says_num (codes "i=") (stored (whole_of (roots.Local 0) sorts.Num)) ∷ [])) ∷ [])) { loops = 1 } ∷ [])
 
@@ -79,7 +79,7 @@ steps_by_three : asked_along stepping [] (go ∷ go ∷ go ∷ Ok ∷ go ∷ go 
 unfolding asked_along
 steps_by_three = refl
 
--- after a trap at a turn's Look only the Look is asked again
+-- after a trap at an iteration's Look, only the Look is asked again
 abbrev pub stepping_trapped : TypedTree
 stepping_trapped = task_of [] (record (proc (For 0 0 (num 1) (num 1) None NoStmts ∷ [])) { loops = 1 } ∷ trap [] ∷ [])
 
@@ -87,7 +87,7 @@ turns_after_a_trap : asked_along stepping_trapped [] (go ∷ answers.Trap 1 1 �
 unfolding asked_along
 turns_after_a_trap = refl
 
--- more interrupts than the queue takes
+-- more interrupts than the queue holds
 flooded : asked_along stepping [] (answers.Flood ∷ Ok ∷ []) ≡ all_of (Look ∷ fault faults.TrapFlood ∷ [])
 unfolding asked_along
 flooded = refl
@@ -100,7 +100,7 @@ fails_in_the_trap : asked_along failing_trap [] (answers.Trap 1 1 ∷ go ∷ Ok 
 unfolding asked_along
 fails_in_the_trap = refl
 
--- outputs; a value that is neither 0 nor 1
+-- outputs, and a value that is neither 0 nor 1
 abbrev pub signalling : TypedTree
 signalling = task_of [] (proc (
     does instructions.Set (OfSignal 1 ∷ []) ∷ does instructions.Reset (OfSignal 1 ∷ []) ∷ does instructions.WaitDO (OfSignal 1 ∷ Given (num 0) ∷ [])
@@ -115,7 +115,7 @@ signals : asked_along signalling [] (go ∷ Ok ∷ go ∷ Ok ∷ go ∷ answers.
 unfolding asked_along
 signals = refl
 
--- a bool of the cell that is taken by one task at a time, and one of the task's own
+-- a bool that only one task at a time can take, and one of the task's own
 abbrev pub taking : TypedTree
 taking = with_pers (task_of (bool_row ∷ []) (proc (
     does instructions.WaitTestAndSet (Lent (whole_of (roots.Pers 0) sorts.Bool) ∷ []) ∷ assigns (whole_of (roots.Pers 0) sorts.Bool) (bool false)
@@ -133,7 +133,7 @@ takes_in_turn : asked_along taking [] (go ∷ answers.Yes false ∷ Ok ∷ Ok �
 unfolding asked_along
 takes_in_turn = refl
 
--- orders on an output and on a persistent, and what is done with an interrupt
+-- orders on an output and on a persistent, and each operation on an interrupt
 abbrev pub ordering : TypedTree
 ordering = with_pers (task_of (mark_row sorts.IntNum ∷ []) (proc (
     Connect 0 (module_place 0 sorts.IntNum) 1
@@ -149,7 +149,7 @@ orders : asked_along ordering [] (go ∷ answers.Number 2 ∷ go ∷ Ok ∷ go �
 unfolding asked_along
 orders = refl
 
--- a zone round a home position, which is disabled, enabled and freed; then its variable names none
+-- a zone around a home position is disabled, enabled and freed; then its variable names no zone
 abbrev pub homing : TypedTree
 homing = task_of (shape_row ∷ mark_row sorts.WzTemporary ∷ []) (proc (
     does instructions.WZHomeJointDef (Optional (codes "Outside") NoArgument ∷ Lent (module_place 0 sorts.ShapeData) ∷ Given (first_bound 10_000) ∷ Given (first_bound 2_500) ∷ [])
@@ -166,7 +166,7 @@ homes : asked_along homing [] (go ∷ go ∷ answers.Number 3 ∷ go ∷ Ok ∷ 
 unfolding asked_along
 homes = refl
 
--- a shape that was never defined, one whose low bound is not below its high one, and one on an external axis
+-- a shape that was never defined, one whose low bound is not below its high bound, and one on an external axis
 abbrev pub shapeless : TypedTree
 shapeless = task_of (shape_row ∷ mark_row sorts.WzStationary ∷ []) (proc (
     does instructions.WZLimSup (Optional (codes "Stat") NoArgument ∷ Lent (module_place 1 sorts.WzStationary) ∷ Lent (module_place 0 sorts.ShapeData) ∷ []) ∷ []) ∷ [])
@@ -192,12 +192,12 @@ takes_no_external_axis : asked_along (shaping (first_bound 1_000) (Known 0 sorts
 unfolding asked_along
 takes_no_external_axis = refl
 
--- the greatest num as a middle and a delta
+-- the greatest num as middle and as delta
 leaves_the_range : asked_along (homing_at (first_bound 9_999_999_999_999) (first_bound 9_999_999_999_999)) [] (go ∷ Ok ∷ []) ≡ all_of (Look ∷ fault faults.NumRange ∷ [])
 unfolding asked_along
 leaves_the_range = refl
 
--- counters, of a variable and of an element of an array; an index outside it
+-- counters on a variable and on an element of an array; an index outside the array
 abbrev pub tallying : TypedTree
 tallying = task_of (datum_row sorts.Num (Some 2) (datums.Plain (number 1) ∷ datums.Plain (number 2) ∷ []) ∷ num_row 2 ∷ []) (proc (
     does instructions.Add (Lent (element 0 (the_num 1)) ∷ Given (num 5) ∷ [])
@@ -211,7 +211,7 @@ tallies : asked_along tallying [] (go ∷ go ∷ go ∷ Ok ∷ go ∷ Ok ∷ go 
 unfolding asked_along
 tallies = refl
 
--- the functions of values
+-- functions of values
 abbrev pub computing : TypedTree
 computing = task_of (datum_row sorts.Num (Some 4) (replicate 4 (datums.Plain (number 0))) ∷ []) (proc (
     says_num (codes "Abs ") (Builtin 0 sorts.Num functions.Abs (args_of (Given (Signed 0 sorts.Num true (literal (thousandths 2_500))) ∷ [])))
@@ -225,7 +225,7 @@ computes : asked_along computing [] (go ∷ Ok ∷ go ∷ Ok ∷ go ∷ Ok ∷ g
 unfolding asked_along
 computes = refl
 
--- the texts of numbers: -2.5 with no decimal, 2 with one, -0.4 with none, 0.0625 (rounded as it was read) with two
+-- numbers as text: -2.5 with no decimal, 2 with one, -0.4 with none, 0.0625 (rounded when it was read) with two
 abbrev pub written : ℤ → ℕ → TypedExpr
 written n count = Builtin 0 sorts.Text functions.NumToStr (args_of (Given (literal (values.Num n)) ∷ Given (num count) ∷ []))
 
@@ -241,7 +241,7 @@ writes : asked_along writing [] (go ∷ Ok ∷ go ∷ Ok ∷ go ∷ Ok ∷ go �
 unfolding asked_along digits
 writes = refl
 
--- where the arm is, as a variable; the axis that is named, through a reference
+-- the arm's position in a variable; one axis through a reference
 abbrev pub reading : TypedTree
 reading = task_of (datum_row sorts.JointTarget None (datums.Plain (values.Target (record { axis = replicate 12 (pos 0) })) ∷ []) ∷ []) (
     proc (assigns (module_place 0 sorts.JointTarget) (Builtin 0 sorts.JointTarget functions.CJointT NoArgs)
@@ -254,7 +254,7 @@ reads_parts : asked_along reading [] (go ∷ At (joints (pos 7)) ∷ go ∷ go �
 unfolding asked_along
 reads_parts = refl
 
--- AND and OR skip their right operand where the left one decides, XOR does not; texts are joined, up to 80 characters
+-- AND and OR skip their right operand if the left one decides, XOR does not; strings are joined, up to 80 characters
 abbrev pub deciding : TypedTree
 deciding = task_of [] (proc (
     says_bool (codes "") (between (between (bool true) operators.Or (SignalValue 0 sorts.Bool 0)) operators.And (bool false))
@@ -280,7 +280,7 @@ without_speed : asked_along (task_of [] (proc (moves (first_at 0) 0 ∷ []) ∷ 
 unfolding asked_along
 without_speed = refl
 
--- an element of a list that is no task's name is a fault before the next is read
+-- an element of a list that names no task is a fault before the next element is read
 abbrev pub misnaming : TypedTree
 misnaming = record (task_of [] (proc (does instructions.WaitSyncTask (OfMeeting 0 ∷ Lent (whole_of (roots.Pers 0) sorts.Tasks) ∷ []) ∷ []) ∷ []))
     { meetings = codes "s1" ∷ []; meeting_of = 0 ∷ []; pers = record (pers_row sorts.Tasks (values.Text [])) { len = Some 3 } ∷ []; pers_of = 0 ∷ [] }
@@ -293,7 +293,7 @@ misnames : asked_along misnaming [] (go ∷ answers.Val (values.Text (codes "A")
 unfolding asked_along
 misnames = refl
 
--- an answer of another form than its request has, and a value of another type than the persistent's
+-- an answer of a form that the request does not have, and a value of another type than the persistent's
 not_fitting : asked_along stepping [] (answers.Met ∷ []) ≡ asks Look ∷ unfit ∷ []
 unfolding asked_along
 not_fitting = refl
@@ -302,7 +302,7 @@ not_its_type : asked_along misnaming [] (go ∷ answers.Val (number 1) ∷ []) �
 unfolding asked_along
 not_its_type = refl
 
--- the place of the last Look, and the module data as they are then
+-- the place of the last Look, and the module data at that time
 abbrev pub placed : TypedTree
 placed = task_of (num_row 0 ∷ []) (proc (Assign 17 (module_num 0) (num 2) ∷ Exit 25 ∷ []) ∷ [])
 
@@ -310,7 +310,7 @@ place_at_look : data_after placed (go ∷ []) ≡ Some (record { slots = datums.
 unfolding asked_along
 place_at_look = refl
 
--- an interrupt that sleeps: the output is set, and the task waits
+-- an interrupt is asleep: the output is set, and the task waits
 abbrev pub dozing : TypedTree
 dozing = task_of (mark_row sorts.IntNum ∷ num_row 0 ∷ []) (proc (
     Connect 0 (module_place 0 sorts.IntNum) 1
@@ -326,7 +326,7 @@ dozes : asked_along dozing [] (go ∷ answers.Number 1 ∷ go ∷ Ok ∷ go ∷ 
 unfolding asked_along
 dozes = refl
 
--- what the cell refuses: an eleventh zone, a zone that is there, an output that a zone sets, more than 64 interrupts
+-- what the cell refuses: an eleventh zone, a zone that exists, an output that a zone sets, more than 64 interrupts
 abbrev pub supervising : TypedTree
 supervising = task_of (shape_row ∷ mark_row sorts.WzTemporary ∷ []) (proc (
     does instructions.WZLimJointDef (Optional (codes "Inside") NoArgument ∷ Lent (module_place 0 sorts.ShapeData) ∷ Given (first_bound 1_000) ∷ Given (first_bound 2_000) ∷ [])
@@ -356,7 +356,7 @@ has_its_order : asked_along ordering [] (go ∷ answers.Number 2 ∷ go ∷ answ
 unfolding asked_along
 has_its_order = refl
 
--- one axis of the second of two persistent targets, which is read and written alone
+-- one axis of the second of two persistent targets is read and written alone
 abbrev pub turning : TypedTree
 turning = with_pers (task_of [] (proc (assigns axis (between (stored axis) operators.Add (num 10)) ∷ []) ∷ [])) (record (pers_row sorts.JointTarget (number 0)) { len = Some 2; first = None })
   where

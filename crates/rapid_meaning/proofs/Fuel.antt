@@ -1,4 +1,4 @@
--- Parts of a program one in another are no more than answers, and more fuel changes nothing.
+-- Parts of a program never nest deeper than the number of answers, and more fuel changes nothing.
 use Rattle.std.proofs.Common.{◌≡◌, refl, sym, ap, subst, ℕ, zero, suc, ◌<◌, ◌≤◌, Bool, true, false, List, [], ◌∷◌, length, if◌then◌else◌, arith}
 use Rattle.std.specs.Prelude.{⊤}
 use Rattle.rapid_model.specs.Fits.{Fitting, fits_request}
@@ -15,7 +15,7 @@ use Rattle.rapid_meaning.specs.Frames.{initial}
 use Rattle.rapid_meaning.specs.Runs.{deep, state_after, task}
 use Rattle.rapid_meaning.proofs.Begins.{Begins, Anything, part_begins}
 
--- there was fuel, and fewer answers than this are left
+-- the fuel did not run out, and fewer than this many answers are left
 abbrev pub Below : {A : Type 0} → ℕ → Outcome A → Type 0
 Below n (Gave v d left) = length left < n
 Below n (Raised e d left) = length left < n
@@ -69,7 +69,7 @@ below_more n Misfits b = tt
 below_more n Unfit b = tt
 below_more n NoFuel b = absurd b
 
--- what asks first uses up an answer before it does a part
+-- a doing that asks first uses up an answer before it does a part
 below_begun : {A : Type 0} (by : Bool → Fitting) (run : Run) (n : ℕ) → BelowRun n run → (m : Doing A) (d : Data) (left : List Answer) → Begins Anything m
     → length left < suc n → Below (suc n) (performed by run m d left)
 unfolding performed
@@ -101,7 +101,7 @@ no_fuel n o b e = subst (λ (x : Outcome _). Below n x) e b
 pub enough : (tree : TypedTree) (answers : List Answer) → state_after tree answers ≡ NoFuel → ⊥
 enough tree answers e = no_fuel (suc (length answers)) (state_after tree answers) (below_state tree answers) e
 
--- the second is the first, if there was fuel for that
+-- the second outcome is the first one, unless the first ran out of fuel
 abbrev pub Agrees : {A : Type 0} → Outcome A → Outcome A → Type 0
 Agrees (Gave v d left) o = o ≡ Gave v d left
 Agrees (Raised e d left) o = o ≡ Raised e d left

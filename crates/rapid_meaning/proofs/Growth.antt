@@ -1,4 +1,4 @@
--- One more answer: what stands before it stays, and the run goes on with it where it fits.
+-- One more answer: what came before it stays, and the run continues if the answer fits.
 use Rattle.std.proofs.Common.{◌≡◌, ◌⊎◌, inl, inr, refl, sym, ap, subst, ℕ, zero, suc, Bool, true, false, List, [], ◌∷◌, ◌++◌, length, if◌then◌else◌, MatchBool, arith, length-append}
 use Rattle.std.specs.Prelude.{⊤, IsTrue, IsFalse}
 use Rattle.rapid_model.specs.Fits.{Fitting, fits_request}
@@ -15,14 +15,14 @@ use Rattle.rapid_meaning.specs.Flows.{Part}
 use Rattle.rapid_meaning.specs.Frames.{initial}
 use Rattle.rapid_meaning.specs.Runs.{FitsNext, FitsSteps, deep, state_after, task}
 
--- what an outcome is that used all answers up, and whose last one fitted
+-- an outcome that used up all answers, the last of which fitted
 abbrev pub Went : {A : Type 0} → Outcome A → Type 0
 Went (Gave v d left) = left ≡ []
 Went (Raised e d left) = left ≡ []
 Went Unfit = ⊥
 Went _ = ⊤
 
--- the second outcome is the first with one more answer
+-- the second outcome is the first one after one more answer
 abbrev pub Grows : {A : Type 0} → (Bool → Fitting) → Answer → Outcome A → Outcome A → Type 0
 Grows by a (Gave v d left) o = o ≡ Gave v d (left ++ a ∷ [])
 Grows by a (Raised e d left) o = o ≡ Raised e d (left ++ a ∷ [])
@@ -82,7 +82,7 @@ grows_joined by a Misfits p f g h i grown gf gh wg wi = ap (λ (x : Outcome _). 
 grows_joined by a Unfit p f g h i grown gf gh wg wi = ap (λ (x : Outcome _). joined x g i) grown
 grows_joined by a NoFuel p f g h i grown gf gh wg wi = tt
 
--- the request that was due gets the answer
+-- the pending request gets the answer
 asked_when : {A : Type 0} (fits : Bool) (o : Outcome A) → Went o → MatchBool fits (Went (if fits then o else Unfit)) ((if fits then o else Unfit) ≡ Unfit)
 asked_when true o w = w
 asked_when false o w = refl
@@ -124,7 +124,7 @@ grows_deep tree a zero p d left = tt
 grows_deep tree a (suc n) p d left =
     grows_performed (fitting_of tree) a (deep tree n) (deep tree (suc n)) (grows_deep tree a n) (went_deep tree (suc n)) (part tree p) d left
 
--- with so much fuel
+-- with this much fuel
 state_with : TypedTree → List Answer → ℕ → Outcome ⊤
 state_with tree answers n = performed (fitting_of tree) (deep tree n) (task tree) (initial tree) answers
 

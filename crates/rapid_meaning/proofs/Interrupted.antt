@@ -1,5 +1,6 @@
--- A task that counts the interrupts of an input, with its whole list of requests for the answers that a cell gives it by turns. The
--- input comes on as soon as the task has set an output, is set on once more, goes off, and comes on again.
+-- A task that counts the interrupts of an input, with its complete list of requests for the answers of a round-robin
+-- run. The input becomes 1 as soon as the task has set an output, is set to 1 once more, becomes 0, and becomes 1
+-- again.
 use Rattle.std.proofs.Common.{◌≡◌, refl, true, false, pos, List, [], ◌∷◌, ◌++◌}
 use Rattle.std.specs.Prelude.{codes}
 use Rattle.rapid_model.specs.declared.answer.Answer.TheVariants.{Go, Ok, Trap, Bit, Number}
@@ -15,7 +16,8 @@ use Rattle.rapid_meaning.specs.Runs.{asks}
 use Rattle.rapid_meaning.proofs.Asked.{all_of, asked_along, done, go}
 use Rattle.rapid_meaning.proofs.Trees.{assigns, between, does, mark_row, module_num, module_place, num, num_row, proc, says_num, task_of, the_num, trap}
 
--- VAR intnum i1; VAR num k; TRAP t, which counts in k; and a main that connects i1 with it and orders it on signal 0 as that comes on
+-- VAR intnum i1; VAR num k; a TRAP t that counts in k; and a main that connects i1 to t and orders it on signal 0
+-- becoming 1
 abbrev counter : List TypedStmt → TypedTree
 counter more = record (task_of (mark_row sorts.IntNum ∷ num_row 0 ∷ []) (
     trap (assigns (module_num 1) (between (the_num 1) operators.Add (num 1)) ∷ [])
@@ -31,7 +33,7 @@ waits_for_two = does instructions.WaitUntil (Given (between (the_num 1) operator
 abbrev says_k : TypedStmt
 says_k = says_num (codes "k=") (the_num 1)
 
--- each trap comes at a Look of the wait: the first as the input has come on, the second, behind the first, as it has again
+-- each trap runs at a Look of the wait: the first after the input became 1, the second after it did so again
 counts_two : asked_along (counter (sets_the_output ∷ waits_for_two ∷ says_k ∷ [])) [] (
     go ∷ Number 1 ∷ go ∷ Ok ∷ go ∷ Ok ∷ Trap 1 0 ∷ Go 1 ∷ Ok ∷ Trap 1 0 ∷ Go 3 ∷ Ok ∷ Go 3 ∷ Go 3 ∷ Ok ∷ Ok ∷ [])
     ≡ all_of (Look ∷ requests.Connect 0 0 ∷ Look ∷ Order 1 (watched.Signal 0 true) false ∷ Look ∷ WriteS 1 true
@@ -39,7 +41,7 @@ counts_two : asked_along (counter (sets_the_output ∷ waits_for_two ∷ says_k 
 unfolding asked_along
 counts_two = refl
 
--- the interrupt sleeps: the task holds, rises as the input goes off, holds again, and never rises from there
+-- the interrupt is asleep: the task holds, rises when the input becomes 0, holds again, and never rises after that
 sleeps_on : asked_along (counter (does instructions.ISleep (Lent (module_place 0 sorts.IntNum) ∷ []) ∷ sets_the_output ∷ waits_for_two ∷ says_k ∷ [])) [] (
     go ∷ Number 1 ∷ go ∷ Ok ∷ go ∷ Ok ∷ go ∷ Ok ∷ Go 1 ∷ Ok ∷ Ok ∷ Go 3 ∷ Ok ∷ [])
     ≡ asks Look ∷ asks (requests.Connect 0 0) ∷ asks Look ∷ asks (Order 1 (watched.Signal 0 true) false) ∷ asks Look ∷ asks (Sleep 1)
@@ -47,7 +49,8 @@ sleeps_on : asked_along (counter (does instructions.ISleep (Lent (module_place 0
 unfolding asked_along
 sleeps_on = refl
 
--- Interrupts are held back while the task waits for a further input, signal 2, which comes on last; both traps come behind IEnable.
+-- Interrupts are disabled while the task waits for another input, signal 2, which becomes 1 last; both traps run after
+-- IEnable.
 counts_two_later : asked_along (counter (
     does instructions.IDisable [] ∷ sets_the_output ∷ does instructions.WaitDI (OfSignal 2 ∷ Given (num 1) ∷ []) ∷ says_k
     ∷ does instructions.IEnable [] ∷ waits_for_two ∷ says_k ∷ [])) [] (

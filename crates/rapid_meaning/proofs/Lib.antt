@@ -12,13 +12,14 @@ pub mod Wholes
 pub mod ConstantsAgree
 mod ConstantArrays
 pub mod Setpoints
+pub mod TaskSets
 pub mod Asking
 mod Texts
 mod Homes
 mod MoveEnds
 mod EmptyParts
 mod ConstantsFail
-mod Turns
+pub mod Turns
 pub mod Room
 pub mod Tidy
 pub mod Kept

@@ -30,7 +30,7 @@ one_stopped by run axes start target n zero given zone d fewer = absurd (omega (
 one_stopped by run axes start target n (suc left) zero zone d fewer = refl
 one_stopped by run axes start target n (suc left) (suc given) zone d fewer = one_stopped by run axes start target n left given zone d (omega (arith, fewer))
 
--- a move in reach, at a speed above zero, goes on from where the arm is
+-- a move within reach, at a positive speed, goes on from the arm's position
 goes_from : (by : Bool → Fitting) (run : Run) (axes : ℕ) (start target : Joints) (speed : ℤ) (d : Data) (more : List Answer) → IsTrue (is_position (by d.trapped).axes start) → IsTrue (is_reachable axes target)
     → IsTrue (int_lt (pos 0) speed) → performed by run (move axes target speed) d (At start ∷ more) ≡ performed by run (move_from axes target (cap_of speed) (At start)) d more
 unfolding performed

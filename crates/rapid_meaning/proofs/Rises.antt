@@ -1,4 +1,4 @@
--- After it rose a task looks.
+-- A task looks after Rise.
 use Rattle.std.proofs.Common.{◌≡◌, refl, sym, ap, ◌∙◌, subst, ℕ, zero, suc, Bool, true, false, List, [], ◌∷◌, ◌++◌, length, if◌then◌else◌, arith, length-append}
 use Rattle.std.specs.Prelude.{⊤}
 use Rattle.rapid_model.specs.Fits.{Fitting, fits_request}
@@ -25,12 +25,12 @@ abbrev IsLooking : {A : Type 0} → Outcome A → Type 0
 IsLooking (Asking requests.Look d) = ⊤
 IsLooking _ = ⊥
 
--- where it was Rise that was asked
+-- if Rise was asked
 abbrev OnRise : Request → Type 0 → Type 0
 OnRise requests.Rise P = P
 OnRise _ P = ⊤
 
--- the second outcome is the first with one answer more
+-- the second outcome is the first one after one more answer
 abbrev NextLooks : {A : Type 0} → Outcome A → Outcome A → Type 0
 NextLooks (Asking request d) o = OnRise request (IsLooking o)
 NextLooks _ o = ⊤
@@ -96,45 +96,45 @@ next_ending : (A : Type 0) (by : Bool → Fitting) (fate : Fate) (d : Data) (lef
 next_ending A by fate d [] = tt
 next_ending A by fate d (b ∷ left) = next_when {A = A} (fits_request (by d.trapped) (requests.End fate) b) (Ended d) (Ended d) tt
 
-next_joined : {A B : Type 0} (by : Bool → Fitting) (o p : Outcome A) (f g : A → Data → List Answer → Outcome B) (h i : ℕ → Data → List Answer → Outcome B)
-    → Grows by Ok o p → NextLooks o p → Kept o
-    → ((v : A) (d : Data) (left : List Answer) → HasRoom d.frames → NextLooks (f v d left) (g v d (left ++ Ok ∷ [])))
-    → ((n : ℕ) (d : Data) (left : List Answer) → HasRoom d.frames → NextLooks (h n d left) (i n d (left ++ Ok ∷ []))) → NextLooks (joined o f h) (joined p g i)
-next_joined by (Gave v d left) p f g h i grown next room nf nh = subst (λ (x : Outcome _). NextLooks (f v d left) (joined x g i)) (sym grown) (nf v d left room)
-next_joined by (Raised n d left) p f g h i grown next room nf nh = subst (λ (x : Outcome _). NextLooks (h n d left) (joined x g i)) (sym grown) (nh n d left room)
-next_joined by (Asking request d) p f g h i grown next room nf nh = on_rise request (IsLooking p) (IsLooking (joined p g i)) (looks_joined p g i) next
-next_joined by (Ended d) p f g h i grown next room nf nh = tt
-next_joined by Misfits p f g h i grown next room nf nh = tt
-next_joined by Unfit p f g h i grown next room nf nh = tt
-next_joined by NoFuel p f g h i grown next room nf nh = tt
+next_joined : {A B : Type 0} (by : Bool → Fitting) (count : ℕ) (o p : Outcome A) (f g : A → Data → List Answer → Outcome B) (h i : ℕ → Data → List Answer → Outcome B)
+    → Grows by Ok o p → NextLooks o p → Kept true count o
+    → ((v : A) (d : Data) (left : List Answer) → HasRoom true count d.frames → NextLooks (f v d left) (g v d (left ++ Ok ∷ [])))
+    → ((n : ℕ) (d : Data) (left : List Answer) → HasRoom true count d.frames → NextLooks (h n d left) (i n d (left ++ Ok ∷ []))) → NextLooks (joined o f h) (joined p g i)
+next_joined by count (Gave v d left) p f g h i grown next room nf nh = subst (λ (x : Outcome _). NextLooks (f v d left) (joined x g i)) (sym grown) (nf v d left room)
+next_joined by count (Raised n d left) p f g h i grown next room nf nh = subst (λ (x : Outcome _). NextLooks (h n d left) (joined x g i)) (sym grown) (nh n d left room)
+next_joined by count (Asking request d) p f g h i grown next room nf nh = on_rise request (IsLooking p) (IsLooking (joined p g i)) (looks_joined p g i) next
+next_joined by count (Ended d) p f g h i grown next room nf nh = tt
+next_joined by count Misfits p f g h i grown next room nf nh = tt
+next_joined by count Unfit p f g h i grown next room nf nh = tt
+next_joined by count NoFuel p f g h i grown next room nf nh = tt
 
 abbrev RunNext : Run → Run → Type 0
-RunNext run more = (p : Part) (d : Data) (left : List Answer) → HasRoom d.frames → NextLooks (run p d left) (more p d (left ++ Ok ∷ []))
+RunNext run more = (count : ℕ) (p : Part) (d : Data) (left : List Answer) → HasRoom true count d.frames → NextLooks (run p d left) (more p d (left ++ Ok ∷ []))
 
-next_performed : {A : Type 0} (by : Bool → Fitting) (run more : Run) → RunNext run more → RunKept run → GrowRuns by Ok run more → RunLooks more → (m : Doing A) (d : Data) (left : List Answer) → Tidy m d
+next_performed : {A : Type 0} (by : Bool → Fitting) (run more : Run) → RunNext run more → RunKept run → GrowRuns by Ok run more → RunLooks more → (count : ℕ) (m : Doing A) (d : Data) (left : List Answer) → Tidy true count m d
     → NextLooks (performed by run m d left) (performed by more m d (left ++ Ok ∷ []))
 unfolding performed
-next_performed by run more next kept grow looks (Gives v) d left t = tt
-next_performed by run more next kept grow looks (Raises n) d left t = tt
-next_performed by run more next kept grow looks (Asks request k) d [] t = risen by more looks request k d t.2
-next_performed by run more next kept grow looks (Asks request k) d (b ∷ left) t =
+next_performed by run more next kept grow looks count (Gives v) d left t = tt
+next_performed by run more next kept grow looks count (Raises n) d left t = tt
+next_performed by run more next kept grow looks count (Asks request k) d [] t = risen by more looks request k d t.2
+next_performed by run more next kept grow looks count (Asks request k) d (b ∷ left) t =
     next_when (fits_request (by d.trapped) request b) (performed by run (k b) d left) (performed by more (k b) d (left ++ Ok ∷ []))
-    (next_performed by run more next kept grow looks (k b) d left (t.3 b))
-next_performed {A} by run more next kept grow looks (Ends fate) d left t = next_ending A by fate d left
-next_performed by run more next kept grow looks Misfit d left t = tt
-next_performed by run more next kept grow looks (Reads k) d left t = next_performed by run more next kept grow looks (k d) d left t
-next_performed by run more next kept grow looks (Writes e m) d left t = next_performed by run more next kept grow looks m e left t
-next_performed by run more next kept grow looks (Does p k h) d left t =
-    next_joined by (run p d left) (more p d (left ++ Ok ∷ [])) (λ flow e rest. performed by run (k flow) e rest) (λ flow e rest. performed by more (k flow) e rest)
-    (λ n e rest. performed by run (h n) e rest) (λ n e rest. performed by more (h n) e rest) (grow p d left) (next p d left t.0) (kept p d left t.0)
-    (λ flow e rest room. next_performed by run more next kept grow looks (k flow) e rest (t.1 flow e room))
-    (λ n e rest room. next_performed by run more next kept grow looks (h n) e rest (t.2 n e room))
+    (next_performed by run more next kept grow looks count (k b) d left (t.3 b))
+next_performed {A} by run more next kept grow looks count (Ends fate) d left t = next_ending A by fate d left
+next_performed by run more next kept grow looks count Misfit d left t = tt
+next_performed by run more next kept grow looks count (Reads k) d left t = next_performed by run more next kept grow looks count (k d) d left t
+next_performed by run more next kept grow looks count (Writes e m) d left t = next_performed by run more next kept grow looks count m e left t
+next_performed by run more next kept grow looks count (Does p k h) d left t =
+    next_joined by t.0 (run p d left) (more p d (left ++ Ok ∷ [])) (λ flow e rest. performed by run (k flow) e rest) (λ flow e rest. performed by more (k flow) e rest)
+    (λ n e rest. performed by run (h n) e rest) (λ n e rest. performed by more (h n) e rest) (grow p d left) (next t.0 p d left t.1) (kept true t.0 p d left t.1)
+    (λ flow e rest room. next_performed by run more next kept grow looks count (k flow) e rest (t.2 flow e room))
+    (λ n e rest room. next_performed by run more next kept grow looks count (h n) e rest (t.3 n e room))
 
 deep_next : (tree : TypedTree) (n : ℕ) → RunNext (deep tree n) (deep tree (suc n))
 unfolding deep
-deep_next tree zero p d left room = tt
-deep_next tree (suc n) p d left room =
-    next_performed (fitting_of tree) (deep tree n) (deep tree (suc n)) (deep_next tree n) (deep_kept tree n) (grows_deep tree Ok n) (deep_looks tree n) (part tree p) d left ((t_part tree p).from d room)
+deep_next tree zero count p d left room = tt
+deep_next tree (suc n) count p d left room =
+    next_performed (fitting_of tree) (deep tree n) (deep tree (suc n)) (deep_next tree n) (deep_kept tree n) (grows_deep tree Ok n) (deep_looks tree n) count (part tree p) d left ((t_part tree p).from true count d room)
 
 state_with : TypedTree → List Answer → ℕ → Outcome ⊤
 state_with tree answers n = performed (fitting_of tree) (deep tree n) (task tree) (initial tree) answers
@@ -145,7 +145,7 @@ next_state tree answers =
     let n : ℕ = suc (length answers) in
     let longer : n ≡ length (answers ++ Ok ∷ []) = omega (arith, length-append answers (Ok ∷ [])) in
     subst (λ (k : ℕ). NextLooks (state_with tree answers n) (state_with tree (answers ++ Ok ∷ []) (suc k))) longer
-    (next_performed (fitting_of tree) (deep tree n) (deep tree (suc n)) (deep_next tree n) (deep_kept tree n) (grows_deep tree Ok n) (deep_looks tree n) (task tree) (initial tree) answers
+    (next_performed (fitting_of tree) (deep tree n) (deep tree (suc n)) (deep_next tree n) (deep_kept tree n) (grows_deep tree Ok n) (deep_looks tree n) 0 (task tree) (initial tree) answers
     (task_tidy tree (initial tree) no_frames))
 
 rise_of : (o : Outcome ⊤) → next_of o ≡ asks requests.Rise → (d : Data) × (o ≡ Asking requests.Rise d)

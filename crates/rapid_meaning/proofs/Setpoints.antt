@@ -29,7 +29,7 @@ all_setpoints by run axes start target n given d fewer =
     let same : n - n + (given + 1) ≡ given + 1 = omega arith in
     next_setpoint by run axes start target n n given d (omega arith) fewer ∙ ap (λ (j : ℕ). Asking (Setpoint (setpoint axes start target n j)) d) same
 
--- a move in reach, at a speed above zero
+-- a move within reach, at a positive speed
 pub asks_position : (reachable fast : Bool) (m : Act) → reachable ≡ true → fast ≡ true → (if not reachable then fault JointRange else if not fast then fault Speed else m) ≡ m
 asks_position true true m r f = refl
 asks_position true false m r f = absurd cc

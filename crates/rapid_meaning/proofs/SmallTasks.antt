@@ -1,4 +1,5 @@
--- Small tasks, each as its whole list of requests for some answers: moves, errors, interrupts, waits, loops, calls.
+-- Small tasks, each with its complete list of requests for some answers: moves, errors, interrupts, waits, loops,
+-- calls.
 use Rattle.std.proofs.Common.{◌≡◌, refl, true, false, pos, neg_ℤ, [], ◌∷◌, ◌++◌, None, Some}
 use Rattle.std.specs.Prelude.{codes, replicate}
 use Rattle.rapid_num.specs.declared.shape.Shape.{Shape}
@@ -24,7 +25,7 @@ use Rattle.rapid_meaning.specs.Runs.{asks}
 use Rattle.rapid_meaning.proofs.Asked.{asked_along, all_of, done, fault, go, joints}
 use Rattle.rapid_meaning.proofs.Trees.{assigns, between, bool, bool_row, calls, datum_row, does, first_at, first_bound, func, mark_row, module_bool, module_num, module_place, moves, num, num_row, number, param, pers_row, proc, raises, says, says_bool, says_num, shape_row, stored, task_of, the_num, trap, when, whole_of, with_handler, with_pers}
 
--- a move of 2.5 degrees at a degree a setpoint
+-- a move of 2.5 degrees, at most one degree a setpoint
 abbrev pub moving : TypedTree
 moving = task_of [] (proc (moves (first_at 2_500) 1_000 ∷ []) ∷ [])
 
@@ -33,7 +34,7 @@ moves_in_steps : asked_along moving [] (go ∷ At (joints (pos 0)) ∷ Let ∷ L
 unfolding asked_along
 moves_in_steps = refl
 
--- a zone from 10.5 to 11.5 degrees, and a move through it, seven degrees at most a setpoint
+-- a zone from 10.5 to 11.5 degrees, and a move through it, at most seven degrees a setpoint
 abbrev pub zoned : TypedTree
 zoned = task_of (shape_row ∷ mark_row sorts.WzStationary ∷ []) (proc (
     does instructions.WZLimJointDef (Optional (codes "Inside") NoArgument ∷ Lent (module_place 0 sorts.ShapeData) ∷ Given (first_bound 10_500) ∷ Given (first_bound 11_500) ∷ [])
@@ -48,7 +49,7 @@ stops_before_a_zone : asked_along zoned [] (go ∷ go ∷ answers.Number 1 ∷ g
 unfolding asked_along
 stops_before_a_zone = refl
 
--- a division by zero; the ERROR part mends the divisor and does the statement again
+-- a division by zero; the ERROR part corrects the divisor and retries the statement
 abbrev pub retrying : TypedTree
 retrying = task_of (num_row 0 ∷ num_row 0 ∷ []) (with_handler (proc (
     assigns (module_num 0) (between (num 1) operators.Div (the_num 1)) ∷ says_num (codes "x=") (the_num 0) ∷ []))
@@ -59,7 +60,7 @@ does_it_again : asked_along retrying [] (go ∷ go ∷ go ∷ go ∷ go ∷ Ok �
 unfolding asked_along
 does_it_again = refl
 
--- a function that raises, in an assignment and in the condition of an IF; the ERROR part goes on behind each
+-- a function that raises, in an assignment and in the condition of an IF; the ERROR part skips each of them
 abbrev pub skipping : TypedTree
 skipping = task_of (num_row 5 ∷ []) (with_handler (proc (
     assigns (module_num 0) (between (num 1) operators.Add (Invoke 0 sorts.Num 1 NoArgs)) ∷ says_num (codes "x=") (the_num 0)
@@ -71,7 +72,7 @@ goes_on_behind : asked_along skipping [] (go ∷ go ∷ go ∷ go ∷ Ok ∷ go 
 unfolding asked_along
 goes_on_behind = refl
 
--- RAISE in an ERROR part, and a division by zero in its place
+-- RAISE in an ERROR part, and a division by zero instead
 abbrev pub raising_again : TypedTree
 raising_again = task_of [] (proc (calls 1 [] ∷ []) ∷ with_handler (proc (raises 7 ∷ [])) (Raise 0 None ∷ []) ∷ [])
 
@@ -104,7 +105,7 @@ runs_traps_at_looks : asked_along interrupted [] (go ∷ answers.Number 1 ∷ go
 unfolding asked_along
 runs_traps_at_looks = refl
 
--- the same with interrupts held back until the input has come
+-- the same with interrupts disabled until the input is 1
 abbrev pub disabled : TypedTree
 disabled = task_of (mark_row sorts.IntNum ∷ num_row 0 ∷ []) (proc (
     Connect 0 (module_place 0 sorts.IntNum) 1 ∷ does instructions.IDisable [] ∷ does instructions.WaitDI (OfSignal 0 ∷ Given (num 1) ∷ [])
@@ -117,7 +118,7 @@ holds_traps_back : asked_along disabled [] (go ∷ answers.Number 1 ∷ go ∷ O
 unfolding asked_along
 holds_traps_back = refl
 
--- two meetings of three tasks, whose names an array of constants has; the first time the others are not there
+-- two meetings of three tasks named by a constant array; the first time, the others have not arrived
 abbrev pub meeting : TypedTree
 meeting = record (task_of (datum_row sorts.Tasks (Some 3) (datums.Plain (values.Text (codes "A")) ∷ datums.Plain (values.Text (codes "B")) ∷ datums.Plain (values.Text (codes "C")) ∷ []) ∷ [])
     (proc (
@@ -130,7 +131,7 @@ meets_twice : asked_along meeting [] (go ∷ answers.Apart ∷ Ok ∷ Ok ∷ Go 
 unfolding asked_along
 meets_twice = refl
 
--- a loop without an end asks one Look a turn
+-- an endless loop asks one Look an iteration
 abbrev pub looping : TypedTree
 looping = task_of [] (proc (While 0 (bool true) NoStmts ∷ []) ∷ [])
 
@@ -175,7 +176,7 @@ counts_on : asked_along counting [] (go ∷ answers.Val (values.Num (neg_ℤ (po
 unfolding asked_along
 counts_on = refl
 
--- a FOR downward, whose turns call a procedure by reference and by value
+-- a FOR that counts down and calls a procedure, by reference and by value
 abbrev pub adding : TypedTree
 adding = task_of (num_row 1 ∷ []) (
     record (proc (For 0 0 (num 3) (num 1) None (stmts_of (calls 1 (Lent (module_num 0) ∷ Given (stored (whole_of (roots.Local 0) sorts.Num)) ∷ []) ∷ []))
@@ -197,7 +198,7 @@ waits_until_it_comes : asked_along waiting [] (go ∷ answers.Bit false ∷ Ok �
 unfolding asked_along
 waits_until_it_comes = refl
 
--- a procedure that raises until it was called three times; the caller tries again for this error alone
+-- a procedure that raises until its third call; the caller retries only for this error
 abbrev pub trying : TypedTree
 trying = task_of (num_row 0 ∷ []) (with_handler (proc (calls 1 [] ∷ says_num (codes "n=") (the_num 0) ∷ []))
     (IfOne 0 (between (ErrorNumber 0 sorts.Num) operators.Equal (num 5)) (Retry 0) ∷ TryNext 0 ∷ [])
@@ -241,7 +242,7 @@ moves_without_the_input : asked_along moving_in_trap [] (go ∷ answers.Number 1
 unfolding asked_along
 moves_without_the_input = refl
 
--- CONNECT of an interrupt that is connected, and ISleep of one that is not
+-- CONNECT of a connected interrupt, and ISleep of one that is not connected
 abbrev pub connecting_twice : TypedTree
 connecting_twice = task_of (mark_row sorts.IntNum ∷ []) (proc (
     Connect 0 (module_place 0 sorts.IntNum) 1 ∷ Connect 0 (module_place 0 sorts.IntNum) 1 ∷ []) ∷ trap [] ∷ [])

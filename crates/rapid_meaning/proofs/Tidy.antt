@@ -1,8 +1,9 @@
--- What every doing of a task keeps: its frames have room, a Hold carries the count that a Look of its own routine found, and the task
--- looks after it rose.
+-- What every doing of a task keeps: its frames keep to their limits, it ends with as many frames as it began with, a
+-- Hold carries the count that a Look of its own routine found, and the task looks after Rise.
 use Rattle.std.proofs.Common.{◌≡◌, refl, ℕ, zero, suc, ◌+◌, ◌/◌, ◌%◌, ◌==◌, Bool, true, false, not, ℤ, pos, negsuc, int_lt, List, [], ◌∷◌, Option, None, Some, Result, Ok, Err, if◌then◌else◌, slice_get, position}
 use Rattle.std.specs.Prelude.{⊤, ◌&&◌, nat_le, nat_lt, ◌^◌, bytes_eq, codes}
 use Rattle.std.specs.Ordering.{int_eq}
+use Rattle.rapid_limits.specs.declared.TheConstants.{MOST_TASKS}
 use Rattle.rapid_num.specs.Arithmetic.{difference_of, sum_of}
 use Rattle.rapid_num.specs.Reach.{is_reachable}
 use Rattle.rapid_num.specs.declared.joints.Joints.{Joints}
@@ -29,9 +30,9 @@ use Rattle.rapid_model.specs.declared.operator.Operator.{Operator}
 use Rattle.rapid_model.specs.declared.operator.Operator.TheVariants as operators
 use Rattle.rapid_model.specs.declared.routine_kind.RoutineKind.{RoutineKind}
 use Rattle.rapid_model.specs.declared.routine_kind.RoutineKind.TheVariants as kinds
-use Rattle.rapid_operators.specs.Operators.{apply}
-use Rattle.rapid_operators.specs.declared.applied.Applied.{Applied}
-use Rattle.rapid_operators.specs.declared.applied.Applied.TheVariants as applies
+use Rattle.rapid_values.specs.Operators.{apply}
+use Rattle.rapid_values.specs.declared.applied.Applied.{Applied}
+use Rattle.rapid_values.specs.declared.applied.Applied.TheVariants as applies
 use Rattle.typed_trees.specs.Plain as trees
 use Rattle.typed_trees.specs.Plain.{TypedArg, TypedArgs, TypedArms, TypedCases, TypedElse, TypedExpr, TypedExprs, TypedPlace, TypedRoutine, TypedSteps, TypedStmt, TypedStmts, TypedTree, NoExprs, MoreExprs, NoSteps, MoreSteps, NotHeld, Held, PlaceOf, Given, Lent, OfSignal, OfMeeting, Itself, Optional, Argument, NoArgs, MoreArgs, NoStmts, MoreStmts, NoArms, MoreArms, NoCases, MoreCases, NoElse, Else}
 use Rattle.typed_trees.specs.declared.datum.Datum.{Datum}
@@ -41,23 +42,23 @@ use Rattle.typed_trees.specs.declared.datum.Root.{Root}
 use Rattle.typed_trees.specs.declared.datum.Root.TheVariants as roots
 use Rattle.typed_trees.specs.declared.expr.TreeRoot.{TreeRoot}
 use Rattle.typed_trees.specs.declared.expr.TreeRoot.TheVariants as tree_roots
-use Rattle.rapid_meaning.specs.Calls.{called, part, result, within}
-use Rattle.rapid_meaning.specs.Data.{Data, Frame, datum_at, put_at, seen_in, with_seen}
+use Rattle.rapid_meaning.specs.Calls.{body, called, part, result, within}
+use Rattle.rapid_meaning.specs.Data.{Data, Frame, below_first, datum_at, put_at, seen_in, with_seen}
 use Rattle.rapid_meaning.specs.Doings.{Doing, Gives, Raises, Asks, Ends, Misfit, Reads, Writes, Does, ◌>>=◌, ◌>>◌, after, calls, change, done, fault, goes_to, or_misfit, tells, when_ok}
 use Rattle.rapid_meaning.specs.Errors.{failed, failed_in, header, parted, raised_again}
 use Rattle.rapid_meaning.specs.Expressions as expressions
 use Rattle.rapid_meaning.specs.Expressions.{returned}
 use Rattle.rapid_meaning.specs.Flows.{Flow, Normal, Jumps, Returns, Retries, Skips, Errors, Unguarded, Guarded, InPart, Where, Part, Attempt, Turn, Rest, Call}
 use Rattle.rapid_meaning.specs.Frames.{enters, frame_of, has_room, leaves}
-use Rattle.rapid_meaning.specs.Functions.{of_array, of_nothing, of_place, of_signal, of_value, of_values, read_signal, when_at, when_bit}
+use Rattle.rapid_meaning.specs.Functions.{absolute, read_signal, shown, text_length, truncated, when_at, when_bit}
 use Rattle.rapid_meaning.specs.Instructions as instructing
 use Rattle.rapid_meaning.specs.Instructions.{instructed, needed, options}
 use Rattle.rapid_meaning.specs.Interrupts.{asks_of_number, connect, number_at, order, pers_at, when_connected, when_known, when_ordered}
 use Rattle.rapid_meaning.specs.Lists as lists
 use Rattle.rapid_meaning.specs.Lists.{behind, ended, items, jumped}
 use Rattle.rapid_meaning.specs.Looks.{hold, interrupted, left, look, looked}
-use Rattle.rapid_meaning.specs.Loops.{bounds, counted, counter, counter_place, counts_on, has_passed, set_counter, turn_due}
-use Rattle.rapid_meaning.specs.Meetings.{arrive, task_or_fault, task_set, tasks_in, when_arrived, with_task, with_tasks}
+use Rattle.rapid_meaning.specs.Loops.{bounds, counted, counter, counter_place, counts_on, has_passed, set_counter, step_value, turn_due}
+use Rattle.rapid_meaning.specs.Meetings.{arrive, task_or_fault, tasks_in, when_arrived, with_task, with_tasks}
 use Rattle.rapid_meaning.specs.Moves.{cap_of, move, move_from, setpoints, still, when_given}
 use Rattle.rapid_meaning.specs.Places.{at_element, element_or_fault, indexed, load, load_from, part_at, put_in, read_value, rooted, set_unless, store, store_at, test_and_set, test_at, when_read, when_tested, write_value, writes_at}
 use Rattle.rapid_meaning.specs.Signals.{has_value, when_written, write_signal}
@@ -86,20 +87,27 @@ abbrev pub AfterRise : {A : Type 0} → Request → Doing A → Type 0
 AfterRise requests.Rise m = LooksNext m
 AfterRise _ m = ⊤
 
-abbrev pub Tidy : {A : Type 0} → Doing A → Data → Type 0
-Tidy (Gives v) d = HasRoom d.frames
-Tidy (Raises n) d = HasRoom d.frames
-Tidy (Asks request answered) d = HasRoom d.frames × Fair request d × AfterRise request (answered answers.Ok) × ((a : Answer) → Tidy (answered a) d)
-Tidy (Ends fate) d = HasRoom d.frames
-Tidy Misfit d = ⊤
-Tidy (Reads with_data) d = Tidy (with_data d) d
-Tidy (Writes e more) d = Tidy more e
-Tidy (Does p ended raised) d =
-    HasRoom d.frames × ((flow : Flow) (e : Data) → HasRoom e.frames → Tidy (ended flow) e) × ((n : ℕ) (e : Data) → HasRoom e.frames → Tidy (raised n) e)
+-- for any number of frames
+abbrev pub Roomy : Bool → List Frame → Type 0
+Roomy limited frames = (count : ℕ) × HasRoom limited count frames
 
--- from any data with room
+-- It ends with this many frames. A part of the program leaves as many as it found.
+abbrev pub Tidy : {A : Type 0} → Bool → ℕ → Doing A → Data → Type 0
+Tidy limited count (Gives v) d = HasRoom limited count d.frames
+Tidy limited count (Raises n) d = HasRoom limited count d.frames
+Tidy limited count (Asks request answered) d =
+    Roomy limited d.frames × Fair request d × AfterRise request (answered answers.Ok) × ((a : Answer) → Tidy limited count (answered a) d)
+Tidy limited count (Ends fate) d = Roomy limited d.frames
+Tidy limited count Misfit d = ⊤
+Tidy limited count (Reads with_data) d = Tidy limited count (with_data d) d
+Tidy limited count (Writes e more) d = Tidy limited count more e
+Tidy limited count (Does p ended raised) d =
+    (here : ℕ) × HasRoom limited here d.frames × ((flow : Flow) (e : Data) → HasRoom limited here e.frames → Tidy limited count (ended flow) e)
+    × ((n : ℕ) (e : Data) → HasRoom limited here e.frames → Tidy limited count (raised n) e)
+
+-- from any data, it ends with as many frames as it began with
 pub record IsTidy {A : Type 0} (m : Doing A) : Type 0 where
-  pub from : (d : Data) → HasRoom d.frames → Tidy m d
+  pub from : (limited : Bool) (count : ℕ) (d : Data) → HasRoom limited count d.frames → Tidy limited count m d
 
 -- ---- one doing after another
 
@@ -121,55 +129,64 @@ still_after_rise : {A B : Type 0} (request : Request) (m : Doing A) (f : A → D
 still_after_rise requests.Rise m f h l = still_looks m f h l
 still_after_rise _ m f h l = tt
 
-tidy_after : {A B : Type 0} (m : Doing A) (f : A → Doing B) (h : ℕ → Doing B) (d : Data) → Tidy m d → ((v : A) → IsTidy (f v)) → ((n : ℕ) → IsTidy (h n)) → Tidy (after m f h) d
+tidy_after : {A B : Type 0} (limited : Bool) (between count : ℕ) (m : Doing A) (f : A → Doing B) (h : ℕ → Doing B) (d : Data) → Tidy limited between m d
+    → ((v : A) (e : Data) → HasRoom limited between e.frames → Tidy limited count (f v) e) → ((n : ℕ) (e : Data) → HasRoom limited between e.frames → Tidy limited count (h n) e)
+    → Tidy limited count (after m f h) d
 unfolding after
-tidy_after (Gives v) f h d t tf th = (tf v).from d t
-tidy_after (Raises n) f h d t tf th = (th n).from d t
-tidy_after (Asks request k) f h d t tf th = (t.0, t.1, still_after_rise request (k answers.Ok) f h t.2, λ a. tidy_after (k a) f h d (t.3 a) tf th)
-tidy_after (Ends fate) f h d t tf th = t
-tidy_after Misfit f h d t tf th = tt
-tidy_after (Reads k) f h d t tf th = tidy_after (k d) f h d t tf th
-tidy_after (Writes e m) f h d t tf th = tidy_after m f h e t tf th
-tidy_after (Does p k g) f h d t tf th = (t.0, λ flow e room. tidy_after (k flow) f h e (t.1 flow e room) tf th, λ n e room. tidy_after (g n) f h e (t.2 n e room) tf th)
+tidy_after limited between count (Gives v) f h d t tf th = tf v d t
+tidy_after limited between count (Raises n) f h d t tf th = th n d t
+tidy_after limited between count (Asks request k) f h d t tf th =
+    (t.0, t.1, still_after_rise request (k answers.Ok) f h t.2, λ a. tidy_after limited between count (k a) f h d (t.3 a) tf th)
+tidy_after limited between count (Ends fate) f h d t tf th = t
+tidy_after limited between count Misfit f h d t tf th = tt
+tidy_after limited between count (Reads k) f h d t tf th = tidy_after limited between count (k d) f h d t tf th
+tidy_after limited between count (Writes e m) f h d t tf th = tidy_after limited between count m f h e t tf th
+tidy_after limited between count (Does p k g) f h d t tf th =
+    (t.0, t.1, λ flow e room. tidy_after limited between count (k flow) f h e (t.2 flow e room) tf th, λ n e room. tidy_after limited between count (g n) f h e (t.3 n e room) tf th)
 
 t_after : {A B : Type 0} {m : Doing A} {f : A → Doing B} {h : ℕ → Doing B} → IsTidy m → ((v : A) → IsTidy (f v)) → ((n : ℕ) → IsTidy (h n)) → IsTidy (after m f h)
-t_after {m = m} {f = f} {h = h} t tf th = record { from = λ d room. tidy_after m f h d (t.from d room) tf th }
+t_after {m = m} {f = f} {h = h} t tf th = record {
+  from = λ limited count d room.
+      tidy_after limited count count m f h d (t.from limited count d room) (λ v e later. (tf v).from limited count e later) (λ n e later. (th n).from limited count e later);
+}
 
 t_gives : {A : Type 0} {v : A} → IsTidy (Gives v)
-t_gives = record { from = λ d room. room }
+t_gives = record { from = λ limited count d room. room }
 
 t_raises : {A : Type 0} {n : ℕ} → IsTidy {A = A} (Raises n)
-t_raises = record { from = λ d room. room }
+t_raises = record { from = λ limited count d room. room }
 
 t_ends : {A : Type 0} {fate : Fate} → IsTidy {A = A} (Ends fate)
-t_ends = record { from = λ d room. room }
+t_ends = record { from = λ limited count d room. (count, room) }
 
 t_fault : {A : Type 0} {f : Fault} → IsTidy {A = A} (fault f)
-t_fault = record { from = λ d room. room }
+t_fault = record { from = λ limited count d room. (count, room) }
 
 t_misfit : {A : Type 0} → IsTidy {A = A} Misfit
-t_misfit = record { from = λ d room. tt }
+t_misfit = record { from = λ limited count d room. tt }
 
-t_then : {A B : Type 0} {m : Doing A} {f : A → Doing B} → IsTidy m → ((v : A) → IsTidy (f v)) → IsTidy (m >>= f)
+pub t_then : {A B : Type 0} {m : Doing A} {f : A → Doing B} → IsTidy m → ((v : A) → IsTidy (f v)) → IsTidy (m >>= f)
 t_then t tf = t_after t tf (λ n. t_raises)
 
 t_next : {A B : Type 0} {m : Doing A} {k : Doing B} → IsTidy m → IsTidy k → IsTidy (m >> k)
 t_next t tk = t_after t (λ _. tk) (λ n. t_raises)
 
 t_reads : {A : Type 0} {k : Data → Doing A} → ((d : Data) → IsTidy (k d)) → IsTidy (Reads k)
-t_reads t = record { from = λ d room. (t d).from d room }
+t_reads t = record { from = λ limited count d room. (t d).from limited count d room }
 
-t_change : (to : Data → Data) → ((d : Data) → HasRoom d.frames → HasRoom (to d).frames) → IsTidy (change to)
-t_change to keeps = record { from = λ d room. keeps d room }
+t_change : (to : Data → Data) → ((limited : Bool) (count : ℕ) (d : Data) → HasRoom limited count d.frames → HasRoom limited count (to d).frames) → IsTidy (change to)
+t_change to keeps = record { from = λ limited count d room. keeps limited count d room }
 
 t_does : {A : Type 0} {p : Part} {k : Flow → Doing A} {h : ℕ → Doing A} → ((flow : Flow) → IsTidy (k flow)) → ((n : ℕ) → IsTidy (h n)) → IsTidy (Does p k h)
-t_does tk th = record { from = λ d room. (room, λ flow e later. (tk flow).from e later, λ n e later. (th n).from e later) }
+t_does tk th = record {
+  from = λ limited count d room. (count, room, λ flow e later. (tk flow).from limited count e later, λ n e later. (th n).from limited count e later);
+}
 
 t_goes : {p : Part} → IsTidy (goes_to p)
 t_goes = t_does (λ flow. t_gives) (λ n. t_raises)
 
 t_asks : {A : Type 0} {request : Request} {k : Answer → Doing A} → ((d : Data) → Fair request d) → AfterRise request (k answers.Ok) → ((a : Answer) → IsTidy (k a)) → IsTidy (Asks request k)
-t_asks fair rises t = record { from = λ d room. (room, fair d, rises, λ a. (t a).from d room) }
+t_asks fair rises t = record { from = λ limited count d room. ((count, room), fair d, rises, λ a. (t a).from limited count d room) }
 
 t_if : {A : Type 0} {m k : Doing A} (b : Bool) → IsTidy m → IsTidy k → IsTidy (if b then m else k)
 t_if true t u = t
@@ -256,7 +273,7 @@ t_with_sign minus _ = t_misfit
 
 t_rooted : (tree : TypedTree) (routine : TypedRoutine) (root : TreeRoot) → IsTidy (rooted tree routine root)
 t_rooted tree routine (tree_roots.Slot row) = t_gives
-t_rooted tree routine (tree_roots.Local row) = t_reads (λ d. t_or _)
+t_rooted tree routine (tree_roots.Local row) = t_reads (λ d. t_gives)
 t_rooted tree routine (tree_roots.Ref row) = t_reads (λ d. t_or _)
 t_rooted tree routine (tree_roots.Pers row) = t_or _
 
@@ -289,19 +306,19 @@ t_load p = t_load_from p.root p.part
 t_read_value : (p : Lvalue) → IsTidy (read_value p)
 t_read_value p = t_then (t_load p) t_value_in
 
-tidy_writes : (root : Root) (d : Data) (new : Option Datum) → HasRoom d.frames → Tidy (writes_at root d new) d
-tidy_writes root d None room = tt
-tidy_writes root d (Some x) room = put_room root x d room
+tidy_writes : (limited : Bool) (count : ℕ) (root : Root) (d : Data) (new : Option Datum) → HasRoom limited count d.frames → Tidy limited count (writes_at root d new) d
+tidy_writes limited count root d None room = tt
+tidy_writes limited count root d (Some x) room = put_room root x d room
 
 t_store_at : (root : Root) (part : PartName) (new : Datum) → IsTidy (store_at root part new)
 t_store_at (roots.Pers pers index) part new = t_then (t_value_in new) (λ v. t_tells (λ d. tt) tt)
-t_store_at (roots.Slot slot) part new = record { from = λ d room. tidy_writes (roots.Slot slot) d _ room }
-t_store_at (roots.Frame frame at) part new = record { from = λ d room. tidy_writes (roots.Frame frame at) d _ room }
+t_store_at (roots.Slot slot) part new = record { from = λ limited count d room. tidy_writes limited count (roots.Slot slot) d _ room }
+t_store_at (roots.Frame frame at) part new = record { from = λ limited count d room. tidy_writes limited count (roots.Frame frame at) d _ room }
 
 t_store : (p : Lvalue) (new : Datum) → IsTidy (store p new)
 t_store p new = t_store_at p.root p.part new
 
-t_write_value : (p : Lvalue) (v : Value) → IsTidy (write_value p v)
+pub t_write_value : (p : Lvalue) (v : Value) → IsTidy (write_value p v)
 t_write_value p v = t_store p (datums.Plain v)
 
 t_when_tested : (a : Answer) → IsTidy (when_tested a)
@@ -322,15 +339,17 @@ t_test_and_set p = t_test_at p.root p
 
 -- ---- functions
 
-t_of_value : (function : Function) (v : Value) → IsTidy (of_value function v)
-t_of_value functions.Abs v = t_then (t_num_in v) (λ n. t_gives)
-t_of_value functions.Trunc v = t_then (t_num_in v) (λ n. t_gives)
-t_of_value functions.StrLen v = t_then (t_text_in v) (λ text. t_gives)
-t_of_value _ v = t_misfit
+t_absolute : (v : Value) → IsTidy (absolute v)
+t_absolute v = t_then (t_num_in v) (λ n. t_gives)
 
-t_of_values : (function : Function) (v w : Value) → IsTidy (of_values function v w)
-t_of_values functions.NumToStr v w = t_then (t_num_in v) (λ n. t_then (t_num_in w) (λ count. t_gives))
-t_of_values _ v w = t_misfit
+t_truncated : (v : Value) → IsTidy (truncated v)
+t_truncated v = t_then (t_num_in v) (λ n. t_gives)
+
+t_text_length : (v : Value) → IsTidy (text_length v)
+t_text_length v = t_then (t_text_in v) (λ text. t_gives)
+
+t_shown : (v w : Value) → IsTidy (shown v w)
+t_shown v w = t_then (t_num_in v) (λ n. t_then (t_num_in w) (λ count. t_gives))
 
 t_when_bit : (a : Answer) → IsTidy (when_bit a)
 t_when_bit (answers.Bit bit) = t_gives
@@ -339,27 +358,9 @@ t_when_bit _ = t_misfit
 t_read_signal : (signal : ℕ) → IsTidy (read_signal signal)
 t_read_signal signal = t_asks (λ d. tt) tt t_when_bit
 
-t_of_signal : (function : Function) (signal : ℕ) → IsTidy (of_signal function signal)
-t_of_signal functions.TestDI signal = t_then (t_read_signal signal) (λ bit. t_gives)
-t_of_signal functions.DOutput signal = t_then (t_read_signal signal) (λ bit. t_gives)
-t_of_signal _ signal = t_misfit
-
 t_when_at : (a : Answer) → IsTidy (when_at a)
 t_when_at (answers.At position) = t_gives
 t_when_at _ = t_misfit
-
-t_of_nothing : (function : Function) → IsTidy (of_nothing function)
-t_of_nothing functions.CJointT = t_asks (λ d. tt) tt t_when_at
-t_of_nothing _ = t_misfit
-
-t_of_place : (function : Function) (p : Lvalue) → IsTidy (of_place function p)
-t_of_place functions.TestAndSet p = t_then (t_test_and_set p) (λ met. t_gives)
-t_of_place _ p = t_misfit
-
-t_of_array : (function : Function) (len : Option ℕ) → IsTidy (of_array function len)
-t_of_array functions.Dim (Some len) = t_gives
-t_of_array functions.Dim None = t_misfit
-t_of_array _ len = t_misfit
 
 -- ---- expressions
 
@@ -401,17 +402,20 @@ mutual
   t_arguments tree routine (MoreArgs other more) = t_misfit
 
   t_builtin : (tree : TypedTree) (routine : TypedRoutine) (function : Function) (args : TypedArgs) → IsTidy (expressions.builtin tree routine function args)
-  t_builtin tree routine function NoArgs = t_of_nothing function
-  t_builtin tree routine function (MoreArgs (Given e) NoArgs) = t_then (t_expr tree routine e) (t_of_value function)
-  t_builtin tree routine function (MoreArgs (Given e) (MoreArgs (Given f) NoArgs)) = t_then (t_expr tree routine e) (λ v. t_then (t_expr tree routine f) (t_of_values function v))
-  t_builtin tree routine function (MoreArgs (OfSignal signal) NoArgs) = t_of_signal function signal
-  t_builtin tree routine function (MoreArgs (Lent p) NoArgs) = t_then (t_place tree routine p) (t_of_place function)
-  t_builtin tree routine function (MoreArgs (Lent p) (MoreArgs one NoArgs)) = t_of_array function _
-  t_builtin tree routine function other = t_misfit
+  t_builtin tree routine functions.Abs (MoreArgs (Given e) NoArgs) = t_then (t_expr tree routine e) t_absolute
+  t_builtin tree routine functions.Trunc (MoreArgs (Given e) NoArgs) = t_then (t_expr tree routine e) t_truncated
+  t_builtin tree routine functions.StrLen (MoreArgs (Given e) NoArgs) = t_then (t_expr tree routine e) t_text_length
+  t_builtin tree routine functions.NumToStr (MoreArgs (Given e) (MoreArgs (Given f) NoArgs)) = t_then (t_expr tree routine e) (λ v. t_then (t_expr tree routine f) (t_shown v))
+  t_builtin tree routine functions.Dim (MoreArgs (Lent p) (MoreArgs one NoArgs)) = t_or _
+  t_builtin tree routine functions.CJointT NoArgs = t_asks (λ d. tt) tt t_when_at
+  t_builtin tree routine functions.TestDI (MoreArgs (OfSignal signal) NoArgs) = t_then (t_read_signal signal) (λ bit. t_gives)
+  t_builtin tree routine functions.DOutput (MoreArgs (OfSignal signal) NoArgs) = t_then (t_read_signal signal) (λ bit. t_gives)
+  t_builtin tree routine functions.TestAndSet (MoreArgs (Lent p) NoArgs) = t_then (t_place tree routine p) (λ q. t_then (t_test_and_set q) (λ met. t_gives))
+  t_builtin tree routine function args = t_misfit
 
 -- ---- instructions
 
-t_num : (tree : TypedTree) (routine : TypedRoutine) (e : TypedExpr) → IsTidy (instructing.num tree routine e)
+pub t_num : (tree : TypedTree) (routine : TypedRoutine) (e : TypedExpr) → IsTidy (instructing.num tree routine e)
 t_num tree routine e = t_then (t_expr tree routine e) t_num_in
 
 t_truth : (tree : TypedTree) (routine : TypedRoutine) (e : TypedExpr) → IsTidy (instructing.truth tree routine e)
@@ -448,14 +452,14 @@ t_has_value signal value = t_then (t_read_signal signal) (λ bit. t_gives)
 
 t_task_or_fault : (task : Option ℕ) → IsTidy (task_or_fault task)
 t_task_or_fault None = t_fault
-t_task_or_fault (Some task) = t_gives
+t_task_or_fault (Some task) = t_if (nat_lt task MOST_TASKS) t_gives t_misfit
 
 t_with_tasks : (names : List (List ℕ)) (list : Lvalue) (count number set : ℕ) → IsTidy (with_tasks names list count number set)
 unfolding with_tasks
 t_with_tasks names list zero number set = t_gives
 t_with_tasks names list (suc count) number set =
-    t_then (t_at_element list number) (λ p. t_then (t_read_value p) (λ v. t_then (t_text_in v) (λ name. t_then (t_task_or_fault _)
-    (λ task. t_then (t_if (nat_lt (with_task task set) (2 ^ 16)) t_gives t_misfit) (λ more. t_with_tasks names list count (number + 1) more)))))
+    t_then (t_at_element list number) (λ p. t_then (t_read_value p) (λ v. t_then (t_text_in v) (λ name. t_then (t_task_or_fault (position (bytes_eq name) names))
+    (λ task. t_with_tasks names list count (number + 1) (with_task task set)))))
 
 t_tasks_in : (names : List (List ℕ)) (list : Lvalue) (len : Option ℕ) → IsTidy (tasks_in names list len)
 t_tasks_in names list None = t_misfit
@@ -608,7 +612,7 @@ t_instructed tree routine instruction args options = t_misfit
 -- ---- loops
 
 t_counter_place : (routine : TypedRoutine) (local which : ℕ) → IsTidy (counter_place routine local which)
-t_counter_place routine local which = t_reads (λ d. t_or _)
+t_counter_place routine local which = t_reads (λ d. t_gives)
 
 t_counter : (routine : TypedRoutine) (local which : ℕ) → IsTidy (counter routine local which)
 t_counter routine local which = t_then (t_counter_place routine local which) (λ p. t_then (t_read_value p) t_num_in)
@@ -616,56 +620,56 @@ t_counter routine local which = t_then (t_counter_place routine local which) (λ
 t_set_counter : (routine : TypedRoutine) (local which : ℕ) (n : ℤ) → IsTidy (set_counter routine local which n)
 t_set_counter routine local which n = t_then (t_counter_place routine local which) (λ p. t_write_value p (values.Num n))
 
-t_bounds : (tree : TypedTree) (routine : TypedRoutine) (local : ℕ) (first last : TypedExpr) (step : Option TypedExpr) → IsTidy (bounds tree routine local first last step)
-t_bounds tree routine local first last (Some step) =
-    t_then (t_counter_place routine local 0) (λ variable. t_then (t_num tree routine first) (λ from. t_then (t_counter_place routine local 1) (λ limit. t_then (t_num tree routine last)
-    (λ to. t_then (t_counter_place routine local 2) (λ increment. t_then (t_num tree routine step) (λ by. t_next (t_write_value increment (values.Num by))
-    (t_next (t_write_value limit (values.Num to)) (t_write_value variable (values.Num from)))))))))
-t_bounds tree routine local first last None =
-    t_then (t_counter_place routine local 0) (λ variable. t_then (t_num tree routine first) (λ from. t_then (t_counter_place routine local 1) (λ limit. t_then (t_num tree routine last)
-    (λ to. t_next (t_write_value limit (values.Num to)) (t_next (t_write_value variable (values.Num from)) (t_then (t_counter_place routine local 2)
-    (λ increment. t_then (t_counter routine local 0) (λ begins. t_then (t_counter routine local 1) (λ ends. t_write_value increment _)))))))))
+pub t_step_value : (tree : TypedTree) (routine : TypedRoutine) (first last : ℤ) (step : Option TypedExpr) → IsTidy (step_value tree routine first last step)
+t_step_value tree routine first last None = t_gives
+t_step_value tree routine first last (Some step) = t_num tree routine step
 
-t_turn_due : (w : Where) (s : TypedStmt) (local : ℕ) → IsTidy (turn_due w s local)
+t_bounds : (tree : TypedTree) (routine : TypedRoutine) (local : ℕ) (first last : TypedExpr) (step : Option TypedExpr) → IsTidy (bounds tree routine local first last step)
+t_bounds tree routine local first last step =
+    t_then (t_num tree routine first) (λ from. t_then (t_num tree routine last) (λ to. t_then (t_step_value tree routine from to step)
+    (λ by. t_next (t_set_counter routine local 0 from) (t_next (t_set_counter routine local 1 to) (t_set_counter routine local 2 by)))))
+
+t_turn_due : (w : Where) (s : TypedStmt) (local : ℕ) → IsTidy (turn_due w.routine local (Turn w s))
 t_turn_due w s local =
     t_then (t_counter w.routine local 0) (λ variable. t_then (t_counter w.routine local 1) (λ last. t_then (t_counter w.routine local 2) (λ step. t_if (has_passed variable last step) t_gives t_goes)))
 
-t_counted : (w : Where) (s : TypedStmt) (local : ℕ) (n : Option ℤ) → IsTidy (counted w s local n)
+t_counted : (w : Where) (s : TypedStmt) (local : ℕ) (n : Option ℤ) → IsTidy (counted w.routine local (Turn w s) n)
 t_counted w s local None = t_gives
 t_counted w s local (Some n) = t_next (t_set_counter w.routine local 0 n) (t_turn_due w s local)
 
-t_counts_on : (w : Where) (s : TypedStmt) (local : ℕ) → IsTidy (counts_on w s local)
+t_counts_on : (w : Where) (s : TypedStmt) (local : ℕ) → IsTidy (counts_on w.routine local (Turn w s))
 t_counts_on w s local = t_then (t_counter w.routine local 0) (λ variable. t_then (t_counter w.routine local 2) (λ step. t_counted w s local _))
 
 -- ---- looks and waits
 
 t_left : (again : Part) → IsTidy (left again)
-t_left again = t_next (t_tells (λ d. tt) tt) (t_next (t_change (λ d. record d { trapped = false }) (λ d room. room)) t_goes)
+t_left again = t_next (t_tells (λ d. tt) tt) (t_next (t_change (λ d. record d { trapped = false }) (λ limited count d room. room)) t_goes)
 
 t_interrupted : (again : Part) (trap : ℕ) → IsTidy (interrupted again trap)
-t_interrupted again trap = t_next (t_change (λ d. record d { trapped = true }) (λ d room. room)) (t_does (λ flow. t_left again) (λ n. t_fault))
+t_interrupted again trap = t_next (t_change (λ d. record d { trapped = true }) (λ limited count d room. room)) (t_does (λ flow. t_left again) (λ n. t_fault))
 
 t_looked : (again : Part) (go : Doing Flow) (a : Answer) → IsTidy go → IsTidy (looked again go a)
-t_looked again go (answers.Go seen) t = t_next (t_change (λ d. record d { frames = with_seen seen d.frames }) (λ d room. seen_room seen d.frames room)) t
+t_looked again go (answers.Go seen) t = t_next (t_change (λ d. record d { frames = with_seen seen d.frames }) (λ limited count d room. seen_room seen d.frames room)) t
 t_looked again go (answers.Trap number trap) t = t_interrupted again trap
 t_looked again go answers.Flood t = t_fault
 t_looked again go _ t = t_misfit
 
 t_look : (w : Where) (byte : ℕ) (again : Part) (go : Doing Flow) → IsTidy go → IsTidy (look w byte again go)
-t_look w byte again go t = t_next (t_change _ (λ d room. room)) (t_asks (λ d. tt) tt (λ a. t_looked again go a t))
+t_look w byte again go t = t_next (t_change _ (λ limited count d room. room)) (t_asks (λ d. tt) tt (λ a. t_looked again go a t))
 
 -- a wait holds, rises, and looks
 t_hold : (w : Where) (s : TypedStmt) → Looks s → IsTidy (hold (Attempt w s))
 unfolding after
-t_hold w s looks = record { from = λ d room. (room, refl, tt, λ a. held d room a) }
+t_hold w s looks = record { from = λ limited count d room. ((count, room), refl, tt, λ a. held limited count d room a) }
   where
-    risen : (d : Data) → HasRoom d.frames → (a : Answer) → Tidy (when_ok a >> goes_to (Attempt w s)) d
-    risen d room answers.Ok = (room, λ flow e later. later, λ n e later. later)
-    risen d room _ = tt
+    risen : (limited : Bool) (count : ℕ) (d : Data) → HasRoom limited count d.frames → (a : Answer) → Tidy limited count (when_ok a >> goes_to (Attempt w s)) d
+    risen limited count d room answers.Ok = (count, room, λ flow e later. later, λ n e later. later)
+    risen limited count d room _ = tt
 
-    held : (d : Data) → HasRoom d.frames → (a : Answer) → Tidy (when_ok a >> (tells requests.Rise >> goes_to (Attempt w s))) d
-    held d room answers.Ok = (room, tt, looks, λ a. risen d room a)
-    held d room _ = tt
+    held : (limited : Bool) (count : ℕ) (d : Data) → HasRoom limited count d.frames → (a : Answer)
+        → Tidy limited count (when_ok a >> (tells requests.Rise >> goes_to (Attempt w s))) d
+    held limited count d room answers.Ok = ((count, room), tt, looks, λ a. risen limited count d room a)
+    held limited count d room _ = tt
 
 -- ---- errors
 
@@ -678,7 +682,7 @@ t_parted w s error Skips = t_gives
 
 t_failed_in : (errors : Errors) (w : Where) (s : TypedStmt) (error : ℕ) → IsTidy (failed_in errors w s error)
 t_failed_in Unguarded w s error = t_raises
-t_failed_in (Guarded list) w s error = t_next (t_change (λ d. record d { errno = error }) (λ d room. room)) (t_does (t_parted w s error) (λ n. t_raises))
+t_failed_in (Guarded list) w s error = t_next (t_change (λ d. record d { errno = error }) (λ limited count d room. room)) (t_does (t_parted w s error) (λ n. t_raises))
 t_failed_in (InPart entered) w s error = t_raises
 
 t_header : {A : Type 0} {own : Doing A} {next : A → Doing Flow} (w : Where) (s : TypedStmt) → IsTidy own → ((v : A) → IsTidy (next v)) → IsTidy (header w s own next)
@@ -698,7 +702,7 @@ t_and_then : (next : Doing Flow) (flow : Flow) → IsTidy next → IsTidy (and_t
 t_and_then next Normal t = t
 t_and_then next _ t = t_gives
 
-t_done_or_held : (w : Where) (s : TypedStmt) (b : Bool) → Looks s → IsTidy (done_or_held w s b)
+t_done_or_held : (w : Where) (s : TypedStmt) (b : Bool) → Looks s → IsTidy (done_or_held (Attempt w s) b)
 t_done_or_held w s true looks = t_gives
 t_done_or_held w s false looks = t_hold w s looks
 
@@ -751,12 +755,12 @@ t_stmt : (tree : TypedTree) (w : Where) (s : TypedStmt) → IsTidy (stmt tree w 
 t_stmt tree w (trees.Label at label) = t_gives
 t_stmt tree w s = t_look w (byte_of s) (Attempt w s) (follows tree w s s) (t_follows tree w s s tt)
 
-t_turned : (w : Where) (s form : TypedStmt) → IsTidy (turned w s form)
-t_turned w s (trees.For at local first last step list) = t_then t_goes (λ flow. t_and_then (counts_on w s local) flow (t_counts_on w s local))
+t_turned : (w : Where) (s form : TypedStmt) → IsTidy (turned w (Turn w s) form)
+t_turned w s (trees.For at local first last step list) = t_then t_goes (λ flow. t_and_then (counts_on w.routine local (Turn w s)) flow (t_counts_on w s local))
 t_turned w s _ = t_misfit
 
 t_turn : (w : Where) (s : TypedStmt) → IsTidy (turn w s)
-t_turn w s = t_look w (byte_of s) (Turn w s) (turned w s s) (t_turned w s s)
+t_turn w s = t_look w (byte_of s) (Turn w s) (turned w (Turn w s) s) (t_turned w s s)
 
 -- ---- lists and routines
 
@@ -775,35 +779,43 @@ t_ended w list _ = t_gives
 t_rest : (tree : TypedTree) (w : Where) (list more : TypedStmts) → IsTidy (lists.rest tree w list more)
 t_rest tree w list more = t_then (t_items tree w more) (t_ended w list)
 
-t_enters : (frame : Frame) → IsTidy (enters frame)
-t_enters frame = record { from = λ d room. by d room (has_room d.frames frame) refl }
-  where
-    by : (d : Data) → HasRoom d.frames → (b : Bool) → has_room d.frames frame ≡ b
-        → Tidy (if b then Writes (record d { frames = frame ∷ d.frames }) done else fault DepthLimit) d
-    by d room true is = entered_room d.frames frame is
-    by d room false is = room
+-- a routine's frame is there until it is left
 
-t_leaves : IsTidy leaves
-t_leaves = t_change _ (λ d room. left_room d.frames room)
+left_then : {A : Type 0} (limited : Bool) (count : ℕ) (m : Doing A) (d : Data) → IsTidy m → HasRoom limited (suc count) d.frames → Tidy limited count (leaves >> m) d
+unfolding after
+left_then limited count m d t room = t.from limited count (record d { frames = below_first d.frames }) (left_room d.frames room)
 
-t_result : (kind : RoutineKind) (flow : Flow) → IsTidy (result kind flow)
-t_result kinds.Func (Returns (Some v)) = t_next t_leaves t_gives
-t_result kinds.Func (Returns None) = t_misfit
-t_result kinds.Func Normal = t_fault
-t_result kinds.Func (Jumps label) = t_misfit
-t_result kinds.Func Retries = t_misfit
-t_result kinds.Func Skips = t_misfit
-t_result kinds.Proc Normal = t_next t_leaves t_gives
-t_result kinds.Trap Normal = t_next t_leaves t_gives
-t_result kinds.Proc (Returns None) = t_next t_leaves t_gives
-t_result kinds.Trap (Returns None) = t_next t_leaves t_gives
-t_result kinds.Proc _ = t_misfit
-t_result kinds.Trap _ = t_misfit
+ended_with : (limited : Bool) (count : ℕ) (kind : RoutineKind) (flow : Flow) (d : Data) → HasRoom limited (suc count) d.frames → Tidy limited count (result kind flow) d
+ended_with limited count kinds.Func (Returns (Some v)) d room = left_then limited count (Gives (Returns (Some v))) d t_gives room
+ended_with limited count kinds.Func (Returns None) d room = tt
+ended_with limited count kinds.Func Normal d room = (suc count, room)
+ended_with limited count kinds.Func (Jumps label) d room = tt
+ended_with limited count kinds.Func Retries d room = tt
+ended_with limited count kinds.Func Skips d room = tt
+ended_with limited count kinds.Proc Normal d room = left_then limited count (Gives Normal) d t_gives room
+ended_with limited count kinds.Trap Normal d room = left_then limited count (Gives Normal) d t_gives room
+ended_with limited count kinds.Proc (Returns None) d room = left_then limited count (Gives Normal) d t_gives room
+ended_with limited count kinds.Trap (Returns None) d room = left_then limited count (Gives Normal) d t_gives room
+ended_with limited count kinds.Proc _ d room = tt
+ended_with limited count kinds.Trap _ d room = tt
+
+does_body : (limited : Bool) (count : ℕ) (tree : TypedTree) (routine : TypedRoutine) (d : Data) → HasRoom limited (suc count) d.frames
+    → Tidy limited count (after (body tree routine) (result routine.kind) (λ error. leaves >> Raises error)) d
+does_body limited count tree routine d room =
+    tidy_after limited (suc count) count (body tree routine) (result routine.kind) (λ error. leaves >> Raises error) d
+    ((t_rest tree (within routine) routine.list routine.list).from limited (suc count) d room)
+    (λ flow e later. ended_with limited count routine.kind flow e later) (λ n e later. left_then limited count (Raises n) e t_raises later)
 
 t_called : (tree : TypedTree) (args : List Datum) (routine : Option TypedRoutine) → IsTidy (called tree args routine)
+unfolding after
 t_called tree args None = t_misfit
-t_called tree args (Some routine) =
-    t_next (t_enters (frame_of routine args)) (t_after (t_rest tree (within routine) routine.list routine.list) (t_result routine.kind) (λ error. t_next t_leaves t_raises))
+t_called tree args (Some routine) = record { from = λ limited count d room. by limited count d room (has_room d.frames (frame_of routine args)) refl }
+  where
+    by : (limited : Bool) (count : ℕ) (d : Data) → HasRoom limited count d.frames → (b : Bool) → has_room d.frames (frame_of routine args) ≡ b
+        → Tidy limited count (after (if b then Writes (record d { frames = frame_of routine args ∷ d.frames }) done else fault DepthLimit)
+        (λ _. after (body tree routine) (result routine.kind) (λ error. leaves >> Raises error)) Raises) d
+    by limited count d room true is = does_body limited count tree routine (record d { frames = frame_of routine args ∷ d.frames }) (entered_room d.frames (frame_of routine args) room is)
+    by limited count d room false is = (count, room)
 
 pub t_part : (tree : TypedTree) (p : Part) → IsTidy (part tree p)
 t_part tree (Attempt w s) = t_stmt tree w s

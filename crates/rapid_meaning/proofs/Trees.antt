@@ -1,4 +1,4 @@
--- Trees of small tasks, for the examples. Signals are numbered: 0 is an input, 1 and 2 are outputs.
+-- Trees of small tasks, for the examples. Signal 0 is an input, signals 1 and 2 are outputs.
 use Rattle.std.proofs.Common.{ℕ, ◌*◌, Bool, true, false, pos, List, [], ◌∷◌, Option, None, Some}
 use Rattle.std.specs.Prelude.{codes, map, replicate}
 use Rattle.rapid_model.specs.declared.instruction.Instruction.{Instruction}
@@ -51,7 +51,7 @@ abbrev pub target : List Value → TypedExpr
 target axes = Aggregate 0 sorts.JointTarget (exprs_of
     (Aggregate 0 sorts.RobJoint (exprs_of (map literal axes)) ∷ Aggregate 0 sorts.ExtJoint (exprs_of (replicate 6 (literal absent))) ∷ []))
 
--- the first axis at so many thousandths of a degree; the others at 0, or without a bound
+-- the first axis at this many thousandths of a degree; the others at 0, or without a bound
 abbrev pub first_at : ℕ → TypedExpr
 first_at angle = target (thousandths angle ∷ replicate 5 (number 0))
 

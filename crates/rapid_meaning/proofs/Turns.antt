@@ -1,4 +1,4 @@
--- A FOR turns as often as its closed form says.
+-- A FOR iterates as often as its closed form says.
 use Rattle.std.proofs.Common.{◌≡◌, ◌⊎◌, inl, inr, refl, sym, ap, ◌∙◌, subst, ℕ, zero, suc, ◌+◌, ◌-◌, ◌/◌, ◌<◌, ◌≤◌, ◌==◌, Bool, true, false, ℤ, pos, negsuc, neg_ℤ, ◌+ℤ◌, ◌-ℤ◌, ◌≤ℤ◌, int_lt, nat_abs, List, [], ◌∷◌, ◌++◌, length, Option, Some, None, slice_get, slice_set, if◌then◌else◌, arith, append_assoc}
 use Rattle.std.specs.Prelude.{⊤, IsTrue}
 use Rattle.std.specs.Int.Signed.{◌<ℤ◌}
@@ -24,7 +24,7 @@ use Rattle.typed_trees.specs.declared.datum.Root.{Root}
 use Rattle.typed_trees.specs.declared.datum.Root.TheVariants as roots
 use Rattle.rapid_meaning.specs.Answering.{Outcome, Asking, Ended, Gave, Misfits, NoFuel, Raised, Run, Unfit, fitting_of, joined, performed}
 use Rattle.rapid_meaning.specs.Data.{Data, Frame, datum_at, frame_at, put_at, put_in_frame, with_datum, with_frame, with_seen}
-use Rattle.rapid_meaning.specs.Doings.{Doing, Gives, Raises, after, goes_to}
+use Rattle.rapid_meaning.specs.Doings.{Doing, Gives, Raises, Reads, ◌>>=◌, after, goes_to}
 use Rattle.rapid_meaning.specs.Flows.{Flow, Normal, Part, Rest, Turn, Where}
 use Rattle.rapid_meaning.specs.Layouts.{local_start}
 use Rattle.rapid_meaning.specs.Looks.{place_of}
@@ -35,23 +35,23 @@ use Rattle.rapid_meaning.specs.Statements.{and_then, turned}
 use Rattle.rapid_meaning.specs.Turns.{Counts, Ends, EndsNormally, steps_past, turn_by_turn, turns}
 use Rattle.rapid_meaning.specs.Values.{num_in}
 use Rattle.rapid_meaning.proofs.Composing.{Comes, comes_after, performed_after}
-use Rattle.rapid_meaning.proofs.ConstantsAgree.{or_misfit_comes, read_comes}
+use Rattle.rapid_meaning.proofs.ConstantsAgree.{read_comes}
 
 -- ---- the three data of a FOR
 
-set_here : {A : Type 0} (xs : List A) (k : ℕ) (v x : A) → slice_get xs k ≡ Some x → slice_get (slice_set xs k v) k ≡ Some v
+pub set_here : {A : Type 0} (xs : List A) (k : ℕ) (v x : A) → slice_get xs k ≡ Some x → slice_get (slice_set xs k v) k ≡ Some v
 set_here [] k v x e = absurd cc
 set_here (y ∷ xs) zero v x e = refl
 set_here (y ∷ xs) (suc k) v x e = set_here xs k v x e
 
-set_there : {A : Type 0} (xs : List A) (k j : ℕ) (v : A) → (k ≡ j → ⊥) → slice_get (slice_set xs k v) j ≡ slice_get xs j
+pub set_there : {A : Type 0} (xs : List A) (k j : ℕ) (v : A) → (k ≡ j → ⊥) → slice_get (slice_set xs k v) j ≡ slice_get xs j
 set_there [] k j v other = refl
 set_there (y ∷ xs) zero zero v other = absurd (other refl)
 set_there (y ∷ xs) zero (suc j) v other = refl
 set_there (y ∷ xs) (suc k) zero v other = refl
 set_there (y ∷ xs) (suc k) (suc j) v other = set_there xs k j v (λ e. other (ap suc e))
 
-frame_found : (frame : Frame) (below : List Frame) → frame_at (frame ∷ below) (length below) ≡ Some frame
+pub frame_found : (frame : Frame) (below : List Frame) → frame_at (frame ∷ below) (length below) ≡ Some frame
 unfolding frame_at
 frame_found frame below = ap (λ (b : Bool). if b then Some frame else frame_at below (length below)) (eq-eqb (length below) (length below) refl)
 
@@ -62,36 +62,35 @@ own_num d frame below at n is there =
     ap (λ (fs : List Frame). option_and_then (λ (f : Frame). slice_get f.values at) (frame_at fs (length below))) is
     ∙ ap (option_and_then (λ (f : Frame). slice_get f.values at)) (frame_found frame below) ∙ there
 
-own_there : (d : Data) (frame : Frame) (below : List Frame) (at : ℕ) → d.frames ≡ frame ∷ below → own_place at d.frames ≡ Some (at_root (roots.Frame (length below) at))
-own_there d frame below at is = ap (own_place at) is
-
-place_comes : (routine : TypedRoutine) (local which : ℕ) (d : Data) (frame : Frame) (below : List Frame) → d.frames ≡ frame ∷ below
-    → Comes (counter_place routine local which) d (at_root (roots.Frame (length below) (local_start routine local + which)))
+own_comes : (at : ℕ) (d : Data) (frame : Frame) (below : List Frame) → d.frames ≡ frame ∷ below
+    → Comes (Reads (λ e. Gives (own_place at e.frames))) d (at_root (roots.Frame (length below) at))
 unfolding performed
-place_comes routine local which d frame below is = λ by run left.
-    or_misfit_comes d (own_place (local_start routine local + which) d.frames) (at_root (roots.Frame (length below) (local_start routine local + which)))
-    (own_there d frame below (local_start routine local + which) is) by run left
+own_comes at d frame below is = λ by run left. ap (λ (fs : List Frame). Gave (own_place at fs) d left) is
 
-counter_comes : (routine : TypedRoutine) (local which : ℕ) (d : Data) (frame : Frame) (below : List Frame) (n : ℤ) → d.frames ≡ frame ∷ below
-    → slice_get frame.values (local_start routine local + which) ≡ Some (datums.Plain (values.Num n)) → Comes (counter routine local which) d n
+-- a datum of the innermost frame that is a num
+pub own_read : (at : ℕ) (d : Data) (frame : Frame) (below : List Frame) (n : ℤ) → d.frames ≡ frame ∷ below → slice_get frame.values at ≡ Some (datums.Plain (values.Num n))
+    → Comes (Reads (λ e. Gives (own_place at e.frames)) >>= λ p. read_value p >>= num_in) d n
 unfolding performed
-counter_comes routine local which d frame below n is there =
-    let at : ℕ = local_start routine local + which in
+own_read at d frame below n is there =
     let root : Root = roots.Frame (length below) at in
-    comes_after (counter_place routine local which) (λ q. after (read_value q) (λ v. num_in v) Raises) Raises d (at_root root) n (place_comes routine local which d frame below is)
+    comes_after (Reads (λ e. Gives (own_place at e.frames))) (λ q. after (read_value q) (λ v. num_in v) Raises) Raises d (at_root root) n (own_comes at d frame below is)
     (comes_after (read_value (at_root root)) (λ v. num_in v) Raises d (values.Num n) n (read_comes d root parts.Whole (values.Num n) (values.Num n) (own_num d frame below at n is there) refl)
     (λ by run left. refl))
 
--- what follows something that comes
-then_performed : {A B : Type 0} (by : Bool → Fitting) (run : Run) (m : Doing A) (next : A → Doing B) (d : Data) (v : A) (left : List Answer) → Comes m d v
+counter_comes : (routine : TypedRoutine) (local which : ℕ) (d : Data) (frame : Frame) (below : List Frame) (n : ℤ) → d.frames ≡ frame ∷ below
+    → slice_get frame.values (local_start routine local + which) ≡ Some (datums.Plain (values.Num n)) → Comes (counter routine local which) d n
+counter_comes routine local which d frame below n is there = own_read (local_start routine local + which) d frame below n is there
+
+-- what follows a doing that gives a value
+pub then_performed : {A B : Type 0} (by : Bool → Fitting) (run : Run) (m : Doing A) (next : A → Doing B) (d : Data) (v : A) (left : List Answer) → Comes m d v
     → performed by run (after m next Raises) d left ≡ performed by run (next v) d left
 unfolding performed
 then_performed {A} by run m next d v left comes =
     performed_after by run m next Raises d left
     ∙ ap (λ (o : Outcome A). joined o (λ x e rest. performed by run (next x) e rest) (λ n e rest. performed by run (Raises n) e rest)) (comes by run left)
 
--- the data with another variable
-put_there : (frame : Frame) (below : List Frame) (at : ℕ) (new : Datum)
+-- the data with another value of the variable
+pub put_there : (frame : Frame) (below : List Frame) (at : ℕ) (new : Datum)
     → put_in_frame (frame ∷ below) (length below) at new (frame_at (frame ∷ below) (length below)) ≡ with_datum frame at new ∷ below
 unfolding with_frame
 put_there frame below at new =
@@ -108,7 +107,7 @@ unfolding performed
 variable_set by run routine local d frame below old n left is there =
     let at : ℕ = local_start routine local + 0 in
     let root : Root = roots.Frame (length below) at in
-    then_performed by run (counter_place routine local 0) (λ p. write_value p (values.Num n)) d (at_root root) left (place_comes routine local 0 d frame below is)
+    then_performed by run (counter_place routine local 0) (λ p. write_value p (values.Num n)) d (at_root root) left (own_comes at d frame below is)
     ∙ ap (λ (o : Option Datum). performed by run (writes_at root d (option_and_then (put_in parts.Whole (datums.Plain (values.Num n))) o)) d left) (own_num d frame below at old is there)
 
 counts_set : (routine : TypedRoutine) (local : ℕ) (d : Data) (old n last step : ℤ) (c : Counts routine local d old last step) → Counts routine local (with_variable routine local n c.below d) n last step
@@ -125,7 +124,7 @@ counts_set routine local d old n last step c =
       has_step = set_there c.frame.values at (local_start routine local + 2) (datums.Plain (values.Num n)) (λ e. absurd (omega (arith, e))) ∙ c.has_step;
     }
 
--- a Look that goes on leaves them
+-- a Look that is answered Go leaves them unchanged
 abbrev looked_at : Where → TypedStmt → ℕ → ℕ → Data → Data
 looked_at w s byte seen d = record d { place = place_of w byte; frames = with_seen seen d.frames }
 
@@ -155,7 +154,7 @@ unfolding performed
 goes_as by run p d left = joined_same (run p d left)
 
 due_as : (by : Bool → Fitting) (run : Run) (w : Where) (s : TypedStmt) (local : ℕ) (d : Data) (v last step : ℤ) (left : List Answer) → Counts w.routine local d v last step
-    → performed by run (turn_due w s local) d left ≡ performed by run (if has_passed v last step then Gives Normal else goes_to (Turn w s)) d left
+    → performed by run (turn_due w.routine local (Turn w s)) d left ≡ performed by run (if has_passed v last step then Gives Normal else goes_to (Turn w s)) d left
 due_as by run w s local d v last step left c =
     then_performed by run (counter w.routine local 0)
     (λ x. after (counter w.routine local 1) (λ y. after (counter w.routine local 2) (λ z. if has_passed x y z then Gives Normal else goes_to (Turn w s)) Raises) Raises) d v left
@@ -166,25 +165,25 @@ due_as by run w s local d v last step left c =
     (counter_comes w.routine local 2 d c.frame c.below step c.frames c.has_step)
 
 on_as : (by : Bool → Fitting) (run : Run) (w : Where) (s : TypedStmt) (local : ℕ) (d : Data) (v last step : ℤ) (left : List Answer) → Counts w.routine local d v last step
-    → performed by run (counts_on w s local) d left ≡ performed by run (counted w s local (sum_of v step)) d left
+    → performed by run (counts_on w.routine local (Turn w s)) d left ≡ performed by run (counted w.routine local (Turn w s) (sum_of v step)) d left
 on_as by run w s local d v last step left c =
-    then_performed by run (counter w.routine local 0) (λ x. after (counter w.routine local 2) (λ z. counted w s local (sum_of x z)) Raises) d v left
+    then_performed by run (counter w.routine local 0) (λ x. after (counter w.routine local 2) (λ z. counted w.routine local (Turn w s) (sum_of x z)) Raises) d v left
     (counter_comes w.routine local 0 d c.frame c.below v c.frames c.has_variable)
-    ∙ then_performed by run (counter w.routine local 2) (λ z. counted w s local (sum_of v z)) d step left (counter_comes w.routine local 2 d c.frame c.below step c.frames c.has_step)
+    ∙ then_performed by run (counter w.routine local 2) (λ z. counted w.routine local (Turn w s) (sum_of v z)) d step left (counter_comes w.routine local 2 d c.frame c.below step c.frames c.has_step)
 
 counted_as : (by : Bool → Fitting) (run : Run) (w : Where) (s : TypedStmt) (local : ℕ) (d : Data) (v n last step : ℤ) (left : List Answer) (c : Counts w.routine local d v last step)
-    → performed by run (counted w s local (Some n)) d left ≡ performed by run (turn_due w s local) (with_variable w.routine local n c.below d) left
+    → performed by run (counted w.routine local (Turn w s) (Some n)) d left ≡ performed by run (turn_due w.routine local (Turn w s)) (with_variable w.routine local n c.below d) left
 unfolding performed
 counted_as by run w s local d v n last step left c =
-    performed_after by run (set_counter w.routine local 0 n) (λ _. turn_due w s local) Raises d left
-    ∙ ap (λ (o : Outcome ⊤). joined o (λ _ e rest. performed by run (turn_due w s local) e rest) (λ x e rest. performed by run (Raises x) e rest))
+    performed_after by run (set_counter w.routine local 0 n) (λ _. turn_due w.routine local (Turn w s)) Raises d left
+    ∙ ap (λ (o : Outcome ⊤). joined o (λ _ e rest. performed by run (turn_due w.routine local (Turn w s)) e rest) (λ x e rest. performed by run (Raises x) e rest))
     (variable_set by run w.routine local d c.frame c.below v n left c.frames c.has_variable)
 
--- after the Look of a turn its list is done, which ends normally, and then the variable goes on
+-- after the Look of an iteration its list ends normally, and then the step is added to the variable
 record Turned (tree : TypedTree) (w : Where) (s : TypedStmt) (local n : ℕ) (d : Data) (answers more : List Answer) (v last step : ℤ) : Type 0 where
   after : Data
   counts : Counts w.routine local after v last step
-  goes : performed (fitting_of tree) (deep tree n) (turned w s s) d (answers ++ more) ≡ performed (fitting_of tree) (deep tree n) (counts_on w s local) after more
+  goes : performed (fitting_of tree) (deep tree n) (turned w (Turn w s) s) d (answers ++ more) ≡ performed (fitting_of tree) (deep tree n) (counts_on w.routine local (Turn w s)) after more
 
 turned_goes : (tree : TypedTree) (w : Where) (at local : ℕ) (e f : TypedExpr) (g : Option TypedExpr) (list : TypedStmts) (answers : List Answer) (so_many n : ℕ) (d : Data) (more : List Answer)
     (v last step : ℤ) → EndsNormally tree w local list answers so_many → so_many ≤ n → Counts w.routine local d v last step
@@ -197,14 +196,14 @@ turned_goes tree w at local e f g list answers so_many n d more v last step norm
       after = ends.after;
       counts = ends.counts;
       goes =
-          performed_after (fitting_of tree) (deep tree n) (goes_to (Rest w list list)) (and_then (counts_on w s local)) Raises d (answers ++ more)
-          ∙ ap (λ (o : Outcome Flow). joined o (λ flow x rest. performed (fitting_of tree) (deep tree n) (and_then (counts_on w s local) flow) x rest)
+          performed_after (fitting_of tree) (deep tree n) (goes_to (Rest w list list)) (and_then (counts_on w.routine local (Turn w s))) Raises d (answers ++ more)
+          ∙ ap (λ (o : Outcome Flow). joined o (λ flow x rest. performed (fitting_of tree) (deep tree n) (and_then (counts_on w.routine local (Turn w s)) flow) x rest)
           (λ m x rest. performed (fitting_of tree) (deep tree n) (Raises m) x rest)) (goes_as (fitting_of tree) (deep tree n) (Rest w list list) d (answers ++ more) ∙ ends.ends);
     }
 
 turn_goes : (tree : TypedTree) (w : Where) (at local : ℕ) (e f : TypedExpr) (g : Option TypedExpr) (list : TypedStmts) (n seen : ℕ) (d : Data) (more : List Answer)
     → deep tree (suc n) (Turn w (trees.For at local e f g list)) d (Go seen ∷ more)
-    ≡ performed (fitting_of tree) (deep tree n) (turned w (trees.For at local e f g list) (trees.For at local e f g list)) (looked_at w (trees.For at local e f g list) at seen d) more
+    ≡ performed (fitting_of tree) (deep tree n) (turned w (Turn w (trees.For at local e f g list)) (trees.For at local e f g list)) (looked_at w (trees.For at local e f g list) at seen d) more
 unfolding performed after deep
 turn_goes tree w at local e f g list n seen d more = refl
 
@@ -222,11 +221,11 @@ below_of a b h = grind (arith, ints)
 not_above_of : (a b : ℤ) → int_lt a b ≡ false → b ≤ℤ a
 not_above_of a b h = grind (arith, ints)
 
--- no turn where the first value is past the last
+-- there is no iteration if the first value is past the last
 abbrev unless : Bool → Option ℕ → Option ℕ
 unless b count = if b then Some 0 else count
 
--- no turn: the first value is past the last
+-- no iteration: the first value is past the last
 none_passed : (v last step : ℤ) → turns v last step ≡ Some 0 → has_passed v last step ≡ true
 none_passed v last (pos zero) e = passed_up v last zero ∙ by (int_lt last v) e
   where
@@ -244,7 +243,7 @@ none_passed v last (negsuc n) e = by (int_lt v last) e
     by true is = refl
     by false is = let one : steps_past last v (suc n) ≡ 0 = cc in absurd (omega (arith, one))
 
--- a turn, and how many follow: none where the variable leaves the range of num, else those from the next value on
+-- an iteration and how many follow: none if the variable leaves the range of num, else those from the next value
 abbrev Followed : ℤ → ℤ → ℤ → ℕ → Type 0
 Followed v last step count = ((sum_of v step ≡ None) × (count ≡ 0)) ⊎ ((sum_of v step ≡ Some (v +ℤ step)) × IsTrue (is_num (v +ℤ step)) × (turns (v +ℤ step) last step ≡ Some count))
 
@@ -254,7 +253,7 @@ size_of n h = grind (arith, nat_tests)
 past_size : (n : ℤ) → is_num n ≡ false → greatest < nat_abs n
 past_size n h = grind (arith, nat_tests)
 
--- steps past it, where one leads past it, and where more do
+-- steps past a value: one, or more than one
 one_step : (gap step : ℕ) → gap < step → gap / step + 1 ≡ 1
 one_step gap step less = ap (λ (q : ℕ). q + 1) (div-eq_of_lt less)
 
@@ -315,7 +314,7 @@ followed_down v last n count down in_range last_in is = by (is_num (v +ℤ negsu
         let one : nat_abs (v -ℤ last) / suc n + 1 ≡ 1 = one_step (nat_abs (v -ℤ last)) (suc n) less in
         inl (ap (λ (b : Bool). if b then Some (v +ℤ negsuc n) else None) t, omega (arith, one, is))
 
--- a turn is due, and so many follow it
+-- an iteration is due, and this many follow it
 some_turn : (v last step : ℤ) (count : ℕ) → IsTrue (is_num v) → IsTrue (is_num last) → turns v last step ≡ Some (suc count) → (has_passed v last step ≡ false) × Followed v last step count
 some_turn v last (pos zero) count in_range last_in e = by (int_lt last v) e
   where
@@ -355,17 +354,17 @@ always_turn v last (negsuc n) in_range e = by (int_lt v last) e
     by true is = absurd cc
     by false is = absurd cc
 
--- ---- turn by turn
+-- ---- iteration by iteration
 
 abbrev DoneWith : TypedTree → Where → TypedStmt → ℕ → ℕ → Data → List Answer → List Answer → Type 0
-DoneWith tree w s local n d answers left = (later : Data) × (performed (fitting_of tree) (deep tree n) (turn_due w s local) d answers ≡ Gave Normal later left)
+DoneWith tree w s local n d answers left = (later : Data) × (performed (fitting_of tree) (deep tree n) (turn_due w.routine local (Turn w s)) d answers ≡ Gave Normal later left)
 
--- a turn is done, and the variable goes on
+-- an iteration is done, and the step is added to the variable
 one_turn : (tree : TypedTree) (w : Where) (at local : ℕ) (e f : TypedExpr) (g : Option TypedExpr) (list : TypedStmts) (answers : List Answer) (so_many seen n : ℕ) (d : Data) (more : List Answer)
     (v last step : ℤ) → EndsNormally tree w local list answers so_many → so_many ≤ n → Counts w.routine local d v last step → has_passed v last step ≡ false
     → (later : Data) × Counts w.routine local later v last step
-    × (performed (fitting_of tree) (deep tree (suc n)) (turn_due w (trees.For at local e f g list) local) d (Go seen ∷ (answers ++ more))
-    ≡ performed (fitting_of tree) (deep tree n) (counted w (trees.For at local e f g list) local (sum_of v step)) later more)
+    × (performed (fitting_of tree) (deep tree (suc n)) (turn_due w.routine local (Turn w (trees.For at local e f g list))) d (Go seen ∷ (answers ++ more))
+    ≡ performed (fitting_of tree) (deep tree n) (counted w.routine local (Turn w (trees.For at local e f g list)) (sum_of v step)) later more)
 one_turn tree w at local e f g list answers so_many seen n d more v last step normally enough c due =
     let s : TypedStmt = trees.For at local e f g list in
     let x : Data = looked_at w s at seen d in
@@ -403,19 +402,19 @@ done tree w at local e f g list answers so_many seen first last step (suc count)
     let more : List Answer = turn_by_turn seen answers count ++ left in
     let due : (has_passed first last step ≡ false) × Followed first last step count = some_turn first last step count first_in last_in so_often in
     let t = one_turn tree w at local e f g list answers so_many seen n d more first last step normally (omega (arith, enough)) c due.0 in
-    let here : performed (fitting_of tree) (deep tree (suc n)) (turn_due w s local) d (turn_by_turn seen answers (suc count) ++ left) ≡ performed (fitting_of tree) (deep tree n) (counted w s local (sum_of first step)) t.0 more =
-    ap (λ (x : List Answer). performed (fitting_of tree) (deep tree (suc n)) (turn_due w s local) d x) (regroup seen answers (turn_by_turn seen answers count) left) ∙ t.2 in
+    let here : performed (fitting_of tree) (deep tree (suc n)) (turn_due w.routine local (Turn w s)) d (turn_by_turn seen answers (suc count) ++ left) ≡ performed (fitting_of tree) (deep tree n) (counted w.routine local (Turn w s) (sum_of first step)) t.0 more =
+    ap (λ (x : List Answer). performed (fitting_of tree) (deep tree (suc n)) (turn_due w.routine local (Turn w s)) d x) (regroup seen answers (turn_by_turn seen answers count) left) ∙ t.2 in
     elim due.1 [
       | inl over ↦
           let none : more ≡ left = ap (λ (k : ℕ). turn_by_turn seen answers k ++ left) over.1 in
-          (t.0, here ∙ ap (λ (o : Option ℤ). performed (fitting_of tree) (deep tree n) (counted w s local o) t.0 more) over.0 ∙ ap (λ (x : List Answer). Gave Normal t.0 x) none)
+          (t.0, here ∙ ap (λ (o : Option ℤ). performed (fitting_of tree) (deep tree n) (counted w.routine local (Turn w s) o) t.0 more) over.0 ∙ ap (λ (x : List Answer). Gave Normal t.0 x) none)
       | inr on ↦
           let next : Data = with_variable w.routine local (first +ℤ step) t.1.below t.0 in
           let rest : DoneWith tree w s local n next more left =
           done tree w at local e f g list answers so_many seen (first +ℤ step) last step count n next left normally (counts_set w.routine local t.0 first (first +ℤ step) last step t.1) on.1 last_in on.2
           (omega (arith, enough)) in (
             rest.0,
-            here ∙ ap (λ (o : Option ℤ). performed (fitting_of tree) (deep tree n) (counted w s local o) t.0 more) on.0
+            here ∙ ap (λ (o : Option ℤ). performed (fitting_of tree) (deep tree n) (counted w.routine local (Turn w s) o) t.0 more) on.0
                 ∙ counted_as (fitting_of tree) (deep tree n) w s local t.0 first (first +ℤ step) last step more t.1 ∙ rest.1,
           )
     ]
@@ -428,7 +427,7 @@ turn_looks tree w at local e f g list n d = refl
 pub for_ever : (tree : TypedTree) (w : Where) (at local : ℕ) (e f : TypedExpr) (g : Option TypedExpr) (list : TypedStmts) (answers : List Answer) (so_many seen : ℕ) (first last step : ℤ) (count n : ℕ)
     (d : Data) → EndsNormally tree w local list answers so_many → Counts w.routine local d first last step → IsTrue (is_num first) → IsTrue (is_num last)
     → turns first last step ≡ None → so_many + count < n
-    → (later : Data) × (performed (fitting_of tree) (deep tree n) (turn_due w (trees.For at local e f g list) local) d (turn_by_turn seen answers count) ≡ Asking Look later)
+    → (later : Data) × (performed (fitting_of tree) (deep tree n) (turn_due w.routine local (Turn w (trees.For at local e f g list))) d (turn_by_turn seen answers count) ≡ Asking Look later)
 unfolding turn_by_turn
 for_ever tree w at local e f g list answers so_many seen first last step count zero d normally c first_in last_in always enough = absurd (omega (arith, enough))
 for_ever tree w at local e f g list answers so_many seen first last step zero (suc n) d normally c first_in last_in always enough =
@@ -448,6 +447,6 @@ for_ever tree w at local e f g list answers so_many seen first last step (suc co
     let rest = for_ever tree w at local e f g list answers so_many seen first last step count n next normally (counts_set w.routine local t.0 first first last step t.1) first_in last_in always
     (omega (arith, enough)) in (
       rest.0,
-      t.2 ∙ ap (λ (o : Option ℤ). performed (fitting_of tree) (deep tree n) (counted w s local o) t.0 more) due.1
+      t.2 ∙ ap (λ (o : Option ℤ). performed (fitting_of tree) (deep tree n) (counted w.routine local (Turn w s) o) t.0 more) due.1
           ∙ counted_as (fitting_of tree) (deep tree n) w s local t.0 first first last step more t.1 ∙ rest.1,
     )

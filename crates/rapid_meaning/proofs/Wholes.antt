@@ -1,4 +1,4 @@
--- The part Whole is the whole.
+-- The part Whole is all of a value.
 use Rattle.std.proofs.Common.{◌≡◌, refl, Some}
 use Rattle.rapid_model.specs.declared.part_name.PartName.{PartName}
 use Rattle.rapid_model.specs.declared.part_name.PartName.TheVariants as parts

@@ -1,4 +1,4 @@
--- What a doing comes to with the answers that the task gets.
+-- The outcome of a doing for the answers that the task gets.
 use Rattle.std.specs.Prelude.{ℕ, ◌==◌, Bool, true, false, List, [], ◌∷◌, Option, None, Some, if◌then◌else◌, slice_get}
 use Rattle.rapid_model.specs.Fits.{Fitting, fits_request}
 use Rattle.rapid_model.specs.declared.answer.Answer.{Answer}
@@ -13,9 +13,9 @@ use Rattle.rapid_meaning.specs.Data.{Data}
 use Rattle.rapid_meaning.specs.Doings.{Doing, Gives, Raises, Asks, Ends, Misfit, Reads, Writes, Does}
 use Rattle.rapid_meaning.specs.Flows.{Flow, Part}
 
--- Gave and Raised: it is done, with these data, and these answers are left. Asking: a request is due, and no answer is left
--- for it. Ended: the task has ended, and its End was answered. Misfits: as Misfit. Unfit: an answer does not fit its request.
--- NoFuel: there were more parts one in another than asked for.
+-- Gave, Raised: it is done, with these data and these answers left. Asking: this request is pending, with no answer
+-- left. Ended: the task has ended, and its End was answered. Misfits: as Misfit. Unfit: an answer does not fit its
+-- request. NoFuel: parts of the program nest deeper than the fuel allows.
 pub data Outcome (A : Type 0) : Type 0 where
   Gave : A → Data → List Answer → Outcome A
   Raised : ℕ → Data → List Answer → Outcome A
@@ -25,11 +25,11 @@ pub data Outcome (A : Type 0) : Type 0 where
   Unfit : Outcome A
   NoFuel : Outcome A
 
--- how the parts of a program are done
+-- the outcome of each part of a program
 abbrev pub Run : Type 0
 Run = Part → Data → List Answer → Outcome Flow
 
--- what goes on after something that is done, or that raised an error
+-- continues after an outcome that is done or raised an error; any other outcome stands
 abbrev pub joined : {A B : Type 0} → Outcome A → (A → Data → List Answer → Outcome B) → (ℕ → Data → List Answer → Outcome B) → Outcome B
 joined (Gave v d left) next failed = next v d left
 joined (Raised n d left) next failed = failed n d left
@@ -39,7 +39,7 @@ joined Misfits next failed = Misfits
 joined Unfit next failed = Unfit
 joined NoFuel next failed = NoFuel
 
--- the type of the first persistent that has this number in the cell
+-- the type of the first persistent with this number in the cell
 unfoldable pub sort_of_pers : List ℕ → List TypedPers → ℕ → Option Sort
 sort_of_pers (number ∷ numbers) (row ∷ rows) pers = if number == pers then Some row.sort else sort_of_pers numbers rows pers
 sort_of_pers _ _ pers = None
@@ -52,7 +52,7 @@ abbrev pub is_trap_row : Option TypedRoutine → Bool
 is_trap_row None = false
 is_trap_row (Some routine) = is_trap_kind routine.kind
 
--- what answers to a task fit, while a trap is under way or while none is
+-- which answers to a task fit, in a trap or outside one
 abbrev pub fitting_of : TypedTree → Bool → Fitting
 fitting_of tree trapped = record {
   sorts = sort_of_pers tree.pers_of tree.pers;
@@ -61,12 +61,12 @@ fitting_of tree trapped = record {
   axes = tree.axes;
 }
 
--- a task that ends with this fate asks End, and has ended with the answer
+-- a task that ends with this fate asks End, and has ended once that is answered
 abbrev pub ending : {A : Type 0} → (Bool → Fitting) → Fate → Data → List Answer → Outcome A
 ending by fate d [] = Asking (End fate) d
 ending by fate d (a ∷ left) = if fits_request (by d.trapped) (End fate) a then Ended d else Unfit
 
--- a doing, from these data on, with these answers to come
+-- the outcome of a doing from these data, for these answers
 unfoldable pub performed : {A : Type 0} → (Bool → Fitting) → Run → Doing A → Data → List Answer → Outcome A
 performed by run (Gives v) d left = Gave v d left
 performed by run (Raises n) d left = Raised n d left

@@ -1,4 +1,4 @@
--- Routines (RAPID Kernel, routine declarations), and what each part of a program is.
+-- Calls of routines (RAPID Kernel, routine declarations), and what each part of a program does.
 use Rattle.std.specs.Prelude.{List, Option, None, Some, slice_get}
 use Rattle.rapid_model.specs.declared.fate.Fault.TheVariants.{NoReturn}
 use Rattle.rapid_model.specs.declared.routine_kind.RoutineKind.{RoutineKind}
@@ -15,11 +15,11 @@ abbrev pub errors_of : Option TypedStmts → Errors
 errors_of None = Unguarded
 errors_of (Some part) = Guarded part
 
--- where the statements of a routine's list stand
+-- the place of the statements of a routine's list
 abbrev pub within : TypedRoutine → Where
 within routine = record { routine = routine; errors = errors_of routine.handler }
 
--- a FUNC that reaches its end is a fault; a PROC and a TRAP end there, or return
+-- a FUNC must return a value, and reaching its end is a fault; a PROC or a TRAP ends there, or returns
 abbrev pub result : RoutineKind → Flow → Doing Flow
 result kinds.Func (Returns (Some v)) = leaves >> Gives (Returns (Some v))
 result kinds.Func Normal = fault NoReturn
@@ -31,13 +31,13 @@ result kind flow = Misfit
 abbrev pub body : TypedTree → TypedRoutine → Doing Flow
 body tree routine = rest tree (within routine) routine.list routine.list
 
--- A routine's data are made, where there is room, and its list is done. An error that leaves it is an error of the statement
--- that called it.
+-- A call makes the routine's frame, if there is room, and does its list. An error that leaves the routine is an error
+-- of the statement that called it.
 abbrev pub called : TypedTree → List Datum → Option TypedRoutine → Doing Flow
 called tree args None = Misfit
 called tree args (Some routine) = enters (frame_of routine args) >> after (body tree routine) (result routine.kind) (λ error. leaves >> Raises error)
 
--- each part of a program
+-- what each part of a program does
 abbrev pub part : TypedTree → Part → Doing Flow
 part tree (Attempt w s) = stmt tree w s
 part tree (Turn w s) = turn w s

@@ -1,4 +1,4 @@
--- Doing something, as a tree of actions: what is asked, what is done with each answer, and how the task's data change.
+-- What a task does, as a tree of actions: what it asks, what it does with each answer, and how its data change.
 use Rattle.std.specs.Prelude.{ℕ, List, Option, None, Some, ⊤}
 use Rattle.rapid_model.specs.declared.answer.Answer.{Answer}
 use Rattle.rapid_model.specs.declared.answer.Answer.TheVariants as answers
@@ -10,9 +10,9 @@ use Rattle.typed_trees.specs.declared.datum.Datum.{Datum}
 use Rattle.rapid_meaning.specs.Data.{Data}
 use Rattle.rapid_meaning.specs.Flows.{Flow, Part, Call}
 
--- Gives: done, with this. Raises: an error of this number. Asks: a request, and what follows its answer. Ends: the task ends.
--- Misfit: no tree of a checked task does this. Reads: what follows for the data as they are. Writes: these are the data now.
--- Does: a part of the program, and what follows as it ends, or for the error that leaves it.
+-- Gives: done, with this result. Raises: an error with this number. Asks: a request, and what follows its answer. Ends:
+-- the task ends. Misfit: no checked tree does this. Reads: what follows, from the current data. Writes: the data become
+-- these. Does: a part of the program, what follows its end, and what follows an error that leaves it.
 pub data Doing (A : Type 0) : Type 0 where
   Gives : A → Doing A
   Raises : ℕ → Doing A
@@ -23,7 +23,7 @@ pub data Doing (A : Type 0) : Type 0 where
   Writes : Data → Doing A → Doing A
   Does : Part → (Flow → Doing A) → (ℕ → Doing A) → Doing A
 
--- what follows a doing as it gives something, and for the error that it raises
+-- a doing, then what follows its result or the error that it raises
 unfoldable pub after : {A B : Type 0} → Doing A → (A → Doing B) → (ℕ → Doing B) → Doing B
 after (Gives v) next failed = next v
 after (Raises n) next failed = failed n
@@ -34,7 +34,7 @@ after (Reads with_data) next failed = Reads (λ d. after (with_data d) next fail
 after (Writes d more) next failed = Writes d (after more next failed)
 after (Does part ended raised) next failed = Does part (λ flow. after (ended flow) next failed) (λ n. after (raised n) next failed)
 
--- one after the other; an error leaves both
+-- one after the other; an error skips the second
 infixl 10 ◌>>=◌
 abbrev pub ◌>>=◌ : {A B : Type 0} → Doing A → (A → Doing B) → Doing B
 m >>= next = after m next Raises
@@ -43,7 +43,7 @@ infixl 10 ◌>>◌
 abbrev pub ◌>>◌ : {A B : Type 0} → Doing A → Doing B → Doing B
 m >> next = after m (λ _. next) Raises
 
--- doing something that gives nothing
+-- a doing without a result
 abbrev pub Act : Type 0
 Act = Doing ⊤
 
@@ -54,11 +54,11 @@ abbrev pub or_misfit : {A : Type 0} → Option A → Doing A
 or_misfit None = Misfit
 or_misfit (Some v) = Gives v
 
--- the data change
+-- changes the data
 abbrev pub change : (Data → Data) → Act
 change to = Reads (λ d. Writes (to d) done)
 
--- the task ends with a fault
+-- ends the task with a fault
 abbrev pub fault : {A : Type 0} → Fault → Doing A
 fault f = Ends (fates.Fault f)
 
@@ -66,11 +66,11 @@ abbrev pub when_ok : Answer → Act
 when_ok answers.Ok = done
 when_ok _ = Misfit
 
--- asks what is answered Ok alone
+-- asks a request whose only answer is Ok
 abbrev pub tells : Request → Act
 tells request = Asks request when_ok
 
--- does a part of the program, and ends as it does
+-- does a part of the program, and ends as that does
 abbrev pub goes_to : Part → Doing Flow
 goes_to part = Does part Gives Raises
 

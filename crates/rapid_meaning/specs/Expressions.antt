@@ -1,18 +1,22 @@
--- What an expression does, and the value that it gives (RAPID Kernel, expressions). Operands go from left to right.
+-- What an expression does, and its value (RAPID Kernel, expressions). Operands are evaluated from left to right.
 use Rattle.std.specs.Prelude.{ℕ, List, [], ◌∷◌, Option, Some}
+use Rattle.std.specs.Option.{option_map}
 use Rattle.rapid_model.specs.declared.function.Function.{Function}
+use Rattle.rapid_model.specs.declared.function.Function.TheVariants as functions
+use Rattle.rapid_model.specs.declared.request.Request.TheVariants.{Position}
 use Rattle.rapid_model.specs.declared.value.Value.{Value}
+use Rattle.rapid_model.specs.declared.value.Value.TheVariants as values
 use Rattle.rapid_values.specs.Values.{made_of}
 use Rattle.typed_trees.specs.Plain as trees
 use Rattle.typed_trees.specs.Plain.{TypedArg, TypedArgs, TypedExpr, TypedExprs, TypedHeld, TypedPlace, TypedRoutine, TypedSteps, TypedTree, NoExprs, MoreExprs, NoSteps, MoreSteps, NotHeld, Held, PlaceOf, Given, Lent, OfSignal, NoArgs, MoreArgs}
 use Rattle.typed_trees.specs.declared.datum.Datum.{Datum}
 use Rattle.typed_trees.specs.declared.datum.Datum.TheVariants as datums
 use Rattle.typed_trees.specs.declared.datum.Lvalue.{Lvalue}
-use Rattle.rapid_meaning.specs.Doings.{Doing, Gives, Misfit, Reads, ◌>>=◌, calls, or_misfit}
+use Rattle.rapid_meaning.specs.Doings.{Doing, Gives, Misfit, Asks, Reads, ◌>>=◌, calls, or_misfit}
 use Rattle.rapid_meaning.specs.Flows.{Flow, Returns}
-use Rattle.rapid_meaning.specs.Functions.{of_value, of_values, of_signal, of_nothing, of_place, of_array, read_signal}
+use Rattle.rapid_meaning.specs.Functions.{absolute, read_signal, shown, text_length, truncated, when_at}
 use Rattle.rapid_meaning.specs.Layouts.{length_at}
-use Rattle.rapid_meaning.specs.Places.{rooted, indexed, part_at, read_value}
+use Rattle.rapid_meaning.specs.Places.{rooted, indexed, part_at, read_value, test_and_set}
 use Rattle.rapid_meaning.specs.Values.{between, opposite, of_bit, whole, with_sign}
 
 -- what a function of the task returned
@@ -20,7 +24,7 @@ abbrev pub returned : Flow → Doing Value
 returned (Returns (Some v)) = Gives v
 returned _ = Misfit
 
--- the length of the array that is lent
+-- the length of an array passed by reference
 abbrev pub lent_length : TypedTree → TypedRoutine → TypedPlace → Option ℕ
 lent_length tree routine (PlaceOf root index part sort) = length_at tree routine root
 
@@ -60,7 +64,7 @@ abbrev mutual
     vs ← exprs tree routine es
     Gives (v ∷ vs)
 
-  -- from a left operand on, the operators with their right operands
+  -- the operators that follow a left operand, each with its right operand
   pub along : TypedTree → TypedRoutine → TypedSteps → Value → Doing Value
   along tree routine NoSteps v = Gives v
   along tree routine (MoreSteps o e steps) v = do
@@ -78,7 +82,7 @@ abbrev mutual
     q ← indexed (length_at tree routine root) p v
     part_at part q
 
-  -- the arguments of a call of a routine, values and places that are lent, in order
+  -- the arguments of a routine call in order, by value or by reference
   pub arguments : TypedTree → TypedRoutine → TypedArgs → Doing (List Datum)
   arguments tree routine NoArgs = Gives []
   arguments tree routine (MoreArgs (Given e) more) = do
@@ -91,19 +95,31 @@ abbrev mutual
     Gives (datums.Place q ∷ xs)
   arguments tree routine (MoreArgs other more) = Misfit
 
-  -- a predefined function, by the form of its arguments
+  -- The predefined functions: what each evaluates, in order, what it asks, and its value. Dim reads no datum.
   pub builtin : TypedTree → TypedRoutine → Function → TypedArgs → Doing Value
-  builtin tree routine function NoArgs = of_nothing function
-  builtin tree routine function (MoreArgs (Given e) NoArgs) = do
+  builtin tree routine functions.Abs (MoreArgs (Given e) NoArgs) = do
     v ← expr tree routine e
-    of_value function v
-  builtin tree routine function (MoreArgs (Given e) (MoreArgs (Given f) NoArgs)) = do
+    absolute v
+  builtin tree routine functions.Trunc (MoreArgs (Given e) NoArgs) = do
+    v ← expr tree routine e
+    truncated v
+  builtin tree routine functions.StrLen (MoreArgs (Given e) NoArgs) = do
+    v ← expr tree routine e
+    text_length v
+  builtin tree routine functions.NumToStr (MoreArgs (Given e) (MoreArgs (Given f) NoArgs)) = do
     v ← expr tree routine e
     w ← expr tree routine f
-    of_values function v w
-  builtin tree routine function (MoreArgs (OfSignal signal) NoArgs) = of_signal function signal
-  builtin tree routine function (MoreArgs (Lent p) NoArgs) = do
+    shown v w
+  builtin tree routine functions.Dim (MoreArgs (Lent p) (MoreArgs one NoArgs)) = or_misfit (option_map whole (lent_length tree routine p))
+  builtin tree routine functions.CJointT NoArgs = Asks Position when_at
+  builtin tree routine functions.TestDI (MoreArgs (OfSignal signal) NoArgs) = do
+    bit ← read_signal signal
+    Gives (values.Bool bit)
+  builtin tree routine functions.DOutput (MoreArgs (OfSignal signal) NoArgs) = do
+    bit ← read_signal signal
+    Gives (of_bit bit)
+  builtin tree routine functions.TestAndSet (MoreArgs (Lent p) NoArgs) = do
     q ← place tree routine p
-    of_place function q
-  builtin tree routine function (MoreArgs (Lent p) (MoreArgs one NoArgs)) = of_array function (lent_length tree routine p)
-  builtin tree routine function other = Misfit
+    met ← test_and_set q
+    Gives (values.Bool met)
+  builtin tree routine function args = Misfit

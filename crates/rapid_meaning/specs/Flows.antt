@@ -4,7 +4,7 @@ use Rattle.rapid_model.specs.declared.value.Value.{Value}
 use Rattle.typed_trees.specs.Plain.{TypedRoutine, TypedStmt, TypedStmts}
 use Rattle.typed_trees.specs.declared.datum.Datum.{Datum}
 
--- how a statement or a list of them ends: it goes on behind it, jumps to a label further out, returns with a value or none,
+-- how a statement or a list ends: normally, by a jump to a label further out, by a return with a value or without one,
 -- or, in an ERROR part, by RETRY or TRYNEXT
 pub data Flow : Type 0 where
   Normal : Flow
@@ -13,26 +13,26 @@ pub data Flow : Type 0 where
   Retries : Flow
   Skips : Flow
 
--- the value with which a routine ends, if it has one
+-- the value that a routine returns, if any
 abbrev pub value_of : Flow → Option Value
 value_of (Returns v) = v
 value_of flow = None
 
--- where an error of a statement goes: to its caller, as its routine has no ERROR part; to this ERROR part; or, from within an
--- ERROR part that was entered with this number, to the caller
+-- where an error of a statement goes. Unguarded: to the caller, as the routine has no ERROR part. Guarded: to this
+-- ERROR part. InPart: to the caller, from inside an ERROR part that was entered with this error number.
 pub data Errors : Type 0 where
   Unguarded : Errors
   Guarded : TypedStmts → Errors
   InPart : ℕ → Errors
 
--- where a statement stands: its routine, and where its errors go
+-- the place of a statement: its routine, and where its errors go
 pub record Where : Type 0 where
   pub routine : TypedRoutine
   pub errors : Errors
 
--- A part of a program, which may go on for as long as there are answers. Attempt: a statement from its Look on. Turn: a FOR
--- from the Look of its next turn on. Rest: of a list, the statements from some on. Call: a routine, by its number, with what
--- its parameters get.
+-- A part of a program, which may run for as long as there are answers. Attempt: a statement, from its Look. Turn: a
+-- FOR, from the Look of its next iteration. Rest: a list, and its statements that are left. Call: a routine, by its
+-- number, with its arguments.
 pub data Part : Type 0 where
   Attempt : Where → TypedStmt → Part
   Turn : Where → TypedStmt → Part

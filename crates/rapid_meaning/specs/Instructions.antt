@@ -1,5 +1,5 @@
--- The instructions (RAPID Instructions, Functions and Data types): in which order each evaluates, asks and stores. Each
--- comes to whether it is done; a wait that is not ready is not.
+-- The instructions (RAPID Instructions, Functions and Data types): the order in which each evaluates, asks and stores.
+-- Each gives whether it is done; a wait that is not ready is not.
 use Rattle.std.specs.Prelude.{ℕ, Bool, true, false, ℤ, pos, List, [], ◌∷◌, codes, bytes_eq, slice_get, ◌||◌}
 use Rattle.rapid_num.specs.Arithmetic.{sum_of, difference_of}
 use Rattle.rapid_num.specs.declared.joints.Joints.{Joints}
@@ -9,8 +9,9 @@ use Rattle.rapid_model.specs.declared.request.Request.TheVariants as requests
 use Rattle.rapid_model.specs.declared.tail.Tail.{Tail}
 use Rattle.rapid_model.specs.declared.tail.Tail.TheVariants as tails
 use Rattle.rapid_model.specs.declared.watched.Watched.TheVariants as watched
-use Rattle.typed_trees.specs.Plain.{TypedArg, TypedArgs, TypedExpr, TypedRoutine, TypedTree, Given, Lent, OfSignal, OfMeeting, Itself, Optional, Argument, NoArgs, MoreArgs}
+use Rattle.typed_trees.specs.Plain.{TypedArg, TypedArgs, TypedExpr, TypedPlace, TypedRoutine, TypedTree, Given, Lent, OfSignal, OfMeeting, Itself, Optional, Argument, NoArgs, MoreArgs}
 use Rattle.typed_trees.specs.declared.datum.Datum.TheVariants.{Mark}
+use Rattle.typed_trees.specs.declared.datum.Lvalue.{Lvalue}
 use Rattle.rapid_meaning.specs.Doings.{Doing, Gives, Misfit, ◌>>=◌, ◌>>◌, or_misfit, tells}
 use Rattle.rapid_meaning.specs.Expressions.{expr, lent_length, place}
 use Rattle.rapid_meaning.specs.Interrupts.{asks_of_number, number_at, order, pers_at}
@@ -21,7 +22,7 @@ use Rattle.rapid_meaning.specs.Signals.{has_value, write_signal}
 use Rattle.rapid_meaning.specs.Values.{bit_in, in_range, num_in, target_in, text_in, tool_speed_in, truth_in, whole}
 use Rattle.rapid_meaning.specs.Zones.{asks_of_zone, define, define_home, shape_at, supervise}
 
--- the arguments but the options, in order
+-- the arguments without the options, in order
 abbrev pub needed : TypedArgs → List TypedArg
 needed NoArgs = []
 needed (MoreArgs (Optional name value) more) = needed more
@@ -38,11 +39,11 @@ has name [] = false
 has name (Optional other value ∷ more) = bytes_eq other name || has name more
 has name (arg ∷ more) = has name more
 
--- it is done
+-- the instruction is done
 abbrev pub ready : Doing Bool
 ready = Gives true
 
--- the num, bool and so on of an expression
+-- the value of an expression of a known type
 abbrev pub num : TypedTree → TypedRoutine → TypedExpr → Doing ℤ
 num tree routine e = expr tree routine e >>= num_in
 
@@ -55,11 +56,18 @@ text tree routine e = expr tree routine e >>= text_in
 abbrev pub target : TypedTree → TypedRoutine → TypedExpr → Doing Joints
 target tree routine e = expr tree routine e >>= target_in
 
--- a value of a signal, 0 or 1
+-- a signal value, 0 or 1
 abbrev pub bit : TypedTree → TypedRoutine → TypedExpr → Doing Bool
 bit tree routine e = expr tree routine e >>= bit_in
 
--- what stands behind the text of TPWrite
+-- what follows for the place of an interrupt or zone variable and the number that it holds
+abbrev pub marked : {A : Type 0} → TypedTree → TypedRoutine → TypedPlace → (Lvalue → ℕ → Doing A) → Doing A
+marked tree routine p next = do
+  q ← place tree routine p
+  number ← number_at q
+  next q number
+
+-- what follows the text of TPWrite
 abbrev pub tail_named : TypedTree → TypedRoutine → Bool → TypedExpr → Doing Tail
 tail_named tree routine true e = do
   n ← num tree routine e
@@ -116,38 +124,17 @@ instructed tree routine instructions.TPErase [] options = ready
 -- interrupts
 instructed tree routine instructions.ISignalDI (OfSignal signal ∷ Given e ∷ Lent p ∷ []) options = do
   b ← bit tree routine e
-  q ← place tree routine p
-  number ← number_at q
-  order number (watched.Signal signal b) (has (codes "Single") options)
-  ready
+  marked tree routine p (λ q number. order number (watched.Signal signal b) (has (codes "Single") options) >> ready)
 instructed tree routine instructions.ISignalDO (OfSignal signal ∷ Given e ∷ Lent p ∷ []) options = do
   b ← bit tree routine e
-  q ← place tree routine p
-  number ← number_at q
-  order number (watched.Signal signal b) (has (codes "Single") options)
-  ready
+  marked tree routine p (λ q number. order number (watched.Signal signal b) (has (codes "Single") options) >> ready)
 instructed tree routine instructions.IPers (Lent watch ∷ Lent p ∷ []) options = do
   w ← place tree routine watch
   pers ← pers_at w.root
-  q ← place tree routine p
-  number ← number_at q
-  order number (watched.Pers pers) (has (codes "Single") options)
-  ready
-instructed tree routine instructions.ISleep (Lent p ∷ []) options = do
-  q ← place tree routine p
-  number ← number_at q
-  asks_of_number (requests.Sleep number)
-  ready
-instructed tree routine instructions.IWatch (Lent p ∷ []) options = do
-  q ← place tree routine p
-  number ← number_at q
-  asks_of_number (requests.Watch number)
-  ready
-instructed tree routine instructions.IDelete (Lent p ∷ []) options = do
-  q ← place tree routine p
-  number ← number_at q
-  asks_of_number (requests.Delete number)
-  ready
+  marked tree routine p (λ q number. order number (watched.Pers pers) (has (codes "Single") options) >> ready)
+instructed tree routine instructions.ISleep (Lent p ∷ []) options = marked tree routine p (λ q number. asks_of_number (requests.Sleep number) >> ready)
+instructed tree routine instructions.IWatch (Lent p ∷ []) options = marked tree routine p (λ q number. asks_of_number (requests.Watch number) >> ready)
+instructed tree routine instructions.IDelete (Lent p ∷ []) options = marked tree routine p (λ q number. asks_of_number (requests.Delete number) >> ready)
 instructed tree routine instructions.IDisable [] options = tells requests.Disable >> ready
 instructed tree routine instructions.IEnable [] options = tells requests.Enable >> ready
 -- world zones
@@ -163,29 +150,15 @@ instructed tree routine instructions.WZHomeJointDef (Lent shape ∷ Given middle
   d ← target tree routine delta
   define_home tree.axes q (has (codes "Inside") options) m d
   ready
-instructed tree routine instructions.WZLimSup (Lent zone ∷ Lent shape ∷ []) options = do
-  q ← place tree routine zone
-  old ← number_at q
+instructed tree routine instructions.WZLimSup (Lent zone ∷ Lent shape ∷ []) options = marked tree routine zone (λ q old. do
   p ← place tree routine shape
   s ← shape_at p
   supervise q old (has (codes "Temp") options) s
-  ready
-instructed tree routine instructions.WZDisable (Lent zone ∷ []) options = do
-  q ← place tree routine zone
-  number ← number_at q
-  asks_of_zone (requests.ZoneOff number)
-  ready
-instructed tree routine instructions.WZEnable (Lent zone ∷ []) options = do
-  q ← place tree routine zone
-  number ← number_at q
-  asks_of_zone (requests.ZoneOn number)
-  ready
-instructed tree routine instructions.WZFree (Lent zone ∷ []) options = do
-  q ← place tree routine zone
-  number ← number_at q
-  asks_of_zone (requests.ZoneFree number)
-  store q (Mark 0)
-  ready
+  ready)
+instructed tree routine instructions.WZDisable (Lent zone ∷ []) options = marked tree routine zone (λ q number. asks_of_zone (requests.ZoneOff number) >> ready)
+instructed tree routine instructions.WZEnable (Lent zone ∷ []) options = marked tree routine zone (λ q number. asks_of_zone (requests.ZoneOn number) >> ready)
+instructed tree routine instructions.WZFree (Lent zone ∷ []) options =
+    marked tree routine zone (λ q number. asks_of_zone (requests.ZoneFree number) >> (store q (Mark 0) >> ready))
 -- counters
 instructed tree routine instructions.Incr (Lent p ∷ []) options = do
   q ← place tree routine p

@@ -6,15 +6,15 @@ use Rattle.typed_trees.specs.Plain.{TypedRoutine, TypedTree}
 use Rattle.typed_trees.specs.declared.expr.TreeRoot.{TreeRoot}
 use Rattle.typed_trees.specs.declared.expr.TreeRoot.TheVariants as roots
 
--- how many data the module data have, row by row
+-- how many places each row of the module data takes
 abbrev pub slot_widths : TypedTree → List ℕ
 slot_widths tree = map (λ row. width row.len) tree.slots
 
--- the lengths of a routine's parameters and data, where they are arrays
+-- the lengths of a routine's parameters and data, if they are arrays of its own
 abbrev pub local_lengths : TypedRoutine → List (Option ℕ)
 local_lengths routine = replicate (length routine.params) None ++ map (λ row. row.len) routine.locals
 
--- how many data a routine's parameters, data and FORs have
+-- how many places a routine's parameters, data and FORs take
 abbrev pub local_widths : TypedRoutine → List ℕ
 local_widths routine = map width (local_lengths routine) ++ replicate routine.loops 3
 

@@ -1,4 +1,4 @@
--- How each statement begins: by its Look, at which a trap may run (RAPID Overview, interrupts).
+-- Each statement begins with a Look, at which a trap may run (RAPID Overview, interrupts).
 use Rattle.std.specs.Prelude.{ℕ, true, false, [], Option, Some}
 use Rattle.rapid_model.specs.declared.answer.Answer.{Answer}
 use Rattle.rapid_model.specs.declared.answer.Answer.TheVariants as answers
@@ -9,14 +9,14 @@ use Rattle.rapid_meaning.specs.Data.{seen_in, with_seen}
 use Rattle.rapid_meaning.specs.Doings.{Doing, Misfit, Asks, Reads, Does, ◌>>◌, change, fault, goes_to, tells}
 use Rattle.rapid_meaning.specs.Flows.{Flow, Part, Call, Where}
 
--- the trap has ended: it is left, and then the part begins with its Look again
+-- the end of a trap: it is left, and then the interrupted part begins again with its Look
 abbrev pub left : Part → Doing Flow
 left again = do
   tells Leave
   change (λ d. record d { trapped = false })
   goes_to again
 
--- a trap runs on the spot; an error that leaves it ends the task
+-- runs a trap at once; an error that leaves it ends the task
 abbrev pub interrupted : Part → ℕ → Doing Flow
 interrupted again trap = do
   change (λ d. record d { trapped = true })
@@ -33,12 +33,13 @@ looked again go _ = Misfit
 abbrev pub place_of : Where → ℕ → Option At
 place_of w byte = Some (record { «module» = w.routine.«module»; byte = byte })
 
--- the Look of a statement that begins at this byte, and what follows where it may begin; after a trap this part begins again
+-- the Look of a statement at this byte, and what follows once the statement may begin; after a trap this part begins
+-- again
 abbrev pub look : Where → ℕ → Part → Doing Flow → Doing Flow
 look w byte again go = do
   change (λ d. record d { place = place_of w byte })
   Asks Look (looked again go)
 
--- a wait that is not ready holds with the number that its own Look found, rises, and begins with its Look again
+-- a wait that is not ready holds with the count that its own Look found, rises, and begins again with its Look
 abbrev pub hold : Part → Doing Flow
 hold again = Reads (λ d. tells (Hold (seen_in d.frames)) >> (tells Rise >> goes_to again))

@@ -1,5 +1,6 @@
 -- Meetings of tasks (RAPID Instructions: WaitSyncTask).
 use Rattle.std.specs.Prelude.{ℕ, zero, suc, ◌+◌, ◌/◌, ◌%◌, ◌^◌, ◌==◌, nat_lt, Bool, true, false, List, Option, None, Some, bytes_eq, position, if◌then◌else◌}
+use Rattle.rapid_limits.specs.declared.TheConstants.{MOST_TASKS}
 use Rattle.rapid_model.specs.declared.answer.Answer.{Answer}
 use Rattle.rapid_model.specs.declared.answer.Answer.TheVariants as answers
 use Rattle.rapid_model.specs.declared.fate.Fault.TheVariants.{TaskName}
@@ -9,20 +10,17 @@ use Rattle.rapid_meaning.specs.Doings.{Doing, Gives, Misfit, Asks, ◌>>=◌, fa
 use Rattle.rapid_meaning.specs.Places.{at_element, read_value}
 use Rattle.rapid_meaning.specs.Values.{text_in}
 
--- a set of tasks with one more, bit k for task k
+-- a set of tasks with one more; bit k stands for task k
 abbrev pub with_task : ℕ → ℕ → ℕ
 with_task task set = if (set / 2 ^ task) % 2 == 1 then set else set + 2 ^ task
 
--- a request names at most sixteen tasks
-abbrev pub task_set : ℕ → Doing ℕ
-task_set set = if nat_lt set (2 ^ 16) then Gives set else Misfit
-
+-- the task of a name that was found; a cell has at most sixteen
 abbrev pub task_or_fault : Option ℕ → Doing ℕ
 task_or_fault None = fault TaskName
-task_or_fault (Some task) = Gives task
+task_or_fault (Some task) = if nat_lt task MOST_TASKS then Gives task else Misfit
 
--- the set with the tasks of these names that the elements of a list name, from an element on, so many; each is read and
--- found before the next
+-- adds to a set the tasks that `left` elements of a list name, from element `number`; each is read and looked up before
+-- the next is read
 unfoldable pub with_tasks : List (List ℕ) → Lvalue → ℕ → ℕ → ℕ → Doing ℕ
 with_tasks names list zero number set = Gives set
 with_tasks names list (suc left) number set = do
@@ -30,8 +28,7 @@ with_tasks names list (suc left) number set = do
   v ← read_value place
   name ← text_in v
   task ← task_or_fault (position (bytes_eq name) names)
-  more ← task_set (with_task task set)
-  with_tasks names list left (number + 1) more
+  with_tasks names list left (number + 1) (with_task task set)
 
 abbrev pub tasks_in : List (List ℕ) → Lvalue → Option ℕ → Doing ℕ
 tasks_in names list None = Misfit

@@ -9,11 +9,11 @@ use Rattle.rapid_model.specs.declared.fate.Fault.TheVariants.{JointRange, MoveIn
 use Rattle.rapid_model.specs.declared.request.Request.TheVariants.{Position, Setpoint}
 use Rattle.rapid_meaning.specs.Doings.{Misfit, Asks, Reads, Act, done, fault}
 
--- no move in a trap
+-- a trap must not move the arm
 abbrev pub still : Act
 still = Reads (λ d. if d.trapped then fault MoveInTrap else done)
 
--- the most that an axis moves in one setpoint, in thousandths of a degree: the whole part of the speed, 1 at least
+-- the most that an axis moves in one setpoint, in thousandths of a degree: the whole part of the speed, at least 1
 abbrev pub cap_of : ℤ → ℕ
 cap_of speed = max 1 (nat_abs speed / 1_000)
 
@@ -22,17 +22,17 @@ when_given next answers.Given = next
 when_given next (answers.Stopped zone) = fault ZoneStop
 when_given next _ = Misfit
 
--- the last `left` of n setpoints of an arm with so many axes, in order
+-- the last `left` of the n setpoints of a move, in order
 unfoldable pub setpoints : ℕ → Joints → Joints → ℕ → ℕ → Act
 setpoints axes start target n zero = done
 setpoints axes start target n (suc left) = Asks (Setpoint (setpoint axes start target n (n - left))) (λ a. when_given (setpoints axes start target n left) a)
 
--- from where the arm is, all setpoints of the move
+-- all setpoints of the move, from the arm's position
 abbrev pub move_from : ℕ → Joints → ℕ → Answer → Act
 move_from axes target cap (answers.At start) = setpoints axes start target (setpoint_count axes start target cap) (setpoint_count axes start target cap)
 move_from axes target cap _ = Misfit
 
--- a move of an arm with so many axes to a target, at a speed of the tool
+-- moves an arm with this many axes to a target, at a speed of the tool
 abbrev pub move : ℕ → Joints → ℤ → Act
 move axes target speed =
     if not (is_reachable axes target) then fault JointRange

@@ -1,4 +1,4 @@
--- Places of data: what they are, and how they are read and written (RAPID Kernel, data references).
+-- Places of data, and how they are read and written (RAPID Kernel, data references).
 use Rattle.std.specs.Prelude.{ℕ, ◌+◌, ◌-◌, true, false, Bool, List, [], ◌∷◌, length, Option, None, Some, slice_get}
 use Rattle.std.specs.Option.{option_and_then, option_map}
 use Rattle.rapid_model.specs.declared.answer.Answer.{Answer}
@@ -19,8 +19,8 @@ use Rattle.typed_trees.specs.declared.datum.Root.{Root}
 use Rattle.typed_trees.specs.declared.datum.Root.TheVariants as roots
 use Rattle.typed_trees.specs.declared.expr.TreeRoot.{TreeRoot}
 use Rattle.typed_trees.specs.declared.expr.TreeRoot.TheVariants as tree_roots
-use Rattle.rapid_operators.specs.Elements.{element_number}
-use Rattle.rapid_meaning.specs.Data.{Data, Frame, datum_at, put_at}
+use Rattle.rapid_values.specs.Elements.{element_number}
+use Rattle.rapid_meaning.specs.Data.{Data, Frame, below_first, datum_at, put_at}
 use Rattle.rapid_meaning.specs.Doings.{Doing, Gives, Misfit, Asks, Reads, Writes, Act, ◌>>=◌, ◌>>◌, done, fault, or_misfit, tells}
 use Rattle.rapid_meaning.specs.Layouts.{slot_start, local_start}
 use Rattle.rapid_meaning.specs.Values.{num_in, truth_in, value_in}
@@ -29,9 +29,8 @@ abbrev pub at_root : Root → Lvalue
 at_root root = record { root = root; part = parts.Whole }
 
 -- a place among the data of the innermost frame
-abbrev pub own_place : ℕ → List Frame → Option Lvalue
-own_place at [] = None
-own_place at (frame ∷ below) = Some (at_root (roots.Frame (length below) at))
+abbrev pub own_place : ℕ → List Frame → Lvalue
+own_place at frames = at_root (roots.Frame (length (below_first frames)) at)
 
 abbrev pub place_in : Datum → Option Lvalue
 place_in (datums.Place place) = Some place
@@ -42,33 +41,33 @@ abbrev pub kept_place : ℕ → List Frame → Option Lvalue
 kept_place at [] = None
 kept_place at (frame ∷ below) = option_and_then place_in (slice_get frame.values at)
 
--- the place of the first datum of what a root names
+-- the place of the first datum at a root
 abbrev pub rooted : TypedTree → TypedRoutine → TreeRoot → Doing Lvalue
 rooted tree routine (tree_roots.Slot row) = Gives (at_root (roots.Slot (slot_start tree row)))
-rooted tree routine (tree_roots.Local row) = Reads (λ d. or_misfit (own_place (local_start routine row) d.frames))
+rooted tree routine (tree_roots.Local row) = Reads (λ d. Gives (own_place (local_start routine row) d.frames))
 rooted tree routine (tree_roots.Ref row) = Reads (λ d. or_misfit (kept_place (local_start routine row) d.frames))
 rooted tree routine (tree_roots.Pers row) = or_misfit (option_map (λ pers. at_root (roots.Pers pers 0)) (slice_get tree.pers_of row))
 
--- the element, from 1, of the array that begins at a root
+-- the root of an element, counted from 1, of the array at a root
 abbrev pub element_root : Root → ℕ → Root
 element_root (roots.Slot slot) number = roots.Slot (slot + (number - 1))
 element_root (roots.Frame frame at) number = roots.Frame frame (at + (number - 1))
 element_root (roots.Pers pers index) number = roots.Pers pers number
 
--- the place of the element, from 1, of the array that begins at a place
+-- the place of an element, counted from 1, of the array at a place
 abbrev pub place_of_element : Lvalue → ℕ → Lvalue
 place_of_element place number = record place { root = element_root place.root number }
 
--- a place that is among these data; persistents are the cell's
+-- the place, if its root is among these data; persistents belong to the cell
 abbrev pub there_in : Data → Lvalue → Root → Option Lvalue
 there_in d place (roots.Pers pers index) = Some place
 there_in d place root = option_map (λ held. place) (datum_at root d)
 
--- the place of an element that is there
+-- the place of an element that exists
 abbrev pub at_element : Lvalue → ℕ → Doing Lvalue
 at_element place number = Reads (λ d. or_misfit (there_in d (place_of_element place number) (element_root place.root number)))
 
--- an index that is not whole, or outside the array, is a fault
+-- an index that is not a whole number, or outside the array, is a fault
 abbrev pub element_or_fault : Lvalue → Option ℕ → Doing Lvalue
 element_or_fault place None = fault IndexRange
 element_or_fault place (Some number) = at_element place number
@@ -80,7 +79,7 @@ indexed (Some len) place index = do
   n ← num_in index
   element_or_fault place (element_number len n)
 
--- a part of a part; axes are numbered over both joints
+-- a part of a part; robot and external axes are numbered together
 abbrev pub part_within : PartName → PartName → Option PartName
 part_within parts.Whole part = Some part
 part_within outer parts.Whole = Some outer
@@ -92,13 +91,13 @@ part_within outer part = None
 abbrev pub part_at : PartName → Lvalue → Doing Lvalue
 part_at part place = or_misfit (option_map (λ inner. record place { part = inner }) (part_within place.part part))
 
--- the part of what a place holds; only a value has other parts than the whole
+-- a part of what a place holds; only a value has parts other than the whole
 abbrev pub part_in : PartName → Datum → Option Datum
 part_in part (datums.Plain v) = option_map datums.Plain (part_of v part)
 part_in parts.Whole held = Some held
 part_in part held = None
 
--- what a place holds with a part put in; it stays of the form that it is
+-- what a place holds, with a part replaced; it keeps its form
 abbrev pub put_in : PartName → Datum → Datum → Option Datum
 put_in part (datums.Plain new) (datums.Plain v) = option_map datums.Plain (put_part v part new)
 put_in parts.Whole (datums.Mark number) (datums.Mark old) = Some (datums.Mark number)
@@ -112,7 +111,7 @@ abbrev pub when_read : Answer → Doing Datum
 when_read (answers.Val v) = Gives (datums.Plain v)
 when_read _ = Misfit
 
--- reads: a persistent by a request, other data silently
+-- reads a place: a persistent by a request, other data silently
 abbrev pub load_from : Root → PartName → Doing Datum
 load_from (roots.Pers pers index) part = Asks (ReadP pers (path_of index part)) when_read
 load_from root part = Reads (λ d. or_misfit (option_and_then (part_in part) (datum_at root d)))
@@ -127,7 +126,7 @@ abbrev pub writes_at : Root → Data → Option Datum → Act
 writes_at root d None = Misfit
 writes_at root d (Some new) = Writes (put_at root new d) done
 
--- writes: a persistent by a request, other data silently, where the other parts stay
+-- writes a place: a persistent by a request, other data silently; the other parts of the datum stay
 abbrev pub store_at : Root → PartName → Datum → Act
 store_at (roots.Pers pers index) part new = do
   v ← value_in new
@@ -144,14 +143,14 @@ abbrev pub when_tested : Answer → Doing Bool
 when_tested (answers.Yes met) = Gives met
 when_tested _ = Misfit
 
--- TRUE where the bool of a variable was FALSE, and it becomes TRUE
+-- TRUE if the bool variable was FALSE, which then becomes TRUE
 abbrev pub set_unless : Lvalue → Bool → Doing Bool
 set_unless place true = Gives false
 set_unless place false = do
   write_value place (values.Bool true)
   Gives true
 
--- TestAndSet: of a persistent by one request, of a variable silently
+-- TestAndSet: a persistent by one request, a variable silently
 abbrev pub test_at : Root → Lvalue → Doing Bool
 test_at (roots.Pers pers index) place = Asks (TestSet pers (path_of index place.part)) when_tested
 test_at root place = do

@@ -1,4 +1,4 @@
--- What a task asks next, after the answers that it got so far.
+-- What a task asks after given answers.
 use Rattle.std.specs.Prelude.{◌≡◌, ℕ, zero, suc, List, [], ◌∷◌, ◌++◌, length, Option, None, Some, IsTrue, ⊤}
 use Rattle.rapid_model.specs.Fits.{fits_request}
 use Rattle.rapid_model.specs.declared.answer.Answer.{Answer}
@@ -14,21 +14,21 @@ use Rattle.rapid_meaning.specs.Doings.{Doing, Ends, Does, fault}
 use Rattle.rapid_meaning.specs.Flows.{Call}
 use Rattle.rapid_meaning.specs.Frames.{initial}
 
--- main is called once; the task is done as it ends, and an error that leaves it is a fault
+-- a task calls main once, and is done when main ends; an error that leaves main is a fault
 abbrev pub task : TypedTree → Doing ⊤
 task tree = Does (Call tree.main []) (λ _. Ends fates.Done) (λ error. fault (Unhandled error))
 
--- the parts of a program, so many one in another
+-- the parts of a program, nested to this depth at most
 unfoldable pub deep : TypedTree → ℕ → Run
 deep tree zero p d answers = NoFuel
 deep tree (suc n) p d answers = performed (fitting_of tree) (deep tree n) (part tree p) d answers
 
--- how the task stands after these answers. Each part asks before it does another, so that parts one in another are no more
--- than answers.
+-- The outcome of a task for these answers. Each part asks before it does another, so parts never nest deeper than the
+-- number of answers.
 unfoldable pub state_after : TypedTree → List Answer → Outcome ⊤
 state_after tree answers = performed (fitting_of tree) (deep tree (suc (length answers))) (task tree) (initial tree) answers
 
--- its next request; or that it has ended; or that an answer before did not fit its request; or what no checked task comes to
+-- the next request; or the task has ended, or an answer did not fit its request, or no checked task gets here
 pub data Next : Type 0 where
   asks : Request → Next
   ended : Next
@@ -50,17 +50,17 @@ data_in (Asking request d) = Some d
 data_in (Ended d) = Some d
 data_in _ = None
 
--- its data as it asks, or has ended, after these answers
+-- the data of a task that asks, or has ended, after these answers
 unfoldable pub data_after : TypedTree → List Answer → Option Data
 data_after tree answers = data_in (state_after tree answers)
 
--- an answer that fits the request which the task asks after these answers
+-- an answer fits the request that the task asks after these answers
 pub record FitsNext (tree : TypedTree) (before : List Answer) (a : Answer) : Type 0 where
   pub request : Request
   pub standing : Data
   pub asked : state_after tree before ≡ Asking request standing
   pub fits : IsTrue (fits_request (fitting_of tree standing.trapped) request a)
 
--- each answer fits the request that stands after those before it, and none follows the end
+-- each answer fits the request that is pending after those before it, and none follows the end
 pub record FitsSteps (tree : TypedTree) (answers : List Answer) : Type 0 where
   pub at : (before after : List Answer) (a : Answer) → answers ≡ before ++ a ∷ after → FitsNext tree before a

@@ -1,4 +1,4 @@
--- What is expected of a value, and what operators come to.
+-- The expected form of a value, and the results of operators.
 use Rattle.std.specs.Prelude.{ℕ, ◌*◌, Bool, true, false, not, ℤ, pos, neg_ℤ, List, ◌∷◌, Option, None, Some, if◌then◌else◌}
 use Rattle.std.specs.Ordering.{int_eq}
 use Rattle.rapid_num.specs.declared.joints.Joints.{Joints}
@@ -8,9 +8,9 @@ use Rattle.rapid_model.specs.declared.value.Value.{Value}
 use Rattle.rapid_model.specs.declared.value.Value.TheVariants as values
 use Rattle.rapid_model.specs.declared.operator.Operator.{Operator}
 use Rattle.rapid_model.specs.declared.operator.Operator.TheVariants as operators
-use Rattle.rapid_operators.specs.Operators.{apply}
-use Rattle.rapid_operators.specs.declared.applied.Applied.{Applied}
-use Rattle.rapid_operators.specs.declared.applied.Applied.TheVariants as applies
+use Rattle.rapid_values.specs.Operators.{apply}
+use Rattle.rapid_values.specs.declared.applied.Applied.{Applied}
+use Rattle.rapid_values.specs.declared.applied.Applied.TheVariants as applies
 use Rattle.typed_trees.specs.declared.datum.Datum.{Datum}
 use Rattle.typed_trees.specs.declared.datum.Datum.TheVariants.{Plain, Mark, Shape as OfShape}
 use Rattle.rapid_meaning.specs.Doings.{Doing, Gives, Raises, Misfit, fault, ◌>>=◌}
@@ -43,7 +43,7 @@ abbrev pub target_in : Value → Doing Joints
 target_in (values.Target joints) = Gives joints
 target_in _ = Misfit
 
--- the speed of the tool, the first part of a speed
+-- the tool's speed, the first component of a speeddata
 abbrev pub tool_speed_in : Value → Doing ℤ
 tool_speed_in (values.Speed (tool ∷ others)) = Gives tool
 tool_speed_in _ = Misfit
@@ -56,7 +56,7 @@ bit_in (values.Num n) =
     else fault SignalValue
 bit_in _ = Misfit
 
--- so many, as a num
+-- a whole number as a num
 abbrev pub whole : ℕ → Value
 whole n = values.Num (pos (n * 1_000))
 
@@ -64,7 +64,7 @@ abbrev pub of_bit : Bool → Value
 of_bit true = whole 1
 of_bit false = whole 0
 
--- a num in range
+-- a num, or the fault of one out of range
 abbrev pub in_range : Option ℤ → Doing Value
 in_range (Some n) = Gives (values.Num n)
 in_range None = fault NumRange
@@ -75,15 +75,22 @@ applied (applies.Raises n) = Raises n
 applied applies.OutOfRange = fault NumRange
 applied applies.Unfit = Misfit
 
--- an operator between its left operand and its right one; AND and OR skip the right one where the left one decides
+-- whether the left operand decides the result, as FALSE does before AND, and TRUE before OR; both take bools only
+abbrev pub decides : Operator → Value → Option Bool
+decides operators.And (values.Bool b) = Some (not b)
+decides operators.And v = None
+decides operators.Or (values.Bool b) = Some b
+decides operators.Or v = None
+decides o v = Some false
+
+abbrev pub unless_decided : Option Bool → Value → Doing Value → Doing Value
+unless_decided None v more = Misfit
+unless_decided (Some true) v more = Gives v
+unless_decided (Some false) v more = more
+
+-- a binary operator; its right operand is skipped if the left one decides
 abbrev pub between : Operator → Value → Doing Value → Doing Value
-between operators.And (values.Bool false) right = Gives (values.Bool false)
-between operators.And (values.Bool true) right = right >>= λ w. applied (apply operators.And (values.Bool true) w)
-between operators.And _ right = Misfit
-between operators.Or (values.Bool true) right = Gives (values.Bool true)
-between operators.Or (values.Bool false) right = right >>= λ w. applied (apply operators.Or (values.Bool false) w)
-between operators.Or _ right = Misfit
-between o v right = right >>= λ w. applied (apply o v w)
+between o v right = unless_decided (decides o v) v (right >>= λ w. applied (apply o v w))
 
 abbrev pub opposite : Value → Doing Value
 opposite (values.Bool b) = Gives (values.Bool (not b))

@@ -28,18 +28,18 @@ abbrev pub shaped : Lvalue → Result Shape ShapeFault → Act
 shaped place (Ok shape) = store place (datums.Shape (Some shape))
 shaped place (Err why) = fault (fault_of why)
 
--- stores the shape of a low and a high position, for an arm with so many axes
+-- stores the shape between a low and a high position, for an arm with this many axes
 abbrev pub define : ℕ → Lvalue → Bool → Joints → Joints → Act
 define axes place inside low high = shaped place (made_shape inside low high axes)
 
--- the bound of an axis below and above its middle; none of both where the middle or the delta is 9E9
+-- the bounds of an axis below and above its middle; there are none if the middle or the delta is 9E9
 abbrev pub home_low : ℤ → ℤ → Option ℤ
 home_low middle delta = if is_absent middle || is_absent delta then Some absent else difference_of middle delta
 
 abbrev pub home_high : ℤ → ℤ → Option ℤ
 home_high middle delta = if is_absent middle || is_absent delta then Some absent else sum_of middle delta
 
--- of each axis, where all are in range
+-- the bounds of all axes, if each is in range
 unfoldable pub on_axes : (ℤ → ℤ → Option ℤ) → List ℤ → List ℤ → Option (List ℤ)
 on_axes bound (m ∷ ms) (d ∷ ds) = option_and_then (λ b. option_map (λ bs. b ∷ bs) (on_axes bound ms ds)) (bound m d)
 on_axes bound _ _ = Some []
@@ -48,7 +48,7 @@ abbrev pub position_or_fault : Option (List ℤ) → Doing Joints
 position_or_fault None = fault faults.NumRange
 position_or_fault (Some axes) = Gives (record { axis = axes })
 
--- stores the shape of a middle and its deltas
+-- stores the shape of a home zone, from its middle and deltas
 abbrev pub define_home : ℕ → Lvalue → Bool → Joints → Joints → Act
 define_home axes place inside middle delta = do
   low ← position_or_fault (on_axes home_low middle.axis delta.axis)
@@ -72,7 +72,7 @@ when_numbered place answers.ZoneUsed = fault faults.ZoneUsed
 when_numbered place answers.ZoneFull = fault faults.ZoneFull
 when_numbered place _ = Misfit
 
--- supervises a shape by the zone of a variable, which holds the old number
+-- supervises a shape as the zone of a variable, which holds the old number
 abbrev pub supervise : Lvalue → ℕ → Bool → Shape → Act
 supervise place old temporary shape = Asks (ZoneSet old temporary shape) (when_numbered place)
 

@@ -25,7 +25,7 @@ ghost use Rattle.rapid_meaning.specs.Constants.{HoldsArrays};
 ghost use Rattle.rapid_meaning.specs.Data.{Data, seen_in, values_in};
 ghost use Rattle.rapid_meaning.specs.Errors.{failed_in};
 ghost use Rattle.rapid_meaning.specs.Expressions.{expr};
-ghost use Rattle.rapid_meaning.specs.Flows.{Guarded, Normal, Unguarded, Where};
+ghost use Rattle.rapid_meaning.specs.Flows.{Guarded, Normal, Unguarded, Where, Turn};
 ghost use Rattle.rapid_meaning.specs.Frames.{initial};
 ghost use Rattle.rapid_meaning.specs.Functions.{num_text};
 ghost use Rattle.rapid_meaning.specs.Loops.{turn_due};
@@ -34,15 +34,15 @@ ghost use Rattle.rapid_meaning.specs.Runs.{FitsSteps, asks, asked_after, data_af
 ghost use Rattle.rapid_meaning.specs.Turns.{Counts, EndsNormally, turn_by_turn, turns};
 ghost use Rattle.rapid_meaning.specs.Zones.{home_high, home_low, on_axes};
 
-/// A law: the parts of a program that are done one in another are no more than answers, and with more fuel a task stands as
-/// it does.
+/// A law: parts of a program never nest deeper than the number of answers, so the fuel of a run never runs out, and
+/// more fuel changes nothing.
 pub fn fuel_is_enough()
     ensures enough { (tree : TypedTree) (answers : List Answer) → state_after tree answers ≢ NoFuel }
     ensures more { (tree : TypedTree) (answers : List Answer) (n : ℕ) → length answers < n → performed (fitting_of tree) (deep tree n) (task tree) (initial tree) answers ≡ state_after tree answers }
 {}
 
-/// A law: an answer that fits the request which is due takes a run on, one that does not is unfit, and where a task has ended,
-/// or an answer was unfit, further answers change nothing.
+/// A law: an answer that fits the pending request continues the run, and any other answer is unfit. Once a task has
+/// ended, or an answer was unfit, further answers change nothing.
 pub fn runs_go_on()
     ensures goes_on { (tree : TypedTree) (before : List Answer) (a : Answer) (request : Request) (d : Data) → state_after tree before ≡ Asking request d → IsTrue (fits_request (fitting_of tree d.trapped) request a) → state_after tree (before ++ a ∷ []) ≢ Unfit }
     ensures refuses { (tree : TypedTree) (before : List Answer) (a : Answer) (request : Request) (d : Data) → state_after tree before ≡ Asking request d → IsFalse (fits_request (fitting_of tree d.trapped) request a) → state_after tree (before ++ a ∷ []) ≡ Unfit }
@@ -51,28 +51,28 @@ pub fn runs_go_on()
     ensures stays_unfit { (tree : TypedTree) (before : List Answer) (a : Answer) → state_after tree before ≡ Unfit → state_after tree (before ++ a ∷ []) ≡ Unfit }
 {}
 
-/// A law: an expression that is known before the run comes to its constant value, asks nothing and changes no data, where the
-/// data hold the constant arrays.
+/// A law: if the data hold the constant arrays, an expression that is known before the run gives its constant value,
+/// asks nothing and changes no data.
 pub fn constants_come_to_their_values()
     ensures { (tree : TypedTree) (routine : TypedRoutine) (known : Elements) (d : Data) → HoldsArrays tree routine known d → (e : TypedExpr) (v : Value) → constant_value known e ≡ constant.Value v → (by : Bool → Fitting) (run : Run) (left : List Answer) → performed by run (expr tree routine e) d left ≡ Gave v d left }
 {}
 
-/// A law: where the constant value of an expression is an error or a fault, and the data hold the constant arrays, the run of the
-/// expression raises that error, or ends with that fault, with the data as they were, wherever it does not misfit.
+/// A law: if the data hold the constant arrays, and evaluating an expression before the run gives an error or a fault,
+/// then the run raises that error, or ends with that fault, with the data unchanged, unless it misfits.
 pub fn constants_fail_as_their_values()
     ensures raises { (tree : TypedTree) (routine : TypedRoutine) (known : Elements) (d : Data) → HoldsArrays tree routine known d → (e : TypedExpr) (n : ℕ) → constant_value known e ≡ constant.Raises n → (by : Bool → Fitting) (run : Run) (left : List Answer) → performed by run (expr tree routine e) d left ≢ Misfits → performed by run (expr tree routine e) d left ≡ Raised n d left }
     ensures range { (tree : TypedTree) (routine : TypedRoutine) (known : Elements) (d : Data) → HoldsArrays tree routine known d → (e : TypedExpr) → constant_value known e ≡ constant.OutOfRange → (by : Bool → Fitting) (run : Run) → performed by run (expr tree routine e) d [] ≢ Misfits → performed by run (expr tree routine e) d [] ≡ Asking (End (fates.Fault NumRange)) d }
     ensures array { (tree : TypedTree) (routine : TypedRoutine) (known : Elements) (d : Data) → HoldsArrays tree routine known d → (e : TypedExpr) → constant_value known e ≡ constant.OutOfArray → (by : Bool → Fitting) (run : Run) → performed by run (expr tree routine e) d [] ≢ Misfits → performed by run (expr tree routine e) d [] ≡ Asking (End (fates.Fault IndexRange)) d }
 {}
 
-/// A law: from where the arm is, a move asks for each planned setpoint in turn.
+/// A law: a move asks for each setpoint that is planned from the arm's position, in order.
 pub fn moves_are_planned()
     ensures { (by : Bool → Fitting) (run : Run) (axes : ℕ) (start target : Joints) (speed : ℤ) (given : ℕ) (d : Data) → IsTrue (is_position (by d.trapped).axes start) → IsTrue (is_reachable axes target) → IsTrue (int_lt (pos 0) speed) → given < setpoint_count axes start target (cap_of speed) → performed by run (move axes target speed) d (At start ∷ replicate given Given) ≡ Asking (Setpoint (setpoint axes start target (setpoint_count axes start target (cap_of speed)) (given + 1))) d }
 {}
 
-/// A law: once all its setpoints are given, a move is done: it asks nothing more, and no data have changed. A setpoint that is stopped
-/// ends the task. A target out of reach ends it before any request, whatever the speed; a speed that is not above zero does so for
-/// every other target.
+/// A law: once all its setpoints are given, a move is done: it asks nothing more and has changed no data. A stopped
+/// setpoint ends the task. A target out of reach ends it before any request, whatever the speed. So does a speed that
+/// is not positive, for any target within reach.
 pub fn moves_end()
     ensures done { (by : Bool → Fitting) (run : Run) (axes : ℕ) (start target : Joints) (speed : ℤ) (d : Data) (left : List Answer) → IsTrue (is_position (by d.trapped).axes start) → IsTrue (is_reachable axes target) → IsTrue (int_lt (pos 0) speed) → performed by run (move axes target speed) d (At start ∷ replicate (setpoint_count axes start target (cap_of speed)) Given ++ left) ≡ Gave tt d left }
     ensures stopped { (by : Bool → Fitting) (run : Run) (axes : ℕ) (start target : Joints) (speed : ℤ) (given : ℕ) (zone : ZoneName) (d : Data) → IsTrue (is_position (by d.trapped).axes start) → IsTrue (is_reachable axes target) → IsTrue (int_lt (pos 0) speed) → given < setpoint_count axes start target (cap_of speed) → performed by run (move axes target speed) d (At start ∷ replicate given Given ++ Stopped zone ∷ []) ≡ Asking (End (fates.Fault ZoneStop)) d }
@@ -80,49 +80,51 @@ pub fn moves_end()
     ensures no_speed { (by : Bool → Fitting) (run : Run) (axes : ℕ) (target : Joints) (speed : ℤ) (d : Data) → IsTrue (is_reachable axes target) → int_lt (pos 0) speed ≡ false → performed by run (move axes target speed) d [] ≡ Asking (End (fates.Fault Speed)) d }
 {}
 
-/// A law: the most that an axis moves in one setpoint, in thousandths of a degree, is the whole part of the speed, but 1 at least.
+/// A law: the most that an axis moves in one setpoint, in thousandths of a degree, is the whole part of the speed, and
+/// at least 1.
 pub fn caps_are_whole_parts()
     ensures { (speed : ℕ) → ((cap_of (pos speed) ≡ 1) × (speed < 1_000)) ⊎ ((cap_of (pos speed) * 1_000 ≤ speed) × (speed < (cap_of (pos speed) + 1) * 1_000)) }
 {}
 
-/// A law: an ERROR part without statements does what no ERROR part does, but that ERRNO is the error's number.
+/// A law: an empty ERROR part does what no ERROR part does, except that it sets ERRNO to the error's number.
 pub fn empty_error_parts_pass_errors_on()
     ensures { (tree : TypedTree) (n : ℕ) (w : Where) (s : TypedStmt) (error : ℕ) (d : Data) (left : List Answer) → performed (fitting_of tree) (deep tree (suc n)) (failed_in (Guarded NoStmts) w s error) d left ≡ performed (fitting_of tree) (deep tree (suc n)) (failed_in Unguarded w s error) (record d { errno = error }) left }
 {}
 
-/// A law: a FOR whose list always ends normally turns as often as the closed form of its bounds says, each turn with one Look, and then
-/// is done; where that is for ever, it comes to the Look of one more turn after any number of them.
+/// A law: if its list always ends normally, a FOR iterates as often as the closed form of its bounds says, with one
+/// Look an iteration, and is then done. If the closed form says for ever, any number of iterations is followed by the
+/// Look of one more.
 pub fn loops_turn_by_their_closed_form()
-    ensures done { (tree : TypedTree) (w : Where) (at local : ℕ) (e f : TypedExpr) (g : Option TypedExpr) (list : TypedStmts) (answers : List Answer) (parts seen : ℕ) (first last step : ℤ) (count n : ℕ) (d : Data) (left : List Answer) → EndsNormally tree w local list answers parts → Counts w.routine local d first last step → IsTrue (is_num first) → IsTrue (is_num last) → turns first last step ≡ Some count → parts + count < n → (after : Data) × (performed (fitting_of tree) (deep tree n) (turn_due w (trees.For at local e f g list) local) d (turn_by_turn seen answers count ++ left) ≡ Gave Normal after left) }
-    ensures for_ever { (tree : TypedTree) (w : Where) (at local : ℕ) (e f : TypedExpr) (g : Option TypedExpr) (list : TypedStmts) (answers : List Answer) (parts seen : ℕ) (first last step : ℤ) (count n : ℕ) (d : Data) → EndsNormally tree w local list answers parts → Counts w.routine local d first last step → IsTrue (is_num first) → IsTrue (is_num last) → turns first last step ≡ None → parts + count < n → (after : Data) × (performed (fitting_of tree) (deep tree n) (turn_due w (trees.For at local e f g list) local) d (turn_by_turn seen answers count) ≡ Asking Look after) }
+    ensures done { (tree : TypedTree) (w : Where) (at local : ℕ) (e f : TypedExpr) (g : Option TypedExpr) (list : TypedStmts) (answers : List Answer) (parts seen : ℕ) (first last step : ℤ) (count n : ℕ) (d : Data) (left : List Answer) → EndsNormally tree w local list answers parts → Counts w.routine local d first last step → IsTrue (is_num first) → IsTrue (is_num last) → turns first last step ≡ Some count → parts + count < n → (after : Data) × (performed (fitting_of tree) (deep tree n) (turn_due w.routine local (Turn w (trees.For at local e f g list))) d (turn_by_turn seen answers count ++ left) ≡ Gave Normal after left) }
+    ensures for_ever { (tree : TypedTree) (w : Where) (at local : ℕ) (e f : TypedExpr) (g : Option TypedExpr) (list : TypedStmts) (answers : List Answer) (parts seen : ℕ) (first last step : ℤ) (count n : ℕ) (d : Data) → EndsNormally tree w local list answers parts → Counts w.routine local d first last step → IsTrue (is_num first) → IsTrue (is_num last) → turns first last step ≡ None → parts + count < n → (after : Data) × (performed (fitting_of tree) (deep tree n) (turn_due w.routine local (Turn w (trees.For at local e f g list))) d (turn_by_turn seen answers count) ≡ Asking Look after) }
 {}
 
-/// A law: the middle of a home zone's axis is halfway between its bounds, each as far from it as the delta says, where neither bound is
-/// 9E9; an axis whose middle or whose delta is 9E9 has no bound. The bounds of all axes are those of each.
+/// A law: if neither bound of a home zone's axis is 9E9, the middle is halfway between the bounds, and the delta is its
+/// distance from each. An axis whose middle or delta is 9E9 has no bounds. The bounds of a zone are those of each axis.
 pub fn homes_are_halfway()
     ensures halfway { (middle delta low high : ℤ) → home_low middle delta ≡ Some low → home_high middle delta ≡ Some high → is_absent low ≡ false → is_absent high ≡ false → (low +ℤ high ≡ middle +ℤ middle) × (low +ℤ delta ≡ middle) }
     ensures none { (middle delta : ℤ) → IsTrue (is_absent middle) ⊎ IsTrue (is_absent delta) → (home_low middle delta ≡ Some absent) × (home_high middle delta ≡ Some absent) }
     ensures axes { (bound : ℤ → ℤ → Option ℤ) (middles deltas bounds : List ℤ) (axis : ℕ) (middle delta : ℤ) → on_axes bound middles deltas ≡ Some bounds → slice_get middles axis ≡ Some middle → slice_get deltas axis ≡ Some delta → slice_get bounds axis ≡ bound middle delta }
 {}
 
-/// A law: NumToStr writes a num with three decimals as the lines of a run do.
+/// A law: NumToStr writes a num with three decimals as the printed lines of a run do.
 pub fn three_decimals_are_fixed()
     ensures { (n : ℤ) → num_text n 3 ≡ fixed_text n }
 {}
 
-/// A law: after whatever answers, at most 32 routines of a task are under way, with at most 20,000 values in all.
+/// A law: whatever the answers, a task has at most 32 frames, with at most 20,000 values in all.
 pub fn frames_have_room()
     ensures { (tree : TypedTree) (answers : List Answer) (d : Data) → data_after tree answers ≡ Some d → (length d.frames ≤ MOST_FRAMES) × (values_in d.frames ≤ MOST_FRAME_VALUES) }
 {}
 
-/// A law: a wait that is not ready holds with the count that the innermost routine under way keeps, which a Look of its statements found;
-/// and once the task rose, it looks.
+/// A law: a wait that is not ready holds with the count that the innermost frame keeps from a Look of its own
+/// statements. After Rise, the task looks again.
 pub fn waits_look_again()
     ensures holds { (tree : TypedTree) (answers : List Answer) (seen : ℕ) (d : Data) → state_after tree answers ≡ Asking (Hold seen) d → seen ≡ seen_in d.frames }
     ensures looks { (tree : TypedTree) (answers : List Answer) → asked_after tree answers ≡ asks Rise → asked_after tree (answers ++ Ok ∷ []) ≡ asks Look }
 {}
 
-/// A law: after given answers a task asks one request at most, and none but the tasks ask.
+/// A law: after given answers a task asks at most one request, and only the tasks ask.
 pub fn tasks_ask_one_request()
     ensures one { (trees : List TypedTree) (actor : ℕ) (answers : List Answer) (r r' : Request) → tree_asks trees actor answers r → tree_asks trees actor answers r' → r ≡ r' }
     ensures within { (trees : List TypedTree) (actor : ℕ) (answers : List Answer) (request : Request) → tree_asks trees actor answers request → actor < length trees }

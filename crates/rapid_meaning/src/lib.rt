@@ -1,4 +1,4 @@
-//! What a task does: the meaning of the whole language, as definitions that contracts cite, and laws on them.
+//! The meaning of the language: what a task does, as definitions that contracts cite, and laws about them.
 #![tactic(auto)]
 
 mod laws;

@@ -1,4 +1,4 @@
--- Values that are of a type and full.
+-- Values of a type with lists of full length.
 use Rattle.std.proofs.Common.{◌≡◌, true, List, [], ◌∷◌, refl}
 use Rattle.std.specs.List.{list_all}
 use Rattle.std.proofs.lemmas.Bool.{and_from, and_parts}

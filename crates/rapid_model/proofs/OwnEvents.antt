@@ -1,9 +1,9 @@
--- One more of an actor's own events.
+-- An actor's own events, with one more.
 use Rattle.std.proofs.Common.{◌≡◌, List, [], ◌∷◌, ◌++◌, refl}
 use Rattle.rapid_model.specs.Own.{is_held, is_hold}
 use Rattle.rapid_model.specs.declared.event.Event.{Event}
 
--- a task is held just where its last event is a Hold
+-- a task is held exactly if its last event is a Hold
 pub is_held-more : (es : List Event) (e : Event) → is_held (es ++ e ∷ []) ≡ is_hold e.request
 is_held-more [] e = refl
 is_held-more (f ∷ []) e = refl

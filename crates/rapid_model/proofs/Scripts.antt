@@ -1,4 +1,4 @@
--- What the limits of a script say of its tasks, whatever its version.
+-- What the limits of a script say about its tasks, in each version.
 use Rattle.std.proofs.Common.{◌≡◌, ℕ, zero, suc, ◌≤◌, Bool, true, false, ◌&&◌, ◌||◌, ◌==◌, List, [], ◌∷◌, length, Option, Some, None, slice_get, refl, ap, subst, lit≤, arith, IsTrue}
 use Rattle.std.specs.Prelude.{if◌then◌else◌, nat_le}
 use Rattle.std.specs.List.{list_all}
@@ -28,7 +28,7 @@ pub task_starts : (version : ℕ) (task : ScriptTask) → is_task version task �
 task_starts version task is =
     (and_parts (((is_short_name task.name && is_within 1 16 (length task.modules)) && list_all is_file_name task.modules) && takes_axes version task.axes) (is_start task.axes task.arm) is).1
 
--- and its name is one
+-- the name of a task is a short name
 pub task_named : (version : ℕ) (task : ScriptTask) → is_task version task ≡ true → is_short_name task.name ≡ true
 task_named version task is =
     let name : Bool = is_short_name task.name in

@@ -1,4 +1,4 @@
--- What contracts see of a cell.
+-- How contracts see a cell.
 use Rattle.std.specs.Prelude.{ℕ, ◌≤◌, Bool, ◌&&◌, ◌==◌, nat_lt, IsTrue, List, map, length}
 use Rattle.std.specs.List.{list_all}
 use Rattle.rapid_limits.specs.declared.TheConstants.{LONGEST_ARRAY, MOST_CELL_ZONES, MOST_INPUTS, MOST_SIGNALS, MOST_STEPS, MOST_TASKS}
@@ -20,17 +20,18 @@ pub record CellData : Type 0 where
   pub zones : List ZoneRow
   pub inputs : List InputRow
 
--- a task has a name, and its arm, where there is one, starts at a position
+-- a task has a name, and its arm, if there is one, starts at a position
 abbrev pub starts_well : TaskRow → Bool
 starts_well row = is_short_name row.name && is_start row.axes row.arm
 
--- A persistent belongs to one of so many tasks, or to none. It has a first value of its type, or as many as its length says.
+-- A persistent belongs to one of this many tasks, or to none. It has one first value of its type, or one for each
+-- element of an array.
 abbrev pub is_pers_cell : ℕ → PersCell → Bool
 is_pers_cell tasks row =
     holds_where_there (λ task. nat_lt task tasks) row.owner && holds_where_there (is_within 1 LONGEST_ARRAY) row.len
     && length row.first == width row.len && list_all (is_value_of row.sort) row.first
 
--- the limits that every cell keeps
+-- the limits that every cell is within
 pub record IsCell (cell : CellData) : Type 0 where
   pub some_steps : 1 ≤ cell.steps
   pub few_steps : cell.steps ≤ MOST_STEPS

@@ -16,20 +16,21 @@ use Rattle.rapid_model.specs.declared.request.Request.TheVariants as requests
 use Rattle.rapid_model.specs.declared.sort.Sort.{Sort}
 use Rattle.rapid_model.specs.declared.value.Value.{Value}
 
--- What an answer has to fit besides its request: the type of each persistent, by its number in the cell; which routines are
--- traps that an interrupt may begin; whether a trap is under way; and how many axes the arm has, 0 where there is none.
+-- What the answers depend on besides the request: the type of each persistent, by its number in the cell; which
+-- routines are traps that an interrupt may start; whether a trap is running; and the number of axes of the arm, 0 if
+-- there is none.
 pub record Fitting : Type 0 where
   pub sorts : ℕ → Option Sort
   pub traps : ℕ → Bool
   pub trapped : Bool
   pub axes : ℕ
 
--- a value of the part of a persistent of this type, if the persistent is there
+-- a value for this part of a persistent of this type, if the persistent exists
 abbrev pub fits_pers : Option Sort → PartName → Value → Bool
 fits_pers None part value = false
 fits_pers (Some sort) part value = fits_part sort part value
 
--- an answer of a form that the request has, within its limits
+-- the answer is one of those for this request, and is within its limits
 abbrev pub fits_request : Fitting → Request → Answer → Bool
 fits_request by requests.Look (answers.Go seen) = true
 fits_request by requests.Look (answers.Trap number trap) = by.traps trap && not by.trapped
@@ -80,12 +81,12 @@ fits_request by (requests.Say text tail) answers.Ok = true
 fits_request by (requests.End fate) answers.Ok = true
 fits_request _ _ _ = false
 
--- how many axes the arm of an actor has, by its number in the cell: 0 where it has none
+-- the number of axes of an actor's arm, by the actor's number in the cell; 0 if it has no arm
 abbrev pub axes_of : CellData → ℕ → ℕ
 axes_of cell actor = unwrap_or (option_map (λ row. row.axes) (slice_get cell.tasks actor)) 0
 
--- what the answers of a cell fit, for an actor with its own events so far: a trap that begins is one with which it asked to
--- connect an interrupt
+-- what the answers in a cell depend on, given an actor and its own events so far; a trap that starts is one that the
+-- actor asked to connect to an interrupt
 abbrev pub fitting_in : CellData → ℕ → List Event → Fitting
 fitting_in cell actor mine = record {
   sorts = λ pers. option_map (λ row. row.sort) (slice_get cell.pers pers);

@@ -1,10 +1,10 @@
--- How many nums the lists of a value have.
+-- How many nums the lists of a value contain.
 use Rattle.std.specs.Prelude.{Bool, true, length, ◌==◌}
 use Rattle.rapid_limits.specs.declared.TheConstants.{MOST_AXES}
 use Rattle.rapid_model.specs.declared.value.Value.{Value}
 use Rattle.rapid_model.specs.declared.value.Value.TheVariants as values
 
--- each list is as long as the type says, which holds of all values that a program has
+-- each list has the length that the type gives it, as every value of a program does
 abbrev pub is_full : Value → Bool
 is_full (values.Rob axes) = length axes == 6
 is_full (values.Ext axes) = length axes == 6

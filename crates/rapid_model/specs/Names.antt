@@ -5,19 +5,19 @@ use Rattle.std.specs.Str.{str_eq_ignore_ascii_case, str_to_ascii_lowercase}
 use Rattle.rapid_limits.specs.declared.TheConstants.{LONGEST_NAME}
 use Rattle.rapid_num.specs.Characters.{is_name}
 
--- a name that is not too long
+-- a name within the maximum length
 abbrev pub is_short_name : List ℕ → Bool
 is_short_name text = is_name text && nat_le (length text) LONGEST_NAME
 
--- two names are one, letters of either case being the same
+-- the names are equal, case-insensitive
 abbrev pub IsOneName : List ℕ → List ℕ → Type 0
 IsOneName name other = str_to_ascii_lowercase name ≡ str_to_ascii_lowercase other
 
--- one of the names, letters of either case being the same
+-- the name is among the names, case-insensitive
 abbrev pub is_among : List ℕ → List (List ℕ) → Bool
 is_among name names = list_any (str_eq_ignore_ascii_case name) names
 
--- no two of the names are the same
+-- no two of the names are equal, case-insensitive
 abbrev pub differ : List (List ℕ) → Bool
 differ [] = true
 differ (name ∷ names) = not (is_among name names) && differ names

@@ -1,4 +1,4 @@
--- What an actor's own events tell of it.
+-- What an actor's own events say about it.
 use Rattle.std.specs.Prelude.{ℕ, Bool, true, false, not, List, [], ◌∷◌, Option, Some, None, is_some, filter, map, count_by, ◌==◌}
 use Rattle.std.specs.List.{list_any}
 use Rattle.std.specs.Option.{option_or}
@@ -13,16 +13,16 @@ use Rattle.rapid_model.specs.declared.request.Request.TheVariants.{Leave, Hold, 
 abbrev pub part_of : ℕ → List Event → List Event
 part_of actor history = filter (λ e. e.actor == actor) history
 
--- the answers that an actor got, in order
+-- the answers that an actor received, in order
 abbrev pub answers_of : ℕ → List Event → List Answer
 answers_of actor history = map (λ e. e.answer) (part_of actor history)
 
--- the fate that a request tells
+-- the fate in a request
 abbrev pub fate_of : Request → Option Fate
 fate_of (End fate) = Some fate
 fate_of _ = None
 
--- the fate that the first End of some events tells
+-- the fate in the first End among some events
 abbrev pub end_of : List Event → Option Fate
 end_of [] = None
 end_of (e ∷ es) = option_or (fate_of e.request) (end_of es)
@@ -42,18 +42,18 @@ abbrev pub is_leave : Request → Bool
 is_leave Leave = true
 is_leave _ = false
 
--- a trap begins with the answer
+-- the answer starts a trap
 abbrev pub is_trap : Answer → Bool
 is_trap (answers.Trap number trap) = true
 is_trap _ = false
 
--- a task is held where its last event is a Hold
+-- a task is held if its last event is a Hold
 abbrev pub is_held : List Event → Bool
 is_held [] = false
 is_held (e ∷ []) = is_hold e.request
 is_held (_ ∷ e ∷ es) = is_held (e ∷ es)
 
--- a trap is under way where not as many traps were left as begun
+-- a trap is running unless as many traps have ended as started
 abbrev pub is_trapped : List Event → Bool
 is_trapped mine = not (count_by (λ e. is_trap e.answer) mine == count_by (λ e. is_leave e.request) mine)
 
@@ -61,6 +61,6 @@ abbrev pub connects_with : ℕ → Request → Bool
 connects_with trap (Connect old with) = with == trap
 connects_with trap _ = false
 
--- the task asked to connect an interrupt with the routine
+-- the task asked to connect an interrupt to the routine
 abbrev pub has_connected : List Event → ℕ → Bool
 has_connected mine trap = list_any (λ e. connects_with trap e.request) mine

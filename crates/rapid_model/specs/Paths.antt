@@ -1,4 +1,4 @@
--- The parts of persistents, and the values that they take.
+-- The parts of persistents and their values.
 use Rattle.std.specs.Prelude.{ℕ, Bool, false, ◌&&◌, nat_le, nat_lt, Option, Some, None, is_some, ◌==◌, if◌then◌else◌}
 use Rattle.rapid_limits.specs.declared.TheConstants.{MOST_AXES, ROBOT_AXES}
 use Rattle.rapid_model.specs.Lengths.{is_full}
@@ -15,7 +15,7 @@ use Rattle.rapid_model.specs.declared.value.Value.{Value}
 abbrev pub num_where : Bool → Option Sort
 num_where there = if there then Some sorts.Num else None
 
--- the type of a part of a value of this type; none where it has no such part
+-- the type of a part of a value of this type; None if it has no such part
 abbrev pub part_sort : Sort → PartName → Option Sort
 part_sort sort parts.Whole = Some sort
 part_sort sorts.JointTarget parts.Robax = Some sorts.RobJoint
@@ -27,16 +27,16 @@ part_sort sorts.SpeedData (parts.SpeedPart number) = num_where (nat_lt number 4)
 part_sort sorts.Tasks parts.Taskname = Some sorts.Text
 part_sort _ _ = None
 
--- an element of a datum of this length: none is named where it is no array, else one from 1
+-- an element of a datum of this length: 0 if it is not an array, else its number from 1
 abbrev pub has_element : Option ℕ → ℕ → Bool
 has_element None index = index == 0
 has_element (Some len) index = is_within 1 len index
 
--- a value of the type, with as many nums as it has
+-- a value of the type, with the type's number of nums
 abbrev pub has_sort : Sort → Value → Bool
 has_sort sort value = is_value_of sort value && is_full value
 
--- the value is one of the part of a value of this type
+-- the value has the type of this part of a value of this type
 abbrev pub fits_part : Sort → PartName → Value → Bool
 fits_part sort part value = fits (part_sort sort part)
   where
@@ -44,6 +44,6 @@ fits_part sort part value = fits (part_sort sort part)
     fits None = false
     fits (Some inner) = has_sort inner value
 
--- the persistent has the element and the part that a path names
+-- the persistent has the element and the part at the path
 abbrev pub has_path : PersCell → Path → Bool
 has_path row path = has_element row.len path.index && is_some (part_sort row.sort path.part)

@@ -1,4 +1,4 @@
--- Who may ask what of a cell.
+-- Which requests an actor may make.
 use Rattle.std.specs.Prelude.{ℕ, ◌^◌, Bool, true, false, not, ◌&&◌, nat_lt, List, length, Option, Some, None, is_some, slice_get, ◌==◌}
 use Rattle.rapid_num.specs.Reach.{is_position}
 use Rattle.rapid_model.specs.CellData.{CellData}
@@ -16,7 +16,7 @@ use Rattle.rapid_model.specs.declared.task_row.TaskRow.{TaskRow}
 use Rattle.rapid_model.specs.declared.watched.Watched.{Watched}
 use Rattle.rapid_model.specs.declared.watched.Watched.TheVariants as watched
 
--- a task may tell of itself that it is done, has left by EXIT, or has a fault
+-- a task may report that it is done, that EXIT ended it, or a fault
 abbrev pub may_tell : Fate → Bool
 may_tell fates.Done = true
 may_tell fates.Exit = true
@@ -24,7 +24,7 @@ may_tell (fates.Fault f) = true
 may_tell fates.Held = false
 may_tell fates.Cut = false
 
--- it holds of the persistent of this number, which is there
+-- it holds of the persistent with this number, which exists
 abbrev pub of_pers : CellData → ℕ → (PersCell → Bool) → Bool
 of_pers cell pers test = holds (slice_get cell.pers pers)
   where
@@ -43,8 +43,8 @@ abbrev pub can_watch : CellData → Watched → Bool
 can_watch cell (watched.Signal signal value) = has_signal cell signal
 can_watch cell (watched.Pers pers) = nat_lt pers (length cell.pers)
 
--- What a task of this row may ask, with its own events so far: of what is there, of an arm only where it has one, and Leave only
--- in a trap. The numbers of interrupts, traps and zones may be any.
+-- What a task may request, given its own events so far: only persistents, signals and meetings of the cell, an arm only
+-- if it has one, and Leave only in a trap. Any numbers of interrupts, traps and zones are allowed.
 abbrev pub suits_task : CellData → TaskRow → List Event → Request → Bool
 suits_task cell row mine (requests.ReadP pers path) = of_pers cell pers (λ p. has_path p path)
 suits_task cell row mine (requests.WriteP pers path value) = of_pers cell pers (λ p. has_path p path && fits_part p.sort path.part value)
@@ -65,17 +65,18 @@ suits_task cell row mine (requests.Input index) = false
 suits_task cell row mine (requests.End fate) = may_tell fate
 suits_task cell row mine _ = true
 
--- the input script asks its steps in order, and nothing else
+-- the input script requests its steps in order, and nothing else
 abbrev pub suits_inputs : CellData → List Event → Request → Bool
 suits_inputs cell mine (requests.Input index) = index == length mine && nat_lt index (length cell.inputs)
 suits_inputs cell mine _ = false
 
--- a held task asks Rise, and any other does not
+-- a held task requests Rise, and no other task does
 abbrev pub goes_with : Bool → Bool → Bool
 goes_with true rise = rise
 goes_with false rise = not rise
 
--- what an actor may ask: a task that has not ended, by its number in the cell, or the input script, whose number is the next
+-- what an actor may request: a task that has not ended, by its number in the cell, or the input script, whose number
+-- follows those of the tasks
 abbrev pub suits_actor : CellData → ℕ → List Event → Request → Bool
 suits_actor cell actor mine request = suits (slice_get cell.tasks actor)
   where

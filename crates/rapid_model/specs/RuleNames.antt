@@ -1,4 +1,4 @@
--- The names of the rules of a cell script.
+-- The names of the rules for a cell script.
 use Rattle.std.specs.Prelude.{ℕ, List, codes}
 use Rattle.rapid_model.specs.declared.script_rule.ScriptRule.{ScriptRule}
 use Rattle.rapid_model.specs.declared.script_rule.ScriptRule.TheVariants as rules

@@ -1,4 +1,4 @@
--- What contracts see of a cell script.
+-- How contracts see a cell script.
 use Rattle.std.specs.Prelude.{ℕ, ◌≤◌, Bool, true, false, ◌&&◌, ◌||◌, ◌==◌, nat_le, nat_lt, if◌then◌else◌, IsTrue, List, [], ◌∷◌, ◌++◌, length, map}
 use Rattle.std.specs.List.{list_all}
 use Rattle.rapid_limits.specs.declared.TheConstants.{LONGEST_ARRAY, LONGEST_FILE_NAME, MOST_CELL_ZONES, MOST_INPUTS, MOST_MODULES, MOST_PERS_VALUES, MOST_SIGNALS, MOST_STEPS, MOST_TASKS, MOST_TASKS_AT_FIRST, ROBOT_AXES}
@@ -22,25 +22,25 @@ pub record ScriptData : Type 0 where
   pub zones : List ZoneRow
   pub inputs : List InputRow
 
--- the name of a file has a byte and is not too long
+-- the name of a file is not empty and within the maximum length
 abbrev pub is_file_name : List ℕ → Bool
 is_file_name name = is_within 1 LONGEST_FILE_NAME (length name)
 
--- how many tasks a script of a version has at most
+-- the maximum number of tasks in a script of this version
 abbrev pub most_tasks : ℕ → ℕ
 most_tasks version = if version == 1 then MOST_TASKS_AT_FIRST else MOST_TASKS
 
--- external axes come with version 2
+-- external axes require version 2
 abbrev pub takes_axes : ℕ → ℕ → Bool
 takes_axes version axes = nat_lt 1 version || nat_le axes ROBOT_AXES
 
--- a task has a name, a module and not too many, and its arm, where there is one, starts at a position
+-- a task has a name and at least one module, within their limits, and its arm, if there is one, starts at a position
 abbrev pub is_task : ℕ → ScriptTask → Bool
 is_task version task =
     is_short_name task.name && is_within 1 MOST_MODULES (length task.modules) && list_all is_file_name task.modules
     && takes_axes version task.axes && is_start task.axes task.arm
 
--- a script gives nums, truths and texts alone
+-- a script gives only values of num, bool and string
 abbrev pub is_given_value : Value → Bool
 is_given_value (values.Num n) = true
 is_given_value (values.Bool b) = true
@@ -53,7 +53,7 @@ is_given_value (values.Speed parts) = false
 abbrev pub is_pers_value : PersValue → Bool
 is_pers_value row = is_short_name row.name && holds_where_there (is_within 1 LONGEST_ARRAY) row.index && is_given_value row.value
 
--- the limits that every script keeps, by its version
+-- the limits that every script is within, by its version
 pub record IsScript (script : ScriptData) : Type 0 where
   pub version : IsTrue (is_within 1 2 script.version)
   pub some_steps : 1 ≤ script.steps
@@ -72,7 +72,7 @@ pub record IsScript (script : ScriptData) : Type 0 where
   pub few_inputs : length script.inputs ≤ MOST_INPUTS
   pub inputs : IsTrue (list_all (is_input script.signals (length script.tasks)) script.inputs)
 
--- a task of a script in its cell
+-- the cell's row for a task of the script
 abbrev pub row_of : ScriptTask → TaskRow
 row_of task = record { name = task.name; arm = task.arm; axes = task.axes }
 

@@ -1,4 +1,4 @@
--- The values of the types of data.
+-- Values of the data types.
 use Rattle.std.specs.Prelude.{ℕ, Bool, true, false, ◌&&◌, ◌==◌, List, length, Option, Some, None}
 use Rattle.std.specs.List.{list_all}
 use Rattle.rapid_model.specs.declared.sort.Sort.{Sort}
@@ -15,7 +15,7 @@ has_values sorts.WzTemporary = false
 has_values sorts.WzStationary = false
 has_values _ = true
 
--- values of the type are compared by `=` and `<>` (RAPID Overview, expressions)
+-- values of the type can be compared with `=` and `<>` (RAPID Overview, expressions)
 abbrev pub is_compared : Sort → Bool
 is_compared sorts.Num = true
 is_compared sorts.Bool = true
@@ -26,7 +26,7 @@ is_compared sorts.JointTarget = true
 is_compared sorts.SpeedData = true
 is_compared _ = false
 
--- a value of the type; the value of a tasks is the text of its one component
+-- a value of the type; the value of a tasks is the text of its only component
 abbrev pub is_value_of : Sort → Value → Bool
 is_value_of sorts.Num (values.Num n) = true
 is_value_of sorts.Bool (values.Bool b) = true
@@ -38,7 +38,7 @@ is_value_of sorts.JointTarget (values.Target joints) = true
 is_value_of sorts.SpeedData (values.Speed parts) = true
 is_value_of _ _ = false
 
--- how many elements a datum has: one, or as many as its length says
+-- the number of elements of a datum: its length if it is an array, else one
 abbrev pub width : Option ℕ → ℕ
 width None = 1
 width (Some n) = n

@@ -4,48 +4,48 @@ use crate::value::Value;
 use crate::zone_name::ZoneName;
 use rapid_num::Joints;
 
-/// What the cell answers.
+/// An answer of the cell.
 #[derive(Debug, PartialEq, Eq, Drop)]
 pub enum Answer {
-    /// Done, and nothing to tell.
+    /// Done. There is nothing to return.
     Ok,
-    /// The statement may begin; `seen` is how many changes other actors have made so far.
+    /// The statement may start. `seen` is the number of changes by other actors so far.
     Go { seen: u32 },
-    /// The interrupt of this number is due: its trap, by the routine's number in its task, is to run first.
+    /// The interrupt with this number is due: its trap, given by the routine's number in the task, runs first.
     Trap { number: u8, trap: u32 },
-    /// More interrupts were waiting than the queue takes.
+    /// More interrupts were waiting than the queue can hold.
     Flood,
     /// The value at the path.
     Val(Value),
-    /// Whether the bool was FALSE, and is TRUE now.
+    /// Whether the bool was FALSE and is now TRUE.
     Yes(bool),
     /// The value of the signal.
     Bit(bool),
     /// The arm's position.
     At(Joints),
-    /// The setpoint is the arm's position now.
+    /// The setpoint is now the arm's position.
     Given,
-    /// The move to the setpoint would touch this zone; the arm stays.
+    /// The move to the setpoint would touch this zone. The arm does not move.
     Stopped(ZoneName),
-    /// The number that the interrupt or the zone got.
+    /// The number that the interrupt or the zone was given.
     Number(u8),
-    /// The interrupt is connected, or has an order.
+    /// The interrupt is already connected, or already ordered.
     Already,
-    /// No interrupt of this number is connected.
+    /// No interrupt with this number is connected.
     Unknown,
-    /// The task has 64 interrupts.
+    /// The task already has 64 interrupts.
     NoMore,
-    /// The zone variable names a zone of the arm.
+    /// The zone variable already names a zone of the arm.
     ZoneUsed,
-    /// The arm has ten zones.
+    /// The arm already has ten zones.
     ZoneFull,
-    /// The arm has no temporary zone of this number.
+    /// The arm has no temporary zone with this number.
     NoZone,
-    /// A zone that was not given up sets the output.
+    /// The output belongs to a zone that has not been freed.
     Tied,
-    /// The tasks of the meeting have come.
+    /// All tasks of the meeting have arrived.
     Met,
-    /// They have not yet.
+    /// Not all tasks of the meeting have arrived.
     Apart,
 }
 

@@ -1,4 +1,5 @@
-/// A place of the source: the number of a task's module, and the byte in its text, both from 0. 8 bytes.
+/// A position in the source: the number of the module in its task, and the byte in its text, both from 0. 8 bytes in
+/// size.
 #[derive(Clone, Copy, Debug, PartialEq, Eq)]
 pub struct At {
     pub module: u32,

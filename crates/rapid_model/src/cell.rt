@@ -9,8 +9,9 @@ use crate::task_row::TaskRow;
 use crate::zone_row::ZoneRow;
 use std::marker::Model;
 
-/// The cell that the tasks share: how many events may be counted in a run, the tasks, the signals, the persistents with
-/// their first values, the meetings, the zones and the input script. Contracts see it as plain data within its limits.
+/// The cell that the tasks share: the maximum number of counted events in a run, the tasks, the signals, the
+/// persistents with their first values, the meetings, the zones and the input script. Contracts see it as plain data
+/// within its limits.
 #[derive(Debug, Drop)]
 pub struct Cell {
     pub steps: u32,
@@ -35,7 +36,7 @@ impl Model for Cell {
 impl Cell {
     ghost use Rattle.rapid_model.specs.CellData.{IsCell};
 
-    /// How many events may be counted.
+    /// The maximum number of counted events.
     pub fn steps(&self) -> u32
         ensures same { result ≡ self.now.steps }
         ensures limits { IsCell self.now }
@@ -57,14 +58,14 @@ impl Cell {
         &self.signals
     }
 
-    /// The persistents, by task, module and place.
+    /// The persistents, by task, module and position in the text.
     pub fn pers(&self) -> &Sequence<PersCell>
         ensures { result.now ≡ self.now.pers }
     {
         &self.pers
     }
 
-    /// The names of the meetings, by task, module and place.
+    /// The names of the meetings, by task, module and position in the text.
     pub fn meetings(&self) -> &Sequence<NameText>
         ensures { result.now ≡ self.now.meetings }
     {

@@ -3,7 +3,8 @@ ghost use Rattle.std.specs.Prelude.{◌≡◌};
 use crate::answer::Answer;
 use crate::request::Request;
 
-/// One step of a run: what an actor asked, and the answer that it got. Actors are the tasks from 0 in script order.
+/// One step of a run: an actor's request and its answer. Actors are numbered from 0: the tasks in script order, then
+/// the input script.
 #[derive(Debug, PartialEq, Eq, Drop)]
 pub struct Event {
     pub actor: u32,

@@ -1,47 +1,48 @@
-/// Why a task ended before its `main` did. A fault cannot be handled (RAPID Overview, error recovery).
+/// Why a task ended before its `main` did. No ERROR handler can catch a fault (RAPID Overview, error recovery).
 #[derive(Clone, Copy, Debug, PartialEq, Eq)]
 pub enum Fault {
-    /// A num left its range.
+    /// A num would be out of range.
     NumRange,
-    /// An index is not whole, or outside the array.
+    /// An index is not an integer, or is outside the array.
     IndexRange,
-    /// A call, or the start of `main` or of a trap, would make more than 32 routines under way, or more than 20,000 values.
+    /// A call, or the start of `main` or of a trap, would exceed 32 running routines or 20,000 values.
     DepthLimit,
     /// A function reached its end without RETURN.
     NoReturn,
-    /// The number of a RAISE is not whole, or not 1 to 90.
+    /// The number in a RAISE is not an integer from 1 to 90.
     RaiseRange,
-    /// The value of a signal is neither 0 nor 1.
+    /// The value for a signal is neither 0 nor 1.
     SignalValue,
-    /// An element of a list of tasks is no task's name.
+    /// An element of a task list does not name a task.
     TaskName,
     /// A move in a trap.
     MoveInTrap,
-    /// A target has an axis 1 to 6 over 720 degrees in size, or one that is not given (RAPID Instructions: MoveAbsJ).
+    /// A target has an angle beyond ±720 degrees for one of axes 1 to 6, or does not give it (RAPID Instructions:
+    /// MoveAbsJ).
     JointRange,
-    /// The speed of a move is not above 0.
+    /// The speed of a move is not positive.
     Speed,
-    /// A move would touch a zone that is supervised.
+    /// A move would touch a supervised zone.
     ZoneStop,
-    /// A zone bounds no axis, or bounds one by a low that is not below its high, or was never defined.
+    /// A zone bounds no axis, has a low bound that is not below the high bound, or was never defined.
     ZoneShape,
-    /// The arm has ten zones.
+    /// The arm already has ten zones.
     ZoneFull,
-    /// The zone variable names a zone that is there.
+    /// The zone variable already names a zone.
     ZoneUsed,
-    /// The zone variable names no temporary zone.
+    /// The zone variable does not name a temporary zone.
     NoZone,
     /// A zone bounds an external axis.
     ExtAxis,
     /// More than 1,024 interrupts were waiting.
     TrapFlood,
-    /// The output is set by a zone.
+    /// The output is controlled by a zone.
     TiedOutput,
-    /// An error of this number left the first routine of the task, or a trap.
+    /// An error with this number was not handled in the first routine of the task, or in a trap.
     Unhandled(u8),
 }
 
-/// How a task stands when its run is over. A task says the first three itself; the others follow from the history.
+/// The state of a task at the end of a run. A task reports the first three itself; the others follow from the history.
 #[derive(Clone, Copy, Debug, PartialEq, Eq)]
 pub enum Fate {
     /// Its `main` ended.
@@ -50,8 +51,8 @@ pub enum Fate {
     Exit,
     /// A fault ended it.
     Fault(Fault),
-    /// It waits, and nothing can wake it.
+    /// It waits, and nothing can wake it up.
     Held,
-    /// The steps of the run were used up first.
+    /// The run reached its maximum number of steps first.
     Cut,
 }

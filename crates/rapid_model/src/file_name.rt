@@ -3,7 +3,7 @@ ghost use Rattle.std.specs.String.{string_bytes};
 
 use std::marker::Model;
 
-/// The name of a module's file, as the script gives it. Contracts see it as the list of its bytes.
+/// The name of a module file, as given in the script. Contracts see it as the list of its bytes.
 #[derive(Debug, Drop)]
 pub struct FileName {
     text: String,
@@ -19,7 +19,7 @@ impl Model for FileName {
 }
 
 impl FileName {
-    /// The name that a text has. Takes no memory.
+    /// The file name in a text. Never allocates.
     pub fn from_string(text: String) -> FileName
         ensures { result ≡ string_bytes text }
     {

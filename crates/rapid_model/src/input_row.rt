@@ -1,6 +1,6 @@
-/// A step of the input script: the signal of this number gets the value, once each part of its gate that is there holds.
-/// `when` is a signal's number and its value, `given` a task's number and how many setpoints of its arm were given at
-/// least, `after` how many counted events have happened at least.
+/// A step of the input script: the signal with this number gets the value as soon as each given part of its gate holds.
+/// `when` is the number of a signal and its value; `given` is the number of a task and the minimum number of setpoints
+/// given to its arm; `after` is the minimum number of counted events so far.
 #[derive(Clone, Copy, Debug, PartialEq, Eq)]
 pub struct InputRow {
     pub signal: u32,

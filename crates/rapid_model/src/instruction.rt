@@ -1,4 +1,5 @@
-/// The predefined procedures of this profile, each named as its instruction (RAPID Instructions, Functions and Data types).
+/// The predefined procedures of this profile, each under the name of its instruction (RAPID Instructions, Functions and
+/// Data types).
 #[derive(Clone, Copy, Debug, PartialEq, Eq)]
 pub enum Instruction {
     MoveAbsJ,
@@ -24,7 +25,7 @@ pub enum Instruction {
     WZLimJointDef,
     WZHomeJointDef,
     WZLimSup,
-    /// No name means it, and no call of it is right.
+    /// No name resolves to it, and no call of it is valid.
     WZDOSet,
     WZDisable,
     WZEnable,

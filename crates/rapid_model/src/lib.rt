@@ -1,9 +1,10 @@
-//! What the layers share: the script, the cell, the requests, answers, events and fates.
+//! What the layers share: scripts, cells, requests, answers, events and fates.
 #![tactic(auto)]
 
 mod answer;
 mod at;
 mod cell;
+mod errors;
 mod event;
 mod fate;
 mod file_name;
@@ -38,6 +39,7 @@ mod zone_row;
 pub use answer::Answer;
 pub use at::At;
 pub use cell::Cell;
+pub use errors::{ERR_ALRDYCNT, ERR_DIVZERO, ERR_INOMAX, ERR_STRTOOLNG, ERR_UNKINO};
 pub use event::Event;
 pub use fate::{Fate, Fault};
 pub use file_name::FileName;

@@ -1,4 +1,4 @@
-/// How an argument is handed over: its value, or a reference of one of three kinds.
+/// How an argument is passed: by value, or by one of three kinds of reference.
 #[derive(Clone, Copy, Debug, PartialEq, Eq)]
 pub enum Mode {
     Value,

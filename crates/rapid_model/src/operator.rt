@@ -1,4 +1,4 @@
-/// An operator between two values.
+/// A binary operator.
 #[derive(Clone, Copy, Debug, PartialEq, Eq)]
 pub enum Operator {
     Or,
@@ -14,7 +14,7 @@ pub enum Operator {
     Sub,
     Mul,
     Div,
-    /// The whole quotient, DIV.
+    /// Integer division, DIV.
     IntDiv,
     /// The remainder, MOD.
     Mod,

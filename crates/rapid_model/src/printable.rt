@@ -37,8 +37,8 @@ impl<const ROOM: usize> Printable<ROOM> {
         }
     }
 
-    /// Appends the byte. No exactly where `ROOM` bytes are held or the byte is outside 20 to 7E hexadecimal; nothing
-    /// changes then.
+    /// Appends a byte. False exactly if the text already has `ROOM` bytes or the byte is outside 20 to 7E hexadecimal;
+    /// the text is then unchanged.
     pub fn push(&mut self, byte: u8) -> bool
         ensures taken { result ≡ takes ROOM self.old byte }
         ensures pushed { self.new ≡ (if result then self.old ++ byte ∷ [] else self.old) }
@@ -75,7 +75,7 @@ pub type Text = Printable<LONGEST_STRING>;
 /// A name of at most 32 bytes.
 pub type NameText = Printable<LONGEST_NAME>;
 
-/// Appends printable bytes, for which there is room.
+/// Appends printable bytes. The text must have room for them.
 pub fn show(text: &mut Text, bytes: &[u8])
     requires room { length text.old + length bytes.now ≤ LONGEST_STRING }
     requires printable { IsTrue (list_all is_printable bytes.now) }

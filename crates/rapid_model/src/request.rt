@@ -8,12 +8,12 @@ use crate::value::Value;
 use crate::watched::Watched;
 use rapid_num::{Joints, Shape};
 
-/// What an actor asks of the cell: a task, or the input script. One request and its answer are one event, the atomic step of a
-/// run. Persistents, signals, meetings and inputs are named by their numbers in the cell, from 0; interrupts and zones by the
-/// numbers that the cell gave, from 1, where 0 is none.
+/// A request of a task, or of the input script, to the cell. A request and its answer are one event, the atomic step of
+/// a run. Persistents, signals, meetings and inputs are given by their numbers in the cell, from 0; interrupts and
+/// zones by the numbers that the cell gave them, from 1, with 0 for none.
 #[derive(Debug, PartialEq, Eq, Drop)]
 pub enum Request {
-    /// May the next statement begin?
+    /// May the next statement start?
     Look,
     /// Reads a part of a persistent.
     ReadP {
@@ -26,7 +26,7 @@ pub enum Request {
         path: Path,
         value: Value,
     },
-    /// Sets a bool of a persistent that is FALSE, in one step (RAPID Functions: TestAndSet).
+    /// Sets a bool of a persistent to TRUE if it is FALSE, in one step (RAPID Functions: TestAndSet).
     TestSet {
         pers: u32,
         path: Path,
@@ -40,28 +40,28 @@ pub enum Request {
         signal: u32,
         value: bool,
     },
-    /// Where is the arm?
+    /// The position of the arm.
     Position,
-    /// Takes the arm to the next setpoint of a move.
+    /// Moves the arm to the next setpoint of a move.
     Setpoint {
         to: Joints,
     },
-    /// Connects an interrupt with a trap, by the routine's number in its task; `old` is the number that the variable holds.
+    /// Connects an interrupt to a trap, given by the routine's number in the task. `old` is the number in the variable.
     Connect {
         old: u8,
         trap: u32,
     },
-    /// Orders an interrupt, for one firing where `single` holds.
+    /// Orders an interrupt, for a single firing if `single` holds.
     Order {
         number: u8,
         on: Watched,
         single: bool,
     },
-    /// Puts an interrupt to sleep (RAPID Instructions: ISleep).
+    /// Deactivates an interrupt (RAPID Instructions: ISleep).
     Sleep {
         number: u8,
     },
-    /// Wakes an interrupt (RAPID Instructions: IWatch).
+    /// Activates an interrupt (RAPID Instructions: IWatch).
     Watch {
         number: u8,
     },
@@ -69,19 +69,19 @@ pub enum Request {
     Delete {
         number: u8,
     },
-    /// Holds all interrupts back (RAPID Instructions: IDisable).
+    /// Disables all interrupts (RAPID Instructions: IDisable).
     Disable,
-    /// Lets them through again (RAPID Instructions: IEnable).
+    /// Enables all interrupts (RAPID Instructions: IEnable).
     Enable,
     /// The trap has ended.
     Leave,
-    /// Supervises a zone; `old` is the number that the variable holds (RAPID Instructions: WZLimSup).
+    /// Defines a zone and supervises it. `old` is the number in the variable (RAPID Instructions: WZLimSup).
     ZoneSet {
         old: u8,
         temporary: bool,
         shape: Shape,
     },
-    /// Ties an output to a zone (RAPID Instructions: WZDOSet).
+    /// Defines a zone that sets an output (RAPID Instructions: WZDOSet).
     ZoneTie {
         old: u8,
         temporary: bool,
@@ -89,34 +89,34 @@ pub enum Request {
         signal: u32,
         value: bool,
     },
-    /// Supervises a zone again (RAPID Instructions: WZEnable).
+    /// Activates supervision of a zone again (RAPID Instructions: WZEnable).
     ZoneOn {
         zone: u8,
     },
-    /// Supervises a zone no longer (RAPID Instructions: WZDisable).
+    /// Deactivates supervision of a zone (RAPID Instructions: WZDisable).
     ZoneOff {
         zone: u8,
     },
-    /// Gives a zone up (RAPID Instructions: WZFree).
+    /// Frees a zone (RAPID Instructions: WZFree).
     ZoneFree {
         zone: u8,
     },
-    /// Arrives at a meeting with the tasks of a set, bit k for task k (RAPID Instructions: WaitSyncTask).
+    /// Arrives at a meeting with a set of tasks, in which bit k is task k (RAPID Instructions: WaitSyncTask).
     Arrive {
         meeting: u32,
         tasks: u16,
     },
-    /// Waits for a change by another actor; `seen` is how many of them the statement's own Look found.
+    /// Waits for a change by another actor. `seen` is the number of changes that the statement's own Look found.
     Hold {
         seen: u32,
     },
-    /// Goes on after a change.
+    /// Continues after a change.
     Rise,
-    /// The step of the input script of this number.
+    /// The step of the input script with this number.
     Input {
         index: u32,
     },
-    /// Tells the operator a text (RAPID Instructions: TPWrite).
+    /// Writes a text for the operator (RAPID Instructions: TPWrite).
     Say {
         text: Text,
         tail: Tail,

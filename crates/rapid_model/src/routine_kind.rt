@@ -1,4 +1,4 @@
-/// What a routine is (RAPID Kernel, routine declarations).
+/// The kinds of routine (RAPID Kernel, routine declarations).
 #[derive(Clone, Copy, Debug, PartialEq, Eq)]
 pub enum RoutineKind {
     Proc,

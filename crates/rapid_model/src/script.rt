@@ -8,7 +8,7 @@ use crate::signal_row::SignalRow;
 use crate::zone_row::ZoneRow;
 use std::marker::Model;
 
-/// A cell script, its references as numbers from 0. Contracts see it as plain data within its limits.
+/// A cell script, with its references resolved to numbers from 0. Contracts see it as plain data within its limits.
 #[derive(Debug, Drop)]
 pub struct Script {
     pub version: u32,
@@ -40,7 +40,7 @@ impl Script {
         self.version
     }
 
-    /// How many events may be counted.
+    /// The maximum number of counted events.
     pub fn steps(&self) -> u32
         ensures same { result ≡ self.now.steps }
         ensures limits { IsScript self.now }

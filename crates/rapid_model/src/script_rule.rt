@@ -1,31 +1,31 @@
 ghost use Rattle.std.specs.Prelude.{◌≡◌, ◌≤◌, length};
 ghost use Rattle.rapid_model.specs.RuleNames.{rule_name};
 
-/// The rules of a cell script.
+/// The rules for a cell script.
 #[derive(Clone, Copy, Debug, PartialEq, Eq)]
 pub enum ScriptRule {
-    /// The text is no TOML.
+    /// The text is not valid TOML.
     NotToml,
-    /// A key that is needed is missing.
+    /// A required key is missing.
     NoKey,
-    /// A value of another kind of TOML than the key has.
+    /// A value has the wrong TOML type for its key.
     Kind,
-    /// A key that the table does not have.
+    /// The table has no such key.
     UnknownKey,
-    /// A number, a length or a text outside what the key allows; a low bound that is not below its high one.
+    /// A number, a length or a text outside the range of the key, or a low bound that is not below its high bound.
     Range,
-    /// No name: another form than a name's, a reserved word, or for a signal a predefined name.
+    /// Not a valid name: not an identifier, or a reserved word, or, for a signal, a predefined name.
     Name,
-    /// A name that is given twice.
+    /// A name given twice.
     Twice,
-    /// The name of nothing that is there and of the kind that the key asks for.
+    /// A name that does not exist, or is of the wrong kind for its key.
     NoSuch,
-    /// One of two keys that go together, or not exactly one of `num`, `bool` and `text`.
+    /// Only one of two keys that go together, or not exactly one of `num`, `bool` and `text`.
     Pair,
 }
 
 impl ScriptRule {
-    /// The name of the rule, as refusals print it: of at most 10 bytes.
+    /// The name of the rule in error messages, at most 10 bytes.
     pub fn name(self) -> &'static [u8]
         ensures same { result.now ≡ rule_name self }
         ensures short { length result.now ≤ 10 }

@@ -1,7 +1,7 @@
 use crate::printable::NameText;
 
-/// A signal of the cell: its name, whether it is an output (kind "do") or an input (kind "di"), and its value at the
-/// start, which is 1 where `start` holds (RAPID Instructions, Functions and Data types: signaldi, signaldo).
+/// A signal of the cell: its name, whether it is an output (kind "do") or an input (kind "di"), and its first value,
+/// which is 1 if `start` holds (RAPID Instructions, Functions and Data types: signaldi, signaldo).
 #[derive(Debug, Drop)]
 pub struct SignalRow {
     pub name: NameText,

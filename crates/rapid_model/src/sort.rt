@@ -1,5 +1,5 @@
-/// The types of data (RAPID Instructions, Functions and Data types). `Num` is also errnum and dionum, `Text` is string. The
-/// last five have no values in expressions.
+/// The data types (RAPID Instructions, Functions and Data types). `Num` includes errnum and dionum, and `Text` is
+/// string. The last five have no values in expressions.
 #[derive(Clone, Copy, Debug, PartialEq, Eq)]
 pub enum Sort {
     Num,

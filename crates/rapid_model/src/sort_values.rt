@@ -1,4 +1,4 @@
-//! The values of the types of data.
+//! Values of the data types.
 
 ghost use Rattle.std.specs.Prelude.{◌≡◌};
 ghost use Rattle.rapid_model.specs.Sorts;
@@ -6,8 +6,8 @@ ghost use Rattle.rapid_model.specs.Sorts;
 use crate::sort::Sort;
 use crate::value::Value;
 
-/// Whether data of the type have values in expressions (RAPID Kernel, value, non-value and semi-value data types). Only such
-/// data are CONST or PERS, have an initial value, or are read and assigned.
+/// Whether data of the type have values in expressions (RAPID Kernel, value, non-value and semi-value data types). Only
+/// such data can be CONST or PERS, have an initial value, or be read and assigned.
 pub fn has_values(sort: Sort) -> bool
     ensures { result ≡ Sorts.has_values sort }
 {
@@ -21,8 +21,8 @@ pub fn has_values(sort: Sort) -> bool
     }
 }
 
-/// Whether it is a value of the type, as the value of a datum has to be (RAPID Kernel, data declarations). The value of a
-/// tasks is the text of its one component. A type without values has none.
+/// Whether it is a value of the type, as the value of a datum must be (RAPID Kernel, data declarations). The value of a
+/// tasks is the text of its only component. A type without values has none.
 pub fn is_value_of(sort: Sort, value: &Value) -> bool
     ensures { result ≡ Sorts.is_value_of sort value.now }
 {
@@ -39,7 +39,7 @@ pub fn is_value_of(sort: Sort, value: &Value) -> bool
     }
 }
 
-/// How many elements a datum of this length has; one that is no array has one.
+/// The number of elements of a datum: its length if it is an array, else one.
 pub fn width(len: Option<u16>) -> usize
     ensures { result ≡ Sorts.width len }
 {

@@ -1,6 +1,6 @@
 use rapid_num::Num;
 
-/// What stands behind an operator's text (RAPID Instructions: TPWrite).
+/// What follows the text in a message to the operator (RAPID Instructions: TPWrite).
 #[derive(Clone, Copy, Debug, PartialEq, Eq)]
 pub enum Tail {
     None,

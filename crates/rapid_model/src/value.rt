@@ -10,7 +10,7 @@ pub enum Value {
     Num(Num),
     /// bool.
     Bool(bool),
-    /// string, and the name of a task in tasks.
+    /// string, and the name of a task in a tasks.
     Text(Text),
     /// robjoint: `rax_1` to `rax_6` in thousandths of a degree.
     Rob([Num; 6]),

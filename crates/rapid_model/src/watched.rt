@@ -1,5 +1,5 @@
-/// What the order of an interrupt watches: that a signal changes to a value, or that a persistent changes (RAPID Instructions:
-/// ISignalDI, ISignalDO, IPers). Signals and persistents are named by their numbers in the cell.
+/// What an ordered interrupt watches: a signal changing to a value, or a persistent changing (RAPID Instructions:
+/// ISignalDI, ISignalDO, IPers). Signals and persistents are given by their numbers in the cell.
 #[derive(Clone, Copy, Debug, PartialEq, Eq)]
 pub enum Watched {
     Signal { signal: u32, value: bool },

@@ -1,4 +1,4 @@
--- Texts of decimal digits.
+-- Texts made of decimal digits.
 use Rattle.std.proofs.Common.{◌≡◌, ℕ, ◌+◌, ◌*◌, ◌/◌, ◌%◌, ◌^◌, ◌<◌, ◌≤◌, Bool, true, false, List, [], ◌∷◌, ◌++◌, length, refl, ap, ◌∙◌, arith, decimal}
 use Rattle.std.proofs.lemmas.Fmt.{decimal_by_steps}
 use Rattle.std.proofs.lemmas.List.Sums.{fold-append}
@@ -8,7 +8,7 @@ use Rattle.std.specs.List.{AllByRecursion, list_all, position_or_len, fold}
 use Rattle.std.specs.Prelude.{nat_lt}
 use Rattle.rapid_num.specs.Literal.{digit_value}
 
--- each byte is 0 to 9
+-- each byte is a digit, 0 to 9
 abbrev pub AreDigits : List ℕ → Type 0
 AreDigits ds = AllByRecursion (λ b. (48 ≤ b) × (b ≤ 57)) ds
 
@@ -30,7 +30,7 @@ all_below_ten (x ∷ xs) h =
     let first : nat_lt (digit_value x) 10 ≡ true = grind (arith, nat_tests) in
     rw first (all_below_ten xs h.1)
 
--- no byte passes the test before what follows the digits
+-- no digit passes the test, so the first byte that passes is after the digits
 pub passes_digits : (p : ℕ → Bool) → ((b : ℕ) → 48 ≤ b → b ≤ 57 → p b ≡ false) → (xs ys : List ℕ) → AreDigits xs → position_or_len p (xs ++ ys) ≡ length xs + position_or_len p ys
 passes_digits p fails [] ys h = omega arith
 passes_digits p fails (x ∷ xs) ys h =

@@ -1,4 +1,4 @@
--- The definitions on examples worked by hand.
+-- The definitions on worked examples.
 use Rattle.std.proofs.Common.{◌≡◌, refl, Some, None}
 use Rattle.std.specs.Prelude.{codes, pos, neg_ℤ}
 use Rattle.std.specs.Fmt.{digits}

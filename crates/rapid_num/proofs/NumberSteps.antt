@@ -1,4 +1,4 @@
--- One more digit of a number.
+-- A number with one more digit.
 use Rattle.std.proofs.Common.{◌≡◌, ℕ, ◌+◌, ◌*◌, ◌^◌, ◌<◌, ◌≤◌, List, ◌∷◌, length, get_or, drop, refl, arith, add-one, drop-cons}
 use Rattle.std.proofs.Math.Nat.{one-le-pow, pow-suc, mul-le-mul_right, le-mul_of_pos_right}
 use Rattle.std.proofs.lemmas.Bool.Decides.{nat_tests}

@@ -1,4 +1,4 @@
--- What is written of a num without a sign is read again.
+-- Reading back what is written for a num without a sign.
 use Rattle.std.proofs.Common.{◌≡◌, ◌≢◌, ℕ, ◌+◌, ◌*◌, ◌/◌, ◌%◌, ◌^◌, ◌<◌, ◌≤◌, true, false, cond, List, [], ◌∷◌, ◌++◌, length, take, drop, refl, sym, ap, ◌∙◌, arith, decimal, Some, None, ℤ, pos, ◌+ℤ◌, ◌-ℤ◌, length-append, append_assoc, append-nil, inl, inr}
 use Rattle.std.proofs.lemmas.Fmt.{length-decimal-le}
 use Rattle.std.proofs.lemmas.List.{take_at, drop_at, take_all, drop_all}

@@ -1,4 +1,4 @@
--- What is left after a whole quotient is what the code's `%` gives.
+-- The remainder after a whole quotient is what Rust's `%` gives.
 use Rattle.std.proofs.Common.{◌≡◌, zero, suc, ◌/◌, refl, sym, ap, ◌∙◌, arith, add-one, ℤ, pos, negsuc, neg_ℤ, nat_abs, ◌+ℤ◌, ◌-ℤ◌, ◌*ℤ◌, int_div, int_rem}
 use Rattle.std.proofs.Math.IntN.{*ℤ_comm}
 use Rattle.std.proofs.Math.Nat.{zero-div}

@@ -1,4 +1,4 @@
--- Powers of ten that make a number too great, or nothing.
+-- Powers of ten that make a number too large or round it to zero.
 use Rattle.std.proofs.Common.{◌≡◌, ℕ, ◌+◌, ◌*◌, ◌^◌, ◌<◌, ◌≤◌, refl, Some, None, arith}
 use Rattle.std.proofs.Math.Nat.{one-le-pow, pow-le-pow_left, pow-le-pow_right, mul-le-mul, mul-le-mul_right, div-eq_of_lt}
 use Rattle.std.proofs.lemmas.Nat.{pow-add}
@@ -16,20 +16,20 @@ pow_pos_ten t = one-le-pow t 10 (omega arith)
 pub pow_ten_fits : (t : ℕ) → t ≤ 30 → 10 ^ t ≤ 10 ^ 30
 pow_ten_fits t h = pow-le-pow_right (omega arith) h
 
--- a number above the greatest stays above it
+-- a number above the greatest stays above it when multiplied by a power of ten
 pub great_times : (n t : ℕ) → greatest < n → size_within (n * 10 ^ t) ≡ None
 great_times n t h =
     let more : n * 1 ≤ n * 10 ^ t = mul-le-mul (omega arith) (pow_pos_ten t) in
     too_great _ (omega arith)
 
--- thirteen tens are too many
+-- thirteen factors of ten are too many
 pub many_tens : (n t : ℕ) → 0 < n → 12 < t → size_within (n * 10 ^ t) ≡ None
 many_tens n t h l =
     let power : 10 ^ 13 ≤ 10 ^ t = pow-le-pow_right (omega arith) l in
     let more : 1 * 10 ^ 13 ≤ n * 10 ^ t = mul-le-mul h power in
     too_great _ (omega arith)
 
--- less than a half is nothing
+-- less than a half rounds to zero
 pub rounds_to_nothing : (n t : ℕ) → n < 10 ^ 30 → 30 < t → size_within (rounded n (10 ^ t)) ≡ Some 0
 rounds_to_nothing n t h l =
     let power : 10 ^ 31 ≤ 10 ^ t = pow-le-pow_right (omega arith) l in

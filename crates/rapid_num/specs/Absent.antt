@@ -1,4 +1,4 @@
--- 9E9, which stands for what is not given: an axis that is not there, or a bound that is no limit.
+-- 9E9 means 'not given': a missing axis, or a missing bound of an axis.
 use Rattle.std.specs.Prelude.{◌==◌, Bool, false, ℤ, pos, negsuc}
 
 abbrev pub absent : ℤ

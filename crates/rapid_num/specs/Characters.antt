@@ -1,4 +1,4 @@
--- The characters of names and texts (RAPID Kernel, lexical elements).
+-- The characters of names and strings (RAPID Kernel, lexical elements).
 use Rattle.std.specs.Prelude.{ℕ, Bool, false, ◌&&◌, ◌||◌, nat_le, ◌==◌, List, [], ◌∷◌}
 use Rattle.std.specs.List.{list_all}
 
@@ -12,11 +12,11 @@ is_letter b = (nat_le 65 b && nat_le b 90) || (nat_le 97 b && nat_le b 122)
 abbrev pub is_name_byte : ℕ → Bool
 is_name_byte b = is_letter b || is_digit b || b == 95
 
--- a letter, then letters, digits and _
+-- a letter, then letters, digits and underscores
 abbrev pub is_name : List ℕ → Bool
 is_name [] = false
 is_name (b ∷ bs) = is_letter b && list_all is_name_byte bs
 
--- a byte from 20 to 7E hexadecimal: what a string may hold as it stands, and what an escape may name
+-- a byte from 20 to 7E hexadecimal, which a string may contain or an escape may encode
 abbrev pub is_printable : ℕ → Bool
 is_printable b = nat_le 32 b && nat_le b 126

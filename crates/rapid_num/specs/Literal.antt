@@ -1,5 +1,5 @@
--- What a numerical literal spells (RAPID Kernel, lexical elements): digits, or digits . digits with digits on at least
--- one side, each with an optional exponent; or 0x, 0o, 0b and digits of that base. Letters may be of either case.
+-- The value of a numerical literal (RAPID Kernel, lexical elements). It is digits, with or without a decimal point, and
+-- an optional exponent; or 0x, 0o or 0b and digits of that base. Letters are case-insensitive.
 use Rattle.std.specs.Prelude.{ℕ, ◌+◌, ◌-◌, ◌*◌, ◌^◌, ℤ, pos, negsuc, ◌+ℤ◌, ◌-ℤ◌, neg_ℤ, Bool, not, ◌&&◌, ◌||◌, nat_lt, nat_le, ◌==◌, if◌then◌else◌, List, [], ◌∷◌, ◌++◌, length, fold, Option, Some, None}
 use Rattle.std.specs.List.{before_first, after_first, list_any, list_all}
 use Rattle.std.specs.Option.{option_and_then, option_map}
@@ -7,7 +7,7 @@ use Rattle.rapid_limits.specs.declared.TheConstants.{LONGEST_LITERAL}
 use Rattle.rapid_num.specs.Range.{greatest}
 use Rattle.rapid_num.specs.Arithmetic.{rounded}
 
--- what a byte counts as a digit: 0 to 9, then A to F or a to f; 16 for a byte that is no digit
+-- the value of a digit, 0 to 9, A to F or a to f; 16 for any other byte
 abbrev pub digit_value : ℕ → ℕ
 digit_value b =
     if nat_le 48 b && nat_le b 57 then b - 48
@@ -15,11 +15,11 @@ digit_value b =
     else if nat_le 97 b && nat_le b 102 then b - 87
     else 16
 
--- at least one digit, and each below the base
+-- at least one digit, each below the base
 abbrev pub are_digits : ℕ → List ℕ → Bool
 are_digits base ds = not (length ds == 0) && list_all (λ b. nat_lt (digit_value b) base) ds
 
--- the number that digits spell, the most significant first
+-- the value of digits, most significant first
 abbrev pub digits_number : ℕ → List ℕ → ℕ
 digits_number base ds = fold (λ n b. n * base + digit_value b) 0 ds
 
@@ -29,13 +29,13 @@ is_point b = b == 46
 abbrev pub is_exponent_letter : ℕ → Bool
 is_exponent_letter b = b == 69 || b == 101
 
--- digits with a point among them or none: their number, and how many of them stand after the point
+-- digits with or without a decimal point: their value, and the number of digits after the point
 abbrev pub mantissa_of : List ℕ → Option (ℕ × ℕ)
 mantissa_of text =
     let digits = before_first is_point text ++ after_first is_point text in
     if are_digits 10 digits then Some (digits_number 10 digits, length (after_first is_point text)) else None
 
--- an optional sign, and digits
+-- an optional sign and digits
 abbrev pub exponent_of : List ℕ → Option ℤ
 exponent_of [] = None
 exponent_of (b ∷ ds) =
@@ -43,19 +43,19 @@ exponent_of (b ∷ ds) =
     else if b == 45 then (if are_digits 10 ds then Some (neg_ℤ (pos (digits_number 10 ds))) else None)
     else if are_digits 10 (b ∷ ds) then Some (pos (digits_number 10 (b ∷ ds))) else None
 
--- m times ten to the power of the exponent, rounded to a whole number, halves up
+-- m times ten to the power of the exponent, rounded to an integer, halves up
 abbrev pub scaled : ℕ → ℤ → ℕ
 scaled m (pos e) = m * 10 ^ e
 scaled m (negsuc e) = rounded m (10 ^ (e + 1))
 
--- the thousandths of a decimal literal
+-- the value of a decimal literal, in thousandths
 abbrev pub decimal_thousandths : List ℕ → Option ℕ
 decimal_thousandths text =
     option_and_then (λ m. option_map (λ e. scaled m.0 ((e -ℤ pos m.1) +ℤ pos 3))
     (if list_any is_exponent_letter text then exponent_of (after_first is_exponent_letter text) else Some (pos 0)))
     (mantissa_of (before_first is_exponent_letter text))
 
--- the base that the letter behind a 0 stands for
+-- the base for the letter after a 0
 abbrev pub base_of : ℕ → Option ℕ
 base_of b =
     if b == 120 || b == 88 then Some 16
@@ -66,7 +66,7 @@ base_of b =
 abbrev pub based_thousandths : List ℕ → ℕ → Option ℕ
 based_thousandths ds base = if are_digits base ds then Some (digits_number base ds * 1000) else None
 
--- the thousandths that a text spells, of whatever size; None where it is no literal
+-- the value of a literal in thousandths, of any size; None if the text is not a literal
 abbrev pub spelled_thousandths : List ℕ → Option ℕ
 spelled_thousandths [] = None
 spelled_thousandths (a ∷ []) = decimal_thousandths (a ∷ [])
@@ -76,7 +76,7 @@ spelled_thousandths (a ∷ b ∷ ds) = spelled_by (if a == 48 then base_of b els
     spelled_by (Some base) = based_thousandths ds base
     spelled_by None = decimal_thousandths (a ∷ b ∷ ds)
 
--- the num of a literal within its limits: at most 30 bytes, and in range once it is rounded
+-- the num of a literal of at most 30 bytes whose rounded value is in range
 abbrev pub literal_value : List ℕ → Option ℤ
 literal_value text =
     option_and_then (λ n. if nat_le (length text) LONGEST_LITERAL && nat_le n greatest then Some (pos n) else None) (spelled_thousandths text)

@@ -1,4 +1,4 @@
-//! Sums, differences, opposites, products and quotients of nums (RAPID Overview, expressions; RAPID Kernel, operators).
+//! Sums, differences, negation, products and quotients of nums (RAPID Overview, expressions; RAPID Kernel, operators).
 ghost use Rattle.std.specs.Prelude.{◌≡◌, ◌<◌, ◌≤◌, ◌^◌, ◌*ℤ◌, pos, neg_ℤ, nat_abs};
 ghost use Rattle.rapid_num.specs.Range.{IsNum, greatest};
 ghost use Rattle.rapid_num.specs.Arithmetic.{num_of, sum_of, difference_of, product_of, quotient_of, whole_quotient_of, remainder_of, rounded_ratio, signed_by, whole_part};
@@ -7,37 +7,37 @@ use crate::num::Num;
 use crate::round::round_ratio;
 
 impl Num {
-    /// The exact sum: `None` exactly where it is out of range.
+    /// The exact sum. `None` exactly if it is out of range.
     pub fn add(self, other: Num) -> Option<Num>
         ensures { result ≡ sum_of self other }
     {
         Num::new(self.thousandths() + other.thousandths())
     }
 
-    /// The exact difference: `None` exactly where it is out of range.
+    /// The exact difference. `None` exactly if it is out of range.
     pub fn sub(self, other: Num) -> Option<Num>
         ensures { result ≡ difference_of self other }
     {
         Num::new(self.thousandths() - other.thousandths())
     }
 
-    /// The opposite, which is in range too.
+    /// The negated num, which is always in range.
     pub fn negated(self) -> Num
         ensures { result ≡ neg_ℤ self }
     {
         Num::within_range(-self.thousandths())
     }
 
-    /// The product, rounded to a thousandth, halves away from zero: `None` exactly where it is out of range once it is
-    /// rounded.
+    /// The product, rounded to a thousandth, halves away from zero. `None` exactly if the rounded product is out of
+    /// range.
     pub fn mul(self, other: Num) -> Option<Num>
         ensures { result ≡ product_of self other }
     {
         num_within(round_ratio(exact_product(wide(self), wide(other)), 1000))
     }
 
-    /// The quotient, rounded to a thousandth, halves away from zero: `None` exactly where it is out of range once it is
-    /// rounded. `other` is not zero.
+    /// The quotient, rounded to a thousandth, halves away from zero. `None` exactly if the rounded quotient is out of
+    /// range. `other` is not zero.
     pub fn div(self, other: Num) -> Option<Num>
         requires { ¬ (other ≡ pos 0) }
         ensures { result ≡ quotient_of self other }
@@ -45,8 +45,8 @@ impl Num {
         num_within(signed_ratio(exact_product(wide(self), 1000), wide(other)))
     }
 
-    /// DIV: the quotient, truncated toward zero to a whole number: `None` exactly where that is out of range. `other`
-    /// is not zero.
+    /// DIV: the quotient, truncated toward zero. `None` exactly if the truncated quotient is out of range. `other` is
+    /// not zero.
     pub fn int_div(self, other: Num) -> Option<Num>
         requires { ¬ (other ≡ pos 0) }
         ensures { result ≡ whole_quotient_of self other }
@@ -54,8 +54,8 @@ impl Num {
         Num::new(whole_quotient(self, other) * 1000)
     }
 
-    /// MOD: what is left of the num after DIV, exactly. It is zero or has the sign of the num, whatever the sign of
-    /// `other`, and is smaller in size than `other`, which is not zero.
+    /// MOD: the exact remainder after DIV. It is zero or has the sign of `self`, whatever the sign of `other`, and its
+    /// absolute value is below that of `other`. `other` is not zero.
     pub fn modulo(self, other: Num) -> Num
         requires { ¬ (other ≡ pos 0) }
         ensures { result ≡ remainder_of self other }
@@ -64,7 +64,7 @@ impl Num {
     }
 }
 
-/// The count of thousandths.
+/// The number of thousandths.
 fn wide(num: Num) -> i128
     ensures same { result ≡ num }
     ensures small { nat_abs result ≤ greatest }
@@ -72,7 +72,7 @@ fn wide(num: Num) -> i128
     i128::from(num.thousandths())
 }
 
-/// The product of two counts.
+/// The product of two numbers of thousandths.
 fn exact_product(left: i128, right: i128) -> i128
     requires left { nat_abs left ≤ greatest }
     requires right { nat_abs right ≤ greatest }
@@ -82,7 +82,7 @@ fn exact_product(left: i128, right: i128) -> i128
     left * right
 }
 
-/// The num of so many thousandths: `None` exactly where the count is out of range.
+/// The num with this many thousandths. `None` exactly if it is out of range.
 fn num_within(count: i128) -> Option<Num>
     ensures { result ≡ num_of count }
 {
@@ -92,7 +92,7 @@ fn num_within(count: i128) -> Option<Num>
     Num::new(count as i64)
 }
 
-/// The whole number nearest to `top / bottom`, halves away from zero.
+/// `top / bottom` rounded to the nearest integer, halves away from zero.
 fn signed_ratio(top: i128, bottom: i128) -> i128
     requires nonzero { ¬ (bottom ≡ pos 0) }
     requires top { nat_abs top < 2 ^ 125 }
@@ -106,7 +106,7 @@ fn signed_ratio(top: i128, bottom: i128) -> i128
     }
 }
 
-/// How often `right` goes into `left`, toward zero.
+/// `left / right` truncated toward zero.
 fn whole_quotient(left: Num, right: Num) -> i64
     requires { ¬ (right ≡ pos 0) }
     ensures quotient { result ≡ whole_part (signed_by right left) (nat_abs right) }
@@ -115,7 +115,7 @@ fn whole_quotient(left: Num, right: Num) -> i64
     left.thousandths() / right.thousandths()
 }
 
-/// The thousandths that are left after the whole quotient.
+/// The remainder after DIV, in thousandths.
 fn remainder(left: Num, right: Num) -> i64
     requires { ¬ (right ≡ pos 0) }
     ensures remainder { result ≡ remainder_of left right }

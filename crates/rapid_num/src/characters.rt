@@ -1,10 +1,10 @@
-//! Tests of characters.
+//! Character tests.
 
 ghost use Rattle.std.specs.Prelude.{◌≡◌};
 ghost use Rattle.rapid_num.specs.Characters.{is_printable};
 
-/// Whether a byte is one that a string may hold as it stands and that an escape may name: 20 to 7E hexadecimal (RAPID
-/// Kernel, lexical elements).
+/// Whether a string may contain the byte and an escape may encode it: 20 to 7E hexadecimal (RAPID Kernel, lexical
+/// elements).
 pub fn is_printable(byte: u8) -> bool
     ensures { result ≡ is_printable byte }
 {

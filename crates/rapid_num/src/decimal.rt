@@ -1,4 +1,4 @@
-//! Decimal literals: digits with a point among them or none, and an optional exponent.
+//! Decimal literals: digits with or without a decimal point, and an optional exponent.
 ghost use Rattle.std.specs.Prelude.{◌≡◌, ◌+◌, ◌^◌, ◌<◌, ◌≤◌, pos, length, nat_abs, position, IfSome, option_map};
 ghost use Rattle.std.specs.List.{before_first, after_first};
 ghost use Rattle.rapid_num.specs.Literal.{is_point, is_exponent_letter, mantissa_of, exponent_of, decimal_thousandths};
@@ -8,21 +8,21 @@ use crate::digits::{read_digits, read_onto};
 use crate::scale::scale;
 use rapid_limits::LONGEST_LITERAL;
 
-/// The place of the first point.
+/// The index of the first point.
 fn point_index(text: &[u8]) -> Option<usize>
     ensures { result ≡ position is_point text.now }
 {
     text.iter().position(|byte| *byte == b'.')
 }
 
-/// The place of the first exponent letter.
+/// The index of the first exponent letter.
 fn letter_index(text: &[u8]) -> Option<usize>
     ensures { result ≡ position is_exponent_letter text.now }
 {
     text.iter().position(|byte| *byte == b'E' || *byte == b'e')
 }
 
-/// What stands before the first point, and what stands after it.
+/// The text before the first point, and the text after it.
 fn cut_at_point(text: &[u8]) -> (&[u8], &[u8])
     ensures before { result.0.now ≡ before_first is_point text.now }
     ensures after { result.1.now ≡ after_first is_point text.now }
@@ -34,7 +34,7 @@ fn cut_at_point(text: &[u8]) -> (&[u8], &[u8])
     }
 }
 
-/// The number that the digits on both sides of the point spell, and how many stand after it.
+/// The value of the digits on both sides of the point, and the number of digits after it.
 fn read_mantissa(text: &[u8]) -> Option<(u128, usize)>
     requires short { length text.now ≤ LONGEST_LITERAL }
     ensures value { result ≡ mantissa_of text.now }
@@ -50,7 +50,7 @@ fn read_mantissa(text: &[u8]) -> Option<(u128, usize)>
     Some((number, fraction.len()))
 }
 
-/// The exponent that digits without a sign spell.
+/// The exponent of digits without a sign.
 fn read_plain_exponent(digits: &[u8]) -> Option<i128>
     requires short { length digits.now ≤ LONGEST_LITERAL }
     ensures value { result ≡ option_map pos (number_of 10 digits.now) }
@@ -60,7 +60,7 @@ fn read_plain_exponent(digits: &[u8]) -> Option<i128>
     Some(number as i128)
 }
 
-/// The exponent that an optional sign and digits spell.
+/// The exponent of an optional sign and digits.
 fn read_exponent(text: &[u8]) -> Option<i128>
     requires short { length text.now ≤ LONGEST_LITERAL }
     ensures value { result ≡ exponent_of text.now }
@@ -79,7 +79,7 @@ fn read_exponent(text: &[u8]) -> Option<i128>
     }
 }
 
-/// The thousandths of a decimal without an exponent, times ten to the power of the exponent.
+/// The value of a decimal without an exponent, times ten to the power of `exponent`, in thousandths.
 fn read_scaled(text: &[u8], exponent: i128) -> Option<u64>
     requires short { length text.now ≤ LONGEST_LITERAL }
     requires thirty_digits { nat_abs exponent < 10 ^ 30 }
@@ -89,7 +89,7 @@ fn read_scaled(text: &[u8], exponent: i128) -> Option<u64>
     scale(number, exponent - decimals as i128 + 3)
 }
 
-/// The thousandths of a decimal literal: `None` exactly where it is none or is out of range.
+/// The value of a decimal literal, in thousandths. `None` exactly if the text is not one or its value is out of range.
 pub(crate) fn read_decimal(text: &[u8]) -> Option<u64>
     requires short { length text.now ≤ LONGEST_LITERAL }
     ensures { result ≡ within (decimal_thousandths text.now) }

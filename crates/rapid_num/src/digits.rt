@@ -1,9 +1,9 @@
-//! Digits of a base up to sixteen.
+//! Digits of a base up to 16.
 ghost use Rattle.std.specs.Prelude.{◌≡◌, ◌+◌, ◌*◌, ◌^◌, ◌≤◌, length, IfSome};
 ghost use Rattle.rapid_num.specs.Literal.{digit_value};
 ghost use Rattle.rapid_num.specs.Reading.{number_of, number_onto};
 
-/// What a byte counts as a digit up to 15, its letter in either case; 16 for a byte that is none.
+/// The value of a digit up to 15, case-insensitive; 16 for a byte that is not a digit.
 pub fn digit_value(byte: u8) -> u8
     ensures value { result ≡ digit_value byte }
     ensures at_most { result ≤ 16 }
@@ -16,7 +16,7 @@ pub fn digit_value(byte: u8) -> u8
     }
 }
 
-/// The number that `digits` make of `so_far`: `None` where one of them is no digit of the base.
+/// The value of `so_far` extended by `digits`. `None` if one of them is not a digit of the base.
 pub(crate) fn read_onto(base: u128, so_far: u128, digits: &[u8]) -> Option<u128>
     requires room { (so_far + 1) * base ^ length digits.now ≤ 2 ^ 127 }
     ensures number { result ≡ number_onto base so_far digits.now }
@@ -33,7 +33,7 @@ pub(crate) fn read_onto(base: u128, so_far: u128, digits: &[u8]) -> Option<u128>
     Some(number)
 }
 
-/// The number of one digit or more.
+/// The value of at least one digit.
 pub(crate) fn read_digits(base: u128, digits: &[u8]) -> Option<u128>
     requires room { base ^ length digits.now ≤ 2 ^ 127 }
     ensures number { result ≡ number_of base digits.now }

@@ -6,15 +6,16 @@ ghost use Rattle.rapid_num.specs.Reach.{is_in_reach, are_in_reach, is_reachable,
 use crate::num::Num;
 use rapid_limits::{EXTERNAL_REACH, MOST_AXES, ROBOT_AXES, ROBOT_REACH};
 
-/// Twelve axes in thousandths of a degree: `rax_1` to `rax_6`, then `eax_a` to `eax_f`, where 9E9 means not given
-/// (RAPID Instructions, Functions and Data types: robjoint, extjoint).
+/// The angles of twelve axes, in thousandths of a degree: `rax_1` to `rax_6`, then `eax_a` to `eax_f`. 9E9 means 'not
+/// given' (RAPID Instructions, Functions and Data types: robjoint, extjoint).
 #[derive(Clone, Copy, Debug, PartialEq, Eq)]
 pub struct Joints {
     pub axis: [Num; MOST_AXES],
 }
 
 impl Joints {
-    /// The first axes, so many, are in reach: axes 1 to 6 within 720 degrees, either way, and external axes within 100,000.
+    /// Whether the first `axes` axes are in reach: axes 1 to 6 within ±720 degrees, external axes within ±100,000
+    /// degrees.
     pub fn is_reachable(&self, axes: usize) -> bool
         ensures { result ≡ is_reachable axes self.now }
     {
@@ -22,7 +23,7 @@ impl Joints {
         are_in_reach(&self.axis[..count])
     }
 
-    /// The joints are a position of an arm with so many axes: each axis is in reach, and no other axis is given.
+    /// Whether this is a position of an arm with `axes` axes: each of those is in reach, and no other axis is given.
     pub fn is_position(&self, axes: usize) -> bool
         ensures { result ≡ is_position axes self.now }
     {
@@ -32,7 +33,7 @@ impl Joints {
     }
 }
 
-/// The greatest size of the angle of an axis, counted from 0, in thousandths of a degree.
+/// The greatest absolute angle of an axis, numbered from 0, in thousandths of a degree.
 fn reach_of(axis: usize) -> u64
     ensures { result ≡ reach_of axis }
 {
@@ -49,7 +50,7 @@ fn is_in_reach(axis: usize, angle: Num) -> bool
     angle.thousandths().unsigned_abs() <= reach_of(axis)
 }
 
-/// The angles of the first axes are each in reach.
+/// Whether the angles of the first axes are each in reach.
 fn are_in_reach(angles: &[Num]) -> bool
     ensures { result ≡ are_in_reach 0 angles.now }
 {

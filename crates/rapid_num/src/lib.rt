@@ -1,4 +1,4 @@
-//! Numbers of RAPID as whole thousandths, and the joints, bounds and shapes that are made of them; and which characters are
+//! RAPID nums as integer numbers of thousandths, the joints, bounds and shapes made of them, and which characters are
 //! printable.
 #![tactic(auto)]
 
@@ -23,6 +23,6 @@ pub use round::round_ratio;
 pub use shape::{Bound, Shape};
 pub use write::{write_fixed, write_num};
 
-/// Memory was refused. What the call was lent is as it was.
+/// Out of memory. Whatever was lent to the call is unchanged.
 #[derive(Clone, Copy, Debug, PartialEq, Eq)]
 pub struct Memory;

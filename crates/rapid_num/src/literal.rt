@@ -10,11 +10,11 @@ use crate::num::Num;
 use crate::scale::size_within;
 use rapid_limits::LONGEST_LITERAL;
 
-/// No literal, one of more than 30 bytes, or one that is out of range once it is rounded.
+/// The text is not a literal, has more than 30 bytes, or its rounded value is out of range.
 #[derive(Clone, Copy, Debug, PartialEq, Eq)]
 pub struct BadLiteral;
 
-/// The base that the letter behind a 0 stands for.
+/// The base for the letter after a 0.
 fn base_of(letter: u8) -> Option<u128>
     ensures { result ≡ base_of letter }
 {
@@ -26,7 +26,7 @@ fn base_of(letter: u8) -> Option<u128>
     }
 }
 
-/// The thousandths of whole digits of a base.
+/// The value of digits of a base, in thousandths.
 fn read_based(digits: &[u8], base: u128) -> Option<u64>
     requires short { length digits.now ≤ LONGEST_LITERAL - 2 }
     requires known { base ≤ 16 }
@@ -36,7 +36,7 @@ fn read_based(digits: &[u8], base: u128) -> Option<u64>
     size_within(number * 1000)
 }
 
-/// The thousandths that a text spells: `None` exactly where it is no literal or is out of range.
+/// The value of a literal, in thousandths. `None` exactly if the text is not a literal or its value is out of range.
 fn read_thousandths(text: &[u8]) -> Option<u64>
     requires short { length text.now ≤ LONGEST_LITERAL }
     ensures { result ≡ within (spelled_thousandths text.now) }
@@ -50,8 +50,8 @@ fn read_thousandths(text: &[u8]) -> Option<u64>
     }
 }
 
-/// The num of a numerical literal (RAPID Kernel, lexical elements): digits, or digits with a point among them, with an
-/// optional exponent, or `0x`, `0o`, `0b` and digits of that base. Its value is rounded to a thousandth, halves away
+/// The num of a numerical literal (RAPID Kernel, lexical elements): digits, with or without a decimal point, and an
+/// optional exponent; or `0x`, `0o` or `0b` and digits of that base. The value is rounded to a thousandth, halves away
 /// from zero.
 pub fn read_literal(text: &[u8]) -> Result<Num, BadLiteral>
     ensures value { result_ok result ≡ literal_value text.now }

@@ -5,8 +5,8 @@ ghost use Rattle.rapid_num.specs.Arithmetic.{num_of};
 
 use std::marker::Model;
 
-/// A RAPID num: a whole count of thousandths of at most 9 999 999 999 999 in size (RAPID Overview, basic elements;
-/// ABB's num is a float, this profile's is exact). Contracts see it as that count.
+/// A RAPID num: an integer number of thousandths, of absolute value at most 9 999 999 999 999 (RAPID Overview, basic
+/// elements). ABB's num is a float; this profile's num is exact. Contracts see it as the number of thousandths.
 #[derive(Clone, Copy, Debug, PartialEq, Eq)]
 pub struct Num {
     thousandths: i64,
@@ -26,7 +26,7 @@ impl Model for Num {
 }
 
 impl Num {
-    /// The num of so many thousandths: `None` exactly where the count is out of range.
+    /// The num with this many thousandths. `None` exactly if it is out of range.
     pub fn new(thousandths: i64) -> Option<Num>
         ensures { result ≡ num_of thousandths }
     {
@@ -36,7 +36,7 @@ impl Num {
         Some(Num { thousandths })
     }
 
-    /// The count of thousandths.
+    /// The number of thousandths.
     pub fn thousandths(self) -> i64
         ensures same { result ≡ self }
         ensures range { IsNum self }
@@ -44,15 +44,15 @@ impl Num {
         self.thousandths
     }
 
-    /// Whether it is 9E9, which stands for what is not given: an external axis of a position, or the bound of an axis
-    /// (RAPID Instructions, Functions and Data types: extjoint, WZLimJointDef).
+    /// Whether it is 9E9, which means 'not given': an external axis that a position leaves open, or a missing bound of
+    /// an axis (RAPID Instructions, Functions and Data types: extjoint, WZLimJointDef).
     pub fn is_absent(self) -> bool
         ensures { result ≡ is_absent self }
     {
         self.thousandths() == 9_000_000_000_000
     }
 
-    /// The num of a count in range.
+    /// The num with this many thousandths, which must be in range.
     pub(crate) fn within_range(thousandths: i64) -> Num
         requires { IsNum thousandths }
         ensures { result ≡ thousandths }

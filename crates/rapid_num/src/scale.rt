@@ -1,4 +1,4 @@
-//! Numbers times a power of ten, as sizes of nums.
+//! Numbers times a power of ten, as absolute values of nums.
 ghost use Rattle.std.specs.Prelude.{◌≡◌, ◌*◌, ◌^◌, ◌<◌};
 ghost use Rattle.rapid_num.specs.Arithmetic.{rounded};
 ghost use Rattle.rapid_num.specs.Literal.{scaled};
@@ -6,10 +6,10 @@ ghost use Rattle.rapid_num.specs.Reading.{size_within};
 
 use crate::round::nearest_quotient;
 
-/// The greatest size of a num.
+/// The greatest absolute value of a num, in thousandths.
 const GREATEST: u128 = 9_999_999_999_999;
 
-/// The natural as the size of a num: `None` exactly where it is too great.
+/// The number as the absolute value of a num. `None` exactly if it is too large.
 pub(crate) fn size_within(natural: u128) -> Option<u64>
     ensures { result ≡ size_within natural }
 {
@@ -19,7 +19,7 @@ pub(crate) fn size_within(natural: u128) -> Option<u64>
     Some(natural as u64)
 }
 
-/// `number` times so many tens, as the size of a num. Nothing is multiplied where the product is out of range anyway.
+/// `number * 10^tens`, as the absolute value of a num. If the product is out of range anyway, nothing is multiplied.
 fn scale_up(number: u128, tens: u128) -> Option<u64>
     ensures { result ≡ size_within (number * 10 ^ tens) }
 {
@@ -32,7 +32,7 @@ fn scale_up(number: u128, tens: u128) -> Option<u64>
     size_within(number * 10u128.pow(tens as u32))
 }
 
-/// `number` divided by so many tens, as the size of a num. From 31 tens on the nearest natural is 0.
+/// `number / 10^tens`, rounded, as the absolute value of a num. From `tens = 31` on, it rounds to 0.
 fn scale_down(number: u128, tens: u128) -> Option<u64>
     requires thirty_digits { number < 10 ^ 30 }
     ensures { result ≡ size_within (rounded number (10 ^ tens)) }
@@ -43,7 +43,8 @@ fn scale_down(number: u128, tens: u128) -> Option<u64>
     size_within(nearest_quotient(number, 10u128.pow(tens as u32)))
 }
 
-/// `number * 10^exponent` rounded to a whole number, halves up: `None` exactly where it is no size of a num.
+/// `number * 10^exponent`, rounded to an integer, halves up. `None` exactly if it is out of range for the absolute
+/// value of a num.
 pub(crate) fn scale(number: u128, exponent: i128) -> Option<u64>
     requires thirty_digits { number < 10 ^ 30 }
     ensures { result ≡ size_within (scaled number exponent) }

@@ -1,4 +1,4 @@
-//! Nums as decimal texts.
+//! Nums as decimal text.
 ghost use Rattle.std.specs.Prelude.{◌≡◌, ℕ, ◌+◌, ◌/◌, ◌%◌, ◌<◌, ◌≤◌, pos, nat_abs, [], ◌∷◌, ◌++◌, decimal, Some};
 ghost use Rattle.arrayvec.specs.ArrayString.{array_string_len};
 ghost use Rattle.rapid_num.specs.Literal.{literal_value};
@@ -9,12 +9,12 @@ use crate::num::Num;
 use arrayvec::ArrayString;
 use itoa::Buffer;
 
-/// The decimal text without needless digits, as `5`, `2.5` and `-0.001`: at most 15 bytes.
+/// The shortest decimal text, as `5`, `2.5` and `-0.001`: at most 15 bytes.
 pub fn write_num(value: Num, text: &mut ArrayString<24>)
     requires empty { text.old.bytes ≡ [] }
     ensures text { text.new.bytes ≡ shortest_text value }
     ensures short { array_string_len text.new ≤ 15 }
-    // A num without a sign is read again.
+    // The text of a num without a sign can be read back.
     ensures reads_back { (n : ℕ) → value ≡ pos n → literal_value text.new.bytes ≡ Some value }
 {
     let rest = write_whole(value, text);
@@ -26,7 +26,7 @@ pub fn write_fixed(value: Num, text: &mut ArrayString<24>)
     requires empty { text.old.bytes ≡ [] }
     ensures text { text.new.bytes ≡ fixed_text value }
     ensures short { array_string_len text.new ≤ 15 }
-    // A num without a sign is read again.
+    // The text of a num without a sign can be read back.
     ensures reads_back { (n : ℕ) → value ≡ pos n → literal_value text.new.bytes ≡ Some value }
 {
     let rest = write_whole(value, text);
@@ -34,7 +34,7 @@ pub fn write_fixed(value: Num, text: &mut ArrayString<24>)
     write_three_digits(rest, text);
 }
 
-/// A minus where the value is below zero.
+/// A minus sign for a negative value.
 fn write_sign(value: Num, text: &mut ArrayString<24>)
     requires empty { text.old.bytes ≡ [] }
     ensures text { text.new.bytes ≡ sign_text value }
@@ -45,7 +45,7 @@ fn write_sign(value: Num, text: &mut ArrayString<24>)
     }
 }
 
-/// The sign and the whole part. The answer is the number of thousandths below one.
+/// The sign and the integer part. Returns the thousandths below one.
 fn write_whole(value: Num, text: &mut ArrayString<24>) -> u64
     requires empty { text.old.bytes ≡ [] }
     ensures text { text.new.bytes ≡ sign_text value ++ decimal (nat_abs value / 1000) }
@@ -69,7 +69,7 @@ fn write_digit(digit: u64, text: &mut ArrayString<24>)
     text.push(char::from(b'0' + digit as u8));
 }
 
-/// The digits of hundreds, tens and ones.
+/// The digits for hundreds, tens and ones.
 fn write_three_digits(rest: u64, text: &mut ArrayString<24>)
     requires below_one { rest < 1000 }
     requires room { array_string_len text.old ≤ 12 }
@@ -80,7 +80,7 @@ fn write_three_digits(rest: u64, text: &mut ArrayString<24>)
     write_digit(rest % 10, text);
 }
 
-/// So many thousandths, with a point and without zeros at the end.
+/// Thousandths below one: a decimal point and digits without trailing zeros.
 fn write_fraction(rest: u64, text: &mut ArrayString<24>)
     requires below_one { rest < 1000 }
     requires room { array_string_len text.old ≤ 11 }

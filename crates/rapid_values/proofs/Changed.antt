@@ -1,4 +1,4 @@
--- What a value is with a part put in.
+-- Values with one part replaced.
 use Rattle.std.proofs.Common.{◌≡◌, ℕ, zero, suc, ◌+◌, ◌-◌, ◌<◌, ◌≤◌, Bool, true, false, if◌then◌else◌, ℤ, List, [], ◌∷◌, ◌++◌, length, take, drop, slice_get, slice_set, Option, None, Some, option_map, nat_lt, nat_eq, refl, sym, ap, ◌∙◌, subst, arith, add-one, length-append, length-take, length-drop}
 use Rattle.std.proofs.lemmas.Bool.{ltb-true, ltb-false, eqb-true}
 use Rattle.std.proofs.Math.Seq.{take-append_seam, drop-append_seam}
@@ -15,7 +15,7 @@ use Rattle.rapid_values.specs.Values.{num_at, part_of, put_part, with_axes, with
 pub some_same : {A : Type 0} {x y : A} → Some x ≡ Some y → x ≡ y
 some_same {x = x} is = ap (λ o. unwrap_or o x) is
 
--- what stands at another index of a list is as it was
+-- the element at any other index of a list is unchanged
 other_index : (xs : List ℤ) (i j : ℕ) (n : ℤ) → (i ≡ j → ⊥) → slice_get (slice_set xs i n) j ≡ slice_get xs j
 other_index [] i j n ne = refl
 other_index (x ∷ xs) zero zero n ne = absurd (ne refl)
@@ -23,7 +23,7 @@ other_index (x ∷ xs) zero (suc j) n ne = refl
 other_index (x ∷ xs) (suc i) zero n ne = refl
 other_index (x ∷ xs) (suc i) (suc j) n ne = other_index xs i j n (λ e. ne (ap suc e))
 
--- a list with a num written is the list that was, set at an index that it has
+-- a list with a num written is the old list, set at an index that it has
 written : (nums : List ℤ) (i : ℕ) (new : Value) (ns : List ℤ) → with_num nums i new ≡ Some ns → (n : ℤ) × (new ≡ values.Num n) × (i < length nums) × (ns ≡ slice_set nums i n)
 written nums i (values.Num n) ns is =
     let at : (within : Bool) → nat_lt i (length nums) ≡ within → (if within then Some (take i nums ++ n ∷ drop (i + 1) nums) else None) ≡ Some ns → (m : ℤ) × (values.Num n ≡ values.Num m) × (i < length nums) × (ns ≡ slice_set nums i m) =
@@ -55,12 +55,12 @@ num_length nums i new ns is =
     let w = written nums i new ns is in
     ap length w.3 ∙ length-set nums i w.0
 
--- what a mapped option was made of
+-- the option that was mapped
 pub mapped : {A B : Type 0} (f : A → B) (r : Option A) (y : B) → option_map f r ≡ Some y → (x : A) × (r ≡ Some x) × (y ≡ f x)
 mapped f None y is = absurd (none-some _ is)
 mapped f (Some x) y is = (x, refl, sym (some_same is))
 
--- a choice that is Some was not its None
+-- a choice that is Some did not take its None
 high_axis : {A : Type 0} (low : Bool) (r : Option A) (y : A) → (if low then None else r) ≡ Some y → (low ≡ false) × (r ≡ Some y)
 high_axis true r y is = absurd (none-some _ is)
 high_axis false r y is = (refl, is)
@@ -143,7 +143,7 @@ other_axes (values.Ext axes) w new j k ne is =
     ap (λ x. part_of x (parts.Axis k)) m.2 ∙ other_high axes m.0 new j k ne (ltb-false j 6 high.0) m.1
 other_axes _ w new j k ne is = absurd (none-some _ is)
 
--- a robax leaves the external axes
+-- replacing robax keeps the external axes
 keeps_extax : (v w new : Value) → is_full new ≡ true → put_part v parts.Robax new ≡ Some w → part_of w parts.Extax ≡ part_of v parts.Extax
 keeps_extax (values.Target joints) w (values.Rob axes) full is =
     let six : length axes ≡ 6 = eqb-true (length axes) 6 full in
@@ -151,7 +151,7 @@ keeps_extax (values.Target joints) w (values.Rob axes) full is =
     sym (ap (λ x. part_of x parts.Extax) (some_same is)) ∙ ap (λ l. Some (values.Ext l)) back
 keeps_extax _ w _ full is = absurd (none-some _ is)
 
--- an extax leaves the robot's axes
+-- replacing extax keeps the robot axes
 keeps_robax : (v w new : Value) → is_full v ≡ true → put_part v parts.Extax new ≡ Some w → part_of w parts.Robax ≡ part_of v parts.Robax
 keeps_robax (values.Target joints) w (values.Ext axes) full is =
     let twelve : length joints.axis ≡ 12 = eqb-true (length joints.axis) 12 full in

@@ -8,7 +8,7 @@ use Rattle.rapid_model.specs.declared.value.Value.{Value}
 use Rattle.rapid_model.specs.declared.value.Value.TheVariants as values
 use Rattle.rapid_values.specs.Values.{nums_of, so_many, with_num}
 
--- a num that was written at an index that the list has
+-- a num written at an index that the list has
 pub num_written : (nums : List ℤ) (i : ℕ) (value : Value) (n : ℤ) → value ≡ values.Num n → i < length nums → with_num nums i value ≡ Some (slice_set nums i n)
 num_written nums i value n is lt = rw (is, lt-ltb i (length nums) lt, set_split nums i n lt, add-one i) refl
 
@@ -25,7 +25,7 @@ one_more : (n : ℤ) (count : ℕ) (r : Option (List ℤ)) → IfSome r (λ ns. 
 one_more n count None as_many = tt
 one_more n count (Some ns) as_many = ap suc as_many
 
--- nums of values are as many as the values
+-- there are as many nums as values
 as_many_nums : (vs : List Value) → IfSome (nums_of vs) (λ ns. length ns ≡ length vs)
 as_many_nums [] = refl
 as_many_nums (values.Num n ∷ vs) = one_more n (length vs) (nums_of vs) (as_many_nums vs)
@@ -35,6 +35,6 @@ no_value : (count many : ℕ) (make : List ℤ → Value) (r : Option (List ℤ)
 no_value count many make None ne as_many = refl
 no_value count many make (Some ns) ne as_many = rw (ne_eqb (length ns) count (λ e. ne (sym as_many ∙ e))) refl
 
--- values of another count make none
+-- any other number of values makes none
 pub other_count : (count : ℕ) (make : List ℤ → Value) (vs : List Value) → (length vs ≡ count → ⊥) → so_many count make (nums_of vs) ≡ None
 other_count count make vs ne = no_value count (length vs) make (nums_of vs) ne (as_many_nums vs)

@@ -1,4 +1,4 @@
--- The parts of a value that is made of components.
+-- The parts of a value made of components.
 use Rattle.std.proofs.Common.{◌≡◌, ℕ, zero, suc, ◌-◌, ◌<◌, ◌≤◌, Bool, true, false, if◌then◌else◌, ℤ, List, [], ◌∷◌, ◌++◌, length, take, drop, slice_get, Option, None, Some, option_map, nat_lt, nat_eq, refl, sym, ap, ◌∙◌, subst, arith}
 use Rattle.std.specs.List.{list_all}
 use Rattle.std.proofs.lemmas.Bool.{and_parts, eqb-true, le-ltb}
@@ -14,7 +14,7 @@ use Rattle.rapid_model.specs.Lengths.{is_full}
 use Rattle.rapid_values.specs.Values.{made_of, num_at, nums_of, part_of, so_many, with_axes}
 use Rattle.rapid_values.proofs.Changed.{mapped, some_same}
 
--- each num is that of the value at its index
+-- each num is that of the value at the same index
 same_nums : (vs : List Value) (ns : List ℤ) → nums_of vs ≡ Some ns → (i : ℕ) → num_at ns i ≡ slice_get vs i
 same_nums [] ns is i = ap (λ ns. num_at ns i) (sym (some_same is))
 same_nums (values.Num n ∷ vs) ns is zero =
@@ -25,7 +25,7 @@ same_nums (values.Num n ∷ vs) ns is (suc i) =
     ap (λ ns. num_at ns (suc i)) m.2 ∙ same_nums vs m.0 m.1 i
 same_nums (_ ∷ vs) ns is i = absurd (none-some _ is)
 
--- the nums of which a value is made
+-- the nums that a value is made of
 nums_made : (count : ℕ) (make : List ℤ → Value) (r : Option (List ℤ)) (v : Value) → so_many count make r ≡ Some v → (ns : List ℤ) × (r ≡ Some ns) × (make ns ≡ v)
 nums_made count make None v is = absurd (none-some _ is)
 nums_made count make (Some ns) v is =
@@ -34,7 +34,7 @@ nums_made count make (Some ns) v is =
     in
     (ns, refl, at (nat_eq (length ns) count) is)
 
--- each component of a list is the part that stands at its index
+-- each component of a list is the part at its index
 abbrev Stands : Value → (ℕ → Option Value) → List Component → Type 0
 Stands v at [] = Unit {0}
 Stands v at (c ∷ cs) = (part_of v c.part ≡ at 0) × Stands v (λ k. at (suc k)) cs

@@ -7,7 +7,7 @@ use Rattle.rapid_model.specs.declared.sort.Sort.TheVariants as sorts
 use Rattle.rapid_model.specs.declared.part_name.PartName.{PartName}
 use Rattle.rapid_model.specs.declared.part_name.PartName.TheVariants as parts
 
--- a component: its name, the part of the value that it is, and its type
+-- a component: its name, which part of a value it is, and its type
 pub record Component : Type 0 where
   pub name : List ℕ
   pub part : PartName
@@ -19,7 +19,7 @@ axis name number = record { name = name; part = parts.Axis number; sort = sorts.
 abbrev pub speed : List ℕ → ℕ → Component
 speed name number = record { name = name; part = parts.SpeedPart number; sort = sorts.Num }
 
--- the components of a type in their order; none where it is no record
+-- the components of a type, in order; none if it is not a record
 abbrev pub components : Sort → List Component
 components sorts.RobJoint =
     axis (codes "rax_1") 0 ∷ axis (codes "rax_2") 1 ∷ axis (codes "rax_3") 2 ∷ axis (codes "rax_4") 3 ∷ axis (codes "rax_5") 4

@@ -40,9 +40,9 @@ static SPEED_DATA: [(&[u8], PartName, Sort); 4] = [
 
 static TASKS: [(&[u8], PartName, Sort); 1] = [(b"taskname", PartName::Taskname, Sort::Text)];
 
-/// The component of this name of a type: the part of a value that it is, and its type. None exactly where the type has no
-/// such component; letters of either case are the same (RAPID Instructions, Functions and Data types: robjoint, extjoint,
-/// jointtarget, speeddata, tasks). Axes are numbered from 0, `eax_a` being 6, and the parts of a speed from 0.
+/// The component of a type with this name, case-insensitively: which part of a value it is, and its type. None exactly
+/// if the type has no such component (RAPID Instructions, Functions and Data types: robjoint, extjoint, jointtarget,
+/// speeddata, tasks). Axes are numbered from 0, so `eax_a` is 6, and the parts of a speed from 0.
 pub fn component(sort: Sort, name: &[u8]) -> Option<(PartName, Sort)>
     ensures { result ≡ option_map (λ c. (c.part, c.sort)) (component_of name.now (components sort)) }
 {
@@ -56,7 +56,7 @@ pub fn component(sort: Sort, name: &[u8]) -> Option<(PartName, Sort)>
     }
 }
 
-/// What stands beside the first name of a table that is this one, letters of either case being the same.
+/// The part and the type in the first row of a table with this name, case-insensitively.
 fn row_of(rows: &[(&[u8], PartName, Sort)], name: &[u8]) -> Option<(PartName, Sort)>
     ensures { result ≡ option_map (λ c. (c.part, c.sort)) (component_of name.now (map (λ row. record { name = row.0.now; part = row.1; sort = row.2 }) rows.now)) }
 {
@@ -68,14 +68,14 @@ fn row_of(rows: &[(&[u8], PartName, Sort)], name: &[u8]) -> Option<(PartName, So
     None
 }
 
-/// Whether a name is spelled so, letters of either case being the same.
+/// Whether a name has this spelling, case-insensitively.
 fn is_spelled(spelling: &[u8], name: &[u8]) -> bool
     ensures { result ≡ str_eq_ignore_ascii_case spelling.now name.now }
 {
     spelling.eq_ignore_ascii_case(name)
 }
 
-/// The types of a record type's components, in their order; empty for other types.
+/// The types of a record type's components, in order; empty for other types.
 pub fn component_sorts(sort: Sort) -> &'static [Sort]
     ensures { result.now ≡ map (λ c. c.sort) (components sort) }
 {

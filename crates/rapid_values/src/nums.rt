@@ -23,7 +23,7 @@ pub(crate) fn six(nums: &[Num]) -> [Num; 6]
     axes
 }
 
-/// Joints of six axes of an arm and six external ones.
+/// The joints of an arm's six axes and six external axes.
 pub(crate) fn joined(rob: &[Num], ext: &[Num]) -> Joints
     requires rob { length rob.now ≡ 6 }
     requires ext { length ext.now ≡ 6 }
@@ -36,7 +36,7 @@ pub(crate) fn joined(rob: &[Num], ext: &[Num]) -> Joints
     Joints { axis }
 }
 
-/// A num of a list, from 0; None exactly behind its end.
+/// The num at an index, from 0; None exactly past the end.
 pub(crate) fn num_at(nums: &[Num], index: usize) -> Option<Value>
     ensures { result ≡ num_at nums.now index }
 {
@@ -44,7 +44,7 @@ pub(crate) fn num_at(nums: &[Num], index: usize) -> Option<Value>
     Some(Value::Num(*num))
 }
 
-/// Puts a num at an index of a list. No exactly where the list has no such index or the value is no num.
+/// Puts a num at an index of a list. Returns false exactly if the list has no such index or the value is not a num.
 pub(crate) fn put_num(nums: &mut [Num], index: usize, new: &Value) -> bool
     ensures { with_num nums.old index new.now ≡ (if result then Some nums.new else None) }
 {

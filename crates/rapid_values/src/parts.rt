@@ -6,7 +6,7 @@ ghost use Rattle.rapid_values.specs.Values.{part_of};
 use crate::nums::{num_at, six};
 use rapid_model::{PartName, Value};
 
-/// The part of a value; axes are numbered from 0, those of an extjoint from 6. None exactly where the value has no such part
+/// A part of a value. Axes are numbered from 0, those of an extjoint from 6. None exactly if the value has no such part
 /// (RAPID Instructions, Functions and Data types: robjoint, extjoint, jointtarget, speeddata, tasks).
 pub fn part(value: &Value, part: PartName) -> Option<Value>
     ensures { result ≡ part_of value.now part }
@@ -21,7 +21,7 @@ pub fn part(value: &Value, part: PartName) -> Option<Value>
     }
 }
 
-/// The robot's axes of a jointtarget.
+/// The robot axes of a jointtarget.
 fn robax(value: &Value) -> Option<Value>
     ensures { result ≡ part_of value.now PartName.Robax }
 {
@@ -44,7 +44,7 @@ fn extax(value: &Value) -> Option<Value>
     }
 }
 
-/// An axis, from 0; those of an extjoint are from 6.
+/// An axis, numbered from 0; those of an extjoint from 6.
 fn axis(value: &Value, number: u8) -> Option<Value>
     ensures { result ≡ part_of value.now (PartName.Axis number) }
 {

@@ -1,4 +1,4 @@
-//! Values with a part put in.
+//! Values with one part replaced.
 
 ghost use Rattle.std.specs.Prelude.{◌≡◌};
 ghost use Rattle.rapid_values.specs.Values.{put_part};
@@ -6,10 +6,10 @@ ghost use Rattle.rapid_values.specs.Values.{put_part};
 use crate::nums::{joined, put_num};
 use rapid_model::{PartName, Value};
 
-/// The value with this part put in, and all other parts as they were; axes are numbered from 0, those of an extjoint from 6.
-/// None exactly where the value has no such part, or what is put in is none of the part's type; all of a value is any value,
-/// so that types are the caller's to compare there (RAPID Kernel, assignment; RAPID Instructions, Functions and Data types:
-/// robjoint, extjoint, jointtarget, speeddata, tasks).
+/// The value with one part replaced and the others unchanged. Axes are numbered from 0, those of an extjoint from 6.
+/// None exactly if the value has no such part, or the new part does not have the part's type. The whole of a value may
+/// be replaced by any value; there the caller compares the types (RAPID Kernel, assignment; RAPID Instructions,
+/// Functions and Data types: robjoint, extjoint, jointtarget, speeddata, tasks).
 pub fn with_part(value: Value, part: PartName, new: Value) -> Option<Value>
     ensures { result ≡ put_part value part new }
 {
@@ -23,7 +23,7 @@ pub fn with_part(value: Value, part: PartName, new: Value) -> Option<Value>
     }
 }
 
-/// A jointtarget with other robot's axes.
+/// A jointtarget with other robot axes.
 fn with_robax(value: Value, new: Value) -> Option<Value>
     ensures { result ≡ put_part value PartName.Robax new }
 {
@@ -51,7 +51,7 @@ fn with_extax(value: Value, new: Value) -> Option<Value>
     Some(Value::Target(joined(&all[..6], &axes)))
 }
 
-/// A value with another axis, from 0; those of an extjoint are from 6.
+/// A value with one axis replaced; axes are numbered from 0, those of an extjoint from 6.
 fn with_axis(value: Value, number: u8, new: Value) -> Option<Value>
     ensures { result ≡ put_part value (PartName.Axis number) new }
 {
@@ -70,7 +70,7 @@ fn with_axis(value: Value, number: u8, new: Value) -> Option<Value>
     }
 }
 
-/// A speed with another part, from 0.
+/// A speed with one part replaced; parts are numbered from 0.
 fn with_speed_part(value: Value, number: u8, new: Value) -> Option<Value>
     ensures { result ≡ put_part value (PartName.SpeedPart number) new }
 {
@@ -82,7 +82,7 @@ fn with_speed_part(value: Value, number: u8, new: Value) -> Option<Value>
     }
 }
 
-/// Another name of a task.
+/// A task's name, replaced.
 fn with_taskname(value: Value, new: Value) -> Option<Value>
     ensures { result ≡ put_part value PartName.Taskname new }
 {

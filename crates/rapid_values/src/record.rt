@@ -8,9 +8,9 @@ use crate::nums::{joined, zero};
 use rapid_model::{Sort, Value};
 use rapid_num::Num;
 
-/// The value of a record type that has these components, in their order. None exactly where the type is no record, or the
-/// components are not as many or not of the types that it has (RAPID Kernel, aggregates; RAPID Instructions, Functions and Data
-/// types: robjoint, extjoint, jointtarget, speeddata, tasks).
+/// The value of a record type with these components, in order. None exactly if the type is not a record, or the number
+/// or the types of the components are wrong (RAPID Kernel, aggregates; RAPID Instructions, Functions and Data types:
+/// robjoint, extjoint, jointtarget, speeddata, tasks).
 pub fn record_of(sort: Sort, parts: &[Value]) -> Option<Value>
     ensures { result ≡ made_of sort parts.now }
 {
@@ -33,7 +33,8 @@ pub fn record_of(sort: Sort, parts: &[Value]) -> Option<Value>
     }
 }
 
-/// Writes the nums of as many values over a list. No exactly where the values are not as many or not all nums.
+/// Overwrites a list with the nums of values. Returns false exactly if there are not as many values as nums in the
+/// list, or not all of them are nums.
 fn fill(nums: &mut [Num], parts: &[Value]) -> bool
     ensures { (make : List ℤ → Value) → so_many (length nums.old) make (nums_of parts.now) ≡ (if result then Some (make nums.new) else None) }
 {
@@ -59,7 +60,7 @@ fn target_of(parts: &[Value]) -> Option<Value>
     }
 }
 
-/// A value of tasks, of a string.
+/// A value of type tasks from a string.
 fn task_of(parts: &[Value]) -> Option<Value>
     ensures { result ≡ made_of Sort.Tasks parts.now }
 {

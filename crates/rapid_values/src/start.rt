@@ -1,4 +1,4 @@
-//! What a value of a type begins with.
+//! The start value of each type.
 
 ghost use Rattle.std.specs.Prelude.{◌≡◌};
 ghost use Rattle.rapid_values.specs.Values as given;
@@ -7,9 +7,9 @@ use crate::nums::zero;
 use rapid_model::{Sort, Text, Value};
 use rapid_num::Joints;
 
-/// What a datum of this type is before its first assignment: zero, FALSE or the empty text in every part. None exactly for the
-/// types that have no values: intnum, syncident, shapedata, wztemporary and wzstationary (RAPID Kernel, variable
-/// declarations; RAPID Instructions, Functions and Data types).
+/// The value of a datum of this type before its first assignment: zero, FALSE or the empty string in every part. None
+/// exactly for the types without values: intnum, syncident, shapedata, wztemporary and wzstationary (RAPID Kernel,
+/// variable declarations; RAPID Instructions, Functions and Data types).
 pub fn start_value(sort: Sort) -> Option<Value>
     ensures { result ≡ given.start_value sort }
 {

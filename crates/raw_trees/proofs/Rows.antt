@@ -1,4 +1,4 @@
--- The view of a tree that holds a Vec is made of the views of the Vec's elements, in order.
+-- The view of a tree with a Vec is made of the views of the Vec's elements, in order.
 use Rattle.std.specs.Prelude.{Option, None, Some, option_map, ◌≡◌, ℕ, map, refl}
 use Rattle.std.proofs.Common.{ap}
 use Rattle.std.specs.declared.alloc.Global.{Global}
@@ -54,7 +54,7 @@ row_stmts : {n : _} (row : Row_of-RawStmt n) →
 row_stmts end_of-RawStmt = refl
 row_stmts (more_of-RawStmt begin form row) = ap (Plain.MoreStmts (view_stmt_form begin form)) (row_stmts row)
 
--- the list of a Vec that a row was made of
+-- the list of the Vec that a row was made from
 hidden_stmts : (list : Vec RawStmt Global) →
     view_stmts (hidden-the_row-RawStmt-0 list) ≡ stmts_of (view_list list)
 hidden_stmts list = rw (row_stmts (hidden-the_row-RawStmt-0 list), items_hidden-the_row-RawStmt-0 list)

@@ -1,5 +1,5 @@
--- The raw trees of a module as contracts see them: what they hold, wherever it lies in memory. Each form has the byte
--- of the module at which it begins.
+-- The raw trees of a module as contracts see them: their contents, independent of memory. Each form has the byte of the
+-- module where it starts.
 use Rattle.std.specs.Prelude.{ℕ, Bool, List, [], ◌∷◌, Option, None, Some}
 use Rattle.rapid_model.specs.declared.operator.Operator.{Operator}
 use Rattle.raw_trees.specs.declared.raw_module.Attribute.{Attribute}
@@ -7,7 +7,7 @@ use Rattle.raw_trees.specs.declared.raw_datum.DatumKind.{DatumKind}
 use Rattle.rapid_model.specs.declared.routine_kind.RoutineKind.{RoutineKind}
 use Rattle.rapid_model.specs.declared.mode.Mode.{Mode}
 
--- a name as it is spelled
+-- a name as spelled
 pub record PlainName : Type 0 where
   pub text : List ℕ
   pub at : ℕ
@@ -22,9 +22,9 @@ mutual
     Invoke : ℕ → PlainName → PlainArgs → PlainExpr
     Place : ℕ → PlainPlace → PlainExpr
     Not : ℕ → PlainExpr → PlainExpr
-    -- minus where the sign is one
+    -- minus if the sign holds
     Signed : ℕ → Bool → PlainExpr → PlainExpr
-    -- the first operand, and behind it operators of one level with theirs
+    -- the first operand, then operators of one level, each with its operand
     Chain : ℕ → PlainExpr → PlainSteps → PlainExpr
 
   pub data PlainExprs : Type 0 where
@@ -40,7 +40,7 @@ mutual
     Held : PlainExpr → PlainHeld
 
   pub data PlainPlace : Type 0 where
-    -- a name, its index, and the components behind it
+    -- a name, its index, and the components after it
     PlaceOf : PlainName → PlainHeld → List PlainName → PlainPlace
 
   pub data PlainArg : Type 0 where
@@ -69,7 +69,7 @@ mutual
     -- the variable, the first and the last value, and the step
     For : ℕ → PlainName → PlainExpr → PlainExpr → Option PlainExpr → PlainStmts → PlainStmt
     While : ℕ → PlainExpr → PlainStmts → PlainStmt
-    -- the value, CASE with their values and lists, and DEFAULT
+    -- the value, each CASE with its values and list, and DEFAULT
     Test : ℕ → PlainExpr → PlainCases → PlainElse → PlainStmt
 
   pub data PlainStmts : Type 0 where
@@ -88,7 +88,7 @@ mutual
     NoElse : PlainElse
     Else : PlainStmts → PlainElse
 
--- a type's name, the name, its length and its initial value
+-- the name of the type, the name, the length and the initial value
 pub record PlainDatum : Type 0 where
   pub kind : DatumKind
   pub sort : PlainName
@@ -116,7 +116,7 @@ pub record PlainRoutine : Type 0 where
   pub at : ℕ
 
 pub data PlainItem : Type 0 where
-  -- whether it is LOCAL, whether it is a TASK PERS, the datum, and its place
+  -- whether it is LOCAL, whether it is a TASK PERS, the datum, and its position
   Datum : Bool → Bool → PlainDatum → ℕ → PlainItem
   Routine : PlainRoutine → PlainItem
 

@@ -1,4 +1,4 @@
--- How contracts see the raw trees: without pointers and shapes of memory.
+-- How contracts see the raw trees: without pointers, independent of memory.
 use Rattle.std.specs.Prelude.{ℕ, List, map, option_map}
 use Rattle.std.specs.declared.alloc.Global.{Global}
 use Rattle.std.specs.declared.vec.Vec.{Vec}
@@ -23,7 +23,7 @@ abbrev pub view_name : RawName → PlainName
 view_name n = record { text = n.text.now; at = n.at }
 
 abbrev mutual
-  -- the expression of a form that begins at a byte
+  -- the expression for a form that starts at a byte
   pub view_form : ℕ → RawExprForm → PlainExpr
   view_form at (Number text) = Plain.Number at text.now
   view_form at (Text text) = Plain.Quoted at text.now
@@ -66,12 +66,12 @@ abbrev mutual
 abbrev pub view_expr : RawExpr → PlainExpr
 view_expr e = view_form e.at e.form
 
--- an operator and the operand behind it
+-- an operator and the operand after it
 abbrev pub view_step : Operator × RawExpr → Operator × PlainExpr
 view_step s = (s.0, view_expr s.1)
 
 abbrev mutual
-  -- the statement of a form that begins at a byte
+  -- the statement for a form that starts at a byte
   pub view_stmt_form : ℕ → RawForm → PlainStmt
   view_stmt_form at (Assign place value) = Plain.Assign at (view_place place) (view_expr value)
   view_stmt_form at (Call name args) = Plain.Call at (view_name name) (args_of (map view_arg args.items))

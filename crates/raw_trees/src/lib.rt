@@ -1,5 +1,5 @@
-//! The trees that the text of a module spells: expressions, statements, declarations, with names as slices of the text and
-//! the byte at which each form begins.
+//! The syntax trees of a module: expressions, statements and declarations. Names are slices of the text, and each form
+//! has the byte where it starts.
 #![tactic(auto)]
 
 mod raw_bounds;

@@ -1,7 +1,7 @@
 use crate::raw_expr::RawExpr;
 use crate::raw_name::RawName;
 
-/// Which word declares a datum.
+/// The word that declares a datum.
 #[derive(Clone, Copy, Debug, PartialEq, Eq)]
 pub enum DatumKind {
     Const,
@@ -9,8 +9,8 @@ pub enum DatumKind {
     Pers,
 }
 
-/// A declaration of a datum: the name of its type, its name, the length of an array, and the initial value (RAPID
-/// Kernel, data declarations). `at` is the byte of the word that declares it, from 0.
+/// A declaration of a datum: the name of its type, its name, the length if it is an array, and the initial value if it
+/// has one (RAPID Kernel, data declarations). `at` is the byte of the word that declares it, from 0.
 #[derive(Drop)]
 pub struct RawDatum<'a> {
     pub kind: DatumKind,

@@ -1,4 +1,4 @@
-//! Expressions as a module spells them.
+//! Expressions as spelled in a module.
 
 ghost use Rattle.std.specs.Prelude.{◌≡◌, IfOk, map, option_map};
 ghost use Rattle.raw_trees.specs.Plain;
@@ -9,7 +9,7 @@ use crate::raw_name::RawName;
 use rapid_model::Operator;
 use std::alloc::{AllocError, Global};
 
-/// An expression, and the byte at which it begins, from 0 (RAPID Kernel, expressions).
+/// An expression and the byte where it starts, from 0 (RAPID Kernel, expressions).
 #[derive(Drop)]
 #[cycle(raw_expr)]
 pub struct RawExpr<'a> {
@@ -18,7 +18,7 @@ pub struct RawExpr<'a> {
 }
 
 impl<'a> RawExpr<'a> {
-    /// A numerical literal, as it is spelled.
+    /// A numerical literal, as spelled.
     pub fn number(at: usize, text: &'a [u8]) -> RawExpr<'a>
         ensures { view_expr result ≡ Plain.Number at text.now }
     {
@@ -28,7 +28,7 @@ impl<'a> RawExpr<'a> {
         }
     }
 
-    /// A string with its quotes, as it is spelled.
+    /// A string with its quotes, as spelled.
     pub fn text(at: usize, text: &'a [u8]) -> RawExpr<'a>
         ensures { view_expr result ≡ Plain.Quoted at text.now }
     {
@@ -48,7 +48,7 @@ impl<'a> RawExpr<'a> {
         }
     }
 
-    /// An expression in parentheses. Its error says that memory was refused.
+    /// An expression in parentheses. Fails only if an allocation fails.
     pub fn group(alloc: Global, at: usize, value: RawExpr<'a>) -> Result<RawExpr<'a>, AllocError>
         ensures { IfOk result (λ e. view_expr e ≡ Plain.Group at (view_expr value.entry)) }
     {
@@ -66,7 +66,7 @@ impl<'a> RawExpr<'a> {
         }
     }
 
-    /// A call of a function.
+    /// A function call.
     pub fn invoke(at: usize, name: RawName<'a>, args: Vec<RawArg<'a>>) -> RawExpr<'a>
         ensures { view_expr result ≡ Plain.Invoke at (view_name name.entry) (args_of (map view_arg args.entry.items)) }
     {
@@ -86,7 +86,7 @@ impl<'a> RawExpr<'a> {
         }
     }
 
-    /// NOT and its operand. Its error says that memory was refused.
+    /// NOT and its operand. Fails only if an allocation fails.
     pub fn not(alloc: Global, at: usize, value: RawExpr<'a>) -> Result<RawExpr<'a>, AllocError>
         ensures { IfOk result (λ e. view_expr e ≡ Plain.Not at (view_expr value.entry)) }
     {
@@ -94,7 +94,7 @@ impl<'a> RawExpr<'a> {
         Ok(RawExpr { at, form })
     }
 
-    /// A leading sign, minus or plus, and its operand. Its error says that memory was refused.
+    /// A leading sign, minus or plus, and its operand. Fails only if an allocation fails.
     pub fn signed(
         alloc: Global,
         at: usize,
@@ -110,7 +110,7 @@ impl<'a> RawExpr<'a> {
         })
     }
 
-    /// Operators of one level and their operands, from left to right. Its error says that memory was refused.
+    /// Operators of one level and their operands, from left to right. Fails only if an allocation fails.
     pub fn chain(
         alloc: Global,
         at: usize,
@@ -127,27 +127,27 @@ impl<'a> RawExpr<'a> {
     }
 }
 
-/// What an expression is. Operators of one level, from left to right, are one chain, whose `rest` is never empty.
+/// The forms of an expression. Operators of one level, from left to right, are one chain, whose `rest` is never empty.
 #[derive(Drop)]
 #[cycle(raw_expr)]
 pub enum RawExprForm<'a> {
-    /// A numerical literal, as it is spelled.
+    /// A numerical literal, as spelled.
     Number(&'a [u8]),
-    /// A string with its quotes, as it is spelled.
+    /// A string with its quotes, as spelled.
     Text(&'a [u8]),
     Bool(bool),
     /// An expression in parentheses.
     Group(Box<RawExpr<'a>>),
     /// Values in brackets.
     Aggregate(Vec<RawExpr<'a>>),
-    /// A call of a function.
+    /// A function call.
     Call {
         name: RawName<'a>,
         args: Vec<RawArg<'a>>,
     },
     Place(RawPlace<'a>),
     Not(Box<RawExpr<'a>>),
-    /// A leading sign, which covers the first term alone.
+    /// A leading sign, which applies only to the first term.
     Signed {
         minus: bool,
         operand: Box<RawExpr<'a>>,
@@ -172,7 +172,7 @@ pub enum RawArg<'a> {
 }
 
 impl<'a> RawArg<'a> {
-    /// A value for a parameter that is not an option.
+    /// The value for a required parameter.
     pub fn needed(value: RawExpr<'a>) -> RawArg<'a>
         ensures { view_arg result ≡ Plain.Needed (view_expr value.entry) }
     {
@@ -187,7 +187,7 @@ impl<'a> RawArg<'a> {
     }
 }
 
-/// A datum, an element of an array, or a component of one of these.
+/// A datum, an element of an array, or a component of one of them.
 #[derive(Drop)]
 #[cycle(raw_expr)]
 pub struct RawPlace<'a> {
@@ -197,8 +197,8 @@ pub struct RawPlace<'a> {
 }
 
 impl<'a> RawPlace<'a> {
-    /// The datum of a name, or of the element that `index` chooses, or the component that `parts` lead to from there.
-    /// Its error says that memory was refused.
+    /// A datum by name, or its element at `index`, or the component at the path `parts` from there. Fails only if an
+    /// allocation fails.
     pub fn new(
         alloc: Global,
         name: RawName<'a>,

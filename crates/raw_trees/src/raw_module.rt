@@ -1,4 +1,4 @@
-//! Modules as their text spells them.
+//! Modules as spelled in their text.
 
 use crate::raw_datum::RawDatum;
 use crate::raw_name::RawName;
@@ -14,7 +14,7 @@ pub enum Attribute {
     ReadOnly,
 }
 
-/// An item of a module: a datum, LOCAL or TASK or neither, or a routine. `at` is the byte of its first word, from 0.
+/// An item of a module: a datum, which may be LOCAL or TASK, or a routine. `at` is the byte of its first word, from 0.
 #[derive(Drop)]
 pub enum RawItem<'a> {
     Datum {
@@ -26,7 +26,7 @@ pub enum RawItem<'a> {
     Routine(RawRoutine<'a>),
 }
 
-/// The tree that a module's text spells, with its names as slices of the text.
+/// The syntax tree of a module, with its names as slices of the text.
 #[derive(Drop)]
 pub struct RawModule<'a> {
     pub name: RawName<'a>,

@@ -1,4 +1,4 @@
-/// A name as the module spells it, a slice of its text, and the byte at which it begins, from 0.
+/// A name as spelled, a slice of the module's text, and the byte where it starts, from 0.
 #[derive(Clone, Copy, Debug, PartialEq, Eq)]
 pub struct RawName<'a> {
     pub text: &'a [u8],

@@ -1,11 +1,11 @@
-//! Routines as a module spells them.
+//! Routines as spelled in a module.
 
 use crate::raw_datum::RawDatum;
 use crate::raw_name::RawName;
 use crate::raw_stmt::RawStmt;
 use rapid_model::{Mode, RoutineKind};
 
-/// A parameter: its mode, the name of its type, its name, and the byte at which it begins, from 0.
+/// A parameter: its mode, the name of its type, its name, and the byte where it starts, from 0.
 #[derive(Drop)]
 pub struct RawParam<'a> {
     pub mode: Mode,
@@ -14,8 +14,8 @@ pub struct RawParam<'a> {
     pub at: usize,
 }
 
-/// A routine (RAPID Kernel, routine declarations): a function has the name of its result's type, and `handler` is the
-/// ERROR part. `at` is the byte of its first word, from 0.
+/// A routine (RAPID Kernel, routine declarations). A function has the name of its result's type. `handler` is the ERROR
+/// part. `at` is the byte of its first word, from 0.
 #[derive(Drop)]
 pub struct RawRoutine<'a> {
     pub local: bool,

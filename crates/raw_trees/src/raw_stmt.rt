@@ -1,4 +1,4 @@
-//! Statements as a module spells them.
+//! Statements as spelled in a module.
 
 ghost use Rattle.std.specs.Prelude.{◌≡◌, IfOk, map, option_map};
 ghost use Rattle.raw_trees.specs.Plain;
@@ -10,7 +10,7 @@ use crate::raw_expr::{RawArg, RawExpr, RawPlace};
 use crate::raw_name::RawName;
 use std::alloc::{AllocError, Global};
 
-/// A statement, and the byte at which it begins, from 0 (RAPID Kernel, statements).
+/// A statement and the byte where it starts, from 0 (RAPID Kernel, statements).
 #[derive(Drop)]
 #[cycle(raw_stmt)]
 pub struct RawStmt<'a> {
@@ -29,7 +29,7 @@ impl<'a> RawStmt<'a> {
         }
     }
 
-    /// An instruction, or a call of a procedure.
+    /// An instruction or a procedure call.
     pub fn call(at: usize, name: RawName<'a>, args: Vec<RawArg<'a>>) -> RawStmt<'a>
         ensures { view_stmt result ≡ Plain.Call at (view_name name.entry) (args_of (map view_arg args.entry.items)) }
     {
@@ -39,7 +39,7 @@ impl<'a> RawStmt<'a> {
         }
     }
 
-    /// A label, for GOTO to lead to.
+    /// A label, the target of GOTO.
     pub fn label(at: usize, name: RawName<'a>) -> RawStmt<'a>
         ensures { view_stmt result ≡ Plain.Label at (view_name name.entry) }
     {
@@ -49,7 +49,7 @@ impl<'a> RawStmt<'a> {
         }
     }
 
-    /// GOTO, to the label of a name.
+    /// GOTO a label.
     pub fn goto(at: usize, name: RawName<'a>) -> RawStmt<'a>
         ensures { view_stmt result ≡ Plain.Goto at (view_name name.entry) }
     {
@@ -59,7 +59,7 @@ impl<'a> RawStmt<'a> {
         }
     }
 
-    /// RETURN, with a function's result or none.
+    /// RETURN, with the result if it is in a function.
     pub fn returns(at: usize, value: Option<RawExpr<'a>>) -> RawStmt<'a>
         ensures { view_stmt result ≡ Plain.Return at (option_map view_expr value.entry) }
     {
@@ -69,7 +69,7 @@ impl<'a> RawStmt<'a> {
         }
     }
 
-    /// EXIT, the end of the task.
+    /// EXIT, which ends the task.
     pub fn exit(at: usize) -> RawStmt<'a>
         ensures { view_stmt result ≡ Plain.Exit at }
     {
@@ -79,7 +79,7 @@ impl<'a> RawStmt<'a> {
         }
     }
 
-    /// RAISE, with the number of an error or none.
+    /// RAISE, with an error number or without.
     pub fn raise(at: usize, value: Option<RawExpr<'a>>) -> RawStmt<'a>
         ensures { view_stmt result ≡ Plain.Raise at (option_map view_expr value.entry) }
     {
@@ -109,7 +109,7 @@ impl<'a> RawStmt<'a> {
         }
     }
 
-    /// CONNECT, of an interrupt at a place with a trap routine.
+    /// CONNECT of an interrupt at a place WITH a trap routine.
     pub fn connect(at: usize, place: RawPlace<'a>, trap: RawName<'a>) -> RawStmt<'a>
         ensures { view_stmt result ≡ Plain.Connect at (view_place place.entry) (view_name trap.entry) }
     {
@@ -119,7 +119,7 @@ impl<'a> RawStmt<'a> {
         }
     }
 
-    /// IF and each ELSEIF with their lists, and ELSE.
+    /// IF and ELSEIF with their lists, and ELSE.
     pub fn choice(
         at: usize,
         arms: Vec<(RawExpr<'a>, Vec<RawStmt<'a>>)>,
@@ -133,7 +133,7 @@ impl<'a> RawStmt<'a> {
         }
     }
 
-    /// IF with one simple statement. Its error says that memory was refused.
+    /// IF with one simple statement. Fails only if an allocation fails.
     pub fn choice_of_one(
         alloc: Global,
         at: usize,
@@ -149,7 +149,7 @@ impl<'a> RawStmt<'a> {
         })
     }
 
-    /// FOR, whose variable goes through these bounds. Its error says that memory was refused.
+    /// FOR, with the bounds of its variable. Fails only if an allocation fails.
     pub fn for_loop(
         alloc: Global,
         at: usize,
@@ -196,7 +196,7 @@ impl<'a> RawStmt<'a> {
     }
 }
 
-/// What a statement is.
+/// The forms of a statement.
 #[derive(Drop)]
 #[cycle(raw_stmt)]
 pub enum RawForm<'a> {
@@ -204,7 +204,7 @@ pub enum RawForm<'a> {
         place: RawPlace<'a>,
         value: RawExpr<'a>,
     },
-    /// An instruction, or a call of a procedure.
+    /// An instruction or a procedure call.
     Call {
         name: RawName<'a>,
         args: Vec<RawArg<'a>>,
@@ -220,7 +220,7 @@ pub enum RawForm<'a> {
         place: RawPlace<'a>,
         trap: RawName<'a>,
     },
-    /// IF and each ELSEIF with their lists, and ELSE.
+    /// IF and ELSEIF with their lists, and ELSE.
     If {
         arms: Vec<(RawExpr<'a>, Vec<RawStmt<'a>>)>,
         other: Option<Vec<RawStmt<'a>>>,

@@ -1,4 +1,4 @@
--- What is true of each value that a check may come to.
+-- What holds of every value that a check may return.
 use Rattle.std.proofs.Common.{◌≡◌, Bool, true, false, Option, Some, None, Result, Ok, Err, refl}
 use Rattle.std.specs.Result.{IfOk}
 use Rattle.std.proofs.lemmas.Result.{IfOk-at_ok}
@@ -23,11 +23,11 @@ pub Keeps-found : {A Break : Type 0} (Q : A → Type 0) (o : Option A) (broken :
 Keeps-found Q (Some x) broken then = then x refl
 Keeps-found Q None broken then = tt
 
--- what a check came to keeps it
+-- the value that a check returned has the property
 pub kept : {A Break : Type 0} (Q : A → Type 0) (check : Result A Break) (x : A) → Keeps Q check → check ≡ Ok x → Q x
 kept Q check x keeps is = IfOk-at_ok Q is keeps
 
--- two steps after one another, however they are grouped
+-- two steps in a row, however they are grouped
 pub Keeps-grouped : {A B C Break : Type 0} (Q : C → Type 0) (check : Result A Break) (f : A → Result B Break) (g : B → Result C Break) → Keeps Q (check >>= (λ x. f x >>= g)) → Keeps Q ((check >>= f) >>= g)
 Keeps-grouped Q (Ok x) f g keeps = keeps
 Keeps-grouped Q (Err b) f g keeps = tt

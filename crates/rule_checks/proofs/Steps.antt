@@ -1,8 +1,8 @@
--- What follows where steps of a check come to a value.
+-- What follows if the steps of a check return values.
 use Rattle.std.proofs.Common.{◌≡◌, Bool, true, false, Result, Ok, Err, refl}
 use Rattle.rule_checks.specs.Checks.{◌>>=◌, must}
 
--- where a step and what follows it answer, each does
+-- if a step and the rest both succeed, each of them does
 module _ {A B Break : Type 0} (P : Type 0) (y : B) where
   pub behind : (x : Result A Break) (f : A → Result B Break) → (x >>= f) ≡ Ok y → ((a : A) → x ≡ Ok a → f a ≡ Ok y → P) → P
   behind (Ok a) f e next = next a refl e

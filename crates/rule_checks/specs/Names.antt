@@ -1,4 +1,4 @@
--- The names by which refusals tell rules.
+-- The names of the rules in error messages.
 use Rattle.std.specs.Prelude.{ℕ, List, codes}
 use Rattle.rule_checks.specs.declared.rule.TypeRule.{TypeRule}
 use Rattle.rule_checks.specs.declared.rule.TypeRule.TheVariants as types

@@ -1,4 +1,4 @@
--- Checks by the rules of names and types.
+-- Checks of the rules of names and types.
 use Rattle.std.specs.Prelude.{ℕ, Option, Some, None, Result}
 use Rattle.rule_checks.specs.declared.fault.TypeFault.{TypeFault}
 use Rattle.rule_checks.specs.declared.fault.TypeFault.TheVariants.{Rule, Memory}
@@ -6,7 +6,7 @@ use Rattle.rule_checks.specs.declared.rule.TypeRule.{TypeRule}
 use Rattle.rule_checks.specs.declared.spot.Spot.{Spot}
 use Rattle.rule_checks.specs.Gives as words
 
--- a rule that is broken, and where
+-- a broken rule and its position
 pub record TypeBreak : Type 0 where
   pub «module» : ℕ
   pub at : ℕ
@@ -15,11 +15,11 @@ pub record TypeBreak : Type 0 where
 abbrev pub Checked : Type 0 → Type 0
 Checked A = Result A TypeBreak
 
--- a rule that is broken at a spot
+-- a rule broken at a spot
 abbrev pub at_spot : Spot → TypeRule → TypeBreak
 at_spot spot rule = record { «module» = spot.«module»; at = spot.at; rule = rule }
 
--- the rule that a fault says to be broken; want of memory says none
+-- the broken rule in a fault; out of memory has none
 abbrev pub broken_rule : TypeFault → Option TypeBreak
 broken_rule (Rule number at rule) = Some (record { «module» = number; at = at; rule = rule })
 broken_rule Memory = None

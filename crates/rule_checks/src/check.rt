@@ -1,4 +1,4 @@
-//! The check of a rule of names and types.
+//! Checking a rule of names and types.
 
 ghost use Rattle.std.specs.Prelude.{◌≡◌};
 ghost use Rattle.rule_checks.specs.Checks.{must};
@@ -9,7 +9,7 @@ use crate::fault::TypeFault;
 use crate::rule::TypeRule;
 use crate::spot::Spot;
 
-/// The rule holds, or it is broken at the spot.
+/// Fails with the rule at the spot unless `holds`.
 pub fn must(holds: bool, spot: Spot, rule: TypeRule) -> Result<(), TypeFault>
     ensures { Gives (λ u. u) result (must holds (at_spot spot rule)) }
 {
@@ -19,7 +19,7 @@ pub fn must(holds: bool, spot: Spot, rule: TypeRule) -> Result<(), TypeFault>
     Err(broken(spot, rule))
 }
 
-/// The rule is broken at the spot.
+/// The fault for a rule broken at the spot.
 pub fn broken(spot: Spot, rule: TypeRule) -> TypeFault
     ensures { result ≡ Rule spot.«module» spot.at rule }
 {

@@ -1,4 +1,4 @@
-//! Why a task's modules are refused.
+//! Why the modules of a task are rejected.
 
 ghost use Rattle.std.specs.Prelude.{◌≡◌};
 ghost use Rattle.rule_checks.specs.declared.fault.TypeFault.TheVariants.{Memory};
@@ -7,8 +7,8 @@ use crate::rule::TypeRule;
 use name_tables::NotEntered;
 use std::alloc::{AllocError, AllocFailed};
 
-/// Why a task's modules are refused: the rule, the module's number from 0 and the byte at which it stands; or memory was
-/// refused.
+/// Why the modules of a task are rejected: the rule, the number of the module from 0 and the byte in it; or out of
+/// memory.
 #[derive(Debug, Drop)]
 pub enum TypeFault {
     Rule {

@@ -1,4 +1,4 @@
-//! What ends at the first broken rule: the words in which such checks are defined, and the rules of names and types.
+//! Checks that stop at the first error: the words that define them, and the rules of names and types.
 #![tactic(auto)]
 
 mod check;

@@ -3,46 +3,46 @@
 ghost use Rattle.std.specs.Prelude.{◌≡◌, ◌≤◌, length};
 ghost use Rattle.rule_checks.specs.Names.{type_rule_name};
 
-/// A rule of names and types. Each stands at the first byte of the smallest form that it speaks of.
+/// A rule of names and types. It is reported at the first byte of the smallest form that breaks it.
 #[derive(Clone, Copy, Debug, PartialEq, Eq)]
 pub enum TypeRule {
-    /// A second item, module or datum of the same name in one scope.
+    /// A second item, module or datum with the same name in one scope.
     NameTwice,
-    /// An item of a module named as a signal or a predefined name.
+    /// An item of a module with the name of a signal or a predefined name.
     NameTaken,
-    /// A name that nothing visible has.
+    /// A name that is not visible.
     NoName,
-    /// A name that means another kind of thing than the form needs.
+    /// A name of another kind than the form needs, as a routine for a datum.
     NotThis,
-    /// A value of another type than needed, or a type without values where values are.
+    /// A value of the wrong type, or a type without values where a value is required.
     TypeClash,
     /// A CONST without a value.
     NoInit,
-    /// An initial value or a length with a variable, a persistent, a signal or a call.
+    /// An initial value or a length that contains a variable, a persistent, a signal or a call.
     NotConst,
-    /// A CONST that is declared later.
+    /// A CONST that is declared only later.
     ConstOrder,
-    /// An initial value whose evaluation faults or raises an error.
+    /// An initial value whose evaluation ends in a fault or an error.
     ConstFault,
-    /// A length that is no whole number from 1 to 1000; brackets with another number of values.
+    /// A length that is not an integer from 1 to 1000, or an aggregate with another number of values.
     DimRange,
     /// An array without an index.
     WholeArray,
-    /// A write to a CONST, to a FOR variable, to ERRNO or to a predefined datum.
+    /// A write to a CONST, a FOR variable, ERRNO or a predefined datum.
     ReadOnly,
-    /// A reference argument that is no place of the needed kind and type.
+    /// An argument for a reference that is not a place of the required kind and type.
     BadRef,
     /// Too few or too many arguments, or more than 32.
     ArgCount,
     /// A wrong, missing or repeated option.
     ArgName,
-    /// A GOTO whose label is neither in its own list nor in one around it.
+    /// A GOTO whose label is neither in its own list nor in an enclosing one.
     NoLabel,
-    /// Two labels of a name in one routine.
+    /// Two labels with the same name in one routine.
     LabelTwice,
     /// RETRY, TRYNEXT, or RAISE without a number, outside an ERROR part.
     HandlerOnly,
-    /// RETURN with a value outside a function, or without one in it.
+    /// RETURN with a value outside a function, or without a value in a function.
     ReturnKind,
     /// A persistent of a type without values.
     PersKind,
@@ -50,11 +50,11 @@ pub enum TypeRule {
     CornerZone,
     /// A tool other than `tool0`, or a work object other than `wobj0`.
     ToolOnly,
-    /// A meeting's name that is no VAR syncident of a module.
+    /// A meeting that is not given by a VAR syncident of a module.
     SyncName,
     /// A statement or a call that needs an arm, in a task without one.
     NoArm,
-    /// No procedure `main` that is not LOCAL and has no parameters.
+    /// No procedure `main` that has no parameters and is not LOCAL.
     NoMain,
     /// More than 20,000 values of module data.
     DataRange,
@@ -63,7 +63,7 @@ pub enum TypeRule {
 }
 
 impl TypeRule {
-    /// The name of the rule, as refusals print it: of at most 11 bytes.
+    /// The name of the rule in error messages, at most 11 bytes.
     pub fn name(self) -> &'static [u8]
         ensures same { result.now ≡ type_rule_name self }
         ensures short { length result.now ≤ 11 }

@@ -1,9 +1,10 @@
-//! Whole cells, with what is printed of them.
+//! Whole cells, and what is printed of them.
 
 use controller::{Report, is_run, quiet};
 use outside::{MemoryShelf, MemorySink};
 use rapid_model::Fate;
 use std::alloc::{AllocError, Global};
+use std::convert::AsSlice;
 use std::process::Abort;
 use std::test::Fail;
 
@@ -24,11 +25,11 @@ const OUT_OF_REACH: &[u8] =
 
 const ASSIGNS: &[u8] = b"MODULE M\nPROC main()\nx := 1;\nENDPROC\nENDMODULE\n";
 
-/// A header, words in either case, comments, and lines as one likes.
+/// A header, words in either case, comments, and free layout.
 const ANY_LAYOUT: &[u8] =
     b"%%%\nVERSION:1\n%%%\nmodule m proc MAIN() movEabsj [[1, 0x0, 0b0,0,0,0],\n[9e9,9E+09,9e9,9e9,9e9,9e9]] \\noeoffs, V1000, FINE, tool0; ! done\nendproc endmodule\n";
 
-/// Modules, each with the place and the rule of its refusal.
+/// Modules, each with the place and the rule for which it is refused.
 static REFUSED: [(&[u8], &[u8]); 16] = [
     (ASSIGNS, b"3:1 NoName\n"),
     (b"\nMODULE M\nENDMODULE\n", b"1:1 NoMain\n"),
@@ -97,7 +98,7 @@ const NO_ARM: &[u8] = b"version = 1\n[[task]]\nname = \"A\"\nmodules = [\"a.mod\
 const ONE_VALUE: &[u8] =
     b"version = 1\n[[task]]\nname = \"A\"\nmodules = [\"a.mod\"]\narm = [0,0,0,0,0,0]\n[[pers]]\nname = \"n\"\nnum = \"1\"\n";
 
-/// Two tasks, and a value of a persistent.
+/// Two tasks, and a value for a persistent.
 const TWO_TASKS_ONE_VALUE: &[u8] =
     b"version = 1\n[[task]]\nname = \"A\"\nmodules = [\"a.mod\"]\narm = [0,0,0,0,0,0]\n[[task]]\nname = \"B\"\nmodules = [\"b.mod\"]\narm = [0,0,0,0,0,0]\n[[pers]]\nname = \"m\"\nnum = \"1\"\n";
 
@@ -107,7 +108,7 @@ const PERS_STRING: &[u8] = b"MODULE M\nPERS string n := \"a\";\nPROC main()\nEND
 
 const NO_ITEMS: &[u8] = b"MODULE N\nENDMODULE\n";
 
-/// Data of a module, of which a move takes the constants.
+/// Data of a module, whose constants a move takes.
 const DATA: &[u8] =
     b"MODULE N\nCONST num far := 1.25;\nVAR intnum i;\nPERS string s := \"a\";\nCONST speeddata slow := [2*500,500,5000,1000];\nENDMODULE\n";
 
@@ -125,7 +126,7 @@ const TABLES: &[u8] =
 
 const NOTHING_TO_DO: &[u8] = b"MODULE M\nPROC main()\nENDPROC\nENDMODULE\n";
 
-/// What a call left: its report, and the bytes of both sinks.
+/// The outcome of a call: its report, and the bytes of both sinks.
 #[derive(Drop)]
 pub(crate) struct Outcome {
     pub(crate) report: Report,
@@ -133,11 +134,11 @@ pub(crate) struct Outcome {
     err: MemorySink,
 }
 
-/// Does what the words say over a script and the modules `a.mod` and `b.mod`; the write of this number to the first sink
-/// fails.
-pub(crate) fn outcome_of(
+/// Does what the words say with a script and the modules `a.mod` and `b.mod`; the write with this number to the first
+/// sink fails.
+pub(crate) fn outcome_of<W: AsSlice<u8>>(
     alloc: Global,
-    words: &[&str],
+    words: &[W],
     script: &[u8],
     modules: [&[u8]; 2],
     failing_write: Option<u32>,
@@ -175,7 +176,7 @@ fn round(alloc: Global, module: &[u8]) -> Result<Outcome, Fail> {
     outcome_of(alloc, &["round", "cell"], SCRIPT, [module, b""], None)
 }
 
-/// The call printed these lines and nothing on the second sink.
+/// The call printed these lines, and nothing on the second sink.
 fn printed(
     rt: &impl Abort,
     left: &Outcome,
@@ -226,7 +227,8 @@ fn other_moves(rt: HostRuntime) -> Result<(), Fail> {
     Ok(())
 }
 
-/// A module has data alone, before the one that takes its constants; a target and a speed made of them are reckoned before the run.
+/// A module has only data, before the one that takes its constants; a target and a speed made of them are computed
+/// before the run.
 #[test]
 fn data_of_modules(rt: HostRuntime) -> Result<(), Fail> {
     let alloc = rt.alloc();
@@ -245,7 +247,7 @@ fn any_layout(rt: HostRuntime) -> Result<(), Fail> {
     Ok(())
 }
 
-/// Each write of the first sink fails in turn: the lines before it stand, and the report has the whole history.
+/// Each write to the first sink fails in turn: the lines before it were printed, and the report has the whole history.
 #[test]
 fn failing_writes(rt: HostRuntime) -> Result<(), Fail> {
     for number in 0..4u32 {
@@ -271,16 +273,17 @@ fn failing_writes(rt: HostRuntime) -> Result<(), Fail> {
     Ok(())
 }
 
-/// The call was refused with this status and line, and left no history.
+/// The call was refused with this status and line, which is one write, and left no history.
 fn refused(rt: &impl Abort, left: &Outcome, status: u8, line: &[u8]) {
     assert_eq!(rt; left.out.bytes(), b"".as_slice());
     assert_eq!(rt; left.err.bytes(), line);
+    assert_eq!(rt; left.err.calls().len(), 1);
     assert_eq!(rt; left.report.status, status);
     assert!(rt; left.report.history.is_empty());
     assert!(rt; left.report.fates.is_empty());
 }
 
-/// Words that are refused, each with its place, from 0.
+/// Words that are refused, each with its position, from 0.
 static WORDS: [(&[&str], &[u8]); 9] = [
     (&["round"], b"rapid_cell: words 1\n"),
     (&["--history", "round"], b"rapid_cell: words 2\n"),
@@ -319,7 +322,26 @@ fn words(rt: HostRuntime) -> Result<(), Fail> {
     Ok(())
 }
 
-/// A cell that is refused: its script, the modules `a.mod` and `b.mod`, the status and the line.
+/// Words that are not all valid UTF-8, each with the position of the one that is refused, from 0.
+static NO_TEXTS: [(&[&[u8]], &[u8]); 5] = [
+    (&[b"round", b"cell\xff"], b"rapid_cell: words 1\n"),
+    (&[b"--history", b"round", b"\xc3"], b"rapid_cell: words 2\n"),
+    (&[b"\xff", b"cell"], b"rapid_cell: words 0\n"),
+    (&[b"round", b"\xff", b"more"], b"rapid_cell: words 2\n"),
+    (&[b"round", b"\xff", b"-\xff"], b"rapid_cell: words 2\n"),
+];
+
+#[test]
+fn words_that_are_no_texts(rt: HostRuntime) -> Result<(), Fail> {
+    let alloc = rt.alloc();
+    for (given, line) in &NO_TEXTS {
+        let left = outcome_of(alloc, given, SCRIPT, [ONE_MOVE, b""], None)?;
+        refused(&rt, &left, 2, line);
+    }
+    Ok(())
+}
+
+/// A refused cell: its script, the modules `a.mod` and `b.mod`, the status and the line.
 type RefusedCell = (&'static [u8], [&'static [u8]; 2], u8, &'static [u8]);
 
 /// Cells that break a rule.
@@ -342,7 +364,7 @@ static BROKEN: [RefusedCell; 11] = [
         3,
         b"rapid_cell: script steps Kind\n",
     ),
-    // A module that is no module comes before one that breaks a rule of names.
+    // A module that does not parse comes before one that breaks a rule of names.
     (
         TWO_TASKS,
         [ASSIGNS, b""],
@@ -368,7 +390,7 @@ static BROKEN: [RefusedCell; 11] = [
         4,
         b"rapid_cell: module a.mod 3:1 NoArm\n",
     ),
-    // Rules of names come before what the tasks share, and that before the script's values.
+    // Rules of names come before what the tasks share, and those before the script's values.
     (
         TWO_TASKS_ONE_VALUE,
         [PERS_NUM, ASSIGNS],
@@ -410,7 +432,7 @@ fn cells_refused(rt: HostRuntime) -> Result<(), Fail> {
     Ok(())
 }
 
-/// Two tasks take turns, a round at a time.
+/// Two tasks take turns, one round at a time.
 #[test]
 fn two_tasks(rt: HostRuntime) -> Result<(), Fail> {
     let alloc = rt.alloc();
@@ -475,7 +497,7 @@ fn accepted(rt: HostRuntime) -> Result<(), Fail> {
     Ok(())
 }
 
-/// A task without an arm that has nothing to do.
+/// A task without an arm and with nothing to do.
 #[test]
 fn nothing_to_do(rt: HostRuntime) -> Result<(), Fail> {
     let line: [&[u8]; 1] = [b"E A Done\n"];
@@ -490,7 +512,7 @@ fn nothing_to_do(rt: HostRuntime) -> Result<(), Fail> {
     Ok(())
 }
 
-/// The module was refused at this place and by this rule.
+/// The module was refused at this place for this rule.
 fn refused_at(rt: &impl Abort, left: &Outcome, at: &[u8], alloc: Global) -> Result<(), AllocError> {
     let mut line = Vec::from_slice(alloc, b"rapid_cell: module a.mod ")?;
     line.extend_from_slice(at)?;
@@ -506,7 +528,7 @@ fn modules_refused(rt: HostRuntime) -> Result<(), Fail> {
     Ok(())
 }
 
-/// A module that assigns a number within so many parentheses.
+/// A module that assigns a number within this many parentheses.
 fn nested(alloc: Global, parentheses: u32) -> Result<Vec<u8>, AllocError> {
     let mut text = Vec::from_slice(alloc, b"MODULE M\nPROC main()\nx := ")?;
     for _ in 0..parentheses {

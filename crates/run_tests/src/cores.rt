@@ -45,7 +45,7 @@ fn name() -> NameText
     name
 }
 
-// One task, whose arm is at 0, and a bool that is kept, FALSE at first.
+// One task, whose arm is at 0, and a persistent bool, FALSE at first.
 fn cell_of_one(alloc: Global, steps: u32) -> Result<Cell, AllocError>
     requires some { 1 ≤ steps }
     requires few { steps ≤ 1000 }
@@ -82,7 +82,7 @@ fn core_of_one(rt: &impl Abort, alloc: Global, steps: u32) -> Core
     Core::new(alloc, cell).expect(rt, "memory")
 }
 
-// `None` where the task may not ask it.
+// `None` if the task may not ask it.
 fn ask(core: &mut Core, request: Request) -> Option<Served> {
     if core.fits(0, &request) {
         Some(core.serve(0, request))
@@ -105,7 +105,7 @@ const WHOLE: Path = Path {
     part: PartName::Whole,
 };
 
-// TRUE, to the bool that is kept.
+// TRUE, to the persistent bool.
 fn write() -> Request {
     Request::WriteP {
         pers: 0,
@@ -114,7 +114,7 @@ fn write() -> Request {
     }
 }
 
-// The value of the first persistent, where it is no array.
+// The value of the first persistent, if it is not an array.
 fn kept(core: &Core) -> Option<Value> {
     match core.cell().pers().as_slice().first() {
         Some(row) if row.len.is_none() => Some(core.pers(0, &WHOLE)),

@@ -9,7 +9,7 @@ use std::alloc::{AllocError, Global};
 use std::fs;
 use std::test::Fail;
 
-// Two reads of any shelf: where it tells its files, the second is the one for what they hold one read later.
+// Two reads from any shelf: if it reports its files, the second gets what they hold one read later.
 fn second_read<S: Shelf>(
     shelf: &mut S,
     alloc: Global,
@@ -102,7 +102,7 @@ fn files(rt: HostRuntime) -> Result<(), Fail> {
     Ok(())
 }
 
-// A cell in a folder of its own: its script's name is a path from here, its module's a path from that folder.
+// A cell in its own folder: its script's name is a path from here, its module's a path from that folder.
 #[test]
 fn files_beside(rt: HostRuntime) -> Result<(), Fail> {
     let alloc = rt.alloc();

@@ -9,11 +9,11 @@ use std::test::Fail;
 const TWO_TASKS: &[u8] =
     b"version = 1\n[[task]]\nname = \"A\"\nmodules = [\"a.mod\"]\n[[task]]\nname = \"B\"\nmodules = [\"a.mod\"]\n";
 
-/// Takes a lock, and gives it back.
+/// Takes a lock and releases it.
 const LOCK: &[u8] =
     b"MODULE M\nPERS bool busy := FALSE;\nPROC main()\nWaitTestAndSet busy;\nbusy := FALSE;\nENDPROC\nENDMODULE\n";
 
-/// The first task gets the lock. The second waits until it is given back, which is the second change that it sees.
+/// The first task gets the lock. The second waits until it is released, which is the second change that it sees.
 static LOCK_EVENTS: [&str; 14] = [
     "0 Look > Go { seen: 0 }",
     "1 Look > Go { seen: 0 }",
@@ -31,15 +31,15 @@ static LOCK_EVENTS: [&str; 14] = [
     "1 End { fate: Done } > Ok",
 ];
 
-/// An input behind three events.
+/// An input after three events.
 const ONE_INPUT: &[u8] =
     b"version = 1\n[[signal]]\nname = \"di1\"\nkind = \"di\"\n[[input]]\nsignal = \"di1\"\nvalue = 1\nafter = 3\n[[task]]\nname = \"A\"\nmodules = [\"a.mod\"]\n";
 
 const WAITS: &[u8] =
     b"MODULE M\nPROC main()\nWaitDI di1, 1;\nTPWrite \"go\";\nENDPROC\nENDMODULE\n";
 
-/// The input, whose actor is the one behind the last task, comes as soon as the task has looked, read and begun to wait. The bytes
-/// of the text are `go`.
+/// The input, whose actor follows the last task, comes as soon as the task has looked, read and begun to wait. The
+/// bytes of the text are `go`.
 static INPUT_EVENTS: [&str; 10] = [
     "0 Look > Go { seen: 0 }",
     "0 ReadS { signal: 0 } > Bit(false)",
@@ -53,7 +53,7 @@ static INPUT_EVENTS: [&str; 10] = [
     "0 End { fate: Done } > Ok",
 ];
 
-/// A run has these events and no others, in this order: the number of the actor, what it asked, and the answer.
+/// A run has exactly these events, in this order: the number of the actor, what it asked, and the answer.
 fn has_events(
     rt: &impl Abort,
     alloc: Global,

@@ -1,4 +1,4 @@
-//! Shelves and sinks, cores, lines and whole cells by hand, with what they answer and print. It holds only tests.
+//! Tests of shelves, sinks, cores, lines and whole cells, worked by hand.
 #![tactic(auto)]
 
 #[cfg(test)]

@@ -5,7 +5,7 @@ use outside::{MemoryShelf, MemorySink};
 use std::alloc::Global;
 use std::test::Fail;
 
-/// What a call left: its status, how many events its report has, and the bytes of both sinks.
+/// The outcome of a call: its status, how many events its report has, and the bytes of both sinks.
 #[derive(Drop)]
 struct Left {
     status: u8,
@@ -14,7 +14,7 @@ struct Left {
     err: MemorySink,
 }
 
-/// Does what the words say, where there is no file.
+/// Does what the words say, with no files.
 fn left_by(alloc: Global, words: &[&str]) -> Result<Left, Fail> {
     let mut shelf = MemoryShelf::new(Vec::new(alloc), Vec::new(alloc));
     let mut out = MemorySink::new(alloc, 1000, Vec::new(alloc))
@@ -35,7 +35,7 @@ fn left_by(alloc: Global, words: &[&str]) -> Result<Left, Fail> {
     })
 }
 
-/// Words of loads, each with how many events it has and what it prints.
+/// Words of loads, each with its number of events and what it prints.
 static LOADS: [(&[&str], usize, &[u8]); 3] = [
     (
         &["load", "1"],
@@ -91,7 +91,7 @@ fn no_loads(rt: HostRuntime) -> Result<(), Fail> {
     Ok(())
 }
 
-/// The greatest load runs alike each time.
+/// The greatest load runs the same way each time.
 #[test]
 fn greatest_load(rt: HostRuntime) -> Result<(), Fail> {
     let first = left_by(rt.alloc(), &["load", "1000"])?;

@@ -11,10 +11,10 @@ const HEAD: &[u8] = b"version = 1\ninput = [";
 const TAIL: &[u8] =
     b"]\n[[signal]]\nname = \"d\"\nkind = \"di\"\n[[signal]]\nname = \"go\"\nkind = \"do\"\n[[task]]\nname = \"A\"\nmodules = [\"a.mod\"]\n";
 
-/// Waits for an output that nobody sets.
+/// Waits for an output that no task sets.
 const WAITS: &[u8] = b"MODULE M\nPROC main()\nWaitDO go, 1;\nENDPROC\nENDMODULE\n";
 
-/// A script in which an input comes and goes so many times.
+/// A script in which an input comes and goes this many times.
 fn script_of(alloc: Global, inputs: u32) -> Result<Vec<u8>, AllocError> {
     let mut text = Vec::from_slice(alloc, HEAD)?;
     for k in 0..inputs {

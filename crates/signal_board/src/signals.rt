@@ -5,7 +5,7 @@ use rapid_num::Memory;
 use std::alloc::Global;
 use std::marker::Model;
 
-/// The values of a cell's signals. Contracts see the list of them, by the signals' numbers (RAPID Instructions, Functions and
+/// The values of a cell's signals. Contracts see them as a list, by signal number (RAPID Instructions, Functions and
 /// Data types: signaldi, signaldo).
 #[derive(Debug, Drop)]
 pub struct Signals {
@@ -21,7 +21,7 @@ impl Model for Signals {
 }
 
 impl Signals {
-    /// Each signal at its value of the start.
+    /// Each signal at its initial value.
     pub fn new(alloc: Global, cell: &Cell) -> Result<Signals, Memory>
         ensures { IfOk result (λ s. s ≡ map (λ row. row.start) cell.now.signals) }
     {
@@ -32,7 +32,7 @@ impl Signals {
         }
     }
 
-    /// Whether the signal is 1. The signal is there.
+    /// Whether the signal, which exists, is 1.
     pub fn get(&self, signal: u32) -> bool
         requires there { signal < length self.now }
         ensures { result ≡ slice_index_or self.now signal false }
@@ -40,7 +40,7 @@ impl Signals {
         self.values[signal as usize]
     }
 
-    /// Gives the signal a value, and tells whether it had the other one. The signal is there; all others stay.
+    /// Sets a signal, which exists, and returns whether that changed it. All others stay the same.
     pub fn set(&mut self, signal: u32, value: bool) -> bool
         requires there { signal < length self.old }
         ensures changed { result ≡ (if slice_index_or self.old signal false then not value else value) }

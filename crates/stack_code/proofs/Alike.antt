@@ -1,4 +1,4 @@
--- The tasks that show the meaning of trees: their code stands as they do, along the same answers.
+-- The example tasks for the meaning of trees: for the same answers, their code is in the same state as they are.
 use Rattle.std.proofs.Common.{refl, true, false, pos, neg_ℤ, [], ◌∷◌, ◌++◌}
 use Rattle.std.specs.Prelude.{codes, replicate}
 use Rattle.rapid_model.specs.declared.answer.Answer.TheVariants as answers

@@ -1,4 +1,4 @@
--- Of either branch, where it is taken.
+-- A fact about an `if`, from each branch if it is taken.
 use Rattle.std.proofs.Common.{◌≡◌, Bool, true, false, refl, if◌then◌else◌}
 
 pub either : {A : Type 0} (P : A → Type 0) (x y : A) (b : Bool) → (b ≡ true → P x) → (b ≡ false → P y) → P (if b then x else y)

@@ -1,4 +1,4 @@
--- How compiled code stands along some answers, for the examples.
+-- The state of compiled code, answer by answer, for the examples.
 use Rattle.std.proofs.Common.{◌≡◌, ℕ, List, [], ◌∷◌, ◌++◌}
 use Rattle.std.specs.Prelude.{⊤, map}
 use Rattle.joint_planner.specs.Setpoints.{greatest_change, step_of}
@@ -22,17 +22,17 @@ use Rattle.stack_code.specs.Raising.{raised_to}
 use Rattle.stack_code.specs.Sizes.{pieces_size, values_size}
 use Rattle.stack_code.specs.StmtLayouts.{pieces_code, values_code}
 
--- the examples do fewer operations
+-- more operations than the examples do
 abbrev pub enough : ℕ
 enough = 1_000
 
--- how code stands before the first of some answers, before the second, and so on, and behind the last, with its data
+-- the state of code with its data before the first answer, before the second and so on, and after the last
 unfoldable pub code_stands : CodeData → List Answer → List Answer → List (Outcome ⊤)
 unfolding exec performed after frame_at with_frame sort_in last_digits on_axes has setpoints with_tasks greatest_change step_of owner_at raised_to
 code_stands code before [] = code_after code enough before ∷ []
 code_stands code before (a ∷ more) = code_after code enough before ∷ code_stands code (before ++ a ∷ []) more
 
--- how the code of a tree stands
+-- the states of a tree's code
 unfoldable pub compiled_stands : TypedTree → List Answer → List (Outcome ⊤)
 unfolding code_stands deepest_in handlers_of routine_rows routines_code rows_from sorts_of pieces_need values_need pieces_size values_size pieces_code values_code
 compiled_stands tree answers = code_stands (compiled tree) [] answers
@@ -42,12 +42,12 @@ unfoldable pub compiled_asks : TypedTree → List Answer → List Next
 unfolding compiled_stands
 compiled_asks tree answers = map next_of (compiled_stands tree answers)
 
--- how a tree stands
+-- the states of a tree
 unfoldable pub tree_stands : TypedTree → List Answer → List Answer → List (Outcome ⊤)
 unfolding state_after deep performed after frame_at with_frame sort_of_pers last_digits on_axes has setpoints with_tasks greatest_change step_of
 tree_stands tree before [] = state_after tree before ∷ []
 tree_stands tree before (a ∷ more) = state_after tree before ∷ tree_stands tree (before ++ a ∷ []) more
 
--- along these answers a tree and its code ask the same, with the same data
+-- for these answers a tree and its code ask the same, with the same data
 abbrev pub StandsAlike : TypedTree → List Answer → Type 0
 StandsAlike tree answers = compiled_stands tree answers ≡ tree_stands tree [] answers

@@ -1,5 +1,5 @@
--- What the code of small tasks asks, each as its whole list of requests: persistents, a FOR with references, waits, and error
--- recovery.
+-- What the code of small tasks asks, as complete lists of requests: persistents, a FOR with references, waits, and
+-- error recovery.
 use Rattle.std.proofs.Common.{◌≡◌, refl, true, false, pos, neg_ℤ, [], ◌∷◌, ◌++◌}
 use Rattle.std.specs.Prelude.{codes, replicate}
 use Rattle.rapid_model.specs.declared.answer.Answer.TheVariants as answers

@@ -1,4 +1,4 @@
--- Whole listings of two small tasks.
+-- Complete listings of two small tasks.
 use Rattle.std.proofs.Common.{◌≡◌, refl, ℕ, false, pos, neg_ℤ, List, [], ◌∷◌, None, Some}
 use Rattle.std.specs.Prelude.{codes, map}
 use Rattle.rapid_model.specs.declared.request.Request.TheVariants as requests
@@ -66,7 +66,7 @@ adding_depth : (compiled adding).deepest ≡ 4
 unfolding compiled_stands
 adding_depth = refl
 
--- with room for one operand less it misfits
+-- with room for one operand fewer it misfits
 too_little_room : map next_of (code_stands (record (compiled adding) { deepest = 3 }) [] (go ∷ [])) ≡ asks requests.Look ∷ misfit ∷ []
 unfolding compiled_stands
 too_little_room = refl

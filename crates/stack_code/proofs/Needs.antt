@@ -1,4 +1,4 @@
--- The value that a form comes to needs room itself.
+-- The value of a form needs room itself.
 use Rattle.std.proofs.Common.{◌≤◌, arith}
 use Rattle.rapid_model.specs.declared.function.Function.{Function}
 use Rattle.rapid_model.specs.declared.function.Function.TheVariants as functions

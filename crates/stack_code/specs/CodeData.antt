@@ -11,16 +11,16 @@ pub record CodeData : Type 0 where
   pub routines : List RoutineRow
   -- they tile the operations in order
   pub owners : List Owner
-  -- of each routine the place of its ERROR part, if it has one
+  -- for each routine the place of its ERROR part, if it has one
   pub handlers : List (Option ℕ)
   pub slots : List Datum
-  -- the first values of all routines, one behind the other
+  -- the initial values of all routines, one after the other
   pub firsts : List Datum
   -- the names of all tasks of the script
   pub tasks : List (List ℕ)
   pub sorts : List PersSort
-  -- the most operands that a frame has
+  -- the most operands that a frame holds
   pub deepest : ℕ
   pub main : ℕ
-  -- how many axes the task's arm has, 0 where it has none
+  -- the number of axes of the task's arm, 0 without an arm
   pub axes : ℕ

@@ -1,4 +1,4 @@
--- What code asks next, after the answers that it got so far.
+-- What code asks after given answers.
 use Rattle.std.specs.Prelude.{ℕ, zero, suc, ◌==◌, nat_le, Bool, false, List, [], ◌∷◌, length, Option, None, Some, ⊤, if◌then◌else◌, slice_get}
 use Rattle.rapid_model.specs.Fits.{Fitting}
 use Rattle.rapid_model.specs.declared.answer.Answer.{Answer}
@@ -23,15 +23,15 @@ abbrev pub is_trap : Option RoutineRow → Bool
 is_trap None = false
 is_trap (Some row) = row.trap
 
--- what answers to code fit, while a trap is under way or while none is
+-- which answers to code fit, in a trap or outside one
 abbrev pub fitting_by : CodeData → Bool → Fitting
 fitting_by code trapped = record { sorts = sort_in code.sorts; traps = λ number. is_trap (slice_get code.routines number); trapped = trapped; axes = code.axes }
 
--- an operation does no part of a tree
+-- operations do no part of a tree
 abbrev pub no_part : Run
 no_part part d answers = Misfits
 
--- code from a place on, so many operations at most; more operands than the code's `deepest` misfit
+-- code from a configuration, for at most this many operations; more operands than the code's `deepest` misfit
 unfoldable pub exec : (Bool → Fitting) → CodeData → ℕ → Conf → Data → List Answer → Outcome ⊤
 exec by code zero c d answers = NoFuel
 exec by code (suc k) c d answers =
@@ -39,14 +39,14 @@ exec by code (suc k) c d answers =
     then joined (performed by no_part (step code c) d answers) (λ next e left. exec by code k next e left) (λ error e left. Misfits)
     else Misfits
 
--- what leads to a place, and then the code from there on; an error is not raised past the first routine
+-- a doing that leads to a configuration, then the code from there; no error leaves the first routine
 abbrev pub goes : (Bool → Fitting) → CodeData → ℕ → Doing Conf → Data → List Answer → Outcome ⊤
 goes by code k m d answers = joined (performed by no_part m d answers) (λ next e left. exec by code k next e left) (λ error e left. Misfits)
 
--- how code stands after these answers, by so many operations at most
+-- the outcome of code for these answers, with at most this many operations
 abbrev pub code_after : CodeData → ℕ → List Answer → Outcome ⊤
 code_after code k answers = goes (fitting_by code) code k (started code) (initial code) answers
 
--- its next request
+-- the next request of code
 abbrev pub code_asks : CodeData → ℕ → List Answer → Next
 code_asks code k answers = next_of (code_after code k answers)

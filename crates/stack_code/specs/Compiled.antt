@@ -23,7 +23,7 @@ abbrev pub end_op : RoutineKind → Op
 end_op kinds.Func = ops.NoBack
 end_op kind = ops.Back
 
--- the end of a list is no statement: it owns itself
+-- the end of a list belongs to no statement: it owns itself
 abbrev pub own_end : TypedRoutine → ℕ → Own
 own_end routine pc = record { retry = pc; next = pc + 1; at = at_byte routine routine.at }
 
@@ -34,7 +34,7 @@ part_size tree routine (Some list) = stmts_size tree routine list + 1
 abbrev pub routine_size : TypedTree → TypedRoutine → ℕ
 routine_size tree routine = stmts_size tree routine routine.list + 1 + part_size tree routine routine.handler
 
--- where the ERROR part of a routine that begins at a place begins, if it has one
+-- the place of the ERROR part of a routine at this place, if it has one
 abbrev pub part_start : TypedTree → TypedRoutine → ℕ → ℕ
 part_start tree routine pc = pc + stmts_size tree routine routine.list + 1
 
@@ -73,7 +73,7 @@ same_own a b = a.retry == b.retry && a.next == b.next && a.at.«module» == b.at
 abbrev pub owner_row : ℕ → ℕ → Own → Owner
 owner_row first past own = record { first = first; past = past; retry = own.retry; next = own.next; at = own.at }
 
--- a row from `first` on, of which so much is seen, and the rows behind it
+-- the row from `first`, as far as it has been read, and the rows after it
 unfoldable pub rows_from : ℕ → ℕ → Own → List Placed → List Owner
 rows_from first past own [] = owner_row first past own ∷ []
 rows_from first past own (p ∷ ps) =
@@ -91,7 +91,7 @@ abbrev pub gives_result : RoutineKind → Bool
 gives_result kinds.Func = true
 gives_result kind = false
 
--- at most so many are counted
+-- counts stop at this limit
 abbrev pub counted : ℕ → ℕ
 counted n = min n 65_535
 
@@ -128,7 +128,7 @@ unfoldable pub deepest_in : TypedTree → List TypedRoutine → ℕ
 deepest_in tree [] = 0
 deepest_in tree (routine ∷ more) = max (max (stmts_need tree routine routine.list) (part_need tree routine routine.handler)) (deepest_in tree more)
 
--- what a tree is compiled to
+-- what a tree compiles to
 abbrev pub compiled : TypedTree → CodeData
 compiled tree = record {
   ops = map (λ p. p.op) (placed_in tree);

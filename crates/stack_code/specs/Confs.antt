@@ -1,4 +1,4 @@
--- How far code has come. Its data are those of rapid_meaning; what stands here is where it stands in its operations.
+-- Where code is in its operations. Its data are those of rapid_meaning.
 use Rattle.std.specs.Prelude.{ℕ, List, Option, None, Some}
 use Rattle.typed_trees.specs.declared.datum.Datum.{Datum}
 use Rattle.stack_code.specs.Placed.{Own}
@@ -8,20 +8,20 @@ pub record Failed : Type 0 where
   pub own : Own
   pub error : ℕ
 
--- a routine under way, and, while it is in its ERROR part, what failed
+-- a routine that is running, and, while it is in its ERROR part, what failed
 pub record Running : Type 0 where
   pub routine : ℕ
   pub failed : Option Failed
 
--- What goes on when a routine is left. Started: nothing, the task is done. Called: the routine that called it, behind the Call
--- at this place, of this statement, with these operands. Trapped: the routine that it interrupted, at the Look at this place.
+-- What continues when a routine is left. Started: nothing, the task is done. Called: the caller, after the Call at this
+-- place, in this statement, with these operands. Trapped: the interrupted routine, at the Look at this place.
 pub data Saved : Type 0 where
   Started : Saved
   Called : ℕ → Own → List Datum → Running → Saved
   Trapped : ℕ → Running → Saved
 
--- the place of the next operation, the operands of the routine under way, the last one first, and the routine; and what
--- stands below it, the innermost first
+-- the place of the next operation; the operands of the running routine, last one first; that routine; and what
+-- continues when it is left
 pub record Conf : Type 0 where
   pub pc : ℕ
   pub stack : List Datum
@@ -31,7 +31,7 @@ pub record Conf : Type 0 where
 abbrev pub conf : ℕ → List Datum → Running → List Saved → Conf
 conf pc stack frame saved = record { pc = pc; stack = stack; frame = frame; saved = saved }
 
--- a routine as it begins
+-- a routine at its start
 abbrev pub begun : ℕ → Running
 begun routine = record { routine = routine; failed = None }
 

@@ -1,4 +1,4 @@
--- How routines are entered: by a call, by an interrupt, and main as the task begins.
+-- How routines are entered: by a call, by an interrupt, and main at the start of the task.
 use Rattle.std.specs.Prelude.{ℕ, ◌-◌, false, List, [], ◌∷◌, ◌++◌, take, drop, None, slice_get}
 use Rattle.typed_trees.specs.declared.datum.Datum.{Datum}
 use Rattle.rapid_meaning.specs.Data.{Data, Frame}
@@ -8,20 +8,20 @@ use Rattle.stack_code.specs.CodeData.{CodeData}
 use Rattle.stack_code.specs.Confs.{Conf, Saved, Started, begun, conf}
 use Rattle.stack_code.specs.declared.routine_row.RoutineRow.{RoutineRow}
 
--- the data of a routine as it begins
+-- the data of a routine at its start
 abbrev pub frame_in : CodeData → RoutineRow → List Datum → Frame
 frame_in code row args = record { values = args ++ take (row.values - row.args) (drop row.first code.firsts); seen = 0 }
 
 abbrev pub entered : CodeData → ℕ → RoutineRow → List Datum → List Saved → Doing Conf
 entered code routine row args saved = enters (frame_in code row args) >> Gives (conf row.entry [] (begun routine) saved)
 
--- a routine, by its number, with its arguments, and what goes on when it is left
+-- enters a routine, by its number, with its arguments and what continues when it is left
 abbrev pub enter : CodeData → ℕ → List Datum → List Saved → Doing Conf
 enter code routine args saved = do
   row ← or_misfit (slice_get code.routines routine)
   entered code routine row args saved
 
--- the task begins
+-- the start of the task
 abbrev pub started : CodeData → Doing Conf
 started code = enter code code.main [] (Started ∷ [])
 

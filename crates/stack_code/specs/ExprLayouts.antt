@@ -1,4 +1,4 @@
--- The code of expressions, from a place on, before what follows it.
+-- The code of expressions at a place, followed by other code.
 use Rattle.std.specs.Prelude.{ℕ, ◌+◌, Bool, true, false, List, ◌∷◌}
 use Rattle.std.specs.Option.{unwrap_or}
 use Rattle.rapid_model.specs.declared.function.Function.{Function}
@@ -64,7 +64,7 @@ abbrev mutual
   exprs_code tree routine own pc NoExprs ps = ps
   exprs_code tree routine own pc (MoreExprs e es) ps = expr_code tree routine own pc e (exprs_code tree routine own (pc + expr_size e) es ps)
 
-  -- the right operand of AND and OR is skipped where the left one decides
+  -- the right operand of AND and OR is skipped if the left one decides
   pub steps_code : TypedTree → TypedRoutine → Own → ℕ → TypedSteps → List Placed → List Placed
   steps_code tree routine own pc NoSteps ps = ps
   steps_code tree routine own pc (MoreSteps operators.And e steps) ps =

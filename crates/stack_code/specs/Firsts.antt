@@ -1,4 +1,4 @@
--- First values, run by run and in full.
+-- Initial values, run by run and in full.
 use Rattle.std.specs.Prelude.{List, flat_map, replicate}
 use Rattle.typed_trees.specs.declared.datum.Datum.{Datum}
 use Rattle.stack_code.specs.declared.first_run.FirstRun.{FirstRun}

@@ -1,4 +1,4 @@
--- The datum that an operation keeps to push.
+-- The datum that an operation pushes.
 use Rattle.rapid_model.specs.declared.value.Value.TheVariants.{Num}
 use Rattle.typed_trees.specs.declared.datum.Datum.{Datum}
 use Rattle.typed_trees.specs.declared.datum.Datum.TheVariants.{Plain}

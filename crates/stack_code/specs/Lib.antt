@@ -6,6 +6,7 @@ pub mod Confs
 pub mod Raising
 pub mod Entering
 pub mod Operands
+pub mod Functions
 pub mod Steps
 pub mod CodeRuns
 pub mod Recipes

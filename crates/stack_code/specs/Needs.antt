@@ -1,4 +1,4 @@
--- How many operands lie on the stack of a frame at most, while a form is done.
+-- The most operands on the stack of a frame while a form is done.
 use Rattle.std.specs.Prelude.{ℕ, ◌+◌, ◌-◌, max, List, [], ◌∷◌}
 use Rattle.rapid_model.specs.declared.function.Function.{Function}
 use Rattle.rapid_model.specs.declared.function.Function.TheVariants as functions
@@ -11,7 +11,7 @@ use Rattle.stack_code.specs.Pieces.{Piece, OfExpr, OfPlace, OfArgs, Does, Waits,
 use Rattle.stack_code.specs.declared.op.Op.{Op}
 use Rattle.stack_code.specs.declared.op.Op.TheVariants as ops
 
--- a right operand lies above the left one; AND and OR drop a copy of the left one first
+-- a right operand is above the left one; AND and OR first drop a copy of the left one
 abbrev pub operand_need : Operator → ℕ → ℕ
 operand_need operators.And need = max 2 need
 operand_need operators.Or need = max 2 need
@@ -21,7 +21,7 @@ abbrev pub signal_need : Function → ℕ
 signal_need functions.TestDI = 2
 signal_need function = 1
 
--- from an empty stack on, the value among the operands
+-- from an empty stack, with the value counted among the operands
 abbrev mutual
   pub expr_need : TypedExpr → ℕ
   expr_need (trees.Known at sort v) = 1
@@ -40,7 +40,7 @@ abbrev mutual
   exprs_need NoExprs = 0
   exprs_need (MoreExprs e es) = max (expr_need e) (1 + exprs_need es)
 
-  -- with the left operand
+  -- above the left operand
   pub steps_need : TypedSteps → ℕ
   steps_need NoSteps = 1
   steps_need (MoreSteps o e steps) = max (operand_need o (expr_need e)) (steps_need steps)
@@ -63,7 +63,7 @@ abbrev mutual
   builtin_need function (MoreArgs (Lent p) NoArgs) = place_need p
   builtin_need function other = 1
 
--- how many operands lie there behind an operation, where so many did before it; more at most
+-- an upper bound of the number of operands after an operation, from the number before it
 abbrev pub depth_behind : Op → ℕ → ℕ
 depth_behind (ops.Push datum) depth = depth + 1
 depth_behind ops.Dup depth = depth + 1
@@ -74,7 +74,7 @@ depth_behind (ops.Binary o) depth = depth - 1
 depth_behind ops.Store depth = depth - 2
 depth_behind op depth = depth
 
--- from so many operands on
+-- from this number of operands
 unfoldable pub pieces_need : ℕ → List Piece → ℕ
 pieces_need depth [] = depth
 pieces_need depth (OfExpr e ∷ more) = max (depth + expr_need e) (pieces_need (depth + 1) more)
@@ -85,7 +85,7 @@ pieces_need depth (Waits ∷ more) = max depth (pieces_need (depth - 1) more)
 pieces_need depth (GoesTo label ∷ more) = max depth (pieces_need depth more)
 pieces_need depth (Chooses a b ∷ more) = max depth (pieces_need depth more)
 
--- the values of a CASE, with a copy of what is tested, above it
+-- the values of a CASE, above the tested value and a copy of it
 unfoldable pub values_need : TypedExprs → ℕ
 values_need NoExprs = 1
 values_need (MoreExprs e es) = max (2 + expr_need e) (values_need es)

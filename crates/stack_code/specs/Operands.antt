@@ -1,4 +1,4 @@
--- What operations pop. One that lacks its operands, or has them of another form, misfits.
+-- What operations pop. An operation that lacks its operands, or has operands of another form, misfits.
 use Rattle.std.specs.Prelude.{ℕ, nat_le, Bool, List, [], ◌∷◌, length, reverse, take, drop, if◌then◌else◌}
 use Rattle.rapid_num.specs.declared.shape.Shape.{Shape}
 use Rattle.rapid_model.specs.declared.value.Value.{Value}
@@ -35,7 +35,7 @@ on_shape _ next = Misfit
 abbrev pub on_truth : List Datum → (Bool → List Datum → Doing Conf) → Doing Conf
 on_truth stack next = on_value stack (λ v rest. truth_in v >>= λ b. next b rest)
 
--- so many, in the order in which they were pushed
+-- this many, in the order in which they were pushed
 abbrev pub on_many : ℕ → List Datum → (List Datum → List Datum → Doing Conf) → Doing Conf
 on_many count stack next = if nat_le count (length stack) then next (reverse (take count stack)) (drop count stack) else Misfit
 

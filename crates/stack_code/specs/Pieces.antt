@@ -1,4 +1,4 @@
--- What statements without a list of their own are made of, in order, behind their Look.
+-- The pieces of statements without a list of their own, in order, after their Look.
 use Rattle.std.specs.Prelude.{ℕ, ◌+◌, Bool, true, false, pos, neg_ℤ, List, [], ◌∷◌, codes, bytes_eq, filter_map, Option, None, Some, slice_get}
 use Rattle.std.specs.Option.{option_and_then, option_map, unwrap_or}
 use Rattle.rapid_model.specs.declared.value.Value.TheVariants.{Num}
@@ -21,8 +21,8 @@ use Rattle.stack_code.specs.declared.step.Step.TheVariants as steps
 use Rattle.stack_code.specs.declared.tail_kind.TailKind.{TailKind}
 use Rattle.stack_code.specs.declared.tail_kind.TailKind.TheVariants as tails
 
--- OfExpr, OfPlace, OfArgs: operands. Does: an operation. Waits: a Wait that goes back to the statement's Look. GoesTo: a jump
--- to a label. Chooses: pops a bool, and does the first operation where it is TRUE, else the second.
+-- OfExpr, OfPlace, OfArgs: operands. Does: an operation. Waits: a Wait that goes back to the statement's Look. GoesTo:
+-- a jump to a label. Chooses: pops a bool, and does the first operation if it is TRUE, else the second.
 pub data Piece : Type 0 where
   OfExpr : TypedExpr → Piece
   OfPlace : TypedPlace → Piece
@@ -32,7 +32,7 @@ pub data Piece : Type 0 where
   GoesTo : ℕ → Piece
   Chooses : Op → Op → Piece
 
--- pushes so many, as a num
+-- pushes a whole number as a num
 abbrev pub push : ℕ → Op
 push n = ops.Push (Plain (whole n))
 
@@ -51,7 +51,7 @@ watched_number tree (PlaceOf root index part sort) = cell_number tree root
 abbrev pub meeting_number : TypedTree → ℕ → ℕ
 meeting_number tree row = unwrap_or (slice_get tree.meeting_of row) 0
 
--- an argument by its number, if it is there and of this form
+-- an argument by its number, if it exists and has this form
 
 abbrev pub value_in : TypedArg → Option TypedExpr
 value_in (Given e) = Some e
@@ -81,7 +81,7 @@ signal_at args n = option_and_then signal_in (slice_get args n)
 abbrev pub meeting_at : List TypedArg → ℕ → Option ℕ
 meeting_at args n = option_and_then meeting_in (slice_get args n)
 
--- the tail of a text, which an option gives
+-- the tail of a text, from an option
 
 abbrev pub tail_kind : Bool → TailKind
 tail_kind true = tails.Num
@@ -96,15 +96,15 @@ tail_kind_in [] = Some tails.None
 tail_kind_in (Optional name (Argument (Given e)) ∷ []) = Some (tail_kind (bytes_eq name (codes "Num")))
 tail_kind_in options = None
 
--- how many elements the array of an argument has
+-- the length of an array argument
 abbrev pub list_length : TypedTree → TypedRoutine → TypedPlace → ℕ
 list_length tree routine list = unwrap_or (lent_length tree routine list) 0
 
--- an order of an interrupt, once only with the option
+-- an order of an interrupt, for one firing only with the option
 abbrev pub order_of : OrderOn → List TypedArg → Op
 order_of on options = ops.Order on (has (codes "Single") options)
 
--- what a step is, with the arguments but the options, and the options; nothing where its argument has another form
+-- the pieces of a step, from the arguments without the options, and the options; none if its argument has another form
 abbrev pub piece_of : TypedTree → TypedRoutine → List TypedArg → List TypedArg → Step → Option Piece
 piece_of tree routine args options (steps.Value n) = option_map OfExpr (value_at args n)
 piece_of tree routine args options (steps.Place n) = option_map OfPlace (place_at args n)
@@ -136,8 +136,8 @@ piece_of tree routine args options steps.Say = option_map (λ kind. Does (ops.Sa
 abbrev pub pieces_of_steps : TypedTree → TypedRoutine → List TypedArg → List TypedArg → List Step → List Piece
 pieces_of_steps tree routine args options row = filter_map (piece_of tree routine args options) row
 
--- the last value and the step of a FOR, whose variable is this datum of the frame, are kept behind it. All that is given is
--- evaluated before anything is stored; where no step is, it is found from the two others.
+-- The bounds of a FOR whose variable is this datum of the frame; its last value and step are the next two. All given
+-- values are evaluated before any is stored. A step that is not given is computed from the other two.
 abbrev pub bounds_pieces : ℕ → TypedExpr → TypedExpr → Option TypedExpr → List Piece
 bounds_pieces k first last (Some step) =
     Does (ops.Local k) ∷ OfExpr first ∷ Does (ops.Local (k + 1)) ∷ OfExpr last ∷ Does (ops.Local (k + 2)) ∷ OfExpr step

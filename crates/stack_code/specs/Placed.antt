@@ -1,4 +1,4 @@
--- Operations beside the statements that own them.
+-- Operations with the statements that own them.
 use Rattle.std.specs.Prelude.{◌≡◌, ℕ, ◌+◌, nat_lt, List, [], ◌∷◌, Option, None, Some, if◌then◌else◌, slice_get, ⊤}
 use Rattle.std.specs.Option.{option_and_then, option_map}
 use Rattle.rapid_model.specs.declared.at.At.{At}
@@ -6,7 +6,7 @@ use Rattle.stack_code.specs.CodeData.{CodeData}
 use Rattle.stack_code.specs.declared.op.Op.{Op}
 use Rattle.stack_code.specs.declared.owner.Owner.{Owner}
 
--- what a statement has to do with its operations: where it is done again, where it is gone on behind, and its place in the
+-- what a statement gives its operations: the place where it is retried, the place after it, and its position in the
 -- source
 pub record Own : Type 0 where
   pub retry : ℕ
@@ -32,7 +32,7 @@ beside owner op = record { own = own_of owner; op = op }
 abbrev pub placed_at : CodeData → ℕ → Option Placed
 placed_at code pc = option_and_then (λ op. option_map (λ owner. beside owner op) (owner_at code.owners pc)) (slice_get code.ops pc)
 
--- these operations, each its statement's, stand from a place on
+-- code has these operations, with their owners, from this place
 abbrev pub StandsAt : CodeData → ℕ → List Placed → Type 0
 StandsAt code pc [] = ⊤
 StandsAt code pc (p ∷ ps) = (placed_at code pc ≡ Some p) × StandsAt code (pc + 1) ps

@@ -13,7 +13,7 @@ use Rattle.stack_code.specs.CodeData.{CodeData}
 use Rattle.stack_code.specs.Confs.{Conf, Failed, Running, Saved, Started, Called, Trapped, behind_part, conf, in_part}
 use Rattle.stack_code.specs.Placed.{Own}
 
--- where a routine's ERROR part begins, if it has one
+-- the place of a routine's ERROR part, if it has one
 abbrev pub handler_in : List (Option ℕ) → ℕ → Option ℕ
 handler_in handlers routine = option_and_then (λ handler. handler) (slice_get handlers routine)
 
@@ -26,32 +26,33 @@ part_unless None handler own frame saved error outside = do
   change (λ d. record d { errno = error })
   Gives (conf handler [] (in_part frame own error) saved)
 
--- an error of a statement goes into the ERROR part of a routine that has one and is not in it; else it goes outside
+-- an error of a statement goes into the routine's ERROR part, if it has one and is not in it; else it leaves the
+-- routine
 abbrev pub part_or : Option ℕ → Own → Running → List Saved → ℕ → Doing Conf → Doing Conf
 part_or None own frame saved error outside = outside
 part_or (Some handler) own frame saved error outside = part_unless frame.failed handler own frame saved error outside
 
--- an error that has left a routine is one of the statement that called it; the first routine and a trap end the task with it
+-- an error that left a routine is one of the statement that called it; if it left main or a trap, it ends the task
 unfoldable pub raised_to : CodeData → List Saved → ℕ → Doing Conf
 raised_to code [] error = Misfit
 raised_to code (Started ∷ saved) error = fault (Unhandled error)
 raised_to code (Trapped at frame ∷ saved) error = fault (Unhandled error)
 raised_to code (Called at own stack frame ∷ saved) error = part_or (handler_of code frame.routine) own frame saved error (leaves >> raised_to code saved error)
 
--- an error leaves the routine under way
+-- an error leaves the running routine
 abbrev pub raised_out : CodeData → List Saved → ℕ → Doing Conf
 raised_out code saved error = leaves >> raised_to code saved error
 
--- an error of a statement of the routine under way
+-- an error of a statement of the running routine
 abbrev pub raised : CodeData → Own → Running → List Saved → ℕ → Doing Conf
 raised code own frame saved error = part_or (handler_of code frame.routine) own frame saved error (raised_out code saved error)
 
--- a result lies on the operands of the caller
+-- a result is pushed on the caller's operands
 abbrev pub with_result : Option Value → List Datum → List Datum
 with_result None stack = stack
 with_result (Some v) stack = Plain v ∷ stack
 
--- what goes on when a routine has ended, with its result if it has one
+-- what continues when a routine has ended, with its result if it has one
 abbrev pub back_to : List Saved → Option Value → Doing Conf
 back_to [] v = Misfit
 back_to (Started ∷ saved) v = Ends fates.Done

@@ -1,5 +1,5 @@
--- The layout of each instruction after its Look, as a row of steps (RAPID Instructions). Arguments, options aside, are numbered
--- from 0.
+-- The layout of each instruction after its Look, as a list of steps (RAPID Instructions). Arguments without the options
+-- are numbered from 0.
 use Rattle.std.specs.Prelude.{true, false, List, [], ◌∷◌}
 use Rattle.rapid_model.specs.declared.instruction.Instruction.{Instruction}
 use Rattle.rapid_model.specs.declared.instruction.Instruction.TheVariants as instructions

@@ -16,7 +16,7 @@ abbrev pub part_size : PartName → ℕ
 part_size parts.Whole = 0
 part_size part = 1
 
--- what an operator has besides its right operand
+-- the operations of an operator without its right operand
 abbrev pub operator_size : Operator → ℕ
 operator_size operators.And = 3
 operator_size operators.Or = 3
@@ -84,12 +84,12 @@ unfoldable pub pieces_size : List Piece → ℕ
 pieces_size [] = 0
 pieces_size (piece ∷ more) = piece_size piece + pieces_size more
 
--- the values of a CASE, each compared with what is tested
+-- the values of a CASE, each compared with the tested value
 unfoldable pub values_size : TypedExprs → ℕ
 values_size NoExprs = 0
 values_size (MoreExprs e es) = 1 + expr_size e + 1 + 1 + values_size es
 
--- a FOR up to its Turn, but for its Look
+-- a FOR from after its Look up to its Turn
 abbrev pub bounds_size : TypedRoutine → ℕ → TypedExpr → TypedExpr → Option TypedExpr → ℕ
 bounds_size routine local first last step = pieces_size (bounds_pieces (local_start routine local) first last step)
 

@@ -1,5 +1,5 @@
--- What each operation does. It asks, reads and writes as the meaning of trees does, by the same definitions.
-use Rattle.std.specs.Prelude.{ℕ, ◌+◌, ◌/◌, Bool, true, false, ℤ, pos, List, [], ◌∷◌, length, Option, None, Some, if◌then◌else◌, slice_get}
+-- What each operation does. Operations ask, read and write by the definitions of the meaning of trees.
+use Rattle.std.specs.Prelude.{ℕ, ◌+◌, ◌/◌, nat_lt, ◌^◌, Bool, true, false, ℤ, pos, List, [], ◌∷◌, length, Option, None, Some, if◌then◌else◌, slice_get}
 use Rattle.rapid_num.specs.Arithmetic.{sum_of}
 use Rattle.rapid_model.specs.declared.answer.Answer.{Answer}
 use Rattle.rapid_model.specs.declared.answer.Answer.TheVariants as answers
@@ -12,7 +12,7 @@ use Rattle.rapid_model.specs.declared.tail.Tail.TheVariants as tails
 use Rattle.rapid_model.specs.declared.value.Value.{Value}
 use Rattle.rapid_model.specs.declared.value.Value.TheVariants as values
 use Rattle.rapid_model.specs.declared.watched.Watched.TheVariants as watched
-use Rattle.rapid_operators.specs.Operators.{apply}
+use Rattle.rapid_values.specs.Operators.{apply}
 use Rattle.rapid_values.specs.Components.{components}
 use Rattle.rapid_values.specs.Values.{made_of}
 use Rattle.typed_trees.specs.declared.datum.Datum.{Datum}
@@ -20,16 +20,17 @@ use Rattle.typed_trees.specs.declared.datum.Datum.TheVariants.{Plain, Mark, Plac
 use Rattle.typed_trees.specs.declared.datum.Root.TheVariants as roots
 use Rattle.rapid_meaning.specs.Data.{seen_in, with_seen}
 use Rattle.rapid_meaning.specs.Doings.{Doing, Gives, Asks, Ends, Misfit, Reads, Act, ◌>>=◌, ◌>>◌, after, change, fault, or_misfit, tells}
-use Rattle.rapid_meaning.specs.Functions.{of_value, of_values, read_signal, when_at}
+use Rattle.rapid_meaning.specs.Functions.{read_signal, when_at}
 use Rattle.rapid_meaning.specs.Interrupts.{asks_of_number, connect, order}
 use Rattle.rapid_meaning.specs.Loops.{has_passed}
-use Rattle.rapid_meaning.specs.Meetings.{arrive, task_set, with_tasks}
+use Rattle.rapid_meaning.specs.Meetings.{arrive, with_tasks}
 use Rattle.rapid_meaning.specs.Moves.{move, still}
 use Rattle.rapid_meaning.specs.Places.{at_root, indexed, kept_place, load, own_place, part_at, read_value, store, test_and_set, write_value}
 use Rattle.rapid_meaning.specs.Signals.{write_signal}
 use Rattle.rapid_meaning.specs.Statements as statements
 use Rattle.rapid_meaning.specs.Values.{applied, bit_in, num_in, of_bit, opposite, target_in, text_in, tool_speed_in, truth_in, whole, with_sign}
 use Rattle.rapid_meaning.specs.Zones.{asks_of_zone, define, define_home, defined, supervise}
+use Rattle.stack_code.specs.Functions.{of_value, of_values}
 use Rattle.stack_code.specs.CodeData.{CodeData}
 use Rattle.stack_code.specs.Confs.{Conf, Called, Trapped, conf}
 use Rattle.stack_code.specs.Entering.{enter, entered}
@@ -61,7 +62,7 @@ jumps h to stack = Gives (conf to stack h.conf.frame h.conf.saved)
 abbrev pub fails : Here → ℕ → Doing Conf
 fails h error = raised h.code h.own h.conf.frame h.conf.saved error
 
--- pushes what a doing gives, in this form
+-- pushes the result of a doing, in this form
 abbrev pub pushes : {A : Type 0} → Here → List Datum → (A → Datum) → Doing A → Doing Conf
 pushes h stack form m = after m (λ v. to_next h (form v ∷ stack)) (fails h)
 
@@ -89,16 +90,16 @@ calls h routine = or_misfit (slice_get h.code.routines routine) >>= λ row. on_m
 -- one of the three data of a FOR
 abbrev pub counter_at : ℕ → Doing ℤ
 counter_at at = do
-  p ← Reads (λ d. or_misfit (own_place at d.frames))
+  p ← Reads (λ d. Gives (own_place at d.frames))
   v ← read_value p
   num_in v
 
 abbrev pub set_counter_at : ℕ → ℤ → Act
 set_counter_at at n = do
-  p ← Reads (λ d. or_misfit (own_place at d.frames))
+  p ← Reads (λ d. Gives (own_place at d.frames))
   write_value p (values.Num n)
 
--- the FOR whose variable is there has passed its last value
+-- whether the FOR whose variable is at this place has passed its last value
 abbrev pub passed : ℕ → Doing Bool
 passed at = do
   variable ← counter_at at
@@ -111,21 +112,26 @@ abbrev pub past_turn : Here → Option Op → Doing Conf
 past_turn h (Some (ops.Turn k a)) = jumps h a h.conf.stack
 past_turn h _ = Misfit
 
--- past the range of num the Turn is taken as passed
+-- if the variable leaves the range of num, the Turn counts as passed
 abbrev pub stepped : Here → ℕ → ℕ → Option ℤ → Doing Conf
 stepped h k a None = past_turn h (slice_get h.code.ops a)
 stepped h k a (Some n) = set_counter_at k n >> jumps h a h.conf.stack
 
--- a wait that is not ready holds with the number that its own Look found, and rises
+-- a wait that is not ready holds with the count that its own Look found, and rises
 abbrev pub holds : Here → ℕ → List Datum → Doing Conf
 holds h to stack = Reads (λ d. tells (Hold (seen_in d.frames)) >> (tells Rise >> jumps h to stack))
+
+-- a request names at most sixteen tasks
+abbrev pub task_set : ℕ → Doing ℕ
+task_set set = if nat_lt set (2 ^ 16) then Gives set else Misfit
 
 -- a set of tasks on the stack is a num
 abbrev pub set_in : Value → Doing ℕ
 set_in (values.Num (pos n)) = task_set (n / 1_000)
 set_in _ = Misfit
 
--- The table, a line for each operation, or for each of its kinds. The operands of the frame under way are h.conf.stack.
+-- The table, with a line for each operation, or for each of its kinds. The operands of the innermost frame are
+-- h.conf.stack.
 abbrev pub act : Here → Op → Doing Conf
 act h (ops.Push datum) = to_next h (datum ∷ h.conf.stack)
 act h ops.Errno = Reads (λ d. to_next h (Plain (whole d.errno) ∷ h.conf.stack))
@@ -134,7 +140,7 @@ act h ops.Dup = on_top h.conf.stack (λ x rest. to_next h (x ∷ x ∷ rest))
 act h ops.Over = on_top h.conf.stack (λ y rest. on_top rest (λ x below. to_next h (x ∷ y ∷ x ∷ below)))
 -- places
 act h (ops.Slot k) = to_next h (Place (at_root (roots.Slot k)) ∷ h.conf.stack)
-act h (ops.Local k) = pushes h h.conf.stack Place (Reads (λ d. or_misfit (own_place k d.frames)))
+act h (ops.Local k) = pushes h h.conf.stack Place (Reads (λ d. Gives (own_place k d.frames)))
 act h (ops.Pers p) = to_next h (Place (at_root (roots.Pers p 0)) ∷ h.conf.stack)
 act h (ops.Ref k) = pushes h h.conf.stack Place (Reads (λ d. or_misfit (kept_place k d.frames)))
 act h (ops.Index n) = on_value h.conf.stack (λ v rest. on_place rest (λ p below. pushes h below Place (indexed (Some n) p v)))
@@ -203,6 +209,6 @@ abbrev pub act_at : CodeData → Conf → Option Placed → Doing Conf
 act_at code c None = Misfit
 act_at code c (Some placed) = act (record { code = code; own = placed.own; conf = c }) placed.op
 
--- a step: the operation at the place where code stands
+-- a step: the operation at the current place
 abbrev pub step : CodeData → Conf → Doing Conf
 step code c = act_at code c (placed_at code c.pc)

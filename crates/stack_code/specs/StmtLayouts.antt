@@ -1,4 +1,4 @@
--- The code of statements, from a place on, before what follows it. Each begins with its Look and an empty stack.
+-- The code of statements at a place, followed by other code. Each begins with its Look and an empty stack.
 use Rattle.std.specs.Prelude.{ℕ, ◌+◌, List, [], ◌∷◌, ◌++◌, slice_get}
 use Rattle.std.specs.Option.{unwrap_or}
 use Rattle.rapid_model.specs.declared.operator.Operator.TheVariants as operators
@@ -16,7 +16,7 @@ use Rattle.stack_code.specs.declared.op.Op.TheVariants as ops
 abbrev pub at_byte : TypedRoutine → ℕ → At
 at_byte routine byte = record { «module» = routine.«module»; byte = byte }
 
--- what a statement that begins at a place owns its operations as
+-- the owner of the operations of a statement at this place
 abbrev pub own_of : TypedTree → TypedRoutine → ℕ → TypedStmt → Own
 own_of tree routine pc s = record { retry = pc; next = pc + stmt_size tree routine s; at = at_byte routine (byte_of s) }
 
@@ -36,14 +36,14 @@ pieces_code tree routine labels own pc (Chooses a b ∷ more) ps =
     put own (ops.JumpFalse (pc + 1 + 1 + 1)) (put own a (put own (ops.Jump (pc + 1 + 1 + 1 + 1)) (put own b
     (pieces_code tree routine labels own (pc + 1 + 1 + 1 + 1) more ps))))
 
--- the values of a CASE; where one is equal to what is tested it jumps to the list
+-- the values of a CASE; the first one that equals the tested value jumps to the list
 unfoldable pub values_code : TypedTree → TypedRoutine → Own → ℕ → ℕ → TypedExprs → List Placed → List Placed
 values_code tree routine own list pc NoExprs ps = ps
 values_code tree routine own list pc (MoreExprs e es) ps =
     put own ops.Dup (expr_code tree routine own (pc + 1) e (put own (ops.Binary operators.Equal) (put own (ops.JumpTrue list)
     (values_code tree routine own list (pc + 1 + expr_size e + 1 + 1) es ps))))
 
--- a statement with the owner of its operations; those of lists within it have their own
+-- a statement, with the owner of its operations; statements of lists inside it have their own
 abbrev mutual
   pub stmt_code : TypedTree → TypedRoutine → List ℕ → Own → ℕ → TypedStmt → List Placed → List Placed
   stmt_code tree routine labels own pc (trees.Label at label) ps = ps
@@ -72,7 +72,7 @@ abbrev mutual
   stmts_code tree routine labels pc (MoreStmts s more) ps =
       stmt_code tree routine labels (own_of tree routine pc s) pc s (stmts_code tree routine labels (pc + stmt_size tree routine s) more ps)
 
-  -- a condition that is FALSE goes on to the next; a list that reaches its end goes on behind the statement
+  -- a condition that is FALSE goes on to the next one; a list that reaches its end goes on after the statement
   pub arms_code : TypedTree → TypedRoutine → List ℕ → Own → ℕ → TypedArms → List Placed → List Placed
   arms_code tree routine labels own pc NoArms ps = ps
   arms_code tree routine labels own pc (MoreArms e list more) ps =
@@ -80,7 +80,7 @@ abbrev mutual
       (stmts_code tree routine labels (pc + expr_size e + 1) list (put own (ops.Jump own.next)
       (arms_code tree routine labels own (pc + expr_size e + 1 + stmts_size tree routine list + 1) more ps))))
 
-  -- what is tested lies on the stack until a list begins
+  -- the tested value is on the stack until a list begins
   pub cases_code : TypedTree → TypedRoutine → List ℕ → Own → ℕ → TypedCases → List Placed → List Placed
   cases_code tree routine labels own pc NoCases ps = ps
   cases_code tree routine labels own pc (MoreCases es list more) ps =

@@ -1,4 +1,4 @@
-/// What is done with an interrupt, or with all of them (RAPID Instructions: ISleep, IWatch, IDelete, IDisable, IEnable).
+/// An operation on an interrupt, or on all of them (RAPID Instructions: ISleep, IWatch, IDelete, IDisable, IEnable).
 #[derive(Clone, Copy)]
 pub enum IrqOp {
     Sleep,

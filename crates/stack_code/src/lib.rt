@@ -1,4 +1,5 @@
-//! Stack code: what a task's tree is compiled to, what each operation means, and how each form of the language is laid out.
+//! Stack code: what a task's tree compiles to, what each operation means, and how each form of the language is laid
+//! out.
 #![tactic(auto)]
 
 mod first_run;

@@ -7,10 +7,10 @@ use rapid_model::NameText;
 use std::marker::Model;
 use typed_trees::Datum;
 
-/// All parts of the code of a task: its operations and routines, what error recovery needs, the first values of module data
-/// and of frames, the names of all tasks of the script, the types of the task's persistents in the order of its tree, the
-/// most operands that a frame has, the number of `main`, and how many axes the task's arm has, 0 where it has none. Contracts
-/// see it as plain data. Nothing is said of what it does.
+/// All parts of the code of a task: its operations and routines, what error recovery needs, the initial values of
+/// module data and of frames, the names of all tasks of the script, the types of the task's persistents in the order of
+/// its tree, the most operands that a frame holds, the number of `main`, and the number of axes of the task's arm, 0
+/// without an arm. Contracts see it as plain data and say nothing of what it does.
 #[derive(Drop)]
 pub struct LinkedCode {
     pub ops: Vec<Op>,

@@ -1,7 +1,7 @@
 use crate::owner::Owner;
 
-/// What error recovery needs of code: the owners, which tile its operations in order, and for each routine the place at
-/// which its ERROR part begins, if it has one (RAPID Overview, error recovery).
+/// What error recovery needs of code: the owners, which tile its operations in order, and for each routine the place
+/// where its ERROR part begins, if it has one (RAPID Overview, error recovery).
 #[derive(Drop)]
 pub struct Marks {
     pub owners: Vec<Owner>,

@@ -6,8 +6,9 @@ use crate::unary_op::UnaryOp;
 use crate::zone_op::ZoneOp;
 use rapid_model::{Function, Operator, PartName, Sort};
 
-/// An operation. Unless said, it goes on to the next one. Operands lie on the stack of the frame under way, the last pushed
-/// on top; places of operations count from 0. What each one does is a line of the table in `specs/Steps`. 24 bytes.
+/// An operation. It goes on to the next one unless stated otherwise. Operands are on the stack of the innermost frame,
+/// the last one pushed on top. Places of operations count from 0. The table in `specs/Steps` has what each one does. 24
+/// bytes.
 #[derive(Drop)]
 pub enum Op {
     Push(Pushed),
@@ -23,9 +24,9 @@ pub enum Op {
     Local(u32),
     /// Pushes the place of a persistent, by its number in the cell.
     Pers(u32),
-    /// Pushes the place that a reference parameter stands for, by its number among the data of the frame.
+    /// Pushes the place that a reference parameter refers to, by its number among the data of the frame.
     Ref(u32),
-    /// Pops a num, and takes the place on top to that element of an array with so many.
+    /// Pops an index, and replaces the place on top by that element of an array of this length.
     Index(u16),
     /// Narrows the place on top to a part.
     Part(PartName),
@@ -33,7 +34,7 @@ pub enum Op {
     Store,
     GetSignal(u32),
     PutSignal(u32),
-    /// Tests that the num on top is a signal's value.
+    /// Checks that the num on top is a signal value.
     Bit,
     /// Pops the components of a type, and pushes the record.
     Pack(Sort),
@@ -47,37 +48,37 @@ pub enum Op {
     Call(u32),
     Back,
     BackWith,
-    /// The end of a function that has not returned.
+    /// The end of a function that did not return.
     NoBack,
     Raise,
-    /// Raises the error of the ERROR part under way in the caller.
+    /// Raises the error of the current ERROR part in the caller.
     Again,
     Retry,
     Next,
     Exit,
-    /// Tests whether a FOR, whose variable is this datum of the frame, has passed its last value, and then jumps.
+    /// Jumps if a FOR, whose variable is this datum of the frame, has passed its last value.
     Turn(u32, u32),
-    /// Takes a FOR on by its step, and jumps to its Turn.
+    /// Adds its step to the variable of a FOR, and jumps to its Turn.
     Step(u32, u32),
-    /// Pops a bool; where it is FALSE, holds, rises and jumps.
+    /// Pops a bool. If it is FALSE, holds, rises and jumps.
     Wait(u32),
     TestSet,
-    /// Pops the place of an array of so many elements, and pushes the set of the tasks that they name.
+    /// Pops the place of an array of this length, and pushes the set of the tasks that its elements name.
     TaskSet(u16),
     Arrive(u32),
     /// Pushes the arm's position.
     Here,
-    /// Tests that no trap is under way.
+    /// Checks that no trap is running.
     Still,
     Move,
-    /// Connects an interrupt with a trap, by the routine's number.
+    /// Connects an interrupt to a trap, by the routine's number.
     Connect(u32),
-    /// Orders an interrupt; for one firing where the bool holds.
+    /// Orders an interrupt, for one firing only if the bool is true.
     Order(OrderOn, bool),
     Irq(IrqOp),
-    /// Stores a shape: of the inside or not, and of a middle and its deltas or of two bounds.
+    /// Stores a shape: of the inside or not, and from a middle and deltas or from two bounds.
     Shape(bool, bool),
-    /// Supervises a shape by a temporary zone or a stationary one.
+    /// Supervises a shape as a temporary or a stationary zone.
     ZoneSet(bool),
     Zone(ZoneOp),
     Say(TailKind),

@@ -1,4 +1,4 @@
-/// What an interrupt is ordered on, by its number in the cell; a signal's value lies on the stack (RAPID Instructions:
+/// What an interrupt is ordered on, by its number in the cell; a signal's value is on the stack (RAPID Instructions:
 /// ISignalDI, ISignalDO, IPers). 8 bytes.
 #[derive(Clone, Copy)]
 pub enum OrderOn {

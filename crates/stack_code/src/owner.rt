@@ -1,7 +1,7 @@
 use rapid_model::At;
 
-/// Operations in a row, from `first` to before `past`, that belong to one statement: where it begins with its Look, the
-/// operation that follows it, and where it stands in the source. Places of operations count from 0. 24 bytes.
+/// The operations of one statement, from `first` up to but not including `past`: the place of its Look, the place of
+/// the operation after it, and its position in the source. Places of operations count from 0. 24 bytes.
 #[derive(Clone, Copy)]
 pub struct Owner {
     pub first: u32,

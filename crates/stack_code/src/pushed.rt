@@ -7,8 +7,8 @@ use rapid_num::Num;
 use std::alloc::{AllocError, Global};
 use std::marker::Model;
 
-/// A datum that an operation pushes, which is a value. A num lies in the operation itself and any other value apart, so that
-/// operations stay small: 16 bytes. Contracts see the datum.
+/// A value that an operation pushes. A num is stored in the operation itself and any other value apart, to keep
+/// operations small: 16 bytes. Contracts see the datum.
 #[derive(Drop)]
 pub struct Pushed {
     kept: Kept,
@@ -38,7 +38,7 @@ impl Pushed {
         Pushed { kept }
     }
 
-    /// A value. Its error says that memory was refused.
+    /// A value. Fails only if an allocation fails.
     pub fn value(alloc: Global, value: Value) -> Result<Pushed, AllocError>
         ensures { IfOk result (λ p. p ≡ Plain value) }
     {

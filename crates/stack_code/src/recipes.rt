@@ -11,7 +11,7 @@ use crate::step::Step::{
 use crate::zone_op::ZoneOp;
 use rapid_model::{Instruction, Operator};
 
-/// How an instruction is laid out after its Look, step by step (RAPID Instructions).
+/// The layout of an instruction after its Look, step by step (RAPID Instructions).
 pub fn recipe(instruction: Instruction) -> &'static [Step]
     ensures { result.now ≡ Recipes.recipe instruction }
 {

@@ -1,4 +1,4 @@
-/// What stands behind an operator's text (RAPID Instructions: TPWrite).
+/// What follows an operator's text (RAPID Instructions: TPWrite).
 #[derive(Clone, Copy)]
 pub enum TailKind {
     None,

@@ -1,4 +1,4 @@
-/// What is done with a zone (RAPID Instructions: WZEnable, WZDisable, WZFree).
+/// An operation on a zone (RAPID Instructions: WZEnable, WZDisable, WZFree).
 #[derive(Clone, Copy)]
 pub enum ZoneOp {
     On,

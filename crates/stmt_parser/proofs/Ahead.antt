@@ -1,6 +1,6 @@
--- One token of looking ahead is enough for statements, and a text spells one list of them; what is within some levels is
--- within more; and each first sign of a statement does begin one. Statements that begin with a name, and those that begin
--- with IF, stand here with the common part taken out too, as they are read.
+-- One token of lookahead is enough for statements, and a text spells at most one list of them. A form within some
+-- levels is also within more. Each first sign of a statement can start one. Statements that start with a name, and
+-- those that start with IF, also appear with the common part factored out, as they are read.
 use Rattle.std.proofs.Common.{ℕ, zero, suc, true, false, List, [], ◌∷◌, ◌++◌, Option, None, Some, refl, sym, ◌∙◌, subst, ◌⊎◌, inl, inr}
 use Rattle.rapid_lexer.specs.Tokens.{Lexeme}
 use Rattle.raw_trees.specs.Plain.{PlainExpr, PlainStmt}
@@ -17,17 +17,17 @@ use Rattle.expr_parser.proofs.Ahead.{InsideLL, inside_ll, name_ll, parts_ll, pla
 use Rattle.stmt_parser.specs.Grammar.{assign_tree, call_tree, goto_tree, return_tree, exit_tree, raise_tree, retry_tree, try_next_tree, connect_tree, label_tree, arm_tree, if_tree, if_one_tree, simple, arm, branches, loop_for, loop_while, case, choice, stmt_of, list_of, stmts, list, stmt, items}
 use Rattle.stmt_parser.specs.Reads.{worded_signs, stmt_signs, assigned_signs, Assigned, Called, assigned_tree, named_simple_tree, named_tree, Branched, branched_tree, tested_tree}
 
--- the signs with which simple statements begin
+-- the signs that simple statements can start with
 abbrev pub simple_signs : List Sign
 simple_signs = signs.Name ∷ worded_signs
 
--- the signs that go on behind a name to arguments
+-- the signs that continue a name to arguments
 abbrev pub called_signs : List Sign
 called_signs = signs.Semicolon ∷ arg_signs
 
--- the lines that begin alike, as they are read
+-- the lines with a common start, as they are read
 
--- behind a name: an index and components, or none, and what is assigned
+-- after a name: an optional index and components, and what is assigned
 unfoldable pub assigned : Inside → Form Assigned
 assigned i = seq (parts_of i) (seq (mark signs.Assign) (seq (expr_of i) (mark signs.Semicolon)))
 
@@ -43,7 +43,7 @@ named_simple i = made named_simple_tree (seq name (behind_name i))
 unfoldable pub named : Inside → Form PlainStmt
 named i = made named_tree (seq name (either (made left (mark signs.Colon)) (made right (behind_name i))))
 
--- the simple statements that begin with a word
+-- the simple statements that start with a word
 unfoldable pub worded : Inside → Form PlainStmt
 worded i =
     either (made goto_tree (seq (mark signs.Goto) (seq name (mark signs.Semicolon))))
@@ -57,7 +57,7 @@ worded i =
 unfoldable pub simple_joined : Inside → Form PlainStmt
 simple_joined i = either (named_simple i) (worded i)
 
--- behind the test of an IF with lists
+-- after the test of an IF with lists
 unfoldable pub branched : Inside → Form (List PlainStmt) → Form Branched
 branched i list =
     seq (seq (mark signs.Then) list)
@@ -139,12 +139,12 @@ some_or_none {A} a = record {
   whole xs ts (None, w, e) = subst (λ ys. WholeEach a ys ts) (sym e) w
   whole xs ts (Some ys, (x, w, e'), e) = subst (λ ys. WholeEach a ys ts) (sym (e ∙ e')) w
 
--- a list within a level more is the statements of one whose level is open
+-- a list is, one level deeper, the statements of a list whose level is open
 pub list_same : (n : ℕ) → Same (list (suc n)) (items n)
 unfolding list list_of stmts items stmt
 list_same n = some_or_none (stmt_of (inside n) (list_of (stmts n)))
 
--- looking ahead
+-- lookahead
 
 pub assigned_ll : {i : Inside} → InsideLL i → LL false assigned_signs [] (assigned i)
 unfolding assigned
@@ -284,7 +284,7 @@ pub items_ll : (n : ℕ) → LL true stmt_signs stmt_signs (items n)
 unfolding items
 items_ll n = larger_ll (many_ll (stmt_ll n) refl) refl refl
 
--- from one level to those above
+-- from one level to higher ones
 
 pub simple_up : {i j : Inside} → InsideUp i j → Up (simple i) (simple j)
 unfolding simple
@@ -367,7 +367,7 @@ pub items_up : (n : ℕ) → Up (items n) (items (suc n))
 unfolding items
 items_up n = many_up (stmt_up n)
 
--- first signs that do begin a form
+-- first signs that can start a form
 
 simple_opens : Opens simple_signs (λ n. simple (inside n))
 unfolding simple place

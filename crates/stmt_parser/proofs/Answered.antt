@@ -1,4 +1,4 @@
--- The readers of statements answer for their forms, within any number of levels.
+-- The readers of statements parse their forms correctly, within any number of levels.
 use Rattle.std.proofs.Common.{ℕ, zero, suc, ◌≤◌, Bool, true, false, List, [], ◌∷◌, ◌++◌, Option, None, Some, refl}
 use Rattle.rapid_lexer.specs.Tokens.{Lexeme}
 use Rattle.raw_trees.specs.Plain.{PlainExpr, PlainStmt}
@@ -20,7 +20,7 @@ use Rattle.stmt_parser.specs.Reads.{worded_signs, stmt_signs, assigned_signs, na
 use Rattle.stmt_parser.proofs.Ahead.{simple_signs, called_signs, assigned, called, behind_name, named_simple, named, worded, simple_joined, branched, tested, stmt_joined, simple_same, stmt_same, list_same, stmts_ll, list_ll, stmts_up, list_up, items_up, stmt_opens, stmts_opens}
 use Rattle.rapid_forms.proofs.Serves.{Serves, one_serves, larger_serves, same_serves, both_serve, made_serves, either_serves, remade_serves, optional_serves, many_serves}
 
--- from any number of levels to any above
+-- from any number of levels to any higher one
 
 stmts_above : (k m : ℕ) → k ≤ m → Up (stmts k) (stmts m)
 stmts_above = up_levels stmts stmts_up
@@ -31,7 +31,7 @@ list_above = up_levels list list_up
 pub items_above : (k m : ℕ) → k ≤ m → Up (items k) (items m)
 items_above = up_levels items items_up
 
--- a list, or no token, which is the empty one; premise: each first sign opens the form
+-- a list, or no token, which is the empty list; premise: each first sign opens the form
 pub any_serves : {A : Type 0} {first more : List Sign} {F : ℕ → Form (List A)} {n : ℕ} {a : Reader (List A)} → Serves false first more F n a → Opens first F → Serves true first (more ++ first) (λ m. made none_or (optional (F m))) n (made_read none_or (optional_read first a))
 any_serves x o = remade_serves none_or (optional_serves x o) (λ p q. elim [ None ↦ refl | Some xs ↦ refl ])
 
@@ -62,7 +62,7 @@ module _ {n : ℕ} where
   unfolding place place_read
   place_serves = larger_serves (made_serves place_tree (both_serve name_serves parts_serve refl)) refl refl
 
-  -- what stands behind a word or mark, if that is there
+  -- what follows a word or mark, if it is there
 
   module _ {A : Type 0} {null : Bool} {first more : List Sign} {F : ℕ → Form A} {a : Reader A} (sign : Sign) (x : Serves null first more F n a) where
     pub behind_serves : Serves false (sign ∷ []) (more ++ when null []) (λ m. made behind (seq (mark sign) (F m))) n (behind_read sign a)
@@ -73,7 +73,7 @@ module _ {n : ℕ} where
     unfolding if_read
     if_serves = optional_serves behind_serves (made_opens _ (seq_opens _ (one_opens _)))
 
-  -- statements that begin with a name
+  -- statements that start with a name
 
   assigned_serves : Serves false assigned_signs [] (λ m. assigned (inside m)) n (assigned_read (inside_read n))
   unfolding assigned assigned_read
@@ -123,7 +123,7 @@ module _ {n : ℕ} where
   unfolding simple_joined simple_read
   simple_serves = same_serves (larger_serves (either_serves named_simple_serves worded_serves refl) refl refl) (λ m. same_sym (simple_same (inside_ll m)))
 
-  -- from a list: the statements that have some
+  -- given a list: the statements that contain some
   module _ {a : Reader (List PlainStmt)} (r : Reads list n a) where
     pub list_serves : Serves true stmt_signs stmt_signs list n a
     list_serves = record { reads = r; ahead = list_ll; above = list_above }
@@ -193,7 +193,7 @@ module _ {n : ℕ} where
     unfolding items
     each_reads = (many_serves stmt_serves stmt_opens refl).reads
 
--- Within a level more a list is the statements of one whose level is open; where no level is left, its first sign opens
+-- A list is, one level deeper, the statements of a list whose level is open. If no level is left, its first sign opens
 -- one too many.
 unfoldable opened : ℕ → Form (List PlainStmt)
 opened zero = list zero

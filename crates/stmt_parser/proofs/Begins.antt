@@ -1,4 +1,4 @@
--- A name stands at the byte of its token.
+-- A name is at the byte of its token.
 use Rattle.std.proofs.Common.{◌≡◌, ℕ, List, Ok, Err, refl, ap, ◌∙◌}
 use Rattle.rapid_lexer.specs.Tokens.{Lexeme}
 use Rattle.raw_trees.specs.Plain.{PlainName}
@@ -7,7 +7,7 @@ use Rattle.rapid_forms.specs.Reading.{Read, then_read, made_read}
 use Rattle.expr_parser.specs.Grammar.{name_tree}
 use Rattle.expr_parser.specs.Reads.{name_read}
 
--- the byte of the name that is read, or else this one
+-- the byte of the name that was read, else this one
 abbrev place_read : ℕ → Read PlainName → ℕ
 place_read at (Ok p) = p.0.at
 place_read at (Err h) = at

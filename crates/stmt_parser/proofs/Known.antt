@@ -1,4 +1,4 @@
--- What the functions of statements give, as their callers are told it.
+-- The results of the functions for statements, as their callers see them.
 use Rattle.std.proofs.Common.{ℕ}
 use Rattle.expr_parser.proofs.Known.{Known}
 use Rattle.stmt_parser.specs.Grammar.{items}

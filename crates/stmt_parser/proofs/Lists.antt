@@ -1,4 +1,4 @@
--- Lists of statements, and what the loops of functions read: one more takes a token each time.
+-- Lists of statements, and the loops of functions: one more takes at least one token each time.
 use Rattle.std.proofs.Common.{◌≡◌, ℕ, zero, suc, ◌-◌, ◌<◌, false, List, [], Ok, sym, ◌∙◌, arith}
 use Rattle.rapid_lexer.specs.Tokens.{Lexeme}
 use Rattle.rapid_forms.specs.declared.sign.Sign.TheVariants as signs
@@ -20,13 +20,13 @@ arm_takes n = serves_take (behind_serves _ (arm_serves (list_reads n)))
 pub case_takes : (n : ℕ) → Takes (behind_read signs.Case (case_read (inside_read n) (list_read n)))
 case_takes n = serves_take (behind_serves _ (case_serves (list_reads n)))
 
--- no statement begins there
+-- no statement starts there
 pub list_none : (n : ℕ) (ts : List Lexeme) → begins_with stmt_signs ts ≡ false → list_read n ts ≡ Ok ([], ts)
 unfolding list_read made_read optional_read then_read
 list_none zero ts h = rw h
 list_none (suc n) ts h = sym (front_none _) ∙ loop_done _ stmt_signs [] ts h
 
--- the statements of a list whose level is open are a list within a level more
+-- the statements of a list whose level is open are a list one level deeper
 pub list_opens : (n : ℕ) (ts : List Lexeme) → 0 < n → items_read (n - 1) ts ≡ list_read n ts
 unfolding list_read items_read stmt_read
 list_opens zero ts h = absurd (omega arith)

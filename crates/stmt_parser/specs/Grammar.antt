@@ -1,4 +1,4 @@
--- The grammar of statements (RAPID Kernel, statements). Braces mean any number, brackets mean optional:
+-- The grammar of statements (RAPID Kernel, statements). Braces mean zero or more, brackets mean optional:
 --
 --   list     = { stmt }
 --   stmt     = simple | name ":"
@@ -19,7 +19,7 @@ use Rattle.rapid_forms.specs.declared.sign.Sign.TheVariants as signs
 use Rattle.rapid_forms.specs.Forms.{Form, seq, either, optional, many, made, nothing}
 use Rattle.expr_parser.specs.Grammar.{Inside, inside, mark, name, place, exprs, expr_of, behind, none_or, first_and_more}
 
--- the trees that forms stand for, each at the byte of its first token
+-- the trees that forms denote, each at the byte of its first token
 
 abbrev pub assign_tree : ℕ → PlainPlace × (Lexeme × (PlainExpr × Lexeme)) → PlainStmt
 assign_tree at x = Assign at x.0 x.1.1.0
@@ -123,7 +123,7 @@ choice i list =
     (seq (many (made behind (seq (mark signs.Case) (case i list))))
     (seq (optional (made behind (seq (mark signs.Default) (made behind (seq (mark signs.Colon) list))))) (mark signs.EndTest)))))
 
--- a statement, within whose lists stands this form
+-- a statement, with this form inside its lists
 unfoldable pub stmt_of : Inside → Form (List PlainStmt) → Form PlainStmt
 stmt_of i list =
     either (simple i)
@@ -134,23 +134,23 @@ stmt_of i list =
     (either (loop_while i list)
     (choice i list))))))
 
--- { stmt }, where the statements are some or none
+-- { stmt }, given the statements if there are any
 unfoldable pub list_of : Form (List PlainStmt) → Form (List PlainStmt)
 list_of some = made none_or (optional some)
 
--- one statement or more, within so many levels, the first of which they open
+-- one or more statements, within this many levels, the first of which they open
 unfoldable pub stmts : ℕ → Form (List PlainStmt)
 stmts zero = nothing
 stmts (suc n) = made first_and_more (seq (stmt_of (inside n) (list_of (stmts n))) (many (stmt_of (inside n) (list_of (stmts n)))))
 
--- a list of statements, within so many levels
+-- a list of statements, within this many levels
 unfoldable pub list : ℕ → Form (List PlainStmt)
 list n = list_of (stmts n)
 
--- a statement, within so many levels
+-- a statement, within this many levels
 unfoldable pub stmt : ℕ → Form PlainStmt
 stmt n = stmt_of (inside n) (list n)
 
--- the statements of a list whose level is open, within so many levels more
+-- the statements of a list whose level is open, within this many more levels
 unfoldable pub items : ℕ → Form (List PlainStmt)
 items n = many (stmt n)

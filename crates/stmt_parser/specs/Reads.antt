@@ -1,5 +1,5 @@
--- Reading statements from left to right: the readers of the forms of the grammar, by which its functions are proved.
--- Statements that begin with a name, and those that begin with IF, are read with the common part taken out.
+-- Reading statements from left to right: the readers of the grammar's forms, which the functions are proved against.
+-- Statements that start with a name, and those that start with IF, are read with the common part factored out.
 use Rattle.std.specs.Prelude.{ℕ, zero, suc, List, [], ◌∷◌, Option}
 use mathlib.Core.Logic.{◌⊎◌, inl, inr}
 use Rattle.rapid_lexer.specs.Tokens.{Lexeme}
@@ -11,7 +11,7 @@ use Rattle.expr_parser.specs.Grammar.{behind, none_or, place_tree}
 use Rattle.expr_parser.specs.Reads.{InsideRead, inside_read, expr_signs, arg_signs, mark_read, name_read, parts_read, place_read, exprs_read, expr_of_read, left, right}
 use Rattle.stmt_parser.specs.Grammar.{assign_tree, call_tree, goto_tree, return_tree, exit_tree, raise_tree, retry_tree, try_next_tree, connect_tree, label_tree, arm_tree, if_tree, if_one_tree, for_tree, while_tree, case_tree, test_tree}
 
--- the signs with which statements begin
+-- the signs that statements can start with
 
 abbrev pub worded_signs : List Sign
 worded_signs =
@@ -20,7 +20,7 @@ worded_signs =
 abbrev pub stmt_signs : List Sign
 stmt_signs = signs.Name ∷ signs.If ∷ signs.For ∷ signs.While ∷ signs.Test ∷ worded_signs
 
--- the signs that go on behind a name to what is assigned
+-- the signs that continue a name to what is assigned
 abbrev pub assigned_signs : List Sign
 assigned_signs = signs.Assign ∷ signs.OpenBrace ∷ signs.Dot ∷ []
 
@@ -51,11 +51,11 @@ abbrev pub tested_tree : ℕ → Lexeme × (PlainExpr × (Branched ⊎ PlainStmt
 tested_tree at (w, (e, inl x)) = branched_tree at (w, (e, x))
 tested_tree at (w, (e, inr x)) = if_one_tree at (w, (e, x))
 
--- a word or mark, and what stands behind it
+-- a word or mark, and what follows it
 unfoldable pub behind_read : {A : Type 0} → Sign → Reader A → Reader A
 behind_read sign r = made_read behind (seq_read (mark_read sign) r)
 
--- what stands behind a word, if the word is there
+-- what follows a word, if the word is there
 unfoldable pub if_read : {A : Type 0} → Sign → Reader A → Reader (Option A)
 if_read sign r = optional_read (sign ∷ []) (behind_read sign r)
 
@@ -101,7 +101,7 @@ connect_read i =
     made_read connect_tree
     (seq_read (mark_read signs.Connect) (seq_read (place_read i) (seq_read (mark_read signs.With) (seq_read name_read (mark_read signs.Semicolon)))))
 
--- the simple statements that begin with a word
+-- the simple statements that start with a word
 unfoldable pub worded_read : InsideRead → Reader PlainStmt
 worded_read i =
     either_read (signs.Goto ∷ []) goto_read
@@ -121,7 +121,7 @@ arm_read i list = made_read arm_tree (seq_read (expr_of_read i) (seq_read (mark_
 unfoldable pub arms_read : InsideRead → Reader (List PlainStmt) → Reader (List (PlainExpr × List PlainStmt))
 arms_read i list = many_read (signs.ElseIf ∷ []) (behind_read signs.ElseIf (arm_read i list))
 
--- behind the test of an IF with lists
+-- after the test of an IF with lists
 unfoldable pub branched_read : InsideRead → Reader (List PlainStmt) → Reader Branched
 branched_read i list =
     seq_read (seq_read (mark_read signs.Then) list)
@@ -171,7 +171,7 @@ stmt_of_read i list =
     (either_read (signs.While ∷ []) (while_read i list)
     (either_read (signs.Test ∷ []) (test_read i list) (worded_read i)))))
 
--- a list of statements within so many levels, the first of which its statements open
+-- a list of statements within this many levels, the first of which its statements open
 unfoldable pub list_read : ℕ → Reader (List PlainStmt)
 list_read zero = made_read none_or (optional_read stmt_signs (nothing_read stmt_signs))
 list_read (suc n) = many_read stmt_signs (stmt_of_read (inside_read n) (list_read n))

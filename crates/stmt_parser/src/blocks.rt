@@ -36,7 +36,7 @@ pub(crate) fn choice_or_one<'a>(
     Ok((stmt, end))
 }
 
-/// What stands behind the first test of an IF with lists.
+/// What follows the first test of an IF with lists.
 #[cycle(stmt)]
 #[tactic(auto, unfolding(crate::specs::Reads::branched_read, rapid_forms::specs::Reading::seq_read, rapid_forms::specs::Reading::then_read))]
 fn branches<'a>(
@@ -56,7 +56,7 @@ fn branches<'a>(
     Ok((RawStmt::choice(word.at, arms, other), end))
 }
 
-/// The first arm of an IF, and each ELSEIF behind it.
+/// The first arm of an IF, and each ELSEIF after it.
 #[cycle(stmt)]
 #[tactic(auto, unfolding(crate::specs::Reads::arms_read, rapid_forms::specs::Reading::then_read))]
 fn arms<'a>(
@@ -93,7 +93,7 @@ fn arm<'a>(
     Ok(((test, list), end))
 }
 
-/// A word or mark and the list behind it.
+/// A word or mark and the list after it.
 #[cycle(stmt)]
 #[tactic(auto, unfolding(crate::specs::Reads::behind_read, rapid_forms::specs::Reading::made_read, rapid_forms::specs::Reading::seq_read, rapid_forms::specs::Reading::then_read))]
 fn list_behind<'a>(
@@ -108,7 +108,7 @@ fn list_behind<'a>(
     list(p, next, left)
 }
 
-/// The list behind a word, if the word is there.
+/// The list after a word, if the word is there.
 #[cycle(stmt)]
 #[tactic(auto, unfolding(crate::specs::Reads::if_read, rapid_forms::specs::Reading::optional_read, rapid_forms::specs::Reading::then_read))]
 fn list_if_any<'a>(
@@ -148,7 +148,7 @@ pub(crate) fn for_loop<'a>(
     Ok((stmt, end))
 }
 
-/// The step of a FOR, if it has one.
+/// The step of a FOR, if there is one.
 #[tactic(auto, unfolding(crate::specs::Reads::if_read, rapid_forms::specs::Reading::optional_read, rapid_forms::specs::Reading::then_read))]
 fn step_if_any<'a>(
     p: &Parser<'_, 'a>,
@@ -235,7 +235,7 @@ fn case<'a>(
     Ok(((values, list), end))
 }
 
-/// DEFAULT with its list, if it is there.
+/// DEFAULT with its list, if there is one.
 #[cycle(stmt)]
 #[tactic(auto, unfolding(crate::specs::Reads::default_read, crate::specs::Reads::if_read, crate::specs::Reads::behind_read, rapid_forms::specs::Reading::optional_read, rapid_forms::specs::Reading::made_read, rapid_forms::specs::Reading::seq_read, rapid_forms::specs::Reading::then_read))]
 fn default_if_any<'a>(

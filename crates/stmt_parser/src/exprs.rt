@@ -1,4 +1,4 @@
-//! Expressions behind a word or mark.
+//! Expressions after a word or mark.
 
 ghost use Rattle.raw_trees.specs.Views.{view_expr};
 ghost use Rattle.rapid_forms.specs.Reading.{Gives, rest_from};
@@ -9,7 +9,7 @@ use expr_parser::expr;
 use rapid_forms::{Parser, Sign, SyntaxFault};
 use raw_trees::RawExpr;
 
-/// A word or mark and the expression behind it.
+/// A word or mark and the expression after it.
 #[tactic(auto, unfolding(crate::specs::Reads::behind_read, rapid_forms::specs::Reading::made_read, rapid_forms::specs::Reading::seq_read, rapid_forms::specs::Reading::then_read))]
 pub(crate) fn expr_behind<'a>(
     p: &Parser<'_, 'a>,

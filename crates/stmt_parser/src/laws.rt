@@ -1,4 +1,4 @@
-//! Laws of lists of statements.
+//! Laws about lists of statements.
 
 ghost use Rattle.std.specs.Prelude.{◌≡◌, ℕ, List, ◌⊎◌};
 ghost use Rattle.rapid_lexer.specs.Tokens.{Lexeme};
@@ -6,8 +6,8 @@ ghost use Rattle.raw_trees.specs.Plain.{PlainStmt};
 ghost use Rattle.rapid_forms.specs.Parsed.{IsFaulty, IsParsed, IsTooDeep, Spells};
 ghost use Rattle.stmt_parser.specs.Grammar.{items};
 
-/// Of each list of tokens one answer holds within each number of levels, and only one; and tokens spell one list of
-/// statements at most, however deep.
+/// At each nesting depth, each list of tokens has exactly one answer; and tokens spell at most one list of statements,
+/// at any depth.
 pub fn one_list()
     ensures some { (n : ℕ) (ts : List Lexeme) → ((x : List PlainStmt) × (k : ℕ) × IsParsed items n ts x k) ⊎ (((k : ℕ) × IsFaulty items n ts k) ⊎ ((k : ℕ) × IsTooDeep items n ts k)) }
     ensures tree { (n : ℕ) (ts : List Lexeme) (x y : List PlainStmt) (j k : ℕ) → IsParsed items n ts x j → IsParsed items n ts y k → (x ≡ y) × (j ≡ k) }

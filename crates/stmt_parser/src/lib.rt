@@ -1,5 +1,5 @@
-//! Statements: which tokens spell a list of them, and the tree that they spell. Beside `parse_list` stands `list`, for the
-//! `Parser` that all parsers share.
+//! Statements: which tokens spell a list of them, and its tree. Besides `parse_list` there is `list`, for the `Parser`
+//! that all parsers share.
 #![tactic(auto)]
 
 mod blocks;

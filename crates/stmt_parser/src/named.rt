@@ -1,4 +1,4 @@
-//! Statements that begin with a name.
+//! Statements that start with a name.
 
 ghost use Rattle.std.specs.Prelude.{Ok};
 ghost use Rattle.raw_trees.specs.Views.{view_name, view_stmt};

@@ -13,8 +13,8 @@ use rapid_limits::MOST_LEVELS;
 use raw_trees::RawStmt;
 use std::alloc::Global;
 
-/// The statements from token `at` on, as many as there are, and the number of the token behind them. `depth` levels of
-/// nesting are open before token `at`, the list's own among them, and `end` is the length of the text in bytes.
+/// The statements from token `at` on, as many as there are, and the number of the token after them. `depth` levels of
+/// nesting are open before token `at`, including that of the list, and `end` is the length of the text in bytes.
 pub fn parse_list<'a>(
     alloc: Global,
     tokens: &[Token<'a>],

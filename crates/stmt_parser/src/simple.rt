@@ -11,7 +11,7 @@ use expr_parser::{expr, name, place_parts};
 use rapid_forms::{Parser, Sign, SyntaxFault, is_seen};
 use raw_trees::{RawExpr, RawPlace, RawStmt};
 
-/// A statement that has no list and is no label.
+/// A statement that has no list and is not a label.
 #[tactic(auto, unfolding(crate::specs::Reads::simple_read, rapid_forms::specs::Reading::either_read))]
 pub(crate) fn simple<'a>(
     p: &Parser<'_, 'a>,
@@ -26,7 +26,7 @@ pub(crate) fn simple<'a>(
     worded(p, at, left)
 }
 
-/// A statement without lists that begins with a reserved word.
+/// A statement without lists that starts with a reserved word.
 #[tactic(auto, unfolding(crate::specs::Reads::worded_read, rapid_forms::specs::Reading::either_read, rapid_forms::specs::Signs::begins_with))]
 pub(crate) fn worded<'a>(
     p: &Parser<'_, 'a>,
@@ -144,7 +144,7 @@ fn place<'a>(p: &Parser<'_, 'a>, at: usize, left: u32) -> Result<(RawPlace<'a>, 
     Ok((place, end))
 }
 
-/// A value, if one is there.
+/// An optional value.
 #[tactic(auto, unfolding(crate::specs::Reads::value_read, rapid_forms::specs::Reading::optional_read, rapid_forms::specs::Reading::then_read))]
 fn value_if_any<'a>(
     p: &Parser<'_, 'a>,

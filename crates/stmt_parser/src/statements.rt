@@ -25,7 +25,7 @@ static STMT_SIGNS: [Sign; 12] = [
     Sign::Connect,
 ];
 
-/// A list of statements, which opens one of `left` levels where it has any, and the number of the token behind it.
+/// A list of statements, and the number of the token after it. A nonempty list opens one of `left` levels.
 #[cycle(stmt)]
 #[tactic(auto, using(crate::proofs::Lists::list_none, crate::proofs::Lists::list_opens), unfolding(crate::specs::Reads::list_read, rapid_forms::specs::Reading::made_read, rapid_forms::specs::Reading::optional_read, rapid_forms::specs::Reading::then_read, rapid_forms::specs::Reading::nothing_read))]
 pub fn list<'a>(

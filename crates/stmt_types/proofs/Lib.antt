@@ -1,4 +1,4 @@
+pub mod Behind
+pub mod Forms
+pub mod LabelPlaces
 pub mod Lists
-pub mod Mains
-pub mod ParamRows
-pub mod Sound

@@ -1,2 +1,4 @@
-pub mod Task
+pub mod Labels
+pub mod Bodies
+pub mod Parts
 pub mod Views

@@ -1,15 +1,23 @@
-//! The typed tree of a task's modules.
+//! The typed forms of a routine's statements.
 #![tactic(auto)]
 
-mod bodies;
-mod check;
-mod main_routine;
-mod meetings;
-mod names;
-mod params;
-mod routine;
-mod routine_data;
-mod routine_list;
-mod typed_handler;
+mod all_labels;
+mod around;
+mod body;
+mod bounds;
+mod calls;
+mod case_values;
+mod counter_index;
+mod jumps;
+mod label_list;
+mod labels;
+mod returns;
+mod statements;
+mod targets;
+mod typed_rows;
 
-pub use check::check_task;
+pub use all_labels::labels_of;
+pub use body::Body;
+pub use label_list::LabelList;
+pub use statements::typed_list;
+pub use typed_rows::TypedList;

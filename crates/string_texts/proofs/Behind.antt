@@ -1,4 +1,4 @@
--- What stands behind a quote, character by character.
+-- What follows a quote, character by character.
 use Rattle.std.proofs.Common.{◌≡◌, ℕ, ◌+◌, ◌-◌, ◌*◌, ◌<◌, ◌≤◌, Bool, true, false, cond, eqb, nat_le, nat_lt, get_or, List, [], ◌∷◌, ◌++◌, length, drop, Option, Some, None, refl, sym, ap, ◌∙◌, append_assoc, length-append, arith}
 use Rattle.std.proofs.lemmas.Bool.{eqb-true, and_parts}
 use Rattle.std.proofs.lemmas.Bool.Decides.{nat_tests}
@@ -12,12 +12,12 @@ use Rattle.string_texts.specs.Reading.{continued_by, first_of}
 use Rattle.string_texts.proofs.Firsts.{found}
 use Rattle.string_texts.proofs.Continuing.{grown, quote_first, takes_it}
 
--- the first character, and the text behind it
+-- the first character, and the text after it
 abbrev behind : Option (ℕ × ℕ) → List ℕ → Option (List ℕ)
 behind None bytes = None
 behind (Some first) bytes = with_character first.0 (text_behind (drop first.1 bytes))
 
--- two bytes, by what they are tested for
+-- two bytes, by the tests that they pass
 two : (quote again escape twice plain : Bool) (b c : ℕ)
     → cond quote None (cond escape None (cond plain (with_character b (text_behind (c ∷ []))) None))
     ≡ behind (cond quote (cond again (found 34 2) None) (cond escape (cond twice (found 92 2) None) (cond plain (found b 1) None))) (b ∷ c ∷ [])
@@ -28,7 +28,7 @@ two false again true false plain b c = refl
 two false again false twice true b c = refl
 two false again false twice false b c = refl
 
--- three bytes or more, by what they are tested for
+-- three bytes or more, by the tests that they pass
 more : (quote again escape twice code plain : Bool) (n b c d : ℕ) (ds : List ℕ)
     → cond quote (cond again (with_character 34 (text_behind (d ∷ ds))) None)
     (cond escape (cond twice (with_character 92 (text_behind (d ∷ ds))) (cond code (with_character n (text_behind ds)) None))
@@ -44,7 +44,7 @@ more false again true false false plain n b c d ds = refl
 more false again false twice code true n b c d ds = refl
 more false again false twice code false n b c d ds = refl
 
--- the text behind bytes that are more than the last quote
+-- the text after bytes that are more than the closing quote
 first_then : (bytes : List ℕ) → (bytes ≡ 34 ∷ [] → ⊥) → text_behind bytes ≡ behind (first_of bytes) bytes
 first_then [] not_last = refl
 first_then (b ∷ []) not_last = at (eqb b 34) (eqb b 92) (is_printable b) refl
@@ -64,11 +64,11 @@ behind_first : (bytes : List ℕ) (byte len : ℕ) → first_of bytes ≡ Some (
 behind_first bytes byte len e =
     first_then bytes (λ is. let no : None ≡ found byte len = sym (ap first_of is) ∙ e in cc) ∙ ap (λ (f : Option (ℕ × ℕ)). behind f bytes) e
 
--- no character comes first, and no last quote
+-- neither a character nor the closing quote comes first
 pub behind_nothing : (bytes : List ℕ) → first_of bytes ≡ None → (bytes ≡ 34 ∷ [] → ⊥) → text_behind bytes ≡ None
 behind_nothing bytes e not_last = first_then bytes not_last ∙ ap (λ (f : Option (ℕ × ℕ)). behind f bytes) e
 
--- a text that is not full goes on with one character
+-- a text that is not full grows by one character
 grows : (begun : List ℕ) (byte : ℕ) (text : Option (List ℕ)) → length begun < 80
     → continued_by (begun ++ byte ∷ []) text ≡ continued_by begun (with_character byte text)
 grows begun byte None room = refl
@@ -83,13 +83,13 @@ grows begun byte (Some rest) room =
     at true false e = absurd cc
     at false true e = absurd cc
 
--- a text that is full takes no more
+-- a full text does not grow
 full : (begun : List ℕ) (byte : ℕ) (text : Option (List ℕ)) → 80 ≤ length begun → None ≡ continued_by begun (with_character byte text)
 full begun byte None le = refl
 full begun byte (Some rest) le =
     let no : nat_le (length (byte ∷ rest)) (80 - length begun) ≡ false = grind (arith, nat_tests) in rw no refl
 
--- what is begun with nothing
+-- what continues the empty text
 from_nothing : (text : Option (List ℕ)) → continued_by [] text ≡ limited 80 text
 from_nothing None = refl
 from_nothing (Some text) = at (nat_le (length text) 80)
@@ -98,7 +98,7 @@ from_nothing (Some text) = at (nat_le (length text) 80)
     at true = refl
     at false = refl
 
--- a character that is taken: what stands behind it goes on
+-- after a character that fits, the rest continues the text
 pub goes_text : (bytes rest begun text : List ℕ) (byte len : ℕ) (result : Option (List ℕ)) → first_of bytes ≡ Some (byte, len)
     → Some text ≡ cond (takes 80 begun byte) (Some (begun ++ byte ∷ [])) None → rest ≡ drop len bytes
     → result ≡ continued_by text (text_behind rest) → result ≡ continued_by begun (text_behind bytes)
@@ -113,7 +113,7 @@ goes_text bytes rest begun text byte len result first taken is goes =
     room true e h = let x = (and_parts (is_printable byte) (nat_lt (length begun) 80) e).1 in grind (arith, nat_tests)
     room false e h = absurd cc
 
--- a character that is not taken: the text would be too long
+-- a character that does not fit: the text would be too long
 pub too_long : (bytes begun : List ℕ) (byte len : ℕ) → first_of bytes ≡ Some (byte, len)
     → None ≡ cond (takes 80 begun byte) (Some (begun ++ byte ∷ [])) None → None ≡ continued_by begun (text_behind bytes)
 too_long bytes begun byte len first refused =
@@ -126,7 +126,7 @@ too_long bytes begun byte len first refused =
         absurd (let no : None ≡ Some (begun ++ byte ∷ []) = refused ∙ ap (λ (b : Bool). cond b (Some (begun ++ byte ∷ [])) None) yes in cc)
     at false e = grind (arith, nat_tests)
 
--- the text behind the quote that bytes begin with
+-- the text after the opening quote
 pub from_quote : (quoted rest begun : List ℕ) (result : Option (List ℕ)) → get_or quoted 0 0 ≡ 34 → begun ≡ [] → rest ≡ drop 1 quoted
     → result ≡ continued_by begun (text_behind rest) → result ≡ text_in quoted
 from_quote quoted rest begun result first none is goes =

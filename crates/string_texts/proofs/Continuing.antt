@@ -1,4 +1,4 @@
--- A text goes on character by character.
+-- A text grows character by character.
 use Rattle.std.proofs.Common.{◌≡◌, ℕ, ◌<◌, Bool, true, false, cond, List, [], ◌∷◌, ◌++◌, length, map, drop, Option, Some, None, IfSome, nat_lt, get_or, refl, sym, ap, ◌∙◌, append_assoc, append-nil, length-append, arith}
 use Rattle.std.specs.List.{concat}
 use Rattle.rapid_model.specs.Printable.{takes}
@@ -9,7 +9,7 @@ use Rattle.string_texts.specs.Spelled.{character_of, Spells}
 use Rattle.string_texts.specs.Reading.{first_of, Continues}
 use Rattle.string_texts.proofs.Firsts.{found_parts, character_first, first_is}
 
--- where no character comes first, the text ends
+-- if no character comes first, the text ends
 pub nothing_more : (bytes begun t : List ℕ) → first_of bytes ≡ None → Continues bytes begun t → (bytes ≡ 34 ∷ []) × (t ≡ begun)
 nothing_more bytes begun t none h = at h.characters h.are h.whole h.text_is
   where
@@ -20,11 +20,11 @@ nothing_more bytes begun t none h = at h.characters h.are h.whole h.text_is
         let y : bytes ≡ c ++ (concat cs ++ 34 ∷ []) = whole ∙ append_assoc c (concat cs) (34 ∷ []) in
         absurd (let z : None ≡ Some (character_of c, length c) = sym none ∙ ap first_of y ∙ x in cc)
 
--- what is left behind the character
+-- what is left after the character
 drop_first : (bytes c rest : List ℕ) (len : ℕ) → len ≡ length c → bytes ≡ c ++ rest → drop len bytes ≡ rest
 drop_first bytes c rest len l e = rw (l, e) (drop-append_seam c rest)
 
--- one character, and what the rest spells
+-- one character, and the text of the rest
 pub one_more : (bytes begun t : List ℕ) (byte len : ℕ) → first_of bytes ≡ Some (byte, len) → Continues (drop len bytes) (begun ++ byte ∷ []) t → Continues bytes begun t
 one_more bytes begun t byte len e h =
     let f = first_is bytes byte len e in
@@ -36,7 +36,7 @@ one_more bytes begun t byte len e h =
       text_is = h.text_is ∙ append_assoc begun (byte ∷ []) (map character_of h.characters) ∙ ap (λ (b : ℕ). begun ++ b ∷ map character_of h.characters) f.byte_is;
     }
 
--- the rest behind the first character goes on to the same text, which is longer than what was begun
+-- what follows the first character continues to the same text, which is longer than the begun one
 pub record Goes (bytes begun t : List ℕ) (byte len : ℕ) : Type 0 where
   pub on : Continues (drop len bytes) (begun ++ byte ∷ []) t
   pub longer : length begun < length t
@@ -62,7 +62,7 @@ goes bytes begun t byte len e h = at h.characters h.are h.whole h.text_is
           longer = omega (arith, ap length is, length-append begun (character_of c ∷ map character_of cs));
         }
 
--- from what stands behind the quote to the token
+-- from what follows the quote to the token
 pub spells : (bytes t : List ℕ) → Continues bytes [] t → Spells (34 ∷ bytes) t
 spells bytes t h = record {
   characters = h.characters;
@@ -70,24 +70,24 @@ spells bytes t h = record {
   text_is = h.text_is;
 }
 
--- a text that is not full takes the character
+-- a text that is not full accepts the character
 pub takes_it : (bytes begun : List ℕ) (byte len : ℕ) → first_of bytes ≡ Some (byte, len) → length begun < 80 → takes 80 begun byte ≡ true
 takes_it bytes begun byte len e h =
     let p = (first_is bytes byte len e).printable in
     let x : nat_lt (length begun) 80 ≡ true = grind (arith, nat_tests) in
     rw (p, x) refl
 
--- bytes of which a quote is the first
+-- the first of the bytes is a quote
 pub quote_first : (quoted : List ℕ) → get_or quoted 0 0 ≡ 34 → quoted ≡ 34 ∷ drop 1 quoted
 quote_first [] e = absurd (omega arith)
 quote_first (b ∷ bs) e = ap (λ (n : ℕ). n ∷ bs) e
 
--- where a text is given, it is the longer one
+-- if a text is given, it is the longer one
 pub grown : (b : Bool) (t more : List ℕ) → Some t ≡ cond b (Some more) None → t ≡ more
 grown true t more e = cc
 grown false t more e = absurd cc
 
--- what follows for each text follows where there is one
+-- what follows for each text follows if there is one
 pub kept : (r : Option (List ℕ)) (P Q : List ℕ → Type 0) → ((t : List ℕ) → P t → Q t) → IfSome r P → IfSome r Q
 kept None P Q f h = tt
 kept (Some t) P Q f h = f t h

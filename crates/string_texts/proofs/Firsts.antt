@@ -1,4 +1,4 @@
--- The first character, and what comes behind it.
+-- The first character, and what follows it.
 use Rattle.std.proofs.Common.{◌≡◌, ℕ, ◌+◌, ◌*◌, Bool, true, false, ◌&&◌, cond, eqb, List, [], ◌∷◌, ◌++◌, length, Option, Some, None, refl, sym, ap, subst, inl, inr}
 use Rattle.std.proofs.lemmas.Bool.{eqb-true, and_parts, or_cases}
 use Rattle.rapid_num.specs.Literal.{digit_value}
@@ -19,7 +19,7 @@ pub record IsFirst (bytes : List ℕ) (byte len : ℕ) : Type 0 where
   pub whole : bytes ≡ character ++ rest
   pub printable : is_printable byte ≡ true
 
--- a character is the first of what begins with it
+-- a character is the first of the bytes that start with it
 pub character_first : (c rest : List ℕ) → is_character c ≡ true → first_of (c ++ rest) ≡ Some (character_of c, length c)
 character_first [] rest e = absurd cc
 character_first (b ∷ []) rest e = let p = plain_parts b e in rw (p.1, p.2, p.0) refl
@@ -46,7 +46,7 @@ found byte len = Some (byte, len)
 abbrev both : ℕ → ℕ → ℕ × ℕ
 both byte len = (byte, len)
 
--- what was found is one byte and one length
+-- what was found determines the byte and the length
 pub found_parts : (a b c d : ℕ) → found a b ≡ found c d → (a ≡ c) × (b ≡ d)
 found_parts a b c d e = let x : both a b ≡ both c d = cc in (ap (λ (p : ℕ × ℕ). p.0) x, ap (λ (p : ℕ × ℕ). p.1) x)
 

@@ -1,4 +1,4 @@
--- The text that a string spells (RAPID Kernel, lexical elements).
+-- The text of a string (RAPID Kernel, lexical elements).
 use Rattle.std.specs.Prelude.{◌≡◌, ℕ, ◌+◌, ◌*◌, ◌==◌, nat_le, if◌then◌else◌, List, [], ◌∷◌, length, map, Option, None, Some}
 use Rattle.std.specs.Option.{option_map}
 use Rattle.rapid_limits.specs.declared.TheConstants.{LONGEST_STRING}
@@ -6,14 +6,15 @@ use Rattle.rapid_num.specs.Literal.{digit_value}
 use Rattle.rapid_num.specs.Characters.{is_printable}
 use Rattle.rapid_lexer.specs.Strings.{IsString, is_code}
 
--- the character that its bytes stand for: itself, a doubled quote or backslash, or a code of two hexadecimal digits
+-- the character that its bytes represent: a byte itself, a doubled quote or backslash, or a code of two hexadecimal
+-- digits
 abbrev pub character_of : List ℕ → ℕ
 character_of [] = 0
 character_of (b ∷ []) = b
 character_of (b ∷ c ∷ []) = c
 character_of (b ∷ c ∷ d ∷ ds) = digit_value c * 16 + digit_value d
 
--- the token is a string, and its characters are those of the text
+-- the token is a string whose characters are those of the text
 pub record Spells (quoted text : List ℕ) : Type 0 where
   pub characters : List (List ℕ)
   pub string : IsString quoted characters
@@ -22,7 +23,7 @@ pub record Spells (quoted text : List ℕ) : Type 0 where
 abbrev pub with_character : ℕ → Option (List ℕ) → Option (List ℕ)
 with_character c text = option_map (λ more. c ∷ more) text
 
--- the text that characters spell up to the quote that ends them, which is the last byte
+-- the text of characters up to the closing quote, which is the last byte
 abbrev pub text_behind : List ℕ → Option (List ℕ)
 text_behind [] = None
 text_behind (b ∷ []) = if b == 34 then Some [] else None
@@ -37,12 +38,12 @@ text_behind (b ∷ c ∷ d ∷ ds) =
     else if is_code c d then with_character (digit_value c * 16 + digit_value d) (text_behind ds) else None)
     else if is_printable b then with_character b (text_behind (c ∷ d ∷ ds)) else None
 
--- at most so many
+-- at most this many
 abbrev pub limited : ℕ → Option (List ℕ) → Option (List ℕ)
 limited most None = None
 limited most (Some text) = if nat_le (length text) most then Some text else None
 
--- the text of a string token; None where the bytes are none of at most 80 characters
+-- the text of a string token; None if the bytes are not a string of at most 80 characters
 abbrev pub text_in : List ℕ → Option (List ℕ)
 text_in [] = None
 text_in (b ∷ bs) = if b == 34 then limited LONGEST_STRING (text_behind bs) else None

@@ -1,4 +1,4 @@
-//! The first character behind a quote.
+//! The first character after a quote.
 
 ghost use Rattle.std.specs.Prelude.{◌≡◌, ◌+◌, ◌*◌, if◌then◌else◌};
 ghost use Rattle.rapid_num.specs.Literal.{digit_value};
@@ -8,7 +8,7 @@ ghost use Rattle.string_texts.specs.Reading.{doubled, escaped, first_of};
 use rapid_lexer::is_hex;
 use rapid_num::{digit_value, is_printable};
 
-/// What a second quote spells with the one that stands before these bytes, and the length of both.
+/// The character of a second quote with the one before these bytes, and the length of both.
 fn doubled(bytes: &[u8]) -> Option<(u8, usize)>
     ensures { result ≡ doubled bytes.now }
 {
@@ -18,7 +18,7 @@ fn doubled(bytes: &[u8]) -> Option<(u8, usize)>
     }
 }
 
-/// What two bytes behind a backslash spell where they are the code of a printable character, and the length with it.
+/// The character that two bytes after a backslash encode, if it is printable, and the length with the backslash.
 fn coded(high: u8, low: u8) -> Option<(u8, usize)>
     ensures { result ≡ (if is_code high low then Some (digit_value high * 16 + digit_value low, 3) else None) }
 {
@@ -31,7 +31,7 @@ fn coded(high: u8, low: u8) -> Option<(u8, usize)>
     None
 }
 
-/// What the escape spells whose backslash stands before these bytes, and its length with it.
+/// The character of an escape whose backslash comes before these bytes, and the length of the escape.
 fn escaped(bytes: &[u8]) -> Option<(u8, usize)>
     ensures { result ≡ escaped bytes.now }
 {
@@ -42,7 +42,7 @@ fn escaped(bytes: &[u8]) -> Option<(u8, usize)>
     }
 }
 
-/// What the first character spells, and the number of its bytes. None where no character comes first.
+/// The first character, and the number of its bytes. `None` if no character comes first.
 pub(crate) fn first_of(bytes: &[u8]) -> Option<(u8, usize)>
     ensures { result ≡ first_of bytes.now }
 {

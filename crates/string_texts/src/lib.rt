@@ -1,4 +1,4 @@
-//! The texts that strings spell.
+//! The texts of strings.
 #![tactic(auto)]
 
 mod first;

@@ -15,7 +15,7 @@ fn is_end(bytes: &[u8]) -> bool
     matches!(bytes, [34])
 }
 
-/// The text and one byte more. None where it holds 80 or the byte is outside 20 to 7E hexadecimal.
+/// The text with one more byte. `None` if it already has 80 or the byte is outside 20 to 7E hexadecimal.
 fn with_byte(begun: Text, byte: u8) -> Option<Text>
     ensures { result ≡ (if takes LONGEST_STRING begun byte then Some (begun ++ byte ∷ []) else None) }
 {
@@ -23,7 +23,7 @@ fn with_byte(begun: Text, byte: u8) -> Option<Text>
     if text.push(byte) { Some(text) } else { None }
 }
 
-/// The begun text, continued by what the bytes spell up to the quote that ends them.
+/// The text so far, continued by the characters up to the closing quote.
 fn continued(bytes: &[u8], begun: Text) -> Option<Text>
     ensures spelled { IfSome result (λ t. Continues bytes.now begun t) }
     ensures only { (t : List ℕ) → Continues bytes.now begun t → length t ≤ LONGEST_STRING → result ≡ Some t }
@@ -40,9 +40,9 @@ fn continued(bytes: &[u8], begun: Text) -> Option<Text>
     }
 }
 
-/// The text that a string token spells: the characters between its quotes, each a byte from space to `~`, a doubled
-/// quote or backslash for one, or a backslash and two hexadecimal digits (RAPID Kernel, lexical elements). None
-/// exactly where the token is no string of at most 80 characters.
+/// The text of a string token: the characters between its quotes. Each is a byte from space to `~`, a doubled quote or
+/// backslash for one, or a backslash and two hexadecimal digits (RAPID Kernel, lexical elements). `None` exactly if the
+/// token is not a string of at most 80 characters.
 pub fn text_of(quoted: &[u8]) -> Option<Text>
     ensures spelled { IfSome result (λ t. Spells quoted.now t) }
     ensures only { (t : List ℕ) → Spells quoted.now t → length t ≤ LONGEST_STRING → result ≡ Some t }

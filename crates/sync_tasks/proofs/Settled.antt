@@ -1,4 +1,4 @@
--- How the tasks stand after an arrival, put twice.
+-- How the tasks stand after an arrival, stated twice.
 use Rattle.std.proofs.Common.{◌≡◌, ℕ, ◌+◌, ◌*◌, Bool, true, false, if◌then◌else◌, List, ap, refl}
 use Rattle.std.proofs.lemmas.List.{set-set}
 use Rattle.sync_tasks.specs.declared.stand.Stand.{Stand}

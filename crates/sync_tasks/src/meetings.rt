@@ -7,8 +7,8 @@ use rapid_num::Memory;
 use std::alloc::{AllocError, Global};
 use std::marker::Model;
 
-/// How each task stands at each meeting of its cell. Contracts see how many tasks and meetings there are, and the stands, task by
-/// task (RAPID Instructions: WaitSyncTask).
+/// The state of each task at each meeting of its cell. Contracts see how many tasks and meetings there are, and the
+/// states, task by task (RAPID Instructions: WaitSyncTask).
 #[derive(Debug, Drop)]
 pub struct Meetings {
     tasks: u32,
@@ -23,7 +23,7 @@ impl Model for Meetings {
 
     ghost view = { λ m. record { tasks = m.tasks; meetings = m.meetings; stands = m.stands.items } };
 
-    // Each task has a stand at each meeting.
+    // Each task has a state at each meeting.
     ghost invariant = { λ m. IsEven (record { tasks = m.tasks; meetings = m.meetings; stands = m.stands.items }) };
 }
 
@@ -43,8 +43,8 @@ impl Meetings {
         }
     }
 
-    /// The task arrives at the meeting with the tasks of a set, bit k for task k. Task, meeting and every listed task are there.
-    /// The task goes on where it meets them all, and else waits.
+    /// The task arrives at the meeting with the tasks of a set, bit k for task k. It goes on if it meets them all;
+    /// otherwise it waits. Task, meeting and every listed task exist.
     pub fn arrive(&mut self, task: u32, meeting: u32, tasks: u16) -> Arrived
         requires task { task < self.old.tasks }
         requires meeting { meeting < self.old.meetings }
@@ -71,7 +71,7 @@ impl Meetings {
         }
     }
 
-    /// The task, which waits and went on so many times, goes on once more where it met the others.
+    /// A task that waits, and has gone on that many times, goes on once more if it met the others.
     fn go_on(&mut self, met: bool, task: u32, meeting: u32, passed: u32)
         requires task { task < self.old.tasks }
         requires meeting { meeting < self.old.meetings }
@@ -85,7 +85,7 @@ impl Meetings {
         }
     }
 
-    /// How a task stands at a meeting.
+    /// The state of a task at a meeting.
     fn stand(&self, task: u32, meeting: u32) -> Stand
         requires task { task < self.now.tasks }
         requires meeting { meeting < self.now.meetings }
@@ -94,7 +94,7 @@ impl Meetings {
         self.stands[task as usize * self.meetings as usize + meeting as usize]
     }
 
-    /// Another stand of a task at a meeting.
+    /// Sets the state of a task at a meeting.
     fn put(&mut self, task: u32, meeting: u32, stand: Stand)
         requires task { task < self.old.tasks }
         requires meeting { meeting < self.old.meetings }
@@ -103,7 +103,7 @@ impl Meetings {
         self.stands[task as usize * self.meetings as usize + meeting as usize] = stand;
     }
 
-    /// Whether each listed task has come to the meeting more than so many times.
+    /// Whether each listed task has come to the meeting more than that many times.
     fn all_come(&self, meeting: u32, tasks: u16, times: u32) -> bool
         requires meeting { meeting < self.now.meetings }
         ensures { IsTrue result ↔ ((k : ℕ) → k < self.now.tasks → IsTrue (is_listed tasks k) → times < arrivals (stand_at self.now k meeting)) }
@@ -124,7 +124,7 @@ fn is_listed(tasks: u16, task: u32) -> bool
     task < 16 && tasks / 2_u16.pow(task) % 2 == 1
 }
 
-/// So many stands of tasks that have not come.
+/// That many states of tasks that have not come.
 fn starts(alloc: Global, count: usize) -> Result<Vec<Stand>, AllocError>
     ensures { IfOk result (λ stands. stands.items ≡ replicate count at_start) }
 {

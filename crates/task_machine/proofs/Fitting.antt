@@ -1,4 +1,4 @@
--- What fits next fits the request that is due.
+-- An answer that fits next fits the request that is due.
 use Rattle.std.proofs.Common.{◌≡◌, refl, sym, ◌∙◌, subst, ℕ, List, [], ◌∷◌, ◌++◌}
 use Rattle.std.specs.Prelude.{IsTrue, ⊤}
 use Rattle.rapid_model.specs.Fits.{fits_request}
@@ -9,13 +9,13 @@ use Rattle.rapid_meaning.specs.Data.{Data}
 use Rattle.stack_code.specs.CodeData.{CodeData}
 use Rattle.stack_code.specs.CodeRuns.{code_after, fitting_by}
 use Rattle.stack_code.specs.Entering.{initial, started}
-use Rattle.live_code.specs.Live.{CodeFits, CodeFitsNext}
-use Rattle.code_simulation.specs.Standing.{Fine}
-use Rattle.code_simulation.proofs.Operations.{goes_more}
-use Rattle.live_code.specs.Asking.{AsksWith}
+use Rattle.task_code.specs.Live.{CodeFits, CodeFitsNext}
+use Rattle.code_laws.specs.Standing.{Fine}
+use Rattle.code_laws.proofs.Operations.{goes_more}
+use Rattle.task_code.specs.Asking.{AsksWith}
 use Rattle.task_machine.specs.Programs.{same_outcome, same_request}
 
--- whatever it asks by some number of operations it asks by any more
+-- what it asks within some number of operations it asks within any greater one
 once : (code : CodeData) (answers : List Answer) (k : ℕ) (request : Request) (d : Data) → code_after code k answers ≡ Asking request d → AsksWith code answers request d
 once code answers k request d asked = record {
   operations = k;

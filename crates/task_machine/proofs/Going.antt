@@ -6,16 +6,16 @@ use Rattle.rapid_meaning.specs.Doings.{Doing, Gives}
 use Rattle.stack_code.specs.CodeData.{CodeData}
 use Rattle.stack_code.specs.Confs.{Conf}
 use Rattle.stack_code.specs.Steps.{step}
-use Rattle.live_code.specs.Leads.{Runs}
-use Rattle.live_code.specs.Reached.{Reached}
-use Rattle.live_code.proofs.Leading.{leads_once, runs_room, runs_step}
-use Rattle.live_code.proofs.Reaching.{steps}
+use Rattle.task_code.specs.Leads.{Runs}
+use Rattle.task_code.specs.Reached.{Reached}
+use Rattle.task_code.proofs.Leading.{leads_once, runs_room, runs_step}
+use Rattle.task_code.proofs.Reaching.{steps}
 use Rattle.task_steps.specs.Alike.{Alike, Follows}
 use Rattle.task_steps.specs.Doing.{doing_of}
 use Rattle.task_steps.specs.Points.{conf_in}
 use Rattle.task_steps.specs.Seen.{Seen}
-use Rattle.task_steps.specs.declared.phase.Phase.{Phase}
-use Rattle.task_steps.specs.declared.phase.Phase.TheVariants as phases
+use Rattle.task_steps.specs.declared.steps.phase.Phase.{Phase}
+use Rattle.task_steps.specs.declared.steps.phase.Phase.TheVariants as phases
 use Rattle.task_steps.proofs.Along.{reached_along, runs_along, runs_along-count}
 
 -- what a task that goes on does
@@ -28,7 +28,7 @@ steps_it code s going run = (runs_step code (conf_in code s.conf) s.data' (gives
 pub goes_it : (code : CodeData) (s t : Seen) → s.phase ≡ phases.Going → Runs code (doing_of code s.phase s.conf) s.data' → Follows code (step code (conf_in code s.conf)) s.data' t → Runs code (doing_of code t.phase t.conf) t.data'
 goes_it code s t going run on = runs_along code (step code (conf_in code s.conf)) (doing_of code t.phase t.conf) s.data' t.data' on (steps_it code s going run)
 
--- one operation fewer leads to the next request
+-- with one operation less it reaches the next request
 fewer : (code : CodeData) (c : Conf) (d e : Data) (n : Doing Conf) (run : Runs code (Gives c) d) (next : Runs code n e) → Alike code (step code c) d n e → next.0 < run.0
 fewer code c d e n run next on =
     let one : (next : Runs code (step code c) d) × (run.0 ≡ suc next.0) = runs_step code c d run in

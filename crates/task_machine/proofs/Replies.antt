@@ -5,16 +5,16 @@ use Rattle.rapid_model.specs.declared.answer.Answer.{Answer}
 use Rattle.rapid_model.specs.declared.request.Request.{Request}
 use Rattle.stack_code.specs.CodeData.{CodeData}
 use Rattle.stack_code.specs.CodeRuns.{fitting_by}
-use Rattle.live_code.specs.Leads.{Runs}
-use Rattle.live_code.specs.Live.{IsLive}
-use Rattle.live_code.proofs.Living.{live_runs}
+use Rattle.task_code.specs.Leads.{Runs}
+use Rattle.task_code.specs.Live.{IsLive}
+use Rattle.task_code.proofs.Living.{live_runs}
 use Rattle.task_steps.specs.Alike.{Follows}
 use Rattle.task_steps.specs.Doing.{answered, doing_of, here_of}
 use Rattle.task_machine.specs.MachineData.{MachineData}
 use Rattle.task_steps.specs.Seen.{Seen}
 use Rattle.task_machine.specs.Standing.{StandsFor, machine_of}
-use Rattle.task_steps.specs.declared.pending.Pending.{Pending}
-use Rattle.task_steps.specs.declared.phase.Phase.TheVariants as phases
+use Rattle.task_steps.specs.declared.requests.pending.Pending.{Pending}
+use Rattle.task_steps.specs.declared.steps.phase.Phase.TheVariants as phases
 use Rattle.task_steps.proofs.Along.{reached_along}
 use Rattle.task_machine.proofs.Stands.{fits_on, reached_on}
 

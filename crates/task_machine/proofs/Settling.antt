@@ -1,17 +1,17 @@
--- A machine as it is made, and as it comes to a request.
+-- A machine when it is made and when it comes to a request.
 use Rattle.std.proofs.Common.{◌≡◌, List, [], IsSome}
 use Rattle.rapid_model.specs.declared.answer.Answer.{Answer}
 use Rattle.stack_code.specs.CodeData.{CodeData}
 use Rattle.stack_code.specs.Entering.{initial, started}
-use Rattle.live_code.specs.Leads.{Runs}
-use Rattle.live_code.specs.Live.{IsLive}
-use Rattle.live_code.specs.Reached.{Reached}
-use Rattle.live_code.proofs.Fitting.{fits_none}
-use Rattle.live_code.proofs.Living.{live_runs}
-use Rattle.live_code.proofs.Reaching.{begins}
+use Rattle.task_code.specs.Leads.{Runs}
+use Rattle.task_code.specs.Live.{IsLive}
+use Rattle.task_code.specs.Reached.{Reached}
+use Rattle.task_code.proofs.Fitting.{fits_none}
+use Rattle.task_code.proofs.Living.{live_runs}
+use Rattle.task_code.proofs.Reaching.{begins}
 use Rattle.task_steps.specs.Doing.{doing_of}
 use Rattle.task_steps.specs.Seen.{Seen, request_in}
-use Rattle.task_steps.specs.declared.phase.Phase.TheVariants as phases
+use Rattle.task_steps.specs.declared.steps.phase.Phase.TheVariants as phases
 use Rattle.task_machine.specs.Standing.{IsMachine, StandsFor, machine_of}
 use Rattle.task_machine.proofs.Stands.{stands_new}
 

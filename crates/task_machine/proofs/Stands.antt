@@ -1,4 +1,4 @@
--- How what a machine stands for goes on.
+-- How the answers that a machine stands for go on.
 use Rattle.std.proofs.Common.{◌≡◌, ℕ, ◌+◌, List, [], ◌∷◌, ◌++◌, IsTrue, Some}
 use Rattle.rapid_model.specs.Fits.{fits_request}
 use Rattle.rapid_model.specs.declared.answer.Answer.{Answer}
@@ -9,16 +9,16 @@ use Rattle.stack_code.specs.CodeData.{CodeData}
 use Rattle.stack_code.specs.CodeRuns.{code_after, fitting_by}
 use Rattle.task_steps.specs.Points.{Point}
 use Rattle.stack_code.specs.Entering.{initial}
-use Rattle.live_code.specs.Live.{CodeFits}
-use Rattle.live_code.specs.Reached.{Reached}
-use Rattle.live_code.proofs.Fitting.{fits_asked, fits_none}
-use Rattle.live_code.proofs.Reaching.{answers_on, begins}
+use Rattle.task_code.specs.Live.{CodeFits}
+use Rattle.task_code.specs.Reached.{Reached}
+use Rattle.task_code.proofs.Fitting.{fits_asked, fits_none}
+use Rattle.task_code.proofs.Reaching.{answers_on, begins}
 use Rattle.task_steps.specs.Doing.{answered, here_of}
 use Rattle.task_machine.specs.MachineData.{MachineData, request_of}
 use Rattle.task_machine.specs.Standing.{StandsFor}
-use Rattle.task_steps.specs.declared.pending.Pending.{Pending}
+use Rattle.task_steps.specs.declared.requests.pending.Pending.{Pending}
 use Rattle.task_machine.specs.Programs.{asks_with}
-use Rattle.task_steps.specs.declared.phase.Phase.TheVariants as phases
+use Rattle.task_steps.specs.declared.steps.phase.Phase.TheVariants as phases
 
 -- what is due is what code asks
 pub asked : (m : MachineData) (answers : List Answer) (r : Request) → StandsFor m answers → request_of m ≡ Some r → (k : ℕ) × (code_after m.code k answers ≡ Asking r m.data')

@@ -1,4 +1,4 @@
--- Where a machine stands, its code asks one request: the one that is due.
+-- The code of a machine asks one request: the one that is due.
 use mathlib.Core.Path.{sym, ap, ◌∙◌, subst}
 use Rattle.std.proofs.Math.Nat.{add_comm}
 use Rattle.std.specs.Prelude.{◌≡◌, ◌↔◌, ℕ, ◌+◌, List, Option, Some, unwrap_or, IsSomeAnd, ⊤}
@@ -9,14 +9,14 @@ use Rattle.rapid_meaning.specs.Answering.{Outcome, Asking}
 use Rattle.rapid_meaning.specs.Data.{Data}
 use Rattle.stack_code.specs.CodeData.{CodeData}
 use Rattle.stack_code.specs.CodeRuns.{code_after}
-use Rattle.live_code.specs.Reached.{Reached}
-use Rattle.live_code.proofs.Reaching.{asks_by, ends_by}
+use Rattle.task_code.specs.Reached.{Reached}
+use Rattle.task_code.proofs.Reaching.{asks_by, ends_by}
 use Rattle.task_steps.specs.Doing.{answered, doing_of, here_of}
 use Rattle.task_steps.specs.Points.{Point}
 use Rattle.task_steps.specs.Seen.{request_in}
-use Rattle.task_steps.specs.declared.phase.Phase.{Phase}
-use Rattle.task_steps.specs.declared.phase.Phase.TheVariants as phases
-use Rattle.live_code.specs.Asking.{AsksWith, CodeAsks}
+use Rattle.task_steps.specs.declared.steps.phase.Phase.{Phase}
+use Rattle.task_steps.specs.declared.steps.phase.Phase.TheVariants as phases
+use Rattle.task_code.specs.Asking.{AsksWith, CodeAsks}
 use Rattle.task_machine.specs.MachineData.{MachineData, request_of}
 use Rattle.task_machine.specs.Standing.{StandsFor}
 
@@ -32,7 +32,7 @@ same_outcome code answers request other d e one two =
 pub same_request : (code : CodeData) (answers : List Answer) (request other : Request) (d e : Data) → AsksWith code answers request d → AsksWith code answers other e → other ≡ request
 same_request code answers request other d e one two = sym (ap (λ (o : Outcome ⊤). asked_or request o) (same_outcome code answers request other d e one two))
 
--- where code asks a request, it asks no other
+-- code that asks a request asks no other
 asks_just : (code : CodeData) (answers : List Answer) (request other : Request) (d : Data) → AsksWith code answers request d → CodeAsks code answers other ↔ (other ≡ request)
 asks_just code answers request other d due =
     (λ asks. same_request code answers request other d asks.standing due asks.by, λ is. subst (λ (r : Request). CodeAsks code answers r) (sym is) (record { standing = d; by = due }))

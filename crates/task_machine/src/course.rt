@@ -1,16 +1,16 @@
 ghost use Rattle.std.specs.Prelude.{◌≡◌};
-ghost use Rattle.live_code.specs.Leads.{Runs, runs_prop};
+ghost use Rattle.task_code.specs.Leads.{Runs, runs_prop};
 ghost use Rattle.task_steps.specs.Doing.{doing_of};
 ghost use Rattle.task_steps.specs.Seen.{room_of};
 
 use crate::living::keep_live;
-use live_code::Code;
 use machine_stacks::Held;
 use rapid_model::{Answer, At, Request};
 use std::alloc::Global;
+use task_code::Code;
 use task_steps::{LoadedCode, Task};
 
-/// A task and its code, which leads from where the task stands to its next request.
+/// A task and its code, which leads from the task's point of execution to its next request.
 #[derive(Drop)]
 pub(crate) struct Course {
     pub(crate) code: LoadedCode,
@@ -26,13 +26,13 @@ impl Course {
     ghost use Rattle.rapid_model.specs.declared.request.Request.{Request};
     ghost use Rattle.stack_code.specs.CodeRuns.{fitting_by};
     ghost use Rattle.stack_code.specs.Entering.{initial};
-    ghost use Rattle.live_code.specs.Reached.{Reached};
+    ghost use Rattle.task_code.specs.Reached.{Reached};
     ghost use Rattle.task_steps.specs.Seen.{request_in};
-    ghost use Rattle.task_steps.specs.declared.pending.Pending.{Pending};
-    ghost use Rattle.task_steps.specs.declared.phase.Phase.TheVariants as phases;
+    ghost use Rattle.task_steps.specs.declared.requests.pending.Pending.{Pending};
+    ghost use Rattle.task_steps.specs.declared.steps.phase.Phase.TheVariants as phases;
     ghost use Rattle.task_machine.specs.Standing.{StandsFor, machine_of};
 
-    /// A task of the code that has not begun. For want of memory the code comes back.
+    /// A task of the code that has not begun. Returns the code if an allocation fails.
     pub(crate) fn new(alloc: Global, code: LoadedCode) -> Result<Course, LoadedCode>
         ensures code { IfOk result (λ c. c.code ≡ code) }
         ensures fresh { IfOk result (λ c. c.task.phase ≡ phases.New) }
@@ -69,7 +69,7 @@ impl Course {
         }
     }
 
-    /// The operation at the task's place.
+    /// Runs the operation at the task's place.
     fn advance(&mut self)
         requires going { self.old.task.phase ≡ phases.Going }
         ensures code { self.new.code ≡ self.old.code }
@@ -101,7 +101,7 @@ impl Course {
         self.task.due()
     }
 
-    /// How many module data the task has.
+    /// The number of the task's module data.
     pub(crate) fn slots(&self) -> u32
         ensures { result ≡ length self.now.code.slots }
     {
@@ -116,7 +116,7 @@ impl Course {
         self.task.datum(slot)
     }
 
-    /// The place of the statement that began last, or asked to; none before the first.
+    /// The position of the statement that began last, or asked to; none before the first.
     pub(crate) fn place(&self) -> Option<At>
         ensures { result ≡ self.now.task.data'.place }
     {

@@ -1,6 +1,6 @@
-ghost use Rattle.live_code.specs.Live.{IsLive};
+ghost use Rattle.task_code.specs.Live.{IsLive};
 
-use live_code::Code;
+use task_code::Code;
 
 /// Code is live.
 pub(crate) fn keep_live(code: &Code)

@@ -5,18 +5,18 @@ ghost use Rattle.rapid_model.specs.declared.request.Request.{Request};
 ghost use Rattle.stack_code.specs.CodeRuns.{fitting_by};
 ghost use Rattle.task_machine.specs.MachineData.{request_of};
 ghost use Rattle.task_machine.specs.Standing.{StandsFor};
-ghost use Rattle.task_steps.specs.declared.pending.Pending.{Pending};
-ghost use Rattle.task_steps.specs.declared.phase.Phase.TheVariants as phases;
+ghost use Rattle.task_steps.specs.declared.requests.pending.Pending.{Pending};
+ghost use Rattle.task_steps.specs.declared.steps.phase.Phase.TheVariants as phases;
 
 use crate::course::Course;
-use live_code::Code;
 use machine_stacks::Held;
 use rapid_model::{Answer, At, Request};
 use std::alloc::Global;
 use std::marker::Model;
+use task_code::Code;
 use task_steps::LoadedCode;
 
-/// A task's stack code under way: it asks what the code asks, one request at a time. No call but `new` takes memory.
+/// A running task: it asks what its stack code asks, one request at a time. Only `new` allocates.
 #[derive(Drop)]
 pub struct Machine {
     course: Course,
@@ -34,8 +34,8 @@ impl Model for Machine {
 }
 
 impl Machine {
-    /// A machine that has asked nothing yet, with room for 32 frames, 20,000 values and 33 times as many operands as a frame of
-    /// the code has at most. For want of memory the code comes back.
+    /// A machine that has asked nothing yet, with room for 32 frames, 20,000 values and 33 times the most operands of a
+    /// frame of the code. Returns the code if an allocation fails.
     pub fn new(alloc: Global, code: Code) -> Result<Machine, Code>
         ensures code { IfOk result (λ m. m.code ≡ code) }
         ensures fresh { IfOk result (λ m. m.phase ≡ phases.New) }
@@ -59,7 +59,7 @@ impl Machine {
         self.last()
     }
 
-    /// Asks the request that follows the answer to the last one, which was no end of the task.
+    /// Asks the request that follows the answer to the last one, which did not end the task.
     pub fn next(&mut self, answer: Answer) -> Request
         requires asked { (request : Request) × (then : Pending) × (self.old.phase ≡ phases.Asking request then) }
         requires fits { (request : Request) → request_of self.old ≡ Some request → IsTrue (fits_request (fitting_by self.old.code self.old.data'.trapped) request answer) }
@@ -79,7 +79,7 @@ impl Machine {
         self.course.due()
     }
 
-    /// Asks the first request, and gives no copy of it.
+    /// Asks the first request, without returning a copy of it.
     pub(crate) fn begin(&mut self)
         requires { self.old.phase ≡ phases.New }
         ensures code { self.new.code ≡ self.old.code }
@@ -90,7 +90,8 @@ impl Machine {
         self.course.settle();
     }
 
-    /// Asks the request that follows the answer to the last one, which was no end of the task, and gives no copy of it.
+    /// Asks the request that follows the answer to the last one, which did not end the task, without returning a copy
+    /// of it.
     pub(crate) fn go_on(&mut self, answer: Answer)
         requires asked { (request : Request) × (then : Pending) × (self.old.phase ≡ phases.Asking request then) }
         requires fits { (request : Request) → request_of self.old ≡ Some request → IsTrue (fits_request (fitting_by self.old.code self.old.data'.trapped) request answer) }
@@ -102,7 +103,7 @@ impl Machine {
         self.course.settle();
     }
 
-    /// How many module data the task has.
+    /// The number of the task's module data.
     pub fn slots(&self) -> u32
         ensures { result ≡ length self.now.code.slots }
     {
@@ -117,7 +118,7 @@ impl Machine {
         self.course.datum(slot)
     }
 
-    /// The place of the statement that began last, or asked to by a Look; none before the first.
+    /// The position of the statement that began last, or asked to by a Look; none before the first.
     pub fn place(&self) -> Option<At>
         ensures { result ≡ self.now.data'.place }
     {

@@ -1,15 +1,15 @@
-//! The machine runs the program of one task, which is its code.
+//! The machine as a program of one task: it runs its code.
 
 use crate::machine::Machine;
+use cell_crew::TaskMachine;
 use rapid_model::{Answer, Request};
-use task_programs::TaskMachine;
 
 impl TaskMachine for Machine {
     ghost use Rattle.std.specs.Prelude.{◌≡◌};
     ghost use Rattle.stack_code.specs.CodeData.{CodeData};
-    ghost use Rattle.live_code.specs.Live.{CodeFits};
-    ghost use Rattle.task_steps.specs.declared.phase.Phase.TheVariants as phases;
-    ghost use Rattle.live_code.specs.Asking.{CodeAsks};
+    ghost use Rattle.task_code.specs.Live.{CodeFits};
+    ghost use Rattle.task_steps.specs.declared.steps.phase.Phase.TheVariants as phases;
+    ghost use Rattle.task_code.specs.Asking.{CodeAsks};
     ghost use Rattle.task_machine.specs.MachineData.{request_of};
     ghost use Rattle.task_machine.specs.Programs.{asks_due};
     ghost use Rattle.task_machine.specs.Standing.{StandsFor};

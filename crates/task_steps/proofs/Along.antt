@@ -1,5 +1,5 @@
 -- What holds of a doing holds of one that comes to the same.
-use Rattle.std.proofs.Common.{◌≡◌, refl, sym, ap, ◌∙◌, subst, List, []}
+use Rattle.std.proofs.Common.{◌≡◌, refl, ap, ◌∙◌, subst, List, []}
 use Rattle.rapid_model.specs.declared.answer.Answer.{Answer}
 use Rattle.rapid_meaning.specs.Answering.{Outcome, Misfits, joined, performed}
 use Rattle.rapid_meaning.specs.Data.{Data}
@@ -7,8 +7,8 @@ use Rattle.rapid_meaning.specs.Doings.{Doing}
 use Rattle.stack_code.specs.CodeData.{CodeData}
 use Rattle.stack_code.specs.CodeRuns.{exec, fitting_by, no_part}
 use Rattle.stack_code.specs.Confs.{Conf}
-use Rattle.live_code.specs.Leads.{Comes, Runs}
-use Rattle.live_code.specs.Reached.{Reached}
+use Rattle.task_code.specs.Leads.{Comes, Runs}
+use Rattle.task_code.specs.Reached.{Reached}
 use Rattle.task_steps.specs.Alike.{Alike}
 
 pub alike_is : (code : CodeData) (m n : Doing Conf) (d : Data) → m ≡ n → Alike code m d n d

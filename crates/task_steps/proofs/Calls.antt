@@ -18,7 +18,7 @@ use Rattle.task_steps.specs.Points.{Point, Waiting, conf_in, fresh, point, saved
 use Rattle.task_steps.proofs.Along.{alike_is, alike_then}
 use Rattle.task_steps.proofs.Readings.{reads_now, writes_now}
 
--- a routine that is entered, where there is room or none
+-- a routine that is entered, with and without room
 abbrev entering : CodeData → ℕ → RoutineRow → List Datum → List Saved → Data → Bool → Doing Conf
 entering code routine row args saved d room =
     (if room then Writes (record d { frames = frame_in code row args ∷ d.frames }) done else fault DepthLimit) >> Gives (conf row.entry [] (begun routine) saved)
@@ -30,7 +30,7 @@ enters_by code routine row args saved d room is =
     alike_then code _ _ _ d d d (reads_now code (λ (e : Data). entering code routine row args saved e (has_room e.frames (frame_in code row args))) d)
     (alike_is code _ _ d (ap (entering code routine row args saved d) is))
 
--- it begins where its frame has room
+-- it begins if its frame has room
 pub enter_stands : (code : CodeData) (routine : ℕ) (row : RoutineRow) (args : List Datum) (saved : List Waiting) (d e : Data) (p : Point)
     → has_room d.frames (frame_in code row args) ≡ true → p ≡ point row.entry [] (fresh routine) saved → e ≡ record d { frames = frame_in code row args ∷ d.frames }
     → Alike code (entered code routine row args (saved_in code saved)) d (Gives (conf_in code p)) e
@@ -79,6 +79,6 @@ pub look_traps : (code : CodeData) (h : Here) (number trap : ℕ) (d : Data)
 unfolding performed after
 look_traps code h number trap d = record { same = λ left. refl }
 
--- the row that was read of the code
+-- the row that was read from the code
 pub rows_of : (code read : CodeData) (rows : List RoutineRow) → read ≡ code → rows ≡ read.routines → (k : ℕ) (o : Option RoutineRow) → slice_get rows k ≡ o → slice_get code.routines k ≡ o
 rows_of code read rows same all k o is = ap (λ (x : CodeData). slice_get x.routines k) (sym same) ∙ (ap (λ (xs : List RoutineRow). slice_get xs k) (sym all) ∙ is)

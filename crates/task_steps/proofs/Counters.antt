@@ -13,18 +13,17 @@ use Rattle.typed_trees.specs.declared.datum.Root.TheVariants as roots
 use Rattle.rapid_meaning.specs.Data.{Data, datum_at, put_at}
 use Rattle.rapid_meaning.specs.Doings.{Doing, Gives, Raises, Misfit, ◌>>=◌, ◌>>◌, after, or_misfit}
 use Rattle.rapid_meaning.specs.Loops.{has_passed}
-use Rattle.rapid_meaning.specs.Places.{own_place, part_in, put_in, read_value, write_value, writes_at}
+use Rattle.rapid_meaning.specs.Places.{at_root, own_place, part_in, put_in, read_value, write_value, writes_at}
 use Rattle.rapid_meaning.specs.Values.{num_in, value_in}
 use Rattle.rapid_meaning.proofs.Follows.{after_after}
 use Rattle.rapid_meaning.proofs.Wholes.{whole_in}
 use Rattle.stack_code.specs.CodeData.{CodeData}
 use Rattle.stack_code.specs.Confs.{Conf}
-use Rattle.stack_code.specs.Steps.{Here, act, counter_at, jumps, past_turn, set_counter_at, stepped, to_next}
-use Rattle.stack_code.specs.declared.op.Op.{Op}
+use Rattle.stack_code.specs.Steps.{Here, act, counter_at, jumps, set_counter_at, stepped, to_next}
 use Rattle.stack_code.specs.declared.op.Op.TheVariants as ops
 use Rattle.task_steps.specs.Alike.{Alike}
 use Rattle.task_steps.proofs.Along.{alike_is, alike_then}
-use Rattle.task_steps.proofs.Readings.{own_missing, own_there, reads_now, writes_now}
+use Rattle.task_steps.proofs.Readings.{nothing_at, own_missing, own_there, reads_now, writes_now}
 
 -- what it gives follows
 pub after_gives : {A B : Type 0} (v : A) (f : A → Doing B) → (Gives v >>= f) ≡ f v
@@ -47,26 +46,29 @@ held_none (datums.Shape s) e = refl
 held_none (datums.Place p) e = refl
 
 -- what is done with a place among the data of the frame
-abbrev reading : (ℤ → Doing Conf) → Option Lvalue → Doing Conf
-reading next o = or_misfit o >>= (λ p. read_value p >>= num_in) >>= next
+abbrev reading : (ℤ → Doing Conf) → Lvalue → Doing Conf
+reading next p = Gives p >>= (λ q. read_value q >>= num_in) >>= next
 
 abbrev reading_datum : (ℤ → Doing Conf) → Option Datum → Doing Conf
 reading_datum next o = or_misfit (option_and_then (part_in parts.Whole) o) >>= value_in >>= num_in >>= next
 
+-- what the frame has there
+counter_at_place : (code : CodeData) (d : Data) (k at : ℕ) (o : Option Datum) (next : ℤ → Doing Conf) → own_place at d.frames ≡ at_root (roots.Frame k at) → datum_at (roots.Frame k at) d ≡ o
+    → Alike code (counter_at at >>= next) d (reading_datum next o) d
+unfolding after
+counter_at_place code d k at o next place there =
+    alike_then code _ _ _ d d d (reads_now code (λ (e : Data). reading next (own_place at e.frames)) d)
+    (alike_then code _ _ _ d d d (alike_is code _ _ d (ap (reading next) place))
+    (alike_then code _ _ _ d d d (reads_now code (λ (e : Data). reading_datum next (datum_at (roots.Frame k at) e)) d) (alike_is code _ _ d (ap (reading_datum next) there))))
+
 -- there is no frame
 pub counter_missing : (code : CodeData) (d : Data) (at : ℕ) (next : ℤ → Doing Conf) → length d.frames ≡ 0 → Alike code (counter_at at >>= next) d Misfit d
 unfolding after
-counter_missing code d at next none =
-    alike_then code _ _ _ d d d (reads_now code (λ (e : Data). reading next (own_place at e.frames)) d) (alike_is code _ _ d (ap (reading next) (own_missing d.frames at none)))
+counter_missing code d at next none = counter_at_place code d 0 at None next (own_missing d.frames at none) (nothing_at d at none)
 
--- what the frame has there
 counter_reads : (code : CodeData) (d : Data) (k at : ℕ) (o : Option Datum) (next : ℤ → Doing Conf) → length d.frames ≡ suc k → datum_at (roots.Frame k at) d ≡ o
     → Alike code (counter_at at >>= next) d (reading_datum next o) d
-unfolding after
-counter_reads code d k at o next some there =
-    alike_then code _ _ _ d d d (reads_now code (λ (e : Data). reading next (own_place at e.frames)) d)
-    (alike_then code _ _ _ d d d (alike_is code _ _ d (ap (reading next) (own_there d.frames k at some)))
-    (alike_then code _ _ _ d d d (reads_now code (λ (e : Data). reading_datum next (datum_at (roots.Frame k at) e)) d) (alike_is code _ _ d (ap (reading_datum next) there))))
+counter_reads code d k at o next some there = counter_at_place code d k at o next (own_there d.frames k at some) there
 
 pub counter_none : (code : CodeData) (d : Data) (k at : ℕ) (next : ℤ → Doing Conf) → length d.frames ≡ suc k → datum_at (roots.Frame k at) d ≡ None → Alike code (counter_at at >>= next) d Misfit d
 unfolding after
@@ -165,7 +167,7 @@ step_all code h d at to o p v w first is second its =
     alike_then code _ _ _ d d d (counted_some code d at o v (λ variable. counter_at (at + 2) >>= λ step. stepped h at to (sum_of variable step)) first is)
     (counted_some code d (at + 2) p w (λ step. stepped h at to (sum_of v step)) second its)
 
--- a num over a value, and over what is none
+-- a num over a value, and over a datum that is none
 pub put_over : (x : Datum) (v : Value) (n : ℤ) → as_value x ≡ Some v → put_in parts.Whole (datums.Plain (values.Num n)) x ≡ Some (datums.Plain (values.Num n))
 put_over (datums.Plain w) v n e = refl
 put_over (datums.Mark m) v n e = cc
@@ -179,8 +181,8 @@ put_over-none (datums.Shape s) n e = refl
 put_over-none (datums.Place p) n e = refl
 
 -- the variable is written
-abbrev writing : ℤ → Doing Conf → Option Lvalue → Doing Conf
-writing n m o = or_misfit o >>= (λ p. write_value p (values.Num n)) >> m
+abbrev writing : ℤ → Doing Conf → Lvalue → Doing Conf
+writing n m p = Gives p >>= (λ q. write_value q (values.Num n)) >> m
 
 abbrev writing_datum : ℕ → ℕ → Data → Doing Conf → Option Datum → Doing Conf
 writing_datum k at d m o = writes_at (roots.Frame k at) d o >> m
@@ -188,18 +190,21 @@ writing_datum k at d m o = writes_at (roots.Frame k at) d o >> m
 abbrev put_whole : ℤ → Option Datum → Option Datum
 put_whole n o = option_and_then (put_in parts.Whole (datums.Plain (values.Num n))) o
 
+set_at_place : (code : CodeData) (d : Data) (k at : ℕ) (n : ℤ) (o : Option Datum) (m : Doing Conf) → own_place at d.frames ≡ at_root (roots.Frame k at)
+    → put_whole n (datum_at (roots.Frame k at) d) ≡ o → Alike code (set_counter_at at n >> m) d (writing_datum k at d m o) d
+unfolding after
+set_at_place code d k at n o m place there =
+    alike_then code _ _ _ d d d (reads_now code (λ (e : Data). writing n m (own_place at e.frames)) d)
+    (alike_then code _ _ _ d d d (alike_is code _ _ d (ap (writing n m) place))
+    (alike_then code _ _ _ d d d (reads_now code (λ (e : Data). writing_datum k at e m (put_whole n (datum_at (roots.Frame k at) e))) d) (alike_is code _ _ d (ap (writing_datum k at d m) there))))
+
 pub set_missing : (code : CodeData) (d : Data) (at : ℕ) (n : ℤ) (m : Doing Conf) → length d.frames ≡ 0 → Alike code (set_counter_at at n >> m) d Misfit d
 unfolding after
-set_missing code d at n m none =
-    alike_then code _ _ _ d d d (reads_now code (λ (e : Data). writing n m (own_place at e.frames)) d) (alike_is code _ _ d (ap (writing n m) (own_missing d.frames at none)))
+set_missing code d at n m none = set_at_place code d 0 at n None m (own_missing d.frames at none) (ap (put_whole n) (nothing_at d at none))
 
 set_reads : (code : CodeData) (d : Data) (k at : ℕ) (n : ℤ) (o : Option Datum) (m : Doing Conf) → length d.frames ≡ suc k → put_whole n (datum_at (roots.Frame k at) d) ≡ o
     → Alike code (set_counter_at at n >> m) d (writing_datum k at d m o) d
-unfolding after
-set_reads code d k at n o m some there =
-    alike_then code _ _ _ d d d (reads_now code (λ (e : Data). writing n m (own_place at e.frames)) d)
-    (alike_then code _ _ _ d d d (alike_is code _ _ d (ap (writing n m) (own_there d.frames k at some)))
-    (alike_then code _ _ _ d d d (reads_now code (λ (e : Data). writing_datum k at e m (put_whole n (datum_at (roots.Frame k at) e))) d) (alike_is code _ _ d (ap (writing_datum k at d m) there))))
+set_reads code d k at n o m some there = set_at_place code d k at n o m (own_there d.frames k at some) there
 
 pub set_none : (code : CodeData) (d : Data) (k at : ℕ) (n : ℤ) (m : Doing Conf) → length d.frames ≡ suc k → datum_at (roots.Frame k at) d ≡ None → Alike code (set_counter_at at n >> m) d Misfit d
 unfolding after

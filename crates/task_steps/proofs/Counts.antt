@@ -3,12 +3,12 @@ use Rattle.std.proofs.Common.{◌≡◌, refl, sym, ap, ◌∙◌, arith, ℕ, s
 use Rattle.std.proofs.lemmas.List.{length-set}
 use Rattle.std.proofs.lemmas.List.Sums.{sum_by-cons}
 use Rattle.typed_trees.specs.declared.datum.Datum.{Datum}
-use Rattle.rapid_meaning.specs.Data.{Frame, below_first, frame_at, put_in_frame, values_in, with_datum, with_frame, with_seen}
+use Rattle.rapid_meaning.specs.Data.{Frame, below_first, frame_at, put_in_frame, values_in, with_datum, with_frame}
 
 pub values_more : (frame : Frame) (below : List Frame) → values_in (frame ∷ below) ≡ length frame.values + values_in below
 values_more frame below = sum_by-cons (λ (f : Frame). length f.values) frame below
 
--- a frame fewer
+-- one frame less
 pub fewer_values : (frames : List Frame) → values_in (below_first frames) ≤ values_in frames
 fewer_values [] = omega arith
 fewer_values (frame ∷ below) = omega (arith, values_more frame below)

@@ -1,5 +1,5 @@
 -- The departure of the code's own arm.
-use Rattle.std.proofs.Common.{◌≡◌, ◌==◌, ◌&&◌, ap, subst, ℕ, Bool, true, false, length, drop, if◌then◌else◌, IsTrue}
+use Rattle.std.proofs.Common.{◌≡◌, ◌==◌, ◌&&◌, ap, subst, ℕ, Bool, false, length, drop, if◌then◌else◌, IsTrue}
 use Rattle.std.specs.List.{list_all}
 use Rattle.std.proofs.lemmas.Bool.{and_parts, eq-eqb, false≢true}
 use Rattle.rapid_num.specs.Absent.{is_absent}
@@ -10,10 +10,10 @@ use Rattle.rapid_model.specs.declared.answer.Answer.{Answer}
 use Rattle.rapid_model.specs.declared.answer.Answer.TheVariants as answers
 use Rattle.rapid_model.specs.declared.request.Request.{Request}
 use Rattle.rapid_model.specs.declared.request.Request.TheVariants as requests
-use Rattle.rapid_meaning.specs.Doings.{Act, Misfit}
+use Rattle.rapid_meaning.specs.Doings.{Misfit}
 use Rattle.rapid_meaning.specs.Moves.{cap_of, move_from}
 use Rattle.task_steps.specs.Doing.{departs}
-use Rattle.task_steps.specs.declared.departure.Departure.{Departure}
+use Rattle.task_steps.specs.declared.requests.departure.Departure.{Departure}
 
 -- it is the move
 pub departs_so : (axes : ℕ) (departure : Departure) (a : Answer) → departure.axes ≡ axes → departs axes departure a ≡ move_from axes departure.target (cap_of departure.speed) a

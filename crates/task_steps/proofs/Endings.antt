@@ -1,4 +1,4 @@
--- Routines that end, and ERROR parts that are left.
+-- Ends of routines and of ERROR parts.
 use Rattle.std.proofs.Common.{◌≡◌, refl, sym, subst, ◌+◌, List, [], ◌∷◌, Option}
 use Rattle.rapid_model.specs.declared.fate.Fate.TheVariants as fates
 use Rattle.rapid_model.specs.declared.request.Request.TheVariants.{Leave}
@@ -13,8 +13,8 @@ use Rattle.stack_code.specs.Raising.{returned, with_result}
 use Rattle.task_steps.specs.Alike.{Alike}
 use Rattle.task_steps.specs.Doing.{effect, here_of}
 use Rattle.task_steps.specs.Points.{Point, Waiting, Started, Called, Trapped, conf_in, point, saved_in}
-use Rattle.task_steps.specs.declared.done.Done.TheVariants as dones
-use Rattle.task_steps.specs.declared.pending.Pending.TheVariants as pendings
+use Rattle.task_steps.specs.declared.steps.done.Done.TheVariants as dones
+use Rattle.task_steps.specs.declared.requests.pending.Pending.TheVariants as pendings
 use Rattle.task_steps.proofs.Errors.{left_data}
 
 pub back_started : (code : CodeData) (saved below : List Waiting) (d e : Data) (v : Option Value) → saved ≡ Started ∷ below → e ≡ left_data d

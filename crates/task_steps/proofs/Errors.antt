@@ -1,5 +1,5 @@
 -- Errors that go into an ERROR part or leave routines.
-use Rattle.std.proofs.Common.{◌≡◌, refl, ap, ℕ, List, [], ◌∷◌, Option, None, Some}
+use Rattle.std.proofs.Common.{◌≡◌, refl, ℕ, List, [], ◌∷◌, Option, None, Some}
 use Rattle.rapid_model.specs.declared.fate.Fate.TheVariants as fates
 use Rattle.rapid_model.specs.declared.fate.Fault.TheVariants.{Unhandled}
 use Rattle.typed_trees.specs.declared.datum.Datum.{Datum}
@@ -7,9 +7,9 @@ use Rattle.rapid_meaning.specs.Answering.{performed}
 use Rattle.rapid_meaning.specs.Data.{Data, below_first}
 use Rattle.rapid_meaning.specs.Doings.{Gives, Ends, Misfit, after}
 use Rattle.stack_code.specs.CodeData.{CodeData}
-use Rattle.stack_code.specs.Confs.{Failed, Running, Saved, Started, Called, Trapped, conf, in_part}
+use Rattle.stack_code.specs.Confs.{Running, Saved, Started, Called, Trapped, conf, in_part}
 use Rattle.stack_code.specs.Placed.{Own}
-use Rattle.stack_code.specs.Raising.{handler_of, part_or, raised, raised_out, raised_to}
+use Rattle.stack_code.specs.Raising.{handler_of, raised, raised_out, raised_to}
 use Rattle.std.proofs.Common.{false, reverse}
 use Rattle.std.specs.Option.{is_some}
 use Rattle.machine_stacks.specs.OperandStack.{OperandStack}
@@ -18,13 +18,13 @@ use Rattle.task_steps.specs.Doing.{doing_of, raised_at}
 use Rattle.task_steps.specs.Points.{own_at, point, running_in, saved_in}
 use Rattle.task_steps.specs.Savings.{saved_of}
 use Rattle.task_steps.specs.Tasks.{seen_task}
-use Rattle.task_steps.specs.declared.phase.Phase.TheVariants as phases
+use Rattle.task_steps.specs.declared.steps.phase.Phase.TheVariants as phases
 use Rattle.task_steps.specs.declared.task.Task.TheInside.{Inside}
 
 abbrev pub left_data : Data → Data
 left_data d = record d { frames = below_first d.frames }
 
--- an error that leaves a routine which was called is one of the statement that called it
+-- an error that leaves a routine that was called is raised in the statement that called it
 pub out_called : (code : CodeData) (saved : List Saved) (d e : Data) (at : ℕ) (own : Own) (stack : List Datum) (frame : Running) (below : List Saved) (error : ℕ)
     → saved ≡ Called at own stack frame ∷ below → e ≡ left_data d → Alike code (raised_out code saved error) d (raised code own frame below error) e
 unfolding performed after raised_to

@@ -1,20 +1,19 @@
 -- A set of the tasks that the elements of a list name, element by element.
-use Rattle.std.proofs.Common.{◌≡◌, refl, sym, ap, subst, ◌∙◌, inl, inr, ◌⊎◌, ℕ, zero, suc, ◌+◌, ◌-◌, ◌<◌, ◌≤◌, List, bytes_eq, position, Option, None, Some, Result, Ok, Err, arith}
+use Rattle.std.proofs.Common.{◌≡◌, refl, sym, ap, subst, ◌∙◌, inl, inr, ◌⊎◌, ℕ, suc, ◌+◌, ◌-◌, ◌<◌, ◌≤◌, List, bytes_eq, position, Option, None, Some, Result, Ok, Err, arith}
 use Rattle.std.specs.Option.{option_and_then}
 use Rattle.rapid_model.specs.declared.fate.Fate.TheVariants as fates
 use Rattle.rapid_model.specs.declared.fate.Fault.{Fault}
 use Rattle.rapid_model.specs.declared.part_name.PartName.{PartName}
 use Rattle.rapid_model.specs.declared.request.Request.TheVariants.{ReadP}
 use Rattle.rapid_model.specs.declared.value.Value.{Value}
-use Rattle.typed_trees.specs.declared.datum.Datum.{Datum}
 use Rattle.typed_trees.specs.declared.datum.Datum.TheVariants.{Plain}
 use Rattle.typed_trees.specs.declared.datum.Lvalue.{Lvalue}
 use Rattle.typed_trees.specs.declared.datum.Root.{Root}
 use Rattle.typed_trees.specs.declared.datum.Root.TheVariants as roots
 use Rattle.rapid_meaning.specs.Data.{Data, datum_at}
-use Rattle.rapid_meaning.specs.Doings.{Doing, Gives, Misfit, Raises, ◌>>=◌, after, or_misfit}
-use Rattle.rapid_meaning.specs.Meetings.{task_or_fault, task_set, with_task, with_tasks}
-use Rattle.rapid_meaning.specs.Places.{at_element, element_root, load_from, part_in, path_of, place_of_element, read_value, there_in, when_read}
+use Rattle.rapid_meaning.specs.Doings.{Doing, Gives, Raises, ◌>>=◌, after, or_misfit}
+use Rattle.rapid_meaning.specs.Meetings.{task_or_fault, with_task, with_tasks}
+use Rattle.rapid_meaning.specs.Places.{at_element, element_root, load_from, part_in, path_of, place_of_element, read_value, there_in}
 use Rattle.rapid_meaning.specs.Values.{text_in, value_in, whole}
 use Rattle.rapid_meaning.proofs.Follows.{after_after}
 use Rattle.stack_code.specs.CodeData.{CodeData}
@@ -23,9 +22,9 @@ use Rattle.stack_code.specs.Steps.{Here, pushes}
 use Rattle.task_steps.specs.Alike.{Alike, tested}
 use Rattle.task_steps.specs.Doing.{came, gathered, named}
 use Rattle.task_steps.specs.Own.{IsOwn}
-use Rattle.task_steps.specs.declared.done.Done.TheVariants as dones
-use Rattle.task_steps.specs.declared.gathering.Gathering.{Gathering}
-use Rattle.task_steps.specs.declared.pending.Pending.TheVariants as pendings
+use Rattle.task_steps.specs.declared.steps.done.Done.TheVariants as dones
+use Rattle.task_steps.specs.declared.operands.gathering.Gathering.{Gathering}
+use Rattle.task_steps.specs.declared.requests.pending.Pending.TheVariants as pendings
 use Rattle.task_steps.proofs.Along.{alike_is, alike_then}
 use Rattle.task_steps.proofs.Readings.{reads_now}
 
@@ -33,7 +32,7 @@ use Rattle.task_steps.proofs.Readings.{reads_now}
 abbrev pub pushes_set : Here → Doing ℕ → Doing Conf
 pushes_set h m = pushes h h.conf.stack (λ set. Plain (whole set)) m
 
--- the elements from one on, of a list of so many
+-- the elements of a list from one on
 abbrev pub tasks_left : List (List ℕ) → Lvalue → ℕ → ℕ → ℕ → Doing ℕ
 tasks_left names list len read set = with_tasks names list (len - read) (read + 1) set
 
@@ -54,7 +53,7 @@ one_more names list left number set = λ i. at_element list number >>= λ place.
     found name = task_or_fault (position (bytes_eq name) names)
 
     added : ℕ → Doing ℕ
-    added task = task_set (with_task task set)
+    added task = Gives (with_task task set)
 
     in_order : (v : Value) → text_in v >>= (λ name. found name >>= λ task. added task >>= rest) ≡ named names set v >>= rest
     in_order v = sym (after_after (text_in v) (λ name. found name >>= added) Raises rest Raises ∙ λ i. text_in v >>= λ name. after_after (found name) added Raises rest Raises i)
@@ -65,7 +64,7 @@ element_is names list len read set more =
     let left : len - read ≡ suc (len - (read + 1)) = omega arith in
     ap (λ (n : ℕ). with_tasks names list n (read + 1) set) left ∙ one_more names list (len - (read + 1)) (read + 1) set
 
--- the element that is next is looked up
+-- the next element is looked up
 pub element_next : (code : CodeData) (h : Here) (d : Data) (names : List (List ℕ)) (list : Lvalue) (len read set : ℕ) (o : Option Lvalue) → read < len
     → o ≡ there_in d (place_of_element list (read + 1)) (element_root list.root (read + 1))
     → Alike code (pushes_set h (tasks_left names list len read set)) d (pushes_set h (or_misfit o >>= λ place. read_value place >>= then_left names list len read set)) d
@@ -103,7 +102,7 @@ reads_own code h d (roots.Frame frame at) part k own =
     reads_now code (λ e. pushes_set h ((or_misfit (option_and_then (part_in part) (datum_at (roots.Frame frame at) e)) >>= value_in) >>= k)) d
 reads_own code h d (roots.Pers pers index) part k own = absurd own
 
--- what a test comes to, and then
+-- the outcome of a test, and then
 abbrev pub tested_then : (h : Here) (r : Option (Result ℕ Fault)) (k : ℕ → Doing ℕ) → Doing Conf
 tested_then h None k = came h None
 tested_then h (Some (Ok more)) k = pushes_set h (k more)
@@ -130,7 +129,7 @@ own_root : (root : Root) → ((slot : ℕ) × (root ≡ roots.Slot slot)) ⊎ ((
 own_root root (inl (slot, is)) = subst IsOwn (sym is) tt
 own_root root (inr (frame, at, is)) = subst IsOwn (sym is) tt
 
--- the element that is next is the task's own: it is read, and its name looked up among those that were read of the code
+-- the next element is the task's own: it is read, and its name looked up among those read from the code
 pub element_read : (code : CodeData) (h : Here) (d : Data) (names found : List (List ℕ)) (list place : Lvalue) (len read set : ℕ) (r : Option (Result ℕ Fault)) → found ≡ names → read < len
     → Some place ≡ there_in d (place_of_element list (read + 1)) (element_root list.root (read + 1)) → ((slot : ℕ) × (place.root ≡ roots.Slot slot)) ⊎ ((frame : ℕ) × (at : ℕ) × (place.root ≡ roots.Frame frame at))
     → tested r ≡ (or_misfit (option_and_then (part_in place.part) (datum_at place.root d)) >>= value_in) >>= named found set

@@ -1,11 +1,11 @@
--- Operations that are done where their operands lie.
-use Rattle.std.proofs.Common.{◌≡◌, refl, sym, ap, ◌∙◌, Bool, ℤ, ◌≤◌, List, [], ◌∷◌, length, drop, Option, None, Some, slice_get}
+-- Operations that are done in place.
+use Rattle.std.proofs.Common.{◌≡◌, refl, sym, ap, ◌∙◌, Bool, ℤ, List, [], ◌∷◌, drop, Option, None, Some, slice_get}
 use Rattle.std.specs.Option.{option_and_then, option_map}
 use Rattle.rapid_model.specs.declared.operator.Operator.{Operator}
 use Rattle.rapid_model.specs.declared.value.Value.{Value}
 use Rattle.rapid_model.specs.declared.value.Value.TheVariants as values
-use Rattle.rapid_operators.specs.Operators.{apply}
-use Rattle.rapid_operators.specs.declared.applied.Applied.{Applied}
+use Rattle.rapid_values.specs.Operators.{apply}
+use Rattle.rapid_values.specs.declared.applied.Applied.{Applied}
 use Rattle.machine_stacks.specs.Forms.{as_value}
 use Rattle.typed_trees.specs.declared.datum.Datum.{Datum}
 use Rattle.typed_trees.specs.declared.datum.Datum.TheVariants as datums

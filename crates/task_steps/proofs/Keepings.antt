@@ -1,4 +1,4 @@
--- Answers after which an operation has nothing to do, since no request of it has them.
+-- Answers that no request of an operation has, after which it does nothing.
 use Rattle.std.proofs.Common.{◌≡◌, refl, ℕ}
 use Rattle.rapid_model.specs.declared.answer.Answer.{Answer}
 use Rattle.rapid_model.specs.declared.answer.Answer.TheVariants as answers
@@ -9,7 +9,7 @@ use Rattle.stack_code.specs.CodeData.{CodeData}
 use Rattle.stack_code.specs.Steps.{Here}
 use Rattle.task_steps.specs.Alike.{Alike}
 use Rattle.task_steps.specs.Doing.{answered}
-use Rattle.task_steps.specs.declared.pending.Pending.TheVariants as pendings
+use Rattle.task_steps.specs.declared.requests.pending.Pending.TheVariants as pendings
 
 pub not_connected : (code : CodeData) (h : Here) (d : Data) (place : Lvalue) (a : Answer) → ((number : ℕ) → a ≡ answers.Number number → ⊥) → (a ≡ answers.Already → ⊥) → (a ≡ answers.NoMore → ⊥)
     → Alike code (answered h (pendings.Connected place) a) d Misfit d

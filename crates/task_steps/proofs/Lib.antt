@@ -14,7 +14,6 @@ pub mod Storings
 pub mod InPlace
 pub mod Packs
 pub mod Picks
-pub mod TaskSets
 pub mod Homes
 pub mod Shapings
 pub mod Elements

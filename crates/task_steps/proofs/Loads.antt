@@ -13,7 +13,7 @@ use Rattle.machine_stacks.specs.declared.run_start.RunStart.{RunStart}
 use Rattle.machine_stacks.proofs.Runs.{frame_from-row, one_run}
 use Rattle.task_steps.specs.Loading.{IsLoaded}
 
--- what stands at a place of two lists that some part of each makes equal
+-- what stands at a place of two lists, of which a part of each is equal
 beside_it : (runs : List FirstRun) (starts : List RunStart) (rows : List RoutineRow) (k : ℕ) (row : RoutineRow)
     → map (index_of runs) starts ≡ map (λ row. row.first) rows → slice_get rows k ≡ Some row → (k < length starts) × ((d : RunStart) → index_of runs (get_or starts k d) ≡ row.first)
 beside_it runs starts [] k row same there = cc
@@ -40,7 +40,7 @@ length_run left skip passed count firsts run first there is p t =
     ap (λ (xs : List Datum). length xs) (one_run left skip passed count firsts run first there is p t)
     ∙ (length-append (replicate count first.datum) more ∙ ap (λ (n : ℕ). n + length more) (length-replicate count first.datum))
 
--- where no value is left
+-- if no value is left
 pub none_left : (firsts : List FirstRun) (run left skip : ℕ) → length firsts ≤ run → length (take left (drop skip (in_full (drop run firsts)))) ≡ 0
 none_left firsts run left skip past =
     ap (λ (fs : List FirstRun). length (take left (drop skip (in_full fs)))) (drop_all run firsts past)

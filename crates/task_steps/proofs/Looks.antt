@@ -12,9 +12,9 @@ use Rattle.task_steps.specs.Alike.{Alike, with_stack}
 use Rattle.task_steps.specs.Doing.{effect, here_of}
 use Rattle.task_steps.specs.Points.{Point}
 use Rattle.task_steps.specs.Seen.{Seen}
-use Rattle.task_steps.specs.declared.done.Done.TheVariants as dones
+use Rattle.task_steps.specs.declared.steps.done.Done.TheVariants as dones
 use Rattle.task_steps.proofs.Within.{own_is}
-use Rattle.task_steps.specs.declared.pending.Pending.TheVariants as pendings
+use Rattle.task_steps.specs.declared.requests.pending.Pending.TheVariants as pendings
 
 -- a Look asks, and its place is that of its statement
 pub look_asks : (code : CodeData) (c : Point) (d : Data) (owner : Owner) → owner_at code.owners c.pc ≡ Some owner

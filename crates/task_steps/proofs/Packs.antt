@@ -1,4 +1,4 @@
--- Values that are popped one after the other.
+-- Values that are popped one by one.
 use Rattle.std.proofs.Common.{◌≡◌, refl, sym, ap, ◌∙◌, ℕ, zero, suc, ◌+◌, ◌<◌, Bool, true, false, List, [], ◌∷◌, ◌++◌, length, take, drop, reverse, nat_le, Option, None, Some, if◌then◌else◌, arith, append_assoc}
 use Rattle.std.specs.Option.{option_and_then, option_map}
 use Rattle.std.proofs.Math.Dec.{leb-suc-suc, leb-suc-zero, leb-zero}
@@ -13,7 +13,7 @@ use Rattle.stack_code.specs.Confs.{Conf}
 use Rattle.stack_code.specs.Operands.{on_value, on_values, values_in}
 use Rattle.task_steps.specs.Alike.{popped}
 
--- the values that data are, if all are
+-- the values of data, if all are values
 abbrev plains : List Datum → Option (List Value)
 plains [] = Some []
 plains (x ∷ xs) = option_and_then (λ v. option_map (λ vs. v ∷ vs) (plains xs)) (as_value x)
@@ -30,7 +30,7 @@ values_plain (datums.Mark n ∷ xs) = refl
 values_plain (datums.Shape s ∷ xs) = refl
 values_plain (datums.Place p ∷ xs) = refl
 
--- with one behind them
+-- with one after them
 abbrev behind : Option Value → List Value → Option (List Value)
 behind o vs = option_map (λ v. vs ++ v ∷ []) o
 

@@ -7,8 +7,8 @@ use Rattle.typed_trees.specs.declared.datum.Datum.{Datum}
 use Rattle.typed_trees.specs.declared.datum.Datum.TheVariants as datums
 use Rattle.typed_trees.specs.declared.datum.Datum.TheVariants.{Plain}
 use Rattle.rapid_meaning.specs.Doings.{Doing, Gives}
-use Rattle.rapid_meaning.specs.Functions.{of_value}
 use Rattle.rapid_meaning.specs.Values.{bit_in}
+use Rattle.stack_code.specs.Functions.{of_value}
 use Rattle.stack_code.specs.CodeData.{CodeData}
 use Rattle.stack_code.specs.Confs.{Conf, conf}
 use Rattle.stack_code.specs.Operands.{on_value}
@@ -17,7 +17,7 @@ use Rattle.stack_code.specs.declared.op.Op.TheVariants as ops
 use Rattle.task_steps.specs.Alike.{popped, with_stack}
 use Rattle.task_steps.specs.Doing.{came, here_of}
 use Rattle.task_steps.specs.Seen.{Seen}
-use Rattle.task_steps.specs.declared.done.Done.{Done}
+use Rattle.task_steps.specs.declared.steps.done.Done.{Done}
 
 -- every predefined function but NumToStr takes one value
 pub takes_one : (h : Here) (f : Function) → (f ≡ functions.NumToStr → ⊥) → act h (ops.Func f) ≡ on_value h.conf.stack (λ value rest. pushes h rest Plain (of_value f value))

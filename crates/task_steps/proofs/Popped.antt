@@ -15,14 +15,14 @@ use Rattle.stack_code.specs.Steps.{Here}
 use Rattle.task_steps.specs.Alike.{popped, with_stack}
 use Rattle.task_steps.specs.Doing.{came, gone, here_of}
 use Rattle.task_steps.specs.Seen.{Seen}
-use Rattle.task_steps.specs.declared.done.Done.{Done}
-use Rattle.task_steps.specs.declared.way.Way.{Way}
+use Rattle.task_steps.specs.declared.steps.done.Done.{Done}
+use Rattle.task_steps.specs.declared.steps.way.Way.{Way}
 
 -- one operand after another
 pub with_more : (s0 s1 s2 : Seen) → s1 ≡ with_stack s1.conf.stack s0 → s2 ≡ with_stack s2.conf.stack s1 → s2 ≡ with_stack s2.conf.stack s0
 with_more s0 s1 s2 first second = second ∙ ap (λ (s : Seen). with_stack s2.conf.stack s) first
 
--- what is done with the operands that are left, where it looks at none of those that were there before
+-- what is done with the operands that are left, if it looks at none of those before
 pub ends_at : (code : CodeData) (s0 s : Seen) (K : Here → List Datum → Doing Conf) (done : Option Done) → s ≡ with_stack s.conf.stack s0
     → ((h : Here) → K h h.conf.stack ≡ came h done) → ((h : Here) (stack rest : List Datum) → K (record h { conf = record h.conf { stack = stack } }) rest ≡ K h rest)
     → K (here_of code s0.conf) s.conf.stack ≡ came (here_of code s.conf) done
@@ -31,7 +31,7 @@ ends_at code s0 s K done same finish stable =
     sym (stable (here_of code s0.conf) s.conf.stack s.conf.stack) ∙ finish (here_of code (with_stack s.conf.stack s0).conf) in
     subst (λ (t : Seen). K (here_of code s0.conf) s.conf.stack ≡ came (here_of code t.conf) done) (sym same) stands
 
--- the same where what is done looks at the code
+-- the same if what is done looks at the code
 pub ends_here : (code : CodeData) (s0 s : Seen) (K : Here → List Datum → Doing Conf) (done : Option Done) → s ≡ with_stack s.conf.stack s0
     → K (here_of code s.conf) s.conf.stack ≡ came (here_of code s.conf) done → ((h : Here) (stack rest : List Datum) → K (record h { conf = record h.conf { stack = stack } }) rest ≡ K h rest)
     → K (here_of code s0.conf) s.conf.stack ≡ came (here_of code s.conf) done

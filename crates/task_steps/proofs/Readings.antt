@@ -1,5 +1,5 @@
--- Operations that read how the task stands.
-use Rattle.std.proofs.Common.{◌≡◌, refl, sym, ap, ◌∙◌, arith, ℕ, suc, ◌==◌, List, [], ◌∷◌, length, Bool, true, false, Option, None, Some, slice_get, if◌then◌else◌}
+-- Operations that read the state of the task.
+use Rattle.std.proofs.Common.{◌≡◌, refl, sym, ap, ◌∙◌, arith, ℕ, suc, ◌-◌, ◌==◌, List, [], ◌∷◌, length, Bool, true, false, Option, None, Some, slice_get, if◌then◌else◌}
 use Rattle.std.specs.Option.{option_and_then, option_map}
 use Rattle.std.proofs.lemmas.Bool.{eq-eqb}
 use Rattle.rapid_model.specs.declared.fate.Fate.TheVariants as fates
@@ -7,7 +7,7 @@ use Rattle.rapid_model.specs.declared.fate.Fault.TheVariants.{MoveInTrap}
 use Rattle.typed_trees.specs.declared.datum.Datum.{Datum}
 use Rattle.typed_trees.specs.declared.datum.Root.TheVariants as roots
 use Rattle.rapid_meaning.specs.Answering.{performed}
-use Rattle.rapid_meaning.specs.Data.{Data, Frame, frame_at}
+use Rattle.rapid_meaning.specs.Data.{Data, Frame, below_first, datum_at, frame_at}
 use Rattle.rapid_meaning.specs.Doings.{Doing, Reads, Writes, after, done, fault, or_misfit}
 use Rattle.rapid_meaning.specs.Places.{at_root, kept_place, own_place, place_in}
 use Rattle.stack_code.specs.CodeData.{CodeData}
@@ -16,8 +16,8 @@ use Rattle.stack_code.specs.Steps.{Here, act, does, pushes}
 use Rattle.stack_code.specs.declared.op.Op.TheVariants as ops
 use Rattle.task_steps.specs.Alike.{Alike}
 use Rattle.task_steps.specs.Doing.{came}
-use Rattle.task_steps.specs.declared.done.Done.{Done}
-use Rattle.task_steps.specs.declared.done.Done.TheVariants as dones
+use Rattle.task_steps.specs.declared.steps.done.Done.{Done}
+use Rattle.task_steps.specs.declared.steps.done.Done.TheVariants as dones
 use Rattle.task_steps.proofs.Along.{alike_is, alike_then}
 
 -- what reads, for the data as they are
@@ -29,7 +29,7 @@ pub writes_now : (code : CodeData) (e : Data) (m : Doing Conf) (d : Data) → Al
 unfolding performed
 writes_now code e m d = record { same = λ left. refl }
 
--- pushes what there is, in its form
+-- pushes what is there, in its form
 abbrev pub pushed_as : {A : Type 0} → (A → Datum) → Option A → Option Done
 pushed_as form o = option_map (λ x. dones.Push (form x)) o
 
@@ -63,13 +63,24 @@ over_of h o is = rw is (by h.conf.stack refl)
     by (x ∷ y ∷ rest) e = rw (← e) refl
 
 -- the innermost frame is the one with all others below it
-pub own_there : (frames : List Frame) (k at : ℕ) → length frames ≡ suc k → own_place at frames ≡ Some (at_root (roots.Frame k at))
-own_there [] k at e = cc
-own_there (frame ∷ below) k at e = let same : length below ≡ k = omega (arith, e) in ap (λ (n : ℕ). Some (at_root (roots.Frame n at))) same
+pub below_count : (frames : List Frame) → length (below_first frames) ≡ length frames - 1
+below_count [] = refl
+below_count (frame ∷ below) = omega arith
 
-pub own_missing : (frames : List Frame) (at : ℕ) → length frames ≡ 0 → own_place at frames ≡ None
-own_missing [] at e = refl
-own_missing (frame ∷ below) at e = absurd (omega (arith, e))
+pub own_there : (frames : List Frame) (k at : ℕ) → length frames ≡ suc k → own_place at frames ≡ at_root (roots.Frame k at)
+own_there frames k at e = ap (λ (n : ℕ). at_root (roots.Frame n at)) (omega (arith, below_count frames, e))
+
+-- if there is none, there is no datum either
+pub own_missing : (frames : List Frame) (at : ℕ) → length frames ≡ 0 → own_place at frames ≡ at_root (roots.Frame 0 at)
+own_missing frames at e = ap (λ (n : ℕ). at_root (roots.Frame n at)) (omega (arith, below_count frames, e))
+
+pub nothing_at : (d : Data) (at : ℕ) → length d.frames ≡ 0 → datum_at (roots.Frame 0 at) d ≡ None
+unfolding frame_at
+nothing_at d at e = by d.frames e
+  where
+    by : (frames : List Frame) → length frames ≡ 0 → option_and_then (λ f. slice_get f.values at) (frame_at frames 0) ≡ None
+    by [] none = refl
+    by (frame ∷ below) none = absurd (omega (arith, none))
 
 pub kept_there : (frames : List Frame) (k at : ℕ) → length frames ≡ suc k
     → kept_place at frames ≡ option_and_then place_in (option_and_then (λ f. slice_get f.values at) (frame_at frames k))

@@ -22,7 +22,7 @@ room_for room all top below within some few enough =
     let most : length below * room ≤ 32 * room = mul-le-mul_right room few in
     omega arith
 
--- a frame fewer
+-- one frame less
 pub one_fewer : (xs : List Frame) (n : ℕ) → length xs ≡ suc n → length (below_first xs) ≡ n
 one_fewer [] n e = absurd (omega arith)
 one_fewer (x ∷ xs) n e = omega arith

@@ -17,7 +17,7 @@ use Rattle.task_steps.specs.Alike.{Alike, popped, with_stack}
 use Rattle.task_steps.specs.Seen.{Seen}
 use Rattle.task_steps.proofs.Along.{alike_is}
 
--- a shape is stored, of two targets, for an arm with so many axes
+-- a shape is stored, from two targets, for an arm with `axes` axes
 abbrev pub of_two : ℕ → Bool → Bool → Value → Value → Lvalue → Act
 of_two axes inside home v w place = after (target_in v) (λ x. after (target_in w) (λ y. if home then define_home axes place inside x y else define axes place inside x y) Raises) Raises
 
@@ -43,6 +43,6 @@ pub bounds_there : (axes : ℕ) (place : Lvalue) (inside : Bool) (middle delta :
     → define_home axes place inside middle delta ≡ after (position_or_fault low) (λ l. after (position_or_fault high) (λ h. define axes place inside l h) Raises) Raises
 bounds_there axes place inside middle delta low high first second = rw (first, second) refl
 
--- a doing that is known, where nothing but operands were popped
+-- a known doing, if only operands were popped
 pub same_data : (code : CodeData) (s t : Seen) (m n : Doing Conf) → t ≡ with_stack t.conf.stack s → m ≡ n → Alike code m s.data' n t.data'
 same_data code s t m n same is = subst (λ (d : Data). Alike code m s.data' n d) (sym (ap (λ (u : Seen). u.data') same)) (alike_is code m n s.data' is)

@@ -24,13 +24,13 @@ use Rattle.task_steps.specs.Alike.{Alike, Turns, with_stack}
 use Rattle.task_steps.specs.Doing.{came, here_of}
 use Rattle.task_steps.specs.Own.{IsOwn}
 use Rattle.task_steps.specs.Seen.{Seen}
-use Rattle.task_steps.specs.declared.done.Done.{Done}
-use Rattle.task_steps.specs.declared.done.Done.TheVariants as dones
-use Rattle.task_steps.specs.declared.pending.Pending.TheVariants as pendings
+use Rattle.task_steps.specs.declared.steps.done.Done.{Done}
+use Rattle.task_steps.specs.declared.steps.done.Done.TheVariants as dones
+use Rattle.task_steps.specs.declared.requests.pending.Pending.TheVariants as pendings
 use Rattle.task_steps.proofs.Along.{alike_is, alike_then}
 use Rattle.task_steps.proofs.Readings.{push_read, reads_now, writes_now}
 
--- a part of a value that is put in
+-- a part of a value that is replaced
 pub put_plain : (x y : Datum) (v w : Value) (name : PartName) → as_value x ≡ Some v → as_value y ≡ Some w → put_in name x y ≡ option_map datums.Plain (put_part w name v)
 put_plain (datums.Plain a) (datums.Plain b) v w name e f =
     let first : a ≡ v = cc in
@@ -59,7 +59,7 @@ load_own code h d (roots.Slot slot) part o own is = push_read code h d (λ x. x)
 load_own code h d (roots.Frame frame at) part o own is = push_read code h d (λ x. x) (λ e. option_and_then (part_in part) (datum_at (roots.Frame frame at) e)) o is
 load_own code h d (roots.Pers pers index) part o own is = absurd own
 
--- what goes on where something was done
+-- what goes on after something was done
 abbrev pub if_put : {A : Type 0} → Option A → Doing Conf → Doing Conf
 if_put None next = Misfit
 if_put (Some put) next = next

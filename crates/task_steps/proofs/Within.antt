@@ -1,4 +1,4 @@
--- Code that goes on stands at an operation.
+-- Code that goes on is at an operation.
 use Rattle.std.proofs.Common.{◌≡◌, refl, sym, ap, ◌∙◌, arith, ℕ, zero, suc, ◌<◌, ◌≤◌, List, [], ◌∷◌, length, Option, None, Some, get_or, slice_get}
 use Rattle.std.proofs.lemmas.Option.{slice_get_read}
 use Rattle.std.specs.Option.{option_and_then, option_map}
@@ -10,14 +10,14 @@ use Rattle.stack_code.specs.Placed.{beside, own_of, owner_at}
 use Rattle.stack_code.specs.Steps.{act, act_at, step}
 use Rattle.stack_code.specs.declared.op.Op.{Op}
 use Rattle.stack_code.specs.declared.owner.Owner.{Owner}
-use Rattle.live_code.specs.Leads.{Runs}
-use Rattle.live_code.proofs.Leading.{runs_misfit, runs_step}
+use Rattle.task_code.specs.Leads.{Runs}
+use Rattle.task_code.proofs.Leading.{runs_misfit, runs_step}
 use Rattle.task_steps.specs.Doing.{here_of}
 use Rattle.task_steps.specs.Points.{Point, conf_in, no_own, own_at}
-use Rattle.error_recovery.specs.Owners.{Tiles, resumed}
-use Rattle.error_recovery.specs.declared.how.How.{How}
-use Rattle.error_recovery.specs.declared.how.How.TheVariants.{Retry, Next}
-use Rattle.error_recovery.proofs.Tiling.{passed}
+use Rattle.task_code.specs.Owners.{Tiles, resumed}
+use Rattle.task_code.specs.declared.how.How.{How}
+use Rattle.task_code.specs.declared.how.How.TheVariants.{Retry, Next}
+use Rattle.task_code.proofs.Tiling.{passed}
 use Rattle.std.specs.Option.{unwrap_or}
 
 -- an element that is there is within its list
@@ -46,7 +46,7 @@ gives_within code c d run = let next = runs_step code c d run in runs_within cod
 pub step_is : (code : CodeData) (p : Point) (o : Op) (w : Owner) → slice_get code.ops p.pc ≡ Some o → owner_at code.owners p.pc ≡ Some w → step code (conf_in code p) ≡ act (here_of code p) o
 step_is code p o w there owned = rw (there, owned) refl
 
--- the operation that was read there
+-- the operation read there
 pub step_reads : (code : CodeData) (p : Point) (d : Data) (xs : List Op) (pc : ℕ) (o : Op) → Runs code (step code (conf_in code p)) d → xs ≡ code.ops → pc ≡ p.pc → o ≡ get_or xs pc o
     → step code (conf_in code p) ≡ act (here_of code p) o
 step_reads code p d xs pc o run all place read =
@@ -55,7 +55,7 @@ step_reads code p d xs pc o run all place read =
     let here : o ≡ get_or code.ops p.pc o = read ∙ (ap (λ (ys : List Op). get_or ys pc o) all ∙ ap (λ (k : ℕ). get_or code.ops k o) place) in
     step_is code p o it.1 (slice_get_read code.ops (length code.ops) p.pc o refl within here) it.3
 
--- where a statement is gone on from, by an owner that is there
+-- where a statement is resumed, by an owner that is there
 pub resumed_there : (how : How) (o : Option Owner) (to : ℕ) → option_map (λ owner. resumed how (own_of owner)) o ≡ Some to → to ≡ resumed how (unwrap_or (option_map own_of o) no_own)
 resumed_there how None to e = cc
 resumed_there how (Some owner) to e = let same : resumed how (own_of owner) ≡ to = cc in sym same
@@ -64,7 +64,7 @@ pub resumed_nowhere : (how : How) → resumed how no_own ≡ 0
 resumed_nowhere Retry = refl
 resumed_nowhere Next = refl
 
--- a place that has no operation has no owner
+-- a place without an operation has no owner
 tiles_rise : (from count : ℕ) (xs : List Owner) → Tiles from count xs → from ≤ count
 tiles_rise from count [] t = omega arith
 tiles_rise from count (o ∷ more) t = let rest = tiles_rise o.past count more t.2 in let here = t.1 in omega (arith, rest, here)

@@ -11,18 +11,18 @@ use Rattle.stack_code.specs.CodeRuns.{fitting_by, no_part}
 use Rattle.stack_code.specs.Confs.{Conf}
 use Rattle.task_steps.specs.Doing.{came, doing_of, gone, here_of}
 use Rattle.task_steps.specs.Seen.{Seen}
-use Rattle.task_steps.specs.declared.done.Done.{Done}
-use Rattle.task_steps.specs.declared.way.Way.{Way}
+use Rattle.task_steps.specs.declared.steps.done.Done.{Done}
+use Rattle.task_steps.specs.declared.steps.way.Way.{Way}
 
--- whatever answers come, one doing comes with its data to what another does with its own
+-- whatever answers come, one doing has with its data the outcome of another with its own
 pub record Alike (code : CodeData) (m : Doing Conf) (d : Data) (n : Doing Conf) (e : Data) : Type 0 where
   pub same : (left : List Answer) → performed (fitting_by code) no_part m d left ≡ performed (fitting_by code) no_part n e left
 
--- a machine stands where a doing leads
+-- a machine is where a doing leads
 abbrev pub Follows : CodeData → Doing Conf → Data → Seen → Type 0
 Follows code m d s = Alike code m d (doing_of code s.phase s.conf) s.data'
 
--- an operation comes to this, where a machine stands
+-- the outcome of an operation of a machine
 abbrev pub Turns : CodeData → Doing Conf → Data → Option Done → Seen → Type 0
 Turns code m d done s = Alike code m d (came (here_of code s.conf) done) s.data'
 
@@ -30,7 +30,7 @@ Turns code m d done s = Alike code m d (came (here_of code s.conf) done) s.data'
 abbrev pub Goes : CodeData → Doing Conf → Data → Option Way → Seen → Type 0
 Goes code m d way s = Alike code m d (gone code way s) s.data'
 
--- a machine with these operands of the routine under way
+-- a machine whose running routine has these operands
 abbrev pub with_stack : List Datum → Seen → Seen
 with_stack stack s = record s { conf = record s.conf { stack = stack } }
 
@@ -45,7 +45,7 @@ tested None = Misfit
 tested (Some (Ok x)) = Gives x
 tested (Some (Err why)) = fault why
 
--- operands with one on top, or none where there was none
+-- operands with one on top, or none if there was none
 abbrev pub heaped : Option Datum → List Datum → List Datum
 heaped None rest = []
 heaped (Some x) rest = x ∷ rest

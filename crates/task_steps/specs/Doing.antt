@@ -1,4 +1,4 @@
--- What a machine does next, by how far it has come.
+-- What a machine does next, by its phase.
 use Rattle.std.specs.Prelude.{ℕ, ◌+◌, ◌-◌, false, ◌==◌, ◌∷◌, List, bytes_eq, position, Option, None, Some, if◌then◌else◌}
 use Rattle.rapid_model.specs.declared.answer.Answer.{Answer}
 use Rattle.rapid_model.specs.declared.request.Request.TheVariants.{Rise}
@@ -7,7 +7,7 @@ use Rattle.typed_trees.specs.declared.datum.Datum.TheVariants.{Plain, Mark}
 use Rattle.rapid_meaning.specs.Doings.{Act, Doing, Gives, Asks, Ends, Misfit, ◌>>=◌, ◌>>◌, change, tells, when_ok}
 use Rattle.rapid_meaning.specs.Functions.{when_at, when_bit}
 use Rattle.rapid_meaning.specs.Interrupts.{when_connected, when_known, when_ordered}
-use Rattle.rapid_meaning.specs.Meetings.{task_or_fault, task_set, when_arrived, with_task, with_tasks}
+use Rattle.rapid_meaning.specs.Meetings.{task_or_fault, when_arrived, with_task, with_tasks}
 use Rattle.rapid_meaning.specs.Moves.{cap_of, move_from, setpoints, when_given}
 use Rattle.rapid_meaning.specs.Places.{store, when_read, when_tested}
 use Rattle.rapid_meaning.specs.Signals.{when_written}
@@ -18,28 +18,28 @@ use Rattle.stack_code.specs.Confs.{Conf}
 use Rattle.stack_code.specs.Entering.{started}
 use Rattle.stack_code.specs.Raising.{raised, raised_out}
 use Rattle.stack_code.specs.Steps.{Here, as_truth, does, fails, jumps, looked, pushes, to_next}
-use Rattle.task_steps.specs.declared.departure.Departure.{Departure}
-use Rattle.task_steps.specs.declared.done.Done.{Done}
-use Rattle.task_steps.specs.declared.done.Done.TheVariants as dones
-use Rattle.task_steps.specs.declared.gathering.Gathering.{Gathering}
-use Rattle.task_steps.specs.declared.pending.Pending.{Pending}
-use Rattle.task_steps.specs.declared.pending.Pending.TheVariants as pendings
-use Rattle.task_steps.specs.declared.phase.Phase.{Phase}
-use Rattle.task_steps.specs.declared.phase.Phase.TheVariants as phases
-use Rattle.task_steps.specs.declared.way.Way.{Way}
-use Rattle.task_steps.specs.declared.way.Way.TheVariants as ways
+use Rattle.task_steps.specs.declared.requests.departure.Departure.{Departure}
+use Rattle.task_steps.specs.declared.steps.done.Done.{Done}
+use Rattle.task_steps.specs.declared.steps.done.Done.TheVariants as dones
+use Rattle.task_steps.specs.declared.operands.gathering.Gathering.{Gathering}
+use Rattle.task_steps.specs.declared.requests.pending.Pending.{Pending}
+use Rattle.task_steps.specs.declared.requests.pending.Pending.TheVariants as pendings
+use Rattle.task_steps.specs.declared.steps.phase.Phase.{Phase}
+use Rattle.task_steps.specs.declared.steps.phase.Phase.TheVariants as phases
+use Rattle.task_steps.specs.declared.steps.way.Way.{Way}
+use Rattle.task_steps.specs.declared.steps.way.Way.TheVariants as ways
 use Rattle.task_steps.specs.Points.{Point, conf_in, own_at, running_in, saved_in}
 use Rattle.task_steps.specs.Seen.{Seen}
 
--- code where it stands
+-- code where it is
 abbrev pub here_of : CodeData → Point → Here
 here_of code p = record { code = code; own = own_at code p.pc; conf = conf_in code p }
 
--- an error of the operation at a place, where a machine stands
+-- an error of the operation at a place of a machine
 abbrev pub raised_at : CodeData → ℕ → Point → ℕ → Doing Conf
 raised_at code place p error = raised code (own_at code place) (running_in code p.frame) (saved_in code p.saved) error
 
--- an error that leaves the routine under way
+-- an error that leaves the running routine
 abbrev pub leaves_with : CodeData → Point → ℕ → Doing Conf
 leaves_with code p error = raised_out code (saved_in code p.saved) error
 
@@ -48,13 +48,13 @@ abbrev pub named : List (List ℕ) → ℕ → Value → Doing ℕ
 named names set v = do
   name ← text_in v
   task ← task_or_fault (position (bytes_eq name) names)
-  task_set (with_task task set)
+  Gives (with_task task set)
 
 -- a set with the task that an element names, and then with those of the elements after it
 abbrev pub gathered : List (List ℕ) → Gathering → Value → Doing ℕ
 gathered names g v = named names g.set v >>= λ more. with_tasks names g.list (g.len - (g.read + 1)) (g.read + 1 + 1) more
 
--- the move of an arm with so many axes begins; a departure of another arm is none
+-- the move of an arm begins; a departure of another arm is none
 abbrev pub departs : ℕ → Departure → Answer → Act
 departs axes departure a = if departure.axes == axes then move_from axes departure.target (cap_of departure.speed) a else Misfit
 
@@ -81,7 +81,7 @@ answered h (pendings.Held to) a = when_ok a >> (tells Rise >> jumps h to h.conf.
 answered h (pendings.Risen to) a = when_ok a >> jumps h to h.conf.stack
 answered h pendings.Left a = when_ok a >> (change (λ d. record d { trapped = false }) >> Gives h.conf)
 
--- what an operation comes to
+-- the outcome of an operation
 abbrev pub effect : Here → Done → Doing Conf
 effect h dones.Next = to_next h h.conf.stack
 effect h (dones.Push x) = to_next h (x ∷ h.conf.stack)
@@ -97,14 +97,14 @@ abbrev pub came : Here → Option Done → Doing Conf
 came h None = Misfit
 came h (Some done) = effect h done
 
--- what a machine does, as far as it has come
+-- what a machine does, by its phase
 abbrev pub doing_of : CodeData → Phase → Point → Doing Conf
 doing_of code phases.New p = started code
 doing_of code phases.Going p = Gives (conf_in code p)
 doing_of code (phases.Asking request pending) p = Asks request (answered (here_of code p) pending)
 doing_of code (phases.Over fate) p = Ends fate
 
--- what a machine does that goes this way from where it stands
+-- what a machine does that goes on in this way
 abbrev pub gone : CodeData → Option Way → Seen → Doing Conf
 gone code None s = Misfit
 gone code (Some ways.Next) s = to_next (here_of code s.conf) s.conf.stack

@@ -1,24 +1,24 @@
--- Where a task stands in its operations. What error recovery needs later is kept as places of operations; the code says which
--- statements own them.
-use Rattle.std.specs.Prelude.{ℕ, List, map, Option, None, Some}
+-- Where a task is in its operations. Error recovery keeps places of operations; the code says which statements own
+-- them.
+use Rattle.std.specs.Prelude.{ℕ, List, map, None}
 use Rattle.std.specs.Option.{option_map, unwrap_or}
 use Rattle.typed_trees.specs.declared.datum.Datum.{Datum}
 use Rattle.stack_code.specs.CodeData.{CodeData}
 use Rattle.stack_code.specs.Confs as confs
 use Rattle.stack_code.specs.Confs.{Conf, Saved}
 use Rattle.stack_code.specs.Placed.{Own, own_of, owner_at}
-use Rattle.task_steps.specs.declared.failed.Failed.{Failed}
-use Rattle.task_steps.specs.declared.running.Running.{Running}
+use Rattle.task_steps.specs.declared.routines.failed.Failed.{Failed}
+use Rattle.task_steps.specs.declared.routines.running.Running.{Running}
 
--- What goes on when a routine is left. Started: nothing, the task is done. Called: the routine that called it, after the Call at
--- this place, with these operands. Trapped: the routine that it interrupted, at the Look at this place.
+-- What goes on when a routine is left. Started: nothing, the task is done. Called: the caller, after the Call at this
+-- place, with these operands. Trapped: the interrupted routine, at the Look at this place.
 pub data Waiting : Type 0 where
   Started : Waiting
   Called : ℕ → List Datum → Running → Waiting
   Trapped : ℕ → Running → Waiting
 
--- the place of the next operation, the operands of the routine under way, the last one first, and the routine; and what waits
--- below it, the innermost first
+-- the place of the next operation, the operands of the running routine, the last one first, and the routine; and what
+-- waits below it, the innermost first
 pub record Point : Type 0 where
   pub pc : ℕ
   pub stack : List Datum

@@ -1,11 +1,11 @@
--- What a machine keeps of the routines that wait, as contracts see it.
+-- What a machine keeps of the waiting routines, as contracts see it.
 use Rattle.std.specs.Prelude.{List, [], ◌∷◌, Option, None, Some}
 use Rattle.typed_trees.specs.declared.datum.Datum.{Datum}
 use Rattle.task_steps.specs.Points.{Point, Waiting, Started, Called, Trapped}
-use Rattle.task_steps.specs.declared.left.Left.{Left}
-use Rattle.task_steps.specs.declared.left.Left.TheVariants as lefts
-use Rattle.task_steps.specs.declared.row.Row.{Row}
-use Rattle.task_steps.specs.declared.row.Row.TheVariants as rows
+use Rattle.task_steps.specs.declared.routines.left.Left.{Left}
+use Rattle.task_steps.specs.declared.routines.left.Left.TheVariants as lefts
+use Rattle.task_steps.specs.declared.routines.row.Row.{Row}
+use Rattle.task_steps.specs.declared.routines.row.Row.TheVariants as rows
 
 -- a routine that waits, with its operands
 abbrev pub saved_row : Row → List Datum → Waiting
@@ -18,7 +18,7 @@ abbrev pub saved_of : List Row → List (List Datum) → List Waiting
 saved_of (row ∷ rows) (stack ∷ below) = saved_row row stack ∷ saved_of rows below
 saved_of _ _ = []
 
--- what lay below a routine that was left, where what it returned to stands so
+-- what lay below a routine that was left, by what it returned to
 abbrev pub left_by : Option Left → Point → List Waiting
 left_by None p = []
 left_by (Some lefts.Started) p = Started ∷ p.saved

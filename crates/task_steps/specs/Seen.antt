@@ -1,14 +1,14 @@
--- A task under way as contracts see it, and the request that is due.
+-- A running task as contracts see it, and the request that is due.
 use Rattle.std.specs.Prelude.{ℕ, length, Option, None, Some}
 use Rattle.rapid_model.specs.declared.request.Request.{Request}
 use Rattle.rapid_model.specs.declared.request.Request.TheVariants.{End}
 use Rattle.rapid_meaning.specs.Data.{Data}
 use Rattle.stack_code.specs.CodeData.{CodeData}
 use Rattle.task_steps.specs.Points.{Point}
-use Rattle.task_steps.specs.declared.phase.Phase.{Phase}
-use Rattle.task_steps.specs.declared.phase.Phase.TheVariants as phases
+use Rattle.task_steps.specs.declared.steps.phase.Phase.{Phase}
+use Rattle.task_steps.specs.declared.steps.phase.Phase.TheVariants as phases
 
--- how many operands each frame may have, and how many module data there are
+-- the most operands of a frame, and the number of module data
 pub record Room : Type 0 where
   pub operands : ℕ
   pub slots : ℕ
@@ -17,7 +17,7 @@ pub record Room : Type 0 where
 abbrev pub room_of : CodeData → Room
 room_of code = record { operands = code.deepest; slots = length code.slots }
 
--- how far a task has come, its data, and its room
+-- the phase of a task, its data, and its room
 pub record Seen : Type 0 where
   pub phase : Phase
   pub conf : Point

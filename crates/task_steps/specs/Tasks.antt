@@ -1,4 +1,4 @@
--- A task under way, as contracts see it.
+-- A running task, as contracts see it.
 use Rattle.std.specs.Prelude.{ℕ, ◌+◌, ◌≡◌, ◌<◌, ◌≤◌, ◌*◌, ◌^◌, List, [], ◌∷◌, length, reverse, ⊤}
 use Rattle.std.specs.Vec.{vec_capacity}
 use Rattle.rapid_limits.specs.declared.TheConstants.{MOST_FRAMES, MOST_FRAME_VALUES}
@@ -16,13 +16,13 @@ seen_task t = record {
   room = record { operands = t.room; slots = length t.slots.items };
 }
 
--- no list with more than so many operands
+-- no list with more than `room` operands
 abbrev pub Within : ℕ → List (List Datum) → Type 0
 Within room [] = ⊤
 Within room (stack ∷ more) = (length stack ≤ room) × Within room more
 
--- Operands and a frame for each routine, of which there are not too many, nor too many values in all; no routine with more
--- operands than it may have; room for all; and as many module data as u32 counts.
+-- Operands and a frame for each routine; neither too many routines nor too many values; no routine with more operands
+-- than allowed; room for all; and module data that a u32 counts.
 pub record IsTask (t : Inside) : Type 0 where
   pub below : length t.operands.below ≡ length t.rows.items
   pub framed : length t.frames.frames ≡ length t.rows.items

@@ -1,12 +1,12 @@
-use crate::phase::Phase;
-use crate::row::Row;
-use crate::running::Running;
+use crate::routines::row::Row;
+use crate::routines::running::Running;
+use crate::steps::phase::Phase;
 use machine_stacks::{Frames, Held, Operands};
 use rapid_model::At;
 use std::marker::Model;
 
-/// A task under way, apart from its code: how far it has come, where it stands in its operations, and its data. Contracts see
-/// also its room: how many operands each frame may have, and how many module data there are. It takes its memory as it is made.
+/// A running task without its code: its phase, its place in the operations, and its data. Contracts also see its room:
+/// the most operands of a frame and the number of module data. All of its memory is allocated when it is made.
 #[derive(Drop)]
 pub struct Task {
     pub(crate) phase: Phase,
@@ -39,7 +39,7 @@ impl Model for Task {
 impl Task {
     ghost use Rattle.std.specs.Prelude.{◌≡◌, ◌<◌, length, slice_get, Some};
 
-    /// How many module data the task has.
+    /// The number of the task's module data.
     pub fn slots(&self) -> u32
         ensures room { result ≡ self.now.room.slots }
         ensures data { result ≡ length self.now.data'.slots }
@@ -55,7 +55,7 @@ impl Task {
         &self.slots[slot as usize]
     }
 
-    /// The place of the statement that began last, or asked to; none before the first.
+    /// The position of the statement that began last, or asked to; none before the first.
     pub fn place(&self) -> Option<At>
         ensures { result ≡ self.now.data'.place }
     {

@@ -1,5 +1,5 @@
-//! Reads the module on its standard input many times over and tells what it came to: with the word `tokens` its tokens
-//! alone, else the whole module. For `bench/run`.
+//! Reads the module on its standard input many times and prints the result: with the word `tokens` only the number of
+//! tokens, else the result for the whole module. For `bench/run`.
 #![tactic(auto)]
 
 use module_parser::parse_module;
@@ -9,10 +9,10 @@ use std::alloc::Global;
 use std::io::Read;
 use std::{env, io};
 
-/// How often the tokens are counted.
+/// How many times the tokens are counted.
 const LEXER_PASSES: u32 = 20;
 
-/// How often the module is parsed.
+/// How many times the module is parsed.
 const PARSER_PASSES: u32 = 10;
 
 fn main(rt: HostRuntime) -> io::Result<()> {
@@ -47,7 +47,7 @@ fn count_often(source: &[u8]) -> usize {
     count
 }
 
-/// How many tokens come before the end or the first fault.
+/// The number of tokens before the end or the first error.
 fn tokens_of(source: &[u8]) -> usize {
     let mut lexer = Lexer::new(source);
     for count in 0..source.len() {
@@ -58,7 +58,7 @@ fn tokens_of(source: &[u8]) -> usize {
     source.len()
 }
 
-/// What a text comes to.
+/// The result for a text.
 #[derive(Drop)]
 enum Told {
     Module { items: usize },

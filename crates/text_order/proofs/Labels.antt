@@ -1,10 +1,10 @@
--- The labels of a routine stand at different bytes.
+-- The labels of a routine are at different bytes.
 use Rattle.std.proofs.Common.{◌≡◌, inl, inr, ℕ, zero, suc, List, [], ◌∷◌, ◌++◌, map, flat_map, Some, slice_get, refl, ap, sym, subst, ◌∙◌, arith}
 use Rattle.std.proofs.lemmas.List.Concat.{flat_map-append}
 use Rattle.rapid_lexer.specs.Tokens.{Lexeme}
 use Rattle.raw_trees.specs.Plain.{PlainName, PlainStmt, PlainStmts, PlainArms, PlainCases, PlainElse, PlainRoutine, PlainItem, PlainModule, Label, If, IfOne, For, While, Test, NoStmts, MoreStmts, NoArms, MoreArms, NoCases, MoreCases, NoElse, Else, Routine, else_of, stmts_of}
 use Rattle.module_parser.specs.Modules.{SpellsWithin}
-use Rattle.body_types.specs.Labels.{labels_of, labels_in, labels_in_arms, labels_in_cases, labels_in_else, labels_in_routine}
+use Rattle.stmt_types.specs.Labels.{labels_of, labels_in, labels_in_arms, labels_in_cases, labels_in_else, labels_in_routine}
 use Rattle.name_laws.specs.Declared.{StandsIn}
 use Rattle.name_laws.specs.Jumps.{AreApart, IsApart, LabelsApart}
 use Rattle.name_laws.proofs.Jumps.{first_label}
@@ -14,7 +14,7 @@ use Rattle.text_order.proofs.Modules.{module_stands}
 use Rattle.text_order.proofs.Stands.{IsNamedHere, Stand, later}
 use Rattle.text_order.proofs.Tokens.{stand_ascend, tokens_ascend}
 
--- labels of statements that stand in several lists
+-- labels of statements in several lists
 joined : (ss rs : List PlainStmt) (xs ys : List PlainName) → xs ≡ flat_map first_label ss → ys ≡ flat_map first_label rs → xs ++ ys ≡ flat_map first_label (ss ++ rs)
 joined ss rs xs ys e f = ap (λ zs. zs ++ ys) e ∙ ap (λ zs. flat_map first_label ss ++ zs) f ∙ sym (flat_map-append first_label ss rs)
 
@@ -78,7 +78,7 @@ stand_named (s ∷ ss) [] stand = absurd stand
 stand_named (s ∷ ss) (t ∷ ts) (inl here) = (here.0.named, stand_named ss ts here.1)
 stand_named (s ∷ ss) (t ∷ ts) (inr more) = stand_named (s ∷ ss) ts more
 
--- a byte before statements is none of their labels'
+-- a byte before statements is not that of any of their labels
 apart_from : (n : ℕ) (ss : List PlainStmt) → AreNamed ss → IsBelow n (map byte_of ss) → IsApart n (map (λ (l : PlainName). l.at) (flat_map first_label ss))
 unfolding AreNamed
 apart_from n [] named below = tt
@@ -91,11 +91,11 @@ labels_apart [] named ascend = tt
 labels_apart (Label at name ∷ ss) named ascend = (subst (λ n. IsApart n (map (λ (l : PlainName). l.at) (flat_map first_label ss))) (sym named.0) (apart_from at ss named.1 ascend.0), labels_apart ss named.1 ascend.1)
 labels_apart (_ ∷ ss) named ascend = labels_apart ss named.1 ascend.1
 
--- the statements of a text's module stand in order
+-- the statements of a text's module are in order
 pub stated_ascend : (levels : ℕ) (m : PlainModule) (source : List ℕ) → SpellsWithin levels m source → AreAscending (map byte_of (stated_in_module m))
 stated_ascend levels m source spelled = let (ts, tiles, whole) = spelled in stand_ascend (stated_in_module m) ts (tokens_ascend source ts tiles) (module_stands levels m ts whole)
 
--- and the labels of a routine there at different bytes
+-- and the labels of each of its routines are at different bytes
 routine_apart : (levels : ℕ) (m : PlainModule) (source : List ℕ) → SpellsWithin levels m source → (k : ℕ) (r : PlainRoutine) → slice_get m.items k ≡ Some (Routine r) → LabelsApart r
 routine_apart levels m source spelled k r at =
     let (ts, tiles, whole) = spelled in
@@ -103,7 +103,7 @@ routine_apart levels m source spelled k r at =
     subst (λ ls. AreApart (map (λ (l : PlainName). l.at) ls)) (sym (routine_same r))
     (labels_apart (stated_in_routine r) (stand_named (stated_in_routine r) ts stand) (stand_ascend (stated_in_routine r) ts (tokens_ascend source ts tiles) stand))
 
--- and so of each routine of modules that texts spell
+-- the same for each routine of modules that texts spell
 pub routines_apart : (levels : ℕ) (modules : List PlainModule) → AreSpelled levels modules → (number : ℕ) (r : PlainRoutine) → StandsIn modules number (Routine r) → LabelsApart r
 routines_apart levels modules spelled number r stands =
     let (source, is_spelled) = spelled number stands.unit stands.is_module in routine_apart levels stands.unit source is_spelled stands.index r stands.is_item

@@ -1,4 +1,4 @@
--- The statements of a module stand at the tokens that spell it.
+-- The statements of a module start at the tokens that spell it.
 use Rattle.std.proofs.Common.{ℕ, List, [], ◌∷◌, ◌++◌, flat_map, refl, sym, subst}
 use Rattle.std.proofs.lemmas.List.{append-nil}
 use Rattle.raw_trees.specs.Plain.{PlainStmt, else_of}

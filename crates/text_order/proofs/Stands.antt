@@ -1,4 +1,4 @@
--- Statements that stand, in order, each at one of a list of tokens.
+-- Statements that start, in order, each at one of a list of tokens.
 use Rattle.std.proofs.Common.{◌≡◌, ◌⊎◌, inl, inr, ℕ, List, [], ◌∷◌, ◌++◌, flat_map, Option, Some, None, ap, sym, subst, ◌∙◌}
 use Rattle.rapid_lexer.specs.Tokens.{Lexeme}
 use Rattle.raw_trees.specs.Plain.{PlainStmt, Label}
@@ -6,17 +6,17 @@ use Rattle.rapid_forms.specs.declared.sign.Sign.{Sign}
 use Rattle.rapid_forms.specs.Forms.{Form, WholeEach, first_byte, one, seq, either, optional, many, made}
 use Rattle.text_order.specs.Stated.{byte_of, stated}
 
--- a label's name stands where the label does
+-- a label's name starts where the label does
 abbrev pub IsNamedHere : PlainStmt → Type 0
 IsNamedHere (Label at name) = name.at ≡ at
 IsNamedHere _ = Unit {0}
 
--- a statement begins at the token
+-- a statement starts at the token
 pub record IsAt (s : PlainStmt) (t : Lexeme) : Type 0 where
   pub at : byte_of s ≡ t.at
   pub named : IsNamedHere s
 
--- each of the statements begins at a token, in their order
+-- each of the statements starts at a token, in order
 abbrev pub Stand : List PlainStmt → List Lexeme → Type 0
 Stand [] ts = Unit {0}
 Stand (s ∷ ss) [] = ⊥
@@ -36,11 +36,11 @@ both_stand (s ∷ ss) rs [] us stand also = absurd stand
 both_stand (s ∷ ss) rs (t ∷ ts) us (inl here) also = inl (here.0, both_stand ss rs ts us here.1 also)
 both_stand (s ∷ ss) rs (t ∷ ts) us (inr more) also = inr (both_stand (s ∷ ss) rs ts us more also)
 
--- the statements in what a whole form stands for begin at its tokens
+-- the statements in what a complete form stands for start at its tokens
 abbrev pub Stands : {A : Type 0} → Form A → (A → List PlainStmt) → Type 0
 Stands {A} form in_it = (x : A) (ts : List Lexeme) → form.Whole x ts → Stand (in_it x) ts
 
--- and behind its first token
+-- and after its first token
 abbrev pub Leads : {A : Type 0} → Form A → (A → List PlainStmt) → Type 0
 Leads {A} form in_it = (x : A) (ts : List Lexeme) → form.Whole x ts → (t : Lexeme) × (rest : List Lexeme) × (ts ≡ t ∷ rest) × Stand (in_it x) rest
 
@@ -109,7 +109,7 @@ module _ {A B : Type 0} (tree : ℕ → A → B) (f : Form A) (in_it : A → Lis
       let (t, rest, front, stand) = leads x ts is in
       (t, rest, front, subst (λ ss. Stand ss rest) (sym (ap in_tree e ∙ same (first_byte ts) x)) stand)
 
--- a statement begins at its first token, and those in it stand behind that
+-- a statement starts at its first token, and those in it start after that
 module _ {A : Type 0} (tree : ℕ → A → PlainStmt) (f : Form A) (in_it : A → List PlainStmt) (same : (at : ℕ) (x : A) → stated (tree at x) ≡ tree at x ∷ in_it x) (begins : (at : ℕ) (x : A) → byte_of (tree at x) ≡ at)
     (named : (x : A) (ts : List Lexeme) → f.Whole x ts → IsNamedHere (tree (first_byte ts) x)) where
   pub statement_stands : Leads f in_it → Stands (made tree f) stated

@@ -1,4 +1,4 @@
--- Statements, and lists of them, stand at their tokens.
+-- Statements, and lists of them, start at their tokens.
 use Rattle.std.proofs.Common.{◌≡◌, ℕ, zero, suc, List, [], ◌∷◌, ◌++◌, flat_map, Option, Some, None, refl, ap, sym, ◌∙◌}
 use Rattle.std.proofs.lemmas.List.{append_assoc, append-nil}
 use Rattle.rapid_lexer.specs.Tokens.{Lexeme}
@@ -20,7 +20,7 @@ in_arm a = in_list a.1
 abbrev in_case : List PlainExpr × List PlainStmt → List PlainStmt
 in_case c = in_list c.1
 
--- what stands in trees of lists
+-- what is in trees of lists
 pub list_same : (list : List PlainStmt) → in_list list ≡ flat_map stated list
 list_same [] = refl
 list_same (s ∷ ss) = ap (λ rest. stated s ++ rest) (list_same ss)
@@ -45,7 +45,7 @@ place_leads : (i : Inside) → Leads (place i) none_in
 unfolding place
 place_leads i = made_leads place_tree (seq name (parts_of i)) none_in none_in (λ at x. refl) (seq_leads name (parts_of i) none_in none_in name_leads (none_stand (parts_of i)))
 
--- a word, and behind it a form
+-- a word, and after it a form
 pub word_leads : {B : Type 0} (sign : Sign) (g : Form B) (in_g : B → List PlainStmt) → Stands g in_g → Leads (seq (mark sign) g) (λ x. in_g x.1)
 word_leads sign g in_g stands = seq_leads (mark sign) g none_in in_g (one_leads (sign ∷ [])) stands
 

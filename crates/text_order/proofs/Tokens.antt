@@ -1,4 +1,4 @@
--- Tokens of a text stand one behind the other, and so do statements that begin at them.
+-- Tokens of a text come one after the other, and so do statements that start at them.
 use Rattle.std.proofs.Common.{inl, inr, ℕ, ◌+◌, ◌<◌, List, [], ◌∷◌, length, map, sym, subst, arith}
 use Rattle.rapid_lexer.specs.Tokens.{Lexeme, Passes, Tiles}
 use Rattle.rapid_lexer.proofs.GapWalks.{token_no_gap}
@@ -6,7 +6,7 @@ use Rattle.raw_trees.specs.Plain.{PlainStmt}
 use Rattle.text_order.specs.Stated.{byte_of, IsBelow, AreAscending}
 use Rattle.text_order.proofs.Stands.{Stand}
 
--- tokens from a place on stand there or behind it
+-- tokens from a place on are there or after it
 from_on : (at : ℕ) (bytes : List ℕ) (ts : List Lexeme) (there : ℕ) (left : List ℕ) (n : ℕ) → n < at → Passes at bytes ts there left → IsBelow n (map (λ (t : Lexeme). t.at) ts)
 from_on at bytes [] there left n less passes = tt
 from_on at bytes (t ∷ ts) there left n less passes =
@@ -23,7 +23,7 @@ ascending_from at bytes (t ∷ ts) there left passes =
 pub tokens_ascend : (source : List ℕ) (ts : List Lexeme) → Tiles source ts → AreAscending (map (λ t. t.at) ts)
 tokens_ascend source ts tiles = ascending_from _ _ ts tiles.there tiles.left tiles.begins.passes
 
--- a number below the tokens' places is below the bytes of statements that stand at them
+-- a number below the tokens' places is below the bytes of statements that start at them
 stand_behind : (n : ℕ) (ss : List PlainStmt) (ts : List Lexeme) → IsBelow n (map (λ (t : Lexeme). t.at) ts) → Stand ss ts → IsBelow n (map byte_of ss)
 stand_behind n [] ts below stand = tt
 stand_behind n (s ∷ ss) [] below stand = absurd stand

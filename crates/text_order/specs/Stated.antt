@@ -1,4 +1,4 @@
--- The statements of a module in text order, and the bytes at which they stand.
+-- The statements of a module in text order, and the bytes at which they start.
 use Rattle.std.specs.Prelude.{ℕ, ◌<◌, List, [], ◌∷◌, ◌++◌, flat_map}
 use Rattle.raw_trees.specs.Plain.{PlainStmt, PlainStmts, PlainArms, PlainCases, PlainElse, PlainRoutine, PlainItem, PlainModule, Assign, Call, Label, Goto, Return, Exit, Raise, Retry, TryNext, Connect, If, IfOne, For, While, Test, NoStmts, MoreStmts, NoArms, MoreArms, NoCases, MoreCases, NoElse, Else, Datum, Routine, stmts_of, else_of}
 
@@ -39,7 +39,7 @@ stated_in_item (Routine r) = stated_in_routine r
 abbrev pub stated_in_module : PlainModule → List PlainStmt
 stated_in_module m = flat_map stated_in_item m.items
 
--- the byte at which a statement begins
+-- the byte at which a statement starts
 abbrev pub byte_of : PlainStmt → ℕ
 byte_of (Assign at place value) = at
 byte_of (Call at name args) = at
@@ -57,7 +57,7 @@ byte_of (For at name first last step list) = at
 byte_of (While at test list) = at
 byte_of (Test at value cases other) = at
 
--- each number is below those behind it
+-- each number is below those after it
 abbrev pub IsBelow : ℕ → List ℕ → Type 0
 IsBelow n [] = Unit {0}
 IsBelow n (m ∷ ms) = (n < m) × IsBelow n ms

@@ -1,4 +1,5 @@
-//! Laws alone: the statements of a module stand in its text in order, so in each task that is accepted a GOTO has one label.
+//! Theorems only: the statements of a module are in the order of its text, so in each accepted task a GOTO has one
+//! label.
 #![tactic(auto)]
 
 mod laws;

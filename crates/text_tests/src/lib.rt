@@ -1,5 +1,5 @@
-//! Tables of texts, with what their tokens, their strings and their modules come to, by the public calls of the crates that
-//! read texts. It holds only tests.
+//! Tables of texts with their expected tokens, strings and modules, tested through the public calls of the crates that
+//! read texts. Tests only.
 #![tactic(auto)]
 
 #[cfg(test)]

@@ -1,4 +1,4 @@
-//! Modules: those that are read, the faults of others, and the fields of a tree.
+//! Modules: accepted ones, the errors of others, and the fields of a tree.
 
 use crate::refused::{
     ASSIGNMENTS, BODIES, CALLS, CHOICES, DATA, HEADS, LOOPS, MODULES, Row, TESTS, WORDS,
@@ -14,7 +14,7 @@ use raw_trees::{
 use std::alloc::{AllocError, Global};
 use std::test::Fail;
 
-/// Modules, one for each form of the grammar at least.
+/// Modules, at least one for each form of the grammar.
 static ACCEPTED: [&[u8]; 30] = [
     b"MODULE m ENDMODULE",
     b"module M(SYSMODULE) endmodule",
@@ -59,7 +59,7 @@ fn each_form_is_read(rt: HostRuntime) {
     }
 }
 
-/// The first text of a table that comes to another fault.
+/// The first text of a table with an unexpected result.
 fn unlike(alloc: Global, rows: &[Row]) -> Option<&'static [u8]> {
     for (source, at, rule) in rows {
         let fault = SyntaxFault::Rule {
@@ -101,7 +101,7 @@ fn lexical_faults_come_first(rt: HostRuntime) {
     assert_eq!(rt; fault_of(alloc, b"MODULE m ENDMODULE \"a"), open);
 }
 
-/// The fault of an initial value that begins with so many parentheses.
+/// The error of an initial value that starts with this many parentheses.
 fn nested_fault(alloc: Global, parentheses: u32) -> Result<Option<SyntaxFault>, AllocError> {
     let mut text = Vec::new(alloc);
     for byte in b"MODULE m VAR num x := " {
@@ -149,7 +149,7 @@ fn is_number(value: &Option<RawExpr<'_>>, text: &[u8], byte: usize) -> bool {
     }
 }
 
-/// The datum of an item that is LOCAL or not, TASK or not, and begins at this byte.
+/// The datum of an item with these attributes, LOCAL and TASK, that starts at this byte.
 fn datum_of<'m, 'a>(
     item: &'m RawItem<'a>,
     is_local: bool,
@@ -167,7 +167,7 @@ fn datum_of<'m, 'a>(
     }
 }
 
-/// Whether a parameter has this mode and name and begins at one byte, the name of its type, num, at another.
+/// Whether a parameter of type num has this mode and name, and it and the name of its type start at these bytes.
 fn is_param(param: &RawParam<'_>, mode: Mode, name: &[u8], at: usize, sort: usize) -> bool {
     param.mode == mode
         && param.at == at

@@ -1,5 +1,6 @@
-//! Texts whose tokens are no module: the byte of the fault, from 0, and its rule. It stands at the first token with which
-//! the tokens so far begin no module, or at the text's end. A text may be cut off behind it.
+//! Texts whose tokens are not a module, each with the byte of the error, from 0, and its rule. The error is at the
+//! first token that makes the tokens so far no prefix of a module, or at the end of the text. A text may be cut off
+//! after it.
 
 use rapid_forms::SyntaxRule;
 use rapid_forms::SyntaxRule::{LeftOut, Syntax};
@@ -70,7 +71,7 @@ pub(crate) static DATA: [Row; 32] = [
     (b"MODULE m TASK PERS num", 22, Syntax),
 ];
 
-/// Heads and parameters.
+/// Heads of routines and their parameters.
 pub(crate) static HEADS: [Row; 18] = [
     (b"MODULE m PROC p ENDPROC ENDMODULE", 16, Syntax),
     (b"MODULE m PROC p(num a,) ENDPROC ENDMODULE", 22, Syntax),
@@ -165,7 +166,7 @@ pub(crate) static WORDS: [Row; 20] = [
     (b"MODULE m PROC p() a: ALIAS", 21, LeftOut),
 ];
 
-/// IF of both forms.
+/// Both forms of IF.
 pub(crate) static CHOICES: [Row; 18] = [
     (b"MODULE m PROC p() IF THEN ENDIF", 21, Syntax),
     (b"MODULE m PROC p() IF BACKWARD", 21, LeftOut),

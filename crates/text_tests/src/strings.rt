@@ -1,8 +1,8 @@
-//! The texts that strings spell.
+//! The texts of strings.
 
 use string_texts::text_of;
 
-/// Tokens, with the texts that they spell.
+/// Tokens, with their texts.
 static SPELLED: [(&[u8], &[u8]); 8] = [
     (b"\"\"", b""),
     (b"\"ab ~\"", b"ab ~"),
@@ -14,7 +14,7 @@ static SPELLED: [(&[u8], &[u8]); 8] = [
     (b"\"\\22\"", b"\""),
 ];
 
-/// Bytes that are no string.
+/// Bytes that are not a string.
 static REFUSED: [&[u8]; 10] = [
     b"",
     b"a\"",

@@ -1,4 +1,4 @@
-//! Tokens, and the first place where none fits.
+//! Tokens, and the first position where none fits.
 
 use rapid_lexer::{
     Kind, LexFault, LexRule, Lexer, Mark, Place, TokensFault, Word, place_of, read_tokens,
@@ -6,7 +6,7 @@ use rapid_lexer::{
 use std::alloc::{AllocError, Global};
 use std::test::Fail;
 
-/// Sources, with the rule that is broken first and its place.
+/// Sources, with the first broken rule and its position.
 static REFUSED: [(&[u8], LexRule, usize); 17] = [
     (b"a %", LexRule::BadByte, 2),
     (b"\xEF\xBB\xBFa\xEF", LexRule::BadByte, 4),
@@ -27,7 +27,7 @@ static REFUSED: [(&[u8], LexRule, usize); 17] = [
     (b"a$ \"", LexRule::BadByte, 1),
 ];
 
-/// Sources, with the number of their tokens.
+/// Sources, with their number of tokens.
 static ACCEPTED: [(&[u8], usize); 13] = [
     (b"x:=1.5 <= y;", 6),
     (b"1e+", 3),
@@ -89,7 +89,7 @@ fn kinds(rt: HostRuntime) -> Result<(), Fail> {
     Ok(())
 }
 
-/// The fault of a quote, so many letters, and this byte.
+/// The error of a quote, this many letters, and this byte.
 fn string_fault(alloc: Global, letters: u32, end: u8) -> Result<Option<LexFault>, AllocError> {
     let mut text = Vec::new(alloc);
     text.push(b'"')?;

@@ -2,14 +2,14 @@ use outside::Pace;
 use std::sync::atomic::{AtomicU16, Ordering};
 use std::thread::yield_now;
 
-/// How often the first pause of a task looks whether the others have begun theirs.
+/// How many times the first pause of a task checks whether the others have begun theirs.
 const LOOKS: u32 = 10_000;
 
-/// A pace that keeps the first pause of each of four tasks until all four have begun theirs, so that their next steps come at one
-/// time. It gives up after some looks.
+/// A pace that holds the first pause of each of four tasks until all four have begun theirs, so that their next steps
+/// come at the same time. It gives up after a number of checks.
 #[derive(Drop)]
 pub(crate) struct Abreast {
-    /// Bit k where task k has begun its first pause.
+    /// Bit k is set if task k has begun its first pause.
     begun: AtomicU16,
 }
 

@@ -96,7 +96,7 @@ fn one_task_outcome<R: AllocGlobal + Threads + Wait + Sync>(
     outcome_of(rt, alloc, &[action, "cell"], shelf, None, &NoPace)
 }
 
-/// One task has one run: its history and its lines are those of the run by turns.
+/// A cell of one task has one run: its history and its lines are those of the round-robin run.
 #[test]
 fn one_task(rt: HostRuntime) -> Result<(), Fail> {
     let by_turns = one_task_outcome(&rt, "round")?;
@@ -111,7 +111,8 @@ fn one_task(rt: HostRuntime) -> Result<(), Fail> {
     Ok(())
 }
 
-/// Three tasks are amid their steps at one time, each is paced at each of its events, and the run ends well.
+/// Three tasks are in the middle of their steps at the same time, each is paced at each of its events, and the run ends
+/// well.
 #[test]
 fn three_tasks_together(rt: HostRuntime) -> Result<(), Fail> {
     let pace = Together::new();
@@ -127,7 +128,7 @@ fn three_tasks_together(rt: HostRuntime) -> Result<(), Fail> {
     Ok(())
 }
 
-/// The run of the two tasks; the write of this number fails.
+/// The run of the two tasks; the write with this number fails.
 fn two_tasks<R: AllocGlobal + Threads + Wait + Sync>(
     rt: &R,
     failing_write: Option<u32>,
@@ -143,7 +144,7 @@ fn two_tasks<R: AllocGlobal + Threads + Wait + Sync>(
     )
 }
 
-/// Two tasks wait for one another, and both come to their end.
+/// Two tasks wait for one another, and both end.
 #[test]
 fn one_flag(rt: HostRuntime) -> Result<(), Fail> {
     let left = two_tasks(&rt, None)?;
@@ -153,7 +154,7 @@ fn one_flag(rt: HostRuntime) -> Result<(), Fail> {
     Ok(())
 }
 
-/// A write fails: the lines before it stand, and the report has the whole history.
+/// A write fails: the lines before it were printed, and the report has the whole history.
 #[test]
 fn failing_write(rt: HostRuntime) -> Result<(), Fail> {
     let left = two_tasks(&rt, Some(1))?;

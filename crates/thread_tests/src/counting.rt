@@ -12,8 +12,8 @@ use std::thread::Threads;
 const FOUR_TASKS: &[u8] =
     b"version = 1\n[[task]]\nname = \"A\"\nmodules = [\"count.mod\"]\n[[task]]\nname = \"B\"\nmodules = [\"count.mod\"]\n[[task]]\nname = \"C\"\nmodules = [\"count.mod\"]\n[[task]]\nname = \"D\"\nmodules = [\"count.mod\"]\n";
 
-/// Each task counts one, waits until three are counted, and counts one again. A count is lost where another comes between its read
-/// and its write, so it hangs on the order of the events whether the tasks come to their ends.
+/// Each task counts one, waits until three are counted, and counts one again. A count is lost if another one comes
+/// between its read and its write, so whether the tasks end depends on the order of the events.
 const COUNT: &[u8] =
     b"MODULE Count\nPERS num count := 0;\nPROC main()\ncount := count + 1;\nWaitUntil count >= 3;\ncount := count + 1;\nENDPROC\nENDMODULE\n";
 
@@ -42,7 +42,7 @@ fn outcome<R: AllocGlobal + Threads + Wait + Sync>(rt: &R, action: &str) -> Resu
     )
 }
 
-/// Whatever the order of a run is, its history is legal and whole, with each step of each task once and in order.
+/// Whatever the order of a run is, its history is legal and complete, with each step of each task once and in order.
 #[test]
 fn a_thousand_runs(rt: HostRuntime) -> Result<(), Fail> {
     for _ in 0..1000 {
@@ -54,7 +54,7 @@ fn a_thousand_runs(rt: HostRuntime) -> Result<(), Fail> {
     Ok(())
 }
 
-/// The replay takes the history of a run by turns, and refuses it with an event lost or an event told twice.
+/// The replay accepts the history of a round-robin run, and refuses it with an event lost or an event repeated.
 #[test]
 fn refused_histories(rt: HostRuntime) -> Result<(), Fail> {
     let left = outcome(&rt, "round")?;

@@ -1,4 +1,4 @@
-//! Whole cells on threads, with what is left of them. It holds only tests.
+//! Tests of whole cells on threads, and of their outcomes.
 #![tactic(auto)]
 
 #[cfg(test)]

@@ -7,7 +7,7 @@ use std::sync::Wait;
 use std::test::Fail;
 use std::thread::Threads;
 
-/// What a call left: its report, and the bytes of both sinks.
+/// The outcome of a call: its report, and the bytes of both sinks.
 #[derive(Drop)]
 pub(crate) struct Outcome {
     pub(crate) report: Report,
@@ -15,7 +15,7 @@ pub(crate) struct Outcome {
     pub(crate) err: MemorySink,
 }
 
-/// Does what the words say over these files; the write of this number to the first sink fails.
+/// Does what the words say with these files; the write with this number to the first sink fails.
 pub(crate) fn outcome_of<R: Threads + Wait + Sync, P: Pace + Sync>(
     rt: &R,
     alloc: Global,
@@ -36,7 +36,7 @@ pub(crate) fn outcome_of<R: Threads + Wait + Sync, P: Pace + Sync>(
     Ok(Outcome { report, out, err })
 }
 
-/// How many events of the history are of the task of this number.
+/// How many events of the history belong to the task of this number.
 pub(crate) fn events_of(report: &Report, task: u32) -> u64 {
     let mut count = 0;
     for event in &report.history {

@@ -33,7 +33,8 @@ enum Next {
     Nothing,
 }
 
-/// A task of the cell: the statement that it is at, how many changes by others its last Look told, and how many it made.
+/// A task of the cell: the statement that it is at, how many changes by others its last Look reported, and how many it
+/// made.
 #[derive(Clone, Copy)]
 struct Task {
     statement: Statement,
@@ -42,7 +43,7 @@ struct Task {
     made: u32,
 }
 
-/// The cell amid a run: the value of the persistent, and how many changes the tasks made.
+/// The cell during a run: the value of the persistent, and how many changes each task made.
 #[derive(Drop)]
 struct Replay {
     count: i64,
@@ -50,8 +51,8 @@ struct Replay {
     tasks: [Task; TASKS as usize],
 }
 
-/// Each event is the next one of its task, with the answer of the cell after all events before it, and no event can follow the
-/// last one. The history is given in two parts.
+/// Each event is the next one of its task, with the answer of the cell after all events before it, and no event can
+/// follow the last one. The history is given in two parts.
 pub(crate) fn is_legal_and_whole(before: &[Event], after: &[Event]) -> bool {
     let mut replay = Replay::new();
     replay.take_all(before) && replay.take_all(after) && replay.is_over()

@@ -1,11 +1,11 @@
 use outside::Pace;
 use std::sync::atomic::{AtomicU64, Ordering};
 
-/// How often the first pause of a task looks whether all have begun theirs.
+/// How many times the first pause of a task checks whether all have begun theirs.
 const TURNS: u32 = 50_000_000;
 
-/// A pace of three tasks that keeps the first pause of each until all three have begun theirs, and counts the pauses of each. Where
-/// two of them are run one behind the other, the looks of the first are used up.
+/// A pace of three tasks that holds the first pause of each until all three have begun theirs, and counts the pauses of
+/// each. If two of them run one after the other, the first uses up its checks.
 #[derive(Drop)]
 pub(crate) struct Together {
     first: AtomicU64,
@@ -29,7 +29,7 @@ impl Together {
         self.count(task).load(Ordering::SeqCst)
     }
 
-    /// How many first pauses used up their looks.
+    /// How many first pauses used up their checks.
     pub(crate) fn used_up(&self) -> u64 {
         self.used_up.load(Ordering::SeqCst)
     }

@@ -1,4 +1,4 @@
--- The numbers that fire, as far as they are listed.
+-- The numbers that fire, as far as they are collected.
 use Rattle.std.proofs.Common.{◌≡◌, ℕ, zero, suc, ◌+◌, ◌-◌, Bool, cond, List, [], ◌∷◌, ◌++◌, Option, None, slice_index_or, refl, ap, ◌∙◌, arith}
 use Rattle.std.specs.List.{filter, range_with_len}
 use Rattle.std.proofs.lemmas.List.Elements.{filter-append}
@@ -12,13 +12,13 @@ range_with_len_more : (a n e : ℕ) → a + n ≡ e → range_with_len a (suc n)
 range_with_len_more a zero e last = ap (λ (k : ℕ). k ∷ []) (omega arith)
 range_with_len_more a (suc n) e last = ap (λ (ks : List ℕ). a ∷ ks) (range_with_len_more (a + 1) n e (omega arith))
 
--- the number of an index
+-- the number at an index
 pub connected_at-next : (numbers : List (Option Connected)) (index : ℕ) → connected_at numbers (suc index) ≡ slice_index_or numbers index None
 connected_at-next numbers index =
     let same : suc index - 1 ≡ index = omega arith in
     rw (eqb-suc-zero index, same) refl
 
--- one entry more, whose number is among those that fire or not
+-- one more entry, whose number fires or does not
 pub fired_more : (changes : List Watched) (numbers : List (Option Connected)) (n : ℕ) →
     filter (λ number. fires changes (connected_at numbers number)) (range_with_len 1 (n + 1))
     ≡ filter (λ number. fires changes (connected_at numbers number)) (range_with_len 1 n) ++ cond (fires changes (slice_index_or numbers n None)) ((n + 1) ∷ []) []

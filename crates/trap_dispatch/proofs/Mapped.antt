@@ -1,4 +1,4 @@
--- What a loop going up has made of a list whose elements it maps one after the other.
+-- The list so far, in a loop that maps a list's elements in order.
 use Rattle.std.proofs.Common.{◌≡◌, ℕ, zero, suc, ◌+◌, ◌<◌, List, [], ◌∷◌, ◌++◌, length, get_or, set, map, take, drop, refl, ap, arith}
 use Rattle.std.proofs.lemmas.List.{get_or_read}
 use Rattle.std.proofs.Math.Numerals.{add-one}

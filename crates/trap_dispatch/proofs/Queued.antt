@@ -1,4 +1,4 @@
--- Each number that waits stays connected, and the queue has its room.
+-- Each number that waits stays connected, and the queue keeps its room.
 use Rattle.std.proofs.Common.{◌≡◌, ◌≢◌, ◌⊎◌, inl, inr, ℕ, zero, suc, ◌+◌, ◌-◌, ◌<◌, ◌≤◌, Bool, true, false, not, cond, ◌||◌, eqb, nat_lt, List, [], ◌∷◌, ◌++◌, length, get_or, set, map, take, Option, None, Some, is_some, refl, ◌∙◌, arith}
 use Rattle.std.specs.List.{filter, list_all, range_with_len}
 use Rattle.std.proofs.lemmas.Bool.{false≢true}
@@ -9,6 +9,7 @@ use Rattle.std.proofs.lemmas.List.Folds.{list_all-append}
 use Rattle.std.proofs.Math.ListN.{get_or-map}
 use Rattle.circular_buffer.specs.Buffer.{Buffer, buffer}
 use Rattle.rapid_model.specs.declared.watched.Watched.{Watched}
+use Rattle.rapid_model.proofs.Lists.{filter_short}
 use Rattle.trap_dispatch.specs.declared.connected.Connected.{Connected}
 use Rattle.trap_dispatch.specs.Firing.{connected_at, fires, fired_numbers, after_firing}
 use Rattle.trap_dispatch.specs.Tasks.{TaskData, IsTask, after_changes}
@@ -50,7 +51,7 @@ pub queued-without : (numbers : List (Option Connected)) (queue : List ℕ) (num
 queued-without numbers queue number some h =
     list_all-filter (is_connected numbers) (λ n. not (eqb n number)) (is_connected (set numbers (number - 1) None)) (connected-without numbers number some) queue h
 
--- no number is freed by the changes
+-- the changes free no number
 stays : (changes : List Watched) (c : Option Connected) → is_some (after_firing changes c) ≡ is_some c
 stays changes None = refl
 stays changes (Some c) = either (fires changes (Some c)) refl
@@ -78,7 +79,7 @@ queued-after changes numbers queue room h =
     (list_all-take (is_connected numbers) room (queue ++ fired_numbers changes numbers)
     (rw (list_all-append (is_connected numbers) queue (fired_numbers changes numbers), h) fired))
 
--- the queue has its room, and each number in it is connected
+-- the queue keeps its room, and each number in it is connected
 abbrev pub IsSound : List (Option Connected) → Buffer ℕ → Type 0
 IsSound numbers queue = (queue.capacity ≡ 1_024) × IsTask numbers queue.items
 
@@ -91,19 +92,11 @@ some_number : (numbers : List (Option Connected)) (number : ℕ) → is_some (co
 some_number numbers zero h = absurd (false≢true h)
 some_number numbers (suc k) h = omega arith
 
-pub length-filter-le : (f : ℕ → Bool) (xs : List ℕ) → length (filter f xs) ≤ length xs
-length-filter-le f [] = omega arith
-length-filter-le f (x ∷ xs) = here (f x) (length-filter-le f xs)
-  where
-    here : (b : Bool) → length (filter f xs) ≤ length xs → length (cond b (x ∷ filter f xs) (filter f xs)) ≤ length (x ∷ xs)
-    here true h = omega arith
-    here false h = omega arith
-
 pub sound-without : (numbers : List (Option Connected)) (queue new : Buffer ℕ) (number : ℕ) → is_some (connected_at numbers number) ≡ true
     → new ≡ buffer (filter (λ n. not (eqb n number)) queue.items) queue.capacity → IsSound numbers queue → IsSound (set numbers (number - 1) None) new
 sound-without numbers queue new number there is sound =
     let old = sound.1 in
-    let shorter = length-filter-le (λ n. not (eqb n number)) queue.items in
+    let shorter = filter_short (λ n. not (eqb n number)) queue.items in
     rw is (sound.0, record { count = length-set numbers (number - 1) None ∙ old.count; room = omega arith; connected = queued-without numbers queue.items number (some_number numbers number there) old.connected })
 
 pub sound-after : (changes : List Watched) (numbers after : List (Option Connected)) (queue new : Buffer ℕ) (fired : List ℕ)
@@ -114,7 +107,7 @@ sound-after changes numbers after queue new fired is_after is_fired is_new sound
     let few = length-take queue.capacity (queue.items ++ fired_numbers changes numbers) in
     rw (is_new, is_after, is_fired) (sound.0, record { count = length-map numbers (after_firing changes) ∙ old.count; room = omega (arith, sound.0); connected = queued-after changes numbers queue.items queue.capacity old.connected })
 
--- a task's interrupts after the changes, part by part
+-- a task's interrupts after the changes, field by field
 pub parts-after : (changes : List Watched) (t : TaskData) (numbers : List (Option Connected)) (queue new : Buffer ℕ) (fired : List ℕ) (flood : Bool)
     → numbers ≡ map (after_firing changes) t.numbers → fired ≡ fired_numbers changes t.numbers → queue.capacity ≡ 1_024 → queue.items ≡ t.queue
     → new ≡ buffer (take queue.capacity (queue.items ++ fired)) queue.capacity → flood ≡ (t.flood || nat_lt queue.capacity (length queue.items + length fired))

@@ -1,4 +1,4 @@
--- Tests of all numbers of a list.
+-- Tests of all numbers in a list.
 use Rattle.std.proofs.Common.{◌≡◌, ℕ, zero, suc, Bool, true, false, cond, ◌&&◌, List, [], ◌∷◌, take, refl}
 use Rattle.std.specs.List.{list_all, filter}
 use Rattle.std.proofs.lemmas.Bool.{false≢true}
@@ -20,7 +20,7 @@ list_all-take p (suc k) (x ∷ xs) h =
     let parts = both (p x) (list_all p xs) h in
     rw (parts.0) (list_all-take p k xs parts.1)
 
--- what passes a test and the filter's passes another test
+-- a number that passes a test and the filter's passes another test
 pub list_all-filter : (p f q : ℕ → Bool) → ((n : ℕ) → p n ≡ true → f n ≡ true → q n ≡ true) → (xs : List ℕ) → list_all p xs ≡ true → list_all q (filter f xs) ≡ true
 list_all-filter p f q passes [] h = refl
 list_all-filter p f q passes (x ∷ xs) h =

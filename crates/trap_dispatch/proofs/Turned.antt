@@ -1,20 +1,20 @@
--- The queue while each number in it has its turn.
+-- The queue while each number in it gets its turn.
 use Rattle.std.proofs.Common.{◌≡◌, ℕ, suc, ◌+◌, ◌<◌, ◌≤◌, Bool, true, false, not, cond, eqb, List, [], ◌∷◌, ◌++◌, length, get_or, take, drop, append_assoc, refl, arith}
 use Rattle.std.specs.List.{filter}
 use Rattle.std.proofs.lemmas.List.{append-nil, drop_all, take_all, length-take, length-drop, length-append}
 use Rattle.std.proofs.lemmas.List.Elements.{filter_more}
 use Rattle.std.proofs.Math.Numerals.{add-one}
 use Rattle.std.proofs.Math.Seq.{drop-cons}
+use Rattle.rapid_model.proofs.Lists.{filter_short}
 use Rattle.trap_dispatch.specs.Queues.{turned}
-use Rattle.trap_dispatch.proofs.Queued.{length-filter-le}
 
--- after k turns: the numbers that had none, and behind them those that are kept
+-- after k turns: the numbers that are still to come, and then those that are kept
 abbrev pub after_turns : ℕ → List ℕ → ℕ → List ℕ
 after_turns number xs k = drop k xs ++ filter (λ n. not (eqb n number)) (take k xs)
 
 pub length-after_turns : (number : ℕ) (xs : List ℕ) (k : ℕ) → length (after_turns number xs k) ≤ length xs
 length-after_turns number xs k =
-    let kept = length-filter-le (λ n. not (eqb n number)) (take k xs) in
+    let kept = filter_short (λ n. not (eqb n number)) (take k xs) in
     omega (arith, length-append (drop k xs) (filter (λ n. not (eqb n number)) (take k xs)), length-drop k xs, length-take k xs)
 
 pub turned-after_turns : (number : ℕ) (xs : List ℕ) (k : ℕ) → k < length xs → turned number (after_turns number xs k) ≡ after_turns number xs (k + 1)

@@ -7,11 +7,11 @@ use Rattle.rapid_model.specs.declared.watched.Watched.TheVariants.{Signal, Pers}
 use Rattle.trap_dispatch.specs.declared.connected.Connected.{Connected}
 use Rattle.trap_dispatch.specs.declared.order.Order.{Order}
 
--- what a number is connected with, of the numbers from 1; no other number is connected
+-- what a number is connected with; numbers count from 1, and no other number is connected
 abbrev pub connected_at : List (Option Connected) → ℕ → Option Connected
 connected_at numbers number = if number == 0 then None else slice_index_or numbers (number - 1) None
 
--- a change is the one that is watched
+-- the change is the one that is watched
 abbrev pub is_change : Watched → Watched → Bool
 is_change (Signal s v) (Signal t w) = s == t && same_truth v w
 is_change (Pers p) (Pers q) = p == q
@@ -27,11 +27,11 @@ abbrev pub fires : List Watched → Option Connected → Bool
 fires changes None = false
 fires changes (Some c) = not c.asleep && is_on changes c.order
 
--- the numbers that fire, ascending, of as many numbers from 1 on as there are entries
+-- the numbers that fire, ascending; there are as many numbers as entries, from 1
 abbrev pub fired_numbers : List Watched → List (Option Connected) → List ℕ
 fired_numbers changes numbers = filter (λ number. fires changes (connected_at numbers number)) (range_with_len 1 (length numbers))
 
--- an order ends where it is Single
+-- a Single order ends
 abbrev pub after_its_firing : Option Order → Option Order
 after_its_firing None = None
 after_its_firing (Some order) = if order.single then None else Some order

@@ -11,7 +11,7 @@ use Rattle.trap_dispatch.specs.declared.due.Due.TheVariants as dues
 use Rattle.trap_dispatch.specs.declared.order.Order.{Order}
 use Rattle.trap_dispatch.specs.Firing.{connected_at, fired_numbers, after_firing}
 
--- index n - 1 is that of the number n, where nothing is while it is free; the queue has the numbers that wait for their traps
+-- number n has index n - 1, with no entry while it is free; the queue holds the numbers that wait for their traps
 pub record TaskData : Type 0 where
   pub numbers : List (Option Connected)
   pub queue : List ℕ
@@ -29,20 +29,21 @@ pub record IsTask (numbers : List (Option Connected)) (queue : List ℕ) : Type 
 abbrev pub before_all : TaskData
 before_all = record { numbers = replicate MOST_INTERRUPTS None; queue = []; flood = false; disabled = false; in_trap = false }
 
--- the least free number, which comes from 1
+-- the least free number, counted from 1
 abbrev pub least_free : Option ℕ → Result ℕ ConnectFault
 least_free None = Err connect_faults.NoMore
 least_free (Some index) = Ok (index + 1)
 
--- the answer to a connection: the old number is connected, or no number is free, or the least free one
+-- the answer to a connection: `Already` if the old number is connected, `NoMore` if no number is free, otherwise the
+-- least free one
 abbrev pub connect_answer : TaskData → ℕ → Result ℕ ConnectFault
 connect_answer t old = if is_some (connected_at t.numbers old) then Err connect_faults.Already else least_free (position_from is_none 0 t.numbers)
 
--- the same with another interrupt of a number, or none
+-- the same with another interrupt for a number, or none
 abbrev pub with_number : TaskData → ℕ → Option Connected → TaskData
 with_number t number connected = record t { numbers = slice_set t.numbers (number - 1) connected }
 
--- connected just now: awake, with no order
+-- newly connected: awake, with no order
 abbrev pub fresh : ℕ → Option Connected
 fresh trap = Some (record { trap = trap; order = None; asleep = false })
 
@@ -64,11 +65,11 @@ ordered t number order = with_number t number (with_order (Some order) (connecte
 abbrev pub slept : TaskData → ℕ → Bool → TaskData
 slept t number asleep = with_number t number (with_sleep asleep (connected_at t.numbers number))
 
--- the number is free, and waits no longer
+-- the number is free, and no longer waits
 abbrev pub deleted : TaskData → ℕ → TaskData
 deleted t number = record t { numbers = slice_set t.numbers (number - 1) None; queue = filter (λ n. not (n == number)) t.queue }
 
--- the numbers that fire are queued as far as there is room; where one finds none the flood is marked for good
+-- the numbers that fire are queued while there is room; if one finds none, the flood is marked for good
 abbrev pub after_changes : List Watched → TaskData → TaskData
 after_changes changes t =
     let fired = fired_numbers changes t.numbers in
@@ -84,7 +85,7 @@ abbrev pub first_due : TaskData → List ℕ → Due
 first_due t [] = dues.None
 first_due t (number ∷ _) = dues.Trap number (trap_of (connected_at t.numbers number))
 
--- whether a trap is to run: a marked flood comes before all else
+-- whether a trap is to run: a marked flood takes precedence
 abbrev pub look_answer : TaskData → Due
 look_answer t = if t.flood then dues.Flood else if t.in_trap || t.disabled then dues.None else first_due t t.queue
 
@@ -92,7 +93,7 @@ abbrev pub is_due : Due → Bool
 is_due dues.None = false
 is_due _ = true
 
--- the first number is off the queue, and its trap runs
+-- the first number leaves the queue, and its trap runs
 abbrev pub in_first_trap : TaskData → List ℕ → TaskData
 in_first_trap t [] = t
 in_first_trap t (_ ∷ queue) = record t { queue = queue; in_trap = true }

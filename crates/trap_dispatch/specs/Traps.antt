@@ -6,6 +6,6 @@ use Rattle.trap_dispatch.specs.Tasks.{TaskData, before_all}
 abbrev pub task_at : List TaskData → ℕ → TaskData
 task_at tasks task = slice_index_or tasks task before_all
 
--- the same with other interrupts of one task
+-- the same with other interrupts for one task
 abbrev pub with_task : List TaskData → ℕ → TaskData → List TaskData
 with_task tasks task t = slice_set tasks task t

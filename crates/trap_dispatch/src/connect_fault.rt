@@ -1,8 +1,8 @@
 /// Why no number is connected (RAPID Instructions: CONNECT).
 #[derive(Clone, Copy, Debug, PartialEq, Eq)]
 pub enum ConnectFault {
-    /// The variable's number is connected.
+    /// The variable's number is already connected.
     Already,
-    /// The task has 64 interrupts.
+    /// The task already has 64 interrupts.
     NoMore,
 }

@@ -5,7 +5,7 @@ ghost use Rattle.trap_dispatch.specs.Firing.{connected_at};
 use crate::order::Order;
 use rapid_limits::MOST_INTERRUPTS;
 
-/// An interrupt number that is connected: its trap, by the routine's number in its task, its order, and whether it sleeps
+/// A connected interrupt number: its trap, by routine number within its task, its order, and whether it sleeps
 /// (RAPID Instructions: CONNECT, ISleep, IWatch).
 #[derive(Clone, Copy, Debug, PartialEq, Eq)]
 pub struct Connected {
@@ -14,7 +14,7 @@ pub struct Connected {
     pub asleep: bool,
 }
 
-/// What the number is connected with, of the numbers from 1 to 64; no other number is connected.
+/// What the number is connected with; numbers are 1 to 64, and no other number is connected.
 pub(crate) fn connected_at(
     numbers: &[Option<Connected>; MOST_INTERRUPTS],
     number: u8,

@@ -3,8 +3,8 @@
 pub enum Due {
     /// None.
     None,
-    /// The interrupt's trap, by the routine's number in its task.
+    /// The interrupt's trap, by routine number within its task.
     Trap { number: u8, trap: u32 },
-    /// More interrupts waited than the queue takes.
+    /// More interrupts waited than the queue holds.
     Flood,
 }

@@ -35,7 +35,7 @@ pub(crate) fn end_fired(numbers: &mut [Option<Connected>; MOST_INTERRUPTS], chan
     }
 }
 
-/// What stands for a number after the changes: a Single order that fires ends.
+/// The entry of a number after the changes: a Single order that fires ends.
 fn after_firing(entry: Option<Connected>, changes: &[Watched]) -> Option<Connected>
     ensures { result ≡ after_firing changes.now entry }
 {
@@ -48,7 +48,7 @@ fn after_firing(entry: Option<Connected>, changes: &[Watched]) -> Option<Connect
     }
 }
 
-/// An order after its firing.
+/// An order after it fires.
 fn after_its_firing(order: Option<Order>) -> Option<Order>
     ensures { result ≡ after_its_firing order }
 {

@@ -3,6 +3,6 @@
 pub enum OrderFault {
     /// The number is not connected.
     Unknown,
-    /// The interrupt has an order.
+    /// The interrupt already has an order.
     Already,
 }

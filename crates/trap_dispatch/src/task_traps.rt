@@ -18,8 +18,8 @@ use rapid_model::Watched;
 use std::alloc::{AllocError, Global};
 use std::marker::Model;
 
-/// The interrupts of one task. Contracts see its entries, index n - 1 for the number n, the numbers that wait, and whether
-/// the queue was flooded, interrupts are disabled, and the task is in a trap.
+/// The interrupts of one task. Contracts see its entries, index n - 1 for number n, the numbers that wait, and whether
+/// the queue overflowed, interrupts are disabled, and the task is in a trap.
 #[derive(Drop)]
 pub(crate) struct TaskTraps {
     numbers: [Option<Connected>; MOST_INTERRUPTS],
@@ -38,12 +38,12 @@ impl Model for TaskTraps {
 
     ghost view = { λ t. record { numbers = t.numbers; queue = t.queue.items; flood = t.flood; disabled = t.disabled; in_trap = t.in_trap } };
 
-    // The queue has its room, and each number in it is connected.
+    // The queue has room for 1,024 numbers, and each number in it is connected.
     ghost invariant = { λ t. (t.queue.capacity ≡ LONGEST_QUEUE) × IsTask t.numbers t.queue.items };
 }
 
 impl TaskTraps {
-    /// No number is connected, and the queue has its room.
+    /// No number is connected, and the queue has room for 1,024. Fails only if an allocation fails.
     pub(crate) fn new(alloc: Global) -> Result<TaskTraps, AllocError>
         ensures { IfOk result (λ t. t ≡ before_all) }
     {
@@ -78,7 +78,7 @@ impl TaskTraps {
         }
     }
 
-    /// Orders that the interrupt watches a signal or a persistent.
+    /// Orders the interrupt to watch a signal or a persistent.
     pub(crate) fn order(&mut self, number: u8, on: Watched, single: bool) -> Result<(), OrderFault>
         ensures unknown { (result ≡ Err order_faults.Unknown) ↔ IsNone (connected_at self.old.numbers number) }
         ensures already { (result ≡ Err order_faults.Already) ↔ IsSomeAnd (connected_at self.old.numbers number) (λ c. IsSome c.order) }
@@ -96,7 +96,7 @@ impl TaskTraps {
         Ok(())
     }
 
-    /// Puts the interrupt to sleep, or wakes it.
+    /// Puts the interrupt to sleep, or wakes it up.
     pub(crate) fn set_asleep(&mut self, number: u8, asleep: bool) -> Result<(), Unknown>
         ensures unknown { IsErr result ↔ IsNone (connected_at self.old.numbers number) }
         ensures ok { OnOk result (self.new ≡ slept self.old number asleep) }
@@ -126,14 +126,14 @@ impl TaskTraps {
         Ok(())
     }
 
-    /// Disables the interrupts, or enables them.
+    /// Disables or enables the interrupts.
     pub(crate) fn set_disabled(&mut self, disabled: bool)
         ensures { self.new ≡ record self.old { disabled = disabled } }
     {
         self.disabled = disabled;
     }
 
-    /// Queues the interrupts that the changes fire, as far as there is room.
+    /// Queues the interrupts that the changes fire, while there is room.
     pub(crate) fn fired(&mut self, changes: &[Watched])
         ensures { self.new ≡ after_changes changes.now self.old }
     {
@@ -161,7 +161,7 @@ impl TaskTraps {
         Due::Trap { number, trap }
     }
 
-    /// Whether `look` would not answer None.
+    /// Whether `look` would return anything but `None`.
     pub(crate) fn due(&self) -> bool
         ensures { result ≡ is_due (look_answer self.now) }
     {
@@ -176,7 +176,7 @@ impl TaskTraps {
     }
 }
 
-/// Queues the numbers as far as there is room, and tells whether one found none.
+/// Queues the numbers while there is room, and returns whether one found none.
 fn enqueue(queue: &mut HeapCircularBuffer<u8>, fired: &[u8]) -> bool
     requires room { length queue.old.items ≤ queue.old.capacity }
     ensures queued { queue.new ≡ buffer (take queue.old.capacity (queue.old.items ++ fired.now)) queue.old.capacity }
@@ -185,7 +185,7 @@ fn enqueue(queue: &mut HeapCircularBuffer<u8>, fired: &[u8]) -> bool
     queue.fill_from_slice(fired) < fired.len()
 }
 
-/// Takes the number out of the queue; the others keep their order.
+/// Removes the number from the queue; the others keep their order.
 fn take_out(queue: &mut HeapCircularBuffer<u8>, number: u8)
     requires room { length queue.old.items ≤ queue.old.capacity }
     ensures { queue.new ≡ buffer (filter (λ n. not (n == number)) queue.old.items) queue.old.capacity }
@@ -195,7 +195,7 @@ fn take_out(queue: &mut HeapCircularBuffer<u8>, number: u8)
     }
 }
 
-/// Takes the first number out of the queue, if it is that number; else it goes to the end.
+/// Removes the first number from the queue if it is that number; otherwise moves it to the end.
 fn turn(queue: &mut HeapCircularBuffer<u8>, number: u8)
     requires room { length queue.old.items ≤ queue.old.capacity }
     ensures { queue.new ≡ buffer (turned number queue.old.items) queue.old.capacity }

@@ -14,9 +14,9 @@ use rapid_num::Memory;
 use std::alloc::{AllocError, Global};
 use std::marker::Model;
 
-/// The interrupts of each task of a cell. Contracts see, for each task, its 64 entries, the numbers that wait, and whether the
-/// queue was flooded, interrupts are disabled, and the task is in a trap. A call changes what its task has, and no other task's.
-/// No call but `new` takes memory (RAPID Instructions: CONNECT, ISignalDI, ISignalDO, IPers, ISleep, IWatch, IDelete, IDisable,
+/// The interrupts of each task of a cell. Contracts see, for each task, its 64 entries, the numbers that wait, and
+/// whether the queue overflowed, interrupts are disabled, and the task is in a trap. A call changes only its own task.
+/// Only `new` allocates (RAPID Instructions: CONNECT, ISignalDI, ISignalDO, IPers, ISleep, IWatch, IDelete, IDisable,
 /// IEnable).
 #[derive(Drop)]
 pub struct Traps {
@@ -33,7 +33,7 @@ impl Model for Traps {
 }
 
 impl Traps {
-    /// No number is connected in any of so many tasks.
+    /// No number is connected in any of that many tasks. Fails only if an allocation fails.
     pub fn new(alloc: Global, tasks: u32) -> Result<Traps, Memory>
         ensures { IfOk result (λ t. t ≡ replicate tasks before_all) }
     {
@@ -43,8 +43,9 @@ impl Traps {
         }
     }
 
-    /// Connects the least free number, from 1 to 64, with a trap, by the routine's number in its task: `Already` exactly where
-    /// the old number is connected, else `NoMore` exactly where no number is free. The number is awake and has no order.
+    /// Connects the least free number, 1 to 64, with a trap, by routine number within its task: `Already` exactly if
+    /// the old number is connected, otherwise `NoMore` exactly if no number is free. The number is awake and has no
+    /// order.
     pub fn connect(&mut self, task: u32, old: u8, trap: u32) -> Result<u8, ConnectFault>
         requires task { task < length self.old }
         ensures answer { result ≡ connect_answer (task_at self.old task) old }
@@ -54,7 +55,7 @@ impl Traps {
         self.tasks[task as usize].connect(old, trap)
     }
 
-    /// Orders that the interrupt watches a signal or a persistent, once where `single` holds.
+    /// Orders the interrupt to watch a signal or a persistent, only once if `single`.
     pub fn order(
         &mut self,
         task: u32,
@@ -71,7 +72,8 @@ impl Traps {
         self.tasks[task as usize].order(number, on, single)
     }
 
-    /// Puts the interrupt to sleep: it does not fire until it is awake. What waits still runs its trap.
+    /// Puts the interrupt to sleep: it does not fire until it wakes up. A number that waits already still runs its
+    /// trap.
     pub fn sleep(&mut self, task: u32, number: u8) -> Result<(), Unknown>
         requires task { task < length self.old }
         ensures unknown { IsErr result ↔ IsNone (connected_at (task_at self.old task).numbers number) }
@@ -81,7 +83,7 @@ impl Traps {
         self.tasks[task as usize].set_asleep(number, true)
     }
 
-    /// Wakes the interrupt.
+    /// Wakes the interrupt up.
     pub fn watch(&mut self, task: u32, number: u8) -> Result<(), Unknown>
         requires task { task < length self.old }
         ensures unknown { IsErr result ↔ IsNone (connected_at (task_at self.old task).numbers number) }
@@ -101,7 +103,7 @@ impl Traps {
         self.tasks[task as usize].delete(number)
     }
 
-    /// Disables the task's interrupts: they queue, and their traps wait.
+    /// Disables the task's interrupts: they are queued, and their traps wait.
     pub fn disable(&mut self, task: u32)
         requires task { task < length self.old }
         ensures { self.new ≡ with_task self.old task (record (task_at self.old task) { disabled = true }) }
@@ -117,15 +119,16 @@ impl Traps {
         self.tasks[task as usize].set_disabled(false);
     }
 
-    /// The changes of one event: in each task the numbers that fire are queued, ascending. Where one finds 1,024 waiting the
-    /// flood is marked for good. A Single order ends at its firing.
+    /// The changes of one event: each task queues the numbers that fire, ascending. If one finds 1,024 waiting, the
+    /// flood is marked for good. A Single order ends once it fires.
     pub fn fired(&mut self, changes: &[Watched])
         ensures { self.new ≡ map (after_changes changes.now) self.old }
     {
         fire_each(&mut self.tasks, changes);
     }
 
-    /// Whether a trap is to run before the task goes on. If so, takes its number off the queue, and the task is in the trap.
+    /// Whether a trap is to run before the task goes on. If so, its number leaves the queue and the task is in the
+    /// trap.
     pub fn look(&mut self, task: u32) -> Due
         requires task { task < length self.old }
         ensures answer { result ≡ look_answer (task_at self.old task) }
@@ -134,7 +137,7 @@ impl Traps {
         self.tasks[task as usize].look()
     }
 
-    /// Whether `look` would not answer `None`.
+    /// Whether `look` would return anything but `None`.
     pub fn due(&self, task: u32) -> bool
         requires task { task < length self.now }
         ensures { result ≡ is_due (look_answer (task_at self.now task)) }
@@ -152,7 +155,7 @@ impl Traps {
     }
 }
 
-/// So many tasks with no number connected.
+/// That many tasks with no number connected.
 fn starts(alloc: Global, tasks: u32) -> Result<Vec<TaskTraps>, AllocError>
     ensures { IfOk result (λ starts. starts.items ≡ replicate tasks before_all) }
 {

@@ -60,7 +60,7 @@ row_stmts : {n : _} (row : Row_of-Stmt n) →
 row_stmts end_of-Stmt = refl
 row_stmts (more_of-Stmt begin form row) = ap (Plain.MoreStmts (view_stmt_form begin form)) (row_stmts row)
 
--- the list of a Vec that a row was made of
+-- the list of the Vec that a row was made of
 hidden_stmts : (list : Vec Stmt Global) →
     view_stmts (hidden-the_row-Stmt-0 list) ≡ stmts_of (view_list list)
 hidden_stmts list = rw (row_stmts (hidden-the_row-Stmt-0 list), items_hidden-the_row-Stmt-0 list)

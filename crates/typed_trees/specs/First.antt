@@ -10,7 +10,7 @@ abbrev pub all_of : Kept → List Datum
 all_of (Given first) = first.items
 all_of (Alike datum count) = replicate count datum
 
--- the data that stand in runs
+-- the data in runs
 abbrev pub data_in : FirstRuns → List Datum
 data_in (runs.Each each) = each.now
 data_in (runs.Alike datum count) = replicate count datum.now

@@ -1,5 +1,5 @@
--- The trees of a checked task as contracts see them: what they hold, wherever it lies in memory. Each form has the byte of
--- its module at which it begins, and an expression its type.
+-- The trees of a checked task as contracts see them: their contents, without pointers. Each form has the byte of its
+-- module at which it starts, and an expression its type.
 use Rattle.std.specs.Prelude.{ℕ, Bool, List, [], ◌∷◌, Option, None, Some}
 use Rattle.rapid_model.specs.declared.function.Function.{Function}
 use Rattle.rapid_model.specs.declared.instruction.Instruction.{Instruction}
@@ -15,7 +15,7 @@ use Rattle.rapid_model.specs.declared.part_name.PartName.{PartName}
 
 mutual
   pub data TypedExpr : Type 0 where
-    -- a value that is known before the run
+    -- a value known before the run
     Known : ℕ → Sort → Value → TypedExpr
     ErrorNumber : ℕ → Sort → TypedExpr
     SignalValue : ℕ → Sort → ℕ → TypedExpr
@@ -25,9 +25,9 @@ mutual
     Builtin : ℕ → Sort → Function → TypedArgs → TypedExpr
     Invoke : ℕ → Sort → ℕ → TypedArgs → TypedExpr
     Not : ℕ → Sort → TypedExpr → TypedExpr
-    -- minus where the sign is one
+    -- true for a minus sign
     Signed : ℕ → Sort → Bool → TypedExpr → TypedExpr
-    -- the first operand, and behind it operators of one level with theirs
+    -- the first operand, then the operators of one level, each with its operand
     Chain : ℕ → Sort → TypedExpr → TypedSteps → TypedExpr
 
   pub data TypedExprs : Type 0 where
@@ -76,13 +76,13 @@ mutual
     Retry : ℕ → TypedStmt
     TryNext : ℕ → TypedStmt
     Connect : ℕ → TypedPlace → ℕ → TypedStmt
-    -- IF and ELSEIF with their lists, and ELSE
+    -- IF and each ELSEIF with its list, and ELSE
     If : ℕ → TypedArms → TypedElse → TypedStmt
     IfOne : ℕ → TypedExpr → TypedStmt → TypedStmt
     -- the place of the variable, the first and the last value, and the step
     For : ℕ → ℕ → TypedExpr → TypedExpr → Option TypedExpr → TypedStmts → TypedStmt
     While : ℕ → TypedExpr → TypedStmts → TypedStmt
-    -- the value, CASE with their values and lists, and DEFAULT
+    -- the value, each CASE with its values and its list, and DEFAULT
     Test : ℕ → TypedExpr → TypedCases → TypedElse → TypedStmt
 
   pub data TypedStmts : Type 0 where
@@ -135,7 +135,7 @@ pub record TypedSlot : Type 0 where
   pub len : Option ℕ
   pub first : List Datum
 
--- a PERS; own where it is TASK or LOCAL
+-- a PERS; own if it is TASK or LOCAL
 pub record TypedPers : Type 0 where
   pub name : List ℕ
   pub «module» : ℕ

@@ -1,4 +1,4 @@
--- Persistents of a tree whose declarations are sound.
+-- Sound declarations of a tree's persistents.
 use Rattle.std.specs.Prelude.{Bool, ◌&&◌, List}
 use Rattle.std.specs.List.{list_all}
 use Rattle.rapid_limits.specs.declared.TheConstants.{LONGEST_ARRAY}
@@ -11,7 +11,7 @@ use Rattle.typed_trees.specs.Plain.{TypedPers, TypedTree}
 abbrev pub fits : TypedPers → List Value → Bool
 fits row values = are_values_of row.sort row.len values
 
--- a persistent has a type with values, and up to 1000 elements; where its declaration gives values, they fit
+-- a persistent has a type with values, and at most 1000 elements; the values that its declaration gives, if any, fit
 abbrev pub is_sound : TypedPers → Bool
 is_sound row = has_values row.sort && holds_where_there (is_within 1 LONGEST_ARRAY) row.len && holds_where_there (fits row) row.first
 

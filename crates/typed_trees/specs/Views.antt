@@ -1,4 +1,4 @@
--- How contracts see the trees of a checked task: without pointers and shapes of memory.
+-- How contracts see the trees of a checked task: without pointers and memory layout.
 use Rattle.std.specs.Prelude.{ℕ, List, map, option_map}
 use Rattle.std.specs.declared.alloc.Global.{Global}
 use Rattle.std.specs.declared.vec.Vec.{Vec}
@@ -21,7 +21,7 @@ use Rattle.typed_trees.specs.Plain
 use Rattle.typed_trees.specs.Plain.{TypedExpr, TypedExprs, TypedSteps, TypedHeld, TypedPlace, TypedArg, TypedArgument, TypedArgs, TypedStmt, TypedStmts, TypedArms, TypedCases, TypedElse, TypedParam, TypedLocal, TypedRoutine, TypedSlot, TypedPers, TypedTree, args_of, exprs_of, stmts_of}
 
 abbrev mutual
-  -- the expression of a form, at a byte and of a type
+  -- the expression with a form, at a byte and of a type
   pub view_form : ℕ → Sort → ExprForm → TypedExpr
   view_form at sort (Number number) = Plain.Known at sort (Num number)
   view_form at sort (Const value) = Plain.Known at sort value.value
@@ -70,12 +70,12 @@ abbrev mutual
 abbrev pub view_expr : Expr → TypedExpr
 view_expr e = view_form e.at e.sort e.form
 
--- an operator and the operand behind it
+-- an operator and the operand after it
 abbrev pub view_step : Operator × Expr → Operator × TypedExpr
 view_step s = (s.0, view_expr s.1)
 
 abbrev mutual
-  -- the statement of a form that begins at a byte
+  -- the statement with a form, at a byte
   pub view_stmt_form : ℕ → Form → TypedStmt
   view_stmt_form at (Assign place value) = Plain.Assign at (view_place place) (view_expr value)
   view_stmt_form at (Instruct instruction args) = Plain.Instruct at instruction (args_of (map view_arg args.items))

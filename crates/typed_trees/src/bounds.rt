@@ -1,8 +1,8 @@
-//! The values that the variable of a FOR goes through.
+//! The values that the variable of a FOR takes.
 
 use crate::expr::Expr;
 
-/// The first value, the last one and the step, which is none where STEP is left out (RAPID Kernel, FOR).
+/// The first value, the last value and the step, which is none if STEP is omitted (RAPID Kernel, FOR).
 #[derive(Drop)]
 pub struct Bounds {
     pub first: Expr,

@@ -4,7 +4,7 @@ use rapid_num::Shape;
 use std::alloc::{AllocError, Global};
 use std::marker::Model;
 
-/// A shape that lies apart, so that data without one stay small. Contracts see the shape.
+/// A boxed shape, so that data without one stay small. Contracts see the shape.
 #[derive(Debug, Drop)]
 pub struct BoxedShape {
     shape: Box<Shape>,
@@ -19,7 +19,7 @@ impl Model for BoxedShape {
 }
 
 impl BoxedShape {
-    /// The shape. Its error says that memory was refused.
+    /// Boxes a shape. Fails only if an allocation fails.
     pub fn new(alloc: Global, shape: Shape) -> Result<BoxedShape, AllocError>
         ensures { IfOk result (λ b. b ≡ shape) }
     {
@@ -27,7 +27,7 @@ impl BoxedShape {
         Ok(BoxedShape { shape })
     }
 
-    /// An equal shape, which lies apart from this one. Its error says that memory was refused.
+    /// A copy in a box of its own. Fails only if an allocation fails.
     pub fn copy(&self, alloc: Global) -> Result<BoxedShape, AllocError>
         ensures { IfOk result (λ b. b ≡ self.now) }
     {

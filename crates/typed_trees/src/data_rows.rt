@@ -3,8 +3,8 @@
 use crate::first_data::FirstData;
 use rapid_model::{NameText, Sort, Value};
 
-/// A VAR of a module, or a CONST array of one, as `variable` tells: its type, its length where it is an array, and its first
-/// data, one for each element.
+/// A VAR or a CONST array of a module, as `variable` says: its type, its length if it is an array, and its first data,
+/// one for each element.
 #[derive(Debug, Drop)]
 pub struct SlotRow {
     pub name: NameText,
@@ -14,8 +14,8 @@ pub struct SlotRow {
     pub first: FirstData,
 }
 
-/// A PERS: the number of its module, the byte of its name, whether it is the task's own (TASK or LOCAL), its type, its length
-/// where it is an array, and the values that its declaration gives, if any.
+/// A PERS: the number of its module, the byte at which its name starts, whether it is the task's own (TASK or LOCAL),
+/// its type, its length if it is an array, and the values that its declaration gives, if any.
 #[derive(Debug, Drop)]
 pub struct PersRow {
     pub name: NameText,

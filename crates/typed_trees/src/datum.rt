@@ -6,8 +6,8 @@ use crate::boxed_shape::BoxedShape;
 use rapid_model::{PartName, Value};
 use std::alloc::{AllocError, Global};
 
-/// Where a datum begins: a place among a task's module data, a place among the data of a frame, or an element of a
-/// persistent, whose index is 0 where it is no array.
+/// Where a datum is stored: at a place among the task's module data, at a place in a frame, or at an element of a
+/// persistent, with index 0 if it is not an array.
 #[derive(Clone, Copy, Debug, PartialEq, Eq)]
 pub enum Root {
     Slot(u32),
@@ -27,16 +27,16 @@ pub struct Lvalue {
 pub enum Datum {
     /// A value of a type that has values.
     Plain(Value),
-    /// The number of an interrupt or of a zone; 0 where there is none.
+    /// The number of an interrupt or of a zone; 0 if there is none.
     Mark(u8),
-    /// A shape, once it was defined.
+    /// A shape, once it is defined.
     Shape(Option<BoxedShape>),
-    /// What a reference parameter stands for.
+    /// What a reference parameter refers to.
     Place(Lvalue),
 }
 
 impl Datum {
-    /// An equal datum. Its error says that memory was refused.
+    /// A copy. Fails only if an allocation fails.
     pub fn copy(&self, alloc: Global) -> Result<Datum, AllocError>
         ensures { IfOk result (λ d. d ≡ self.now) }
     {

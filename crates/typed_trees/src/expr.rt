@@ -9,7 +9,7 @@ use rapid_model::{Function, NameText, Operator, PartName, Predefined, Sort, Valu
 use rapid_num::Num;
 use std::alloc::{AllocError, Global};
 
-/// An expression, the byte at which it begins, from 0, and its type (RAPID Kernel, expressions).
+/// An expression, the byte at which it starts, counted from 0, and its type (RAPID Kernel, expressions).
 #[derive(Drop)]
 #[cycle(typed_expr)]
 pub struct Expr {
@@ -18,14 +18,14 @@ pub struct Expr {
     pub form: ExprForm,
 }
 
-/// What an expression is. Operators of one level, from left to right, are one chain, whose `rest` is never empty.
+/// The form of an expression. Operators of one level, from left to right, form one chain, whose `rest` is never empty.
 #[derive(Drop)]
 #[cycle(typed_expr)]
 pub enum ExprForm {
-    /// A num that is known before the run.
+    /// A num known before the run.
     Number(Num),
-    /// Another value that is known before the run: a literal, a constant that is no array, or a predefined datum; of the
-    /// latter two the part that is named.
+    /// Any other value known before the run: a literal, a constant other than an array, or a predefined datum; for the
+    /// latter two, the part that is named.
     Const(Box<Value>),
     /// ERRNO.
     Errno,
@@ -48,7 +48,7 @@ pub enum ExprForm {
         args: Vec<Arg>,
     },
     Not(Box<Expr>),
-    /// A leading sign, which covers the first term alone.
+    /// A leading sign, which applies only to the first term.
     Signed {
         minus: bool,
         operand: Box<Expr>,
@@ -65,23 +65,23 @@ pub enum ExprForm {
 pub enum Arg {
     /// A value.
     Value(Expr),
-    /// A place that is lent.
+    /// A place, passed by reference.
     Place(TreePlace),
     /// A signal, by its number in the script.
     Signal(u32),
     /// A meeting, by its number among the tree's meetings.
     Meeting(u32),
-    /// One of the predefined names that stand for themselves: `fine`, `tool0`, `wobj0`.
+    /// A predefined name that stands for itself: `fine`, `tool0`, `wobj0`.
     Known(Predefined),
-    /// An option, and the argument that it has, if any.
+    /// An option and its argument, if any.
     Option {
         name: NameText,
         value: Option<Box<Arg>>,
     },
 }
 
-/// What a place is a part of: a module's datum, a parameter or datum of the routine, what a reference parameter stands for,
-/// or a persistent; each by its number.
+/// What a place is a part of: a module's datum, a parameter or datum of the routine, what a reference parameter refers
+/// to, or a persistent; each by its number.
 #[derive(Clone, Copy, Debug, PartialEq, Eq)]
 pub enum TreeRoot {
     Slot(u32),
@@ -101,7 +101,7 @@ pub struct TreePlace {
 }
 
 impl Expr {
-    /// A value that is known before the run. Its error says that memory was refused.
+    /// A value known before the run. Fails only if an allocation fails.
     pub fn constant(alloc: Global, at: usize, sort: Sort, value: Value) -> Result<Expr, AllocError>
         ensures { IfOk result (λ e. view_expr e ≡ Plain.Known at sort value) }
     {
@@ -136,7 +136,7 @@ impl Expr {
         Expr { at, sort, form }
     }
 
-    /// An expression in parentheses. Its error says that memory was refused.
+    /// An expression in parentheses. Fails only if an allocation fails.
     pub fn group(alloc: Global, at: usize, sort: Sort, value: Expr) -> Result<Expr, AllocError>
         ensures { IfOk result (λ e. view_expr e ≡ Plain.Group at sort (view_expr value)) }
     {
@@ -168,7 +168,7 @@ impl Expr {
         Expr { at, sort, form }
     }
 
-    /// NOT and its operand. Its error says that memory was refused.
+    /// NOT and its operand. Fails only if an allocation fails.
     pub fn not(alloc: Global, at: usize, sort: Sort, value: Expr) -> Result<Expr, AllocError>
         ensures { IfOk result (λ e. view_expr e ≡ Plain.Not at sort (view_expr value)) }
     {
@@ -176,7 +176,7 @@ impl Expr {
         Ok(Expr { at, sort, form })
     }
 
-    /// A leading sign, minus or plus, and its operand. Its error says that memory was refused.
+    /// A leading sign, minus or plus, and its operand. Fails only if an allocation fails.
     pub fn signed(
         alloc: Global,
         at: usize,
@@ -191,7 +191,7 @@ impl Expr {
         Ok(Expr { at, sort, form })
     }
 
-    /// Operators of one level and their operands, from left to right. Its error says that memory was refused.
+    /// Operators of one level and their operands, from left to right. Fails only if an allocation fails.
     pub fn chain(
         alloc: Global,
         at: usize,
@@ -215,7 +215,7 @@ impl Arg {
         Arg::Option { name, value: None }
     }
 
-    /// An option and its argument. Its error says that memory was refused.
+    /// An option and its argument. Fails only if an allocation fails.
     pub fn option_with(alloc: Global, name: NameText, value: Arg) -> Result<Arg, AllocError>
         ensures { IfOk result (λ a. view_arg a ≡ Plain.Optional name (Plain.Argument (view_arg value))) }
     {
@@ -225,7 +225,7 @@ impl Arg {
 }
 
 impl TreePlace {
-    /// A part of what the root names, or of the element that `index` chooses. Its error says that memory was refused.
+    /// A part of what the root names, or of the element that `index` selects. Fails only if an allocation fails.
     pub fn new(
         alloc: Global,
         root: TreeRoot,

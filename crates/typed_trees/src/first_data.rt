@@ -6,19 +6,19 @@ use crate::first_runs::FirstRuns;
 use std::alloc::{AllocError, Global};
 use std::marker::Model;
 
-/// The first data of a datum's elements, in order. Where a declaration gives no value all are alike, and only one is kept.
-/// Contracts see the list (RAPID Kernel, data declarations).
+/// The first data of a datum's elements, in order. If the declaration gives no value, all are equal and only one is
+/// kept. Contracts see the whole list (RAPID Kernel, data declarations).
 #[derive(Debug, Drop)]
 pub struct FirstData {
     kept: Kept,
 }
 
-/// What is kept of first data.
+/// How first data are kept.
 #[derive(Debug, Drop)]
 enum Kept {
     /// One for each element.
     Given(Vec<Datum>),
-    /// So many that are alike.
+    /// One datum, repeated this many times.
     Alike(Datum, usize),
 }
 
@@ -33,7 +33,7 @@ impl Model for FirstData {
 }
 
 impl FirstData {
-    /// Data that are given.
+    /// The given data.
     pub fn given(first: Vec<Datum>) -> FirstData
         ensures { result ≡ first.items }
     {
@@ -41,7 +41,7 @@ impl FirstData {
         FirstData { kept }
     }
 
-    /// So many data that are alike. Takes no memory.
+    /// `count` equal data. Allocates nothing.
     pub fn alike(datum: Datum, count: usize) -> FirstData
         ensures { result ≡ replicate count datum }
     {
@@ -49,7 +49,7 @@ impl FirstData {
         FirstData { kept }
     }
 
-    /// How many they are.
+    /// How many there are.
     pub fn len(&self) -> usize
         ensures { result ≡ length self.now }
     {
@@ -69,7 +69,7 @@ impl FirstData {
         }
     }
 
-    /// Appends a copy of each, in order. Its error says that memory was refused.
+    /// Appends a copy of each, in order. Fails only if an allocation fails.
     pub fn append_to(&self, alloc: Global, to: &mut Vec<Datum>) -> Result<(), AllocError>
         ensures { OnOk result (to.new.items ≡ to.old.items ++ self.now) }
     {
@@ -80,7 +80,7 @@ impl FirstData {
     }
 }
 
-/// Appends a copy of each datum. Its error says that memory was refused.
+/// Appends a copy of each datum. Fails only if an allocation fails.
 fn append_each(alloc: Global, first: &[Datum], to: &mut Vec<Datum>) -> Result<(), AllocError>
     ensures { OnOk result (to.new.items ≡ to.old.items ++ first.now) }
 {
@@ -90,7 +90,7 @@ fn append_each(alloc: Global, first: &[Datum], to: &mut Vec<Datum>) -> Result<()
     Ok(())
 }
 
-/// Appends so many copies of a datum. Its error says that memory was refused.
+/// Appends `count` copies of a datum. Fails only if an allocation fails.
 fn append_alike(
     alloc: Global,
     datum: &Datum,

@@ -3,8 +3,8 @@ use crate::datum::Datum;
 /// First data as they are kept.
 #[derive(Debug)]
 pub enum FirstRuns<'a> {
-    /// Each of them, in order.
+    /// Each datum, in order.
     Each(&'a [Datum]),
-    /// So many that are alike.
+    /// One datum, repeated this many times.
     Alike(&'a Datum, usize),
 }

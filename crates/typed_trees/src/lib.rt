@@ -1,5 +1,5 @@
-//! The trees of a task once its names are resolved and its types are known. Each form has the byte of its module at which it
-//! begins.
+//! The trees of a checked task, with names resolved and types known. Each form has the byte of its module at which it
+//! starts.
 #![tactic(auto)]
 
 mod bounds;

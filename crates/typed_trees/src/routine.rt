@@ -4,7 +4,7 @@ use crate::first_data::FirstData;
 use crate::stmt::Stmt;
 use rapid_model::{Mode, NameText, RoutineKind, Sort};
 
-/// A parameter: its name, how its argument is handed over, and its type.
+/// A parameter: its name, how its argument is passed, and its type.
 #[derive(Debug, Drop)]
 pub struct Param {
     pub name: NameText,
@@ -12,7 +12,7 @@ pub struct Param {
     pub sort: Sort,
 }
 
-/// A datum of a routine, made anew at each call: whether it is a VAR, its type, the length of an array, and its first
+/// A datum of a routine, created at each call: whether it is a VAR, its type, the length of an array, and its first
 /// values, one for each element.
 #[derive(Debug, Drop)]
 pub struct LocalRow {
@@ -23,9 +23,9 @@ pub struct LocalRow {
     pub first: FirstData,
 }
 
-/// A routine: the number of its module, a function's type, its statements, its ERROR part, and how many
-/// FORs stand in both. `at` is the byte of its first
-/// word. Parameters come first among its places, then its data, an array as one, then its FORs in text order.
+/// A routine: the number of its module, a function's type, its statements, its ERROR part, and how many FORs both have.
+/// `at` is the byte of its first word. Its places are its parameters, then its data (an array is one place), then its
+/// FORs in text order.
 #[derive(Drop)]
 pub struct Routine {
     pub name: NameText,

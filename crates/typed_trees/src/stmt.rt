@@ -10,7 +10,7 @@ use crate::expr::{Arg, Expr, TreePlace};
 use rapid_model::Instruction;
 use std::alloc::{AllocError, Global};
 
-/// A statement, and the byte at which it begins, from 0 (RAPID Kernel, statements).
+/// A statement and the byte at which it starts, counted from 0 (RAPID Kernel, statements).
 #[derive(Drop)]
 #[cycle(typed_stmt)]
 pub struct Stmt {
@@ -18,8 +18,8 @@ pub struct Stmt {
     pub form: Form,
 }
 
-/// What a statement is. Routines are named by their number among the tree's, labels by their number in text order in their
-/// routine, the variable of a FOR by its place among the routine's parameters, data and FORs.
+/// The form of a statement. A routine is given by its number in the tree, a label by its number in text order in its
+/// routine, and the variable of a FOR by its place among the routine's parameters, data and FORs.
 #[derive(Drop)]
 #[cycle(typed_stmt)]
 pub enum Form {
@@ -46,7 +46,7 @@ pub enum Form {
         place: TreePlace,
         trap: u32,
     },
-    /// IF and ELSEIF with their lists, and ELSE.
+    /// IF and each ELSEIF with its list, and ELSE.
     If {
         arms: Vec<(Expr, Vec<Stmt>)>,
         other: Option<Vec<Stmt>>,
@@ -65,7 +65,7 @@ pub enum Form {
         test: Expr,
         list: Vec<Stmt>,
     },
-    /// CASE with their values and lists, and DEFAULT.
+    /// Each CASE with its values and its list, and DEFAULT.
     Test {
         value: Expr,
         cases: Vec<(Vec<Expr>, Vec<Stmt>)>,
@@ -130,7 +130,7 @@ impl Stmt {
         Stmt { at, form }
     }
 
-    /// RAISE, with the number of an error or none.
+    /// RAISE, with an error number or none.
     pub fn raise(at: usize, number: Option<Expr>) -> Stmt
         ensures { view_stmt result ≡ Plain.Raise at (option_map view_expr number) }
     {
@@ -154,7 +154,7 @@ impl Stmt {
         Stmt { at, form }
     }
 
-    /// CONNECT, of the interrupt of a place with a trap.
+    /// CONNECT of the interrupt at a place with a trap.
     pub fn connect(at: usize, place: TreePlace, trap: u32) -> Stmt
         ensures { view_stmt result ≡ Plain.Connect at (view_place place) trap }
     {
@@ -170,7 +170,7 @@ impl Stmt {
         Stmt { at, form }
     }
 
-    /// IF without THEN. Its error says that memory was refused.
+    /// IF without THEN. Fails only if an allocation fails.
     pub fn branch_one(alloc: Global, at: usize, test: Expr, then: Stmt) -> Result<Stmt, AllocError>
         ensures { IfOk result (λ s. view_stmt s ≡ Plain.IfOne at (view_expr test) (view_stmt then)) }
     {
@@ -187,7 +187,7 @@ impl Stmt {
         Stmt { at, form }
     }
 
-    /// FOR, whose variable is this place of the routine. Its error says that memory was refused.
+    /// FOR, with its variable at this place of the routine. Fails only if an allocation fails.
     pub fn count(
         alloc: Global,
         at: usize,

@@ -4,9 +4,10 @@ use crate::data_rows::{PersRow, SlotRow};
 use crate::routine::Routine;
 use rapid_model::NameText;
 
-/// What the modules of a task say: how many there are, the names of all tasks of the script, the modules' data, persistents
-/// and meetings, the routines, and the number of `main` among them. `pers_of` and `meeting_of` give the cell's numbers of
-/// the tree's own, once the cell is made; they are empty before. `axes` is how many axes the task's arm has, 0 where it has none.
+/// The contents of a task's modules: how many modules there are, the names of all tasks in the script, the modules'
+/// data, persistents and meetings, the routines, and the number of `main` among them. `pers_of` and `meeting_of` map
+/// the tree's numbers to the cell's once the cell is made; before, they are empty. `axes` is how many axes the task's
+/// arm has, 0 if it has none.
 #[derive(Drop)]
 pub struct Tree {
     pub modules: u32,

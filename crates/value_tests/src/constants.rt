@@ -1,4 +1,4 @@
-//! Trees made by hand, and what they come to.
+//! Trees made by hand, and their values.
 
 use constant_meaning::{Arrays, Outcome, constant_value, is_constant};
 use rapid_model::{Operator, PartName, Sort, Value};
@@ -33,7 +33,7 @@ fn element(alloc: Global, slot: u32, index: i32) -> Result<Expr, AllocError> {
     Ok(Expr::place(0, Sort::Num, place))
 }
 
-// A robjoint of so many components, which are 1, 2 and so on.
+// A robjoint with so many components, which are 1, 2 and so on.
 fn robjoint(alloc: Global, count: i32) -> Result<Expr, AllocError> {
     let mut components = Vec::new(alloc);
     for number in 1..=count {
@@ -64,7 +64,7 @@ fn expressions_come_to(rt: HostRuntime) -> Result<(), Fail> {
             true,
             Some(Value::Num(whole(5))),
         ),
-        // The second element of [10, 20, 30], none past its last, and one of no constant array.
+        // The second element of [10, 20, 30], one past the end, and one of what is not a constant array.
         (element(alloc, 0, 2), true, Some(Value::Num(whole(20)))),
         (element(alloc, 0, 4), true, None),
         (element(alloc, 1, 2), false, None),

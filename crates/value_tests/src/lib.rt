@@ -1,5 +1,5 @@
-//! Predefined names, values, operators and constants as the documents of the language have them, compared with what their crates
-//! answer. It holds only tests.
+//! Predefined names, values, operators and constants as in the manuals of the language, compared with what their crates
+//! return. Tests only.
 #![tactic(auto)]
 
 #[cfg(test)]

@@ -8,10 +8,10 @@ use rapid_model::Operator::{
 };
 use rapid_model::{Operator, Value};
 use rapid_num::Joints;
-use rapid_operators::{Applied, apply, same_value, whole_index};
+use rapid_values::{Applied, apply, same_value, whole_index};
 use std::test::Fail;
 
-/// A value of a row. Of axes and speeds only the last is written, in thousandths: the others are 0.
+/// A value of a row. Of axes and speeds only the last is given, in thousandths: the others are 0.
 #[derive(Clone, Copy)]
 enum Written {
     Num(i64),
@@ -119,7 +119,7 @@ static APPLIED: [(Written, Operator, Written, Wanted); 32] = [
     (Rob(0), Equal, Ext(0), Unfit),
 ];
 
-/// A num and a length, both with the element that the num names.
+/// A num, a length, and the element that the num names.
 static INDICES: [(i64, u16, Option<u16>); 6] = [
     (0, 3, None),
     (500, 3, None),

@@ -5,7 +5,7 @@ use rapid_num::{Joints, Num};
 use rapid_values::{component, component_sorts, part, record_of, start_value, with_part};
 use std::test::Fail;
 
-/// Types, a component's name in small letters and in mixed ones, its part and its type.
+/// Types, a component's name in lower and in mixed case, its part and its type.
 static COMPONENTS: [(Sort, &[u8], &[u8], PartName, Sort); 19] = [
     (
         Sort::RobJoint,
@@ -142,7 +142,7 @@ static COMPONENTS: [(Sort, &[u8], &[u8], PartName, Sort); 19] = [
     ),
 ];
 
-/// Names that are no components of the type: those of another type, beginnings of names, and longer names.
+/// Names that are not components of the type: those of another type, prefixes of names, and longer names.
 static OTHERS: [(Sort, &[u8]); 12] = [
     (Sort::RobJoint, b"eax_a"),
     (Sort::RobJoint, b"rax_"),
@@ -199,7 +199,7 @@ fn starts_are_right(zero: Num) -> bool {
         && none.iter().all(|sort| start_value(*sort).is_none())
 }
 
-/// An axis put into a jointtarget of zeros, and a robjoint over it: what each part is then.
+/// An axis put into a jointtarget of zeros, then a robjoint over it: the parts afterwards.
 fn parts_are_right(zero: Num, one: Num, two: Num) -> bool {
     let start = Value::Target(Joints { axis: [zero; 12] });
     let Some(turned) = with_part(start, PartName::Axis(7), Value::Num(one)) else {
@@ -218,7 +218,7 @@ fn parts_are_right(zero: Num, one: Num, two: Num) -> bool {
         && part(&target, PartName::SpeedPart(0)).is_none()
 }
 
-/// Parts of an extjoint are from 6, those of a speed from 0, and what is put in is of the part's type.
+/// Parts of an extjoint are numbered from 6, those of a speed from 0, and what is put in has the part's type.
 fn ends_are_right(zero: Num, one: Num) -> bool {
     part(&Value::Ext([zero; 6]), PartName::Axis(5)).is_none()
         && part(&Value::Ext([zero; 6]), PartName::Axis(12)).is_none()

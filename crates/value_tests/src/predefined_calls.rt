@@ -7,7 +7,7 @@ use rapid_builtins::{
 use rapid_model::{Function, Instruction, Predefined, Sort, Value};
 use rapid_num::Num;
 
-/// Functions with their arguments, their answer, and whether they need an arm.
+/// Functions with their arguments, their result, and whether they need an arm.
 static FUNCTIONS: [(Function, &[Need], Sort, bool); 6] = [
     (
         Function::NumToStr,
@@ -37,7 +37,8 @@ static FUNCTIONS: [(Function, &[Need], Sort, bool); 6] = [
     ),
 ];
 
-/// Instructions with their arguments, how many options they have and how many may stand, and whether they need an arm.
+/// Instructions with their arguments, how many options they have and how many one call may have, and whether they need
+/// an arm.
 static INSTRUCTIONS: [(Instruction, &[Need], usize, Choice, bool); 9] = [
     (
         Instruction::MoveAbsJ,
@@ -103,7 +104,7 @@ static INSTRUCTIONS: [(Instruction, &[Need], usize, Choice, bool); 9] = [
     ),
 ];
 
-/// Names at an instruction, with what the option of that name takes, if it has one.
+/// Names with an instruction, and what its option of that name takes, if it has one.
 static NAMES: [(Instruction, &[u8], Option<Option<Need>>); 9] = [
     (Instruction::MoveAbsJ, b"noeoffs", Some(None)),
     (Instruction::MoveAbsJ, b"WOBJ", Some(Some(Need::WorkObject))),

@@ -1,4 +1,4 @@
-//! Predefined names in small letters and in capitals, with what they stand for.
+//! Predefined names in lower and upper case, with what they stand for.
 
 use rapid_builtins::{function, instruction, is_predefined, predefined};
 use rapid_model::{Function, Instruction, Predefined};
@@ -13,7 +13,7 @@ enum Meaning {
     Nothing,
 }
 
-/// Names in small letters and in capitals, with what they stand for.
+/// Names in lower and upper case, with what they stand for.
 static INSTRUCTIONS: [(&[u8], &[u8], Meaning); 30] = [
     (
         b"moveabsj",
@@ -291,7 +291,7 @@ static DATA: [(&[u8], &[u8], Meaning); 37] = [
     (b"errno", b"ERRNO", Meaning::Predefined(Predefined::ErrNo)),
 ];
 
-/// Near misses, and a name of 33 letters.
+/// Near misses, and a name of 33 characters.
 static OTHERS: [(&[u8], &[u8], Meaning); 10] = [
     (b"movel", b"MOVEL", Meaning::Nothing),
     (b"moveabs", b"MOVEABS", Meaning::Nothing),

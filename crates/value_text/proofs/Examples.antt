@@ -6,7 +6,7 @@ use Rattle.rapid_model.specs.declared.part_name.PartName.TheVariants as parts
 use Rattle.rapid_model.specs.declared.value.Value.TheVariants as values
 use Rattle.value_text.specs.ValueText.{part_text, value_text}
 
--- a quote and a backslash stand twice
+-- quotes and backslashes are doubled
 quoted : value_text (values.Text (codes "a\"b\\")) ≡ codes "\"a\"\"b\\\\\""
 quoted = refl
 

@@ -1,4 +1,4 @@
--- Printable bytes are a text.
+-- Printable bytes are valid UTF-8.
 use Rattle.std.proofs.Common.{ℕ, ◌≤◌, nat_le, List, [], ◌∷◌, zero, suc, arith}
 use Rattle.std.proofs.lemmas.Bool.{and_parts, leb-true}
 use Rattle.std.proofs.lemmas.Str.{IsUtf8-from_ascii}

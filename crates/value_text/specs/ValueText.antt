@@ -15,7 +15,7 @@ abbrev pub truth_text : Bool → List ℕ
 truth_text true = codes "TRUE"
 truth_text false = codes "FALSE"
 
--- a quote and a backslash stand twice in quotes
+-- in quotes, a quote or a backslash is doubled
 abbrev pub quoted_byte : ℕ → List ℕ
 quoted_byte b = if b == 34 || b == 92 then b ∷ b ∷ [] else b ∷ []
 
@@ -50,7 +50,7 @@ axis_names =
 abbrev pub speed_names : List (List ℕ)
 speed_names = codes ".v_tcp" ∷ codes ".v_ori" ∷ codes ".v_leax" ∷ codes ".v_reax" ∷ []
 
--- from 0; there are no others
+-- numbered from 0; there are no others
 abbrev pub axis_text : ℕ → List ℕ
 axis_text number = unwrap_or (slice_get axis_names number) []
 

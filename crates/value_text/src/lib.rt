@@ -1,4 +1,4 @@
-//! Values, parts of values, types, names and counts as text, as they stand in lines that are printed.
+//! Values, parts of values, types, names and counts as text, for printed lines.
 #![tactic(auto)]
 
 mod count;

@@ -6,8 +6,8 @@ ghost use Rattle.value_text.specs.ValueText.{axis_text, part_text, speed_text};
 use crate::rooms::WORD_BYTES;
 use rapid_model::PartName;
 
-/// A part as it stands behind a datum: each component after a dot, and nothing for the whole. The words of an axis are the
-/// same whatever the type of the datum is (RAPID Instructions, Functions and Data types: robjoint, extjoint, jointtarget,
+/// A part as written after a datum: each component after a dot, and nothing for the whole. The text of an axis does not
+/// depend on the type of the datum (RAPID Instructions, Functions and Data types: robjoint, extjoint, jointtarget,
 /// speeddata, tasks). At most 12 bytes.
 pub fn part_name(part: PartName) -> &'static str
     ensures name { result.now ≡ part_text part }
@@ -23,7 +23,7 @@ pub fn part_name(part: PartName) -> &'static str
     }
 }
 
-/// An axis, from 0.
+/// An axis, numbered from 0.
 fn axis_name(number: u8) -> &'static str
     ensures name { result.now ≡ axis_text number }
     ensures short { length result.now ≤ WORD_BYTES }
@@ -45,7 +45,7 @@ fn axis_name(number: u8) -> &'static str
     }
 }
 
-/// A part of a speed, from 0.
+/// A part of a speed, numbered from 0.
 fn speed_name(number: u8) -> &'static str
     ensures name { result.now ≡ speed_text number }
     ensures short { length result.now ≤ WORD_BYTES }

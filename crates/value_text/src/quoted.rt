@@ -1,4 +1,4 @@
-//! Texts in quotes.
+//! Strings in quotes.
 
 ghost use Rattle.std.specs.Prelude.{◌≡◌, ◌+◌, ◌<◌, ◌≤◌, ◌++◌, length};
 ghost use Rattle.value_text.specs.ValueText.{quoted_byte, quoted_text};
@@ -7,7 +7,7 @@ use crate::rooms::QUOTED_BYTES;
 use arrayvec::ArrayString;
 use rapid_model::Text;
 
-/// Appends a text in quotes.
+/// Appends a string in quotes.
 pub(crate) fn push_quoted<const N: usize>(text: &Text, line: &mut ArrayString<N>)
     requires room { length line.old.bytes + QUOTED_BYTES ≤ N }
     ensures text { line.new.bytes ≡ line.old.bytes ++ quoted_text text.now }
@@ -20,7 +20,7 @@ pub(crate) fn push_quoted<const N: usize>(text: &Text, line: &mut ArrayString<N>
     line.push('"');
 }
 
-/// Appends a byte as it stands in quotes.
+/// Appends a byte as written in quotes.
 fn push_byte<const N: usize>(byte: u8, line: &mut ArrayString<N>)
     requires ascii { byte < 128 }
     requires room { length line.old.bytes + 2 ≤ N }

@@ -1,4 +1,4 @@
-//! How many bytes the parts of a line take at most.
+//! The maximum sizes of the parts of a line, in bytes.
 
 use rapid_limits::{LONGEST_STRING, ROBOT_AXES};
 
@@ -11,10 +11,11 @@ pub const NUM_BYTES: usize = 15;
 /// The name of a type or of a part.
 pub const WORD_BYTES: usize = 12;
 
-/// The nums of a robjoint, an extjoint or a speeddata, each with what stands before it, and the bracket after the last.
+/// The nums of a robjoint, an extjoint or a speeddata, each with the bracket or comma before it, and the closing
+/// bracket.
 pub(crate) const NUMS_BYTES: usize = 2 + ROBOT_AXES * (NUM_BYTES + 1);
 
-/// A text in quotes, where each character may stand twice.
+/// A string in quotes, in which each character may be doubled.
 pub(crate) const QUOTED_BYTES: usize = 2 + 2 * LONGEST_STRING;
 
 /// A value: the longest is a jointtarget.

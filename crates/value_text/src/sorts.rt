@@ -4,7 +4,7 @@ ghost use Rattle.value_text.specs.ValueText.{sort_text};
 use crate::rooms::WORD_BYTES;
 use rapid_model::Sort;
 
-/// The name of a type, in small letters (RAPID Instructions, Functions and Data types).
+/// The name of a type, in lower case (RAPID Instructions, Functions and Data types).
 pub fn sort_name(sort: Sort) -> &'static str
     ensures name { result.now ≡ sort_text sort }
     ensures short { length result.now ≤ WORD_BYTES }

@@ -9,8 +9,8 @@ use arrayvec::ArrayString;
 use rapid_model::Value;
 use rapid_num::Joints;
 
-/// Appends a value as RAPID writes it, without spaces: a num without needless digits, TRUE, FALSE, a text in quotes, in which a
-/// quote and a backslash stand twice, or a list in brackets.
+/// Appends a value as RAPID writes it, without spaces: a num without needless digits, TRUE, FALSE, a string in quotes
+/// with each quote and backslash doubled, or a list in brackets.
 pub fn push_value<const N: usize>(value: &Value, line: &mut ArrayString<N>)
     requires room { length line.old.bytes + VALUE_BYTES ≤ N }
     ensures text { line.new.bytes ≡ line.old.bytes ++ value_text value.now }

@@ -1,4 +1,4 @@
--- The first zone that stops a segment, and the zone of its name.
+-- The first zone that stops a segment, and the zone that its name stands for.
 use Rattle.std.proofs.Common.{◌≡◌, ◌≤◌, ◌⊎◌, inl, inr, ℕ, zero, suc, ◌+◌, ◌-◌, ◌<◌, Bool, true, List, Option, None, Some, IsTrue, length, slice_index_or, slice_get, nat_lt, refl, arith}
 use Rattle.std.proofs.lemmas.Bool.{cases_lt, false≢true}
 use Rattle.std.proofs.lemmas.Bool.Decides.{nat_tests}
@@ -14,7 +14,7 @@ use Rattle.world_zones.specs.First.{Stops}
 use Rattle.world_zones.specs.Touched.{IsTouched, IsFirstTouched, comes_before}
 use Rattle.world_zones.specs.Zones.{ZonesData, arm_at, own_shape, shape_of_cell, zone_at}
 
--- the number of an index
+-- the number at an index
 zone_at-next : (zones : List (Option OwnZone)) (index : ℕ) → zone_at zones (suc index) ≡ slice_index_or zones index None
 zone_at-next zones index =
     let same : suc index - 1 ≡ index = omega arith in

@@ -10,6 +10,6 @@ pub record Stops (p q : Joints) (there : Option Shape) : Type 0 where
   pub is : there ≡ Some shape
   pub touched : Touches p q shape
 
--- the first index at which it holds, or none where it holds at none
+-- the first index at which it holds, or none if it holds at none
 abbrev pub IsFirstIndex : (ℕ → Type 0) → Option ℕ → Type 0
 IsFirstIndex Holds found = MatchOption found ((k : ℕ) → ¬ Holds k) (λ index. Holds index × ((k : ℕ) → k < index → ¬ Holds k))

@@ -10,7 +10,7 @@ use rapid_limits::MOST_ZONES;
 use rapid_num::{Joints, Shape};
 use std::marker::Model;
 
-/// The zones of one arm. Contracts see its ten entries, index n - 1 for the number n.
+/// The zones of one arm. Contracts see its ten entries, index n - 1 for number n.
 #[derive(Debug, Drop)]
 pub(crate) struct ArmZones {
     zones: [Option<OwnZone>; MOST_ZONES],
@@ -38,7 +38,7 @@ impl ArmZones {
         }
     }
 
-    /// Gives the arm a zone that stops it, which is on.
+    /// Gives the arm a zone that is on and stops it.
     pub(crate) fn set(&mut self, old: u8, temporary: bool, shape: &Shape) -> Result<u8, ZoneFault>
         ensures answer { result ≡ set_answer self.old old }
         ensures ok { IfOk result (λ number. self.new ≡ with_zone self.old number (given temporary shape.now)) }
@@ -76,7 +76,7 @@ impl ArmZones {
         }
     }
 
-    /// Takes a temporary zone from the arm.
+    /// Removes a temporary zone from the arm.
     pub(crate) fn free(&mut self, number: u8) -> Result<(), NoZone>
         ensures temporary { IsOk result ↔ IsTrue (is_temporary (zone_at self.old number)) }
         ensures ok { OnOk result (self.new ≡ with_zone self.old number None) }

@@ -4,7 +4,7 @@ ghost use Rattle.world_zones.specs.Zones.{cell_shape};
 use rapid_model::SignalValues;
 use rapid_num::Shape;
 
-/// A zone of the cell: it watches the arm of the task of this number while the signal of this number has the value.
+/// A zone of the cell: it watches the arm of the task with this number while the signal with this number has the value.
 #[derive(Clone, Copy, Debug, PartialEq, Eq)]
 pub struct CellZone {
     pub task: u32,

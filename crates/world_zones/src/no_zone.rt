@@ -1,3 +1,3 @@
-/// The arm has no temporary zone of this number.
+/// The arm has no temporary zone with this number.
 #[derive(Clone, Copy, Debug, PartialEq, Eq)]
 pub struct NoZone;

@@ -1,4 +1,4 @@
-/// The signal that a zone of an arm sets, by number, and its value while the arm's position lies in the shape (RAPID
+/// The signal that an arm's zone sets, by number, and its value while the arm's position lies in the shape (RAPID
 /// Instructions: WZDOSet).
 #[derive(Clone, Copy, Debug, PartialEq, Eq)]
 pub struct Output {

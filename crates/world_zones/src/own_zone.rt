@@ -6,7 +6,7 @@ use crate::output::Output;
 use rapid_limits::MOST_ZONES;
 use rapid_num::Shape;
 
-/// A zone that a task gave for its arm: temporary or stationary, switched on or off. One without an output stops the arm (RAPID
+/// A zone that a task gave its arm: temporary or stationary, on or off. A zone without an output stops the arm (RAPID
 /// Instructions: WZLimSup, WZDisable, WZEnable, WZDOSet).
 #[derive(Clone, Copy, Debug, PartialEq, Eq)]
 pub struct OwnZone {
@@ -16,7 +16,7 @@ pub struct OwnZone {
     pub output: Option<Output>,
 }
 
-/// The zone of the number, from 1 to 10; no other number has one.
+/// The zone with this number, 1 to 10; no other number has one.
 pub(crate) fn zone_at(zones: &[Option<OwnZone>; MOST_ZONES], number: u8) -> Option<OwnZone>
     ensures { result ≡ zone_at zones.now number }
 {
@@ -34,7 +34,7 @@ pub(crate) fn free_index(zones: &[Option<OwnZone>]) -> Option<usize>
     zones.iter().position(|zone| zone.is_none())
 }
 
-/// The shape of the zone, if there is one that is on and stops the arm.
+/// The shape of the zone, if there is one, it is on, and it stops the arm.
 pub(crate) fn own_shape(zone: &Option<OwnZone>) -> Option<&Shape>
     ensures { option_copied result ≡ own_shape zone.now }
 {

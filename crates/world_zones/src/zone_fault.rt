@@ -1,8 +1,8 @@
 /// Why an arm gets no zone (RAPID Instructions: WZLimSup).
 #[derive(Clone, Copy, Debug, PartialEq, Eq)]
 pub enum ZoneFault {
-    /// The variable names a zone of the arm.
+    /// The variable already names a zone of the arm.
     ZoneUsed,
-    /// The arm has ten zones.
+    /// The arm already has ten zones.
     ZoneFull,
 }

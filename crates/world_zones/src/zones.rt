@@ -15,8 +15,8 @@ use rapid_num::{Joints, Memory, Shape};
 use std::alloc::{AllocError, Global};
 use std::marker::Model;
 
-/// The zones of a cell. Contracts see those of each task's arm, ten entries a task, and those of the cell in script order. A
-/// call changes the zones of its task's arm, and no other's. No call but `new` takes memory (RAPID Instructions: WZLimSup,
+/// The zones of a cell. Contracts see those of each task's arm, ten entries a task, and those of the cell in script
+/// order. A call changes only the zones of its own task's arm. Only `new` allocates (RAPID Instructions: WZLimSup,
 /// WZDisable, WZEnable, WZFree).
 #[derive(Debug, Drop)]
 pub struct Zones {
@@ -38,7 +38,7 @@ impl Model for Zones {
 }
 
 impl Zones {
-    /// No arm has a zone yet; the cell has its own.
+    /// No arm has a zone yet; the cell has its own. Fails only if an allocation fails.
     pub fn new(alloc: Global, cell: &Cell) -> Result<Zones, Memory>
         ensures { IfOk result (λ z. z ≡ before_all cell.now) }
     {
@@ -48,8 +48,8 @@ impl Zones {
         }
     }
 
-    /// Gives the task's arm a zone that stops it, which is on, with the least free number, from 1 to 10: `ZoneUsed` exactly where
-    /// the old number is a zone of the arm, else `ZoneFull` exactly where the arm has ten.
+    /// Gives the task's arm a zone that is on and stops it, with the least free number, 1 to 10: `ZoneUsed` exactly if
+    /// the old number is a zone of the arm, otherwise `ZoneFull` exactly if the arm has ten.
     pub fn set(
         &mut self,
         task: u32,
@@ -65,7 +65,7 @@ impl Zones {
         self.arms[task as usize].set(old, temporary, shape)
     }
 
-    /// Switches a temporary zone off: `NoZone` exactly where the arm has no temporary zone of that number.
+    /// Switches a temporary zone off: `NoZone` exactly if the arm has no temporary zone with that number.
     pub fn disable(&mut self, task: u32, zone: u8) -> Result<(), NoZone>
         requires task { task < length self.old.arms }
         ensures temporary { IsOk result ↔ IsTrue (is_temporary (zone_at (arm_at self.old task) zone)) }
@@ -75,7 +75,7 @@ impl Zones {
         self.arms[task as usize].switch(zone, false)
     }
 
-    /// Switches a temporary zone on: `NoZone` exactly where the arm has no temporary zone of that number.
+    /// Switches a temporary zone on: `NoZone` exactly if the arm has no temporary zone with that number.
     pub fn enable(&mut self, task: u32, zone: u8) -> Result<(), NoZone>
         requires task { task < length self.old.arms }
         ensures temporary { IsOk result ↔ IsTrue (is_temporary (zone_at (arm_at self.old task) zone)) }
@@ -85,8 +85,8 @@ impl Zones {
         self.arms[task as usize].switch(zone, true)
     }
 
-    /// Takes a temporary zone from the arm, and its number is free: `NoZone` exactly where the arm has no temporary zone of that
-    /// number.
+    /// Removes a temporary zone from the arm and frees its number: `NoZone` exactly if the arm has no temporary zone
+    /// with that number.
     pub fn free(&mut self, task: u32, zone: u8) -> Result<(), NoZone>
         requires task { task < length self.old.arms }
         ensures temporary { IsOk result ↔ IsTrue (is_temporary (zone_at (arm_at self.old task) zone)) }
@@ -96,8 +96,9 @@ impl Zones {
         self.arms[task as usize].free(zone)
     }
 
-    /// The first zone that watches the task's arm and that it touches on its way from `p` to `q`: its own zones that are on, by
-    /// number, and then the cell's whose signal has its value, in script order. Each signal that a zone of the cell names is there.
+    /// The first zone that watches the task's arm and that it touches on the way from `p` to `q`: its own zones that
+    /// are on, by number, and then the cell's whose signal has its value, in script order. Each signal that a zone of
+    /// the cell names exists.
     pub fn blocks<V: SignalValues>(
         &self,
         task: u32,
@@ -149,7 +150,7 @@ fn starts(alloc: Global, cell: &Cell) -> Result<Zones, AllocError>
     Ok(Zones { arms, cell })
 }
 
-/// So many arms with no zone.
+/// That many arms with no zone.
 fn arms(alloc: Global, count: usize) -> Result<Vec<ArmZones>, AllocError>
     ensures { IfOk result (λ arms. arms.items ≡ replicate count no_zones) }
 {
@@ -167,7 +168,7 @@ fn of_cell(alloc: Global, rows: &[ZoneRow]) -> Result<Vec<CellZone>, AllocError>
     rows.iter().map(|row| zone_of(row)).collect(alloc)
 }
 
-/// A zone of the cell as its row has it.
+/// A zone of the cell, from its row.
 fn zone_of(row: &ZoneRow) -> CellZone
     ensures { result ≡ zone_of row.now }
 {

@@ -9,8 +9,8 @@ use Rattle.expr_parser.specs.declared.level.Level.{Level}
 use Rattle.expr_parser.specs.declared.level.Level.TheVariants as levels
 use Rattle.expr_parser.proofs.+expr.Given as goal
 
--- The measure is the levels left, and within one level a rank by who calls whom: those that open a level lowest, then
--- operands, the chains of each level of operators, expressions, and lists of them.
+-- The measure is the levels left, and within a level a rank by who calls whom: lowest the functions that open a level,
+-- then operands, the chains of each level of operators, expressions, and lists of them.
 
 abbrev height : Level → ℕ
 height levels.Term = 4

@@ -7,8 +7,8 @@ use Rattle.expr_parser.specs.Reads.{inside_read}
 use Rattle.stmt_parser.specs.Reads.{stmt_signs, behind_read, arm_read, arms_read, case_read, cases_read, list_read, stmt_read, items_read}
 use Rattle.stmt_parser.proofs.+stmt.Given as goal
 
--- The measure is the levels left, and within one level a rank by who calls whom: a list lowest, which opens a level, then
--- what stands around lists, statements, and the statements of a list.
+-- The measure is the levels left, and within a level a rank by who calls whom: lowest a list, which opens a level, then
+-- what is around lists, statements, and the statements of a list.
 
 abbrev pub decreases-statements::list : goal.decreases-statements::list
 decreases-statements::list l = 10 * l.left

@@ -10,7 +10,7 @@ run-requires-clause-may g c =
     crew_asks_what_it_may g.M.TaskMachine.fits g.M.TaskMachine.asks g.A.Askers.asks c.args.core.cell (map g.M.TaskMachine.program machines)
     (length-map machines g.M.TaskMachine.program ∙ c.requires.crew.one_each) c.requires.programs c.requires.suit
 
--- The list of machines is that of the slice, which has as many.
+-- The list of machines is that of the slice, which has the same length.
 pub returns-clause-stand : goal.returns-clause-stand
 returns-clause-stand g c =
     let ran = c.run.new.machines in

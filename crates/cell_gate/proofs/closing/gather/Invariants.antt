@@ -1,4 +1,4 @@
--- The parts of the passes that were taken are told here.
+-- The view states the parts of the passes that were taken.
 use Rattle.std.proofs.Common.{vec_len}
 use Rattle.cell_gate.specs.Hands.{IsSamePlace, IsIdle}
 use Rattle.cell_gate.proofs.Gathering.{Gathered}

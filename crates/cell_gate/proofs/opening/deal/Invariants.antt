@@ -1,4 +1,4 @@
--- The passes of so many actors behind the first are made.
+-- The passes of this many actors after the first are made.
 use Rattle.std.proofs.Common.{◌≡◌, ◌+◌, [], vec_len, vec_capacity}
 use Rattle.cell_gate.specs.Calls.{fresh_passes}
 use Rattle.cell_gate.specs.Hands.{IsSamePlace, gate_of}

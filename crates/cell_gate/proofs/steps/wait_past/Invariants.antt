@@ -1,4 +1,4 @@
--- Nothing has changed while the history was not longer.
+-- Nothing has changed while the history was no longer.
 use Rattle.std.proofs.Common.{◌≡◌}
 use Rattle.cell_gate.specs.Hands.{IsSamePlace}
 use Rattle.cell_gate.proofs.steps.wait_past.Given as goal

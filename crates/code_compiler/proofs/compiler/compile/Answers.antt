@@ -1,20 +1,15 @@
 use Rattle.std.proofs.Common.{sym, ◌∙◌, subst, length, IsTrue}
-use Rattle.std.proofs.lemmas.List.{length-map}
 use Rattle.rapid_model.specs.Limits.{is_axes}
 use Rattle.typed_trees.specs.Plain.{TypedTree}
 use Rattle.typed_trees.specs.Views.{view_tree}
 use Rattle.stack_code.specs.CodeData.{CodeData}
-use Rattle.stack_code.specs.Compiled.{compiled, placed_in}
-use Rattle.stack_code.specs.Placed.{Placed}
-use Rattle.error_recovery.specs.Owners.{Tiles}
-use Rattle.error_recovery.proofs.Rows.{all_tile}
-use Rattle.live_code.specs.Live.{IsLive}
-use Rattle.code_liveness.specs.Asking.{AsksAs}
-use Rattle.code_liveness.proofs.Lives.{asks_as, live}
+use Rattle.stack_code.specs.Compiled.{compiled}
+use Rattle.task_code.specs.Owners.{Tiles}
+use Rattle.task_code.proofs.Rows.{tiled}
+use Rattle.task_code.specs.Live.{IsLive}
+use Rattle.code_laws.specs.Asking.{AsksAs}
+use Rattle.code_laws.proofs.Lives.{asks_as, live}
 use Rattle.code_compiler.proofs.compiler.compile.Goals as goal
-
-tiled : (tree : TypedTree) → Tiles 0 (length (compiled tree).ops) (compiled tree).owners
-tiled tree = subst (λ n. Tiles 0 n (compiled tree).owners) (sym (length-map (placed_in tree) (λ (p : Placed). p.op))) (all_tile (placed_in tree))
 
 pub kept-requires : goal.kept-requires
 kept-requires c = record {

@@ -9,7 +9,7 @@ use Rattle.code_stmt.specs.Views.{view_args}
 use Rattle.code_stmt.proofs.ArgumentLists.{has_more}
 use Rattle.code_stmt.proofs.arguments.has.Goals as goal
 
--- of those that are left, the first or another
+-- the first of those that are left, or another
 first_named : (name : List ℕ) (list : List (Bor Arg)) (i : ℕ) (x : Bor Arg) → i < length list → x ≡ get_or list i x → has name (view_args (drop i list)) ≡ (is_named name (view_arg x.now) || has name (view_args (drop (i + 1) list)))
 first_named name list i x lt is =
     at_drop_more (λ left. has name (view_args left)) list i x lt

@@ -13,7 +13,7 @@ use Rattle.code_stmt.proofs.ArgumentLists.{one_further}
 use Rattle.code_stmt.proofs.steps.pieces_of_steps.Goals as goal
 use Rattle.code_stmt.proofs.steps.pieces_of_steps.Goals.{in-Some+in_ok-push-in-Some, in-None}
 
--- the pieces of the steps that are left: that of the first, if it has one, and those of the others
+-- the pieces of the steps that are left: that of the first, if it has one, and those of the rest
 first_step : (tree : TypedTree) (routine : TypedRoutine) (args options : List TypedArg) (steps : List Step) (i : ℕ) (d : Step) (piece : Option plain.Piece) → i < length steps → piece ≡ plain.piece_of tree routine args options (get_or steps i d) →
     plain.pieces_of_steps tree routine args options (drop i steps) ≡ cons_option piece (plain.pieces_of_steps tree routine args options (drop (i + 1) steps))
 first_step tree routine args options steps i d piece there is =

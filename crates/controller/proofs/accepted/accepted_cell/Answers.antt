@@ -1,7 +1,7 @@
-use Rattle.controller.specs.Answered.{word_bytes}
+use Rattle.std.specs.Prelude.{map}
 use Rattle.controller.specs.Files.{IsLoadFault}
 use Rattle.controller.proofs.Causes.{no_words, no_write, read_counted}
-use Rattle.controller.proofs.Choosing.{asked_moves}
+use Rattle.command_words.proofs.Choosing.{asked_moves}
 use Rattle.controller.proofs.Exits.{words_refused}
 use Rattle.controller.proofs.Gains.{gained_none}
 use Rattle.controller.proofs.accepted.accepted_cell.Goals as goal
@@ -19,19 +19,19 @@ returns-in-Err-clause-refused g c = λ held.
     })
 
 pub commanded_cell-requires : goal.commanded_cell-requires
-commanded_cell-requires g c = asked_moves (word_bytes c.args.words.now) c.in-Ok.command.action c.in-Ok.ensures.action
+commanded_cell-requires g c = asked_moves (map g.W.AsSlice.items c.args.words.now) c.in-Ok.command.action c.in-Ok.ensures.action
 
 pub returns-in-Ok-commanded_cell-clause-asked : goal.returns-in-Ok-commanded_cell-clause-asked
 returns-in-Ok-commanded_cell-clause-asked g c =
-    c.in-Ok-commanded_cell.ensures.asked (word_bytes c.args.words.now) (record { taken = c.in-Ok.ensures.taken; asked_is = c.in-Ok.ensures.action; name_is = c.in-Ok.ensures.name })
+    c.in-Ok-commanded_cell.ensures.asked (map g.W.AsSlice.items c.args.words.now) (record { taken = c.in-Ok.ensures.taken; asked_is = c.in-Ok.ensures.action; name_is = c.in-Ok.ensures.name })
 
 pub returns-in-Err-commanded_cell-clause-refused : goal.returns-in-Err-commanded_cell-clause-refused
 returns-in-Err-commanded_cell-clause-refused g c = λ held.
-    c.in-Err-commanded_cell.ensures.refused (word_bytes c.args.words.now) held (record { taken = c.in-Ok.ensures.taken; asked_is = c.in-Ok.ensures.action; name_is = c.in-Ok.ensures.name })
+    c.in-Err-commanded_cell.ensures.refused (map g.W.AsSlice.items c.args.words.now) held (record { taken = c.in-Ok.ensures.taken; asked_is = c.in-Ok.ensures.action; name_is = c.in-Ok.ensures.name })
 
 pub returns-in-Err-commanded_cell-clause-words : goal.returns-in-Err-commanded_cell-clause-words
 returns-in-Err-commanded_cell-clause-words g c =
-    no_words (IsLoadFault (g.S.Shelf.faults c.args.shelf.now) (g.S.Shelf.faults c.commanded_cell.new.shelf)) (word_bytes c.args.words.now) _ (λ place never. never) c.in-Ok.ensures.taken c.in-Err-commanded_cell.ensures.causes
+    no_words (IsLoadFault (g.S.Shelf.faults c.args.shelf.now) (g.S.Shelf.faults c.commanded_cell.new.shelf)) (map g.W.AsSlice.items c.args.words.now) _ (λ place never. never) c.in-Ok.ensures.taken c.in-Err-commanded_cell.ensures.causes
 
 pub returns-in-Err-commanded_cell-clause-read : goal.returns-in-Err-commanded_cell-clause-read
 returns-in-Err-commanded_cell-clause-read g c = read_counted (g.S.Shelf.faults c.args.shelf.now) (g.S.Shelf.faults c.commanded_cell.new.shelf) _ c.in-Err-commanded_cell.ensures.causes

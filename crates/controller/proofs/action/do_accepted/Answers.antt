@@ -1,6 +1,8 @@
 use Rattle.std.proofs.Common.{map}
 use Rattle.typed_trees.specs.Views.{view_tree}
 use Rattle.controller.specs.Loaded.{made_of}
+use Rattle.controller.specs.Runs.{IsRunByTurns}
+use Rattle.controller.specs.declared.shown.Shown.TheVariants as shows
 use Rattle.controller.proofs.Causes.{accepted_told, list_told, run_told}
 use Rattle.controller.proofs.Exits.{all_accepted, cell_listed, load_run, round_run}
 use Rattle.controller.proofs.action.do_accepted.Goals as goal
@@ -15,13 +17,13 @@ pub returns-in-Round-clause-answers : goal.returns-in-Round-clause-answers
 returns-in-Round-clause-answers g c = λ names. round_run names c.args.action c.in-Round.full (made_of c.args.accepted) _ _ _ c.in-Round.is c.run_cell.ensures
 
 pub returns-in-Round-clause-causes : goal.returns-in-Round-clause-causes
-returns-in-Round-clause-causes g c = run_told _ _ c.args.accepted.cell _ _ _ c.run_cell.ensures
+returns-in-Round-clause-causes g c = run_told (IsRunByTurns c.args.accepted.cell (map view_tree c.args.accepted.trees.items)) (shows.Events c.in-Round.full) c.args.accepted.cell _ _ _ c.run_cell.ensures
 
 pub returns-in-Load-clause-answers : goal.returns-in-Load-clause-answers
 returns-in-Load-clause-answers g c = λ names. load_run names c.args.action _ (made_of c.args.accepted) _ _ _ c.in-Load.is c.run_cell-in-Load.ensures
 
 pub returns-in-Load-clause-causes : goal.returns-in-Load-clause-causes
-returns-in-Load-clause-causes g c = run_told _ _ c.args.accepted.cell _ _ _ c.run_cell-in-Load.ensures
+returns-in-Load-clause-causes g c = run_told (IsRunByTurns c.args.accepted.cell (map view_tree c.args.accepted.trees.items)) shows.Summary c.args.accepted.cell _ _ _ c.run_cell-in-Load.ensures
 
 pub returns-in-List-clause-answers : goal.returns-in-List-clause-answers
 returns-in-List-clause-answers g c = λ names. cell_listed names c.args.action (made_of c.args.accepted) _ _ _ c.in-List.is c.list_cell.ensures

@@ -1,24 +1,25 @@
 use Rattle.std.proofs.Common.{ap}
-use Rattle.controller.specs.Answered.{word_bytes}
+use Rattle.std.specs.Prelude.{map}
 use Rattle.controller.specs.Files.{IsDoneFault}
 use Rattle.controller.specs.Loaded.{made_of}
 use Rattle.controller.specs.Printed.{sunk}
 use Rattle.controller.proofs.Causes.{no_read, no_words, write_counted}
-use Rattle.controller.proofs.Choosing.{not_run}
+use Rattle.command_words.proofs.Choosing.{not_run}
+use Rattle.controller.proofs.Complete.{done}
 use Rattle.controller.proofs.Exits.{asked_answered}
 use Rattle.controller.proofs.action.quiet.Goals as goal
 
 pub do_accepted-requires-clause-other : goal.do_accepted-requires-clause-other
-do_accepted-requires-clause-other g c = not_run (word_bytes c.args.words.now) c.in-Ok.action c.in-Ok.ensures.action c.requires
+do_accepted-requires-clause-other g c = not_run (map g.W.AsSlice.items c.args.words.now) c.in-Ok.action c.in-Ok.ensures.action c.requires
 
 pub returns-in-Ok-clause-answers : goal.returns-in-Ok-clause-answers
 returns-in-Ok-clause-answers g c =
-    asked_answered (word_bytes c.args.words.now) (g.S.Shelf.told c.args.shelf.now) c.in-Ok.action (made_of c.in-Ok.accepted) _ _ _ _ c.in-Ok.ensures.asked
+    asked_answered (map g.W.AsSlice.items c.args.words.now) (g.S.Shelf.told c.args.shelf.now) c.in-Ok.action (made_of c.in-Ok.accepted) _ _ _ _ c.in-Ok.ensures.asked
     (ap (λ (e : g.row.E.Denot). sunk g.E.Sink.told g.E.Sink.calls g.E.Sink.faults e c.do_accepted.new.err) c.in-Ok.ensures.untold) c.do_accepted.ensures.answers
 
 pub returns-in-Ok-clause-words : goal.returns-in-Ok-clause-words
 returns-in-Ok-clause-words g c =
-    no_words (IsDoneFault (g.O.Sink.faults c.args.out.now) (g.O.Sink.faults c.do_accepted.new.out)) (word_bytes c.args.words.now) _ (λ place never. never) c.in-Ok.ensures.taken c.do_accepted.ensures.causes
+    no_words (IsDoneFault (g.O.Sink.faults c.args.out.now) (g.O.Sink.faults c.do_accepted.new.out)) (map g.W.AsSlice.items c.args.words.now) _ (λ place never. never) c.in-Ok.ensures.taken c.do_accepted.ensures.causes
 
 pub returns-in-Ok-clause-read : goal.returns-in-Ok-clause-read
 returns-in-Ok-clause-read g c = no_read (g.O.Sink.faults c.args.out.now) (g.O.Sink.faults c.do_accepted.new.out) _ c.do_accepted.ensures.causes
@@ -32,3 +33,11 @@ returns-in-Err-clause-answers g c =
 
 pub returns-in-Err-clause-write : goal.returns-in-Err-clause-write
 returns-in-Err-clause-write g c = λ same. absurd (c.in-Err.ensures.write same)
+
+pub returns-in-Ok-clause-done : goal.returns-in-Ok-clause-done
+returns-in-Ok-clause-done g c =
+    done (map g.W.AsSlice.items c.args.words.now) (g.S.Shelf.told c.args.shelf.now) _ _ _ (returns-in-Ok-clause-answers g c) (returns-in-Ok-clause-write g c)
+
+pub returns-in-Err-clause-done : goal.returns-in-Err-clause-done
+returns-in-Err-clause-done g c =
+    done (map g.W.AsSlice.items c.args.words.now) (g.S.Shelf.told c.args.shelf.now) _ _ _ (returns-in-Err-clause-answers g c) (returns-in-Err-clause-write g c)

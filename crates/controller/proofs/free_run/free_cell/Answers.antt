@@ -2,6 +2,7 @@ use Rattle.std.proofs.Common.{ap, length, map, sym, ◌∙◌}
 use Rattle.std.proofs.lemmas.List.{length-map}
 use Rattle.typed_trees.specs.Views.{view_tree}
 use Rattle.controller.specs.Loaded.{made_with}
+use Rattle.controller.specs.declared.shown.Shown.TheVariants as shows
 use Rattle.controller.proofs.Compiling.{all_checked, seen_script}
 use Rattle.controller.proofs.Reports.{free_answered}
 use Rattle.controller.proofs.free_run.free_cell.Goals as goal
@@ -27,7 +28,7 @@ free_tasks-requires-clause-suit g c κs within =
 pub returns-in-Ok : goal.returns-in-Ok
 returns-in-Ok g c =
     let has = seen_script c.args.accepted.cell c.args.accepted.trees.items c.as_slice.result.now c.as_slice.ensures.value c.requires in
-    free_answered _ c.args.accepted.cell c.in-Ok.core.cell (map view_tree c.args.accepted.trees.items) (map view_tree c.as_slice.result.now) c.in-Ok.core.history _ _ _ c.in-Ok.ensures.cell
+    free_answered (shows.Events c.args.full) c.args.accepted.cell c.in-Ok.core.cell (map view_tree c.args.accepted.trees.items) (map view_tree c.as_slice.result.now) c.in-Ok.core.history _ _ _ c.in-Ok.ensures.cell
     (ap (map view_tree) c.as_slice.ensures.value)
     (record {
       well = c.accepted_tasks_ask_well.ensures has.script (made_with c.args.accepted.cell c.as_slice.result.now) has.accepted;

@@ -1,7 +1,7 @@
 use Rattle.std.proofs.Common.{List, All, ap, inr, map, subst, sym, ◌∙◌}
 use Rattle.typed_trees.specs.Views.{view_tree}
 use Rattle.typed_trees.specs.declared.tree.Tree.{Tree}
-use Rattle.code_liveness.specs.Checked.{IsChecked}
+use Rattle.code_laws.specs.Checked.{IsChecked}
 use Rattle.controller.specs.Loaded.{made_of}
 use Rattle.controller.proofs.Compiling.{all_checked, code_of, codes_are}
 use Rattle.controller.proofs.list.list_cell.Goals as goal

@@ -11,7 +11,7 @@ use Rattle.controller.proofs.Sending.{leaves_more, sends_one, sends_part}
 use Rattle.controller.proofs.Gains.{gained_more}
 use Rattle.controller.proofs.print.write_all.Goals as goal
 
--- where an index is within a list, something stands behind it
+-- if an index is within a list, something follows it
 rest_some : (xs : List ℕ) (i : ℕ) → i < length xs → drop i xs ≢ []
 rest_some xs i lt e = absurd (omega (arith, ap length e, length-drop i xs))
 
@@ -31,11 +31,11 @@ all_of xs i a b all f = subst (λ (ys : List ℕ). Gained ys a b) (take_all i xs
 none_more : {A : Type 0} (xs : List A) (a b c : Option (List A)) → Gained xs a b → Gained [] b c → Gained xs a c
 none_more {A} xs a b c f s = subst (λ (ys : List A). Gained ys a c) (append-nil xs) (gained_more xs [] a b c f s)
 
--- a call that was handed so many bytes, and took some of them
+-- a call that was handed this many bytes, and took some of them
 abbrev call : ℕ → ℕ → Call
 call handed taken = record { handed = handed; taken = taken }
 
--- the calls so far have left what stands behind the index
+-- the calls so far have left what follows the index
 abbrev HasLeft : List ℕ → ℕ → List Call → Type 0
 HasLeft xs i calls = Leaves (length xs) calls (length xs - i)
 
@@ -50,7 +50,7 @@ call_more xs i n a b c some fits f s = record {
   gained = gained_more f.calls (call (length xs - i) n ∷ []) a b c f.gained (subst (λ (handed : ℕ). Gained (call handed n ∷ []) b c) (length-rest xs i) s);
 }
 
--- the calls of all of the piece
+-- the calls for all of the piece
 calls_whole : (xs : List ℕ) (i : ℕ) (a b : Option (List Call)) → length xs ≤ i → GainedCalls (HasLeft xs i) a b → GainedCalls (SendsLines (xs ∷ [])) a b
 calls_whole xs i a b all f = record {
   calls = f.calls;
@@ -60,7 +60,7 @@ calls_whole xs i a b all f = record {
   gained = f.gained;
 }
 
--- the calls of a part of the piece
+-- the calls for part of the piece
 calls_part : (xs : List ℕ) (i : ℕ) (a b c : Option (List Call)) → i < length xs → GainedCalls (HasLeft xs i) a b → Gained [] b c → GainedCalls (SendsSome (xs ∷ [])) a c
 calls_part xs i a b c lt f s = record {
   calls = f.calls;

@@ -11,7 +11,7 @@ use Rattle.controller.proofs.print_summary.all_given.Goals.{then-is_given, else-
 abbrev gives : Event → Bool
 gives e = is_given e.request e.answer
 
--- one event more, which gives a setpoint or does not
+-- one more event, which gives a setpoint or does not
 given_more : (history : List Event) (k : ℕ) (e : Event) → k < length history → slice_get history k ≡ Some e → gives e ≡ true → all_given (take (k + 1) history) ≡ all_given (take k history) + 1
 given_more history k e lt at is = count_by_more_yes gives history k e lt (ap gives (get_or_from_slice_get history k e e at) ∙ is)
 

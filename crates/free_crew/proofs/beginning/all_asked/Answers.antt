@@ -1,4 +1,4 @@
--- The list of machines is that of the slice, which has as many.
+-- The list of machines is that of the slice, which has the same length.
 use Rattle.std.proofs.Common.{◌≡◌, length, drop, arith}
 use Rattle.std.proofs.Math.Seq.{take-append_seam}
 use Rattle.free_crew.proofs.beginning.all_asked.Goals as goal

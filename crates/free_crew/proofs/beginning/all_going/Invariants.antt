@@ -1,4 +1,4 @@
--- So many tasks have a standing.
+-- This many tasks have a standing.
 use Rattle.std.proofs.Common.{◌≡◌, length, replicate}
 use Rattle.free_crew.specs.declared.standing.Standing.TheVariants as standings
 use Rattle.free_crew.proofs.beginning.all_going.Given as goal

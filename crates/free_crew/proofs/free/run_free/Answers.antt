@@ -7,7 +7,7 @@ use Rattle.free_crew.proofs.free.run_free.Given as given
 use Rattle.free_crew.proofs.free.run_free.Goals.{After-run_all-crew}
 use Rattle.free_crew.proofs.free.run_free.Goals as goal
 
--- the machines run what they ran
+-- the machines run the same programs
 programs : (g : given.Over) (c : After-run_all-crew g) → map g.M.TaskMachine.program c.run_all-crew.result.machines.items ≡ map g.M.TaskMachine.program c.args.machines.items
 programs g c =
     ran_programs g.M.TaskMachine.program c.begin-crew.result c.run_all-crew.result c.args.machines.items c.begin-crew.ensures.may.even c.run_all-crew.ensures.size.even c.run_all-crew.ensures.programs

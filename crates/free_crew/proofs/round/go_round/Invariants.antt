@@ -1,4 +1,4 @@
--- Some rounds were gone.
+-- Some rounds are done.
 use Rattle.free_crew.specs.Amid.{IsSamePrograms}
 use Rattle.free_crew.specs.Crews.{IsSameSize, jobs_of}
 use Rattle.free_crew.specs.Runs.{MayRun}

@@ -6,7 +6,7 @@ use Rattle.free_crew.proofs.threads.finish.Given as given
 use Rattle.free_crew.proofs.threads.finish.Goals.{After-join-back}
 use Rattle.free_crew.proofs.threads.finish.Goals as goal
 
--- what the thread gave back is what its promise says
+-- the thread gave back what it promised
 came : (g : given.Over) (c : After-join-back g)
     → GoesOnAs g.M.TaskMachine.program g.M.TaskMachine.fits g.M.TaskMachine.asks g.M.TaskMachine.stands_for g.M.TaskMachine.due c.args.gate.now c.args.task c.args.child.promise.job.value c.join-back.result
 came g c =

@@ -2,7 +2,7 @@ use Rattle.std.proofs.Common.{◌≡◌, ◌+◌, ◌++◌, take, drop, vec_len}
 use Rattle.std.specs.Vec.{vec_capacity}
 use Rattle.machine_stacks.proofs.moving.move_tail.Given as goal
 
--- what stands before the index has been moved, what stands from it on has not
+-- what stands before the index has been moved, the rest has not
 abbrev pub invariant-loop-index : goal.invariant-loop-index
 invariant-loop-index l = record {
   moved : l.to.items ++ drop l.index l.from.items ≡ l.initial.to.items ++ drop l.at l.initial.from.items;

@@ -18,7 +18,7 @@ gather-requires-clause-table c =
     let gates = All-pop (λ p. p.gate ≡ c.args.self) c.args.passes.items c.pop.new.self.items (Some c.in-Some.first) c.in-Some.ensures.items c.requires.of_gate in
     All-weaker (λ p. p.gate ≡ c.args.self) (λ p. p.gate.table ≡ c.self.inside.table.shared.table_id) (λ p is. ap (λ (gate : GateData). gate.table) (is ∙ sym c.self.view_is)) c.pop.new.self.items gates.0
 
--- the parts of all passes are told by the last view
+-- the last view states the parts of all passes
 told : (c : After-take) → All (λ p. Contains (parts c.gather.new.place.me.0) (part_told p)) c.args.passes.items
 told c =
     let first = c.first.inside in

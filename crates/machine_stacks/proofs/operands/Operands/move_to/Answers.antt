@@ -5,7 +5,7 @@ use Rattle.machine_stacks.specs.OperandStack.{OperandStack, stacked}
 use Rattle.machine_stacks.proofs.Stacking.{below_kept, moved_away, same_stack, top_left}
 use Rattle.machine_stacks.proofs.operands.Operands.move_to.Goals as goal
 
--- the index from which operands are moved lies behind the base
+-- the index from which operands are moved is not below the base
 within : (items : List Datum) (base count : ℕ) → base ≤ length items → count ≤ length (reverse (drop base items)) → (base ≤ length items - count) × ((length items - count) + count ≡ length items)
 within items base count h k =
     let long : length (reverse (drop base items)) ≡ length items - base = length-reverse (drop base items) ∙ length-drop base items in

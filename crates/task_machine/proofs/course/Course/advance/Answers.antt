@@ -1,5 +1,5 @@
 use Rattle.std.proofs.Common.{◌∙◌}
-use Rattle.live_code.specs.Leads.{Runs}
+use Rattle.task_code.specs.Leads.{Runs}
 use Rattle.task_steps.specs.Doing.{doing_of}
 use Rattle.task_machine.proofs.Going.{comes_it, goes_it, nearer, steps_it}
 use Rattle.task_machine.proofs.course.Course.advance.Goals as goal

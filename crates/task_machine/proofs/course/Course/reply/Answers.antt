@@ -1,7 +1,7 @@
 use Rattle.std.proofs.Common.{ap, refl, ◌∙◌}
 use Rattle.stack_code.specs.CodeRuns.{fitting_by}
 use Rattle.task_steps.specs.Seen.{request_in}
-use Rattle.task_steps.specs.declared.phase.Phase.{Phase}
+use Rattle.task_steps.specs.declared.steps.phase.Phase.{Phase}
 use Rattle.task_steps.proofs.Along.{runs_along}
 use Rattle.task_machine.proofs.Replies.{reply_runs, reply_stands}
 use Rattle.task_machine.proofs.course.Course.reply.Goals as goal

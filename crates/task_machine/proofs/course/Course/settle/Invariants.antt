@@ -1,8 +1,8 @@
 use Rattle.std.proofs.Common.{◌≡◌, ◌≢◌, List}
 use Rattle.rapid_model.specs.declared.answer.Answer.{Answer}
-use Rattle.live_code.specs.Reached.{Reached}
+use Rattle.task_code.specs.Reached.{Reached}
 use Rattle.task_steps.specs.Doing.{doing_of}
-use Rattle.task_steps.specs.declared.phase.Phase.TheVariants as phases
+use Rattle.task_steps.specs.declared.steps.phase.Phase.TheVariants as phases
 use Rattle.task_machine.proofs.course.Course.settle.Given as goal
 
 abbrev pub invariant-loop-self : goal.invariant-loop-self

@@ -1,14 +1,14 @@
 use Rattle.std.proofs.Common.{◌≡◌, sym, ap, subst, ◌∙◌, ℕ, List, ◌∷◌, length, Option, None, Some, arith}
 use Rattle.rapid_meaning.specs.Doings.{Misfit}
 use Rattle.stack_code.specs.Raising.{handler_in, handler_of}
-use Rattle.live_code.specs.Leads.{Runs}
-use Rattle.live_code.proofs.Leading.{runs_misfit}
+use Rattle.task_code.specs.Leads.{Runs}
+use Rattle.task_code.proofs.Leading.{runs_misfit}
 use Rattle.task_steps.specs.Alike.{Follows}
 use Rattle.task_steps.specs.Doing.{raised_at}
 use Rattle.task_steps.specs.Points.{Waiting, Started, Called, Trapped, own_at, running_in, saved_in}
 use Rattle.task_steps.specs.Seen.{Seen}
 use Rattle.task_steps.specs.Tasks.{seen_task}
-use Rattle.task_steps.specs.declared.phase.Phase.TheVariants as phases
+use Rattle.task_steps.specs.declared.steps.phase.Phase.TheVariants as phases
 use Rattle.task_steps.proofs.Along.{alike_then, runs_along}
 use Rattle.task_steps.proofs.Errors.{not_some, out_called, out_none, out_started, out_trapped, part_stands}
 use Rattle.task_steps.proofs.task.Task.+raising.Goals as goal

@@ -1,6 +1,6 @@
 use Rattle.std.proofs.Common.{◌≡◌, ap, ◌∷◌, Some, None}
 use Rattle.task_steps.specs.Points.{Started, Called, Trapped}
-use Rattle.task_steps.specs.declared.left.Left.{Left}
+use Rattle.task_steps.specs.declared.routines.left.Left.{Left}
 use Rattle.task_steps.proofs.Endings.{back_called, back_none, back_started, back_trapped}
 use Rattle.task_steps.proofs.task.Task.back.Goals as goal
 

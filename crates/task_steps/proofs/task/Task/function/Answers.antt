@@ -1,6 +1,6 @@
 use Rattle.std.proofs.Common.{refl, ◌∙◌}
 use Rattle.typed_trees.specs.declared.datum.Datum.TheVariants.{Plain}
-use Rattle.rapid_meaning.specs.Functions.{of_value}
+use Rattle.stack_code.specs.Functions.{of_value}
 use Rattle.stack_code.specs.Steps.{pushes}
 use Rattle.task_steps.specs.Doing.{here_of}
 use Rattle.task_steps.proofs.Popped.{ends_at}

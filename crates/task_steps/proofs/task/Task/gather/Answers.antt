@@ -4,7 +4,7 @@ use Rattle.rapid_meaning.specs.Doings.{◌>>=◌}
 use Rattle.rapid_meaning.specs.Places.{read_value}
 use Rattle.task_steps.specs.Alike.{tested}
 use Rattle.task_steps.specs.Doing.{here_of}
-use Rattle.task_steps.specs.declared.gathering.Gathering.{Gathering}
+use Rattle.task_steps.specs.declared.operands.gathering.Gathering.{Gathering}
 use Rattle.task_steps.proofs.Along.{alike_is, alike_then}
 use Rattle.task_steps.proofs.Gatherings.{element_asked, element_missing, element_next, element_read, elements_read, then_left}
 use Rattle.task_steps.proofs.task.Task.gather.Goals as goal

@@ -1,4 +1,4 @@
-use Rattle.live_code.proofs.Leading.{runs_misfit}
+use Rattle.task_code.proofs.Leading.{runs_misfit}
 use Rattle.task_steps.proofs.task.Task.go.Goals as goal
 
 pub unreachable-requires : goal.unreachable-requires

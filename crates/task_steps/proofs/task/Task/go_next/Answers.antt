@@ -1,6 +1,6 @@
 use Rattle.std.proofs.Common.{◌≡◌, ap, ◌+◌, ◌<◌, length, arith}
 use Rattle.rapid_meaning.specs.Doings.{Gives}
-use Rattle.live_code.specs.Leads.{Runs}
+use Rattle.task_code.specs.Leads.{Runs}
 use Rattle.task_steps.specs.Points.{conf_in, point}
 use Rattle.task_steps.specs.Seen.{Seen}
 use Rattle.task_steps.proofs.Within.{gives_within}

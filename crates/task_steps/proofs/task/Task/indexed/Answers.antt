@@ -1,7 +1,7 @@
 use Rattle.std.proofs.Common.{◌≡◌, ℕ, ℤ, Option, Some, sym, ap, ◌∙◌}
 use Rattle.typed_trees.specs.declared.datum.Datum.TheVariants.{Place}
 use Rattle.typed_trees.specs.declared.datum.Lvalue.{Lvalue}
-use Rattle.rapid_operators.specs.Elements.{element_number}
+use Rattle.rapid_values.specs.Elements.{element_number}
 use Rattle.rapid_meaning.specs.Doings.{Doing, after, ◌>>=◌}
 use Rattle.rapid_meaning.specs.Places.{at_element, element_or_fault, indexed}
 use Rattle.stack_code.specs.Steps.{pushes}

@@ -1,7 +1,7 @@
 use Rattle.std.proofs.Common.{refl, ◌∙◌}
 use Rattle.rapid_model.specs.declared.function.Function.TheVariants as functions
 use Rattle.typed_trees.specs.declared.datum.Datum.TheVariants.{Plain}
-use Rattle.rapid_meaning.specs.Functions.{of_values}
+use Rattle.stack_code.specs.Functions.{of_values}
 use Rattle.stack_code.specs.Operands.{on_value}
 use Rattle.stack_code.specs.Steps.{pushes}
 use Rattle.task_steps.specs.Doing.{here_of}

@@ -1,5 +1,5 @@
 use Rattle.std.proofs.Common.{ap, ◌+◌, ◌≤◌, ◌∷◌, length, arith, leb-true}
-use Rattle.live_code.proofs.Leading.{runs_room}
+use Rattle.task_code.proofs.Leading.{runs_room}
 use Rattle.task_steps.specs.Points.{conf_in, point}
 use Rattle.task_steps.specs.Seen.{Room}
 use Rattle.task_steps.proofs.task.Task.put.Goals as goal

@@ -1,9 +1,9 @@
 use Rattle.std.proofs.Common.{◌≡◌, sym, ap, subst, ◌∙◌}
-use Rattle.live_code.specs.Leads.{Runs}
+use Rattle.task_code.specs.Leads.{Runs}
 use Rattle.stack_code.specs.CodeData.{CodeData}
 use Rattle.task_steps.specs.Doing.{answered, came, here_of}
 use Rattle.task_steps.specs.Seen.{Seen}
-use Rattle.task_steps.specs.declared.phase.Phase.TheVariants as phases
+use Rattle.task_steps.specs.declared.steps.phase.Phase.TheVariants as phases
 use Rattle.task_steps.proofs.Along.{runs_along}
 use Rattle.task_steps.proofs.task.Task.reply.Goals as goal
 

@@ -1,11 +1,8 @@
 use Rattle.std.proofs.Common.{◌≡◌, ap, sym, ◌∙◌, arith, ◌-◌, length, None, Some}
-use Rattle.rapid_model.specs.declared.part_name.PartName.TheVariants as parts
 use Rattle.rapid_model.specs.declared.value.Value.TheVariants.{Num}
-use Rattle.typed_trees.specs.declared.datum.Datum.{Datum}
 use Rattle.typed_trees.specs.declared.datum.Datum.TheVariants.{Plain}
 use Rattle.typed_trees.specs.declared.datum.Root.TheVariants as roots
 use Rattle.rapid_meaning.specs.Data.{datum_at}
-use Rattle.rapid_meaning.specs.Places.{put_in}
 use Rattle.stack_code.specs.Steps.{jumps}
 use Rattle.task_steps.specs.Doing.{here_of}
 use Rattle.task_steps.specs.Seen.{Seen}

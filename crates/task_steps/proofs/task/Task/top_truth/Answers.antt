@@ -1,4 +1,3 @@
-use Rattle.std.proofs.Common.{◌∙◌}
 use Rattle.task_steps.proofs.InPlace.{truth_none, truth_on}
 use Rattle.task_steps.proofs.task.Task.top_truth.Goals as goal
 

@@ -1,0 +1,3 @@
+pub mod Traps
+pub mod Accepted
+pub mod FitsTask

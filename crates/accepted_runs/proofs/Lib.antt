@@ -1,6 +1,0 @@
-pub mod Parts
-pub mod Trees
-pub mod Asking
-pub mod Programs
-pub mod Courses
-mod Fits

@@ -1,5 +1,0 @@
-use Rattle.accepted_runs.proofs.Courses.{suit_tasks}
-use Rattle.accepted_runs.proofs.laws.accepted_code_suits_its_task.Goals as goal
-
-pub returns : goal.returns
-returns c = suit_tasks

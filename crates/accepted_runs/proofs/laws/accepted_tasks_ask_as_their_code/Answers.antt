@@ -1,5 +1,0 @@
-use Rattle.accepted_runs.proofs.Programs.{ask_as_code}
-use Rattle.accepted_runs.proofs.laws.accepted_tasks_ask_as_their_code.Goals as goal
-
-pub returns : goal.returns
-returns c = ask_as_code

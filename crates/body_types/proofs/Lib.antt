@@ -1,4 +1,0 @@
-pub mod Behind
-pub mod Forms
-pub mod LabelPlaces
-pub mod Lists

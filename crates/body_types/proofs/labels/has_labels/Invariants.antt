@@ -1,8 +1,0 @@
-use Rattle.std.proofs.Common.{◌≡◌, map, drop}
-use Rattle.raw_trees.specs.Plain.{stmts_of}
-use Rattle.raw_trees.specs.Views.{view_stmt}
-use Rattle.body_types.specs.Labels.{own_labels}
-use Rattle.body_types.proofs.labels.has_labels.Given as goal
-
-abbrev pub invariant-loop-stmt : goal.invariant-loop-stmt
-invariant-loop-stmt l = own_labels (stmts_of (map view_stmt (drop l.stmt-index l.stmt-items))) ≡ own_labels (stmts_of (map view_stmt l.stmt-items))

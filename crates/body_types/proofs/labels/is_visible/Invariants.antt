@@ -1,6 +1,0 @@
-use Rattle.std.proofs.Common.{◌≡◌, drop}
-use Rattle.body_types.specs.Labels.{is_visible, labels_around}
-use Rattle.body_types.proofs.labels.is_visible.Given as goal
-
-abbrev pub invariant-loop-level : goal.invariant-loop-level
-invariant-loop-level l = is_visible l.text (labels_around (drop l.level-index l.levels)) ≡ is_visible l.text (labels_around l.levels)

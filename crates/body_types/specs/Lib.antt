@@ -1,4 +1,0 @@
-pub mod Labels
-pub mod Bodies
-pub mod Parts
-pub mod Views

@@ -1,3 +1,0 @@
-pub mod Following
-pub mod Routines
-pub mod Parts

@@ -1,5 +1,0 @@
-use Rattle.code_simulation.proofs.WellTyped.{orderly}
-use Rattle.code_simulation.proofs.laws.well_typed_trees_are_orderly.Goals as goal
-
-pub returns : goal.returns
-returns c = λ signals tree typed labels. orderly signals tree typed labels

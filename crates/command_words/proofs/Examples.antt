@@ -1,0 +1,69 @@
+-- Command words worked by hand.
+use Rattle.std.proofs.Common.{◌≡◌, [], ◌∷◌, true, false, refl, rules}
+use Rattle.std.specs.Prelude.{codes, Some, None}
+use Rattle.std.specs.Fmt.{digits}
+use Rattle.std.proofs.lemmas.Str.{IsUtf8-from_ascii}
+use Rattle.command_words.specs.declared.command.Action.TheVariants as actions
+use Rattle.command_words.specs.Words.{asked, is_run, refused_place}
+use Rattle.command_words.proofs.Texts.{text_name}
+
+-- words that ask for `run`, refused or not, and others
+run_cell : is_run (codes "run" ∷ codes "c" ∷ []) ≡ true
+run_cell = refl
+
+run_later : is_run (codes "--history" ∷ codes "run" ∷ []) ≡ true
+run_later = refl
+
+run_as_name : is_run (codes "round" ∷ codes "run" ∷ []) ≡ false
+run_as_name = refl
+
+no_words : is_run [] ≡ false
+no_words = refl
+
+-- `--history` before or after the other words; it changes no load
+whole_round : asked (codes "--history" ∷ codes "round" ∷ codes "c" ∷ []) ≡ Some (actions.Round true)
+whole_round = refl
+
+whole_run : asked (codes "run" ∷ codes "c" ∷ codes "--history" ∷ []) ≡ Some (actions.Run true)
+whole_run = refl
+
+short_round : asked (codes "round" ∷ codes "c" ∷ []) ≡ Some (actions.Round false)
+short_round = refl
+
+load_two : asked (codes "load" ∷ codes "--history" ∷ codes "2" ∷ []) ≡ Some (actions.Load 2)
+unfolding digits
+load_two = refl
+
+load_most : asked (codes "load" ∷ codes "1000" ∷ []) ≡ Some (actions.Load 1000)
+unfolding digits
+load_most = refl
+
+-- words after `load` that are no such number
+load_none : refused_place (codes "load" ∷ codes "0" ∷ []) ≡ Some 1
+unfolding digits
+load_none = refl
+
+load_past : refused_place (codes "load" ∷ codes "1001" ∷ []) ≡ Some 1
+unfolding digits
+load_past = refl
+
+load_zero_first : refused_place (codes "--history" ∷ codes "load" ∷ codes "02" ∷ []) ≡ Some 2
+unfolding digits
+load_zero_first = refl
+
+load_without : refused_place (codes "load" ∷ []) ≡ Some 1
+load_without = refl
+
+-- a word too many comes first
+load_too_many : refused_place (codes "load" ∷ codes "0" ∷ codes "1" ∷ []) ≡ Some 2
+load_too_many = refl
+
+-- a name that is text, and words that are not, before other causes
+text_taken : refused_place (codes "round" ∷ codes "c" ∷ []) ≡ None
+text_taken = text_name (codes "round" ∷ codes "c" ∷ []) (IsUtf8-from_ascii (codes "c") (search rules))
+
+no_text_action : refused_place ((255 ∷ []) ∷ codes "c" ∷ []) ≡ Some 0
+no_text_action = refl
+
+no_text_before : refused_place (codes "round" ∷ (255 ∷ []) ∷ codes "more" ∷ []) ≡ Some 2
+no_text_before = refl

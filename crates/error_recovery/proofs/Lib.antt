@@ -1,2 +1,0 @@
-pub mod Tiling
-pub mod Rows

@@ -1,0 +1,5 @@
+mod Asked
+mod Named
+mod Lists
+mod Fates
+mod Fitting

@@ -1,4 +1,0 @@
-pub mod Reaching
-pub mod Fitting
-pub mod Living
-pub mod Leading

@@ -1,5 +1,0 @@
-pub mod Live
-pub mod IsCode
-pub mod Reached
-pub mod Leads
-pub mod Asking

@@ -1,3 +1,0 @@
-pub mod Elements
-mod Examples
-pub mod Equalities

@@ -1,5 +1,0 @@
-use Rattle.rapid_operators.proofs.Equalities.{same_decides}
-use Rattle.rapid_operators.proofs.laws.equal_values.Goals as goal
-
-pub returns : goal.returns
-returns c = λ v w. same_decides v w

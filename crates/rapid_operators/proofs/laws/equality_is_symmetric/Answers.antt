@@ -1,5 +1,0 @@
-use Rattle.rapid_operators.proofs.Equalities.{same_symmetric}
-use Rattle.rapid_operators.proofs.laws.equality_is_symmetric.Goals as goal
-
-pub returns : goal.returns
-returns c = λ v w. same_symmetric v w

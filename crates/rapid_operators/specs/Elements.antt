@@ -1,7 +1,0 @@
--- The element of an array that a num names (RAPID Overview, arrays).
-use Rattle.std.specs.Prelude.{ℕ, ◌/◌, ◌%◌, ◌&&◌, ◌==◌, nat_le, ℤ, pos, negsuc, Option, Some, None, if◌then◌else◌}
-
--- the element, from 1, that a count of thousandths names in an array of so many
-abbrev pub element_number : ℕ → ℤ → Option ℕ
-element_number len (pos n) = if n % 1_000 == 0 && nat_le 1 (n / 1_000) && nat_le (n / 1_000) len then Some (n / 1_000) else None
-element_number len (negsuc n) = None

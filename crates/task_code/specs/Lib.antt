@@ -1,0 +1,6 @@
+pub mod Owners
+pub mod Live
+pub mod IsCode
+pub mod Reached
+pub mod Leads
+pub mod Asking

@@ -1,0 +1,111 @@
+//! How the task goes on with the outcome of an operation.
+
+ghost use Rattle.std.specs.Prelude.{◌≡◌, ◌≢◌, ◌+◌, ◌<◌, ◌∷◌, length, Some};
+ghost use Rattle.task_code.specs.Leads.{Runs};
+ghost use Rattle.stack_code.specs.Steps.{to_next};
+ghost use Rattle.task_steps.specs.Alike.{Follows, Goes, with_stack};
+ghost use Rattle.task_steps.specs.Doing.{came, gone, here_of};
+ghost use Rattle.task_steps.specs.Seen.{room_of};
+ghost use Rattle.task_steps.specs.declared.steps.phase.Phase.TheVariants as phases;
+ghost use Rattle.task_steps.specs.declared.steps.way.Way.TheVariants as ways;
+
+use crate::routines::living::keep_code;
+use crate::steps::done::Done;
+use crate::steps::phase::Phase;
+use crate::steps::way::Way;
+use crate::task::Task;
+use machine_stacks::Held;
+use task_code::Code;
+
+impl Task {
+    /// Goes on with the outcome of an operation.
+    pub(crate) fn commit(&mut self, code: &Code, done: Option<Done>)
+        requires going { self.old.phase ≡ phases.Going }
+        requires room { self.old.room ≡ room_of code.now }
+        requires runs { Runs code.now (came (here_of code.now self.old.conf) done) self.old.data' }
+        ensures room { self.new.room ≡ self.old.room }
+        ensures begun { self.new.phase ≢ phases.New }
+        ensures on { Follows code.now (came (here_of code.now self.old.conf) done) self.old.data' self.new }
+    {
+        let way = self.settle(code, done);
+        self.go(code, way)
+    }
+
+    /// Does what the outcome of an operation pushes or asks, and returns how the task goes on.
+    pub(crate) fn settle(&mut self, code: &Code, done: Option<Done>) -> Option<Way>
+        requires going { self.old.phase ≡ phases.Going }
+        requires room { self.old.room ≡ room_of code.now }
+        requires runs { Runs code.now (came (here_of code.now self.old.conf) done) self.old.data' }
+        ensures room { self.new.room ≡ self.old.room }
+        ensures going { result ≢ Some ways.Stay → self.new.phase ≡ phases.Going }
+        ensures begun { self.new.phase ≢ phases.New }
+        ensures on { Goes code.now (came (here_of code.now self.old.conf) done) self.old.data' result self.new }
+    {
+        match done {
+            Some(Done::Next) => Some(Way::Next),
+            Some(Done::Push(datum)) => self.put(code, datum),
+            Some(Done::Jump(to)) => Some(Way::Jump(to)),
+            Some(Done::Stay) => Some(Way::Stay),
+            Some(Done::Raise(error)) => Some(Way::Raise(error)),
+            Some(Done::Escape(error)) => Some(Way::Escape(error)),
+            Some(Done::Ask { request, then }) => {
+                self.phase = Phase::Asking { request, then };
+                Some(Way::Stay)
+            }
+            Some(Done::End(fate)) => Some(Way::End(fate)),
+            None => None,
+        }
+    }
+
+    /// Goes on in a given way.
+    pub(crate) fn go(&mut self, code: &Code, way: Option<Way>)
+        requires going { way ≢ Some ways.Stay → self.old.phase ≡ phases.Going }
+        requires begun { self.old.phase ≢ phases.New }
+        requires runs { Runs code.now (gone code.now way self.old) self.old.data' }
+        ensures room { self.new.room ≡ self.old.room }
+        ensures begun { self.new.phase ≢ phases.New }
+        ensures on { Follows code.now (gone code.now way self.old) self.old.data' self.new }
+    {
+        keep_code(code);
+        match way {
+            Some(Way::Next) => self.go_next(code),
+            Some(Way::Jump(to)) => self.pc = to,
+            Some(Way::Stay) => {}
+            Some(Way::Raise(error)) => {
+                let place = self.pc;
+                self.raise(code, place, error);
+            }
+            Some(Way::Escape(error)) => self.raise_out(code, error),
+            Some(Way::End(fate)) => self.phase = Phase::Over(fate),
+            None => unreachable!(),
+        }
+    }
+
+    /// Goes on to the next operation.
+    fn go_next(&mut self, code: &Code)
+        requires runs { Runs code.now (to_next (here_of code.now self.old.conf) self.old.conf.stack) self.old.data' }
+        ensures { self.new ≡ record self.old { conf = record self.old.conf { pc = self.old.conf.pc + 1 } } }
+    {
+        keep_code(code);
+        self.pc += 1;
+    }
+
+    /// Pushes an operand, and goes on to the next operation.
+    pub(crate) fn put(&mut self, code: &Code, datum: Held) -> Option<Way>
+        requires room { self.old.room ≡ room_of code.now }
+        requires runs { Runs code.now (to_next (here_of code.now self.old.conf) (datum ∷ self.old.conf.stack)) self.old.data' }
+        ensures next { result ≡ Some ways.Next }
+        ensures put { self.new ≡ with_stack (datum ∷ self.old.conf.stack) self.old }
+    {
+        self.push(datum);
+        Some(Way::Next)
+    }
+
+    /// Pushes an operand.
+    fn push(&mut self, datum: Held)
+        requires { length self.old.conf.stack < self.old.room.operands }
+        ensures { self.new ≡ with_stack (datum ∷ self.old.conf.stack) self.old }
+    {
+        self.operands.push(datum);
+    }
+}

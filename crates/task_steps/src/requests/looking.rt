@@ -1,0 +1,55 @@
+//! Looks and waits.
+
+ghost use Rattle.std.specs.Prelude.{◌≡◌, ◌≢◌, ◌<◌, length, Some};
+ghost use Rattle.stack_code.specs.CodeData.{CodeData};
+ghost use Rattle.stack_code.specs.Steps.{act, looks};
+ghost use Rattle.stack_code.specs.declared.op.Op.TheVariants as ops;
+ghost use Rattle.task_steps.specs.Alike.{Goes, Turns, with_stack};
+ghost use Rattle.task_steps.specs.Doing.{here_of};
+ghost use Rattle.task_steps.specs.declared.steps.phase.Phase.TheVariants as phases;
+ghost use Rattle.task_steps.specs.declared.steps.way.Way.TheVariants as ways;
+
+use crate::requests::pending::Pending;
+use crate::routines::living::keep_code;
+use crate::steps::done::Done;
+use crate::steps::phase::Phase;
+use crate::steps::way::Way;
+use crate::task::Task;
+use rapid_model::Request;
+use task_code::{Code, owner_of};
+
+impl Task {
+    /// Asks whether the statement may begin, and keeps its position.
+    pub(crate) fn look(&mut self, code: &Code) -> Option<Way>
+        requires within { self.old.conf.pc < length code.now.ops }
+        ensures room { self.new.room ≡ self.old.room }
+        ensures stay { result ≡ Some ways.Stay }
+        ensures begun { self.new.phase ≢ phases.New }
+        ensures goes { Goes code.now (looks (here_of code.now self.old.conf)) self.old.data' result self.new }
+    {
+        keep_code(code);
+        let owner = owner_of(code.marks(), self.pc);
+        self.place = Some(owner.at);
+        self.phase = Phase::Asking {
+            request: Request::Look,
+            then: Pending::Looked,
+        };
+        Some(Way::Stay)
+    }
+
+    /// Goes on if the condition is TRUE; else the task waits for a change by another actor.
+    pub(crate) fn wait(&mut self, to: u32) -> Option<Done>
+        ensures rest { self.new ≡ with_stack self.new.conf.stack self.old }
+        ensures turns { (code : CodeData) → Turns code (act (here_of code self.old.conf) (ops.Wait to)) self.old.data' result self.new }
+    {
+        let ready = self.pop_truth()?;
+        if ready {
+            return Some(Done::Next);
+        }
+        let seen = self.frames.seen();
+        Some(Done::Ask {
+            request: Request::Hold { seen },
+            then: Pending::Held(to),
+        })
+    }
+}

@@ -1,0 +1,35 @@
+ghost use Rattle.std.specs.Prelude.{◌≡◌, ◌≢◌, true, false};
+ghost use Rattle.task_code.specs.Leads.{Runs};
+ghost use Rattle.stack_code.specs.Steps.{step};
+ghost use Rattle.task_steps.specs.Alike.{Follows};
+ghost use Rattle.task_steps.specs.Points.{conf_in};
+ghost use Rattle.task_steps.specs.Seen.{room_of};
+ghost use Rattle.task_steps.specs.declared.steps.phase.Phase.TheVariants as phases;
+
+use crate::routines::loaded::LoadedCode;
+use crate::steps::phase::Phase;
+use crate::task::Task;
+
+impl Task {
+    /// Whether the task has begun and no request is due.
+    pub fn is_going(&self) -> bool
+        ensures going { result ≡ true → self.now.phase ≡ phases.Going }
+        ensures other { result ≡ false → self.now.phase ≢ phases.Going }
+    {
+        matches!(self.phase, Phase::Going)
+    }
+
+    /// Runs the operation at the task's place.
+    pub fn step(&mut self, loaded: &LoadedCode)
+        requires going { self.old.phase ≡ phases.Going }
+        requires room { self.old.room ≡ room_of loaded.now }
+        requires runs { Runs loaded.now (step loaded.now (conf_in loaded.now self.old.conf)) self.old.data' }
+        ensures room { self.new.room ≡ self.old.room }
+        ensures begun { self.new.phase ≢ phases.New }
+        ensures on { Follows loaded.now (step loaded.now (conf_in loaded.now self.old.conf)) self.old.data' self.new }
+    {
+        let op = &loaded.code().ops()[self.pc as usize];
+        let way = self.perform(loaded, op);
+        self.go(loaded.code(), way)
+    }
+}

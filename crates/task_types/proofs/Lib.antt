@@ -1,0 +1,4 @@
+pub mod Lists
+pub mod Mains
+pub mod ParamRows
+pub mod Sound

@@ -1,5 +1,0 @@
-use Rattle.task_typing.proofs.Constants.{constants_kept}
-use Rattle.task_typing.proofs.laws.constants_stay.Goals as goal
-
-pub returns : goal.returns
-returns c = λ signals cell number tree answers d typed numbered is. constants_kept signals cell number tree answers d typed numbered is

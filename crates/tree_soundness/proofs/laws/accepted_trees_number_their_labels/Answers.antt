@@ -1,5 +1,0 @@
-use Rattle.tree_soundness.proofs.LabelNumbers.{labels_count}
-use Rattle.tree_soundness.proofs.laws.accepted_trees_number_their_labels.Goals as goal
-
-pub returns : goal.returns
-returns c = labels_count

@@ -1,2 +1,0 @@
-pub mod Traps
-pub mod Accepted

@@ -1,0 +1,30 @@
+pub mod OwnState
+pub mod Meets
+pub mod Runs
+pub mod Steps
+pub mod Forms
+pub mod Parts
+pub mod Cells
+pub mod Rows
+pub mod Scene
+pub mod Safe
+pub mod Places
+pub mod Data
+pub mod Loads
+pub mod Operators
+pub mod Expressions
+pub mod Shapes
+pub mod Acts
+pub mod Instructions
+pub mod Looks
+pub mod Statements
+pub mod Frames
+pub mod Calls
+pub mod Whole
+pub mod Constants
+pub mod Suits
+pub mod Events
+pub mod Own
+pub mod Until
+mod Examples
+mod Needed

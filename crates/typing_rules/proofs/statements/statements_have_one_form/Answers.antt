@@ -1,9 +1,0 @@
-use Rattle.std.proofs.Common.{sym, ◌∙◌}
-use Rattle.typing_rules.proofs.Sequences.{typed_is}
-use Rattle.typing_rules.proofs.StatementLaws.{stmts_law}
-use Rattle.typing_rules.proofs.statements.statements_have_one_form.Goals as goal
-
-pub returns : goal.returns
-returns c = λ body list around next ts us past other is also.
-    (typed_is us other (record { tree = ts; next = past })).0
-    (sym ((stmts_law body list around next (record { tree = us; next = other })).1 also) ∙ (stmts_law body list around next (record { tree = ts; next = past })).1 is)
