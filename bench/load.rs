@@ -1,16 +1,16 @@
-//! The load cell by turns in plain Rust, to be measured beside `load N` of the program: four tasks by stack code of a few operations,
-//! which ask a cell in the same process for the same things in the same order, and the cell keeps the history. It prints the lines
-//! that `load N` prints, and then seconds. It knows no more of the language than this cell needs: no files, names or types, no
-//! signals, zones, interrupts, waits, calls or ERROR parts. Nothing of it is proved. Its operands, requests, answers and events take
-//! as many bytes as the program's do.
+//! The load cell in turn, in plain Rust, to compare with `load N` of the program. Four tasks of stack code, with a few operations, ask
+//! a cell in the same process for the same things in the same order, and the cell keeps the history. It prints the lines that `load N`
+//! prints, and then seconds. It knows only as much of the language as this cell needs: no files, names or types, no signals, zones,
+//! interrupts, waits, calls or ERROR parts. None of it is proved. Its operands, requests, answers and events are as large as the
+//! program's.
 use std::io::{self, BufWriter, Write};
 use std::mem::size_of;
 use std::time::Instant;
 
-/// A count of thousandths.
+/// A number of thousandths.
 type Num = i64;
 type Joints = [Num; 12];
-/// How a task ends, as its line says it.
+/// How a task ends, in the words of its line.
 type Fate = &'static str;
 
 const MOST: Num = 9_999_999_999_999;
@@ -31,7 +31,7 @@ enum Datum { Plain(Value), Shape([Num; 38]) }
 #[allow(dead_code)]
 enum Request { Look, ReadP(usize), WriteP(usize, Value), Position, Setpoint(Joints), ZoneSet([Num; 39]), End(Fate) }
 
-/// `Go` tells how many changes others have made.
+/// `Go` has the number of changes that others have made.
 #[derive(Clone)]
 #[allow(dead_code)]
 enum Answer { Ok, Go(u32), Val(Value), At(Joints), Given }
@@ -44,7 +44,7 @@ const _: () = assert!(size_of::<Datum>() == 312 && size_of::<Request>() == 320 &
 struct Cell { pers: Vec<Value>, arms: [Joints; TASKS], changes: u32, own: [u32; TASKS], steps: usize, counted: usize, history: Vec<Event> }
 
 impl Cell {
-    /// Answers a task's request, and keeps both; none where no steps are left, but to End.
+    /// Answers a task's request, and keeps both; none if no steps are left, except to End.
     fn serve(&mut self, task: usize, request: Request) -> Option<Answer> {
         if !matches!(request, Request::End(_)) {
             if self.counted >= self.steps {
@@ -90,7 +90,7 @@ enum Op {
     ReadPers(usize),
     WritePers(usize),
     Binary(Sign),
-    /// Goes to the operation where the variable is past the last value.
+    /// Goes to the operation if the variable is past the last value.
     LeaveFor(usize),
     /// Adds the step, and goes to the operation unless the sum is past the range of num.
     Turn(usize),
@@ -195,7 +195,7 @@ fn setpoint(plan: &Plan) -> Joints {
     to
 }
 
-/// No code of the load cell comes here, and no answer that fits its request.
+/// Neither code of the load cell nor an answer that fits its request gets here.
 fn misfit() -> ! {
     unreachable!("an operand or an answer does not fit")
 }
@@ -230,7 +230,7 @@ fn apply(sign: Sign, left: Num, right: Num) -> Result<Num, Fate> {
     if count.abs() > i128::from(MOST) { Err("Fault NumRange") } else { Ok(count as Num) }
 }
 
-/// The whole number nearest to a quotient, halves away from zero.
+/// The integer nearest to a quotient, halves away from zero.
 fn rounded_ratio(top: i128, bottom: i128) -> i128 {
     (2 * top.abs() + bottom) / (2 * bottom) * top.signum()
 }
@@ -264,7 +264,7 @@ fn task_of(moves: Num, k: Num) -> Task {
     Task { code: code_of(moves, k), pc: 0, operands: Vec::with_capacity(8), slots, plan: None, seen: 0, fate: None }
 }
 
-/// Lets the tasks take turns until none takes one.
+/// Lets the tasks take turns until none has one.
 fn by_turns(cell: &mut Cell, tasks: &mut [Task]) {
     let mut answers: Vec<Option<Answer>> = tasks.iter().map(|_| None).collect();
     loop {

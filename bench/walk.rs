@@ -1,16 +1,16 @@
-//! Four cells of `bench/run` by a walk over their syntax trees in plain Rust, to be measured beside the program: a FOR over a
-//! VAR, a FOR over a PERS, 31 routines one in another, 100,000 setpoints. The task asks a cell in the same process for the same,
-//! in the same order, as `docs/MEANING.md` says of these forms, and the cell keeps the history. It prints the lines that `round`
-//! prints of the cell, and then how many events were counted, and seconds. It knows no more of the language than the four need:
-//! no files, names or types, one task, no signals, zones, interrupts, waits or ERROR parts. Nothing of it is proved. Its values
-//! are small; built with `--cfg wide` they, requests, answers and events take as many bytes as the program's do.
+//! A walk over the syntax trees of four cells of `bench/run` in plain Rust, to compare with the program: a FOR over a VAR, a FOR over
+//! a PERS, 31 nested routines, 100,000 setpoints. The task asks a cell in the same process for the same things in the same order, as
+//! `docs/MEANING.md` says of these forms, and the cell keeps the history. It prints the lines that `round` prints, then how many
+//! events were counted, and seconds. It knows only as much of the language as the four cells need: no files, names or types, one
+//! task, no signals, zones, interrupts, waits or ERROR parts. None of it is proved. Its values are small; built with `--cfg wide`
+//! they are as large as the program's, and so are requests, answers and events.
 use std::io::{self, BufWriter, Write};
 use std::time::Instant;
 
-/// A count of thousandths.
+/// A number of thousandths.
 type Num = i64;
 type Joints = [Num; 12];
-/// How a task ends, as its line says it.
+/// How a task ends, in the words of its line.
 type Fate = &'static str;
 
 const MOST: Num = 9_999_999_999_999;
@@ -41,13 +41,13 @@ enum Stmt {
     MoveAbsJ(Expr, Expr),
 }
 
-/// How many data a routine has behind its parameters, and its list.
+/// How many data a routine has after its parameters, and its list.
 struct Routine(usize, Vec<Stmt>);
 
 #[allow(dead_code)]
 enum Request { Look, ReadP(usize), WriteP(usize, Value), Position, Setpoint(Box<Joints>), End(Fate) }
 
-/// `Go` tells how many changes others have made. The persistent here is a num.
+/// `Go` has the number of changes that others have made. The persistent here is a num.
 #[derive(Clone)]
 #[allow(dead_code)]
 enum Answer { Ok, Go(u32), Val(Num), At(Box<Joints>), Given, #[cfg(wide)] Wide([Num; 12]) }
@@ -58,7 +58,7 @@ struct Event { actor: u32, request: Request, answer: Answer }
 struct Cell { pers: Vec<Num>, arm: Joints, steps: usize, history: Vec<Event> }
 
 impl Cell {
-    /// Answers the request, and keeps both. Where no steps are left End alone is answered.
+    /// Answers the request, and keeps both. If no steps are left, only End is answered.
     fn ask(&mut self, request: Request) -> Result<Answer, Fate> {
         if self.history.len() >= self.steps && !matches!(request, Request::End(_)) {
             return Err("Cut");
@@ -77,7 +77,7 @@ impl Cell {
     }
 }
 
-/// The data of a routine under way, and what its last Look told, for a wait.
+/// The data of an active routine, and the answer to its last Look, for a wait.
 #[allow(dead_code)]
 struct Frame { values: Vec<Value>, seen: u32 }
 
@@ -153,7 +153,7 @@ impl<'t> Task<'t> {
         }
     }
 
-    /// A routine: at most 32 are under way, with at most 20,000 values.
+    /// A routine: at most 32 are active, with at most 20,000 values.
     fn call(&mut self, number: usize, mut values: Vec<Value>) -> Result<(), Fate> {
         let Routine(locals, list) = &self.routines[number];
         values.resize(values.len() + locals, ZERO);
@@ -167,7 +167,7 @@ impl<'t> Task<'t> {
         Ok(())
     }
 
-    /// A FOR behind its Look. Each turn has one more, and past the range of num the loop ends.
+    /// A FOR after its Look. Each turn has one more, and past the range of num the loop ends.
     fn turns(&mut self, local: usize, first: &Expr, last: &Expr, list: &'t [Stmt]) -> Result<(), Fate> {
         let places = [0, 1, 2].map(|k| Place::Local(local + k));
         let (from, to) = (self.num(first)?, self.num(last)?);
@@ -212,7 +212,7 @@ impl<'t> Task<'t> {
     }
 }
 
-/// No tree of a checked task comes here, and no answer that fits its request.
+/// Neither the tree of a checked task nor an answer that fits its request gets here.
 fn misfit() -> ! {
     unreachable!("a tree or an answer does not fit")
 }
@@ -235,7 +235,7 @@ fn apply(op: Op, left: Num, right: Num) -> Result<Value, Fate> {
     if count.abs() > i128::from(MOST) { Err("Fault NumRange") } else { Ok(Value::Num(count as Num)) }
 }
 
-/// The whole number nearest to a quotient, halves away from zero.
+/// The integer nearest to a quotient, halves away from zero.
 fn rounded_ratio(top: i128, bottom: i128) -> i128 {
     (2 * top.abs() + bottom) / (2 * bottom) * top.signum()
 }
@@ -252,7 +252,7 @@ fn read(place: Place) -> Expr {
     Expr::At(place)
 }
 
-/// `main` with a FOR alone.
+/// `main` with only a FOR.
 fn counting(turns: Num, one: Stmt) -> Routine {
     Routine(3, vec![Stmt::For(0, whole(1), whole(turns), vec![one])])
 }
@@ -296,7 +296,7 @@ fn main() -> io::Result<()> {
     let fate = task.call(0, Vec::new()).err().unwrap_or("Done");
     let counted = task.cell.history.len();
     if fate != "Cut" {
-        // The task tells its end, which is not counted.
+        // The task asks for its end, which is not counted.
         let _ = task.cell.ask(Request::End(fate));
     }
     let mut out = BufWriter::new(io::stdout().lock());

@@ -11,7 +11,7 @@ from .say import NO_PROGRAM, put_err, say
 
 
 def crates_in_turn() -> List[str]:
-    """The crates that the program stands on, each after those below it, and the program."""
+    """The crates that the program depends on, each after those below it, and the program."""
     below: Dict[str, List[str]] = {}
     for line in (TOP / "crates.txt").read_text(encoding="utf-8").splitlines():
         name, _, names = line.partition("#")[0].partition(":")
@@ -90,7 +90,7 @@ def say_where_stale() -> None:
 
 
 def sources(parts: Sequence[str] = ("src", "specs", "proofs")) -> Iterator[str]:
-    """The paths of what the program is made of: the list of crates, and the files of those that it stands on."""
+    """The paths of what the program is made of: the list of crates, and the files of those that it depends on."""
     yield f"{TOP}/crates.txt"
     for name in crates_in_turn():
         for part in parts:

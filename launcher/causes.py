@@ -9,13 +9,13 @@ from .refusals import Refusal
 from .texts import Cell, Module
 from .view import View, view
 
-# The longest cause that stands beside the caret.
+# The longest cause beside the caret.
 BESIDE = 72
 
 
 @dataclass
 class Cause:
-    """What is shown of a refusal: the bytes that are meant, what stands beside the caret, and the notes below."""
+    """What is shown of a refusal: the bytes that are meant, the text beside the caret, and the notes below."""
 
     at: int
     length: int
@@ -24,7 +24,7 @@ class Cause:
 
 
 def of_script(refusal: Refusal, cell: Cell) -> List[str]:
-    """What stands beside the caret, and the notes below."""
+    """The text beside the caret, and the notes below."""
     return script_causes.of(refusal, cell)
 
 

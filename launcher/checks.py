@@ -20,7 +20,7 @@ class Check:
 
 
 def check(program: Program, cell: Cell, changed: Mapping[Path, bytes] = {}, seconds: float = 60) -> Check:
-    """Checks a cell. `changed` has texts that stand for those of files (resolved paths). OSError, TimeoutExpired."""
+    """Checks a cell. `changed` has texts in place of those of files (resolved paths). OSError, TimeoutExpired."""
     if not changed:
         return made(program, cell.script, {}, seconds)
     with tempfile.TemporaryDirectory(prefix="rapid-cell-") as folder:
@@ -38,7 +38,7 @@ def made(program: Program, script: Path, names: Mapping[bytes, bytes], seconds: 
 
 
 def copy(cell: Cell, changed: Mapping[Path, bytes], folder: Path) -> Tuple[Path, Dict[bytes, bytes]]:
-    """Writes the cell with the changed texts below a folder, and gives its script's path, and the names that were changed.
+    """Writes the cell with the changed texts below a folder, and returns its script's path, and the names that were changed.
 
     A module keeps its name: one that leads out of the script's folder (`..`) stays below `folder`, since the script lies deep enough.
     One that is a whole path gets another name; where the script spells it in an unusual way, the module is read where it lies.

@@ -33,7 +33,7 @@ def started(
 
 
 def restore(held: Dict[signal.Signals, Any], came: Sequence[int]) -> None:
-    """Puts the handlers back, and gives them what came meanwhile."""
+    """Puts the handlers back, and passes on what came meanwhile."""
     for it, handler in held.items():
         signal.signal(it, handler)
     for number in came:

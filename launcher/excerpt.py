@@ -72,7 +72,7 @@ def pieces(line: bytes) -> str:
 
 
 def put(shown: str, column: int, piece: str) -> Tuple[str, int]:
-    """Adds a character to a shown line, and gives the column after it."""
+    """Adds a character to a shown line, and returns the column after it."""
     if piece == "\t":
         width = TAB - column % TAB
         return shown + " " * width, column + width

@@ -2,7 +2,7 @@
 import functools
 import os
 import re
-from typing import Dict, Iterator, List, Sequence, Tuple
+from typing import Dict, Iterator, List, Sequence, Set, Tuple
 
 from . import actions, manual, names, reserved
 from .say import put_out, wrong
@@ -95,7 +95,29 @@ def index() -> Tuple[Index, Index, Index]:
         ):
             for word in dict.fromkeys(words):
                 table.setdefault(word, []).append(row)
+    # Spelled as in a history only: Watch is a request, and watch the launcher's.
+    for word, found in history_rows(set(exact)).items():
+        exact[word] = found
     return exact, small, topics
+
+
+def history_rows(taken: Set[str]) -> Index:
+    """The rows of a history's lines by the requests and answers in them, except the words that other rows explain."""
+    found: Index = {}
+    for row in rows():
+        for word in history_words(row):
+            if word not in taken and row not in found.setdefault(word, []):
+                found[word].append(row)
+    return found
+
+
+def history_words(row: Row) -> List[str]:
+    """The names of the requests and answers in a row about a line of a history."""
+    if not row.cells[0][1].startswith("`H "):
+        return []
+    parts = [part.split() for it in codes(row.cells[0][1]) for part in it.split(None, 2)[2].split(" > ")]
+    parts += [it.split() for it in codes(row.cells[1][1])]
+    return [it[0] for it in parts if re.fullmatch(r"[A-Z][A-Za-z]*[a-z][A-Za-z]*", it[0]) and it[0] != "Ok"]
 
 
 def words_of(row: Row) -> List[str]:
@@ -117,6 +139,6 @@ def topics_of(row: Row) -> List[str]:
 def known_words() -> List[str]:
     """Every word that is explained, each once."""
     found: Dict[str, None] = dict.fromkeys(RESERVED)
-    found.update(dict.fromkeys(plain(word) for row in rows() for word in words_of(row)))
+    found.update(dict.fromkeys(plain(word) for row in rows() for word in [*words_of(row), *history_words(row)]))
     found.update(dict.fromkeys(it.name for it in manual.read() if it.kind not in manual.PARTS or len(it.name) > 2))
     return sorted(it for it in found if re.fullmatch(r"\w+", it))

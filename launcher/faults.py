@@ -47,7 +47,7 @@ class Found:
 
 
 def all_faults(program: Program, cell: Cell, changed: Mapping[Path, bytes] = {}, most: int = MOST) -> Found:
-    """The errors of a cell. OSError, TimeoutExpired where the program cannot be run."""
+    """The errors of a cell. OSError, TimeoutExpired if the program cannot be run."""
     return Search(program, cell, changed, most).run()
 
 
@@ -102,7 +102,7 @@ class Search:
 
     def on_script(self, refusal: Refusal) -> bool:
         own = self.script.original(refusal)
-        # A value for a persistent is refused where its declaration was changed or left out.
+        # A value for a persistent is refused if its declaration was changed or left out.
         if not (refusal.key.startswith("pers[") and "." not in refusal.key and (self.drafts or self.stubs)):
             self.tell(own)
         try:

@@ -24,7 +24,7 @@ def of(rule: str, seen: View) -> Optional[Own]:
 
 
 def of_byte(seen: View) -> Own:
-    """A byte that begins nothing: shown as the character that it begins, where it does."""
+    """A byte that begins nothing: shown as the character that it begins, if it does."""
     data = seen.text[seen.at : seen.at + 4]
     for length in (1, 2, 3, 4):
         try:

@@ -18,7 +18,7 @@ STRING_OF = re.compile(rb'"(?:""|[^"\n])*"?')
 
 
 def mend(draft: Draft, rule: str, at: int) -> None:
-    """Leaves out what is refused at a place. CannotMend where nothing can be."""
+    """Leaves out what is refused at a place. CannotMend if nothing can be left out."""
     if rule in ("BadByte", "OpenString", "BadEscape", "LongString", "LongName", "BadLiteral"):
         mend_token(draft, rule, at)
     elif rule == "LeftOut":
@@ -143,7 +143,7 @@ def leave_in_list(draft: Draft, k: int, first: int, expected: Dict[str, Tuple[gr
         if mends_head(draft, outer, k):
             return
     if draft.tokens[k].text in WALLS and statement == k:
-        # A form around it is not ended: what was meant cannot be told.
+        # A form around it is not ended: what was meant is unknown.
         raise CannotMend
     past = end_of_statement(draft, k)
     draft.blank_tokens(statement, past)

@@ -65,7 +65,7 @@ Step = Callable[[Parser, int], int]
 
 
 def parse(tokens: Sequence[Token], rule: str = "module", target: int = FAILED) -> Parse:
-    """Parses all tokens by a rule. Nothing comes of too many."""
+    """Parses all tokens by a rule. Too many give nothing."""
     if len(tokens) > MOST:
         return Parse(None, {})
     parser = Parser(tokens, target)

@@ -1,4 +1,4 @@
-"""What helps where the words or a file are refused: the cause, and what was perhaps meant."""
+"""What helps if the words or a file are refused: the cause, and what was perhaps meant."""
 import errno
 import os
 import stat

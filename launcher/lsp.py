@@ -133,7 +133,7 @@ class Server:
         return lsp_completion.in_module(self.files, place.cell, place.modules, place.text, place.at)
 
     def place(self, params: Any) -> "Optional[PlaceInFile]":
-        """The place that is asked about, or None where its file cannot be read."""
+        """The place that is asked about, or None if its file cannot be read."""
         file = path_of(params["textDocument"]["uri"])
         text = self.files.text(file) if file else None
         cell, _ = self.files.snapshot()
@@ -142,7 +142,7 @@ class Server:
         at = Text(text).place(params["position"])
         return PlaceInFile(cell, self.files.modules_at(cell, file), text, at, self.files.is_script(file))
 
-    # What is told
+    # What is sent
 
     def opened(self, params: Any) -> None:
         self.files.put(params["textDocument"]["uri"], params["textDocument"]["text"])

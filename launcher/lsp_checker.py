@@ -27,7 +27,7 @@ class NotWanted(Exception):
 
 
 class Search(faults.Search):
-    """The search for all errors, which ends by NotWanted where it is not wanted any more."""
+    """The search for all errors, which ends with NotWanted once it is no longer wanted."""
 
     def __init__(self, ready: Program, cell: Cell, changed: Mapping[Path, bytes], is_wanted: Callable[[], bool]) -> None:
         super().__init__(ready, cell, changed, faults.MOST)

@@ -1,4 +1,4 @@
-"""The names that may be meant where an editor asks for one."""
+"""The names that may be meant at the place where an editor asks for one."""
 import re
 from typing import Any, Dict, Iterator, List, Tuple
 
@@ -69,7 +69,7 @@ def instruction_options() -> Iterator[Tuple[str, List[str]]]:
 
 
 def components(files: Files, cell: Cell, modules: List[Module], text: bytes, at: int) -> Iterator[Tuple[str, str]]:
-    """The components of the record before a point, each with the record's type; of all records where its type is not known."""
+    """The components of the record before a point, each with the record's type; of all records if its type is not known."""
     sort = type_before(files, cell, modules, text, at)
     for record, own in names.COMPONENTS.items():
         if sort in ("", record):

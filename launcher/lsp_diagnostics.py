@@ -32,7 +32,7 @@ class Diagnostic:
 def diagnostic(
     refusal: Refusal, cell: Cell, changed: Mapping[Path, bytes], seen: Optional[bytes] = None
 ) -> Optional[Diagnostic]:
-    """The diagnostic of a refusal, or None where it is none of the cell's files. `seen` is the module's text as it was checked, where
+    """The diagnostic of a refusal, or None if it is none of the cell's files. `seen` is the module's text as it was checked, if
     it is not that of its file; both have the same length and the same lines."""
     if refusal.kind is Kind.MODULE:
         return of_module(refusal, cell, changed, seen)

@@ -59,7 +59,7 @@ class Files:
 
 
 def path_of(uri: str) -> Optional[Path]:
-    """The resolved path that a URI names, or None where it names no file."""
+    """The resolved path that a URI names, or None if it names no file."""
     parts = urlsplit(uri)
     if parts.scheme != "file":
         return None

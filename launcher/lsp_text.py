@@ -51,7 +51,7 @@ class Text:
         return self.range(max(at - 1, self.starts[bisect.bisect_right(self.starts, at) - 1]), at)
 
     def name_at(self, at: int) -> Tuple[int, bytes]:
-        """The name around a place, or right before it, and where it starts; an empty one where there is none."""
+        """The name around a place, or right before it, and where it starts; an empty one if there is none."""
         start = end = at
         while start > 0 and NAME.match(self.data, start - 1):
             start -= 1

@@ -7,9 +7,9 @@ from .own_cause import Own
 from .tokens import NAME, NUMBER, STRING
 from .view import View, declared_in
 
-# The rules where the arguments that an instruction takes help.
+# The rules for which the arguments that an instruction takes help.
 OF_CALLS = ("ArgCount", "ArgName", "TypeClash", "BadRef", "NotThis", "SyncName")
-# The rules where the declaration of the name at the place helps.
+# The rules for which the declaration of the name at the place helps.
 OF_DECLARED = ("NameTwice", "ReadOnly", "ConstOrder", "NotThis", "WholeArray", "BadRef", "PersType", "TypeClash")
 
 
@@ -86,7 +86,7 @@ def of_type_clash(seen: View) -> Own:
 
 
 def type_at(seen: View) -> str:
-    """The type of the value at the place, where it is a literal or the name of a signal."""
+    """The type of the value at the place, if it is a literal or the name of a signal."""
     token = seen.token
     if not token or token.at != seen.at:
         return ""

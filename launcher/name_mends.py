@@ -23,7 +23,7 @@ class Part:
 
 
 def part_around(draft: Draft, k: int) -> Part:
-    """The smallest part around a token that can be left out. CannotMend where there is none."""
+    """The smallest part around a token that can be left out. CannotMend if there is none."""
     path = draft.forms(k)
     if not path:
         raise CannotMend
@@ -44,7 +44,7 @@ def part_around(draft: Draft, k: int) -> Part:
 
 
 def mend(draft: Draft, part: Part, rule: str) -> None:
-    """Mends the argument that breaks a rule, where it stands for itself, or leaves the part out."""
+    """Mends the argument that breaks a rule if it is a part of its own, or leaves the part out."""
     if rule in ("CornerZone", "ToolOnly", "ArgName") and is_argument_mended(draft, part.k, rule):
         return
     if part.kind == DATUM:
@@ -126,7 +126,7 @@ def inner_forms(draft: Draft, form: grammar.Node) -> Sequence[grammar.Node]:
 
 
 def mend_condition(draft: Draft, part: Part) -> None:
-    """Puts a constant for an expression of a statement's head, or leaves out the whole statement where there is no room."""
+    """Puts a constant for an expression of a statement's head, or leaves out the whole statement if there is no room."""
     puts = ("TRUE", "1=1") if draft.tokens[part.first - 1].text in CONDITIONS else ("1",)
     for put in puts:
         try:

@@ -30,7 +30,7 @@ class Declared:
     """A declared name.
 
     `kind` is MODULE, CONST, VAR, PERS, PROC, FUNC, TRAP, PARAM, FOR or LABEL; `type` the name of its type, or of a function's result;
-    `at` the place of its first byte; `start` and `end` are the places between which it is visible in its module, or None where
+    `at` the place of its first byte; `start` and `end` are the places between which it is visible in its module, or None if
     the whole task sees it; a LOCAL item is seen in its whole module.
     """
 

@@ -5,7 +5,7 @@ from typing import List
 
 @dataclass
 class Own:
-    """What stands beside the caret, or nothing for the table's words; notes; and whether these are enough without the table's."""
+    """The text beside the caret, or nothing for the table's words; notes; and whether these are enough without the table's."""
 
     label: str = ""
     notes: List[str] = field(default_factory=list)

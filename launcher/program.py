@@ -24,7 +24,7 @@ class Program:
 
 @dataclass(frozen=True)
 class Answer:
-    """What the program printed where `out` is asked for, what it said on standard error, and its status."""
+    """What the program printed, if `out` is asked for, what it said on standard error, and its status."""
 
     status: int
     out: bytes
@@ -61,7 +61,7 @@ def answer(program: Program, words: Sequence[Word], folder: Optional[Path] = Non
 
 
 def become(program: Program, words: Sequence[bytes]) -> int:
-    """Becomes the program. Returns a status only where it does not start."""
+    """Becomes the program. Returns a status only if it does not start."""
     try:
         os.execv(program.file, [os.fsencode(program.file), *words])
     except OSError as error:

@@ -54,7 +54,7 @@ def forms_with(name: str) -> List[str]:
 
 
 def alternatives(text: str) -> List[str]:
-    """The parts of a rule between the marks `|` that stand in no brackets."""
+    """The parts of a rule between the marks `|` that are in no brackets."""
     options, depth = [""], 0
     for sign in re.findall(r'"[^"]+"|\s+|[^\s"]', text):
         depth += (sign in "[{(") - (sign in ")}]") if len(sign) == 1 else 0

@@ -6,7 +6,7 @@ NotPrinted.
 """
 import os
 
-# The status where a word is refused, and where not all could be printed, as the program's.
+# The status if a word is refused, and if not everything could be printed, as the program's.
 REFUSED = 2
 NOT_PRINTED = 6
 # The statuses that the program does not have: a file of the checkout or a module of Python is missing; there is no program
@@ -18,7 +18,7 @@ HINT = "./rapid_cell --help lists the words"
 
 
 class NotPrinted(Exception):
-    """Not all of an answer could be printed. It holds the reason, or the empty text where nobody reads on."""
+    """Not all of an answer could be printed. It holds the reason, or the empty text if nobody reads on."""
 
 
 def put_out(text: str) -> None:
@@ -53,9 +53,24 @@ def say(text: str) -> None:
 
 
 def wrong(text: str) -> int:
-    """Says what is wrong with the words, and gives the status."""
+    """Says what is wrong with the words, and returns the status."""
     say(f"{text}; {HINT}")
     return REFUSED
+
+
+def broken(error: Exception) -> int:
+    """Says which file of the checkout or module of Python is missing or cannot be read, and returns the status."""
+    file = getattr(error, "filename", None)
+    name = getattr(error, "name", None) or ""
+    if isinstance(error, PermissionError) and file:
+        say(f"you may not read {file}: ask its owner for the right to read it")
+    elif isinstance(error, FileNotFoundError) and file:
+        say(f"{file} is missing: fetch the checkout again")
+    elif isinstance(error, ModuleNotFoundError) and not name.startswith("launcher"):
+        say(f"Python lacks its module {name}: install the whole standard library of Python")
+    else:
+        say(f"{error}: fetch the checkout again, or ask its owner for the right to read it")
+    return BROKEN
 
 
 def is_coloured() -> bool:

@@ -13,7 +13,7 @@ SEE = "see ./rapid_cell explain {0}"
 
 
 def of(refusal: Refusal, cell: Cell) -> List[str]:
-    """What stands beside the caret, and the notes below."""
+    """The text beside the caret, and the notes below."""
     row = row_of(refusal)
     if row is None:
         return [refusal.rule]

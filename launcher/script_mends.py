@@ -28,7 +28,7 @@ class Draft:
         return replace(refusal, key=f"{found[1]}[{self.numbers[found[1]][int(found[2])]}]{found[3]}")
 
     def mend(self, refusal: Refusal) -> None:
-        """Mends what is refused. CannotMend where that cannot be."""
+        """Mends what is refused. CannotMend if that is impossible."""
         path = re.findall(r"[^.\[\]]+", refusal.key)
         if not path or refusal.rule == "NotToml":
             raise CannotMend
@@ -64,7 +64,7 @@ class Draft:
         self.text = self.text[:end] + b"\n" + line + self.text[end:]
 
     def replace_line(self, key: str, line: bytes) -> None:
-        """Puts a line for a key and its value, which stand in one line alone."""
+        """Puts a line for a key and its value, which have a line of their own."""
         found = self.key(re.findall(r"[^.\[\]]+", key))
         if found is None or b"\n" in self.text[found.at : found.value_at]:
             raise CannotMend
@@ -98,7 +98,7 @@ class Draft:
         return given
 
     def gives_signal(self, name: str, kind: str) -> bool:
-        """Gives a signal that is missing. Whether it was given: not where the script writes its signals in one array."""
+        """Gives a signal that is missing. Whether it was given: not if the script writes its signals in one array."""
         signals = [it for it in toml_places.keys_of(self.text) if it.path[:1] == ("signal",) and len(it.path) < 3]
         if any(not self.text.startswith(b"[[", it.at) for it in signals):
             return False

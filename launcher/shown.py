@@ -10,7 +10,7 @@ from .texts import Cell, Module, place_of, read, read_cell
 
 
 def shown(refusal: Refusal, words: Sequence[bytes], is_coloured: bool = False) -> List[str]:
-    """The lines that stand after the program's own."""
+    """The lines after the program's own."""
     if refusal.kind is Kind.WORDS:
         return said(hints.of_words(refusal.place, words)) if words else [f"  {it}" for it in hints.of_words(0, words)]
     if refusal.kind is Kind.MEMORY:

@@ -53,7 +53,7 @@ def tokens(text: bytes) -> Tuple[Token, ...]:
 
 
 def token_at(text: bytes, at: int) -> Optional[Tuple[int, Token]]:
-    """The token that covers a place, or that ends there where none begins, with its number."""
+    """The token that covers a place, or that ends there if none begins, with its number."""
     found = list(tokens(text))
     k = index_at(found, at + 1) - 1
     if 0 <= k < len(found) and found[k].at <= at <= found[k].end:
@@ -76,7 +76,7 @@ def before(text: bytes, k: int) -> str:
 
 
 def meanings(cell: Cell, modules: List[Module], text: bytes, at: int, changed: Mapping[Path, bytes]) -> List[Symbol]:
-    """The declarations that the name at a place stands for: one, or one for each task that has the module, where they differ."""
+    """The declarations that the name at a place stands for: one, or one for each task that has the module, if they differ."""
     found = name_at(text, at)
     if not found or found[1].kind != NAME or not modules:
         return []

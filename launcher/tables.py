@@ -31,7 +31,7 @@ class Row:
         return ""
 
     def lines(self) -> Iterator[str]:
-        """The cells that say something, each with its heading; several pieces of code stand in a line each."""
+        """The cells that say something, each with its heading; each of several pieces of code has a line."""
         for head, cell in self.cells:
             if re.fullmatch(r"(`[^`]+`\s*)+", cell):
                 first, *others = codes(cell)
@@ -64,12 +64,12 @@ def rows_of(file: Path) -> Iterator[Row]:
 
 @functools.lru_cache(maxsize=None)
 def rule_rows() -> Dict[str, Row]:
-    """The last row of each rule, which is the one of names and types where a rule stands in two tables."""
+    """The last row of each rule, which is the one of names and types if a rule is in two tables."""
     return {plain(row.cells[0][1]): row for row in rows() if row.cells[0][0] == "Rule"}
 
 
 def cells_of(line: str) -> List[str]:
-    """The cells of a table's line; a mark `|` in a cell stands after a backslash."""
+    """The cells of a table's line; a mark `|` in a cell has a backslash before it."""
     cells = re.split(r"(?<!\\)\|", line)[1:-1]
     return [it.strip().replace("\\|", "|") for it in cells]
 

@@ -13,7 +13,7 @@ LONGEST_MODULE = 1_048_576
 
 @dataclass(frozen=True)
 class Module:
-    """A module of a task: `task` counts from 0, `name` is as the script spells it, `file` is where it lies."""
+    """A module of a task: `task` counts from 0, `name` is as the script spells it, `file` is where it is."""
 
     task: int
     name: str
@@ -38,7 +38,7 @@ class Cell:
 
 
 def read_cell(script: Path, changed: Mapping[Path, bytes] = {}) -> Cell:
-    """Reads a script; `changed` has texts that stand for those of files (resolved paths), as an editor's. OSError where it cannot
+    """Reads a script; `changed` has texts in place of those of files (resolved paths), as an editor's. OSError if it cannot
     be read."""
     text = read(script, changed)
     return Cell(script, text, modules_of(script, text))
@@ -54,7 +54,7 @@ def modules_of(script: Path, text: bytes) -> List[Module]:
 
 
 def read(file: Path, changed: Mapping[Path, bytes] = {}) -> bytes:
-    """The bytes of a regular file, or of what stands for it. OSError for all else: a pipe is never opened here."""
+    """The bytes of a regular file, or of what is in its place. OSError for all else: a pipe is never opened here."""
     kept = changed.get(file.resolve()) if changed else None
     if kept is not None:
         return kept

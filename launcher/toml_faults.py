@@ -15,7 +15,7 @@ CLEARER = {"Illegal character '\\n'": "a text in quotes ends on its line: perhap
 
 @dataclass(frozen=True)
 class Fault:
-    """The byte's place, or None where it is not known, and the cause."""
+    """The byte's place, or None if it is not known, and the cause."""
 
     at: Optional[int]
     cause: str

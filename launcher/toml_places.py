@@ -1,4 +1,4 @@
-"""The keys of a TOML text and where they stand.
+"""The keys of a TOML text and their places.
 
 Python's own reader of TOML gives values without places, and Python before 3.11 has none. This scanner gives the places, and the
 strings of a value. It skips what is not TOML, and refuses nothing.
@@ -34,7 +34,7 @@ def keys_of(text: bytes) -> Iterator[Key]:
 
 
 def place_of_key(text: bytes, key: str) -> Optional[int]:
-    """The place of the byte where a key stands that the program names as `task[0].arm`. Where it does not stand, that of the
+    """The place of the first byte of a key that the program names as `task[0].arm`. If it is not there, that of the
     nearest table around it that does; None for the whole script."""
     path = tuple(re.findall(r"[^.\[\]]+", key))
     places = {it.path: it.at for it in reversed(list(keys_of(text)))}

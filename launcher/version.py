@@ -42,7 +42,7 @@ def day(file: Path) -> str:
 
 
 def said_by(*words: str) -> Optional[str]:
-    """What a command prints, or None where it fails."""
+    """What a command prints, or None if it fails."""
     try:
         ran = subprocess.run(
             words, cwd=CRATES, stdin=subprocess.DEVNULL, stdout=subprocess.PIPE, stderr=subprocess.DEVNULL, timeout=20

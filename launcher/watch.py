@@ -59,7 +59,7 @@ def show_check(found: Program, script: Path, files: int) -> None:
 
 
 def answer_of(found: Program, script: Path, rows: int) -> Tuple[List[str], str]:
-    """What fits into so many lines of a check's answer, and a word for the whole of it."""
+    """What fits into so many lines of a check's answer, and a line that sums it up."""
     try:
         first = program.answer(found, ["check", script], None, 60)
         if first.status == 0:

@@ -8,12 +8,12 @@ from typing import Callable, Dict, List, Optional, Sequence
 from . import actions, build, hints, kept, program
 from .program import Program
 from .say import (
-    BROKEN,
     NO_PROGRAM,
     NOT_PRINTED,
     REFUSED,
     STOPPED,
     NotPrinted,
+    broken,
     is_coloured,
     open_closed_streams,
     put_err,
@@ -55,8 +55,7 @@ def main(given: Sequence[str]) -> int:
     except Ended as ended:
         return ended.status
     except (OSError, ImportError) as error:
-        say(f"{error}: the checkout is incomplete, or you may not read it")
-        return BROKEN
+        return broken(error)
 
 
 class Ended(BaseException):
@@ -177,9 +176,8 @@ def of_program(asked: Asked) -> int:
     """Passes the words to the program, and adds what helps to its answer."""
     words = asked.words
     place = refused_place(words)
-    is_text = all(map(hints.is_utf8, words))
     found = found_program(asked)
-    if place is not None and (not is_text or not found):
+    if place is not None and not found:
         # Wrong words are reported at once, and not after a long build.
         put_err(b"rapid_cell: words %d\n" % place)
         return helped(asked, REFUSED, b"rapid_cell: words %d\n" % place)

@@ -2,6 +2,7 @@
 
     common       what all of them need: starting the launcher, comparing, tables of the documents
     cells        every example and every module of the documents, with what it has to answer
+    histories    the whole history of each example's run, against its lines
     words        the command line, the help, completion, and streams that fail
     refused      refusals, as they are shown
     all_faults   `check --all`, on the five cells of abb/

@@ -144,7 +144,7 @@ def try_not_kept():
 
 
 def try_interrupted():
-    """Ctrl-C ends what the launcher started, and leaves nothing behind."""
+    """Ctrl-C ends what the launcher started, and leaves nothing over, neither files nor processes."""
     with tempfile.TemporaryDirectory() as folder:
         frame = Frame(folder)
         for words, kit in ((["check", "a.toml"], "slow"), (["run", "a.toml"], "good")):

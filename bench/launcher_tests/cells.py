@@ -19,7 +19,7 @@ kind = "do"
 TASK = '\n[[task]]\nname = "{name}"\nmodules = ["m.mod"]\narm = [0, 0, 0, 0, 0, 0]\n'
 # A fenced block of a document.
 BLOCK = re.compile(r"^```(\w*)\n(.*?)^```$", re.M | re.S)
-# What the examples of the tables of docs/LANGUAGE.md stand in: an item of the module, or a statement of its main.
+# What the examples of the tables of docs/LANGUAGE.md are put into: an item of the module, or a statement of its main.
 FRAME = """MODULE Frame
 CONST jointtarget home := [[0,10,0,0,30,0],[9E9,9E9,9E9,9E9,9E9,9E9]];
 CONST tasks all{{1}} := [["A"]];
@@ -61,7 +61,7 @@ class Case:
 
 
 def run_all():
-    """Runs each case by the program that the launcher starts, from another folder than the repository's, and gives how many there
+    """Runs each case by the program that the launcher starts, from another folder than the repository's, and returns how many there
     are. The examples by topic are too many to be started by the launcher, which hands their words on as they are."""
     started = program().file
     with tempfile.TemporaryDirectory() as folder, tempfile.TemporaryDirectory() as elsewhere:
@@ -86,7 +86,7 @@ def example_cases():
 
 
 def write_cell(folder, name, text, tasks=("A",)):
-    """Writes a cell of tasks with one module, and gives its script's path."""
+    """Writes a cell of tasks with one module, and returns its script's path."""
     place = Path(folder, name)
     place.mkdir()
     (place / "m.mod").write_text(text, encoding="utf-8")
@@ -95,7 +95,7 @@ def write_cell(folder, name, text, tasks=("A",)):
 
 
 def modules_of(text):
-    """Each module of a document, with the script right before it and the lines of its run behind it, where they are there."""
+    """Each module of a document, with the script right before it and the lines of its run after it, if they are there."""
     blocks = list(BLOCK.finditer(text))
     for before, it, behind in zip([None, *blocks], blocks, [*blocks[1:], None]):
         if it[1] == "rapid":
@@ -106,7 +106,7 @@ def modules_of(text):
 
 
 def document_cases(folder):
-    """Each whole module of the documents, which has to be accepted, and to print the lines that stand behind it."""
+    """Each whole module of the documents, which has to be accepted, and to print the lines after it."""
     for name in ("LANGUAGE", "CELL_SCRIPT"):
         found = list(modules_of(document(name)))
         compare(f"docs/{name}.md has modules and lines", bool(found) and any(it[2] for it in found), True)

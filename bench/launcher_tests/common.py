@@ -105,7 +105,7 @@ def is_code(cell):
 
 def rules():
     """The names that refusals and ends can have, by the sources."""
-    sources = "".join(file.read_text(encoding="utf-8") for file in (TOP / "crates").glob("*/src/*.rt"))
+    sources = "".join(file.read_text(encoding="utf-8") for file in (TOP / "crates").glob("*/src/**/*.rt"))
     names = []
     for name in RULES:
         bodies = re.findall(rf"^pub enum {name} {{(.*?)^}}", sources, re.M | re.S)

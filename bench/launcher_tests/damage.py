@@ -138,8 +138,12 @@ def try_checkouts():
             aside = file.with_name("aside")
             file.rename(aside)
             status, out, err = frame.start(*words)
-            compare(f"without {name}: {words[0]}", (status, out, len(err.splitlines()), "launcher: " in err, "Traceback" in err), (124, "", 1, True, False))
+            compare(f"without {name}: {words[0]}", (status, out, len(err.splitlines()), "fetch the checkout again" in err), (124, "", 1, True))
             aside.rename(file)
+        # Without a module of Python.
+        status, out, err = ask("explain", "NoName", before=lambda: sys.modules.update(textwrap=None))
+        compare("without a module of Python", (status, out, len(err.splitlines()), "textwrap" in err), (124, "", 1, True))
+        try_unreadable(frame)
         # What is added to a refusal changes no status.
         (frame.top / "docs/LANGUAGE.md").unlink()
         frame.made.write_text('#!/bin/sh\nif [ $# = 0 ]; then echo "rapid_cell: words 0" >&2; exit 2; fi\n[ -p "$2" ] && cat "$2" >/dev/null\necho "rapid_cell: module m.mod 1:1 NoName" >&2; exit 4\n')
@@ -151,6 +155,25 @@ def try_checkouts():
         status, out, err = frame.start("check", script)
         compare("a refusal without the documents", (status, out, err.splitlines()[1]), (4, "", "rapid_cell: module m.mod 1:1 NoName"))
         compare("it says so", "it cannot be explained" in err, True)
+
+
+def try_unreadable(frame):
+    """Files of the checkout that a user without rights may not read."""
+    python = shutil.which("python3", path="/usr/bin:/bin")
+    if os.geteuid() != 0 or not python:
+        print("not root, or no Python for all users: a checkout without rights is not tried")
+        return
+    frame.top.parent.chmod(0o755)
+    environment = {**frame.environment(""), "PATH": "/usr/bin:/bin"}
+    for name, words in (("launcher/words.py", ["check", "a.toml"]), ("docs/LANGUAGE.md", ["explain", "NoName"]), ("crates.txt", ["check", "a.toml"]), ("launcher", ["--help"])):
+        file = frame.top / name
+        rights = file.stat().st_mode
+        file.chmod(0)
+        how = {"cwd": "/", "stdout": subprocess.PIPE, "stderr": subprocess.PIPE, "env": environment, "universal_newlines": True}
+        ran = subprocess.run([python, frame.top / "rapid_cell", *words], preexec_fn=lambda: os.setuid(65534), **how)
+        file.chmod(rights)
+        advised = "ask its owner for the right to read it" in ran.stderr
+        compare(f"{name} without rights", (ran.returncode, ran.stdout, len(ran.stderr.splitlines()), advised), (124, "", 1, True))
 
 
 def try_pythons():

@@ -1,4 +1,7 @@
-"""The patterns of docs/EDITORS.md."""
+"""The patterns and settings of docs/EDITORS.md."""
+import importlib
+import importlib.util
+import json
 import re
 import subprocess
 import tempfile
@@ -19,6 +22,20 @@ def try_editors():
         try_vim(re.search(r"^set errorformat=(.*)$", text, re.M)[1], line)
     except FileNotFoundError:
         print("vim is not here: its errorformat is not tried")
+
+
+def try_settings():
+    """The settings of the editors that are not run here: each is whole JSON or TOML, and starts the server with its words."""
+    blocks = re.findall(r"^```(json|toml)\n(.*?)^```", document("EDITORS"), re.M | re.S)
+    readers = {"json": json.loads}
+    if importlib.util.find_spec("tomllib"):
+        readers["toml"] = importlib.import_module("tomllib").loads
+    package, *tasks = [readers[kind](block) for kind, block in blocks if kind == "json"]
+    compare("VS Code, its files", (package["main"], [it["version"] for it in tasks]), ("./extension.js", ["2.0.0"]))
+    compare("VS Code, its words", 'args: ["lsp", "cell.toml"]' in document("EDITORS"), True)
+    for helix in [readers[kind](block) for kind, block in blocks if kind == "toml" and kind in readers]:
+        (name, server), (language,) = *helix["language-server"].items(), helix["language"]
+        compare("Helix", (server["args"], language["language-servers"], language["file-types"]), (["lsp", "cell.toml"], [name], ["mod"]))
 
 
 def try_vim(errorformat, line):

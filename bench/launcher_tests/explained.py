@@ -34,6 +34,9 @@ def try_explain():
         compare(f"explain {word}", len(parts) > 0 and len(lines) > 1 and all(it.startswith("  ") for it in lines), True)
     for word in ("of", "a", "an", "the", "at", "by", "on", "off", "file", "I", "or so", "zork", "", "\\"):
         compare(f"explain {word}", len(list(explain.parts_for(word))) > 0, word == "\\")
+    of_histories = "Look Flood ReadP WriteP TestSet ReadS WriteS Position Setpoint Given Stopped Hold Rise Arrive Met Apart Connect Already NoMore Order Unknown Sleep Watch Delete Disable Enable Leave ZoneSet ZoneOn ZoneOff ZoneFree Say Input"
+    for word in of_histories.split():
+        compare(f"explain {word}, of a history", "docs/LANGUAGE.md, Reading a history" in {place for place, _ in explain.parts_for(word)}, True)
     for word in ("AND", "and", "OR", "Do"):
         compare(f"explain {word}", [place for place, _ in explain.parts_for(word)], ["docs/LANGUAGE.md, its grammar"])
 
@@ -59,7 +62,7 @@ def try_words_of_cells():
 
 
 def try_names_of_rapid():
-    """A name of ABB's manuals has an answer of its own, also where the documents' row only says that it is outside."""
+    """A name of ABB's manuals has an answer of its own, even if the documents' row only says that it is outside."""
     from launcher import explain
 
     for word, answer in (("TPReadFK", "`WaitDI` of an input"), ("SocketSend", "a PERS that tasks share"), ("MoveLDO", "`MoveAbsJ` to each place")):

@@ -57,11 +57,11 @@ def change(home, block):
 
 
 def ask(home, block):
-    """Gives a command, whose lines have to be those of the block: without setpoints, or as many, where its pipe says so."""
+    """Gives a command, whose lines have to be those of the block: without setpoints, or as many, if its pipe says so."""
     head, _, wanted = block.partition("\n")
     command, _, piped = head[len("$ ./rapid_cell ") :].partition(" | ")
     words = [it for it in command.split() if it != "2>&1"]
-    # The launcher is asked where the block has what it adds, or a word of its own.
+    # The launcher is asked if the block has what it adds, or a word of its own.
     starter = LAUNCHER if "\n  " in wanted or "--all" in words else common.program().file
     options = common.options if starter == LAUNCHER else []
     ran = subprocess.run([starter, *words, *options], cwd=home, stdin=subprocess.DEVNULL, stdout=subprocess.PIPE, stderr=subprocess.PIPE)

@@ -8,7 +8,7 @@ from .lsp_client import PATIENCE, Client
 
 
 def place_of(text, mark, shift=0):
-    """The position of the only place where a text stands."""
+    """The position of a text that is there once."""
     assert text.count(mark) == 1, mark
     at = text.index(mark) + shift
     return {"line": text.count("\n", 0, at), "character": at - text.rfind("\n", 0, at) - 1}

@@ -50,7 +50,7 @@ class Client:
                 return message.get("result", message.get("error", {}).get("code"))
 
     def read(self, end):
-        """The next message, of which notifications are noted; None where none comes in time."""
+        """The next message, of which notifications are noted; None if none comes in time."""
         while True:
             head, found, rest = self.buffer.partition(b"\r\n\r\n")
             length = int(re.search(rb"Content-Length: (\d+)", head)[1]) if found else 0
@@ -89,7 +89,7 @@ class Client:
         return self.shown.get(uri, [])
 
     def end(self):
-        """Ends the server as an editor does, and gives the status and what it wrote on standard error."""
+        """Ends the server as an editor does, and returns the status and what it wrote on standard error."""
         last = self.request("shutdown")
         after = self.request("textDocument/hover")
         self.notify("exit")

@@ -1,4 +1,4 @@
-"""The language server in Neovim and Emacs, without a screen, set up as docs/EDITORS.md says; where these editors are."""
+"""The language server in Neovim and Emacs, without a screen, set up as docs/EDITORS.md says; if these editors are installed."""
 import os
 import re
 import shutil

@@ -37,7 +37,7 @@ PROC main()
 ENDPROC
 ENDMODULE
 """
-# A statement of main, or an item of the module; what stands beside the caret; and notes that have to be there.
+# A statement of main, or an item of the module; the text beside the caret; and notes that have to be there.
 STATEMENTS = (
     ("^countr := 1;", "nothing here is named `countr`", ["did you mean `counter` (line 2)?"]),
     ("TPWrite ^txt;", "nothing here is named `txt`", ["did you mean `text` (line 5)?"]),
@@ -61,12 +61,12 @@ STATEMENTS = (
     ("counter := ^list;", "an array without an index", ["`list` is declared on line 3: VAR num"]),
     ("counter := counter + ^;", "expected a value, found the mark `;`", []),
     ("counter := 1\n^Set do_lamp;", "expected an operator or `;`, found the name `Set`", ["perhaps `;` is missing at the end of line 11, after `1`"]),
-    ("IF counter = 1 THEN\ncounter := 2;\n^", "found the word `ENDPROC`", ["perhaps ENDIF is missing: the IF of line 11 is still open here"]),
-    ("WHILE TRUE DO\nIF TRUE THEN\ncounter := 2;\n^ENDWHILE", "found the word `ENDWHILE`", ["perhaps ENDIF is missing: the IF of line 12 is still open here"]),
+    ("IF counter = 1 THEN\ncounter := 2;\n^", "expected a statement, `ELSEIF`, `ELSE` or `ENDIF`, found the word `ENDPROC`", ["perhaps ENDIF is missing: the IF of line 11 is still open here"]),
+    ("WHILE TRUE DO\nIF TRUE THEN\ncounter := 2;\n^ENDWHILE", "expected a statement, `ELSEIF`, `ELSE` or `ENDIF`, found the word `ENDWHILE`", ["perhaps ENDIF is missing: the IF of line 12 is still open here"]),
     ("counter := ^<EXP>;", "expected an expression, found the mark `<`", ["write instead:"]),
     ("MoveAbsJ ^*, v100, fine, tool0;", "found the mark `*`", ["write instead:"]),
-    ("IF TRUE AND ^NOT FALSE EXIT;", "found the word `NOT`", ["NOT may stand only at the start of an expression: write `(NOT ...)` here"]),
-    ("counter := 2 * ^-counter;", "found the mark `-`", ["write instead:"]),
+    ("IF TRUE AND ^NOT FALSE EXIT;", "expected a value or an operator, found the word `NOT`", ["NOT may stand only at the start of an expression: write `(NOT ...)` here"]),
+    ("counter := 2 * ^-counter;", "expected a value, found the mark `-`", ["write instead:"]),
     ('TPWrite "caf^é";', "'é' is allowed only in comments", ["write instead: characters from space to `~`"]),
     ("\t\tcounter := ^$1; ! ß", "'$' is allowed only in comments", []),
     ("counter := 1; ! ü\n\tcounter := \t^zork;", "nothing here is named `zork`", []),
@@ -78,10 +78,10 @@ ITEMS = (
     ("VAR num ^low;", "`low` is a predefined name (data)", []),
     ("VAR num ^do_lamp;", "`do_lamp` is a signal of the script", []),
     ("^RECORD part num mass; ENDRECORD", "RECORD is not supported", ["write instead:"]),
-    ("VAR num places{2^,3};", "found the mark `,`", ["write instead: one dimension"]),
+    ("VAR num places{2^,3};", "expected an operator or `}`, found the mark `,`", ["write instead: one dimension"]),
     ("PROC put(^\\num part) ENDPROC", "found the mark `\\`", ["write instead: two routines"]),
-    ("PROC put(num part^{*}) ENDPROC", "found the mark `{`", ["write instead: an array of the module"]),
-    ("PROC put() ERROR ^(1, 2) ENDPROC", "found the mark `(`", ["write instead: IF or TEST"]),
+    ("PROC put(num part^{*}) ENDPROC", "expected `,` or `)`, found the mark `{`", ["write instead: an array of the module"]),
+    ("PROC put() ERROR ^(1, 2) ENDPROC", "expected a statement or `ENDPROC`, found the mark `(`", ["write instead: IF or TEST"]),
 )
 
 
@@ -96,9 +96,7 @@ def try_modules():
 
 def try_module(folder, given, text, label, notes):
     before, mark, after = text.encode().partition(b"^")
-    if not after.strip(b"\n").startswith(b"ENDPROC"):
-        after = b"" + after
-    else:
+    if after.strip(b"\n").startswith(b"ENDPROC"):
         before, after = before + b"\n", after.lstrip(b"\n")
     Path(folder, "m.mod").write_bytes(before + after)
     place = f"{before.count(10) + 1}:{len(before) - before.rfind(10)}"
@@ -107,7 +105,7 @@ def try_module(folder, given, text, label, notes):
     compare(f"{given}: place", (status, out, lines[0].split()[:4]), (4, "", ["rapid_cell:", "module", "m.mod", place]))
     compare(f"{given}: arrow", lines[1].strip(), f"--> m.mod:{place}")
     carets = next((it for it in lines if re.match(r" +\| +\^", it)), "")
-    compare(f"{given}: label", carets.partition("^")[2].lstrip("^").strip().endswith(label) or label, True if label in carets else label)
+    compare(f"{given}: label", carets.partition("^")[2].lstrip("^").strip(), label)
     shown = lines[3].partition("| ")[2]
     word = (after.decode().split() or [""])[0]
     at = carets.partition("| ")[2].index("^") if "^" in carets else -1
@@ -166,7 +164,7 @@ def try_long_lines():
 
 
 def try_colours():
-    """Colours on a terminal alone, and not where NO_COLOR is set."""
+    """Colours only on a terminal, and not if NO_COLOR is set."""
     with tempfile.TemporaryDirectory() as folder:
         Path(folder, "cell.toml").write_text(SCRIPT)
         Path(folder, "m.mod").write_text(FRAME.format(item="", statement="zork;"))

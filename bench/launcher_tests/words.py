@@ -13,7 +13,7 @@ FIRST = EXAMPLES / "first_move/cell.toml"
 
 
 def try_words():
-    """The words that the launcher refuses by itself, by the program's rule, whose line comes first."""
+    """Words that are refused: the program's line comes first."""
     for words, place in (
         ((b"\xff", b"cell.toml"), 0),
         ((b"check", b"\xff"), 1),
@@ -34,9 +34,10 @@ def try_places():
     """The launcher's rule of refused words against the program's."""
     from launcher.words import refused_place
 
-    for words in ((), ("x",), ("check",), ("list",), ("run",), ("round", "a", "b"), ("run", "a", "b"), ("check", "a", "b"), ("--history", "--history"), ("check", "-x"), ("-",)):
-        ran = subprocess.run([program().file, *words], stdout=subprocess.PIPE, stderr=subprocess.PIPE)
-        place = refused_place([it.encode() for it in words])
+    for line in ("", "x", "check", "list", "run", "round a b", "run a b", "check a b", "--history --history", "check -x", "-", "check \xff", "\xff a", "check \xff b"):
+        words = line.encode("latin-1").split()
+        ran = subprocess.run([os.fsencode(program().file), *words], stdout=subprocess.PIPE, stderr=subprocess.PIPE)
+        place = refused_place(words)
         compare(f"place of {words}", text_of(ran.stderr), f"rapid_cell: words {place}\n")
 
 
@@ -103,7 +104,7 @@ def try_streams():
         status, out, err = ask(*options, "check", FIRST, before=before)
         compare(f"check with {what}", (status, "rapid_cell: write" in err), (wanted, wanted == 6))
     compare("refused words without standard error", ask("zork", before=lambda: os.close(2)), (2, "", ""))
-    # The same as a command, where Python itself meets what is closed.
+    # The same as a command, in which Python itself meets what is closed.
     for stream, status in ((">/dev/full", 6), (">&-", 6), ("2>&-", 0), ("2>/dev/full", 0)):
         ran = subprocess.run(["sh", "-c", f'exec "$@" {stream}', "", LAUNCHER, "--help"], stdout=subprocess.PIPE, stderr=subprocess.PIPE)
         compare(f"help with {stream}", (ran.returncode, b"Traceback" in ran.stderr), (status, False))
@@ -111,11 +112,20 @@ def try_streams():
 
 
 def try_completion():
-    """The completions, as bash itself makes them; those of zsh where it is installed."""
-    for words, wanted in ((["che"], "check"), (["explain", "CornerZ"], "CornerZone"), (["--pl"], "--plain"), (["check", f"{EXAMPLES}/first_move/"], str(FIRST)), (["completion", "z"], "zsh"), (["--all", "check", f"{EXAMPLES}/first_move/ce"], str(FIRST))):
-        lines = f'source <({LAUNCHER} completion bash); COMP_WORDS=(rapid_cell {" ".join(words)}); COMP_CWORD={len(words)}; _rapid_cell; echo "${{COMPREPLY[@]}}"'
-        ran = subprocess.run(["bash", "-c", lines], stdout=subprocess.PIPE, stderr=subprocess.PIPE)
-        compare(f"bash completes {words}", (text_of(ran.stdout).split(), ran.stderr), ([wanted], b""))
+    """The completions, as bash itself makes them; those of zsh if it is installed."""
+    cases = (
+        (["che"], "check"),
+        (["explain", "CornerZ"], "CornerZone"),
+        (["--pl"], "--plain"),
+        (["check", f"{EXAMPLES}/first_move/"], str(FIRST)),
+        (["completion", "z"], "zsh"),
+        (["--all", "check", f"{EXAMPLES}/first_move/ce"], str(FIRST)),
+    )
+    lines = f"source <({LAUNCHER} completion bash)\n"
+    for words, _ in cases:
+        lines += f'COMP_WORDS=(rapid_cell {" ".join(words)}); COMP_CWORD={len(words)}; _rapid_cell; echo "${{COMPREPLY[@]}}"\n'
+    ran = subprocess.run(["bash", "-c", lines], stdout=subprocess.PIPE, stderr=subprocess.PIPE)
+    compare("bash completes", (text_of(ran.stdout).splitlines(), ran.stderr), ([wanted for _, wanted in cases], b""))
     try:
         lines = f'autoload -U compinit; compinit -u -D; source <({LAUNCHER} completion zsh); whence _rapid_cell; print $_comps[rapid_cell]'
         ran = subprocess.run(["zsh", "-fc", lines], stdout=subprocess.PIPE, stderr=subprocess.PIPE)
@@ -125,13 +135,15 @@ def try_completion():
 
 
 def try_files():
-    """Every file of the launcher compiles, and pyflakes finds nothing where it is installed."""
+    """Every file of the launcher and of bench compiles, and pyflakes, if it is installed, finds nothing."""
+    scripts = [it for it in (TOP / "bench").iterdir() if it.is_file() and it.read_bytes().startswith(b"#!/usr/bin/env python3")]
+    compare("scripts of bench", len(scripts) >= 8, True)
     with tempfile.TemporaryDirectory() as folder:
-        for file in [*(TOP / "launcher").glob("*.py"), LAUNCHER]:
+        for file in [*(TOP / "launcher").glob("*.py"), LAUNCHER, *scripts]:
             compile(file.read_text(encoding="utf-8"), str(file), "exec")
         found = shutil.which("pyflakes3") or shutil.which("pyflakes")
         if found:
-            ran = subprocess.run([found, TOP / "launcher", LAUNCHER], cwd=folder, stdout=subprocess.PIPE)
+            ran = subprocess.run([found, TOP / "launcher", TOP / "bench", LAUNCHER, *scripts], cwd=folder, stdout=subprocess.PIPE)
             compare("pyflakes", text_of(ran.stdout), "")
     longest = max(len(file.read_text(encoding="utf-8").splitlines()) for file in (TOP / "launcher").glob("*.py"))
     compare("files of the launcher are small", longest < 400, True)
