@@ -99,8 +99,8 @@ enum Op {
     Back,
 }
 
-/// A move under way: its target, and how many setpoints it has, of which some were asked.
-struct Plan { start: Joints, target: Joints, count: Num, asked: Num }
+/// A move under way: its target, and how many setpoints it has, of which some were asked. There is a Look between two setpoints.
+struct Plan { start: Joints, target: Joints, count: Num, asked: Num, looked: bool }
 
 struct Task { code: Vec<Op>, pc: usize, operands: Vec<Datum>, slots: Vec<Datum>, plan: Option<Plan>, seen: u32, fate: Option<Fate> }
 
@@ -118,6 +118,10 @@ impl Task {
         }
         if let Some(plan) = &mut self.plan {
             if plan.asked < plan.count {
+                plan.looked = !plan.looked;
+                if !plan.looked {
+                    return Request::Look;
+                }
                 plan.asked += 1;
                 return Request::Setpoint(setpoint(plan));
             }
@@ -181,7 +185,7 @@ impl Task {
         }
         let change = (0..6).map(|k| (target[k] - start[k]).abs()).max().unwrap();
         let cap = (speed / 1000).max(1);
-        Ok(Plan { start, target, count: ((change + cap - 1) / cap).max(1), asked: 0 })
+        Ok(Plan { start, target, count: ((change + cap - 1) / cap).max(1), asked: 0, looked: false })
     }
 }
 

@@ -189,7 +189,8 @@ impl<'t> Task<'t> {
         }
     }
 
-    /// A move: no axis takes more in one setpoint than the whole part of the speed, in thousandths of a degree.
+    /// A move: no axis takes more in one setpoint than the whole part of the speed, in thousandths of a degree. There is a Look
+    /// between two setpoints.
     fn travel(&mut self, target: &Joints, speed: Num) -> Result<(), Fate> {
         if target[..6].iter().any(|it| it.abs() > REACH) {
             return Err("Fault JointRange");
@@ -202,6 +203,9 @@ impl<'t> Task<'t> {
         let change = (0..6).map(|k| (target[k] - start[k]).abs()).max().unwrap();
         let count = ((change + cap - 1) / cap).max(1);
         for j in 1..=count {
+            if j > 1 {
+                self.look()?;
+            }
             let mut to = start.clone();
             for k in 0..6 {
                 to[k] += rounded_ratio(i128::from(target[k] - start[k]) * i128::from(j), i128::from(count)) as Num;
@@ -278,7 +282,7 @@ fn cell_of(name: &str) -> (Vec<Routine>, usize) {
             // MoveAbsJ [[500,0,0,0,0,0],[9E9,9E9,9E9,9E9,9E9,9E9]]\NoEOffs, v5, fine, tool0;
             let target = Value::Target(Box::new(arm_at([500_000, 0, 0, 0, 0, 0])));
             let speed = Value::Speed(Box::new([5_000, 500_000, 5_000_000, 1_000_000]));
-            (vec![Routine(0, vec![Stmt::MoveAbsJ(Expr::Known(target), Expr::Known(speed))])], 100_002)
+            (vec![Routine(0, vec![Stmt::MoveAbsJ(Expr::Known(target), Expr::Known(speed))])], 200_001)
         }
         _ => panic!("var, pers, calls or setpoints"),
     }

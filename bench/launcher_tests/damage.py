@@ -102,18 +102,19 @@ def try_rights():
         os.chmod(folder, 0o755)
         for file in ("cell.toml", "first_move.mod"):
             Path(folder, "cell", file).chmod(0)
-            status, out, err = ask(*options, "check", "cell/cell.toml", cwd=folder, before=as_nobody)
+            status, out, err = ask(*options, "check", "cell/cell.toml", cwd=folder, before=lambda: as_nobody(folder))
             compare(f"{file} without rights", (status, "you may not read" in err), (5, True))
             Path(folder, "cell", file).chmod(0o644)
 
 
-def as_nobody():
-    """Goes on as a user without rights. All modules are read first, since Python's own files may not be that user's."""
+def as_nobody(folder):
+    """Goes on as a user without rights, with a program in this folder. All modules are read first, since Python's own files may not be
+    that user's."""
     from launcher import kept, program, shown, words
 
     assert shown and words
     found = program.ready()
-    copy = Path(tempfile.gettempdir(), f"rapid-cell-program-{os.getpid()}")
+    copy = Path(folder, "program")
     shutil.copy2(found.file, copy)
     copy.chmod(0o755)
     program.proved = lambda: None

@@ -1,5 +1,6 @@
 -- The compiled code of each tree of an accepted cell fits its task.
-use Rattle.std.proofs.Common.{◌≡◌, refl, sym, ap, ◌∙◌, subst, ℕ, zero, suc, ◌+◌, Bool, true, List, [], ◌∷◌, ◌++◌, length, map, Option, None, Some, slice_get, IsTrue, append_assoc}
+use Rattle.std.proofs.Common.{◌≡◌, refl, sym, ap, ◌∙◌, subst, ℕ, zero, suc, List, [], ◌∷◌, ◌++◌, length, Some, slice_get, append_assoc}
+use Rattle.std.proofs.lemmas.Option.{same_Some}
 use Rattle.rapid_model.specs.CellData.{CellData}
 use Rattle.rapid_model.specs.ScriptData.{ScriptData}
 use Rattle.rapid_model.specs.declared.answer.Answer.{Answer}
@@ -8,12 +9,11 @@ use Rattle.rapid_model.specs.declared.pers_cell.PersCell.{PersCell}
 use Rattle.rapid_model.specs.declared.request.Request.{Request}
 use Rattle.rapid_model.specs.declared.request.Request.TheVariants as requests
 use Rattle.rapid_model.specs.declared.watched.Watched.TheVariants as watched
-use Rattle.typed_trees.specs.Plain.{TypedPers, TypedRoutine, TypedTree}
+use Rattle.typed_trees.specs.Plain.{TypedPers, TypedTree}
 use Rattle.cell_assembly.specs.Made.{MadeCell}
-use Rattle.rapid_meaning.specs.Answering.{Asking, is_trap_row}
+use Rattle.rapid_meaning.specs.Answering.{Asking}
 use Rattle.rapid_meaning.specs.Data.{Data}
-use Rattle.rapid_meaning.specs.Frames.{first_values}
-use Rattle.rapid_meaning.specs.Runs.{FitsSteps, asks, asked_after, state_after}
+use Rattle.rapid_meaning.specs.Runs.{asks, asked_after, state_after}
 use Rattle.tree_typing.specs.Asked.{IsAsked}
 use Rattle.tree_typing.specs.Numbered.{IsOne, Numbered}
 use Rattle.tree_typing.specs.OwnEvents.{AreOwn}
@@ -22,12 +22,12 @@ use Rattle.tree_typing.specs.States.{IsPers}
 use Rattle.tree_typing.proofs.Own.{is_asking}
 use Rattle.tree_typing.proofs.Whole.{asked}
 use Rattle.stack_code.specs.CodeData.{CodeData}
-use Rattle.stack_code.specs.CodeRuns.{is_trap}
-use Rattle.stack_code.specs.Compiled.{compiled, routine_rows, routine_size, sorts_of}
+use Rattle.stack_code.specs.Compiled.{compiled, sorts_of}
 use Rattle.stack_code.specs.declared.pers_sort.PersSort.{PersSort}
 use Rattle.task_code.specs.Asking.{CodeAsks}
 use Rattle.task_code.specs.Live.{CodeFits}
 use Rattle.code_laws.specs.Asking.{AsksAs}
+use Rattle.code_laws.proofs.Compiles.{same_trap}
 use Rattle.code_laws.proofs.Lives.{asks_as}
 use Rattle.accepted_cells.specs.Accepted.{IsAccepted}
 use Rattle.accepted_cells.proofs.Accepted.{IsRight, accepted_right}
@@ -45,13 +45,6 @@ fits_front code before after fits = record {
 answers_cut : (before after : List Event) (e : Event) → answers_in (before ++ e ∷ after) ≡ answers_in before ++ e.answer ∷ answers_in after
 answers_cut [] after e = refl
 answers_cut (f ∷ before) after e = ap (λ (x : List Answer). f.answer ∷ x) (answers_cut before after e)
-
--- a routine's row says whether it is a trap
-same_trap : (tree : TypedTree) (pc first : ℕ) (routines : List TypedRoutine) (number : ℕ) → is_trap (slice_get (routine_rows tree pc first routines) number) ≡ is_trap_row (slice_get routines number)
-unfolding routine_rows
-same_trap tree pc first [] number = refl
-same_trap tree pc first (routine ∷ more) zero = refl
-same_trap tree pc first (routine ∷ more) (suc number) = same_trap tree (pc + routine_size tree routine) (first + length (first_values routine)) more number
 
 -- the row of code for a persistent's row of the tree
 sort_there : (numbers : List ℕ) (rows : List TypedPers) (k number : ℕ) (p : TypedPers) → slice_get numbers k ≡ Some number → slice_get rows k ≡ Some p
@@ -84,9 +77,6 @@ row_of (m ∷ numbers) (q ∷ rows) (suc k) r is =
     let later : IsRow numbers rows k r = row_of numbers rows k r is in
     record { p = later.p; numbered = later.numbered; there = later.there; same = later.same }
 
-one_row : (x y : PersCell) (o : Option PersCell) → o ≡ Some x → o ≡ Some y → x ≡ y
-one_row x y o e f = cc
-
 -- a persistent of the tree has its type in the code
 its_sort : (cell : CellData) (task : ℕ) (tree : TypedTree) (pers : ℕ) (p : TypedPers) → Numbered cell task tree → IsPers tree pers p → HasItsSort (compiled tree) cell pers
 its_sort cell task tree pers p numbered is =
@@ -102,7 +92,7 @@ its_sort cell task tree pers p numbered is =
           let of : IsRow tree.pers_of tree.pers k r = row_of tree.pers_of tree.pers k r there in
           let other : IsOne cell of.p r.pers = numbered.pers k r.pers of.p of.numbered of.there in
           of.same ∙ sym other.same_sort
-          ∙ ap (λ (x : PersCell). x.sort) (one_row other.cell_row one.cell_row (slice_get cell.pers pers) (subst (λ (n : ℕ). slice_get cell.pers n ≡ Some other.cell_row) same other.there) one.there);
+          ∙ ap (λ (x : PersCell). x.sort) (same_Some other.cell_row one.cell_row (sym (subst (λ (n : ℕ). slice_get cell.pers n ≡ Some other.cell_row) same other.there) ∙ one.there));
     }
 
 -- a request for a persistent is for one of the tree

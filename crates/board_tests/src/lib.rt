@@ -1,5 +1,5 @@
 //! Tests of the boards of a cell on examples worked by hand: zones in joint space, persistents, signals, meetings,
-//! interrupts, and the zones of arms.
+//! interrupts, the zones of arms, and the pages of a history.
 #![tactic(auto)]
 
 #[cfg(test)]
@@ -7,11 +7,17 @@ mod cell;
 #[cfg(test)]
 mod clips;
 #[cfg(test)]
+mod events;
+#[cfg(test)]
 mod kept;
+#[cfg(test)]
+mod longest;
 #[cfg(test)]
 mod meetings;
 #[cfg(test)]
 mod one_task;
+#[cfg(test)]
+mod pages;
 #[cfg(test)]
 mod persistents;
 #[cfg(test)]

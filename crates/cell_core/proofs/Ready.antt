@@ -1,12 +1,11 @@
 -- The boards have what a request needs if an actor may ask it.
 use Rattle.std.proofs.Common.{◌≡◌, ◌⊎◌, inl, inr, ℕ, zero, suc, ◌+◌, ◌*◌, ◌<◌, ◌≤◌, ◌^◌, Bool, true, false, cond, List, [], ◌∷◌, ◌++◌, length, map, get_or, Option, None, Some, refl, sym, ◌∙◌, ap, subst, arith, length-append, length-set}
 use Rattle.std.specs.Prelude.{IsTrue, IfSome, not, ◌&&◌, ◌==◌, nat_lt, nat_le, is_some, slice_get, count_by, replicate}
-use Rattle.std.specs.List.{All, filter, list_all}
+use Rattle.std.specs.List.{All, list_all}
 use Rattle.std.proofs.lemmas.Bool.{and_parts, eq-eqb, ltb-true, false≢true}
 use Rattle.std.proofs.lemmas.List.{get_or-map, length-replicate}
 use Rattle.std.proofs.lemmas.List.Sums.{count_by-le-length}
 use Rattle.std.proofs.lemmas.Option.{slice_get-get_or, slice_get_within, get_or_from_slice_get}
-use Rattle.rapid_num.specs.declared.joints.Joints.{Joints}
 use Rattle.rapid_model.specs.CellData.{CellData}
 use Rattle.rapid_model.specs.Limits.{axes_at, holds_where_there, has_arm, is_input, is_input_signal, is_within, is_zone, is_zone_shape}
 use Rattle.rapid_model.specs.Names.{is_short_name}

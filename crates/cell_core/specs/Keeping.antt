@@ -59,7 +59,8 @@ pub record Keeps (cell : CellData) (history : List Event) (boards : BoardData) (
   pub inputs_within : (actor_at boards.actors (length cell.tasks)).events ≤ length cell.inputs
   pub events : length history ≡ boards.counted + fates_count boards.actors + (actor_at boards.actors (length cell.tasks)).events
 
--- room for every event of a run, and for the fate of each task
-pub record HasRoom (cell : CellData) (event_room fate_room : ℕ) : Type 0 where
+-- room for every event of a run, in the pages and in the report, and for the fate of each task
+pub record HasRoom (cell : CellData) (page_room event_room fate_room : ℕ) : Type 0 where
+  pub pages : cell.steps + length cell.tasks + length cell.inputs ≤ page_room
   pub events : cell.steps + length cell.tasks + length cell.inputs ≤ event_room
   pub fates : length cell.tasks ≤ fate_room

@@ -11,6 +11,7 @@ mod meetings;
 mod motion;
 mod outcome;
 mod paths;
+mod report;
 mod served;
 mod shared;
 mod starting;

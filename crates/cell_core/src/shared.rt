@@ -3,23 +3,25 @@ ghost use Rattle.rapid_model.specs.Fits.{fits_request, fitting_in};
 ghost use Rattle.rapid_model.specs.Own.{has_ended, is_held, part_of};
 ghost use Rattle.rapid_model.specs.Requests.{of_pers};
 ghost use Rattle.rapid_model.specs.Paths.{has_path};
+ghost use Rattle.rapid_model.specs.declared.event.Event.{Event};
+ghost use Rattle.history_pages.specs.Requests.{is_lined};
 ghost use Rattle.cell_meaning.specs.Answers.{IsAnswer, is_enabled};
 ghost use Rattle.cell_meaning.specs.Counted.{can_be_served};
 ghost use Rattle.cell_meaning.specs.Fates.{all_ended, fate_after, fates_after, is_spent};
 ghost use Rattle.cell_meaning.specs.Inputs.{inputs_done, is_open};
 ghost use Rattle.cell_meaning.specs.MayAsk.{may_ask};
 ghost use Rattle.cell_meaning.specs.Rising.{can_rise};
-ghost use Rattle.std.specs.Vec.{vec_capacity};
 ghost use Rattle.cell_meaning.specs.Stalled.{all_rest, is_stalled};
 ghost use Rattle.cell_meaning.specs.Stored.{persistent_after, value_at};
-ghost use Rattle.cell_core.specs.Reading.{fates_of, standing};
 ghost use Rattle.cell_core.specs.Serving.{IfAnswered, Serves, event_of, history_with};
 ghost use Rattle.cell_core.specs.Soundness.{IsSound};
 
 use crate::boards::{Boards, is_counted};
 use crate::fits::{allows, feeds, goes_with};
+use crate::report::{fill, reserve, standing, tell};
 use crate::served::Served;
 use crate::starting::starts_full;
+use history_pages::Pages;
 use rapid_limits::MOST_TASKS;
 use rapid_model::{Answer, Cell, Event, Fate, InputRow, Path, Request, Value};
 use std::alloc::Global;
@@ -32,8 +34,9 @@ pub struct Core {
     cell: Cell,
     steps: u32,
     tasks: u32,
-    events: Vec<Event>,
+    pages: Pages,
     boards: Boards,
+    report: Vec<Event>,
     fates: Vec<Fate>,
 }
 
@@ -44,9 +47,9 @@ impl Model for Core {
 
     ghost Value = { CoreData };
 
-    ghost view = { λ c. record { cell = c.cell; history = c.events.items } };
+    ghost view = { λ c. record { cell = c.cell; history = c.pages.events } };
 
-    ghost invariant = { λ c. Keeps c.cell c.events.items c.boards c.steps × HasRoom c.cell (vec_capacity c.events) (vec_capacity c.fates) × (c.fates.items ≡ []) × (c.tasks ≡ length c.cell.tasks) };
+    ghost invariant = { λ c. Keeps c.cell c.pages.events c.boards c.steps × HasRoom c.cell c.pages.room (vec_capacity c.report) (vec_capacity c.fates) × (c.report.items ≡ []) × (c.fates.items ≡ []) × (c.tasks ≡ length c.cell.tasks) };
 }
 
 impl Core {
@@ -62,19 +65,20 @@ impl Core {
         let Some(boards) = Boards::new(alloc, &cell) else {
             return Err(cell);
         };
-        let room = steps as usize + tasks as usize + cell.inputs().len();
-        let Ok(events) = Vec::with_capacity(alloc, room) else {
+        let room = steps + tasks + cell.inputs().len() as u32;
+        let Ok(pages) = Pages::new(alloc, room) else {
             return Err(cell);
         };
-        let Ok(fates) = Vec::with_capacity(alloc, tasks as usize) else {
+        let Some((report, fates)) = reserve(alloc, room, tasks) else {
             return Err(cell);
         };
         Ok(Core {
             cell,
             steps,
             tasks,
-            events,
+            pages,
             boards,
+            report,
             fates,
         })
     }
@@ -83,17 +87,17 @@ impl Core {
     /// next number. The answer is the cell's after the history (`IsAnswer` of cell_meaning); the request and its answer
     /// become one more event. Returns Spent exactly if the request would be counted and no steps are left; otherwise
     /// NotYet exactly if it is a Rise or an Input that is not enabled. Neither changes anything.
-    pub fn serve(&mut self, actor: u32, request: Request) -> Served
-        requires { IsTrue (may_ask self.old.cell actor (part_of actor self.old.history) request) }
+    pub fn serve(&mut self, actor: u32, request: &Request) -> Served
+        requires { IsTrue (may_ask self.old.cell actor (part_of actor self.old.history) request.now) }
         ensures cell { self.new.cell ≡ self.old.cell }
-        ensures served { Serves self.old.cell self.old.history actor request result }
-        ensures history { self.new.history ≡ history_with self.old.history actor request result }
-        ensures fits { IfAnswered result (λ answer. IsTrue (fits_request (fitting_in self.old.cell actor (part_of actor self.old.history)) request answer)) }
+        ensures served { Serves self.old.cell self.old.history actor request.now result }
+        ensures history { self.new.history ≡ history_with self.old.history actor request.now result }
+        ensures fits { IfAnswered result (λ answer. IsTrue (fits_request (fitting_in self.old.cell actor (part_of actor self.old.history)) request.now answer)) }
     {
-        if !self.can_be_served(&request) {
+        if !self.can_be_served(request) {
             return Served::Spent;
         }
-        if !self.is_enabled(actor, &request) {
+        if !self.is_enabled(actor, request) {
             return Served::NotYet;
         }
         Served::Answered(self.take(actor, request))
@@ -120,27 +124,17 @@ impl Core {
     }
 
     /// Answers a request that can be served and is enabled, as one more event.
-    fn take(&mut self, actor: u32, request: Request) -> Answer
-        requires asked { IsTrue (may_ask self.old.cell actor (part_of actor self.old.history) request) }
-        requires served { IsTrue (can_be_served self.old.cell self.old.history request) }
-        requires enabled { IsTrue (is_enabled self.old.cell self.old.history actor request) }
+    fn take(&mut self, actor: u32, request: &Request) -> Answer
+        requires asked { IsTrue (may_ask self.old.cell actor (part_of actor self.old.history) request.now) }
+        requires served { IsTrue (can_be_served self.old.cell self.old.history request.now) }
+        requires enabled { IsTrue (is_enabled self.old.cell self.old.history actor request.now) }
         ensures cell { self.new.cell ≡ self.old.cell }
-        ensures answered { IsAnswer self.old.cell self.old.history actor request result }
-        ensures history { self.new.history ≡ self.old.history ++ event_of actor request result ∷ [] }
-        ensures fits { IsTrue (fits_request (fitting_in self.old.cell actor (part_of actor self.old.history)) request result) }
+        ensures answered { IsAnswer self.old.cell self.old.history actor request.now result }
+        ensures history { self.new.history ≡ self.old.history ++ event_of actor request.now result ∷ [] }
+        ensures fits { IsTrue (fits_request (fitting_in self.old.cell actor (part_of actor self.old.history)) request.now result) }
     {
-        let index = self.events.len();
-        // A request is large: it is moved once, to its place in the history, where the boards read it. Its answer
-        // follows.
-        self.events.push_reserved(Event {
-            actor,
-            request,
-            answer: Answer::Ok,
-        });
-        let answer = self
-            .boards
-            .take(&self.cell, actor, &self.events[index].request);
-        self.events[index].answer = answer.copy();
+        let answer = self.boards.take(&self.cell, actor, request);
+        self.pages.append(actor, request, &answer);
         answer
     }
 
@@ -274,7 +268,7 @@ impl Core {
         ensures few { result ≤ self.now.cell.steps + length self.now.cell.tasks + length self.now.cell.inputs }
         ensures sound { IsSound self.now.cell self.now.history }
     {
-        self.events.len() as u32
+        self.pages.len()
     }
 
     /// Event `k`, from 0.
@@ -282,15 +276,15 @@ impl Core {
         requires { k < length self.now.history }
         ensures { slice_get self.now.history k ≡ Some result }
     {
-        self.events[k as usize].copy()
+        self.pages.get(k)
     }
 
-    /// Lends event `k`, from 0.
-    pub fn lend_event(&self, k: u32) -> &Event
+    /// Whether event `k`, from 0, asks for a setpoint or a text to the operator. Quicker than `event`.
+    pub fn is_lined(&self, k: u32) -> bool
         requires { k < length self.now.history }
-        ensures { slice_get self.now.history k ≡ Some result.now }
+        ensures { (event : Event) → slice_get self.now.history k ≡ Some event → result ≡ is_lined event.request }
     {
-        &self.events[k as usize]
+        self.pages.is_lined(k)
     }
 
     /// The number of tasks.
@@ -326,12 +320,14 @@ impl Core {
             cell: _,
             steps: _,
             tasks,
-            events,
+            pages,
             boards,
+            mut report,
             mut fates,
         } = self;
+        fill(&pages, &mut report);
         tell(&boards, tasks, spent, &mut fates);
-        (events, fates)
+        (report, fates)
     }
 }
 
@@ -339,27 +335,4 @@ fn all_so(passed: bool, over: bool, left: bool) -> bool
     ensures { result ≡ (passed && not over && left) }
 {
     passed && !over && left
-}
-
-fn standing(spent: bool, end: Option<Fate>) -> Fate
-    ensures { result ≡ standing spent end }
-{
-    match end {
-        Some(fate) => fate,
-        None if spent => Fate::Cut,
-        None => Fate::Held,
-    }
-}
-
-/// Appends how each of this many tasks stands, in the room reserved for it.
-#[tactic(auto, using(crate::proofs::Looks::fates_more))]
-fn tell(boards: &Boards, tasks: u32, spent: bool, fates: &mut Vec<Fate>)
-    requires none { fates.old.items ≡ [] }
-    requires room { tasks ≤ vec_capacity fates.old }
-    requires actors { tasks ≤ length boards.now.actors }
-    ensures { fates.new.items ≡ fates_of spent tasks boards.now.actors }
-{
-    for task in 0..tasks {
-        fates.push_reserved(standing(spent, boards.actor(task).end));
-    }
 }

@@ -15,7 +15,6 @@ use crate::change::Change;
 use crate::outcome::Outcome;
 use persist_store::Store;
 use rapid_model::{Answer, Path, Value, Watched};
-use rapid_values::same_value;
 use signal_board::Signals;
 
 /// The value of a part of a persistent.
@@ -42,8 +41,8 @@ pub(crate) fn write(store: &mut Store, pers: u32, path: &Path, value: &Value) ->
     ensures change { result ≡ pers_change store.old pers path.now value.now }
     ensures store { store.new ≡ put_in store.old pers path.now value.now }
 {
-    let still = same_value(&read(store, pers, path), value);
-    put(store, pers, path, value.copy());
+    let still = store.part(pers, path).unwrap().same(value);
+    put(store, pers, path, value);
     Change::of_value(still, Watched::Pers { pers })
 }
 
@@ -68,13 +67,13 @@ pub(crate) fn test_set(store: &mut Store, pers: u32, path: &Path) -> Outcome
     }
 }
 
-fn put(store: &mut Store, pers: u32, path: &Path, value: Value)
+fn put(store: &mut Store, pers: u32, path: &Path, value: &Value)
     requires part { HasPart store.old pers path.now }
-    requires fits { IsTrue (fits_part (row_at store.old pers).sort path.now.part value) }
-    ensures { IsStored store.old store.new pers path.now value }
+    requires fits { IsTrue (fits_part (row_at store.old pers).sort path.now.part value.now) }
+    ensures { IsStored store.old store.new pers path.now value.now }
 {
     if let Ok(part) = store.part_mut(pers, path) {
-        part.put(value);
+        part.copy_from(value);
     }
 }
 

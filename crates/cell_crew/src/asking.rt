@@ -25,13 +25,13 @@ pub fn ask_first<M: TaskMachine>(machines: &mut [M])
 }
 
 /// Serves an actor's request: the answer, or None if it cannot be answered now.
-pub(crate) fn ask<A: Askers>(core: &mut Core, actor: u32, request: Request) -> Option<Answer>
-    requires asked { with_inputs A.asks core.old.cell actor (answers_of actor core.old.history) request }
+pub(crate) fn ask<A: Askers>(core: &mut Core, actor: u32, request: &Request) -> Option<Answer>
+    requires asked { with_inputs A.asks core.old.cell actor (answers_of actor core.old.history) request.now }
     requires may { AsksWhatItMay (with_inputs A.asks core.old.cell) core.old.cell }
     requires legal { IsLegal (with_inputs A.asks core.old.cell) core.old.cell core.old.history }
     ensures cell { core.new.cell ≡ core.old.cell }
     ensures legal { IsLegal (with_inputs A.asks core.old.cell) core.old.cell core.new.history }
-    ensures came { CameOf (with_inputs A.asks core.old.cell) core.old.cell core.old.history actor request core.new.history result }
+    ensures came { CameOf (with_inputs A.asks core.old.cell) core.old.cell core.old.history actor request.now core.new.history result }
 {
     match core.serve(actor, request) {
         Served::Answered(answer) => Some(answer),

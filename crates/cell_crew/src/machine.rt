@@ -45,9 +45,9 @@ pub trait TaskMachine {
         ensures stands { (answers : List Answer) → stands_for self.old answers → stands_for self.new (answers ++ answer ∷ []) };
 
     /// The request that is due.
-    fn last(&self) -> Request
+    fn last(&self) -> &Request
         requires { IsSome (due self.now) }
-        ensures { due self.now ≡ Some result };
+        ensures { due self.now ≡ Some result.now };
 
     // After answers that fit it, a program asks one request only: the one that is due at a machine that stands for
     // them.

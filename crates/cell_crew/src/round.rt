@@ -1,6 +1,6 @@
 ghost use Rattle.std.specs.Prelude.{◌≡◌, ◌<◌, ◌≤◌, ◌+◌, [], length, map, IsTrue, IsFalse};
 ghost use Rattle.cell_meaning.specs.Asking.{with_inputs};
-ghost use Rattle.cell_meaning.specs.Histories.{IsLegal};
+ghost use Rattle.cell_meaning.specs.Histories.{IsLegal, IsWhole};
 ghost use Rattle.cell_meaning.specs.Premises.{AsksWhatItMay};
 ghost use Rattle.cell_meaning.specs.Turns.{TakeTurns, IsRound, IsByTurns};
 ghost use Rattle.cell_crew.specs.Courses.{SuitTasks};
@@ -17,8 +17,9 @@ use cell_meaning::Askers;
 
 /// Lets the tasks take turns in script order, and then the input script, one event a turn, until a whole round adds
 /// none (`IsByTurns` of cell_meaning). An actor that has ended, is not enabled, or has no steps left adds none. The
-/// core's history is empty, and there is a machine for each task, which has asked nothing; the task asks what the
-/// machine's program asks, which suits it. Allocates nothing.
+/// history is one that the tasks and the input script can make together, and nothing can follow it. The core's history
+/// is empty at first, and there is a machine for each task, which has asked nothing; the task asks what the machine's
+/// program asks, which suits it. Allocates nothing.
 pub fn run_round<A: Askers, M: TaskMachine>(mut core: Core, mut machines: Vec<M>) -> Ran<M>
     requires no_events { core.history ≡ [] }
     requires crew { IsCrew M.is_fresh machines.items core.cell }
@@ -27,6 +28,8 @@ pub fn run_round<A: Askers, M: TaskMachine>(mut core: Core, mut machines: Vec<M>
     ensures cell { result.core.cell ≡ core.cell }
     ensures programs { map M.program result.machines.items ≡ map M.program machines.items }
     ensures by_turns { IsByTurns (with_inputs A.asks core.cell) core.cell result.core.history }
+    ensures legal { IsLegal (with_inputs A.asks core.cell) core.cell result.core.history }
+    ensures whole { IsWhole (with_inputs A.asks core.cell) core.cell result.core.history }
     ensures stand { Stand M.stands_for result.machines.items result.core.history }
 {
     run::<A, M>(&mut core, machines.as_mut_slice());
@@ -43,6 +46,7 @@ fn run<A: Askers, M: TaskMachine>(core: &mut Core, machines: &mut [M])
     ensures cell { core.new.cell ≡ core.old.cell }
     ensures programs { map M.program machines.new ≡ map M.program machines.old }
     ensures by_turns { IsByTurns (with_inputs A.asks core.old.cell) core.old.cell core.new.history }
+    ensures legal { IsLegal (with_inputs A.asks core.old.cell) core.old.cell core.new.history }
     ensures stand { Stand M.stands_for machines.new core.new.history }
 {
     ask_first(machines);

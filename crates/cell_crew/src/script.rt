@@ -23,5 +23,5 @@ pub(crate) fn feed<A: Askers>(core: &mut Core)
     }
     let index = core.inputs_done();
     let script = core.task_count();
-    let _answer = ask::<A>(core, script, Request::Input { index });
+    let _answer = ask::<A>(core, script, &Request::Input { index });
 }

@@ -12,10 +12,10 @@ use cell_core::{Core, Served};
 use rapid_model::Request;
 
 /// Makes a request that is always enabled.
-pub(crate) fn try_act(core: &mut Core, actor: u32, request: Request) -> Acted
-    requires may { IsTrue (may_ask core.old.cell actor (part_of actor core.old.history) request) }
-    requires plain { IsFalse (may_wait request) }
-    ensures { Acts core.old actor request result core.new }
+pub(crate) fn try_act(core: &mut Core, actor: u32, request: &Request) -> Acted
+    requires may { IsTrue (may_ask core.old.cell actor (part_of actor core.old.history) request.now) }
+    requires plain { IsFalse (may_wait request.now) }
+    ensures { Acts core.old actor request.now result core.new }
 {
     match core.serve(actor, request) {
         Served::Answered(answer) => Acted::Done(answer),
@@ -32,7 +32,7 @@ pub(crate) fn try_rise(core: &mut Core, task: u32) -> Now
 {
     // Its contract states that the task has not ended, since it is held.
     let _held = core.held(task);
-    match core.serve(task, Request::Rise) {
+    match core.serve(task, &Request::Rise) {
         Served::Answered(_) => Now::Woken,
         Served::Spent => Now::Spent,
         Served::NotYet => {
@@ -54,7 +54,7 @@ pub(crate) fn try_feed(core: &mut Core) -> Fed
     }
     let script = core.task_count();
     let index = core.inputs_done();
-    match core.serve(script, Request::Input { index }) {
+    match core.serve(script, &Request::Input { index }) {
         Served::Answered(_) => Fed::Given,
         Served::Spent => unreachable!(),
         Served::NotYet => Fed::NotYet,

@@ -55,10 +55,10 @@ impl BoxedCore {
     }
 
     /// As `try_act` of asking.
-    pub(crate) fn try_act(&mut self, actor: u32, request: Request) -> Acted
-        requires may { IsTrue (may_ask self.old.cell actor (part_of actor self.old.history) request) }
-        requires plain { IsFalse (may_wait request) }
-        ensures { Acts self.old actor request result self.new }
+    pub(crate) fn try_act(&mut self, actor: u32, request: &Request) -> Acted
+        requires may { IsTrue (may_ask self.old.cell actor (part_of actor self.old.history) request.now) }
+        requires plain { IsFalse (may_wait request.now) }
+        ensures { Acts self.old actor request.now result self.new }
     {
         try_act(&mut self.core, actor, request)
     }

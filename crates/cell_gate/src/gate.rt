@@ -53,12 +53,12 @@ impl Gate {
     /// Makes a request that the pass's actor may make, other than a Rise or an Input. Done has the core's answer after
     /// the history at that moment, and the call is one more event of it. Returns Spent, and adds no event, exactly if
     /// the request would be counted and no steps are left.
-    pub fn act<R: Wait>(&self, rt: &R, pass: &mut Pass, request: Request) -> Acted
+    pub fn act<R: Wait>(&self, rt: &R, pass: &mut Pass, request: &Request) -> Acted
         requires gate { pass.old.gate ≡ self.now }
-        requires may { MayAsk pass.old request }
-        requires plain { IsFalse (may_wait request) }
+        requires may { MayAsk pass.old request.now }
+        requires plain { IsFalse (may_wait request.now) }
         ensures same { IsSameHolder pass.old pass.new }
-        ensures acted { ActedAs pass.old request result pass.new }
+        ensures acted { ActedAs pass.old request.now result pass.new }
     {
         let top = &self.table.shared;
         let actor = pass.caller.actor;

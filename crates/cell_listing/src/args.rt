@@ -29,6 +29,7 @@ pub(crate) fn push_args(op: &Op, line: &mut ArrayString<OPERATION_BYTES>)
         | Op::Call(number)
         | Op::Wait(number)
         | Op::Arrive(number)
+        | Op::Point(number)
         | Op::Connect(number) => push_number(*number, line),
         Op::Index(len) | Op::TaskSet(len) => push_number(u32::from(*len), line),
         Op::Part(part) => push_word(part_name(*part), line),
@@ -62,7 +63,7 @@ pub(crate) fn push_args(op: &Op, line: &mut ArrayString<OPERATION_BYTES>)
         | Op::TestSet
         | Op::Here
         | Op::Still
-        | Op::Move => {}
+        | Op::Aim => {}
     }
 }
 

@@ -1,12 +1,11 @@
 -- The interrupts of tasks, from the events alone.
-use Rattle.std.proofs.Common.{◌≡◌, ◌⊎◌, inl, inr, ◌<◌, ◌≤◌, ℕ, zero, suc, ◌+◌, ◌-◌, ◌==◌, not, Bool, true, false, List, [], ◌∷◌, ◌++◌, length, map, get_or, replicate, Option, Some, None, is_some, slice_index_or, slice_set, refl, sym, ◌∙◌, ap, subst, arith, if◌then◌else◌}
-use Rattle.std.specs.Prelude.{⊤, ◌↔◌, ◌&&◌, is_none, Result, Ok, Err}
+use Rattle.std.proofs.Common.{◌≡◌, ◌⊎◌, inl, inr, ◌<◌, ◌≤◌, ℕ, zero, suc, ◌+◌, ◌-◌, ◌==◌, not, Bool, true, false, List, [], ◌∷◌, ◌++◌, length, map, replicate, Option, Some, None, is_some, slice_index_or, slice_set, refl, sym, ◌∙◌, ap, subst, arith, if◌then◌else◌}
+use Rattle.std.specs.Prelude.{⊤, ◌↔◌, is_none, Result, Ok, Err}
 use Rattle.std.specs.List.{list_any, position_from}
 use Rattle.std.proofs.Math.ListN.{get_or-map}
-use Rattle.std.proofs.lemmas.Bool.{and_from, and_parts, cases_eq, eq-eqb, eqb-true, false≢true, ne_eqb, true≢false}
-use Rattle.std.proofs.lemmas.List.{get_or-map as get_or-map_at, get_or-set_same, get_or-set_other, length-map, length-set}
+use Rattle.std.proofs.lemmas.Bool.{and_from, and_parts, cases_eq, eq-eqb, eqb-true, false≢true, ne_eqb}
+use Rattle.std.proofs.lemmas.List.{get_or-map as get_or-map_at, get_or-set_same, get_or-set_other, length-set}
 use Rattle.rapid_model.specs.CellData.{CellData}
-use Rattle.rapid_model.specs.Own.{part_of}
 use Rattle.rapid_model.specs.declared.answer.Answer.{Answer}
 use Rattle.rapid_model.specs.declared.answer.Answer.TheVariants as answers
 use Rattle.rapid_model.specs.declared.event.Event.{Event}
@@ -18,18 +17,17 @@ use Rattle.trap_dispatch.specs.declared.connect_fault.ConnectFault.TheVariants a
 use Rattle.trap_dispatch.specs.declared.connected.Connected.{Connected}
 use Rattle.trap_dispatch.specs.declared.order.Order.{Order}
 use Rattle.trap_dispatch.specs.Firing.{after_firing, after_its_firing, connected_at, fires, is_change, is_on}
-use Rattle.trap_dispatch.specs.Tasks.{TaskData, after_changes, before_all, connect_answer, deleted, fresh, in_first_trap, least_free, ordered, slept, with_number, with_order, with_sleep}
+use Rattle.trap_dispatch.specs.Tasks.{TaskData, after_changes, before_all, connect_answer, fresh, in_first_trap, least_free, ordered, slept, with_order, with_sleep}
 use Rattle.trap_dispatch.specs.Traps.{task_at}
 use Rattle.cell_meaning.specs.Answers.{IsAnswer, known_of, number_of, order_of}
 use Rattle.cell_meaning.specs.Changes.{changes_of}
 use Rattle.cell_meaning.specs.Interrupts.{asked_with, interrupts_after, interrupts_of}
-use Rattle.cell_meaning.specs.InterruptsSince.{Connects, ConnectsAny, Deletes, EndsOrder, IsAsleep, Orders, Sleeps, Wakes}
+use Rattle.cell_meaning.specs.InterruptsSince.{Connects, Deletes, EndsOrder, IsAsleep, Orders, Sleeps, Wakes}
 use Rattle.cell_meaning.specs.Premises.{AllAnswered}
 use Rattle.cell_meaning.specs.Since.{Since}
-use Rattle.cell_meaning.proofs.Asked.{who_may}
 use Rattle.cell_meaning.proofs.InterruptsKept.{KeptTasks, asked_own, free_number, own_with, tasks_kept}
 use Rattle.cell_meaning.proofs.MoreChanges.{changes_of-none, may_change}
-use Rattle.cell_meaning.proofs.MoreEvents.{event, interrupts_after-more}
+use Rattle.cell_meaning.proofs.MoreEvents.{event, interrupts_after-more, its_parts, sure}
 use Rattle.cell_meaning.proofs.MoreFirings.{stays}
 use Rattle.cell_meaning.proofs.Numbered.{entry_at-next, entry_within, entry_written, none_at}
 use Rattle.cell_meaning.proofs.Since.{Told, Tells, answered_fronts, told, tells}
@@ -120,29 +118,20 @@ all_meant task number e = by (e.actor == task) refl
     by true is = own (act number e.request e.answer) (eqb-true e.actor task is) (meant number e.request e.answer)
     by false is = tt
 
-sure : (task number : ℕ) (a : Act) → (if task == task then (if number == number then a else leaves) else leaves) ≡ a
-sure task number a =
-    ap (λ (b : Bool). if b then (if number == number then a else leaves) else leaves) (eq-eqb task task refl) ∙ ap (λ (b : Bool). if b then a else leaves) (eq-eqb number number refl)
-
--- an event from its parts
-its_parts : (task : ℕ) (request : Request) (answer : Answer) (e : Event) → e.actor ≡ task → e.request ≡ request → e.answer ≡ answer → e ≡ event task request answer
-its_parts task request answer e actor asked told =
-    ap (λ (a : ℕ). event a e.request e.answer) actor ∙ ap (λ (r : Request). event task r e.answer) asked ∙ ap (λ (x : Answer). event task request x) told
-
 connects_acts : (task number trap : ℕ) (h : List Event) (e : Event) → Connects task number trap h e → acts_of task number e ≡ connects trap
-connects_acts task number trap h e w = ap (acts_of task number) w.1 ∙ sure task number (connects trap)
+connects_acts task number trap h e w = ap (acts_of task number) w.1 ∙ sure task number (connects trap) leaves
 
 orders_acts : (task number : ℕ) (on : Watched) (single : Bool) (h : List Event) (e : Event) → Orders task number on single h e → acts_of task number e ≡ orders on single
-orders_acts task number on single h e w = ap (acts_of task number) w ∙ sure task number (orders on single)
+orders_acts task number on single h e w = ap (acts_of task number) w ∙ sure task number (orders on single) leaves
 
 sleeps_acts : (task number : ℕ) (h : List Event) (e : Event) → Sleeps task number h e → acts_of task number e ≡ sleeps true
-sleeps_acts task number h e w = ap (acts_of task number) w ∙ sure task number (sleeps true)
+sleeps_acts task number h e w = ap (acts_of task number) w ∙ sure task number (sleeps true) leaves
 
 watches_acts : (task number : ℕ) (e : Event) → e ≡ event task (requests.Watch number) answers.Ok → acts_of task number e ≡ sleeps false
-watches_acts task number e w = ap (acts_of task number) w ∙ sure task number (sleeps false)
+watches_acts task number e w = ap (acts_of task number) w ∙ sure task number (sleeps false) leaves
 
 deletes_acts : (task number : ℕ) (h : List Event) (e : Event) → Deletes task number h e → acts_of task number e ≡ deletes
-deletes_acts task number h e w = ap (acts_of task number) w ∙ sure task number deletes
+deletes_acts task number h e w = ap (acts_of task number) w ∙ sure task number deletes leaves
 
 acts_connects : (task number trap : ℕ) (h : List Event) (e : Event) → acts_of task number e ≡ connects trap → Connects task number trap h e
 acts_connects task number trap h e is =

@@ -15,6 +15,7 @@ pub mod MoreFirings
 pub mod BoardsTell
 pub mod ByTurns
 pub mod Ending
+pub mod Fates
 pub mod Same
 pub mod Stalls
 pub mod InputScript

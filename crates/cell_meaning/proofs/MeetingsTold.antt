@@ -13,16 +13,16 @@ use Rattle.rapid_model.specs.declared.answer.Answer.TheVariants as answers
 use Rattle.rapid_model.specs.declared.event.Event.{Event}
 use Rattle.rapid_model.specs.declared.request.Request.{Request}
 use Rattle.rapid_model.specs.declared.request.Request.TheVariants as requests
-use Rattle.sync_tasks.specs.Meetings.{MeetingsData, at_start, before_all, come, gone_on, stand_at, with_stand}
+use Rattle.sync_tasks.specs.Meetings.{MeetingsData, at_start, stand_at, with_stand}
 use Rattle.sync_tasks.specs.declared.stand.Stand.{Stand}
 use Rattle.cell_meaning.specs.Answers.{IsAnswer}
 use Rattle.cell_meaning.specs.Meetings.{is_met, is_waiting, stands_after, stands_with}
 use Rattle.cell_meaning.specs.MeetingsSince.{Comes, ComesApart, is_met_at}
 use Rattle.cell_meaning.specs.Premises.{AllAnswered}
 use Rattle.cell_meaning.specs.Since.{Since}
-use Rattle.cell_meaning.proofs.Asked.{ScriptMay, TaskMay, who_may}
+use Rattle.cell_meaning.proofs.Asked.{who_may}
 use Rattle.cell_meaning.proofs.Lists.{from_front}
-use Rattle.cell_meaning.proofs.MoreEvents.{count_more, event, part_of-other, part_of-own, stands_after-more}
+use Rattle.cell_meaning.proofs.MoreEvents.{count_more, its_parts, part_of-other, part_of-own, stands_after-more}
 use Rattle.cell_meaning.proofs.Since.{Told, Tells, answered_fronts, told, tells}
 
 -- -- the states at meetings
@@ -203,10 +203,6 @@ here_is task meeting actor (requests.Arrive g tasks) is =
     (tasks, ap (λ (k : ℕ). requests.Arrive k tasks) (eqb-true g meeting w.1), eqb-true actor task w.0)
 here_is task meeting actor _ is = absurd (false≢true is)
 
--- an event from its parts
-its_parts : (task : ℕ) (request : Request) (e : Event) → e.actor ≡ task → e.request ≡ request → e ≡ event task request e.answer
-its_parts task request e actor asked = ap (λ (a : ℕ). event a e.request e.answer) actor ∙ ap (λ (r : Request). event task r e.answer) asked
-
 comes_here : (task meeting : ℕ) (h : List Event) (e : Event) → Comes task meeting h e → here task meeting e.actor e.request ≡ true
 comes_here task meeting h e w =
     subst (λ (x : Event). here task meeting x.actor x.request ≡ true) (sym w.2) (and_from (task == task) (meeting == meeting) (eq-eqb task task refl) (eq-eqb meeting meeting refl))
@@ -238,7 +234,7 @@ waits_told cell task meeting few = record {
     arrives h e asked waits is tasks request actor (inl met) =
         absurd (false≢true (sym (after_here cell task meeting h e true few asked is ∙ ap (λ (a : Answer). (arrived a (stand_at (stands_after cell h) task meeting)).waits) met) ∙ waits))
     arrives h e asked waits is tasks request actor (inr apart) =
-        (tasks, its_parts task (requests.Arrive meeting tasks) e actor request ∙ ap (λ (a : Answer). event task (requests.Arrive meeting tasks) a) apart)
+        (tasks, its_parts task (requests.Arrive meeting tasks) answers.Apart e actor request apart)
 
     by : (h : List Event) (e : Event) → AllAnswered cell (h ++ e ∷ []) → is_waiting cell (h ++ e ∷ []) task meeting ≡ true → (b : Bool) → here task meeting e.actor e.request ≡ b
         → ComesApart task meeting h e ⊎ ((is_waiting cell h task meeting ≡ true) × ¬ Comes task meeting h e)
@@ -258,7 +254,7 @@ waits_tells cell task meeting few = record {
   where
     by : (h : List Event) (e : Event) → AllAnswered cell (h ++ e ∷ []) → is_waiting cell h task meeting ≡ true → ¬ Comes task meeting h e → (b : Bool) → here task meeting e.actor e.request ≡ b
         → is_waiting cell (h ++ e ∷ []) task meeting ≡ true
-    by h e asked waits none true is = let w = here_is task meeting e.actor e.request is in absurd (none (w.0, e.answer, its_parts task (requests.Arrive meeting w.0) e w.2 w.1))
+    by h e asked waits none true is = let w = here_is task meeting e.actor e.request is in absurd (none (w.0, e.answer, its_parts task (requests.Arrive meeting w.0) e.answer e w.2 w.1 refl))
     by h e asked waits none false is = after_here cell task meeting h e false few asked is ∙ waits
 
 pub waits : (cell : CellData) (history : List Event) (task meeting : ℕ) → AllAnswered cell history → meeting < length cell.meetings

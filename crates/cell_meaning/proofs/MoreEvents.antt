@@ -1,6 +1,6 @@
 -- What one more event changes in what a history means.
 use Rattle.std.proofs.Common.{◌≡◌, ℕ, ◌+◌, Bool, cond, List, [], ◌∷◌, ◌++◌, length, map, Option, Some, None, refl, sym, ◌∙◌, ap, arith, zero-add, append_assoc}
-use Rattle.std.specs.Prelude.{not, ◌&&◌, ◌==◌, count_by, option_map, replicate, slice_get}
+use Rattle.std.specs.Prelude.{not, ◌&&◌, ◌==◌, count_by, if◌then◌else◌, option_map, replicate, slice_get}
 use Rattle.std.specs.List.{fold}
 use Rattle.std.specs.Option.{option_and_then, option_or}
 use Rattle.std.proofs.lemmas.Bool.{eq-eqb, ne_eqb}
@@ -29,6 +29,15 @@ use Rattle.cell_meaning.specs.Zones.{zones_with, zones_after}
 -- an event from its parts
 abbrev pub event : ℕ → Request → Answer → Event
 event actor request answer = record { actor = actor; request = request; answer = answer }
+
+pub its_parts : (task : ℕ) (request : Request) (answer : Answer) (e : Event) → e.actor ≡ task → e.request ≡ request → e.answer ≡ answer → e ≡ event task request answer
+its_parts task request answer e actor asked told =
+    ap (λ (a : ℕ). event a e.request e.answer) actor ∙ ap (λ (r : Request). event task r e.answer) asked ∙ ap (λ (x : Answer). event task request x) told
+
+-- what an event does to a number of its own task
+pub sure : {A : Type 0} (task number : ℕ) (act none : A) → (if task == task then (if number == number then act else none) else none) ≡ act
+sure task number act none =
+    ap (λ (b : Bool). if b then (if number == number then act else none) else none) (eq-eqb task task refl) ∙ ap (λ (b : Bool). if b then act else none) (eq-eqb number number refl)
 
 -- the event, if it passes
 abbrev kept_if : Event → Bool → List Event

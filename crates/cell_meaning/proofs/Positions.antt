@@ -1,15 +1,13 @@
 -- Each arm is at a position.
-use Rattle.std.proofs.Common.{◌≡◌, ◌⊎◌, inl, inr, ℕ, zero, suc, Bool, true, false, cond, List, [], ◌∷◌, Option, Some, None, refl, sym, ◌∙◌, ap, subst}
+use Rattle.std.proofs.Common.{◌≡◌, ◌⊎◌, inl, inr, ℕ, Bool, true, false, cond, List, [], ◌∷◌, Option, Some, None, refl, sym, ◌∙◌, ap, subst}
 use Rattle.std.specs.Prelude.{IsTrue, ◌==◌, is_some, slice_get, unwrap_or}
 use Rattle.std.specs.Option.{option_and_then, option_map}
-use Rattle.std.specs.List.{list_all}
 use Rattle.std.proofs.lemmas.Bool.{and_parts, eqb-true, false≢true}
 use Rattle.rapid_num.specs.declared.joints.Joints.{Joints}
 use Rattle.rapid_num.specs.Reach.{is_position}
-use Rattle.rapid_model.specs.CellData.{CellData, IsCell, starts_well}
+use Rattle.rapid_model.specs.CellData.{CellData, IsCell}
 use Rattle.rapid_model.specs.Fits.{axes_of}
 use Rattle.rapid_model.specs.Limits.{is_start, is_within}
-use Rattle.rapid_model.specs.Names.{is_short_name}
 use Rattle.rapid_model.specs.Own.{part_of}
 use Rattle.rapid_model.specs.Requests.{suits_task}
 use Rattle.rapid_model.specs.declared.answer.Answer.{Answer}
@@ -22,6 +20,7 @@ use Rattle.cell_meaning.specs.Motion.{moved, arm_along, arm_after}
 use Rattle.cell_meaning.specs.Premises.{AllAnswered}
 use Rattle.cell_meaning.proofs.Asked.{TaskMay, ScriptMay, who_may}
 use Rattle.rapid_model.proofs.Cuts.{AtEachCut, cut_if, cut_none, cut_tail}
+use Rattle.rapid_model.proofs.TaskRows.{starts_at}
 
 -- the target of a setpoint is a position of an arm with that many axes
 abbrev goes_well : ℕ → Request → Bool
@@ -72,14 +71,6 @@ along_well : (axes : ℕ) (position : Joints) (es : List Event) → is_position 
 along_well axes position [] h all = h
 along_well axes position (e ∷ es) h all =
     along_well axes (moved position e.request e.answer) es (moved_well axes position e.request e.answer h (all [] es e refl)) (cut_tail (λ (x : Event). goes_well axes x.request ≡ true) e es all)
-
-starts_at : (rows : List TaskRow) (k : ℕ) (row : TaskRow) → list_all starts_well rows ≡ true → slice_get rows k ≡ Some row → is_start row.axes row.arm ≡ true
-starts_at [] k row h e = absurd (let no_row : ⊥ = cc in no_row)
-starts_at (r ∷ rows) zero row h e =
-    let same : r ≡ row = cc in
-    let P : TaskRow → Type 0 = λ s. is_start s.axes s.arm ≡ true in
-    subst P same (and_parts (is_short_name r.name) (is_start r.axes r.arm) (and_parts (starts_well r) (list_all starts_well rows) h).0).1
-starts_at (r ∷ rows) (suc k) row h e = starts_at rows k row (and_parts (starts_well r) (list_all starts_well rows) h).1 e
 
 -- where an arm with that many axes is, if it starts so
 pub record Stands (axes : ℕ) (arm : Option Joints) : Type 0 where

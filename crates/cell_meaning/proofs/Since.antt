@@ -1,8 +1,8 @@
 -- What has held since an event holds, and what holds has held since an event.
 use Rattle.std.proofs.Common.{◌≡◌, ◌⊎◌, inl, inr, List, [], ◌∷◌, ◌++◌, refl, sym, ◌∙◌, ap, subst, append_assoc}
-use Rattle.std.proofs.lemmas.List.{append-nil}
 use Rattle.rapid_model.specs.CellData.{CellData}
 use Rattle.rapid_model.specs.declared.event.Event.{Event}
+use Rattle.rapid_model.proofs.Cuts.{last_or_before}
 use Rattle.cell_meaning.specs.Premises.{AllAnswered}
 use Rattle.cell_meaning.specs.Since.{Since}
 use Rattle.cell_meaning.proofs.Lists.{from_front}
@@ -10,20 +10,6 @@ use Rattle.cell_meaning.proofs.Lists.{from_front}
 no_end : {A : Type 0} (first : List A) (x : A) (later : List A) → [] ≡ first ++ x ∷ later → ⊥
 no_end [] x later is = cc
 no_end (f ∷ first) x later is = cc
-
--- a list with one more element, cut at an element: at the new one, or before it
-snoc_cut : {A : Type 0} (after first later : List A) (e x : A) → after ++ e ∷ [] ≡ first ++ x ∷ later
-    → ((after ≡ first) × (e ≡ x)) ⊎ ((rest : List A) × (after ≡ first ++ x ∷ rest))
-snoc_cut [] [] later e x is = inl (refl, cc)
-snoc_cut [] (f ∷ first) later e x is = absurd (no_end first x later cc)
-snoc_cut (a ∷ after) [] later e x is = let same : a ≡ x = cc in inr (after, ap (λ (y : _). y ∷ after) same)
-snoc_cut (a ∷ after) (f ∷ first) later e x is =
-    let head : a ≡ f = cc in
-    let tail : after ++ e ∷ [] ≡ first ++ x ∷ later = cc in
-    elim (snoc_cut after first later e x tail) [
-      | inl w ↦ inl (ap (λ (y : _). y ∷ after) head ∙ ap (λ (ys : List _). f ∷ ys) w.0, w.1)
-      | inr w ↦ inr (w.0, ap (λ (y : _). y ∷ after) head ∙ ap (λ (ys : List _). f ∷ ys) w.1)
-    ]
 
 -- one more event, which does not undo it
 since_more : (Is Undoes : List Event → Event → Type 0) (history : List Event) (e : Event) → Since Is Undoes history → ¬ Undoes history e → Since Is Undoes (history ++ e ∷ [])
@@ -33,10 +19,10 @@ since_more Is Undoes history e s none = record {
   after = s.after ++ e ∷ [];
   cut = ap (λ (h : List Event). h ++ e ∷ []) s.cut ∙ append_assoc s.before (s.event ∷ s.after) (e ∷ []);
   is = s.is;
-  kept = λ first later x is. elim (snoc_cut s.after first later e x is) [
+  kept = λ first later x is. elim (last_or_before s.after first later e x is) [
     | inl last ↦
-        let here : history ≡ s.before ++ s.event ∷ first = s.cut ∙ ap (λ (xs : List Event). s.before ++ s.event ∷ xs) last.0 in
-        λ undoes. none (subst (λ (y : Event). Undoes history y) (sym last.1) (subst (λ (h : List Event). Undoes h x) (sym here) undoes))
+        let here : history ≡ s.before ++ s.event ∷ first = s.cut ∙ ap (λ (xs : List Event). s.before ++ s.event ∷ xs) (sym last.0) in
+        λ undoes. none (subst (λ (y : Event). Undoes history y) last.1 (subst (λ (h : List Event). Undoes h x) (sym here) undoes))
     | inr early ↦ s.kept first early.0 x early.1
   ];
 }

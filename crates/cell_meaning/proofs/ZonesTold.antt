@@ -22,14 +22,13 @@ use Rattle.world_zones.specs.Touched.{supervised}
 use Rattle.world_zones.specs.Zones.{ZonesData, arm_at, given, is_temporary, least_free, no_zones, own_shape, set_answer, switched, with_arm, with_zone, zone_at}
 use Rattle.cell_meaning.specs.Answers.{IsAnswer, temporary_of, zone_number_of}
 use Rattle.cell_meaning.specs.Premises.{AllAnswered}
-use Rattle.cell_meaning.specs.Since.{Since}
 use Rattle.cell_meaning.specs.Stored.{signals_after}
 use Rattle.cell_meaning.specs.Zones.{zones_after, zones_with}
-use Rattle.cell_meaning.specs.ZonesSince.{FreesZone, GivesAny, GivesZone, SwitchesOff, SwitchesOn, Watches}
+use Rattle.cell_meaning.specs.ZonesSince.{FreesZone, GivesZone, SwitchesOff, SwitchesOn, Watches}
 use Rattle.cell_meaning.proofs.Asked.{who_may}
 use Rattle.cell_meaning.proofs.Lists.{from_front}
-use Rattle.cell_meaning.proofs.MoreEvents.{event, zones_after-more}
-use Rattle.cell_meaning.proofs.Numbered.{entry_at, entry_within, entry_written, none_at}
+use Rattle.cell_meaning.proofs.MoreEvents.{event, its_parts, sure, zones_after-more}
+use Rattle.cell_meaning.proofs.Numbered.{entry_within, entry_written, none_at}
 use Rattle.cell_meaning.proofs.Since.{Told, Tells, answered_fronts, told, tells}
 use Rattle.cell_meaning.proofs.ZonesKept.{free_zone, zones_kept}
 
@@ -107,29 +106,20 @@ all_meant task number e = by (e.actor == task) refl
     by true is = own (act number e.request e.answer) (eqb-true e.actor task is) (meant number e.request e.answer)
     by false is = tt
 
-sure : (task number : ℕ) (a : Act) → (if task == task then (if number == number then a else leaves) else leaves) ≡ a
-sure task number a =
-    ap (λ (b : Bool). if b then (if number == number then a else leaves) else leaves) (eq-eqb task task refl) ∙ ap (λ (b : Bool). if b then a else leaves) (eq-eqb number number refl)
-
 abbrev acts_of : ℕ → ℕ → Event → Act
 acts_of task number e = acts task number e.actor e.request e.answer
 
 gives_acts : (task number : ℕ) (shape : Shape) (h : List Event) (e : Event) (w : GivesZone task number shape h e) → acts_of task number e ≡ gives w.1 shape
-gives_acts task number shape h e w = ap (acts_of task number) w.2 ∙ sure task number (gives w.1 shape)
+gives_acts task number shape h e w = ap (acts_of task number) w.2 ∙ sure task number (gives w.1 shape) leaves
 
 frees_acts : (task number : ℕ) (h : List Event) (e : Event) → FreesZone task number h e → acts_of task number e ≡ frees
-frees_acts task number h e w = ap (acts_of task number) w ∙ sure task number frees
+frees_acts task number h e w = ap (acts_of task number) w ∙ sure task number frees leaves
 
 off_acts : (task number : ℕ) (h : List Event) (e : Event) → SwitchesOff task number h e → acts_of task number e ≡ switches false
-off_acts task number h e w = ap (acts_of task number) w ∙ sure task number (switches false)
+off_acts task number h e w = ap (acts_of task number) w ∙ sure task number (switches false) leaves
 
 on_acts : (task number : ℕ) (e : Event) → e ≡ event task (requests.ZoneOn number) answers.Ok → acts_of task number e ≡ switches true
-on_acts task number e w = ap (acts_of task number) w ∙ sure task number (switches true)
-
--- an event from its parts
-its_parts : (task : ℕ) (request : Request) (answer : Answer) (e : Event) → e.actor ≡ task → e.request ≡ request → e.answer ≡ answer → e ≡ event task request answer
-its_parts task request answer e actor asked told =
-    ap (λ (a : ℕ). event a e.request e.answer) actor ∙ ap (λ (r : Request). event task r e.answer) asked ∙ ap (λ (x : Answer). event task request x) told
+on_acts task number e w = ap (acts_of task number) w ∙ sure task number (switches true) leaves
 
 acts_gives : (task number : ℕ) (temporary : Bool) (shape : Shape) (h : List Event) (e : Event) → acts_of task number e ≡ gives temporary shape → GivesZone task number shape h e
 acts_gives task number temporary shape h e is =

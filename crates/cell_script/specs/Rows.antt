@@ -1,9 +1,9 @@
 -- The rows of a script: a signal, a task, a persistent's value, a zone, an input. The keys of each are listed in the
 -- order in which they are checked; an unknown key is reported last.
-use Rattle.std.specs.Prelude.{ℕ, Bool, true, false, not, ◌&&◌, nat_le, ℤ, pos, negsuc, neg_ℤ, int_lt, List, [], ◌∷◌, ◌++◌, length, map, replicate, codes, Option, Some, None, Ok, Err, ◌==◌, if◌then◌else◌}
+use Rattle.std.specs.Prelude.{ℕ, ◌-◌, Bool, true, false, not, ◌&&◌, nat_le, ℤ, pos, negsuc, neg_ℤ, int_lt, List, [], ◌∷◌, ◌++◌, length, map, replicate, codes, Option, Some, None, Ok, Err, ◌==◌, if◌then◌else◌}
 use Rattle.std.specs.List.{list_all}
 use Rattle.std.specs.Option.{option_map}
-use Rattle.rapid_limits.specs.declared.TheConstants.{LONGEST_ARRAY, LONGEST_STRING, MOST_MODULES, MOST_STEPS}
+use Rattle.rapid_limits.specs.declared.TheConstants.{LONGEST_ARRAY, LONGEST_STRING, MOST_AXES, MOST_MODULES, MOST_STEPS, ROBOT_AXES}
 use Rattle.toml.specs.Data.{Data, as_str, as_integer, as_bool}
 use Rattle.rapid_num.specs.Literal.{literal_value}
 use Rattle.rapid_num.specs.Reach.{is_in_reach, absent_axes}
@@ -61,13 +61,13 @@ files_at key d = do
 abbrev pub arm_at : List ℕ → Data → Read Joints
 arm_at key d = do
   angles ← list_at key as_integer d
-  must (length angles == 6 && list_all (is_in_reach 0) angles) (at_key key Range)
-  Ok (record { axis = angles ++ absent_axes 6 })
+  must (length angles == ROBOT_AXES && list_all (is_in_reach 0) angles) (at_key key Range)
+  Ok (record { axis = angles ++ absent_axes (MOST_AXES - ROBOT_AXES) })
 
 -- how many axes an arm has, if there is one
 abbrev pub axes_of : Option Joints → ℕ
 axes_of None = 0
-axes_of (Some arm) = 6
+axes_of (Some arm) = ROBOT_AXES
 
 unfoldable pub task_of : List ScriptTask → Data → Read ScriptTask
 task_of before d = do
@@ -125,7 +125,7 @@ armed_task_at key tasks d = do
 
 -- an axis from 1 to 6
 abbrev pub is_axis : ℤ → Bool
-is_axis (pos a) = is_within 1 6 a
+is_axis (pos a) = is_within 1 ROBOT_AXES a
 is_axis (negsuc a) = false
 
 -- the integers are ascending, each from 1 to 6
@@ -171,7 +171,7 @@ bound_of axis _ _ _ = None
 
 abbrev pub shape_of : Bool → List ℤ → List ℤ → List ℤ → Shape
 shape_of inside axes lows highs =
-    record { inside = inside; bounds = map (λ axis. bound_of axis axes lows highs) (1 ∷ 2 ∷ 3 ∷ 4 ∷ 5 ∷ 6 ∷ []) ++ replicate 6 None }
+    record { inside = inside; bounds = map (λ axis. bound_of axis axes lows highs) (1 ∷ 2 ∷ 3 ∷ 4 ∷ 5 ∷ 6 ∷ []) ++ replicate (MOST_AXES - ROBOT_AXES) None }
 
 unfoldable pub zone_of : List SignalRow → List ScriptTask → List ZoneRow → Data → Read ZoneRow
 zone_of signals tasks before d = do

@@ -1,6 +1,6 @@
 //! The tasks of the cell.
 
-ghost use Rattle.std.specs.Prelude.{◌≡◌, ◌++◌, ◌==◌, ◌&&◌, [], codes, map, length, position, Some, None, IfSome, ◌<◌, ◌≤◌, if◌then◌else◌};
+ghost use Rattle.std.specs.Prelude.{◌≡◌, ◌-◌, ◌++◌, ◌==◌, ◌&&◌, [], codes, map, length, position, Some, None, IfSome, ◌<◌, ◌≤◌, if◌then◌else◌};
 ghost use Rattle.std.specs.List.{list_any, list_all};
 ghost use Rattle.std.specs.Str.{str_eq_ignore_ascii_case};
 ghost use Rattle.toml.specs.View.{view};
@@ -17,7 +17,9 @@ use crate::keys::{TableKeys, table_at};
 use crate::list::{rows_at, texts_at};
 use crate::name::{is_same_name, name_at};
 use crate::plain::text_at;
-use rapid_limits::{LONGEST_FILE_NAME, MOST_MODULES, MOST_TASKS, MOST_TASKS_AT_FIRST};
+use rapid_limits::{
+    LONGEST_FILE_NAME, MOST_AXES, MOST_MODULES, MOST_TASKS, MOST_TASKS_AT_FIRST, ROBOT_AXES,
+};
 use rapid_model::{FileName, NameText, ScriptRule, ScriptTask, Sequence};
 use rapid_num::{Joints, Num};
 use std::alloc::Global;
@@ -154,7 +156,7 @@ fn axes_of(arm: &Option<Joints>) -> u8
     ensures { result ≡ axes_of arm.now }
 {
     match arm {
-        Some(_) => 6,
+        Some(_) => ROBOT_AXES as u8,
         None => 0,
     }
 }
@@ -179,7 +181,7 @@ fn arm_at(
 }
 
 fn arm_from(angles: &[Num]) -> Option<Joints>
-    ensures { result ≡ (if length angles.now == 6 then Some (record { axis = angles.now ++ absent_axes 6 }) else None) }
+    ensures { result ≡ (if length angles.now == ROBOT_AXES then Some (record { axis = angles.now ++ absent_axes (MOST_AXES - ROBOT_AXES) }) else None) }
 {
     match angles {
         [first, second, third, fourth, fifth, sixth] => {

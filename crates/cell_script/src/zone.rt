@@ -18,7 +18,7 @@ use crate::plain::{bit_at, word_at};
 use crate::shape::shape_of;
 use crate::signal::signal_at;
 use crate::task::task_at;
-use rapid_limits::{MOST_CELL_ZONES, MOST_SIGNALS, MOST_TASKS};
+use rapid_limits::{MOST_CELL_ZONES, MOST_SIGNALS, MOST_TASKS, ROBOT_AXES};
 use rapid_model::{ScriptRule, ScriptTask, SignalRow, ZoneRow};
 use rapid_num::Num;
 use std::alloc::Global;
@@ -156,7 +156,7 @@ fn are_axes(axes: &[i64]) -> bool
 fn is_axis(axis: i64) -> bool
     ensures { result ≡ is_axis axis }
 {
-    (1..=6).contains(&axis)
+    (1..=ROBOT_AXES as i64).contains(&axis)
 }
 
 /// As many bounds as axes, within 720 degrees.

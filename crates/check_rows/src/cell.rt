@@ -83,6 +83,17 @@ impl Cell {
         Ok(())
     }
 
+    /// The text of a file, or an empty one if the cell has no such file.
+    pub fn text(&self, name: &str) -> &str {
+        match name {
+            "cell.toml" => self.script.as_str(),
+            "a.mod" => self.a.as_str(),
+            "b.mod" => self.b.as_str(),
+            "c.mod" => self.c.as_str(),
+            _ => "",
+        }
+    }
+
     /// The mark, if there is one.
     pub fn mark(&self) -> Option<Mark> {
         for (module, text) in [("a.mod", &self.a), ("b.mod", &self.b), ("c.mod", &self.c)] {

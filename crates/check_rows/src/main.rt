@@ -14,17 +14,33 @@
 //! In a frame's file a line `file NAME` starts a file of the cell, the script `cell.toml` or a module: `a.mod`, `b.mod`
 //! or `c.mod`. The lines before the first one say what the frame is. Each line `...` stands for the next text of a row,
 //! or for an empty line if none is left.
+//!
+//! In `damage.txt` a frame is a whole cell, which a row does something with: its texts are the command words, the
+//! damage, and what fails; the last two may be empty or missing.
+//!
+//! - The damage is `FILE FIRST PAST SKIPPED TIMES TEXT`: at each byte of the file from FIRST to the one before PAST, the
+//!   bytes before it stay, then the text comes so many times, and then the file goes on so many bytes later. A `/` of
+//!   the text is a line feed, and `~` is the byte FF.
+//! - `read N`, `out N` and `err N`: the read, and the write to the first and to the second sink with this number, from
+//!   0, fails. `room N`: the first sink takes no more than so many bytes.
+//!
+//! Such a row says how it ends, or with ` or ` between them several ways: the status; how many bytes are printed, which
+//! start the lines of `round.txt`; how many events the report has; whether the place of a refused module is before the
+//! damage, at it or past it; and the line on the second sink. A `*` stands for any text.
 #![tactic(auto)]
 
 mod cell;
+mod place;
 mod row;
 mod told;
+mod trial;
 
 use anyhow::Context;
 use cell::Cell;
 use row::{Group, read_groups};
 use std::fs;
 use told::told_of;
+use trial::{Counts, Trial};
 
 fn main(rt: HostRuntime) -> anyhow::Result<()> {
     for name in rt.lines(rt.alloc()) {
@@ -32,20 +48,24 @@ fn main(rt: HostRuntime) -> anyhow::Result<()> {
         let text = fs::read_to_string(&rt, name.as_str())?;
         println!(rt; "{}", name.as_str())?;
         for group in &read_groups(rt.alloc(), text.as_str())? {
-            check_group(&rt, group)?;
+            let path = format!(in rt.alloc(); "frames/{}.txt", group.frame)?;
+            let frame = fs::read_to_string(&rt, path.as_str())?;
+            if name.as_str() == "damage.txt" {
+                try_group(&rt, group, frame.as_str())?;
+            } else {
+                check_group(&rt, group, frame.as_str())?;
+            }
         }
     }
     Ok(())
 }
 
 /// Checks the rows of a group.
-fn check_group(rt: &HostRuntime, group: &Group<'_>) -> anyhow::Result<()> {
+fn check_group(rt: &HostRuntime, group: &Group<'_>, frame: &str) -> anyhow::Result<()> {
     let alloc = rt.alloc();
-    let path = format!(in alloc; "frames/{}.txt", group.frame)?;
-    let frame = fs::read_to_string(rt, path.as_str())?;
     let mut agreeing = 0u32;
     for row in &group.rows {
-        let cell = Cell::new(alloc, frame.as_str(), row.texts.as_slice()).context(format_args!(
+        let cell = Cell::new(alloc, frame, row.texts.as_slice()).context(format_args!(
             "the row of line {}",
             row.line
         ))?;
@@ -64,5 +84,21 @@ fn check_group(rt: &HostRuntime, group: &Group<'_>) -> anyhow::Result<()> {
     }
     let rows = group.rows.len();
     println!(rt; "{agreeing} of {rows}: {}", group.title)?;
+    Ok(())
+}
+
+/// Does what the rows of a group say with the cell of its frame.
+fn try_group(rt: &HostRuntime, group: &Group<'_>, frame: &str) -> anyhow::Result<()> {
+    let cell = Cell::new(rt.alloc(), frame, &[])?;
+    let lines = fs::read(rt, "round.txt")?;
+    let mut counts = Counts {
+        tries: 0,
+        agreeing: 0,
+    };
+    for row in &group.rows {
+        let trial = Trial::read(row.texts.as_slice());
+        trial.run(rt, row, &cell, lines.as_slice(), &mut counts)?;
+    }
+    println!(rt; "{} of {}: {}", counts.agreeing, counts.tries, group.title)?;
     Ok(())
 }

@@ -4,7 +4,6 @@ use Rattle.rapid_model.specs.declared.value.Value.{Value}
 use Rattle.typed_trees.specs.Plain.{TypedArgs}
 use Rattle.typed_trees.specs.declared.datum.Datum.{Datum}
 use Rattle.rapid_meaning.specs.Doings as doings
-use Rattle.rapid_meaning.specs.Expressions.{arguments}
 use Rattle.rapid_meaning.specs.Flows.{Flow, Call}
 use Rattle.rapid_meaning.specs.Statements.{call}
 use Rattle.stack_code.specs.Confs.{Saved}

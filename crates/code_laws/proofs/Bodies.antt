@@ -3,7 +3,7 @@ use Rattle.std.proofs.Common.{ℕ, List, [], Option, None, Some}
 use Rattle.typed_trees.specs.Plain.{TypedTree}
 use Rattle.rapid_meaning.specs.Answering.{Run}
 use Rattle.rapid_meaning.specs.Doings.{Doing, Gives, Misfit}
-use Rattle.rapid_meaning.specs.Flows.{Flow, Normal, Jumps, Returns, Retries, Skips, Where}
+use Rattle.rapid_meaning.specs.Flows.{Flow, Normal, Jumps, Returns, Retries, Skips, Way, Where}
 use Rattle.stack_code.specs.Confs.{Conf, Failed, Running, Saved, behind_part, conf}
 use Rattle.stack_code.specs.Placed.{Own}
 use Rattle.stack_code.specs.Raising.{raised_out, returned}
@@ -25,6 +25,10 @@ spot_of t tree run b own = record { target = t; run = run; tree = tree; routine 
 -- at a place, without operands
 abbrev pub begins : Body → ℕ → Doing Conf
 begins b pc = Gives (conf pc [] b.frame b.saved)
+
+-- the same, in a move or outside one
+abbrev pub begins_in : Body → ℕ → Option Way → Doing Conf
+begins_in b pc way = Gives (record (conf pc [] b.frame b.saved) { way = way })
 
 -- from an ERROR part to a place of the statement that failed
 abbrev pub resumed : (Own → ℕ) → Body → Option Failed → Doing Conf

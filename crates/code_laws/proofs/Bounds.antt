@@ -1,5 +1,5 @@
 -- The bounds and the step of a FOR.
-use Rattle.std.proofs.Common.{◌≡◌, refl, sym, ap, ◌∙◌, subst, ℕ, ◌+◌, ◌≤◌, max, Bool, true, false, List, [], ◌∷◌, length, Option, None, Some, if◌then◌else◌, arith}
+use Rattle.std.proofs.Common.{◌≡◌, refl, sym, ◌∙◌, subst, ℕ, ◌+◌, ◌≤◌, max, Bool, true, false, List, [], ◌∷◌, length, Option, None, Some, if◌then◌else◌, arith}
 use Rattle.std.specs.Prelude.{ℤ, pos, neg_ℤ, int_lt}
 use Rattle.rapid_model.specs.Fits.{Fitting}
 use Rattle.rapid_model.specs.declared.value.Value.{Value}

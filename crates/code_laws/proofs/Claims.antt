@@ -5,18 +5,20 @@ use Rattle.typed_trees.specs.Plain as trees
 use Rattle.typed_trees.specs.Plain.{TypedArms, TypedCases, TypedElse, TypedExpr, TypedRoutine, TypedStmt, TypedStmts, TypedTree, NoStmts, MoreStmts, NoArms, MoreArms, NoCases, MoreCases, NoElse, Else}
 use Rattle.typed_trees.specs.declared.datum.Datum.{Datum}
 use Rattle.rapid_meaning.specs.Answering.{Run}
-use Rattle.rapid_meaning.specs.Flows.{Errors, Unguarded, Guarded, InPart, Attempt, Turn, Rest, Call, value_of}
+use Rattle.rapid_meaning.specs.Flows.{Errors, Unguarded, Guarded, InPart, Way, Attempt, Turn, Leg, Rest, Call, value_of}
+use Rattle.rapid_meaning.specs.Statements.{byte_of}
 use Rattle.rapid_meaning.proofs.Kept.{RunKept}
 use Rattle.stack_code.specs.Compiled.{part_code}
 use Rattle.stack_code.specs.Confs.{Saved}
 use Rattle.stack_code.specs.Entering.{enter}
 use Rattle.stack_code.specs.Needs.{stmt_need, stmts_need}
-use Rattle.stack_code.specs.Placed.{Own, Placed, StandsAt}
+use Rattle.stack_code.specs.Placed.{Own, Placed, StandsAt, placed_at}
 use Rattle.stack_code.specs.Raising.{back_to, handler_of, raised_to}
 use Rattle.stack_code.specs.Sizes.{arms_size, bounds_size, cases_size, expr_size, stmt_size, stmts_size, values_size}
-use Rattle.stack_code.specs.StmtLayouts.{label_at, own_of, stmt_code, stmts_code}
+use Rattle.stack_code.specs.StmtLayouts.{at_byte, label_at, own_of, stmt_code, stmts_code}
+use Rattle.stack_code.specs.declared.op.Op.TheVariants as ops
 use Rattle.code_laws.specs.Calls.{IsProcedure, StmtCalls, StmtsCalls, Takes}
-use Rattle.code_laws.proofs.Bodies.{Body, begins, lands, leaving}
+use Rattle.code_laws.proofs.Bodies.{Body, begins, begins_in, lands, leaving}
 use Rattle.code_laws.proofs.Sim.{SimPart, Target}
 
 -- each label of a form whose code begins at this place has its own place in the list of places
@@ -89,6 +91,13 @@ Stands t tree b (InPart error) = (h : ℕ) × (handler_of t.code b.frame.routine
 abbrev pub turn_at : TypedRoutine → ℕ → ℕ → TypedExpr → TypedExpr → Option TypedExpr → ℕ
 turn_at routine pc local first last step = pc + 1 + bounds_size routine local first last step + 1
 
+-- the setpoints of a move, the first operation at this place
+pub record LegsAt (t : Target) (b : Body) (pc : ℕ) (own : Own) (s : TypedStmt) : Type 0 where
+  pub point : placed_at t.code pc ≡ Some (record { own = own; op = ops.Point (pc + 1 + 1 + 1) })
+  pub look : placed_at t.code (pc + 1) ≡ Some (record { own = own; op = ops.Look })
+  pub jump : placed_at t.code (pc + 1 + 1) ≡ Some (record { own = own; op = ops.Jump pc })
+  pub place : own.at ≡ at_byte b.stands.routine (byte_of s)
+
 pub record Claims (t : Target) (tree : TypedTree) (run : Run) : Type 0 where
   -- each part leaves as many frames as it found
   pub kept : RunKept run
@@ -103,5 +112,7 @@ pub record Claims (t : Target) (tree : TypedTree) (run : Run) : Type 0 where
       → StmtAt t tree b pc (trees.For at local first last step list)
       → SimPart t run (begins b (turn_at b.stands.routine pc local first last step)) (Turn b.stands (trees.For at local first last step list))
       (lands b (pc + stmt_size tree b.stands.routine (trees.For at local first last step list))) (leaving t b)
+  pub legs : (b : Body) (pc : ℕ) (own : Own) (s : TypedStmt) (way : Way) → LegsAt t b pc own s
+      → SimPart t run (begins_in b (pc + 1) (Some way)) (Leg b.stands s way) (lands b (pc + 1 + 1 + 1)) (leaving t b)
   pub rests : (b : Body) (pc more_pc end : ℕ) (whole more : TypedStmts) → Stands t tree b b.stands.errors → ListAt t tree b pc end whole → ListAt t tree b more_pc end more
       → SimPart t run (begins b more_pc) (Rest b.stands whole more) (lands b end) (leaving t b)

@@ -33,7 +33,8 @@ same_sort [] rows pers = refl
 same_sort (number ∷ numbers) [] pers = refl
 same_sort (number ∷ numbers) (row ∷ rows) pers = ap (λ (x : Option Sort). if number == pers then Some row.sort else x) (same_sort numbers rows pers)
 
-same_trap : (tree : TypedTree) (pc first : ℕ) (routines : List TypedRoutine) (number : ℕ) → is_trap (slice_get (routine_rows tree pc first routines) number) ≡ is_trap_row (slice_get routines number)
+-- a routine's row says whether it is a trap
+pub same_trap : (tree : TypedTree) (pc first : ℕ) (routines : List TypedRoutine) (number : ℕ) → is_trap (slice_get (routine_rows tree pc first routines) number) ≡ is_trap_row (slice_get routines number)
 unfolding routine_rows
 same_trap tree pc first [] number = refl
 same_trap tree pc first (routine ∷ more) zero = refl

@@ -10,7 +10,7 @@ use Rattle.rapid_model.specs.declared.part_name.PartName.TheVariants as parts
 use Rattle.rapid_model.specs.declared.request.Request.TheVariants as requests
 use Rattle.rapid_model.specs.declared.value.Value.TheVariants as values
 use Rattle.rapid_model.specs.declared.operator.Operator.TheVariants as operators
-use Rattle.typed_trees.specs.Plain.{TypedArg, TypedArgs, TypedExpr, TypedPlace, TypedTree, NotHeld, PlaceOf, Given, Lent, OfSignal, OfMeeting, Itself, Optional, Argument, NoArgs, MoreArgs}
+use Rattle.typed_trees.specs.Plain.{TypedArg, TypedArgs, TypedExpr, TypedPlace, TypedTree, NotHeld, PlaceOf, Given, Lent, OfSignal, OfMeeting, Optional, Argument, NoArgs, MoreArgs}
 use Rattle.typed_trees.specs.declared.datum.Datum.TheVariants.{Plain, Mark, Place}
 use Rattle.typed_trees.specs.declared.datum.Lvalue.{Lvalue}
 use Rattle.typed_trees.specs.declared.expr.TreeRoot.TheVariants as roots
@@ -37,7 +37,7 @@ use Rattle.code_laws.proofs.Alone.{store_alone}
 use Rattle.code_laws.proofs.Claims.{Claims}
 use Rattle.code_laws.proofs.CodeOf.{IsCodeOf}
 use Rattle.code_laws.proofs.InstructionSteps.{of_text, read_then}
-use Rattle.code_laws.proofs.Instructions.{Goes, add_goes, alone_goes, clear_goes, count_goes, move_goes, number_goes, order_goes, reset_goes, say_bool_goes, say_goes, say_num_goes, set_goes, set_to_goes, shape_goes, supervise_goes, test_goes, time_goes, until_goes, wait_for_goes, watch_goes, zone_goes}
+use Rattle.code_laws.proofs.Instructions.{Goes, add_goes, alone_goes, clear_goes, count_goes, number_goes, order_goes, reset_goes, say_bool_goes, say_goes, say_num_goes, set_goes, set_to_goes, shape_goes, supervise_goes, test_goes, time_goes, until_goes, wait_for_goes, watch_goes, zone_goes}
 use Rattle.code_laws.proofs.InstructionsAlone.{define_alone, home_alone, number_alone, tells_alone, zone_alone}
 use Rattle.code_laws.proofs.Same.{no_part_then}
 use Rattle.code_laws.proofs.Sim.{sim_from, sim_gives, sim_misfit, sim_to}
@@ -108,7 +108,6 @@ free_goes s code claims labels pc zone ps calls there room =
 pub instructed_goes : (s : Spot) → IsCodeOf s.tree s.target → Claims s.target s.tree s.run → (labels : List ℕ) (pc : ℕ) (instruction : Instruction) (args given : List TypedArg) (ps : List Placed)
     → AreCalls s.tree args → AreCalls s.tree given → IsBare instruction args
     → Goes s labels pc (pieces_of_steps s.tree s.routine args given (recipe instruction)) ps (instructed s.tree s.routine instruction args given)
-instructed_goes s code claims labels pc instructions.MoveAbsJ (Given to ∷ Given speed ∷ Itself _ ∷ Itself _ ∷ []) given ps calls others bare = move_goes s code claims labels pc to speed ps calls.0 calls.1.0
 instructed_goes s code claims labels pc instructions.Set (OfSignal signal ∷ []) given ps calls others bare = set_goes s labels pc signal ps
 instructed_goes s code claims labels pc instructions.Reset (OfSignal signal ∷ []) given ps calls others bare = reset_goes s labels pc signal ps
 instructed_goes s code claims labels pc instructions.SetDO (OfSignal signal ∷ Given e ∷ []) given ps calls others bare = set_to_goes s code claims labels pc signal e ps calls.1.0

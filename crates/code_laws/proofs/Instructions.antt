@@ -28,20 +28,21 @@ use Rattle.typed_trees.specs.declared.expr.TreeRoot.TheVariants as roots
 use Rattle.rapid_meaning.specs.Answering.{Run}
 use Rattle.rapid_meaning.specs.Doings.{Doing, Gives, Raises, Asks, Ends, Misfit, Reads, Writes, Does as DoesPart, Act, ◌>>=◌, ◌>>◌, after, or_misfit, tells}
 use Rattle.rapid_meaning.specs.Expressions.{expr, place}
+use Rattle.rapid_meaning.specs.Flows.{Way}
 use Rattle.rapid_meaning.specs.Functions.{read_signal}
 use Rattle.rapid_meaning.specs.Instructions.{bit, num, ready, target, text, truth}
 use Rattle.rapid_meaning.specs.Interrupts.{number_at, order, pers_at}
-use Rattle.rapid_meaning.specs.Moves.{move, still}
+use Rattle.rapid_meaning.specs.Moves.{aim, still}
 use Rattle.rapid_meaning.specs.Places.{at_root, part_at, read_value, test_and_set, write_value}
 use Rattle.rapid_meaning.specs.Signals.{has_value, write_signal}
 use Rattle.rapid_meaning.specs.Values.{applied, bit_in, in_range, num_in, of_bit, shape_in, target_in, text_in, tool_speed_in, truth_in, whole}
 use Rattle.rapid_meaning.specs.Zones.{defined, shape_at, supervise}
 use Rattle.stack_code.specs.Confs.{Conf}
 use Rattle.stack_code.specs.Needs.{expr_need, pieces_need}
-use Rattle.stack_code.specs.Pieces.{Piece, OfExpr, OfPlace, Does, Waits, cell_number, push}
+use Rattle.stack_code.specs.Pieces.{Piece, OfExpr, OfPlace, Does, Waits, Travels, cell_number, push}
 use Rattle.stack_code.specs.Placed.{Placed}
 use Rattle.stack_code.specs.Sizes.{expr_size, pieces_size, place_size}
-use Rattle.stack_code.specs.Steps.{act, does, pushes}
+use Rattle.stack_code.specs.Steps.{Here, act, does, fails, pushes, sets_out}
 use Rattle.stack_code.specs.StmtLayouts.{pieces_code}
 use Rattle.stack_code.specs.declared.op.Op.{Op}
 use Rattle.stack_code.specs.declared.op.Op.TheVariants as ops
@@ -52,13 +53,13 @@ use Rattle.code_laws.proofs.Alone.{signal_alone, store_alone, test_alone}
 use Rattle.code_laws.proofs.Claims.{Claims}
 use Rattle.code_laws.proofs.CodeOf.{IsCodeOf}
 use Rattle.code_laws.proofs.InstructionSteps.{copy_then, done_by, done_by_two, expr_then, load_then, number_then, of_num, of_target, of_text, of_truth, place_then, read_then, settles}
-use Rattle.code_laws.proofs.InstructionsAlone.{bit_alone, defined_alone, move_alone, order_alone, range_alone, still_alone, supervise_alone, tells_alone, tool_alone, write_alone}
+use Rattle.code_laws.proofs.InstructionsAlone.{aim_alone, bit_alone, defined_alone, order_alone, range_alone, still_alone, supervise_alone, tells_alone, tool_alone, write_alone}
 use Rattle.code_laws.proofs.Ops.{OpAt}
 use Rattle.code_laws.proofs.Past.{past_expr, past_place}
 use Rattle.code_laws.proofs.PlaceOps.{load_sim}
-use Rattle.code_laws.proofs.Same.{NoPart, no_part_then, sim_same}
+use Rattle.code_laws.proofs.Same.{NoPart, no_part_then, same, sim_same}
 use Rattle.code_laws.proofs.Sim.{Sim, Target, sim_asks, sim_assoc, sim_ends, sim_from, sim_gives, sim_misfit, sim_raises, sim_reads, sim_then, sim_writes}
-use Rattle.code_laws.proofs.Spots.{Holds, Spot, failing, here, sim_op, standing}
+use Rattle.code_laws.proofs.Spots.{Holds, Spot, failing, here, moving, sim_op, standing}
 
 -- a piece of code and the instruction that it is
 abbrev pub Goes : Spot → List ℕ → ℕ → List Piece → List Placed → Doing Bool → Type 0
@@ -249,24 +250,41 @@ say_bool_goes s code claims labels pc e f ps calls others there room =
 
 -- moves
 
-pub move_goes : (s : Spot) → IsCodeOf s.tree s.target → Claims s.target s.tree s.run → (labels : List ℕ) (pc : ℕ) (to speed : TypedExpr) (ps : List Placed) → ExprCalls s.tree to → ExprCalls s.tree speed
-    → Goes s labels pc (Does ops.Still ∷ OfExpr to ∷ OfExpr speed ∷ Does ops.Move ∷ []) ps
-    (still >> (target s.tree s.routine to >>= λ joints. expr s.tree s.routine speed >>= λ v. tool_speed_in v >>= λ n. move s.tree.axes joints n >> ready))
-unfolding pieces_code pieces_need pieces_size after
-move_goes s code claims labels pc to speed ps calls others there room =
-    let behind = past_expr s.target.code s.tree s.routine s.own (pc + 1) to (pieces_code s.tree s.routine labels s.own (pc + 1 + expr_size to) (OfExpr speed ∷ Does ops.Move ∷ []) ps) there.1 in
-    let last = past_expr s.target.code s.tree s.routine s.own (pc + 1 + expr_size to) speed (pieces_code s.tree s.routine labels s.own (pc + 1 + expr_size to + expr_size speed) (Does ops.Move ∷ []) ps) behind in
-    settled s (standing s pc []) _ (pc + 1 + expr_size to + expr_size speed + 1) (pc + (1 + (expr_size to + (expr_size speed + (1 + 0))))) (omega arith)
-    (sim_op s pc [] ops.Still there.0 (omega arith) (sim_same still still_alone
-    (λ _. read_then s code claims (pc + 1) [] to (pieces_code s.tree s.routine labels s.own (pc + 1 + expr_size to) (OfExpr speed ∷ Does ops.Move ∷ []) ps) target_in
-    (λ joints. expr s.tree s.routine speed >>= λ v. tool_speed_in v >>= λ n. move s.tree.axes joints n >> ready) calls there.1 (omega (arith, room))
-    (of_target s (λ v. standing s (pc + 1 + expr_size to) (Plain v ∷ [])) (λ joints. expr s.tree s.routine speed >>= λ v. tool_speed_in v >>= λ n. move s.tree.axes joints n >> ready)
-    (λ joints. expr_then s code claims (pc + 1 + expr_size to) (Plain (values.Target joints) ∷ []) speed (pieces_code s.tree s.routine labels s.own (pc + 1 + expr_size to + expr_size speed) (Does ops.Move ∷ []) ps)
-    (λ v. tool_speed_in v >>= λ n. move s.tree.axes joints n >> ready) others behind (omega (arith, room))
-    (λ v. done_by_two s (pc + 1 + expr_size to + expr_size speed) (Plain v ∷ Plain (values.Target joints) ∷ []) ops.Move (tool_speed_in v) (λ n. move s.tree.axes joints n) last.0 (omega (arith, room))
-    (ap (λ (axes : ℕ). does (here s (pc + 1 + expr_size to + expr_size speed) (Plain v ∷ Plain (values.Target joints) ∷ [])) [] (tool_speed_in v >>= λ n. move axes joints n)) code.axes)
-    (no_part_then (tool_speed_in v) (λ n. move s.tree.axes joints n) (tool_alone v) (λ n. move_alone s.tree.axes joints n))))))
-    (λ n. sim_raises n)))
+-- what MoveAbsJ does before its first setpoint
+abbrev pub aims : Spot → TypedExpr → TypedExpr → Doing Way
+aims s to speed = still >> (target s.tree s.routine to >>= λ joints. expr s.tree s.routine speed >>= λ v. tool_speed_in v >>= λ n. aim s.tree.axes joints n)
+
+-- it leads to the Point
+pub aim_goes : (s : Spot) → IsCodeOf s.tree s.target → Claims s.target s.tree s.run → (labels : List ℕ) (pc : ℕ) (to speed : TypedExpr) (ps : List Placed) → ExprCalls s.tree to → ExprCalls s.tree speed
+    → Holds s pc (pieces_code s.tree s.routine labels s.own pc (Does ops.Still ∷ OfExpr to ∷ OfExpr speed ∷ Travels ∷ []) ps)
+    → pieces_need 0 (Does ops.Still ∷ OfExpr to ∷ OfExpr speed ∷ Travels ∷ []) ≤ s.target.code.deepest
+    → Sim s.target s.run (standing s pc []) (aims s to speed) (λ way. Gives (moving s (pc + 1 + expr_size to + expr_size speed + 1) (Some way))) (failing s)
+unfolding pieces_code pieces_need after
+aim_goes s code claims labels pc to speed ps calls others there room =
+    let behind = past_expr s.target.code s.tree s.routine s.own (pc + 1) to (pieces_code s.tree s.routine labels s.own (pc + 1 + expr_size to) (OfExpr speed ∷ Travels ∷ []) ps) there.1 in
+    let last = past_expr s.target.code s.tree s.routine s.own (pc + 1 + expr_size to) speed (pieces_code s.tree s.routine labels s.own (pc + 1 + expr_size to + expr_size speed) (Travels ∷ []) ps) behind in
+    sim_op s pc [] ops.Still there.0 (omega arith) (sim_same still still_alone
+    (λ _. read_then s code claims (pc + 1) [] to (pieces_code s.tree s.routine labels s.own (pc + 1 + expr_size to) (OfExpr speed ∷ Travels ∷ []) ps) target_in
+    (λ joints. expr s.tree s.routine speed >>= λ v. tool_speed_in v >>= λ n. aim s.tree.axes joints n) calls there.1 (omega (arith, room))
+    (of_target s (λ v. standing s (pc + 1 + expr_size to) (Plain v ∷ [])) (λ joints. expr s.tree s.routine speed >>= λ v. tool_speed_in v >>= λ n. aim s.tree.axes joints n)
+    (λ joints. expr_then s code claims (pc + 1 + expr_size to) (Plain (values.Target joints) ∷ []) speed (pieces_code s.tree s.routine labels s.own (pc + 1 + expr_size to + expr_size speed) (Travels ∷ []) ps)
+    (λ v. tool_speed_in v >>= λ n. aim s.tree.axes joints n) others behind (omega (arith, room))
+    (λ v. sim_op s (pc + 1 + expr_size to + expr_size speed) (Plain v ∷ Plain (values.Target joints) ∷ []) ops.Aim last.0 (omega (arith, room))
+    (sim_from (same_axes joints v) (same (tool_speed_in v >>= λ n. aim s.tree.axes joints n)
+    (no_part_then (tool_speed_in v) (λ n. aim s.tree.axes joints n) (tool_alone v) (λ n. aim_alone s.tree.axes joints n))))))))
+    (λ n. sim_raises n))
+  where
+    x : ℕ
+    x = pc + 1 + expr_size to + expr_size speed
+
+    h : (joints : Joints) (v : Value) → Here
+    h joints v = here s x (Plain v ∷ Plain (values.Target joints) ∷ [])
+
+    -- the code knows the number of axes
+    same_axes : (joints : Joints) (v : Value)
+        → after (tool_speed_in v >>= λ n. aim s.target.code.axes joints n) (sets_out (h joints v) []) (fails (h joints v))
+        ≡ after (tool_speed_in v >>= λ n. aim s.tree.axes joints n) (sets_out (h joints v) []) (fails (h joints v))
+    same_axes joints v = ap (λ (axes : ℕ). after (tool_speed_in v >>= λ n. aim axes joints n) (sets_out (h joints v) []) (fails (h joints v))) code.axes
 
 -- interrupts
 

@@ -1,7 +1,6 @@
 -- Doings of instructions that do no part of a program.
-use Rattle.std.proofs.Common.{ℕ, zero, suc, Bool, true, false, ℤ, pos, int_lt, not, List, [], ◌∷◌, Option, None, Some, Result, Ok, Err, if◌then◌else◌}
+use Rattle.std.proofs.Common.{ℕ, Bool, true, false, ℤ, pos, int_lt, not, List, [], ◌∷◌, Option, None, Some, Result, Ok, Err, if◌then◌else◌}
 use Rattle.std.specs.Ordering.{int_eq}
-use Rattle.joint_planner.specs.Setpoints.{setpoint_count}
 use Rattle.joint_clip.specs.Shapes.{made_shape}
 use Rattle.joint_clip.specs.declared.shape_fault.ShapeFault.{ShapeFault}
 use Rattle.rapid_num.specs.Reach.{is_reachable}
@@ -17,10 +16,10 @@ use Rattle.rapid_model.specs.declared.value.Value.TheVariants as values
 use Rattle.typed_trees.specs.declared.datum.Datum.TheVariants as datums
 use Rattle.typed_trees.specs.declared.datum.Lvalue.{Lvalue}
 use Rattle.rapid_model.specs.declared.watched.Watched.{Watched}
-use Rattle.rapid_meaning.specs.Doings.{Act, Gives, Asks, done, fault, tells}
+use Rattle.rapid_meaning.specs.Doings.{Gives, Asks, done, fault, tells}
 use Rattle.rapid_meaning.specs.Interrupts.{asks_of_number, order, when_known, when_ordered}
 use Rattle.rapid_meaning.specs.Meetings.{when_arrived}
-use Rattle.rapid_meaning.specs.Moves.{cap_of, move, move_from, setpoints, still, when_given}
+use Rattle.rapid_meaning.specs.Moves.{aim, cap_of, still, when_located}
 use Rattle.rapid_meaning.specs.Signals.{when_written, write_signal}
 use Rattle.rapid_meaning.specs.Values.{bit_in, in_range, tool_speed_in}
 use Rattle.rapid_meaning.specs.Zones.{asks_of_zone, define, define_home, defined, home_high, home_low, on_axes, position_or_fault, shaped, supervise, when_numbered, when_zoned}
@@ -117,27 +116,17 @@ home_alone axes p inside middle delta =
     no_part_then (position_or_fault (on_axes home_low middle.axis delta.axis)) _ (position_alone (on_axes home_low middle.axis delta.axis)) (λ low.
     no_part_then (position_or_fault (on_axes home_high middle.axis delta.axis)) _ (position_alone (on_axes home_high middle.axis delta.axis)) (λ high. define_alone axes p inside low high))
 
-given_alone : (next : Act) → NoPart next → (a : Answer) → NoPart (when_given next a)
-given_alone next alone answers.Given = alone
-given_alone next alone (answers.Stopped zone) = tt
-given_alone next alone a = tt
+located_alone : (axes : ℕ) (target : Joints) (cap : ℕ) (a : Answer) → NoPart (when_located axes target cap a)
+located_alone axes target cap (answers.At start) = tt
+located_alone axes target cap a = tt
 
-setpoints_alone : (axes : ℕ) (start target : Joints) (n left : ℕ) → NoPart (setpoints axes start target n left)
-unfolding setpoints
-setpoints_alone axes start target n zero = tt
-setpoints_alone axes start target n (suc left) = given_alone (setpoints axes start target n left) (setpoints_alone axes start target n left)
-
-from_alone : (axes : ℕ) (target : Joints) (cap : ℕ) (a : Answer) → NoPart (move_from axes target cap a)
-from_alone axes target cap (answers.At start) = setpoints_alone axes start target (setpoint_count axes start target cap) (setpoint_count axes start target cap)
-from_alone axes target cap a = tt
-
-pub move_alone : (axes : ℕ) (target : Joints) (speed : ℤ) → NoPart (move axes target speed)
-move_alone axes target speed = either (not (is_reachable axes target)) (not (int_lt (pos 0) speed))
+pub aim_alone : (axes : ℕ) (target : Joints) (speed : ℤ) → NoPart (aim axes target speed)
+aim_alone axes target speed = either (not (is_reachable axes target)) (not (int_lt (pos 0) speed))
   where
-    either : (a b : Bool) → NoPart (if a then fault faults.JointRange else if b then fault faults.Speed else Asks Position (move_from axes target (cap_of speed)))
+    either : (a b : Bool) → NoPart (if a then fault faults.JointRange else if b then fault faults.Speed else Asks Position (when_located axes target (cap_of speed)))
     either true b = tt
     either false true = tt
-    either false false = from_alone axes target (cap_of speed)
+    either false false = located_alone axes target (cap_of speed)
 
 pub arrived_alone : (a : Answer) → NoPart (when_arrived a)
 arrived_alone answers.Met = tt

@@ -24,6 +24,7 @@ pub mod Instructions
 pub mod Syncs
 pub mod Instructed
 pub mod Looks
+pub mod Legs
 pub mod Recovery
 pub mod BehindLook
 pub mod Plains

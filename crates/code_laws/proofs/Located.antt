@@ -10,6 +10,7 @@ use Rattle.rapid_meaning.specs.Data.{Data, Frame, below_first}
 use Rattle.rapid_meaning.specs.Doings.{Doing, Gives, Raises, Reads, ◌>>=◌, after}
 use Rattle.rapid_meaning.specs.Places.{at_root, own_place}
 use Rattle.rapid_meaning.proofs.Composing.{performed_after}
+use Rattle.rapid_meaning.proofs.Counts.{counts}
 use Rattle.rapid_meaning.proofs.Kept.{Kept, RunKept, kept_performed}
 use Rattle.rapid_meaning.proofs.Room.{any_room}
 use Rattle.rapid_meaning.proofs.Tidy.{IsTidy}
@@ -27,7 +28,7 @@ pub alike_then : {A B : Type 0} (by : Bool → Fitting) (run : Run) → RunKept 
 alike_then {A = A} by run kept count m f g tidy alike = record {
   same = λ d left is.
       performed_after by run m f Raises d left
-      ∙ by_outcome (performed by run m d left) (kept_performed by run kept false count m d left (tidy.from false count d (any_room d.frames count is)))
+      ∙ by_outcome (performed by run m d left) (kept_performed by run kept false count (counts d.frames) m d left (tidy.from false count d (any_room d.frames count is)))
       ∙ sym (performed_after by run m g Raises d left);
 }
   where

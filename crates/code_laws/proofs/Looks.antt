@@ -1,5 +1,5 @@
--- A Look, at which a trap may run.
-use Rattle.std.proofs.Common.{◌≡◌, arith, sym, ap, subst, ℕ, ◌+◌, Bool, true, false, [], ◌∷◌, length, Option, Some, IsTrue, slice_get}
+-- A Look, at which a trap may run, in a move or outside one.
+use Rattle.std.proofs.Common.{◌≡◌, sym, ap, subst, ℕ, ◌+◌, Bool, true, false, [], ◌∷◌, length, Option, Some, IsTrue, slice_get}
 use Rattle.std.proofs.lemmas.Bool.{and_parts}
 use Rattle.rapid_model.specs.Fits.{fits_request}
 use Rattle.rapid_model.specs.declared.answer.Answer.{Answer}
@@ -12,7 +12,7 @@ use Rattle.typed_trees.specs.Plain.{TypedRoutine, TypedTree}
 use Rattle.rapid_meaning.specs.Answering.{Run, fitting_of, is_trap_row}
 use Rattle.rapid_meaning.specs.Data.{with_seen}
 use Rattle.rapid_meaning.specs.Doings.{Doing, Asks, Raises, change, goes_to, tells, when_ok, ◌>>◌}
-use Rattle.rapid_meaning.specs.Flows.{Flow, Part, value_of}
+use Rattle.rapid_meaning.specs.Flows.{Flow, Part, Way, value_of}
 use Rattle.rapid_meaning.specs.Looks as source
 use Rattle.rapid_meaning.specs.Looks.{left, look, place_of}
 use Rattle.stack_code.specs.Confs.{Conf, Trapped}
@@ -23,12 +23,12 @@ use Rattle.stack_code.specs.Steps as code_steps
 use Rattle.stack_code.specs.StmtLayouts.{at_byte}
 use Rattle.stack_code.specs.declared.op.Op.TheVariants as ops
 use Rattle.code_laws.specs.Calls.{Takes}
-use Rattle.code_laws.proofs.Bodies.{Body, begins, spot_of}
+use Rattle.code_laws.proofs.Bodies.{Body, begins_in, spot_of}
 use Rattle.code_laws.proofs.Claims.{Claims}
 use Rattle.code_laws.proofs.CodeOf.{IsCodeOf}
 use Rattle.code_laws.proofs.Same.{IsCalm, sim_calm}
 use Rattle.code_laws.proofs.Sim.{Sim, SimPart, Target, sim_asked, sim_does, sim_ends, sim_gives, sim_misfit, sim_raises}
-use Rattle.code_laws.proofs.Spots.{here, sim_op}
+use Rattle.code_laws.proofs.Spots.{moving, sim_in}
 
 pub ok_calm : (a : Answer) → IsCalm (when_ok a)
 ok_calm answers.Ok = tt
@@ -52,37 +52,37 @@ trap_takes tree t number trap trapped code fits =
     trap_of_row tree t trap code (and_parts (is_trap_row (slice_get tree.routines trap)) _ own).0
 
 -- at the end of the trap, the Look is asked again
-left_sim : {t : Target} {run : Run} (b : Body) (pc : ℕ) (again : Part) (next : Flow → Doing Conf) (failed : ℕ → Doing Conf)
-    → SimPart t run (begins b pc) again next failed → (flow : Flow) → Sim t run (back_to (Trapped pc b.frame ∷ b.saved) (value_of flow)) (left again) next failed
-left_sim b pc again next failed part flow =
+left_sim : {t : Target} {run : Run} (b : Body) (pc : ℕ) (way : Option Way) (again : Part) (next : Flow → Doing Conf) (failed : ℕ → Doing Conf)
+    → SimPart t run (begins_in b pc way) again next failed → (flow : Flow) → Sim t run (back_to (Trapped pc b.frame way ∷ b.saved) (value_of flow)) (left again) next failed
+left_sim b pc way again next failed part flow =
     sim_calm (tells Leave) Raises Raises ok_calm (λ _.
-    sim_calm (change (λ d. record d { trapped = false })) Raises Raises (λ d. tt) (λ _. again_sim (begins b pc) again next failed part))
+    sim_calm (change (λ d. record d { trapped = false })) Raises Raises (λ d. tt) (λ _. again_sim (begins_in b pc way) again next failed part))
 
-trapped_sim : (t : Target) (tree : TypedTree) (run : Run) → Claims t tree run → (b : Body) (pc trap : ℕ) (again : Part) (next : Flow → Doing Conf) (failed : ℕ → Doing Conf)
-    → Takes tree trap 0 → SimPart t run (begins b pc) again next failed
-    → Sim t run (change (λ d. record d { trapped = true }) >> enter t.code trap [] (Trapped pc b.frame ∷ b.saved)) (source.interrupted again trap) next failed
+trapped_sim : (t : Target) (tree : TypedTree) (run : Run) → Claims t tree run → (b : Body) (pc : ℕ) (way : Option Way) (trap : ℕ) (again : Part) (next : Flow → Doing Conf) (failed : ℕ → Doing Conf)
+    → Takes tree trap 0 → SimPart t run (begins_in b pc way) again next failed
+    → Sim t run (change (λ d. record d { trapped = true }) >> enter t.code trap [] (Trapped pc b.frame way ∷ b.saved)) (source.interrupted again trap) next failed
 unfolding raised_to
-trapped_sim t tree run claims b pc trap again next failed takes part =
+trapped_sim t tree run claims b pc way trap again next failed takes part =
     sim_calm (change (λ d. record d { trapped = true })) Raises Raises (λ d. tt) (λ _.
-    sim_does (λ flow. back_to (Trapped pc b.frame ∷ b.saved) (value_of flow)) (raised_to t.code (Trapped pc b.frame ∷ b.saved))
-    (claims.calls trap [] (Trapped pc b.frame ∷ b.saved) takes) (left_sim b pc again next failed part) (λ n. sim_ends (fates.Fault (Unhandled n))))
+    sim_does (λ flow. back_to (Trapped pc b.frame way ∷ b.saved) (value_of flow)) (raised_to t.code (Trapped pc b.frame way ∷ b.saved))
+    (claims.calls trap [] (Trapped pc b.frame way ∷ b.saved) takes) (left_sim b pc way again next failed part) (λ n. sim_ends (fates.Fault (Unhandled n))))
 
 -- after a trap this Look is asked again
-pub look_sim : (t : Target) (tree : TypedTree) (run : Run) → IsCodeOf tree t → Claims t tree run → (b : Body) (pc : ℕ) (own : Own) (byte : ℕ) (again : Part) (go : Doing Flow)
-    (next : Flow → Doing Conf) (failed : ℕ → Doing Conf) → placed_at t.code pc ≡ Some (record { own = own; op = ops.Look }) → own.at ≡ at_byte b.stands.routine byte
-    → SimPart t run (begins b pc) again next failed → Sim t run (begins b (pc + 1)) go next failed → Sim t run (begins b pc) (look b.stands byte again go) next failed
-look_sim t tree run code claims b pc own byte again go next failed there place again_part go_sim =
-    sim_op (spot_of t tree run b own) pc [] ops.Look there (omega arith) (subst (λ (at : At). Sim t run (placed at) (look b.stands byte again go) next failed) (sym place) asks)
+pub look_sim : (t : Target) (tree : TypedTree) (run : Run) → IsCodeOf tree t → Claims t tree run → (b : Body) (pc : ℕ) (way : Option Way) (own : Own) (byte : ℕ) (again : Part)
+    (go : Doing Flow) (next : Flow → Doing Conf) (failed : ℕ → Doing Conf) → placed_at t.code pc ≡ Some (record { own = own; op = ops.Look }) → own.at ≡ at_byte b.stands.routine byte
+    → SimPart t run (begins_in b pc way) again next failed → Sim t run (begins_in b (pc + 1) way) go next failed → Sim t run (begins_in b pc way) (look b.stands byte again go) next failed
+look_sim t tree run code claims b pc way own byte again go next failed there place again_part go_sim =
+    sim_in (spot_of t tree run b own) pc way ops.Look there (subst (λ (at : At). Sim t run (placed at) (look b.stands byte again go) next failed) (sym place) asks)
   where
     h : code_steps.Here
-    h = here (spot_of t tree run b own) pc []
+    h = record { code = t.code; own = own; conf = moving (spot_of t tree run b own) pc way }
 
     placed : At → Doing Conf
     placed at = change (λ d. record d { place = Some at }) >> Asks Look (code_steps.looked h)
 
     answered : (a : Answer) (trapped : Bool) → IsTrue (fits_request (t.by trapped) Look a) → Sim t run (code_steps.looked h a) (source.looked again go a) next failed
     answered (answers.Go seen) trapped fits = sim_calm (change (λ d. record d { frames = with_seen seen d.frames })) Raises Raises (λ d. tt) (λ _. go_sim)
-    answered (answers.Trap number trap) trapped fits = trapped_sim t tree run claims b pc trap again next failed (trap_takes tree t number trap trapped code fits) again_part
+    answered (answers.Trap number trap) trapped fits = trapped_sim t tree run claims b pc way trap again next failed (trap_takes tree t number trap trapped code fits) again_part
     answered answers.Flood trapped fits = sim_ends (fates.Fault TrapFlood)
     answered _ trapped fits = sim_misfit
 

@@ -6,7 +6,7 @@ use Rattle.typed_trees.specs.Plain.{TypedArms, TypedCases, TypedElse, TypedExprs
 use Rattle.rapid_meaning.specs.Layouts.{local_start}
 use Rattle.stack_code.specs.CodeData.{CodeData}
 use Rattle.stack_code.specs.ExprLayouts.{put}
-use Rattle.stack_code.specs.Pieces.{Piece, OfExpr, OfPlace, OfArgs, Does, Waits, GoesTo, Chooses, bounds_pieces, pieces}
+use Rattle.stack_code.specs.Pieces.{Piece, OfExpr, OfPlace, OfArgs, Does, Waits, GoesTo, Chooses, Travels, bounds_pieces, pieces}
 use Rattle.stack_code.specs.Placed.{Own, Placed, StandsAt}
 use Rattle.stack_code.specs.Sizes.{args_size, arms_size, bounds_size, cases_size, else_size, expr_size, pieces_size, place_size, stmt_size, stmts_size, values_size}
 use Rattle.stack_code.specs.StmtLayouts.{arms_code, cases_code, else_code, own_of, pieces_code, stmt_code, stmts_code, values_code}
@@ -37,6 +37,8 @@ past_pieces code tree routine labels own pc (Waits ∷ more) ps h =
 past_pieces code tree routine labels own pc (GoesTo label ∷ more) ps h =
     moved code (pc + 1 + pieces_size more) (pc + (1 + pieces_size more)) ps (omega arith) (past_pieces code tree routine labels own (pc + 1) more ps h.1)
 past_pieces code tree routine labels own pc (Chooses a b ∷ more) ps h =
+    moved code (pc + 1 + 1 + 1 + 1 + pieces_size more) (pc + (4 + pieces_size more)) ps (omega arith) (past_pieces code tree routine labels own (pc + 1 + 1 + 1 + 1) more ps h.1.1.1.1)
+past_pieces code tree routine labels own pc (Travels ∷ more) ps h =
     moved code (pc + 1 + 1 + 1 + 1 + pieces_size more) (pc + (4 + pieces_size more)) ps (omega arith) (past_pieces code tree routine labels own (pc + 1 + 1 + 1 + 1) more ps h.1.1.1.1)
 
 pub past_values : (code : CodeData) (tree : TypedTree) (routine : TypedRoutine) (own : Own) (list pc : ℕ) (es : TypedExprs) (ps : List Placed)

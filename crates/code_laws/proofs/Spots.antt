@@ -5,6 +5,7 @@ use Rattle.typed_trees.specs.Plain.{TypedRoutine, TypedTree}
 use Rattle.typed_trees.specs.declared.datum.Datum.{Datum}
 use Rattle.rapid_meaning.specs.Answering.{Run}
 use Rattle.rapid_meaning.specs.Doings.{Doing, Gives}
+use Rattle.rapid_meaning.specs.Flows.{Way}
 use Rattle.stack_code.specs.CodeData.{CodeData}
 use Rattle.stack_code.specs.Confs.{Conf, Running, Saved, conf}
 use Rattle.stack_code.specs.Placed.{Own, Placed, placed_at, StandsAt}
@@ -42,6 +43,10 @@ standing s pc stack = Gives (conf pc stack s.frame s.saved)
 abbrev pub here : Spot → ℕ → List Datum → Here
 here s pc stack = record { code = s.target.code; own = s.own; conf = conf pc stack s.frame s.saved }
 
+-- without operands, in a move or outside one
+abbrev pub moving : Spot → ℕ → Option Way → Conf
+moving s pc way = record (conf pc [] s.frame s.saved) { way = way }
+
 -- an error is the statement's
 abbrev pub failing : Spot → ℕ → Doing Conf
 failing s error = raised s.target.code s.own s.frame s.saved error
@@ -68,3 +73,11 @@ pub sim_op : {A : Type 0} (s : Spot) (pc : ℕ) (stack : List Datum) (op : Op) {
 sim_op s pc stack op {m = m} {next = next} {failed = failed} there room sim =
     sim_step (le-leb (length stack) s.target.code.deepest room)
     (subst (λ (x : Option Placed). Sim s.target s.run (act_at s.target.code (conf pc stack s.frame s.saved) x) m next failed) (sym there) sim)
+
+-- the same without operands, in a move or outside one
+pub sim_in : {A : Type 0} (s : Spot) (pc : ℕ) (way : Option Way) (op : Op) {m : Doing A} {next : A → Doing Conf} {failed : ℕ → Doing Conf}
+    → placed_at s.target.code pc ≡ Some (record { own = s.own; op = op }) → Sim s.target s.run (act (record { code = s.target.code; own = s.own; conf = moving s pc way }) op) m next failed
+    → Sim s.target s.run (Gives (moving s pc way)) m next failed
+sim_in s pc way op {m = m} {next = next} {failed = failed} there sim =
+    sim_step (le-leb 0 s.target.code.deepest (omega arith))
+    (subst (λ (x : Option Placed). Sim s.target s.run (act_at s.target.code (moving s pc way) x) m next failed) (sym there) sim)

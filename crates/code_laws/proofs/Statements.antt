@@ -29,7 +29,7 @@ from_look : (t : Target) (tree : TypedTree) (run : Run) → IsCodeOf tree t → 
     → placed_at t.code pc ≡ Some (record { own = own_of tree b.stands.routine pc s; op = ops.Look }) → BehindLook t tree run b pc s
     → Sim t run (begins b pc) (look b.stands (byte_of s) (Attempt b.stands s) (follows tree b.stands s s)) (lands b (pc + stmt_size tree b.stands.routine s)) (leaving t b)
 from_look t tree run code claims b pc s stands at there sim =
-    look_sim t tree run code claims b pc (own_of tree b.stands.routine pc s) (byte_of s) (Attempt b.stands s) (follows tree b.stands s s)
+    look_sim t tree run code claims b pc None (own_of tree b.stands.routine pc s) (byte_of s) (Attempt b.stands s) (follows tree b.stands s s)
     (lands b (pc + stmt_size tree b.stands.routine s)) (leaving t b) there refl (claims.attempts b pc s stands at) sim
 
 pub stmt_sim : (t : Target) (tree : TypedTree) (run : Run) → IsCodeOf tree t → Claims t tree run → (b : Body) (pc : ℕ) (s : TypedStmt) → Stands t tree b b.stands.errors → StmtAt t tree b pc s

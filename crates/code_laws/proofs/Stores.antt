@@ -13,7 +13,7 @@ use Rattle.typed_trees.specs.declared.datum.Lvalue.{Lvalue}
 use Rattle.typed_trees.specs.declared.datum.Root.{Root}
 use Rattle.typed_trees.specs.declared.datum.Root.TheVariants as roots
 use Rattle.rapid_meaning.specs.Answering.{Outcome, Gave, Misfits, Run, joined, performed}
-use Rattle.rapid_meaning.specs.Data.{Data, Frame, datum_at, frame_at}
+use Rattle.rapid_meaning.specs.Data.{Data, Frame, frame_at}
 use Rattle.rapid_meaning.specs.Doings.{Doing, Act, Raises, ◌>>=◌, ◌>>◌, after}
 use Rattle.rapid_meaning.specs.Loops.{direction}
 use Rattle.rapid_meaning.specs.Places.{at_root, put_in, write_value, writes_at}

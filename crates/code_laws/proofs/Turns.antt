@@ -171,7 +171,7 @@ turn_sim t tree run code claims b pc at local first last step list stands place 
       room = second_room (pieces_need 0 (bounds_pieces k first last step)) (stmts_need tree b.stands.routine list) t.code.deepest place.room;
       past = refl;
     } in
-    look_sim t tree run code claims b (turn_pc + 1) own at (Turn b.stands s) (turned b.stands (Turn b.stands s) s) (lands b final) (leaving t b) there.1.0 refl
+    look_sim t tree run code claims b (turn_pc + 1) None own at (Turn b.stands s) (turned b.stands (Turn b.stands s) s) (lands b final) (leaving t b) there.1.0 refl
     (claims.turns b pc at local first last step list stands place)
     (list_then_sim t tree run claims b x end final list stands inside (counts_on b.stands.routine local (Turn b.stands s))
     (step_sim t tree run claims b pc at local first last step list stands place end (past_stmts t.code tree b.stands.routine b.labels x list behind there.1.1).0))

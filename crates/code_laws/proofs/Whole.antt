@@ -29,6 +29,7 @@ use Rattle.code_laws.specs.Standing.{Fine, Simulates, StandsBy}
 use Rattle.code_laws.proofs.Claims.{Claims}
 use Rattle.code_laws.proofs.CodeOf.{IsCodeOf}
 use Rattle.code_laws.proofs.Compiles.{compiled_is, target_of}
+use Rattle.code_laws.proofs.Legs.{leg_sim}
 use Rattle.code_laws.proofs.Lists.{rest_sim}
 use Rattle.code_laws.proofs.Procedures.{procedure_called}
 use Rattle.code_laws.proofs.Operations.{goes_more}
@@ -45,6 +46,7 @@ claims tree t code zero = record {
   procedures = λ routine args saved takes kind. part_zero tree;
   attempts = λ b pc s stands at. part_zero tree;
   turns = λ b pc at local first last step list stands place. part_zero tree;
+  legs = λ b pc own s way at. part_zero tree;
   rests = λ b pc more_pc end whole more stands at from. part_zero tree;
 }
 claims tree t code (suc n) = record {
@@ -55,6 +57,7 @@ claims tree t code (suc n) = record {
   attempts = λ b pc s stands at. part_deep tree n code.fits (stmt_sim t tree (deep tree n) code (claims tree t code n) b pc s stands at);
   turns = λ b pc at local first last step list stands place.
       part_deep tree n code.fits (turn_sim t tree (deep tree n) code (claims tree t code n) b pc at local first last step list stands place);
+  legs = λ b pc own s way at. part_deep tree n code.fits (leg_sim t tree (deep tree n) code (claims tree t code n) b pc own s way at);
   rests = λ b pc more_pc end whole more stands at from.
       part_deep tree n code.fits (rest_sim t tree (deep tree n) code (claims tree t code n) b pc more_pc end whole more stands at from);
 }

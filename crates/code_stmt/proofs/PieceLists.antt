@@ -2,7 +2,7 @@
 use Rattle.std.proofs.Common.{◌≡◌, ℕ, ◌+◌, max, List, [], ◌∷◌, refl, ap, subst, ◌∙◌, arith}
 use Rattle.stack_code.specs.ExprLayouts.{put}
 use Rattle.stack_code.specs.Needs.{pieces_need}
-use Rattle.stack_code.specs.Pieces.{Piece, OfExpr, OfPlace, OfArgs, Does, Waits, GoesTo, Chooses}
+use Rattle.stack_code.specs.Pieces.{Piece, OfExpr, OfPlace, OfArgs, Does, Waits, GoesTo, Chooses, Travels}
 use Rattle.stack_code.specs.Placed.{Own, Placed}
 use Rattle.stack_code.specs.Sizes.{piece_size, pieces_size}
 use Rattle.stack_code.specs.StmtLayouts.{pieces_code}
@@ -27,6 +27,8 @@ first_code tree routine labels own pc (OfArgs args) more ps = refl
 first_code tree routine labels own pc (Does op) more ps = refl
 first_code tree routine labels own pc Waits more ps = refl
 first_code tree routine labels own pc (GoesTo label) more ps = refl
+first_code tree routine labels own pc Travels more ps =
+    ap (λ next. put own ops.Aim (put own (ops.Point (pc + 1 + 1 + 1 + 1)) (put own ops.Look (put own (ops.Jump (pc + 1)) (pieces_code tree routine labels own next more ps))))) (omega arith)
 first_code tree routine labels own pc (Chooses a b) more ps =
     ap (λ next. put own (ops.JumpFalse (pc + 1 + 1 + 1)) (put own a (put own (ops.Jump (pc + 1 + 1 + 1 + 1)) (put own b (pieces_code tree routine labels own next more ps))))) (omega arith)
 
@@ -58,3 +60,4 @@ need_more most depth (Does op) rest = omega arith
 need_more most depth Waits rest = omega arith
 need_more most depth (GoesTo label) rest = omega arith
 need_more most depth (Chooses a b) rest = omega arith
+need_more most depth Travels rest = omega arith

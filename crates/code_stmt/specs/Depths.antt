@@ -2,7 +2,7 @@
 use Rattle.std.specs.Prelude.{ℕ, ◌+◌, ◌-◌}
 use Rattle.stack_code.specs.Needs as needs
 use Rattle.stack_code.specs.Needs.{args_need, expr_need, place_need}
-use Rattle.stack_code.specs.Pieces.{Piece, OfExpr, OfPlace, OfArgs, Does, Waits}
+use Rattle.stack_code.specs.Pieces.{Piece, OfExpr, OfPlace, OfArgs, Does, Waits, Travels}
 
 -- the operands that it needs, those already there apart
 abbrev pub piece_need : Piece → ℕ
@@ -17,4 +17,5 @@ depth_behind (OfExpr e) depth = depth + 1
 depth_behind (OfPlace p) depth = depth + 1
 depth_behind (Does op) depth = needs.depth_behind op depth
 depth_behind Waits depth = depth - 1
+depth_behind Travels depth = depth - 2
 depth_behind piece depth = depth

@@ -9,7 +9,7 @@ use Rattle.typed_trees.specs.Views.{view_arg, view_expr, view_place}
 use Rattle.typed_trees.specs.declared.expr.Arg.{Arg}
 use Rattle.code_stmt.specs.declared.own.Own.{Own}
 use Rattle.code_stmt.specs.declared.piece.Piece.{Piece}
-use Rattle.code_stmt.specs.declared.piece.Piece.TheVariants.{Expr, Place, Args, Does, Waits, GoesTo, Chooses}
+use Rattle.code_stmt.specs.declared.piece.Piece.TheVariants.{Expr, Place, Args, Does, Waits, GoesTo, Chooses, Travels}
 
 abbrev pub view_args : List (Bor Arg) → List TypedArg
 view_args args = map (λ a. view_arg a.now) args
@@ -25,6 +25,7 @@ view_piece (Does op) = plain.Does op
 view_piece Waits = plain.Waits
 view_piece (GoesTo label) = plain.GoesTo label
 view_piece Chooses = plain.Chooses push_down (push 1)
+view_piece Travels = plain.Travels
 
 abbrev pub view_pieces : List Piece → List plain.Piece
 view_pieces pieces = map view_piece pieces

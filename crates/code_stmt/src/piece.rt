@@ -14,4 +14,6 @@ pub(crate) enum Piece<'a> {
     GoesTo(u32),
     /// Pops a bool, and pushes -1 if it is TRUE, else 1.
     Chooses,
+    /// Pops a speed and a target, and moves the arm.
+    Travels,
 }

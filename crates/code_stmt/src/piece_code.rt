@@ -51,6 +51,7 @@ fn add_piece(
         Piece::Waits => code.put(Op::Wait(own.retry)),
         Piece::GoesTo(label) => code.put(Op::Jump(label_at(labels, label))),
         Piece::Chooses => add_choice(code),
+        Piece::Travels => add_travel(code),
     }
 }
 
@@ -64,6 +65,18 @@ fn add_choice(code: &mut Block) -> Result<(), AllocError>
     code.put(push_down())?;
     code.put(Op::Jump(past))?;
     code.put(push(1))
+}
+
+/// Pops a speed and a target, and moves the arm: after each setpoint but the last a Look, and back.
+fn add_travel(code: &mut Block) -> Result<(), AllocError>
+    ensures { OnOk result ((tree : TypedTree) (routine : TypedRoutine) (labels : List ℕ) (own : OwnData) → Adds own code.old code.new 4 (λ pc ps. pieces_code tree routine labels own pc (Pieces.Travels ∷ []) ps)) }
+{
+    let next = code.behind(1)?;
+    let past = code.behind(4)?;
+    code.put(Op::Aim)?;
+    code.put(Op::Point(past))?;
+    code.put(Op::Look)?;
+    code.put(Op::Jump(next))
 }
 
 /// The place of a label, by its number; 0 if there is none.

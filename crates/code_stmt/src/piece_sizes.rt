@@ -32,7 +32,7 @@ fn piece_size(piece: &Piece<'_>) -> Result<u32, AllocError>
         Piece::Place(place) => place_size(place),
         Piece::Args(args) => args_size(args),
         Piece::Does(_) | Piece::Waits | Piece::GoesTo(_) => Ok(1),
-        Piece::Chooses => Ok(4),
+        Piece::Chooses | Piece::Travels => Ok(4),
     }
 }
 
@@ -57,7 +57,7 @@ fn piece_need(piece: &Piece<'_>) -> Result<u32, AllocError>
         Piece::Expr(expr) => expr_need(expr),
         Piece::Place(place) => place_need(place),
         Piece::Args(args) => args_need(args),
-        Piece::Does(_) | Piece::Waits | Piece::GoesTo(_) | Piece::Chooses => Ok(0),
+        Piece::Does(_) | Piece::Waits | Piece::GoesTo(_) | Piece::Chooses | Piece::Travels => Ok(0),
     }
 }
 
@@ -69,6 +69,7 @@ fn depth_behind(piece: &Piece<'_>, depth: u32) -> Result<u32, AllocError>
         Piece::Expr(_) | Piece::Place(_) => sum(depth, 1),
         Piece::Does(op) => depth_behind_op(op, depth),
         Piece::Waits => Ok(depth.saturating_sub(1)),
+        Piece::Travels => Ok(depth.saturating_sub(2)),
         Piece::Args(_) | Piece::GoesTo(_) | Piece::Chooses => Ok(depth),
     }
 }

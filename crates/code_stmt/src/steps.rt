@@ -73,7 +73,7 @@ fn piece_of<'a>(
         Step::Store => does(Op::Store),
         Step::Bit => does(Op::Bit),
         Step::Still => does(Op::Still),
-        Step::Move => does(Op::Move),
+        Step::Travel => Some(Piece::Travels),
         Step::TestSet => does(Op::TestSet),
         Step::Binary(operator) => does(Op::Binary(operator)),
         Step::Irq(change) => does(Op::Irq(change)),

@@ -1,6 +1,6 @@
 -- The value of an expression that is known before the run (RAPID Kernel, constant expressions), by recursion on its
 -- tree.
-use Rattle.std.specs.Prelude.{ℕ, ◌-◌, Bool, true, false, not, ◌&&◌, neg_ℤ, List, [], ◌∷◌, length, map, is_some, slice_get, Option, None, Some, if◌then◌else◌}
+use Rattle.std.specs.Prelude.{ℕ, ◌-◌, Bool, true, false, not, ◌&&◌, neg_ℤ, List, [], ◌∷◌, length, map, is_some, slice_get, Option, None, Some, unwrap_or, if◌then◌else◌}
 use Rattle.std.specs.Option.{option_and_then, option_map}
 use Rattle.std.specs.declared.alloc.Global.{Global}
 use Rattle.std.specs.declared.vec.Vec.{Vec}
@@ -8,11 +8,10 @@ use Rattle.rapid_model.specs.declared.sort.Sort.{Sort}
 use Rattle.rapid_model.specs.declared.value.Value.{Value}
 use Rattle.rapid_model.specs.declared.value.Value.TheVariants as values
 use Rattle.rapid_model.specs.declared.operator.Operator.{Operator}
-use Rattle.rapid_model.specs.declared.operator.Operator.TheVariants as operators
 use Rattle.rapid_values.specs.declared.applied.Applied.{Applied}
 use Rattle.rapid_values.specs.declared.applied.Applied.TheVariants.{Gives, Raises, OutOfRange, Unfit}
 use Rattle.rapid_values.specs.Elements.{element_number}
-use Rattle.rapid_values.specs.Operators.{apply}
+use Rattle.rapid_values.specs.Operators.{apply, decides as decides_by_type}
 use Rattle.rapid_values.specs.Values.{part_of, made_of}
 use Rattle.rapid_model.specs.declared.part_name.PartName.{PartName}
 use Rattle.typed_trees.specs.Plain.{TypedExpr, TypedExprs, TypedSteps, Known, ErrorNumber, SignalValue, Stored, Group, Aggregate, Builtin, Invoke, Not, Signed, Chain, NoExprs, MoreExprs, NoSteps, MoreSteps, NotHeld, Held, PlaceOf}
@@ -71,11 +70,9 @@ applied (Raises n) = outcomes.Raises n
 applied OutOfRange = outcomes.OutOfRange
 applied Unfit = outcomes.NotKnown
 
--- the left operand decides: FALSE before AND, TRUE before OR
+-- the left operand decides; one of a type that the operator does not take decides nothing
 abbrev pub decides : Operator → Value → Bool
-decides operators.And (values.Bool b) = not b
-decides operators.Or (values.Bool b) = b
-decides o v = false
+decides o v = unwrap_or (decides_by_type o v) false
 
 abbrev pub on_right : Operator → Value → Outcome → Outcome
 on_right o v (outcomes.Value w) = applied (apply o v w)

@@ -18,7 +18,7 @@ use Rattle.code_laws.specs.Checked.{IsChecked}
 use Rattle.code_laws.proofs.Lives.{asks_as}
 use Rattle.accepted_cells.proofs.Checking.{checked_is}
 use Rattle.task_machine.specs.MachineData.{MachineData}
-use Rattle.task_steps.specs.declared.steps.phase.Phase.TheVariants as phases
+use Rattle.task_steps.specs.Phases as phases
 use Rattle.controller.specs.Answered.{AreCodesOf}
 use Rattle.controller.specs.Loaded.{HasScript, made_with}
 use Rattle.controller.proofs.Lists.{take-element}

@@ -1,5 +1,5 @@
 -- The fates of the tasks, one by one.
-use Rattle.std.proofs.Common.{◌≡◌, ℕ, zero, suc, ◌+◌, ◌<◌, List, [], ◌∷◌, ◌++◌, length, drop, get_or, refl, ap, sym, ◌∙◌, inl, inr, arith, length-append, add-one, drop-cons}
+use Rattle.std.proofs.Common.{◌≡◌, ℕ, zero, suc, ◌+◌, ◌<◌, List, [], ◌∷◌, ◌++◌, length, drop, get_or, ap, sym, ◌∙◌, inl, inr, arith, add-one, drop-cons}
 use Rattle.std.proofs.Math.ListN.{get_or-append}
 use Rattle.std.proofs.Math.Seq.{get_or-append_seam}
 use Rattle.std.proofs.lemmas.Bool.{cases_lt}
@@ -7,12 +7,7 @@ use Rattle.rapid_model.specs.CellData.{CellData}
 use Rattle.rapid_model.specs.declared.event.Event.{Event}
 use Rattle.rapid_model.specs.declared.fate.Fate.{Fate}
 use Rattle.cell_meaning.specs.Fates.{fate_after, fates_after}
-
-pub length-fates_after : (cell : CellData) (history : List Event) (n : ℕ) → length (fates_after cell history n) ≡ n
-length-fates_after cell history zero = refl
-length-fates_after cell history (suc n) =
-    let h = length-fates_after cell history n in
-    let e = length-append (fates_after cell history n) (fate_after cell history n ∷ []) in omega (arith, h, e)
+use Rattle.cell_meaning.proofs.Fates.{length-fates_after}
 
 pub get_or-fates_after : (cell : CellData) (history : List Event) (n k : ℕ) (d : Fate) → k < n → get_or (fates_after cell history n) k d ≡ fate_after cell history k
 get_or-fates_after cell history zero k d lt = absurd (omega arith)

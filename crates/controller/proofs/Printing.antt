@@ -1,18 +1,24 @@
 -- Printing one line after another.
-use Rattle.std.proofs.Common.{◌≡◌, ℕ, ◌+◌, ◌<◌, List, [], ◌∷◌, ◌++◌, length, drop, get_or, ap, sym, ◌∙◌, subst, inl, inr, arith, append_assoc}
+use Rattle.std.proofs.Common.{◌≡◌, ℕ, ◌+◌, ◌<◌, Bool, false, List, [], ◌∷◌, ◌++◌, length, drop, get_or, ap, sym, ◌∙◌, refl, subst, inl, inr, arith, append_assoc}
 use Rattle.std.specs.Prelude.{Some, map, slice_get}
+use Rattle.std.proofs.lemmas.Bool.{true≢false}
 use Rattle.std.proofs.lemmas.Option.{slice_get_cases, get_or_from_slice_get}
 use Rattle.rapid_model.specs.CellData.{CellData}
+use Rattle.rapid_model.specs.declared.answer.Answer.{Answer}
 use Rattle.rapid_model.specs.declared.event.Event.{Event}
+use Rattle.rapid_model.specs.declared.request.Request.{Request}
+use Rattle.rapid_model.specs.declared.request.Request.TheVariants as requests
 use Rattle.rapid_model.specs.declared.task_row.TaskRow.{TaskRow}
 use Rattle.rapid_model.specs.declared.fate.Fate.{Fate}
 use Rattle.cell_meaning.specs.Fates.{fate_after, fates_after}
-use Rattle.history_text.specs.Lines.{fate_line, fate_lines}
+use Rattle.history_pages.specs.Requests.{is_lined}
+use Rattle.history_text.specs.Lines.{fate_line, fate_lines, line_between, line_of, task_name}
 use Rattle.controller.proofs.Fates.{drop-fates_after}
+use Rattle.controller.specs.EventsShown.{shown_line}
 use Rattle.controller.specs.Printed.{Seen, Sunk}
 use Rattle.controller.specs.Written.{WritesAll, WritesPart}
 use Rattle.controller.proofs.Lists.{drop-at, drop-element}
-use Rattle.controller.proofs.Gains.{between, wrote_more, wrote_part, wrote_first}
+use Rattle.controller.proofs.Gains.{between, gained_none, wrote_more, wrote_part, wrote_first}
 
 -- of all lines, these are still to be written
 pub record Printing (all rest : List (List ℕ)) (sink : Sunk) : Type 0 where
@@ -89,3 +95,35 @@ pub fate_failed : (cell : CellData) (history : List Event) (k : ℕ) (row : Task
 fate_failed cell history k row fate all a b c lt is same w p =
     printing_fails all (fate_line row.name fate) (fate_lines (drop (k + 1) cell.tasks) (drop (k + 1) (fates_after cell history (length cell.tasks)))) a b c
     (subst (λ (rest : List (List ℕ)). Printing all rest (between a b)) (fates_left cell history k row fate lt is same) p) w
+
+-- an event has no line unless it asks for a setpoint or a text to the operator
+line_of_none : (name : List ℕ) (request : Request) (answer : Answer) → is_lined request ≡ false → line_between name request answer ≡ []
+line_of_none name (requests.Setpoint to) answer is = absurd (true≢false is)
+line_of_none name (requests.Say text tail) answer is = absurd (true≢false is)
+line_of_none name _ answer is = refl
+
+pub unlined : (tasks : List TaskRow) (e : Event) → is_lined e.request ≡ false → line_of tasks e ≡ []
+unlined tasks e is = line_of_none (task_name tasks e.actor) e.request e.answer is
+
+-- an empty line is written by no call
+wrote_none : (sink : Seen) → WritesAll ([] ∷ []) (between sink sink)
+wrote_none sink = record {
+  bytes = gained_none sink.bytes;
+  calls = record { calls = []; holds = ([], [], refl, refl, refl); gained = gained_none sink.calls };
+  faults = omega arith;
+}
+
+pub line_skipped : (full : Bool) (tasks : List TaskRow) (e : Event) (sink : Seen) → full ≡ false → line_of tasks e ≡ [] → WritesAll (shown_line full tasks e ∷ []) (between sink sink)
+line_skipped full tasks e sink short none =
+    subst (λ (line : List ℕ). WritesAll (line ∷ []) (between sink sink)) (sym (ap (λ (b : Bool). shown_line b tasks e) short ∙ none)) (wrote_none sink)
+
+-- this event of the history, which is e, has no line
+no_bytes : (line : List ℕ) → (0 < length line → ⊥) → line ≡ []
+no_bytes [] none = refl
+no_bytes (b ∷ bs) none = absurd (none (omega arith))
+
+pub without_line : (tasks : List TaskRow) (history : List Event) (k : ℕ) (read e : Event) → slice_get history k ≡ Some read → slice_get history k ≡ Some e → (0 < length (line_of tasks read) → ⊥) → line_of tasks e ≡ []
+without_line tasks history k read e is at none =
+    let both : Some read ≡ Some e = sym is ∙ at in
+    let same : read ≡ e = cc in
+    ap (line_of tasks) (sym same) ∙ no_bytes (line_of tasks read) none

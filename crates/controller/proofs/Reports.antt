@@ -1,16 +1,14 @@
 -- The report of a run.
 use Rattle.std.proofs.Common.{◌≡◌, ℕ, List, [], length, None, Some, ap, sym, ◌∙◌, subst, inl, inr}
-use Rattle.rapid_model.specs.CellData.{CellData, IsCell}
+use Rattle.rapid_model.specs.CellData.{CellData}
 use Rattle.rapid_model.specs.declared.event.Event.{Event}
 use Rattle.typed_trees.specs.Plain.{TypedTree}
 use Rattle.rapid_meaning.specs.Asking.{tree_asks}
 use Rattle.cell_meaning.specs.Asking.{with_inputs}
 use Rattle.cell_meaning.specs.Fates.{fates_after}
 use Rattle.cell_meaning.specs.Histories.{IsLegal, IsWhole}
-use Rattle.cell_meaning.specs.Premises.{StartsFull, TasksAskWell}
+use Rattle.cell_meaning.specs.Premises.{TasksAskWell}
 use Rattle.cell_meaning.specs.Turns.{IsByTurns}
-use Rattle.cell_meaning.proofs.ByTurns.{by_turns_legal, by_turns_whole}
-use Rattle.cell_meaning.proofs.InputScript.{asks_what_it_may, only_actors}
 use Rattle.controller.specs.declared.report.Report.{Report}
 use Rattle.controller.specs.declared.refused.Refused.TheVariants.{Write}
 use Rattle.controller.specs.Refusals.{status_of, refusal_text}
@@ -67,23 +65,13 @@ run_of cell trees history report sound tells =
       stalled = λ status task within going. stalled_wait cell trees report.history.items sound.well legal whole status task within going;
     }
 
--- a round-robin run is such a history
-turns_sound : (cell : CellData) (trees : List TypedTree) (history : List Event) → IsCell cell → StartsFull cell → TasksAskWell (tree_asks trees) cell
-    → IsByTurns (with_inputs (tree_asks trees) cell) cell history → IsSound cell trees history
-turns_sound cell trees history limits full well run = record {
-  well = well;
-  legal = by_turns_legal (with_inputs (tree_asks trees) cell) cell history limits full (asks_what_it_may (tree_asks trees) cell well) run;
-  whole = by_turns_whole (with_inputs (tree_asks trees) cell) cell history (only_actors (tree_asks trees) cell) run;
-}
-
 -- the core's report answers the round-robin run of the cell
-pub turns_answered : (shown : Shown) (cell here : CellData) (trees seen : List TypedTree) (history : List Event) (report : Report) (out err : Sunk) → here ≡ cell → seen ≡ trees → IsCell cell → StartsFull cell
-    → TasksAskWell (tree_asks seen) cell → IsByTurns (with_inputs (tree_asks seen) cell) cell history → AnswersRun (TellsRun here history) shown here report out err
-    → RunsOrMemory (IsRunByTurns cell trees) shown cell report out err
-turns_answered shown cell here trees seen history report out err same alike limits full well run answered =
+pub turns_answered : (shown : Shown) (cell here : CellData) (trees seen : List TypedTree) (history : List Event) (report : Report) (out err : Sunk) → here ≡ cell → seen ≡ trees → IsSound cell seen history
+    → IsByTurns (with_inputs (tree_asks seen) cell) cell history → AnswersRun (TellsRun here history) shown here report out err → RunsOrMemory (IsRunByTurns cell trees) shown cell report out err
+turns_answered shown cell here trees seen history report out err same alike sound run answered =
     let told : AnswersRun (TellsRun cell history) shown cell report out err = subst (λ (c : CellData). AnswersRun (TellsRun c history) shown c report out err) same answered in
     let follows : TellsRun cell history report → IsRunByTurns cell seen report = λ tells. record {
-      run = run_of cell seen history report (turns_sound cell seen history limits full well run) tells;
+      run = run_of cell seen history report sound tells;
       by_turns = subst (λ (h : List Event). IsByTurns (with_inputs (tree_asks seen) cell) cell h) (sym tells.history_is) run;
     } in
     inr (subst (λ (ts : List TypedTree). AnswersRun (IsRunByTurns cell ts) shown cell report out err) alike (answered_as (TellsRun cell history) (IsRunByTurns cell seen) shown cell report out err follows told))

@@ -49,11 +49,14 @@ fn print_event<O: Sink>(out: &mut O, core: &Core, full: bool, k: u32) -> Result<
     requires { k < length core.now.history }
     ensures { (e : Event) → slice_get core.now.history k ≡ Some e → Writes (shown_line full core.now.cell.tasks e ∷ []) result (sunk O.told O.calls O.faults out.old out.new) }
 {
-    let event = core.lend_event(k);
-    if !full && !has_line(event) {
+    if !full && !core.is_lined(k) {
         return Ok(());
     }
-    print_line(out, &names_of(core.cell()), full, event)
+    let event = core.event(k);
+    if !full && !has_line(&event) {
+        return Ok(());
+    }
+    print_line(out, &names_of(core.cell()), full, &event)
 }
 
 /// Prints the line of an event.

@@ -11,6 +11,12 @@ use outside::{Failed, Sink};
 use rapid_model::{Answer, Event, PartName, Path, Request, Value};
 use value_text::{push_count, push_value};
 
+/// Room for a line with a count, in bytes.
+const COUNT_LINE_BYTES: usize = 64;
+
+/// Room for the line with a value, in bytes.
+const TOTAL_LINE_BYTES: usize = 256;
+
 /// Prints the number of events of a run, the number of setpoints given, and the last value of the cell's first
 /// persistent.
 pub(crate) fn print_summary<O: Sink>(out: &mut O, core: &Core) -> Result<(), Failed>
@@ -26,7 +32,7 @@ fn print_count<O: Sink>(out: &mut O, name: &'static str, count: u32) -> Result<(
     requires { length name.now ≤ 20 }
     ensures { Writes (summary_line name.now (decimal count) ∷ []) result (sunk O.told O.calls O.faults out.old out.new) }
 {
-    let mut line = ArrayString::<64>::new();
+    let mut line = ArrayString::<COUNT_LINE_BYTES>::new();
     line.push_str("L ");
     line.push_str(name);
     line.push(' ');
@@ -39,14 +45,14 @@ fn print_count<O: Sink>(out: &mut O, name: &'static str, count: u32) -> Result<(
 fn print_total<O: Sink>(out: &mut O, total: Option<Value>) -> Result<(), Failed>
     ensures { Writes (summary_line (codes "total") (total_words total) ∷ []) result (sunk O.told O.calls O.faults out.old out.new) }
 {
-    let mut line = ArrayString::<256>::new();
+    let mut line = ArrayString::<TOTAL_LINE_BYTES>::new();
     line.push_str("L total ");
     push_total(total, &mut line);
     line.push('\n');
     write_all(out, line.as_str().as_bytes())
 }
 
-fn push_total(total: Option<Value>, line: &mut ArrayString<256>)
+fn push_total(total: Option<Value>, line: &mut ArrayString<TOTAL_LINE_BYTES>)
     requires { length line.old.bytes ≤ 8 }
     ensures text { line.new.bytes ≡ line.old.bytes ++ total_words total }
     ensures short { length line.new.bytes ≤ 208 }
@@ -62,7 +68,7 @@ fn all_given(core: &Core) -> u32
 {
     let mut given = 0;
     for k in 0..core.len() {
-        if is_given(core.lend_event(k)) {
+        if is_given(&core.event(k)) {
             given += 1;
         }
     }

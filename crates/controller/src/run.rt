@@ -1,6 +1,5 @@
 ghost use Rattle.std.specs.Prelude.{◌≡◌, All, IfOk, map, length};
 ghost use Rattle.std.specs.List.{list_any, AllByRecursion};
-ghost use Rattle.rapid_model.specs.CellData.{IsCell};
 ghost use Rattle.typed_trees.specs.Views.{view_tree};
 ghost use Rattle.stack_code.specs.Compiled.{compiled};
 ghost use Rattle.task_code.specs.Asking.{CodeAsks};
@@ -8,11 +7,11 @@ ghost use Rattle.task_code.specs.Live.{CodeFits};
 ghost use Rattle.code_laws.specs.Checked.{IsChecked};
 ghost use Rattle.cell_meaning.specs.Asking.{with_inputs};
 ghost use Rattle.cell_meaning.specs.Fates.{fates_after};
-ghost use Rattle.cell_meaning.specs.Premises.{StartsFull};
+ghost use Rattle.cell_meaning.specs.Histories.{IsLegal, IsWhole};
 ghost use Rattle.cell_meaning.specs.Turns.{IsByTurns};
 ghost use Rattle.cell_crew.specs.Courses.{SuitTasks};
 ghost use Rattle.cell_crew.specs.Crew.{AskAsPrograms};
-ghost use Rattle.task_steps.specs.declared.steps.phase.Phase.TheVariants as phases;
+ghost use Rattle.task_steps.specs.Phases as phases;
 ghost use Rattle.controller.specs.Loaded.{made_of, HasScript};
 ghost use Rattle.controller.specs.Runs.{is_fault, run_status, IsRunByTurns, TellsRun};
 ghost use Rattle.controller.specs.Printed.{sunk};
@@ -29,7 +28,7 @@ use accepted_cells::{
 };
 use cell_core::Core;
 use cell_crew::run_round;
-use cell_meaning::{Askers, starts_full};
+use cell_meaning::Askers;
 use outside::Sink;
 use rapid_model::{Cell, Fate};
 use std::alloc::{AllocError, Global};
@@ -52,7 +51,6 @@ pub(crate) fn run_cell<O: Sink, E: Sink>(
     accepted_tasks_ask_as_their_code();
     accepted_code_suits_its_task();
     let CheckedCell { cell, trees } = accepted;
-    within_limits(&cell);
     match run_tasks::<Brand>(alloc, cell, trees.as_slice()) {
         Ok(core) => report_run(core, shown, out, err),
         Err(_) => refuse(alloc, err, "", Refused::Memory),
@@ -67,6 +65,8 @@ fn run_tasks<A: Askers>(alloc: Global, cell: Cell, trees: &[Tree]) -> Result<Cor
     requires suit { SuitTasks CodeFits CodeAsks cell (map compiled (map view_tree trees.now)) }
     ensures cell { IfOk result (λ core. core.cell ≡ cell) }
     ensures by_turns { IfOk result (λ core. IsByTurns (with_inputs A.asks cell) cell core.history) }
+    ensures legal { IfOk result (λ core. IsLegal (with_inputs A.asks cell) cell core.history) }
+    ensures whole { IfOk result (λ core. IsWhole (with_inputs A.asks cell) cell core.history) }
 {
     let machines = crew_of(alloc, trees)?;
     match Core::new(alloc, cell) {
@@ -133,15 +133,6 @@ pub(crate) fn report_run<O: Sink, E: Sink>(
             }
         }
     }
-}
-
-/// A cell is within its limits, and its persistents are full at the start.
-fn within_limits(cell: &Cell)
-    ensures limits { IsCell cell.now }
-    ensures full { StartsFull cell.now }
-{
-    prove!(cell.steps() > 0);
-    starts_full(cell);
 }
 
 /// The status of a printed run: if all tasks ended, 1 if one ended with a fault, else 0; otherwise 9 if the steps are

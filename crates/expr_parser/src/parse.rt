@@ -14,7 +14,8 @@ use raw_trees::RawExpr;
 use std::alloc::Global;
 
 /// The expression that starts at token `at`, and the number of the token after it. `depth` levels of nesting are open
-/// before token `at`, and `end` is the length of the text in bytes.
+/// before token `at`, and `end` is the length of the text in bytes. The parsers of statements and modules call the
+/// parts, with one `Parser` for a text; this is for a tool that parses one expression.
 pub fn parse_expr<'a>(
     alloc: Global,
     tokens: &[Token<'a>],

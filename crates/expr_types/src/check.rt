@@ -26,7 +26,7 @@ use typed_trees::{Arg, Expr, TreePlace};
 
 /// The typed form of an expression at the spot. The error is the first rule broken in it, from left to right and parts
 /// before the whole, except NotConst and ConstFault, which apply only to constants (RAPID Overview, expressions; RAPID
-/// Kernel, expressions).
+/// Kernel, expressions). Checking a task calls `typed`, with one `Site`; this is for a tool that checks one expression.
 pub fn check_expr(
     alloc: Global,
     scopes: &Scopes,

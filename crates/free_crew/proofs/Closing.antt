@@ -4,9 +4,8 @@ use Rattle.std.specs.Prelude.{Any, slice_get}
 use Rattle.std.specs.List.{AllByRecursion}
 use Rattle.std.proofs.lemmas.Bool.{cases_lt}
 use Rattle.std.proofs.lemmas.List.Elements.{All-from_recursion, All-push, recursion_from_All}
-use Rattle.std.proofs.lemmas.Option.{get_or_from_slice_get, slice_get_within}
 use mathlib.Core.List.{IsPrefix}
-use Rattle.rapid_model.proofs.Lists.{between, in_front, there_is}
+use Rattle.rapid_model.proofs.Lists.{between, in_front, some_at, there_is}
 use Rattle.rapid_model.specs.Own.{part_of}
 use Rattle.rapid_model.specs.declared.answer.Answer.{Answer}
 use Rattle.rapid_model.specs.declared.event.Event.{Event}
@@ -29,9 +28,6 @@ use Rattle.free_crew.proofs.Rows.{job_of, job_parts, job_there, jobs_length}
 all_from : {A : Type 0} (Q : A → Type 0) (xs : List A) → ((k : ℕ) (x : A) → slice_get xs k ≡ Some x → Q x) → AllByRecursion Q xs
 all_from Q [] at = tt
 all_from Q (x ∷ xs) at = (at 0 x refl, all_from Q xs (λ k y is. at (suc k) y is))
-
-some_at : {A : Type 0} (Q : A → Type 0) (xs : List A) (k : ℕ) (x : A) → slice_get xs k ≡ Some x → Q x → Any Q xs
-some_at Q xs k x at so = (k, x, slice_get_within xs k x at, get_or_from_slice_get xs k x x at, so)
 
 -- each pass of a row is one of a task
 pass_there : {M : Type 0} (ms : List M) (ps : List PassData) (ss : List Standing) (k : ℕ) (p : PassData) → length ps ≡ length ms → length ss ≡ length ms → slice_get ps k ≡ Some p

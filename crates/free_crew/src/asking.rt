@@ -1,6 +1,7 @@
 //! One request of a task.
-ghost use Rattle.std.specs.Prelude.{◌≡◌, Some, is_some, false};
+ghost use Rattle.std.specs.Prelude.{◌≡◌, Some, IsSome, is_some, false};
 ghost use Rattle.rapid_model.specs.Own.{fate_of, is_rise};
+ghost use Rattle.rapid_model.specs.declared.request.Request.{Request};
 ghost use Rattle.rapid_model.specs.declared.request.Request.TheVariants as requests;
 ghost use Rattle.free_crew.specs.Amid.{GoesOnAs, IsAmid, is_stopped};
 
@@ -30,24 +31,25 @@ impl<M: TaskMachine> Job<M> {
         requires going { is_stopped self.old.standing ≡ false }
         ensures { GoesOnAs M.program M.fits M.asks M.stands_for M.due gate.now task self.old self.new }
     {
-        let request = self.machine.last();
-        if is_rise(&request) {
+        if is_rise(self.machine.last()) {
             self.rise(rt, gate, task);
         } else {
-            self.ask(rt, gate, task, request);
+            self.ask(rt, gate, task);
         }
     }
 
     /// Makes the request that is due, which is always enabled.
-    fn ask<R: Wait>(&mut self, rt: &R, gate: &Gate, task: u32, request: Request)
+    fn ask<R: Wait>(&mut self, rt: &R, gate: &Gate, task: u32)
         requires amid { IsAmid M.program M.fits M.asks M.stands_for M.due gate.now task self.old }
         requires going { is_stopped self.old.standing ≡ false }
-        requires due { M.due self.old.machine ≡ Some request }
-        requires plain { is_rise request ≡ false }
+        requires due { IsSome (M.due self.old.machine) }
+        requires plain { (request : Request) → M.due self.old.machine ≡ Some request → is_rise request ≡ false }
         ensures { GoesOnAs M.program M.fits M.asks M.stands_for M.due gate.now task self.old self.new }
     {
-        let ends = is_end(&request);
-        match gate.act(rt, &mut self.pass, request) {
+        let request = self.machine.last();
+        let ends = is_end(request);
+        let acted = gate.act(rt, &mut self.pass, request);
+        match acted {
             Acted::Spent => self.standing = Standing::Cut,
             Acted::Done(answer) => {
                 // A machine gets no answer to its End.

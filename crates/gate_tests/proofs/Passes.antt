@@ -1,8 +1,8 @@
 -- The passes of a gate with one task.
-use Rattle.std.proofs.Common.{◌≡◌, ℕ, zero, suc, ◌+◌, ◌≤◌, List, [], ◌∷◌, ◌++◌, length, length-append, Some, refl, sym, ◌∙◌, ap, subst, arith}
-use Rattle.std.specs.Prelude.{Any, slice_get}
+use Rattle.std.proofs.Common.{◌≡◌, ℕ, zero, suc, ◌+◌, ◌≤◌, List, [], ◌∷◌, ◌++◌, length, length-append, refl, sym, ◌∙◌, ap, subst, arith}
+use Rattle.std.specs.Prelude.{Any}
 use Rattle.std.proofs.lemmas.List.Elements.{All-from_recursion}
-use Rattle.std.proofs.lemmas.Option.{get_or_from_slice_get, slice_get_within}
+use Rattle.rapid_model.proofs.Lists.{some_at}
 use Rattle.cell_gate.specs.Calls.{AreAllPasses, fresh_pass, fresh_passes}
 use Rattle.cell_gate.specs.GateData.{GateData}
 use Rattle.cell_gate.specs.PassData.{PassData}
@@ -28,9 +28,6 @@ the_two gate tasks all task script one fresh is =
 
 pub new_going : (gate : GateData) (task : PassData) → length gate.cell.tasks ≡ 1 → task ≡ fresh_pass gate 0 → IsGoing task
 new_going gate task one is = subst (λ (p : PassData). IsGoing p) (sym is) (record { within = omega (arith, one); alive = refl; free = refl })
-
-some_at : {A : Type 0} (Q : A → Type 0) (xs : List A) (k : ℕ) (x : A) → slice_get xs k ≡ Some x → Q x → Any Q xs
-some_at Q xs k x at so = (k, x, slice_get_within xs k x at, get_or_from_slice_get xs k x x at, so)
 
 -- they may close the gate
 pub both_passes : (gate : GateData) (passes : List PassData) (task script : PassData) → passes ≡ script ∷ task ∷ [] → length gate.cell.tasks ≡ 1 → task.gate ≡ gate → task.actor ≡ 0

@@ -14,7 +14,7 @@ pub fn look<R: Wait>(rt: &R, gate: &Gate, pass: &mut Pass) -> Acted
     ensures same { IsSameHolder pass.old pass.new }
     ensures going { IsGoing pass.new }
 {
-    gate.act(rt, pass, Request::Look)
+    gate.act(rt, pass, &Request::Look)
 }
 
 // A Hold. Returns whether the task is then held.
@@ -24,7 +24,7 @@ pub fn hold<R: Wait>(rt: &R, gate: &Gate, pass: &mut Pass, seen: u32) -> bool
     ensures same { IsSameHolder pass.old pass.new }
     ensures held { IsTrue result → IsHeld pass.new }
 {
-    match gate.act(rt, pass, Request::Hold { seen }) {
+    match gate.act(rt, pass, &Request::Hold { seen }) {
         Acted::Done(_) => true,
         Acted::Spent => false,
     }

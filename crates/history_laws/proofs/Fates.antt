@@ -1,5 +1,5 @@
 -- The fates of the tasks after a history.
-use Rattle.std.proofs.Common.{◌≡◌, ℕ, zero, suc, ◌==◌, Bool, true, false, List, [], ◌∷◌, length, Option, Some, None, refl, subst, arith, length-append}
+use Rattle.std.proofs.Common.{◌≡◌, ℕ, zero, suc, ◌==◌, Bool, true, false, List, [], ◌∷◌, Option, Some, None, refl, subst}
 use Rattle.std.specs.Prelude.{if◌then◌else◌}
 use Rattle.std.specs.List.{AllByRecursion}
 use Rattle.std.specs.Option.{option_or}
@@ -10,9 +10,10 @@ use Rattle.rapid_model.specs.declared.fate.Fate.{Fate}
 use Rattle.rapid_model.specs.declared.fate.Fate.TheVariants.{Cut, Held}
 use Rattle.rapid_model.specs.declared.request.Request.{Request}
 use Rattle.rapid_model.specs.declared.request.Request.TheVariants as requests
+use Rattle.rapid_model.proofs.Lists.{all_more}
 use Rattle.cell_meaning.specs.Fates.{fate_after, fates_after, is_spent}
 use Rattle.history_text.specs.InRange.{IsEvent, IsFate, IsRequest}
-use Rattle.history_laws.proofs.Lists.{filter_all, one_more}
+use Rattle.history_laws.proofs.Lists.{filter_all}
 
 -- the fate in a request, else the one in later events
 told : (request : Request) (later : Option Fate) (fate : Fate) → IsRequest request → ((f : Fate) → later ≡ Some f → IsFate f) → option_or (fate_of request) later ≡ Some fate → IsFate fate
@@ -41,11 +42,4 @@ fate_in cell history task all =
 
 pub fates_in : (cell : CellData) (history : List Event) (tasks : ℕ) → AllByRecursion IsEvent history → AllByRecursion IsFate (fates_after cell history tasks)
 fates_in cell history zero all = tt
-fates_in cell history (suc tasks) all = one_more IsFate (fates_after cell history tasks) (fate_after cell history tasks) (fates_in cell history tasks all) (fate_in cell history tasks all)
-
-pub fates_count : (cell : CellData) (history : List Event) (tasks : ℕ) → length (fates_after cell history tasks) ≡ tasks
-fates_count cell history zero = refl
-fates_count cell history (suc tasks) =
-    let before = fates_count cell history tasks in
-    let sum = length-append (fates_after cell history tasks) (fate_after cell history tasks ∷ []) in
-    omega (arith, before, sum)
+fates_in cell history (suc tasks) all = all_more IsFate (fates_after cell history tasks) (fate_after cell history tasks) (fates_in cell history tasks all) (fate_in cell history tasks all)

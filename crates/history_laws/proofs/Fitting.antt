@@ -18,7 +18,8 @@ use Rattle.history_text.proofs.NamesApart.{cell_is_named}
 use Rattle.history_text.proofs.NextLines.{spelled_has_no_fault}
 use Rattle.history_text.proofs.OneHistory.{read_once}
 use Rattle.history_laws.specs.Shown.{HasNoExternalAxes, names_in}
-use Rattle.history_laws.proofs.Fates.{fates_count, fates_in}
+use Rattle.cell_meaning.proofs.Fates.{length-fates_after}
+use Rattle.history_laws.proofs.Fates.{fates_in}
 use Rattle.history_laws.proofs.Lists.{both_all, from_cuts}
 use Rattle.history_laws.proofs.Named.{event_named}
 
@@ -39,7 +40,7 @@ legal_fits asks cell history h = record {
       (from_cuts (λ e. IsTrue (event_fits (names_in cell) e)) history [] history refl
       (λ before after e is. event_named cell (part_of e.actor before) e h.limits h.axes (answered.might before after e is) (h.legal.fits before after e is)));
   fates = fates_in cell history (length cell.tasks) h.ranges;
-  few = let count : length (fates_of cell history) ≡ length cell.tasks = fates_count cell history (length cell.tasks) in omega (arith, count);
+  few = let count : length (fates_of cell history) ≡ length cell.tasks = length-fates_after cell history (length cell.tasks) in omega (arith, count);
 }
   where
     answered : AllAnswered cell history

@@ -20,7 +20,7 @@ use Rattle.cell_meaning.proofs.Positions.{row_axes}
 use Rattle.history_text.specs.Named.{answer_fits, event_fits, fitting_by, has_actor, has_task, request_fits}
 use Rattle.history_laws.specs.Shown.{HasNoExternalAxes, names_in}
 use Rattle.history_laws.proofs.Asked.{read_named, six_axes, tested_named, written_named}
-use Rattle.history_laws.proofs.Lists.{starts_at}
+use Rattle.rapid_model.proofs.TaskRows.{starts_at}
 
 -- an answer with a number may have any number
 number_named : (cell : CellData) (actor : ℕ) (mine : List Event) (request : Request) (number : ℕ) → fits_request (fitting_in cell actor mine) request (answers.Number number) ≡ true

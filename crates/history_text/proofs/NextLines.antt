@@ -9,6 +9,7 @@ use Rattle.std.specs.Prelude.{IsTrue, slice_get}
 use Rattle.rapid_model.specs.declared.event.Event.{Event}
 use Rattle.rapid_model.specs.declared.fate.Fate.{Fate}
 use Rattle.rapid_model.specs.declared.task_row.TaskRow.{TaskRow}
+use Rattle.rapid_model.proofs.Lists.{all_more}
 use Rattle.history_text.specs.EventLines.{event_line}
 use Rattle.history_text.specs.HistoryText.{AreNamed, Begins, IsFirstFault, IsHistory, Spells, history_lines, lines_in}
 use Rattle.history_text.specs.InRange.{IsEvent, IsFate}
@@ -63,10 +64,6 @@ next_is_none names [] (f ∷ fs) line more (g ∷ gs) ends none few history same
     no_event_after (row ∷ rows) tasks' g f fs line more rest few same = event_is_no_fate tasks' g row.name f (let first : event_line tasks' g ≡ fate_line row.name f = cc in first)
 
 -- reading goes on by a line
-
-all_more : {A : Type 0} (P : A → Type 0) (xs : List A) (x : A) → AllByRecursion P xs → P x → AllByRecursion P (xs ++ x ∷ [])
-all_more P [] x h p = (p, tt)
-all_more P (y ∷ ys) x h p = (h.0, all_more P ys x h.1 p)
 
 one_event_more : (names : NamesData) (events : List Event) (e : Event) → history_lines names (events ++ e ∷ []) [] ≡ history_lines names events [] ++ event_line names.tasks e ∷ []
 one_event_more names [] e = rw (no_fates names.tasks) refl

@@ -1,14 +1,15 @@
 -- A number that was written is read back, whatever follows that is not part of it.
-use Rattle.std.proofs.Common.{◌≡◌, ◌≢◌, ℕ, suc, ◌+◌, ◌-◌, ◌*◌, ◌/◌, ◌%◌, ◌^◌, ◌<◌, ◌≤◌, Bool, true, false, List, [], ◌∷◌, ◌++◌, length, Some, None, ℤ, pos, negsuc, refl, sym, ap, ◌∙◌, arith, decimal, append_assoc, inl, inr}
+use Rattle.std.proofs.Common.{◌≡◌, ℕ, suc, ◌+◌, ◌-◌, ◌*◌, ◌/◌, ◌%◌, ◌^◌, ◌<◌, ◌≤◌, Bool, true, false, List, [], ◌∷◌, ◌++◌, length, Some, None, ℤ, pos, negsuc, refl, sym, ap, ◌∙◌, arith, decimal, append_assoc, inl, inr}
 use Rattle.std.proofs.lemmas.Bool.{cases_eq}
 use Rattle.std.proofs.lemmas.Bool.Decides.{nat_tests}
 use Rattle.std.specs.List.{fold}
 use Rattle.std.specs.Prelude.{nat_lt, ◌==◌}
 use Rattle.rapid_num.specs.Characters.{is_digit}
 use Rattle.rapid_num.specs.Literal.{digit_value}
-use Rattle.rapid_num.specs.NumText.{fraction_text, shortest_text, three_digits}
+use Rattle.rapid_num.specs.NumText.{fraction_text, shortest_text}
 use Rattle.rapid_num.specs.Range.{IsNum, greatest, is_num}
 use Rattle.rapid_num.proofs.DecimalDigits.{AreDigits, decimal_text, one_more}
+use Rattle.rapid_num.proofs.ReadBack.{fraction_none, fraction_one, fraction_three, fraction_two}
 use Rattle.history_text.specs.Reading.{decimals_at, digit_at, digits_at, ends_num, ends_whole, fraction_at, minus_at, next_num, num_at, number_at, size_at, whole_at}
 use Rattle.history_text.proofs.AfterWord.{after_word_again}
 use Rattle.history_text.proofs.Stops.{GoesOn, GoesOn-append, GoesOn-cond, Stops, each}
@@ -109,18 +110,6 @@ two_decimals d e rest below small stops = rw (digit_again 100 d ((48 + e) ∷ re
 three_decimals : (d e f : ℕ) (rest : List ℕ) → d < 10 → e < 10 → f < 10 → decimals_at ((48 + d) ∷ (48 + e) ∷ (48 + f) ∷ rest) ≡ (d * 100 + e * 10 + f * 1, rest)
 unfolding decimals_at
 three_decimals d e f rest below small least = rw (digit_again 100 d ((48 + e) ∷ (48 + f) ∷ rest) below, digit_again 10 e ((48 + f) ∷ rest) small, digit_again 1 f rest least) refl
-
-fraction_none : (r : ℕ) → r ≡ 0 → fraction_text r ≡ []
-fraction_none r e = grind (arith, nat_tests)
-
-fraction_one : (r : ℕ) → r ≢ 0 → r % 100 ≡ 0 → fraction_text r ≡ 46 ∷ (48 + r / 100) ∷ []
-fraction_one r some e = grind (arith, nat_tests)
-
-fraction_two : (r : ℕ) → r ≢ 0 → r % 100 ≢ 0 → r % 10 ≡ 0 → fraction_text r ≡ 46 ∷ (48 + r / 100) ∷ (48 + r / 10 % 10) ∷ []
-fraction_two r some more e = grind (arith, nat_tests)
-
-fraction_three : (r : ℕ) → r ≢ 0 → r % 100 ≢ 0 → r % 10 ≢ 0 → fraction_text r ≡ 46 ∷ three_digits r
-fraction_three r some more most = grind (arith, nat_tests)
 
 fraction_again : (r : ℕ) (rest : List ℕ) → r < 1000 → Stops ends_num rest → fraction_at (fraction_text r ++ rest) ≡ (r, rest)
 unfolding fraction_at

@@ -2,6 +2,7 @@
 -- texts are short and printable, and lists have their type's length. So it holds of every event that a program has.
 use Rattle.std.specs.Prelude.{◌≡◌, ℕ, ℤ, ◌≤◌, ◌<◌, ◌^◌, List, length, Option, Some, None}
 use Rattle.std.specs.List.{AllByRecursion}
+use Rattle.rapid_limits.specs.declared.TheConstants.{LONGEST_STRING, MOST_AXES, ROBOT_AXES}
 use Rattle.rapid_num.specs.Range.{IsNum}
 use Rattle.rapid_num.specs.declared.shape.Bound.{Bound}
 use Rattle.rapid_num.specs.declared.shape.Shape.{Shape}
@@ -37,7 +38,7 @@ abbrev pub IsU32 : ℕ → Type 0
 IsU32 n = n < 2 ^ 32
 
 pub record IsText (bytes : List ℕ) : Type 0 where
-  pub short : length bytes ≤ 80
+  pub short : length bytes ≤ LONGEST_STRING
   pub printable : ArePrintable bytes
 
 -- this many nums
@@ -49,9 +50,9 @@ abbrev pub IsValue : Value → Type 0
 IsValue (values.Num n) = IsNum n
 IsValue (values.Bool b) = Unit {0}
 IsValue (values.Text text) = IsText text
-IsValue (values.Rob axes) = AreNums 6 axes
-IsValue (values.Ext axes) = AreNums 6 axes
-IsValue (values.Target joints) = AreNums 12 joints.axis
+IsValue (values.Rob axes) = AreNums ROBOT_AXES axes
+IsValue (values.Ext axes) = AreNums ROBOT_AXES axes
+IsValue (values.Target joints) = AreNums MOST_AXES joints.axis
 IsValue (values.Speed nums) = AreNums 4 nums
 
 abbrev pub IsPartName : PartName → Type 0
@@ -68,7 +69,7 @@ IsBound None = Unit {0}
 IsBound (Some bound) = IsNum bound.low × IsNum bound.high
 
 pub record IsShape (shape : Shape) : Type 0 where
-  pub count : length shape.bounds ≡ 12
+  pub count : length shape.bounds ≡ MOST_AXES
   pub bounds : AllByRecursion IsBound shape.bounds
 
 abbrev pub IsWatched : Watched → Type 0
@@ -97,7 +98,7 @@ IsRequest (requests.WriteP pers path value) = IsU32 pers × IsPath path × IsVal
 IsRequest (requests.TestSet pers path) = IsU32 pers × IsPath path
 IsRequest (requests.ReadS signal) = IsU32 signal
 IsRequest (requests.WriteS signal value) = IsU32 signal
-IsRequest (requests.Setpoint to) = AreNums 12 to.axis
+IsRequest (requests.Setpoint to) = AreNums MOST_AXES to.axis
 IsRequest (requests.Connect old trap) = IsU8 old × IsU32 trap
 IsRequest (requests.Order number on single) = IsU8 number × IsWatched on
 IsRequest (requests.Sleep number) = IsU8 number
@@ -119,7 +120,7 @@ abbrev pub IsAnswer : Answer → Type 0
 IsAnswer (answers.Go seen) = IsU32 seen
 IsAnswer (answers.Trap number trap) = IsU8 number × IsU32 trap
 IsAnswer (answers.Val value) = IsValue value
-IsAnswer (answers.At place) = AreNums 12 place.axis
+IsAnswer (answers.At place) = AreNums MOST_AXES place.axis
 IsAnswer (answers.Stopped zone) = IsZoneName zone
 IsAnswer (answers.Number number) = IsU8 number
 IsAnswer _ = Unit {0}

@@ -1,6 +1,7 @@
 -- The lines that are printed of a run. Each ends with 0A.
 use Rattle.std.specs.Prelude.{ℕ, ℤ, List, [], ◌∷◌, ◌++◌, map, Option, Some, None, codes, decimal, take, slice_get}
 use Rattle.std.specs.List.{concat}
+use Rattle.rapid_limits.specs.declared.TheConstants.{ROBOT_AXES}
 use Rattle.rapid_num.specs.NumText.{fixed_text, shortest_text}
 use Rattle.rapid_num.specs.declared.joints.Joints.{Joints}
 use Rattle.rapid_model.specs.CellData.{CellData}
@@ -33,7 +34,7 @@ task_name tasks actor = named (slice_get tasks actor)
 
 -- a setpoint that was given: S, the task, and axes 1 to 6 in degrees
 abbrev pub setpoint_line : List ℕ → Joints → List ℕ
-setpoint_line name to = codes "S " ++ (name ++ (number_words (take 6 to.axis) ++ codes "\n"))
+setpoint_line name to = codes "S " ++ (name ++ (number_words (take ROBOT_AXES to.axis) ++ codes "\n"))
 
 -- the tail of a text to the operator: a num without unnecessary digits, or a truth value
 abbrev pub tail_words : Tail → List ℕ

@@ -1,6 +1,7 @@
 -- The names of a cell, and which events fit them.
 use Rattle.std.specs.Prelude.{ℕ, Bool, true, false, ◌&&◌, nat_le, nat_lt, List, length, Option, slice_get}
 use Rattle.std.specs.Option.{option_map}
+use Rattle.rapid_limits.specs.declared.TheConstants.{MOST_AXES, ROBOT_AXES}
 use Rattle.rapid_num.specs.Reach.{is_position}
 use Rattle.rapid_model.specs.Fits.{Fitting, fits_pers, fits_request}
 use Rattle.rapid_model.specs.Requests.{may_tell}
@@ -48,7 +49,7 @@ has_watched names (watched.Pers pers) = has_pers names pers
 
 -- a part that some value has
 abbrev pub is_part : PartName → Bool
-is_part (parts.Axis number) = nat_lt number 12
+is_part (parts.Axis number) = nat_lt number MOST_AXES
 is_part (parts.SpeedPart number) = nat_lt number 4
 is_part _ = true
 
@@ -69,7 +70,7 @@ request_fits names actor (requests.TestSet pers path) = has_part names pers path
 request_fits names actor (requests.ReadS signal) = has_signal names signal
 request_fits names actor (requests.WriteS signal value) = has_signal names signal
 request_fits names actor requests.Position = has_task names actor
-request_fits names actor (requests.Setpoint to) = has_task names actor && is_position 6 to
+request_fits names actor (requests.Setpoint to) = has_task names actor && is_position ROBOT_AXES to
 request_fits names actor (requests.Order number on single) = has_watched names on
 request_fits names actor (requests.ZoneTie old temporary shape signal value) = has_signal names signal
 request_fits names actor (requests.End fate) = may_tell fate
@@ -78,7 +79,7 @@ request_fits names actor _ = true
 -- what answers must fit: the types of the persistents; any routine may be a trap, and no trap need be over; an arm has
 -- six axes
 abbrev pub fitting_by : NamesData → Fitting
-fitting_by names = record { sorts = pers_sort names; traps = λ trap. true; trapped = false; axes = 6 }
+fitting_by names = record { sorts = pers_sort names; traps = λ trap. true; trapped = false; axes = ROBOT_AXES }
 
 -- an answer with a number may have any number
 abbrev pub with_some_number : Answer → Answer

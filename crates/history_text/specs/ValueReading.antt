@@ -1,5 +1,6 @@
 -- Reading values, positions of an arm, shapes, and parts of persistents. These definitions are internal to proofs.
 use Rattle.std.specs.Prelude.{ℕ, ◌+◌, ◌-◌, ◌^◌, ℤ, Bool, true, false, ◌&&◌, nat_le, nat_lt, if◌then◌else◌, List, [], ◌∷◌, ◌++◌, codes, Option, Some, None}
+use Rattle.rapid_limits.specs.declared.TheConstants.{MOST_AXES, ROBOT_AXES}
 use Rattle.rapid_num.specs.Reach.{absent_axes}
 use Rattle.rapid_num.specs.declared.joints.Joints.{Joints}
 use Rattle.rapid_num.specs.declared.shape.Bound.{Bound}
@@ -49,7 +50,7 @@ value_at _ text = None
 
 -- a position of an arm, which has no external axes
 unfoldable pub place_at : List ℕ → Option (Joints × List ℕ)
-place_at text = nums_at 32 5 text >>= (λ s. Some (record { axis = s.0 ++ absent_axes 6 }, s.1))
+place_at text = nums_at 32 5 text >>= (λ s. Some (record { axis = s.0 ++ absent_axes (MOST_AXES - ROBOT_AXES) }, s.1))
 
 -- one of six axes: the number of the first one, and the byte that names it
 unfoldable pub axis_at : ℕ → ℕ → List ℕ → Option (PartName × List ℕ)
@@ -107,5 +108,5 @@ side_at text = or_else (after_word (codes "Inside") text) (λ rest. Some (true, 
 unfoldable pub shape_at : List ℕ → Option (Shape × List ℕ)
 shape_at text = do
   side ← side_at text
-  bounds ← many_at bound_at 12 side.1
+  bounds ← many_at bound_at MOST_AXES side.1
   Some (record { inside = side.0; bounds = bounds.0 }, bounds.1)

@@ -16,7 +16,7 @@ pub(crate) fn push_place(place: &Joints, line: &mut ArrayString<LINE_BYTES>)
     ensures text { line.new.bytes ≡ line.old.bytes ++ axes_words place.now }
     ensures short { length line.new.bytes ≤ length line.old.bytes + AXES_BYTES }
 {
-    push_nums(&place.axis[..6], line);
+    push_nums(&place.axis[..ROBOT_AXES], line);
 }
 
 /// Appends nums, with spaces between.

@@ -193,7 +193,7 @@ fn shape_is_in_range(shape: &Shape)
 }
 
 fn bounds_are_in_range(bounds: &[Option<Bound>; MOST_AXES])
-    ensures count { length bounds.now ≡ 12 }
+    ensures count { length bounds.now ≡ MOST_AXES }
     ensures range { AllByRecursion IsBound bounds.now }
 {
     for bound in bounds {

@@ -12,6 +12,7 @@ use Rattle.rapid_model.specs.declared.sort.Sort.{Sort}
 use Rattle.rapid_model.specs.declared.sort.Sort.TheVariants as sorts
 use Rattle.rapid_model.specs.declared.value.Value.{Value}
 use Rattle.rapid_model.specs.declared.value.Value.TheVariants as values
+use Rattle.rapid_model.proofs.Lists.{made_alike}
 use Rattle.persist_store.specs.Rows.{Bools, IsWithin, Kind, Nums, RowsData, Texts, end_of, kind, length_in, row_of, span, spliced, value_at, window, written}
 use Rattle.persist_store.specs.Stores.{PersData}
 use Rattle.persist_store.specs.declared.place.Place.{Place}
@@ -109,13 +110,6 @@ pub element_within : (rows : RowsData) (place : Place) (k : ℕ) → end_of plac
 element_within rows place k within less =
     let end : k * span place.sort + span place.sort ≤ width place.len * span place.sort = element_end k (width place.len) (span place.sort) less in
     omega arith
-
--- two lists made alike, index by index
-pub made_alike : {A : Type 0} (f g : ℕ → A) (count : ℕ) → ((k : ℕ) → k < count → f k ≡ g k) → map f (range_with_len 0 count) ≡ map g (range_with_len 0 count)
-made_alike f g count each =
-    same_lists (map f (range_with_len 0 count)) (map g (range_with_len 0 count)) (length-map-range_with_len f 0 count ∙ sym (length-map-range_with_len g 0 count))
-    (λ k d h. let below : k < count = subst (λ n. k < n) (length-map-range_with_len f 0 count) h in
-    get_or-map-range_with_len f 0 count k k d below (omega arith) ∙ each k below ∙ sym (get_or-map-range_with_len g 0 count k k d below (omega arith)))
 
 -- a persistent whose elements all stayed the same
 pub row_alike : (old new : RowsData) (place : Place) → ((k : ℕ) → k < width place.len → value_at new place.sort (place.from + k * span place.sort) ≡ value_at old place.sort (place.from + k * span place.sort)) → row_of new place ≡ row_of old place

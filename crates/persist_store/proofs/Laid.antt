@@ -16,10 +16,11 @@ use Rattle.rapid_model.specs.declared.sort.Sort.{Sort}
 use Rattle.rapid_model.specs.declared.sort.Sort.TheVariants as sorts
 use Rattle.rapid_model.specs.declared.value.Value.{Value}
 use Rattle.rapid_model.specs.declared.value.Value.TheVariants as values
+use Rattle.rapid_model.proofs.Lists.{made_alike}
 use Rattle.persist_store.specs.Rows.{AreApart, ArePut, Bools, Extends, IsAdded, IsLaid, IsWithin, Kind, Nums, RowsData, Texts, end_of, grown, kind, length_in, row_of, span, value_at, window}
 use Rattle.persist_store.specs.Stores.{PersData, first_row}
 use Rattle.persist_store.specs.declared.place.Place.{Place}
-use Rattle.persist_store.proofs.Apart.{element_end, element_within, made_alike, row_alike, value_by_nums}
+use Rattle.persist_store.proofs.Apart.{element_end, element_within, row_alike, value_by_nums}
 use Rattle.persist_store.proofs.Splices.{window-grown}
 
 -- the rows grow

@@ -99,7 +99,8 @@ pub fn first_named(rows: &[InstructionOption], name: &[u8]) -> Option<Instructio
 }
 
 /// The option with this name; `None` exactly if the instruction has none. Names are case-insensitive (RAPID Kernel,
-/// identifiers). Type checking calls this for each option of a call.
+/// identifiers). Type checking calls `first_named` on the options of a signature; this is for a tool that looks one
+/// option up.
 pub fn option_of(instruction: Instruction, name: &[u8]) -> Option<InstructionOption>
     ensures { option_map row_of result ≡ option_named name.now (options instruction) }
 {

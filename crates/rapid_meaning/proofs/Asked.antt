@@ -17,13 +17,12 @@ use Rattle.rapid_meaning.specs.Doings.{after}
 use Rattle.rapid_meaning.specs.Functions.{last_digits}
 use Rattle.rapid_meaning.specs.Instructions.{has}
 use Rattle.rapid_meaning.specs.Meetings.{with_tasks}
-use Rattle.rapid_meaning.specs.Moves.{setpoints}
 use Rattle.rapid_meaning.specs.Zones.{on_axes}
 use Rattle.rapid_meaning.specs.Runs.{Next, asks, ended, asked_after, data_after, deep, state_after}
 
 -- what a task asks before the first answer, before the second and so on, and after the last
 unfoldable pub asked_along : TypedTree → List Answer → List Answer → List Next
-unfolding asked_after data_after state_after deep performed after frame_at with_frame sort_of_pers last_digits on_axes has setpoints with_tasks greatest_change step_of
+unfolding asked_after data_after state_after deep performed after frame_at with_frame sort_of_pers last_digits on_axes has with_tasks greatest_change step_of
 asked_along tree before [] = asked_after tree before ∷ []
 asked_along tree before (a ∷ more) = asked_after tree before ∷ asked_along tree (before ++ a ∷ []) more
 

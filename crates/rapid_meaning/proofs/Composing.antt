@@ -6,7 +6,8 @@ use Rattle.rapid_model.specs.declared.fate.Fate.{Fate}
 use Rattle.rapid_model.specs.declared.request.Request.TheVariants.{End}
 use Rattle.rapid_meaning.specs.Answering.{Outcome, Gave, Raised, Asking, Ended, Misfits, Unfit, NoFuel, Run, joined, ending, performed}
 use Rattle.rapid_meaning.specs.Data.{Data}
-use Rattle.rapid_meaning.specs.Doings.{Doing, Gives, Raises, Asks, Ends, Misfit, Reads, Writes, Does, after}
+use Rattle.rapid_meaning.specs.Doings.{Doing, Gives, Raises, Asks, Ends, Misfit, Reads, Writes, Does, after, goes_to}
+use Rattle.rapid_meaning.specs.Flows.{Flow, Part}
 
 joined_joined : {A B C : Type 0} (o : Outcome A) (f : A → Data → List Answer → Outcome C) (h : ℕ → Data → List Answer → Outcome C)
     (g : A → Data → List Answer → Outcome B) (i : ℕ → Data → List Answer → Outcome B) (k : B → Data → List Answer → Outcome C) (l : ℕ → Data → List Answer → Outcome C)
@@ -49,6 +50,20 @@ performed_after by run (Does p k h) next failed d left =
     (λ flow e rest. performed by run (k flow) e rest) (λ x e rest. performed by run (h x) e rest)
     (λ v e rest. performed by run (next v) e rest) (λ n e rest. performed by run (failed n) e rest)
     (λ flow e rest. performed_after by run (k flow) next failed e rest) (λ x e rest. performed_after by run (h x) next failed e rest)
+
+joined_same : (o : Outcome Flow) → joined o (λ v e rest. Gave v e rest) (λ n e rest. Raised n e rest) ≡ o
+joined_same (Gave v d left) = refl
+joined_same (Raised n d left) = refl
+joined_same (Asking r d) = refl
+joined_same (Ended d) = refl
+joined_same Misfits = refl
+joined_same Unfit = refl
+joined_same NoFuel = refl
+
+-- a part of the program, which ends as that does
+pub goes_as : (by : Bool → Fitting) (run : Run) (p : Part) (d : Data) (left : List Answer) → performed by run (goes_to p) d left ≡ run p d left
+unfolding performed
+goes_as by run p d left = joined_same (run p d left)
 
 -- it asks nothing, changes no data, and gives this value
 abbrev pub Comes : {A : Type 0} → Doing A → Data → A → Type 0

@@ -4,7 +4,6 @@ use Rattle.std.specs.Prelude.{⊤}
 use Rattle.std.specs.Option.{option_and_then}
 use Rattle.rapid_model.specs.Fits.{Fitting, fits_request}
 use Rattle.rapid_model.specs.declared.answer.Answer.{Answer}
-use Rattle.rapid_model.specs.declared.fate.Fate.{Fate}
 use Rattle.rapid_model.specs.declared.fate.Fate.TheVariants as fates
 use Rattle.rapid_model.specs.declared.fate.Fault.{Fault}
 use Rattle.rapid_model.specs.declared.fate.Fault.TheVariants as faults
@@ -28,11 +27,11 @@ use Rattle.typed_trees.specs.Plain.{TypedExpr, TypedExprs, TypedRoutine, TypedSt
 use Rattle.typed_trees.specs.declared.datum.Lvalue.{Lvalue}
 use Rattle.typed_trees.specs.declared.expr.TreeRoot.{TreeRoot}
 use Rattle.rapid_meaning.specs.Answering as answering
-use Rattle.rapid_meaning.specs.Answering.{Asking, Misfits, Raised, Run, joined, ending, performed}
+use Rattle.rapid_meaning.specs.Answering.{Asking, Misfits, Raised, Run, joined, performed}
 use Rattle.rapid_meaning.specs.Constants.{HoldsArrays}
 use Rattle.rapid_meaning.specs.Data.{Data}
-use Rattle.rapid_meaning.specs.Doings.{Doing, Gives, Raises, Ends, Misfit, after, fault, or_misfit}
-use Rattle.rapid_meaning.specs.Expressions.{along, expr, exprs, place}
+use Rattle.rapid_meaning.specs.Doings.{Doing, Gives, Raises, Misfit, after, fault, or_misfit}
+use Rattle.rapid_meaning.specs.Expressions.{along, expr, exprs}
 use Rattle.rapid_meaning.specs.Layouts.{length_at}
 use Rattle.rapid_meaning.specs.Places.{at_root, element_or_fault, indexed, part_at, read_value, rooted}
 use Rattle.rapid_meaning.specs.Values as meaning

@@ -4,7 +4,7 @@ use Rattle.std.specs.Prelude.{codes, replicate}
 use Rattle.std.specs.Fmt.{digits}
 use Rattle.rapid_num.specs.declared.shape.Shape.{Shape}
 use Rattle.rapid_model.specs.declared.answer.Answer.TheVariants as answers
-use Rattle.rapid_model.specs.declared.answer.Answer.TheVariants.{Go, Ok, At, Given as Let}
+use Rattle.rapid_model.specs.declared.answer.Answer.TheVariants.{Go, Ok, At}
 use Rattle.rapid_model.specs.declared.fate.Fault.TheVariants as faults
 use Rattle.rapid_model.specs.declared.fate.Fate.TheVariants as fates
 use Rattle.rapid_model.specs.declared.function.Function.TheVariants as functions
@@ -12,7 +12,7 @@ use Rattle.rapid_model.specs.declared.instruction.Instruction.TheVariants as ins
 use Rattle.rapid_model.specs.declared.part_name.PartName.TheVariants as parts
 use Rattle.rapid_model.specs.declared.path.Path.{Path}
 use Rattle.rapid_model.specs.declared.request.Request.TheVariants as requests
-use Rattle.rapid_model.specs.declared.request.Request.TheVariants.{Look, ReadP, WriteP, TestSet, ReadS, WriteS, Position, Setpoint, Order, Sleep, Leave, ZoneSet, Arrive, Hold, Rise, Say, End}
+use Rattle.rapid_model.specs.declared.request.Request.TheVariants.{Look, ReadP, WriteP, TestSet, ReadS, WriteS, Position, Order, Sleep, Leave, ZoneSet, Hold, Rise, Say, End}
 use Rattle.rapid_model.specs.declared.sort.Sort.TheVariants as sorts
 use Rattle.rapid_model.specs.declared.tail.Tail.TheVariants as tails
 use Rattle.rapid_model.specs.declared.value.Value.TheVariants as values

@@ -8,7 +8,7 @@ use Rattle.rapid_model.specs.declared.request.Request.TheVariants.{End}
 use Rattle.typed_trees.specs.Plain.{TypedTree}
 use Rattle.rapid_meaning.specs.Answering.{Outcome, Gave, Raised, Asking, Ended, Misfits, Unfit, NoFuel, Run, joined, ending, fitting_of, performed}
 use Rattle.rapid_meaning.specs.Calls.{part}
-use Rattle.rapid_meaning.specs.Data.{Data}
+use Rattle.rapid_meaning.specs.Data.{Data, Frame}
 use Rattle.rapid_meaning.specs.Doings.{Doing, Gives, Raises, Asks, Ends, Misfit, Reads, Writes, Does}
 use Rattle.rapid_meaning.specs.Flows.{Part}
 use Rattle.rapid_meaning.specs.Frames.{initial}
@@ -70,25 +70,26 @@ below_more n Unfit b = tt
 below_more n NoFuel b = absurd b
 
 -- a doing that asks first uses up an answer before it does a part
-below_begun : {A : Type 0} (by : Bool → Fitting) (run : Run) (n : ℕ) → BelowRun n run → (m : Doing A) (d : Data) (left : List Answer) → Begins Anything m
-    → length left < suc n → Below (suc n) (performed by run m d left)
+below_begun : {A : Type 0} (by : Bool → Fitting) (run : Run) (n : ℕ) → BelowRun n run → (looking ending : List Frame) (m : Doing A) (d : Data) (left : List Answer)
+    → Begins looking ending Anything m d → length left < suc n → Below (suc n) (performed by run m d left)
 unfolding performed
-below_begun by run n good (Gives v) d left begins few = few
-below_begun by run n good (Raises e) d left begins few = few
-below_begun by run n good (Asks request k) d [] begins few = tt
-below_begun by run n good (Asks request k) d (a ∷ left) begins few =
+below_begun by run n good looking ending (Gives v) d left begins few = few
+below_begun by run n good looking ending (Raises e) d left begins few = absurd begins
+below_begun by run n good looking ending (Asks request k) d [] begins few = tt
+below_begun by run n good looking ending (Asks request k) d (a ∷ left) begins few =
     below_when (suc n) (fits_request (by d.trapped) request a) (performed by run (k a) d left)
     (below_more n (performed by run (k a) d left) (below_performed by run n good (k a) d left (omega (arith, few))))
-below_begun {A} by run n good (Ends fate) d left begins few = below_ending A by (suc n) fate d left
-below_begun by run n good Misfit d left begins few = tt
-below_begun by run n good (Reads k) d left begins few = below_begun by run n good (k d) d left (begins d) few
-below_begun by run n good (Writes e m) d left begins few = below_begun by run n good m e left begins few
-below_begun by run n good (Does p k h) d left begins few = absurd begins
+below_begun {A} by run n good looking ending (Ends fate) d left begins few = below_ending A by (suc n) fate d left
+below_begun by run n good looking ending Misfit d left begins few = tt
+below_begun by run n good looking ending (Reads k) d left begins few = below_begun by run n good looking ending (k d) d left begins few
+below_begun by run n good looking ending (Writes e m) d left begins few = below_begun by run n good looking ending m e left begins few
+below_begun by run n good looking ending (Does p k h) d left begins few = absurd begins
 
 below_deep : (tree : TypedTree) (n : ℕ) → BelowRun n (deep tree n)
 unfolding deep
 below_deep tree zero p d left few = absurd (omega (arith, few))
-below_deep tree (suc n) p d left few = below_begun (fitting_of tree) (deep tree n) n (below_deep tree n) (part tree p) d left (part_begins tree p) few
+below_deep tree (suc n) p d left few =
+    below_begun (fitting_of tree) (deep tree n) n (below_deep tree n) (part_begins tree p d).looking d.frames (part tree p) d left (part_begins tree p d).begins few
 
 below_state : (tree : TypedTree) (answers : List Answer) → Below (suc (length answers)) (state_after tree answers)
 unfolding state_after

@@ -128,7 +128,7 @@ grows_deep tree a (suc n) p d left =
 state_with : TypedTree → List Answer → ℕ → Outcome ⊤
 state_with tree answers n = performed (fitting_of tree) (deep tree n) (task tree) (initial tree) answers
 
-grows_state : (tree : TypedTree) (answers : List Answer) (a : Answer) → Grows (fitting_of tree) a (state_after tree answers) (state_after tree (answers ++ a ∷ []))
+pub grows_state : (tree : TypedTree) (answers : List Answer) (a : Answer) → Grows (fitting_of tree) a (state_after tree answers) (state_after tree (answers ++ a ∷ []))
 unfolding state_after state_with
 grows_state tree answers a =
     let longer : suc (length answers) ≡ length (answers ++ a ∷ []) = omega (arith, length-append answers (a ∷ [])) in

@@ -12,6 +12,7 @@ pub mod Wholes
 pub mod ConstantsAgree
 mod ConstantArrays
 pub mod Setpoints
+pub mod Moves
 pub mod TaskSets
 pub mod Asking
 mod Texts
@@ -23,4 +24,6 @@ pub mod Turns
 pub mod Room
 pub mod Tidy
 pub mod Kept
-mod Rises
+pub mod Counts
+mod Next
+mod OwnLooks

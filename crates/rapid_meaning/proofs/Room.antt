@@ -1,5 +1,5 @@
 -- The frames of a task keep to their limits, and each part of a program leaves as many frames as it found.
-use Rattle.std.proofs.Common.{◌≡◌, refl, sym, ap, ◌∙◌, ℕ, zero, suc, ◌+◌, ◌<◌, ◌≤◌, ◌==◌, Bool, true, false, List, [], ◌∷◌, length, Option, None, Some, if◌then◌else◌, slice_set, arith}
+use Rattle.std.proofs.Common.{◌≡◌, refl, sym, ap, ◌∙◌, ℕ, suc, ◌+◌, ◌<◌, ◌≤◌, ◌==◌, Bool, true, false, List, [], ◌∷◌, length, Option, None, Some, if◌then◌else◌, arith}
 use Rattle.std.specs.Prelude.{nat_lt, nat_le}
 use Rattle.std.proofs.lemmas.Bool.{and_parts}
 use Rattle.std.proofs.lemmas.Bool.Decides.{nat_tests}
@@ -37,7 +37,7 @@ still_room frames later same room = record {
   small = λ is. omega (arith, same.values_same, room.small is);
 }
 
-values_more : (frame : Frame) (below : List Frame) → values_in (frame ∷ below) ≡ length frame.values + values_in below
+pub values_more : (frame : Frame) (below : List Frame) → values_in (frame ∷ below) ≡ length frame.values + values_in below
 values_more frame below = sum_by-cons (λ (f : Frame). length f.values) frame below
 
 replaced : (frames : List Frame) (number : ℕ) (old new : Frame) → frame_at frames number ≡ Some old → length new.values ≡ length old.values → AsBefore frames (with_frame frames number new)

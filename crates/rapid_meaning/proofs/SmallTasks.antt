@@ -10,7 +10,7 @@ use Rattle.rapid_model.specs.declared.instruction.Instruction.TheVariants as ins
 use Rattle.rapid_model.specs.declared.part_name.PartName.TheVariants as parts
 use Rattle.rapid_model.specs.declared.path.Path.{Path}
 use Rattle.rapid_model.specs.declared.request.Request.TheVariants as requests
-use Rattle.rapid_model.specs.declared.request.Request.TheVariants.{Look, ReadP, WriteP, TestSet, ReadS, WriteS, Position, Setpoint, Order, Sleep, Leave, ZoneSet, Arrive, Hold, Rise, Say, End}
+use Rattle.rapid_model.specs.declared.request.Request.TheVariants.{Look, ReadP, WriteP, ReadS, WriteS, Position, Setpoint, Order, Sleep, Leave, ZoneSet, Arrive, Hold, Rise, Say}
 use Rattle.rapid_model.specs.declared.sort.Sort.TheVariants as sorts
 use Rattle.rapid_model.specs.declared.tail.Tail.TheVariants as tails
 use Rattle.rapid_model.specs.declared.value.Value.TheVariants as values
@@ -25,12 +25,12 @@ use Rattle.rapid_meaning.specs.Runs.{asks}
 use Rattle.rapid_meaning.proofs.Asked.{asked_along, all_of, done, fault, go, joints}
 use Rattle.rapid_meaning.proofs.Trees.{assigns, between, bool, bool_row, calls, datum_row, does, first_at, first_bound, func, mark_row, module_bool, module_num, module_place, moves, num, num_row, number, param, pers_row, proc, raises, says, says_bool, says_num, shape_row, stored, task_of, the_num, trap, when, whole_of, with_handler, with_pers}
 
--- a move of 2.5 degrees, at most one degree a setpoint
+-- a move of 2.5 degrees, at most one degree a setpoint; a Look stands before the second and the third
 abbrev pub moving : TypedTree
 moving = task_of [] (proc (moves (first_at 2_500) 1_000 ∷ []) ∷ [])
 
-moves_in_steps : asked_along moving [] (go ∷ At (joints (pos 0)) ∷ Let ∷ Let ∷ Let ∷ Ok ∷ [])
-    ≡ all_of (Look ∷ Position ∷ Setpoint (joints (pos 833)) ∷ Setpoint (joints (pos 1_667)) ∷ Setpoint (joints (pos 2_500)) ∷ done ∷ [])
+moves_in_steps : asked_along moving [] (go ∷ At (joints (pos 0)) ∷ Let ∷ go ∷ Let ∷ go ∷ Let ∷ Ok ∷ [])
+    ≡ all_of (Look ∷ Position ∷ Setpoint (joints (pos 833)) ∷ Look ∷ Setpoint (joints (pos 1_667)) ∷ Look ∷ Setpoint (joints (pos 2_500)) ∷ done ∷ [])
 unfolding asked_along
 moves_in_steps = refl
 
@@ -44,10 +44,30 @@ zoned = task_of (shape_row ∷ mark_row sorts.WzStationary ∷ []) (proc (
 abbrev narrow : Shape
 narrow = record { inside = true; bounds = Some (record { low = pos 10_500; high = pos 11_500 }) ∷ replicate 11 None }
 
-stops_before_a_zone : asked_along zoned [] (go ∷ go ∷ answers.Number 1 ∷ go ∷ At (joints (pos 0)) ∷ Let ∷ answers.Stopped (zone_names.Own 1) ∷ Ok ∷ [])
-    ≡ all_of (Look ∷ Look ∷ ZoneSet 0 false narrow ∷ Look ∷ Position ∷ Setpoint (joints (pos 6_000)) ∷ Setpoint (joints (pos 12_000)) ∷ fault faults.ZoneStop ∷ [])
+stops_before_a_zone : asked_along zoned [] (go ∷ go ∷ answers.Number 1 ∷ go ∷ At (joints (pos 0)) ∷ Let ∷ go ∷ answers.Stopped (zone_names.Own 1) ∷ Ok ∷ [])
+    ≡ all_of (Look ∷ Look ∷ ZoneSet 0 false narrow ∷ Look ∷ Position ∷ Setpoint (joints (pos 6_000)) ∷ Look ∷ Setpoint (joints (pos 12_000)) ∷ fault faults.ZoneStop ∷ [])
 unfolding asked_along
 stops_before_a_zone = refl
+
+-- a move of four setpoints, and an interrupt whose trap supervises a zone from 2.5 to 3 degrees
+abbrev pub trapped_on_the_way : TypedTree
+trapped_on_the_way = task_of (shape_row ∷ mark_row sorts.WzStationary ∷ mark_row sorts.IntNum ∷ []) (proc (
+    does instructions.WZLimJointDef (Optional (codes "Inside") NoArgument ∷ Lent (module_place 0 sorts.ShapeData) ∷ Given (first_bound 2_500) ∷ Given (first_bound 3_000) ∷ [])
+    ∷ Connect 0 (module_place 2 sorts.IntNum) 1
+    ∷ does instructions.ISignalDI (OfSignal 0 ∷ Given (num 1) ∷ Lent (module_place 2 sorts.IntNum) ∷ [])
+    ∷ moves (first_at 4_000) 1_000 ∷ [])
+    ∷ trap (does instructions.WZLimSup (Optional (codes "Stat") NoArgument ∷ Lent (module_place 1 sorts.WzStationary) ∷ Lent (module_place 0 sorts.ShapeData) ∷ []) ∷ []) ∷ [])
+
+abbrev ahead : Shape
+ahead = record { inside = true; bounds = Some (record { low = pos 2_500; high = pos 3_000 }) ∷ replicate 11 None }
+
+-- the trap runs before the second setpoint, whose Look is then asked again; the third is stopped
+traps_on_the_way : asked_along trapped_on_the_way [] (go ∷ go ∷ answers.Number 1 ∷ go ∷ Ok ∷ go ∷ At (joints (pos 0)) ∷ Let
+    ∷ answers.Trap 1 1 ∷ go ∷ answers.Number 1 ∷ Ok ∷ go ∷ Let ∷ go ∷ answers.Stopped (zone_names.Own 1) ∷ Ok ∷ [])
+    ≡ all_of (Look ∷ Look ∷ requests.Connect 0 1 ∷ Look ∷ Order 1 (watched.Signal 0 true) false ∷ Look ∷ Position ∷ Setpoint (joints (pos 1_000))
+    ∷ Look ∷ Look ∷ ZoneSet 0 false ahead ∷ Leave ∷ Look ∷ Setpoint (joints (pos 2_000)) ∷ Look ∷ Setpoint (joints (pos 3_000)) ∷ fault faults.ZoneStop ∷ [])
+unfolding asked_along
+traps_on_the_way = refl
 
 -- a division by zero; the ERROR part corrects the divisor and retries the statement
 abbrev pub retrying : TypedTree

@@ -1,16 +1,15 @@
 -- What every doing of a task keeps: its frames keep to their limits, it ends with as many frames as it began with, a
--- Hold carries the count that a Look of its own routine found, and the task looks after Rise.
-use Rattle.std.proofs.Common.{◌≡◌, refl, ℕ, zero, suc, ◌+◌, ◌/◌, ◌%◌, ◌==◌, Bool, true, false, not, ℤ, pos, negsuc, int_lt, List, [], ◌∷◌, Option, None, Some, Result, Ok, Err, if◌then◌else◌, slice_get, position}
-use Rattle.std.specs.Prelude.{⊤, ◌&&◌, nat_le, nat_lt, ◌^◌, bytes_eq, codes}
+-- Hold carries the count that a Look of its own routine found, other routines leave that count as it is, and the task
+-- looks after Rise.
+use Rattle.std.proofs.Common.{◌≡◌, refl, sym, subst, ℕ, zero, suc, ◌+◌, ◌/◌, ◌%◌, ◌==◌, Bool, true, false, not, ℤ, pos, negsuc, int_lt, List, [], ◌∷◌, Option, None, Some, Result, Ok, Err, if◌then◌else◌, slice_get, position}
+use Rattle.std.specs.Prelude.{⊤, ◌&&◌, nat_le, nat_lt, bytes_eq}
 use Rattle.std.specs.Ordering.{int_eq}
 use Rattle.rapid_limits.specs.declared.TheConstants.{MOST_TASKS}
-use Rattle.rapid_num.specs.Arithmetic.{difference_of, sum_of}
 use Rattle.rapid_num.specs.Reach.{is_reachable}
 use Rattle.rapid_num.specs.declared.joints.Joints.{Joints}
 use Rattle.rapid_num.specs.declared.shape.Shape.{Shape}
 use Rattle.joint_clip.specs.Shapes.{made_shape}
 use Rattle.joint_clip.specs.declared.shape_fault.ShapeFault.{ShapeFault}
-use Rattle.joint_planner.specs.Setpoints.{setpoint_count}
 use Rattle.rapid_model.specs.declared.answer.Answer.{Answer}
 use Rattle.rapid_model.specs.declared.answer.Answer.TheVariants as answers
 use Rattle.rapid_model.specs.declared.fate.Fate.{Fate}
@@ -43,28 +42,29 @@ use Rattle.typed_trees.specs.declared.datum.Root.TheVariants as roots
 use Rattle.typed_trees.specs.declared.expr.TreeRoot.{TreeRoot}
 use Rattle.typed_trees.specs.declared.expr.TreeRoot.TheVariants as tree_roots
 use Rattle.rapid_meaning.specs.Calls.{body, called, part, result, within}
-use Rattle.rapid_meaning.specs.Data.{Data, Frame, below_first, datum_at, put_at, seen_in, with_seen}
-use Rattle.rapid_meaning.specs.Doings.{Doing, Gives, Raises, Asks, Ends, Misfit, Reads, Writes, Does, ◌>>=◌, ◌>>◌, after, calls, change, done, fault, goes_to, or_misfit, tells, when_ok}
-use Rattle.rapid_meaning.specs.Errors.{failed, failed_in, header, parted, raised_again}
+use Rattle.rapid_meaning.specs.Data.{Data, Frame, below_first, put_at, seen_in, with_seen}
+use Rattle.rapid_meaning.specs.Doings.{Doing, Gives, Raises, Asks, Ends, Misfit, Reads, Writes, Does, ◌>>=◌, ◌>>◌, after, change, done, fault, goes_to, or_misfit, tells, when_ok}
+use Rattle.rapid_meaning.specs.Errors.{failed_in, header, parted, raised_again}
 use Rattle.rapid_meaning.specs.Expressions as expressions
 use Rattle.rapid_meaning.specs.Expressions.{returned}
-use Rattle.rapid_meaning.specs.Flows.{Flow, Normal, Jumps, Returns, Retries, Skips, Errors, Unguarded, Guarded, InPart, Where, Part, Attempt, Turn, Rest, Call}
-use Rattle.rapid_meaning.specs.Frames.{enters, frame_of, has_room, leaves}
+use Rattle.rapid_meaning.specs.Flows.{Flow, Normal, Jumps, Returns, Retries, Skips, Errors, Unguarded, Guarded, InPart, Way, Where, Part, Attempt, Turn, Leg, Rest, Call}
+use Rattle.rapid_meaning.specs.Frames.{frame_of, has_room, leaves}
 use Rattle.rapid_meaning.specs.Functions.{absolute, read_signal, shown, text_length, truncated, when_at, when_bit}
 use Rattle.rapid_meaning.specs.Instructions as instructing
-use Rattle.rapid_meaning.specs.Instructions.{instructed, needed, options}
-use Rattle.rapid_meaning.specs.Interrupts.{asks_of_number, connect, number_at, order, pers_at, when_connected, when_known, when_ordered}
+use Rattle.rapid_meaning.specs.Instructions.{aimed, instructed, needed, options}
+use Rattle.rapid_meaning.specs.Interrupts.{connect, number_at, order, pers_at, when_connected, when_known, when_ordered}
 use Rattle.rapid_meaning.specs.Lists as lists
 use Rattle.rapid_meaning.specs.Lists.{behind, ended, items, jumped}
 use Rattle.rapid_meaning.specs.Looks.{hold, interrupted, left, look, looked}
 use Rattle.rapid_meaning.specs.Loops.{bounds, counted, counter, counter_place, counts_on, has_passed, set_counter, step_value, turn_due}
 use Rattle.rapid_meaning.specs.Meetings.{arrive, task_or_fault, tasks_in, when_arrived, with_task, with_tasks}
-use Rattle.rapid_meaning.specs.Moves.{cap_of, move, move_from, setpoints, still, when_given}
-use Rattle.rapid_meaning.specs.Places.{at_element, element_or_fault, indexed, load, load_from, part_at, put_in, read_value, rooted, set_unless, store, store_at, test_and_set, test_at, when_read, when_tested, write_value, writes_at}
+use Rattle.rapid_meaning.specs.Moves.{aim, cap_of, further, has_next, point, still, when_given, when_located}
+use Rattle.rapid_meaning.specs.Places.{at_element, element_or_fault, indexed, load, load_from, part_at, read_value, rooted, set_unless, store, store_at, test_and_set, test_at, when_read, when_tested, write_value, writes_at}
 use Rattle.rapid_meaning.specs.Signals.{has_value, when_written, write_signal}
-use Rattle.rapid_meaning.specs.Statements.{again_behind, and_then, assign, byte_of, call, chosen, connects, done_or_held, follows, goes_on, inner, inner_or_not, is_among, raised, selected, stmt, turn, turned}
+use Rattle.rapid_meaning.specs.Statements.{and_then, assign, byte_of, chosen, connects, done_or_held, follows, inner_or_not, instructs, is_among, leg, points, raised, selected, stmt, turn, turned}
 use Rattle.rapid_meaning.specs.Values.{applied, between, bit_in, in_range, mark_in, num_in, opposite, shape_in, target_in, text_in, tool_speed_in, truth_in, value_in, with_sign}
-use Rattle.rapid_meaning.specs.Zones.{asks_of_zone, define, define_home, defined, fault_of, home_high, home_low, on_axes, position_or_fault, shape_at, shaped, supervise, when_numbered, when_zoned}
+use Rattle.rapid_meaning.specs.Zones.{define, define_home, defined, position_or_fault, shape_at, shaped, supervise, when_numbered, when_zoned}
+use Rattle.rapid_meaning.proofs.Counts.{AreKept, IsLeft, all_left, below_counts, counts, found, kept_further, kept_self, left_of_left, put_counts, seen_counts}
 use Rattle.rapid_meaning.proofs.Room.{HasRoom, entered_room, left_room, put_room, seen_room}
 
 -- a Hold carries the count of the innermost frame
@@ -83,31 +83,35 @@ LooksNext (Does (Attempt w s) ended raised) = Looks s
 LooksNext (Does (Turn w s) ended raised) = ⊤
 LooksNext _ = ⊥
 
-abbrev pub AfterRise : {A : Type 0} → Request → Doing A → Type 0
-AfterRise requests.Rise m = LooksNext m
-AfterRise _ m = ⊤
+-- after Rise the task looks; it asks End only as it ends
+abbrev pub LeadsTo : {A : Type 0} → Request → Doing A → Type 0
+LeadsTo requests.Rise m = LooksNext m
+LeadsTo (requests.End fate) m = ⊥
+LeadsTo _ m = ⊤
 
 -- for any number of frames
 abbrev pub Roomy : Bool → List Frame → Type 0
 Roomy limited frames = (count : ℕ) × HasRoom limited count frames
 
--- It ends with this many frames. A part of the program leaves as many as it found.
-abbrev pub Tidy : {A : Type 0} → Bool → ℕ → Doing A → Data → Type 0
-Tidy limited count (Gives v) d = HasRoom limited count d.frames
-Tidy limited count (Raises n) d = HasRoom limited count d.frames
-Tidy limited count (Asks request answered) d =
-    Roomy limited d.frames × Fair request d × AfterRise request (answered answers.Ok) × ((a : Answer) → Tidy limited count (answered a) d)
-Tidy limited count (Ends fate) d = Roomy limited d.frames
-Tidy limited count Misfit d = ⊤
-Tidy limited count (Reads with_data) d = Tidy limited count (with_data d) d
-Tidy limited count (Writes e more) d = Tidy limited count more e
-Tidy limited count (Does p ended raised) d =
-    (here : ℕ) × HasRoom limited here d.frames × ((flow : Flow) (e : Data) → HasRoom limited here e.frames → Tidy limited count (ended flow) e)
-    × ((n : ℕ) (e : Data) → HasRoom limited here e.frames → Tidy limited count (raised n) e)
+-- It ends with this many frames, and at its requests and its end its frames keep these counts. A part of the program
+-- leaves as many frames as it found.
+abbrev pub Tidy : {A : Type 0} → Bool → ℕ → List ℕ → Doing A → Data → Type 0
+Tidy limited count before (Gives v) d = HasRoom limited count d.frames × IsLeft (counts d.frames) before
+Tidy limited count before (Raises n) d = HasRoom limited count d.frames × IsLeft (counts d.frames) before
+Tidy limited count before (Asks request answered) d =
+    Roomy limited d.frames × Fair request d × LeadsTo request (answered answers.Ok) × ((a : Answer) → Tidy limited count (found request a (counts d.frames)) (answered a) d)
+    × AreKept request (counts d.frames) before
+Tidy limited count before (Ends fate) d = Roomy limited d.frames
+Tidy limited count before Misfit d = ⊤
+Tidy limited count before (Reads with_data) d = Tidy limited count before (with_data d) d
+Tidy limited count before (Writes e more) d = Tidy limited count before more e
+Tidy limited count before (Does p ended raised) d =
+    (here : ℕ) × HasRoom limited here d.frames × ((flow : Flow) (e : Data) → HasRoom limited here e.frames → Tidy limited count (counts e.frames) (ended flow) e)
+    × ((n : ℕ) (e : Data) → HasRoom limited here e.frames → Tidy limited count (counts e.frames) (raised n) e) × IsLeft (counts d.frames) before
 
 -- from any data, it ends with as many frames as it began with
 pub record IsTidy {A : Type 0} (m : Doing A) : Type 0 where
-  pub from : (limited : Bool) (count : ℕ) (d : Data) → HasRoom limited count d.frames → Tidy limited count m d
+  pub from : (limited : Bool) (count : ℕ) (d : Data) → HasRoom limited count d.frames → Tidy limited count (counts d.frames) m d
 
 -- ---- one doing after another
 
@@ -115,6 +119,7 @@ still_looks : {A B : Type 0} (m : Doing A) (f : A → Doing B) (h : ℕ → Doin
 unfolding after
 still_looks (Does (Attempt w s) k g) f h l = l
 still_looks (Does (Turn w s) k g) f h l = l
+still_looks (Does (Leg w s way) k g) f h l = absurd l
 still_looks (Does (Rest w list more) k g) f h l = absurd l
 still_looks (Does (Call routine args) k g) f h l = absurd l
 still_looks (Gives v) f h l = absurd l
@@ -125,36 +130,53 @@ still_looks Misfit f h l = absurd l
 still_looks (Reads k) f h l = absurd l
 still_looks (Writes d m) f h l = absurd l
 
-still_after_rise : {A B : Type 0} (request : Request) (m : Doing A) (f : A → Doing B) (h : ℕ → Doing B) → AfterRise request m → AfterRise request (after m f h)
-still_after_rise requests.Rise m f h l = still_looks m f h l
-still_after_rise _ m f h l = tt
+still_leads : {A B : Type 0} (request : Request) (m : Doing A) (f : A → Doing B) (h : ℕ → Doing B) → LeadsTo request m → LeadsTo request (after m f h)
+still_leads requests.Rise m f h l = still_looks m f h l
+still_leads (requests.End fate) m f h l = absurd l
+still_leads _ m f h l = tt
 
-tidy_after : {A B : Type 0} (limited : Bool) (between count : ℕ) (m : Doing A) (f : A → Doing B) (h : ℕ → Doing B) (d : Data) → Tidy limited between m d
-    → ((v : A) (e : Data) → HasRoom limited between e.frames → Tidy limited count (f v) e) → ((n : ℕ) (e : Data) → HasRoom limited between e.frames → Tidy limited count (h n) e)
-    → Tidy limited count (after m f h) d
+-- it keeps the counts that those are left of
+tidy_further : {A : Type 0} (limited : Bool) (count : ℕ) (xs ys : List ℕ) (m : Doing A) (d : Data) → Tidy limited count xs m d → IsLeft xs ys → Tidy limited count ys m d
+tidy_further limited count xs ys (Gives v) d t left = (t.0, left_of_left (counts d.frames) xs ys t.1 left)
+tidy_further limited count xs ys (Raises n) d t left = (t.0, left_of_left (counts d.frames) xs ys t.1 left)
+tidy_further limited count xs ys (Asks request k) d t left = (t.0, t.1, t.2, t.3, kept_further request (counts d.frames) xs ys t.4 left)
+tidy_further limited count xs ys (Ends fate) d t left = t
+tidy_further limited count xs ys Misfit d t left = tt
+tidy_further limited count xs ys (Reads k) d t left = tidy_further limited count xs ys (k d) d t left
+tidy_further limited count xs ys (Writes e m) d t left = tidy_further limited count xs ys m e t left
+tidy_further limited count xs ys (Does p k g) d t left = (t.0, t.1, t.2, t.3, left_of_left (counts d.frames) xs ys t.4 left)
+
+tidy_after : {A B : Type 0} (limited : Bool) (between count : ℕ) (before : List ℕ) (m : Doing A) (f : A → Doing B) (h : ℕ → Doing B) (d : Data) → Tidy limited between before m d
+    → ((v : A) (e : Data) → HasRoom limited between e.frames → Tidy limited count (counts e.frames) (f v) e)
+    → ((n : ℕ) (e : Data) → HasRoom limited between e.frames → Tidy limited count (counts e.frames) (h n) e) → Tidy limited count before (after m f h) d
 unfolding after
-tidy_after limited between count (Gives v) f h d t tf th = tf v d t
-tidy_after limited between count (Raises n) f h d t tf th = th n d t
-tidy_after limited between count (Asks request k) f h d t tf th =
-    (t.0, t.1, still_after_rise request (k answers.Ok) f h t.2, λ a. tidy_after limited between count (k a) f h d (t.3 a) tf th)
-tidy_after limited between count (Ends fate) f h d t tf th = t
-tidy_after limited between count Misfit f h d t tf th = tt
-tidy_after limited between count (Reads k) f h d t tf th = tidy_after limited between count (k d) f h d t tf th
-tidy_after limited between count (Writes e m) f h d t tf th = tidy_after limited between count m f h e t tf th
-tidy_after limited between count (Does p k g) f h d t tf th =
-    (t.0, t.1, λ flow e room. tidy_after limited between count (k flow) f h e (t.2 flow e room) tf th, λ n e room. tidy_after limited between count (g n) f h e (t.3 n e room) tf th)
+tidy_after limited between count before (Gives v) f h d t tf th = tidy_further limited count (counts d.frames) before (f v) d (tf v d t.0) t.1
+tidy_after limited between count before (Raises n) f h d t tf th = tidy_further limited count (counts d.frames) before (h n) d (th n d t.0) t.1
+tidy_after limited between count before (Asks request k) f h d t tf th =
+    (t.0, t.1, still_leads request (k answers.Ok) f h t.2, λ a. tidy_after limited between count (found request a (counts d.frames)) (k a) f h d (t.3 a) tf th, t.4)
+tidy_after limited between count before (Ends fate) f h d t tf th = t
+tidy_after limited between count before Misfit f h d t tf th = tt
+tidy_after limited between count before (Reads k) f h d t tf th = tidy_after limited between count before (k d) f h d t tf th
+tidy_after limited between count before (Writes e m) f h d t tf th = tidy_after limited between count before m f h e t tf th
+tidy_after limited between count before (Does p k g) f h d t tf th = (
+  t.0,
+  t.1,
+  λ flow e room. tidy_after limited between count (counts e.frames) (k flow) f h e (t.2 flow e room) tf th,
+  λ n e room. tidy_after limited between count (counts e.frames) (g n) f h e (t.3 n e room) tf th,
+  t.4,
+)
 
 t_after : {A B : Type 0} {m : Doing A} {f : A → Doing B} {h : ℕ → Doing B} → IsTidy m → ((v : A) → IsTidy (f v)) → ((n : ℕ) → IsTidy (h n)) → IsTidy (after m f h)
 t_after {m = m} {f = f} {h = h} t tf th = record {
   from = λ limited count d room.
-      tidy_after limited count count m f h d (t.from limited count d room) (λ v e later. (tf v).from limited count e later) (λ n e later. (th n).from limited count e later);
+      tidy_after limited count count (counts d.frames) m f h d (t.from limited count d room) (λ v e later. (tf v).from limited count e later) (λ n e later. (th n).from limited count e later);
 }
 
 t_gives : {A : Type 0} {v : A} → IsTidy (Gives v)
-t_gives = record { from = λ limited count d room. room }
+t_gives = record { from = λ limited count d room. (room, all_left (counts d.frames)) }
 
 t_raises : {A : Type 0} {n : ℕ} → IsTidy {A = A} (Raises n)
-t_raises = record { from = λ limited count d room. room }
+t_raises = record { from = λ limited count d room. (room, all_left (counts d.frames)) }
 
 t_ends : {A : Type 0} {fate : Fate} → IsTidy {A = A} (Ends fate)
 t_ends = record { from = λ limited count d room. (count, room) }
@@ -174,19 +196,51 @@ t_next t tk = t_after t (λ _. tk) (λ n. t_raises)
 t_reads : {A : Type 0} {k : Data → Doing A} → ((d : Data) → IsTidy (k d)) → IsTidy (Reads k)
 t_reads t = record { from = λ limited count d room. (t d).from limited count d room }
 
-t_change : (to : Data → Data) → ((limited : Bool) (count : ℕ) (d : Data) → HasRoom limited count d.frames → HasRoom limited count (to d).frames) → IsTidy (change to)
-t_change to keeps = record { from = λ limited count d room. keeps limited count d room }
+t_change : (to : Data → Data) → ((d : Data) → (to d).frames ≡ d.frames) → IsTidy (change to)
+t_change to keeps = record {
+  from = λ limited count d room. subst (λ (later : List Frame). HasRoom limited count later × IsLeft (counts later) (counts d.frames)) (sym (keeps d)) (room, all_left (counts d.frames));
+}
 
 t_does : {A : Type 0} {p : Part} {k : Flow → Doing A} {h : ℕ → Doing A} → ((flow : Flow) → IsTidy (k flow)) → ((n : ℕ) → IsTidy (h n)) → IsTidy (Does p k h)
 t_does tk th = record {
-  from = λ limited count d room. (count, room, λ flow e later. (tk flow).from limited count e later, λ n e later. (th n).from limited count e later);
+  from = λ limited count d room.
+      (count, room, λ flow e later. (tk flow).from limited count e later, λ n e later. (th n).from limited count e later, all_left (counts d.frames));
 }
 
 t_goes : {p : Part} → IsTidy (goes_to p)
 t_goes = t_does (λ flow. t_gives) (λ n. t_raises)
 
-t_asks : {A : Type 0} {request : Request} {k : Answer → Doing A} → ((d : Data) → Fair request d) → AfterRise request (k answers.Ok) → ((a : Answer) → IsTidy (k a)) → IsTidy (Asks request k)
-t_asks fair rises t = record { from = λ limited count d room. ((count, room), fair d, rises, λ a. (t a).from limited count d room) }
+-- any request but a Look, a Hold, a Rise and an End
+abbrev IsPlain : Request → Type 0
+IsPlain (requests.End fate) = ⊥
+IsPlain requests.Look = ⊥
+IsPlain (requests.Hold seen) = ⊥
+IsPlain requests.Rise = ⊥
+IsPlain _ = ⊤
+
+plain_fair : (request : Request) (d : Data) → IsPlain request → Fair request d
+plain_fair (requests.Hold seen) d plain = absurd plain
+plain_fair _ d plain = tt
+
+plain_leads : {A : Type 0} (request : Request) (m : Doing A) → IsPlain request → LeadsTo request m
+plain_leads requests.Rise m plain = absurd plain
+plain_leads (requests.End fate) m plain = absurd plain
+plain_leads _ m plain = tt
+
+plain_found : (request : Request) (a : Answer) (before : List ℕ) → IsPlain request → before ≡ found request a before
+plain_found requests.Look a before plain = absurd plain
+plain_found _ a before plain = refl
+
+t_asks : {A : Type 0} {request : Request} {k : Answer → Doing A} → IsPlain request → ((a : Answer) → IsTidy (k a)) → IsTidy (Asks request k)
+t_asks {request = request} {k = k} plain t = record {
+  from = λ limited count d room. (
+    (count, room),
+    plain_fair request d plain,
+    plain_leads request (k answers.Ok) plain,
+    λ a. subst (λ (before : List ℕ). Tidy limited count before (k a) d) (plain_found request a (counts d.frames) plain) ((t a).from limited count d room),
+    kept_self request (counts d.frames),
+  );
+}
 
 t_if : {A : Type 0} {m k : Doing A} (b : Bool) → IsTidy m → IsTidy k → IsTidy (if b then m else k)
 t_if true t u = t
@@ -200,8 +254,8 @@ t_ok : (a : Answer) → IsTidy (when_ok a)
 t_ok answers.Ok = t_gives
 t_ok _ = t_misfit
 
-t_tells : {request : Request} → ((d : Data) → Fair request d) → AfterRise request done → IsTidy (tells request)
-t_tells fair rises = t_asks fair rises t_ok
+t_tells : {request : Request} → IsPlain request → IsTidy (tells request)
+t_tells plain = t_asks plain t_ok
 
 -- ---- values
 
@@ -296,7 +350,7 @@ t_when_read (answers.Val v) = t_gives
 t_when_read _ = t_misfit
 
 t_load_from : (root : Root) (part : PartName) → IsTidy (load_from root part)
-t_load_from (roots.Pers pers index) part = t_asks (λ d. tt) tt t_when_read
+t_load_from (roots.Pers pers index) part = t_asks tt t_when_read
 t_load_from (roots.Slot slot) part = t_reads (λ d. t_or _)
 t_load_from (roots.Frame frame at) part = t_reads (λ d. t_or _)
 
@@ -306,12 +360,13 @@ t_load p = t_load_from p.root p.part
 t_read_value : (p : Lvalue) → IsTidy (read_value p)
 t_read_value p = t_then (t_load p) t_value_in
 
-tidy_writes : (limited : Bool) (count : ℕ) (root : Root) (d : Data) (new : Option Datum) → HasRoom limited count d.frames → Tidy limited count (writes_at root d new) d
+tidy_writes : (limited : Bool) (count : ℕ) (root : Root) (d : Data) (new : Option Datum) → HasRoom limited count d.frames → Tidy limited count (counts d.frames) (writes_at root d new) d
 tidy_writes limited count root d None room = tt
-tidy_writes limited count root d (Some x) room = put_room root x d room
+tidy_writes limited count root d (Some x) room =
+    (put_room root x d room, subst (λ (before : List ℕ). IsLeft (counts (put_at root x d).frames) before) (put_counts root x d) (all_left (counts (put_at root x d).frames)))
 
 t_store_at : (root : Root) (part : PartName) (new : Datum) → IsTidy (store_at root part new)
-t_store_at (roots.Pers pers index) part new = t_then (t_value_in new) (λ v. t_tells (λ d. tt) tt)
+t_store_at (roots.Pers pers index) part new = t_then (t_value_in new) (λ v. t_tells tt)
 t_store_at (roots.Slot slot) part new = record { from = λ limited count d room. tidy_writes limited count (roots.Slot slot) d _ room }
 t_store_at (roots.Frame frame at) part new = record { from = λ limited count d room. tidy_writes limited count (roots.Frame frame at) d _ room }
 
@@ -330,7 +385,7 @@ t_set_unless p true = t_gives
 t_set_unless p false = t_next (t_write_value p (values.Bool true)) t_gives
 
 t_test_at : (root : Root) (p : Lvalue) → IsTidy (test_at root p)
-t_test_at (roots.Pers pers index) p = t_asks (λ d. tt) tt t_when_tested
+t_test_at (roots.Pers pers index) p = t_asks tt t_when_tested
 t_test_at (roots.Slot slot) p = t_then (t_read_value p) (λ v. t_then (t_truth_in v) (λ b. t_set_unless p b))
 t_test_at (roots.Frame frame at) p = t_then (t_read_value p) (λ v. t_then (t_truth_in v) (λ b. t_set_unless p b))
 
@@ -356,7 +411,7 @@ t_when_bit (answers.Bit bit) = t_gives
 t_when_bit _ = t_misfit
 
 t_read_signal : (signal : ℕ) → IsTidy (read_signal signal)
-t_read_signal signal = t_asks (λ d. tt) tt t_when_bit
+t_read_signal signal = t_asks tt t_when_bit
 
 t_when_at : (a : Answer) → IsTidy (when_at a)
 t_when_at (answers.At position) = t_gives
@@ -407,7 +462,7 @@ mutual
   t_builtin tree routine functions.StrLen (MoreArgs (Given e) NoArgs) = t_then (t_expr tree routine e) t_text_length
   t_builtin tree routine functions.NumToStr (MoreArgs (Given e) (MoreArgs (Given f) NoArgs)) = t_then (t_expr tree routine e) (λ v. t_then (t_expr tree routine f) (t_shown v))
   t_builtin tree routine functions.Dim (MoreArgs (Lent p) (MoreArgs one NoArgs)) = t_or _
-  t_builtin tree routine functions.CJointT NoArgs = t_asks (λ d. tt) tt t_when_at
+  t_builtin tree routine functions.CJointT NoArgs = t_asks tt t_when_at
   t_builtin tree routine functions.TestDI (MoreArgs (OfSignal signal) NoArgs) = t_then (t_read_signal signal) (λ bit. t_gives)
   t_builtin tree routine functions.DOutput (MoreArgs (OfSignal signal) NoArgs) = t_then (t_read_signal signal) (λ bit. t_gives)
   t_builtin tree routine functions.TestAndSet (MoreArgs (Lent p) NoArgs) = t_then (t_place tree routine p) (λ q. t_then (t_test_and_set q) (λ met. t_gives))
@@ -445,7 +500,7 @@ t_when_written answers.Tied = t_fault
 t_when_written _ = t_misfit
 
 t_write_signal : (signal : ℕ) (value : Bool) → IsTidy (write_signal signal value)
-t_write_signal signal value = t_asks (λ d. tt) tt t_when_written
+t_write_signal signal value = t_asks tt t_when_written
 
 t_has_value : (signal : ℕ) (value : Bool) → IsTidy (has_value signal value)
 t_has_value signal value = t_then (t_read_signal signal) (λ bit. t_gives)
@@ -471,7 +526,7 @@ t_when_arrived answers.Apart = t_gives
 t_when_arrived _ = t_misfit
 
 t_arrive : (meeting tasks : ℕ) → IsTidy (arrive meeting tasks)
-t_arrive meeting tasks = t_asks (λ d. tt) tt t_when_arrived
+t_arrive meeting tasks = t_asks tt t_when_arrived
 
 t_number_at : (p : Lvalue) → IsTidy (number_at p)
 t_number_at p = t_then (t_load p) t_mark_in
@@ -483,7 +538,7 @@ t_when_connected p answers.NoMore = t_raises
 t_when_connected p _ = t_misfit
 
 t_connect : (p : Lvalue) (old trap : ℕ) → IsTidy (connect p old trap)
-t_connect p old trap = t_asks (λ d. tt) tt (t_when_connected p)
+t_connect p old trap = t_asks tt (t_when_connected p)
 
 t_when_ordered : (a : Answer) → IsTidy (when_ordered a)
 t_when_ordered answers.Ok = t_gives
@@ -492,7 +547,7 @@ t_when_ordered answers.Already = t_raises
 t_when_ordered _ = t_misfit
 
 t_order : (number : ℕ) (on : Watched) (single : Bool) → IsTidy (order number on single)
-t_order number on single = t_asks (λ d. tt) tt t_when_ordered
+t_order number on single = t_asks tt t_when_ordered
 
 t_when_known : (a : Answer) → IsTidy (when_known a)
 t_when_known answers.Ok = t_gives
@@ -531,7 +586,7 @@ t_when_numbered p answers.ZoneFull = t_fault
 t_when_numbered p _ = t_misfit
 
 t_supervise : (p : Lvalue) (old : ℕ) (temporary : Bool) (shape : Shape) → IsTidy (supervise p old temporary shape)
-t_supervise p old temporary shape = t_asks (λ d. tt) tt (t_when_numbered p)
+t_supervise p old temporary shape = t_asks tt (t_when_numbered p)
 
 t_when_zoned : (a : Answer) → IsTidy (when_zoned a)
 t_when_zoned answers.Ok = t_gives
@@ -541,26 +596,27 @@ t_when_zoned _ = t_misfit
 t_still : IsTidy still
 t_still = t_reads (λ d. t_if d.trapped t_fault t_gives)
 
-t_when_given : (next : Doing ⊤) (a : Answer) → IsTidy next → IsTidy (when_given next a)
+t_when_located : (axes : ℕ) (target : Joints) (cap : ℕ) (a : Answer) → IsTidy (when_located axes target cap a)
+t_when_located axes target cap (answers.At start) = t_gives
+t_when_located axes target cap _ = t_misfit
+
+t_aim : (axes : ℕ) (target : Joints) (speed : ℤ) → IsTidy (aim axes target speed)
+t_aim axes target speed = t_if (not (is_reachable axes target)) t_fault (t_if (not (int_lt (pos 0) speed)) t_fault (t_asks tt (t_when_located axes target (cap_of speed))))
+
+t_when_given : {A : Type 0} (next : Doing A) (a : Answer) → IsTidy next → IsTidy (when_given next a)
 t_when_given next answers.Given t = t
 t_when_given next (answers.Stopped zone) t = t_fault
 t_when_given next _ t = t_misfit
 
-t_setpoints : (axes : ℕ) (start target : Joints) (n count : ℕ) → IsTidy (setpoints axes start target n count)
-unfolding setpoints
-t_setpoints axes start target n zero = t_gives
-t_setpoints axes start target n (suc count) = t_asks (λ d. tt) tt (λ a. t_when_given (setpoints axes start target n count) a (t_setpoints axes start target n count))
+t_point : {A : Type 0} (way : Way) (next : Doing A) → IsTidy next → IsTidy (point way next)
+t_point way next t = t_asks tt (λ a. t_when_given next a t)
 
-t_move_from : (axes : ℕ) (target : Joints) (cap : ℕ) (a : Answer) → IsTidy (move_from axes target cap a)
-t_move_from axes target cap (answers.At start) = t_setpoints axes start target (setpoint_count axes start target cap) (setpoint_count axes start target cap)
-t_move_from axes target cap _ = t_misfit
-
-t_move : (axes : ℕ) (target : Joints) (speed : ℤ) → IsTidy (move axes target speed)
-t_move axes target speed = t_if (not (is_reachable axes target)) t_fault (t_if (not (int_lt (pos 0) speed)) t_fault (t_asks (λ d. tt) tt (t_move_from axes target (cap_of speed))))
+t_aimed : (tree : TypedTree) (routine : TypedRoutine) (args : List TypedArg) → IsTidy (aimed tree routine args)
+t_aimed tree routine (Given to ∷ Given speed ∷ Itself _ ∷ Itself _ ∷ []) =
+    t_next t_still (t_then (t_target tree routine to) (λ joints. t_then (t_expr tree routine speed) (λ v. t_then (t_tool_speed_in v) (λ n. t_aim tree.axes joints n))))
+t_aimed tree routine args = t_misfit
 
 t_instructed : (tree : TypedTree) (routine : TypedRoutine) (instruction : Instruction) (args options : List TypedArg) → IsTidy (instructed tree routine instruction args options)
-t_instructed tree routine instructions.MoveAbsJ (Given to ∷ Given speed ∷ Itself _ ∷ Itself _ ∷ []) options =
-    t_next t_still (t_then (t_target tree routine to) (λ joints. t_then (t_expr tree routine speed) (λ v. t_then (t_tool_speed_in v) (λ n. t_next (t_move tree.axes joints n) t_gives))))
 t_instructed tree routine instructions.Set (OfSignal signal ∷ []) options = t_next (t_write_signal signal true) t_gives
 t_instructed tree routine instructions.Reset (OfSignal signal ∷ []) options = t_next (t_write_signal signal false) t_gives
 t_instructed tree routine instructions.SetDO (OfSignal signal ∷ Given e ∷ []) options = t_then (t_bit tree routine e) (λ b. t_next (t_write_signal signal b) t_gives)
@@ -572,7 +628,7 @@ t_instructed tree routine instructions.WaitTestAndSet (Lent p ∷ []) options = 
 t_instructed tree routine instructions.WaitSyncTask (OfMeeting number ∷ Lent list ∷ []) options =
     t_then (t_or _) (λ meeting. t_then (t_place tree routine list) (λ q. t_then (t_tasks_in tree.tasks q _) (t_arrive meeting)))
 t_instructed tree routine instructions.TPWrite (Given e ∷ []) options =
-    t_then (t_text tree routine e) (λ said. t_then (t_tail tree routine options) (λ more. t_next (t_tells (λ d. tt) tt) t_gives))
+    t_then (t_text tree routine e) (λ said. t_then (t_tail tree routine options) (λ more. t_next (t_tells tt) t_gives))
 t_instructed tree routine instructions.TPErase [] options = t_gives
 t_instructed tree routine instructions.ISignalDI (OfSignal signal ∷ Given e ∷ Lent p ∷ []) options =
     t_then (t_bit tree routine e) (λ b. t_then (t_place tree routine p) (λ q. t_then (t_number_at q) (λ number. t_next (t_order number _ _) t_gives)))
@@ -581,13 +637,13 @@ t_instructed tree routine instructions.ISignalDO (OfSignal signal ∷ Given e �
 t_instructed tree routine instructions.IPers (Lent watch ∷ Lent p ∷ []) options =
     t_then (t_place tree routine watch) (λ w. t_then (t_pers_at w.root) (λ pers. t_then (t_place tree routine p) (λ q. t_then (t_number_at q) (λ number. t_next (t_order number _ _) t_gives))))
 t_instructed tree routine instructions.ISleep (Lent p ∷ []) options =
-    t_then (t_place tree routine p) (λ q. t_then (t_number_at q) (λ number. t_next (t_asks (λ d. tt) tt t_when_known) t_gives))
+    t_then (t_place tree routine p) (λ q. t_then (t_number_at q) (λ number. t_next (t_asks tt t_when_known) t_gives))
 t_instructed tree routine instructions.IWatch (Lent p ∷ []) options =
-    t_then (t_place tree routine p) (λ q. t_then (t_number_at q) (λ number. t_next (t_asks (λ d. tt) tt t_when_known) t_gives))
+    t_then (t_place tree routine p) (λ q. t_then (t_number_at q) (λ number. t_next (t_asks tt t_when_known) t_gives))
 t_instructed tree routine instructions.IDelete (Lent p ∷ []) options =
-    t_then (t_place tree routine p) (λ q. t_then (t_number_at q) (λ number. t_next (t_asks (λ d. tt) tt t_when_known) t_gives))
-t_instructed tree routine instructions.IDisable [] options = t_next (t_tells (λ d. tt) tt) t_gives
-t_instructed tree routine instructions.IEnable [] options = t_next (t_tells (λ d. tt) tt) t_gives
+    t_then (t_place tree routine p) (λ q. t_then (t_number_at q) (λ number. t_next (t_asks tt t_when_known) t_gives))
+t_instructed tree routine instructions.IDisable [] options = t_next (t_tells tt) t_gives
+t_instructed tree routine instructions.IEnable [] options = t_next (t_tells tt) t_gives
 t_instructed tree routine instructions.WZLimJointDef (Lent shape ∷ Given low ∷ Given high ∷ []) options =
     t_then (t_place tree routine shape) (λ q. t_then (t_target tree routine low) (λ l. t_then (t_target tree routine high) (λ h. t_next (t_define tree.axes q _ l h) t_gives)))
 t_instructed tree routine instructions.WZHomeJointDef (Lent shape ∷ Given middle ∷ Given delta ∷ []) options =
@@ -595,11 +651,11 @@ t_instructed tree routine instructions.WZHomeJointDef (Lent shape ∷ Given midd
 t_instructed tree routine instructions.WZLimSup (Lent zone ∷ Lent shape ∷ []) options =
     t_then (t_place tree routine zone) (λ q. t_then (t_number_at q) (λ old. t_then (t_place tree routine shape) (λ p. t_then (t_shape_at p) (λ s. t_next (t_supervise q old _ s) t_gives))))
 t_instructed tree routine instructions.WZDisable (Lent zone ∷ []) options =
-    t_then (t_place tree routine zone) (λ q. t_then (t_number_at q) (λ number. t_next (t_asks (λ d. tt) tt t_when_zoned) t_gives))
+    t_then (t_place tree routine zone) (λ q. t_then (t_number_at q) (λ number. t_next (t_asks tt t_when_zoned) t_gives))
 t_instructed tree routine instructions.WZEnable (Lent zone ∷ []) options =
-    t_then (t_place tree routine zone) (λ q. t_then (t_number_at q) (λ number. t_next (t_asks (λ d. tt) tt t_when_zoned) t_gives))
+    t_then (t_place tree routine zone) (λ q. t_then (t_number_at q) (λ number. t_next (t_asks tt t_when_zoned) t_gives))
 t_instructed tree routine instructions.WZFree (Lent zone ∷ []) options =
-    t_then (t_place tree routine zone) (λ q. t_then (t_number_at q) (λ number. t_next (t_asks (λ d. tt) tt t_when_zoned) (t_next (t_store q (datums.Mark 0)) t_gives)))
+    t_then (t_place tree routine zone) (λ q. t_then (t_number_at q) (λ number. t_next (t_asks tt t_when_zoned) (t_next (t_store q (datums.Mark 0)) t_gives)))
 t_instructed tree routine instructions.Incr (Lent p ∷ []) options =
     t_then (t_place tree routine p) (λ q. t_then (t_read_value q) (λ v. t_then (t_num_in v) (λ n. t_then (t_in_range _) (λ w. t_next (t_write_value q w) t_gives))))
 t_instructed tree routine instructions.Decr (Lent p ∷ []) options =
@@ -643,32 +699,39 @@ t_counts_on w s local = t_then (t_counter w.routine local 0) (λ variable. t_the
 -- ---- looks and waits
 
 t_left : (again : Part) → IsTidy (left again)
-t_left again = t_next (t_tells (λ d. tt) tt) (t_next (t_change (λ d. record d { trapped = false }) (λ limited count d room. room)) t_goes)
+t_left again = t_next (t_tells tt) (t_next (t_change (λ d. record d { trapped = false }) (λ d. refl)) t_goes)
 
 t_interrupted : (again : Part) (trap : ℕ) → IsTidy (interrupted again trap)
-t_interrupted again trap = t_next (t_change (λ d. record d { trapped = true }) (λ limited count d room. room)) (t_does (λ flow. t_left again) (λ n. t_fault))
+t_interrupted again trap = t_next (t_change (λ d. record d { trapped = true }) (λ d. refl)) (t_does (λ flow. t_left again) (λ n. t_fault))
 
-t_looked : (again : Part) (go : Doing Flow) (a : Answer) → IsTidy go → IsTidy (looked again go a)
-t_looked again go (answers.Go seen) t = t_next (t_change (λ d. record d { frames = with_seen seen d.frames }) (λ limited count d room. seen_room seen d.frames room)) t
-t_looked again go (answers.Trap number trap) t = t_interrupted again trap
-t_looked again go answers.Flood t = t_fault
-t_looked again go _ t = t_misfit
+-- a Look of the innermost frame
+t_looked : (again : Part) (go : Doing Flow) → IsTidy go → IsTidy (Asks requests.Look (looked again go))
+unfolding after
+t_looked again go t = record { from = λ limited count d room. ((count, room), tt, tt, answered limited count d room, kept_self requests.Look (counts d.frames)) }
+  where
+    answered : (limited : Bool) (count : ℕ) (d : Data) → HasRoom limited count d.frames → (a : Answer) → Tidy limited count (found requests.Look a (counts d.frames)) (looked again go a) d
+    answered limited count d room (answers.Go seen) =
+        let e : Data = record d { frames = with_seen seen d.frames } in
+        subst (λ (before : List ℕ). Tidy limited count before go e) (seen_counts seen d.frames) (t.from limited count e (seen_room seen d.frames room))
+    answered limited count d room (answers.Trap number trap) = (t_interrupted again trap).from limited count d room
+    answered limited count d room answers.Flood = (count, room)
+    answered limited count d room _ = tt
 
 t_look : (w : Where) (byte : ℕ) (again : Part) (go : Doing Flow) → IsTidy go → IsTidy (look w byte again go)
-t_look w byte again go t = t_next (t_change _ (λ limited count d room. room)) (t_asks (λ d. tt) tt (λ a. t_looked again go a t))
+t_look w byte again go t = t_next (t_change _ (λ d. refl)) (t_looked again go t)
 
 -- a wait holds, rises, and looks
 t_hold : (w : Where) (s : TypedStmt) → Looks s → IsTidy (hold (Attempt w s))
 unfolding after
-t_hold w s looks = record { from = λ limited count d room. ((count, room), refl, tt, λ a. held limited count d room a) }
+t_hold w s looks = record { from = λ limited count d room. ((count, room), refl, tt, λ a. held limited count d room a, all_left (counts d.frames)) }
   where
-    risen : (limited : Bool) (count : ℕ) (d : Data) → HasRoom limited count d.frames → (a : Answer) → Tidy limited count (when_ok a >> goes_to (Attempt w s)) d
-    risen limited count d room answers.Ok = (count, room, λ flow e later. later, λ n e later. later)
+    risen : (limited : Bool) (count : ℕ) (d : Data) → HasRoom limited count d.frames → (a : Answer) → Tidy limited count (counts d.frames) (when_ok a >> goes_to (Attempt w s)) d
+    risen limited count d room answers.Ok = (t_goes {p = Attempt w s}).from limited count d room
     risen limited count d room _ = tt
 
     held : (limited : Bool) (count : ℕ) (d : Data) → HasRoom limited count d.frames → (a : Answer)
-        → Tidy limited count (when_ok a >> (tells requests.Rise >> goes_to (Attempt w s))) d
-    held limited count d room answers.Ok = ((count, room), tt, looks, λ a. risen limited count d room a)
+        → Tidy limited count (counts d.frames) (when_ok a >> (tells requests.Rise >> goes_to (Attempt w s))) d
+    held limited count d room answers.Ok = ((count, room), tt, looks, λ a. risen limited count d room a, all_left (counts d.frames))
     held limited count d room _ = tt
 
 -- ---- errors
@@ -682,7 +745,7 @@ t_parted w s error Skips = t_gives
 
 t_failed_in : (errors : Errors) (w : Where) (s : TypedStmt) (error : ℕ) → IsTidy (failed_in errors w s error)
 t_failed_in Unguarded w s error = t_raises
-t_failed_in (Guarded list) w s error = t_next (t_change (λ d. record d { errno = error }) (λ limited count d room. room)) (t_does (t_parted w s error) (λ n. t_raises))
+t_failed_in (Guarded list) w s error = t_next (t_change (λ d. record d { errno = error }) (λ d. refl)) (t_does (t_parted w s error) (λ n. t_raises))
 t_failed_in (InPart entered) w s error = t_raises
 
 t_header : {A : Type 0} {own : Doing A} {next : A → Doing Flow} (w : Where) (s : TypedStmt) → IsTidy own → ((v : A) → IsTidy (next v)) → IsTidy (header w s own next)
@@ -730,9 +793,16 @@ t_assign tree routine p e = t_then (t_place tree routine p) (λ q. t_then (t_exp
 t_connects : (tree : TypedTree) (routine : TypedRoutine) (p : TypedPlace) (trap : ℕ) → IsTidy (connects tree routine p trap)
 t_connects tree routine p trap = t_then (t_place tree routine p) (λ q. t_then (t_number_at q) (λ old. t_connect q old trap))
 
+t_points : (w : Where) (s : TypedStmt) (way : Way) → IsTidy (points w s way)
+t_points w s way = t_point way (if has_next (further way) then goes_to (Leg w s (further way)) else Gives Normal) (t_if (has_next (further way)) t_goes t_gives)
+
+t_instructs : (tree : TypedTree) (w : Where) (s : TypedStmt) (instruction : Instruction) (args options : List TypedArg) → Looks s → IsTidy (instructs tree w s instruction args options)
+t_instructs tree w s instructions.MoveAbsJ args options looks = t_header w s (t_aimed tree w.routine args) (t_points w s)
+t_instructs tree w s instruction args options looks = t_header w s (t_instructed tree w.routine instruction args options) (λ b. t_done_or_held w s b looks)
+
 t_follows : (tree : TypedTree) (w : Where) (s form : TypedStmt) → Looks s → IsTidy (follows tree w s form)
 t_follows tree w s (trees.Assign at p e) looks = t_header w s (t_assign tree w.routine p e) (λ _. t_gives)
-t_follows tree w s (trees.Instruct at instruction args) looks = t_header w s (t_instructed tree w.routine instruction (needed args) (options args)) (λ b. t_done_or_held w s b looks)
+t_follows tree w s (trees.Instruct at instruction args) looks = t_instructs tree w s instruction (needed args) (options args) looks
 t_follows tree w s (trees.Call at called args) looks = t_header w s (t_then (t_arguments tree w.routine args) (λ xs. t_goes)) (λ _. t_gives)
 t_follows tree w s (trees.Label at label) looks = t_gives
 t_follows tree w s (trees.Goto at label) looks = t_gives
@@ -762,6 +832,9 @@ t_turned w s _ = t_misfit
 t_turn : (w : Where) (s : TypedStmt) → IsTidy (turn w s)
 t_turn w s = t_look w (byte_of s) (Turn w s) (turned w (Turn w s) s) (t_turned w s s)
 
+t_leg : (w : Where) (s : TypedStmt) (way : Way) → IsTidy (leg w s way)
+t_leg w s way = t_look w (byte_of s) (Leg w s way) (points w s way) (t_points w s way)
+
 -- ---- lists and routines
 
 t_items : (tree : TypedTree) (w : Where) (list : TypedStmts) → IsTidy (items tree w list)
@@ -781,11 +854,13 @@ t_rest tree w list more = t_then (t_items tree w more) (t_ended w list)
 
 -- a routine's frame is there until it is left
 
-left_then : {A : Type 0} (limited : Bool) (count : ℕ) (m : Doing A) (d : Data) → IsTidy m → HasRoom limited (suc count) d.frames → Tidy limited count (leaves >> m) d
+left_then : {A : Type 0} (limited : Bool) (count : ℕ) (m : Doing A) (d : Data) → IsTidy m → HasRoom limited (suc count) d.frames → Tidy limited count (counts d.frames) (leaves >> m) d
 unfolding after
-left_then limited count m d t room = t.from limited count (record d { frames = below_first d.frames }) (left_room d.frames room)
+left_then limited count m d t room =
+    let e : Data = record d { frames = below_first d.frames } in
+    tidy_further limited count (counts e.frames) (counts d.frames) m e (t.from limited count e (left_room d.frames room)) (below_counts d.frames)
 
-ended_with : (limited : Bool) (count : ℕ) (kind : RoutineKind) (flow : Flow) (d : Data) → HasRoom limited (suc count) d.frames → Tidy limited count (result kind flow) d
+ended_with : (limited : Bool) (count : ℕ) (kind : RoutineKind) (flow : Flow) (d : Data) → HasRoom limited (suc count) d.frames → Tidy limited count (counts d.frames) (result kind flow) d
 ended_with limited count kinds.Func (Returns (Some v)) d room = left_then limited count (Gives (Returns (Some v))) d t_gives room
 ended_with limited count kinds.Func (Returns None) d room = tt
 ended_with limited count kinds.Func Normal d room = (suc count, room)
@@ -800,25 +875,37 @@ ended_with limited count kinds.Proc _ d room = tt
 ended_with limited count kinds.Trap _ d room = tt
 
 does_body : (limited : Bool) (count : ℕ) (tree : TypedTree) (routine : TypedRoutine) (d : Data) → HasRoom limited (suc count) d.frames
-    → Tidy limited count (after (body tree routine) (result routine.kind) (λ error. leaves >> Raises error)) d
+    → Tidy limited count (counts d.frames) (after (body tree routine) (result routine.kind) (λ error. leaves >> Raises error)) d
 does_body limited count tree routine d room =
-    tidy_after limited (suc count) count (body tree routine) (result routine.kind) (λ error. leaves >> Raises error) d
+    tidy_after limited (suc count) count (counts d.frames) (body tree routine) (result routine.kind) (λ error. leaves >> Raises error) d
     ((t_rest tree (within routine) routine.list routine.list).from limited (suc count) d room)
     (λ flow e later. ended_with limited count routine.kind flow e later) (λ n e later. left_then limited count (Raises n) e t_raises later)
 
-t_called : (tree : TypedTree) (args : List Datum) (routine : Option TypedRoutine) → IsTidy (called tree args routine)
+-- it may make a frame before its first request
+pub record IsTidyPart (m : Doing Flow) : Type 0 where
+  pub first : Data → List ℕ
+  pub from : (limited : Bool) (count : ℕ) (d : Data) → HasRoom limited count d.frames → Tidy limited count (first d) m d
+
+as_part : {m : Doing Flow} → IsTidy m → IsTidyPart m
+as_part t = record { first = λ d. counts d.frames; from = λ limited count d room. t.from limited count d room }
+
+t_called : (tree : TypedTree) (args : List Datum) (routine : Option TypedRoutine) → IsTidyPart (called tree args routine)
 unfolding after
-t_called tree args None = t_misfit
-t_called tree args (Some routine) = record { from = λ limited count d room. by limited count d room (has_room d.frames (frame_of routine args)) refl }
+t_called tree args None = as_part t_misfit
+t_called tree args (Some routine) = record {
+  first = λ d. 0 ∷ counts d.frames;
+  from = λ limited count d room. by limited count d room (has_room d.frames (frame_of routine args)) refl;
+}
   where
     by : (limited : Bool) (count : ℕ) (d : Data) → HasRoom limited count d.frames → (b : Bool) → has_room d.frames (frame_of routine args) ≡ b
-        → Tidy limited count (after (if b then Writes (record d { frames = frame_of routine args ∷ d.frames }) done else fault DepthLimit)
+        → Tidy limited count (0 ∷ counts d.frames) (after (if b then Writes (record d { frames = frame_of routine args ∷ d.frames }) done else fault DepthLimit)
         (λ _. after (body tree routine) (result routine.kind) (λ error. leaves >> Raises error)) Raises) d
     by limited count d room true is = does_body limited count tree routine (record d { frames = frame_of routine args ∷ d.frames }) (entered_room d.frames (frame_of routine args) room is)
     by limited count d room false is = (count, room)
 
-pub t_part : (tree : TypedTree) (p : Part) → IsTidy (part tree p)
-t_part tree (Attempt w s) = t_stmt tree w s
-t_part tree (Turn w s) = t_turn w s
-t_part tree (Rest w list more) = t_rest tree w list more
+pub t_part : (tree : TypedTree) (p : Part) → IsTidyPart (part tree p)
+t_part tree (Attempt w s) = as_part (t_stmt tree w s)
+t_part tree (Turn w s) = as_part (t_turn w s)
+t_part tree (Leg w s way) = as_part (t_leg w s way)
+t_part tree (Rest w list more) = as_part (t_rest tree w list more)
 t_part tree (Call routine args) = t_called tree args (slice_get tree.routines routine)

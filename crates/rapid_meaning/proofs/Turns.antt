@@ -1,5 +1,5 @@
 -- A FOR iterates as often as its closed form says.
-use Rattle.std.proofs.Common.{◌≡◌, ◌⊎◌, inl, inr, refl, sym, ap, ◌∙◌, subst, ℕ, zero, suc, ◌+◌, ◌-◌, ◌/◌, ◌<◌, ◌≤◌, ◌==◌, Bool, true, false, ℤ, pos, negsuc, neg_ℤ, ◌+ℤ◌, ◌-ℤ◌, ◌≤ℤ◌, int_lt, nat_abs, List, [], ◌∷◌, ◌++◌, length, Option, Some, None, slice_get, slice_set, if◌then◌else◌, arith, append_assoc}
+use Rattle.std.proofs.Common.{◌≡◌, ◌⊎◌, inl, inr, refl, ap, ◌∙◌, ℕ, zero, suc, ◌+◌, ◌/◌, ◌<◌, ◌≤◌, Bool, true, false, ℤ, pos, negsuc, ◌+ℤ◌, ◌-ℤ◌, ◌≤ℤ◌, int_lt, nat_abs, List, [], ◌∷◌, ◌++◌, length, Option, Some, None, slice_get, slice_set, if◌then◌else◌, arith, append_assoc}
 use Rattle.std.specs.Prelude.{⊤, IsTrue}
 use Rattle.std.specs.Int.Signed.{◌<ℤ◌}
 use Rattle.std.specs.Option.{option_and_then}
@@ -19,13 +19,12 @@ use Rattle.typed_trees.specs.Plain as trees
 use Rattle.typed_trees.specs.Plain.{TypedExpr, TypedRoutine, TypedStmt, TypedStmts, TypedTree}
 use Rattle.typed_trees.specs.declared.datum.Datum.{Datum}
 use Rattle.typed_trees.specs.declared.datum.Datum.TheVariants as datums
-use Rattle.typed_trees.specs.declared.datum.Lvalue.{Lvalue}
 use Rattle.typed_trees.specs.declared.datum.Root.{Root}
 use Rattle.typed_trees.specs.declared.datum.Root.TheVariants as roots
-use Rattle.rapid_meaning.specs.Answering.{Outcome, Asking, Ended, Gave, Misfits, NoFuel, Raised, Run, Unfit, fitting_of, joined, performed}
+use Rattle.rapid_meaning.specs.Answering.{Outcome, Asking, Gave, Run, fitting_of, joined, performed}
 use Rattle.rapid_meaning.specs.Data.{Data, Frame, datum_at, frame_at, put_at, put_in_frame, with_datum, with_frame, with_seen}
 use Rattle.rapid_meaning.specs.Doings.{Doing, Gives, Raises, Reads, ◌>>=◌, after, goes_to}
-use Rattle.rapid_meaning.specs.Flows.{Flow, Normal, Part, Rest, Turn, Where}
+use Rattle.rapid_meaning.specs.Flows.{Flow, Normal, Rest, Turn, Where}
 use Rattle.rapid_meaning.specs.Layouts.{local_start}
 use Rattle.rapid_meaning.specs.Looks.{place_of}
 use Rattle.rapid_meaning.specs.Loops.{counted, counter, counter_place, counts_on, has_passed, set_counter, turn_due}
@@ -34,7 +33,7 @@ use Rattle.rapid_meaning.specs.Runs.{deep}
 use Rattle.rapid_meaning.specs.Statements.{and_then, turned}
 use Rattle.rapid_meaning.specs.Turns.{Counts, Ends, EndsNormally, steps_past, turn_by_turn, turns}
 use Rattle.rapid_meaning.specs.Values.{num_in}
-use Rattle.rapid_meaning.proofs.Composing.{Comes, comes_after, performed_after}
+use Rattle.rapid_meaning.proofs.Composing.{Comes, comes_after, goes_as, performed_after}
 use Rattle.rapid_meaning.proofs.ConstantsAgree.{read_comes}
 
 -- ---- the three data of a FOR
@@ -139,19 +138,6 @@ counts_looked w s local byte seen d v last step c = record {
 }
 
 -- ---- what a FOR does
-
-joined_same : (o : Outcome Flow) → joined o (λ v e rest. Gave v e rest) (λ n e rest. Raised n e rest) ≡ o
-joined_same (Gave v d left) = refl
-joined_same (Raised n d left) = refl
-joined_same (Asking r d) = refl
-joined_same (Ended d) = refl
-joined_same Misfits = refl
-joined_same Unfit = refl
-joined_same NoFuel = refl
-
-goes_as : (by : Bool → Fitting) (run : Run) (p : Part) (d : Data) (left : List Answer) → performed by run (goes_to p) d left ≡ run p d left
-unfolding performed
-goes_as by run p d left = joined_same (run p d left)
 
 due_as : (by : Bool → Fitting) (run : Run) (w : Where) (s : TypedStmt) (local : ℕ) (d : Data) (v last step : ℤ) (left : List Answer) → Counts w.routine local d v last step
     → performed by run (turn_due w.routine local (Turn w s)) d left ≡ performed by run (if has_passed v last step then Gives Normal else goes_to (Turn w s)) d left

@@ -6,10 +6,10 @@ use Rattle.rapid_model.specs.declared.routine_kind.RoutineKind.TheVariants as ki
 use Rattle.typed_trees.specs.Plain.{TypedRoutine, TypedStmts, TypedTree}
 use Rattle.typed_trees.specs.declared.datum.Datum.{Datum}
 use Rattle.rapid_meaning.specs.Doings.{Doing, Gives, Raises, Misfit, ◌>>◌, after, fault}
-use Rattle.rapid_meaning.specs.Flows.{Flow, Normal, Returns, Errors, Unguarded, Guarded, Where, Part, Attempt, Turn, Rest, Call}
+use Rattle.rapid_meaning.specs.Flows.{Flow, Normal, Returns, Errors, Unguarded, Guarded, Where, Part, Attempt, Turn, Leg, Rest, Call}
 use Rattle.rapid_meaning.specs.Frames.{enters, frame_of, leaves}
 use Rattle.rapid_meaning.specs.Lists.{rest}
-use Rattle.rapid_meaning.specs.Statements.{stmt, turn}
+use Rattle.rapid_meaning.specs.Statements.{leg, stmt, turn}
 
 abbrev pub errors_of : Option TypedStmts → Errors
 errors_of None = Unguarded
@@ -41,5 +41,6 @@ called tree args (Some routine) = enters (frame_of routine args) >> after (body 
 abbrev pub part : TypedTree → Part → Doing Flow
 part tree (Attempt w s) = stmt tree w s
 part tree (Turn w s) = turn w s
+part tree (Leg w s way) = leg w s way
 part tree (Rest w list more) = rest tree w list more
 part tree (Call routine args) = called tree args (slice_get tree.routines routine)

@@ -1,5 +1,6 @@
 -- How a list of statements ends, and the parts of a program.
 use Rattle.std.specs.Prelude.{ℕ, List, Option, None}
+use Rattle.joint_planner.specs.Setpoints.{PlanData}
 use Rattle.rapid_model.specs.declared.value.Value.{Value}
 use Rattle.typed_trees.specs.Plain.{TypedRoutine, TypedStmt, TypedStmts}
 use Rattle.typed_trees.specs.declared.datum.Datum.{Datum}
@@ -30,11 +31,17 @@ pub record Where : Type 0 where
   pub routine : TypedRoutine
   pub errors : Errors
 
+-- a move between two of its setpoints: its plan, and how many of them were given
+pub record Way : Type 0 where
+  pub plan : PlanData
+  pub given : ℕ
+
 -- A part of a program, which may run for as long as there are answers. Attempt: a statement, from its Look. Turn: a
--- FOR, from the Look of its next iteration. Rest: a list, and its statements that are left. Call: a routine, by its
--- number, with its arguments.
+-- FOR, from the Look of its next iteration. Leg: a move, from the Look before its next setpoint. Rest: a list, and its
+-- statements that are left. Call: a routine, by its number, with its arguments.
 pub data Part : Type 0 where
   Attempt : Where → TypedStmt → Part
   Turn : Where → TypedStmt → Part
+  Leg : Where → TypedStmt → Way → Part
   Rest : Where → TypedStmts → TypedStmts → Part
   Call : ℕ → List Datum → Part

@@ -1,5 +1,5 @@
 -- The instructions (RAPID Instructions, Functions and Data types): the order in which each evaluates, asks and stores.
--- Each gives whether it is done; a wait that is not ready is not.
+-- Each but MoveAbsJ gives whether it is done; a wait that is not ready is not.
 use Rattle.std.specs.Prelude.{ℕ, Bool, true, false, ℤ, pos, List, [], ◌∷◌, codes, bytes_eq, slice_get, ◌||◌}
 use Rattle.rapid_num.specs.Arithmetic.{sum_of, difference_of}
 use Rattle.rapid_num.specs.declared.joints.Joints.{Joints}
@@ -14,9 +14,10 @@ use Rattle.typed_trees.specs.declared.datum.Datum.TheVariants.{Mark}
 use Rattle.typed_trees.specs.declared.datum.Lvalue.{Lvalue}
 use Rattle.rapid_meaning.specs.Doings.{Doing, Gives, Misfit, ◌>>=◌, ◌>>◌, or_misfit, tells}
 use Rattle.rapid_meaning.specs.Expressions.{expr, lent_length, place}
+use Rattle.rapid_meaning.specs.Flows.{Way}
 use Rattle.rapid_meaning.specs.Interrupts.{asks_of_number, number_at, order, pers_at}
 use Rattle.rapid_meaning.specs.Meetings.{arrive, tasks_in}
-use Rattle.rapid_meaning.specs.Moves.{move, still}
+use Rattle.rapid_meaning.specs.Moves.{aim, still}
 use Rattle.rapid_meaning.specs.Places.{read_value, store, test_and_set, write_value}
 use Rattle.rapid_meaning.specs.Signals.{has_value, write_signal}
 use Rattle.rapid_meaning.specs.Values.{bit_in, in_range, num_in, target_in, text_in, tool_speed_in, truth_in, whole}
@@ -81,15 +82,18 @@ tail tree routine [] = Gives tails.None
 tail tree routine (Optional name (Argument (Given e)) ∷ []) = tail_named tree routine (bytes_eq name (codes "Num")) e
 tail tree routine _ = Misfit
 
-abbrev pub instructed : TypedTree → TypedRoutine → Instruction → List TypedArg → List TypedArg → Doing Bool
--- moves
-instructed tree routine instructions.MoveAbsJ (Given to ∷ Given speed ∷ Itself _ ∷ Itself _ ∷ []) options = do
+-- MoveAbsJ before its first setpoint
+abbrev pub aimed : TypedTree → TypedRoutine → List TypedArg → Doing Way
+aimed tree routine (Given to ∷ Given speed ∷ Itself _ ∷ Itself _ ∷ []) = do
   still
   joints ← target tree routine to
   v ← expr tree routine speed
   n ← tool_speed_in v
-  move tree.axes joints n
-  ready
+  aim tree.axes joints n
+aimed tree routine args = Misfit
+
+-- any other instruction
+abbrev pub instructed : TypedTree → TypedRoutine → Instruction → List TypedArg → List TypedArg → Doing Bool
 -- signals
 instructed tree routine instructions.Set (OfSignal signal ∷ []) options = write_signal signal true >> ready
 instructed tree routine instructions.Reset (OfSignal signal ∷ []) options = write_signal signal false >> ready

@@ -24,3 +24,4 @@ pub mod Runs
 pub mod Constants
 pub mod Asking
 pub mod Turns
+pub mod Legs

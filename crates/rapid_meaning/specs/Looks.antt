@@ -1,4 +1,5 @@
--- Each statement begins with a Look, at which a trap may run (RAPID Overview, interrupts).
+-- A Look stands before each statement, each iteration of a FOR, and each setpoint of a move after its first. A trap
+-- may run there (RAPID Overview, interrupts).
 use Rattle.std.specs.Prelude.{ℕ, true, false, [], Option, Some}
 use Rattle.rapid_model.specs.declared.answer.Answer.{Answer}
 use Rattle.rapid_model.specs.declared.answer.Answer.TheVariants as answers
@@ -33,7 +34,7 @@ looked again go _ = Misfit
 abbrev pub place_of : Where → ℕ → Option At
 place_of w byte = Some (record { «module» = w.routine.«module»; byte = byte })
 
--- the Look of a statement at this byte, and what follows once the statement may begin; after a trap this part begins
+-- a Look of a statement at this byte, and what follows once the statement may go on; after a trap this part begins
 -- again
 abbrev pub look : Where → ℕ → Part → Doing Flow → Doing Flow
 look w byte again go = do

@@ -1,21 +1,24 @@
 -- What statements do (RAPID Kernel, statements).
-use Rattle.std.specs.Prelude.{ℕ, ◌/◌, ◌%◌, ◌==◌, ◌&&◌, nat_le, Bool, true, false, pos, negsuc, None, Some, if◌then◌else◌}
+use Rattle.std.specs.Prelude.{ℕ, List, ◌/◌, ◌%◌, ◌==◌, ◌&&◌, nat_le, Bool, true, false, pos, negsuc, None, Some, if◌then◌else◌}
 use Rattle.rapid_model.specs.declared.fate.Fate.TheVariants as fates
 use Rattle.rapid_model.specs.declared.fate.Fault.TheVariants.{RaiseRange}
+use Rattle.rapid_model.specs.declared.instruction.Instruction.{Instruction}
+use Rattle.rapid_model.specs.declared.instruction.Instruction.TheVariants as instructions
 use Rattle.rapid_model.specs.declared.value.Value.{Value}
 use Rattle.rapid_model.specs.declared.value.Value.TheVariants as values
 use Rattle.rapid_model.specs.declared.operator.Operator.TheVariants as operators
 use Rattle.rapid_values.specs.Operators.{apply}
 use Rattle.typed_trees.specs.Plain as trees
-use Rattle.typed_trees.specs.Plain.{TypedArgs, TypedArms, TypedCases, TypedElse, TypedExpr, TypedExprs, TypedPlace, TypedRoutine, TypedStmt, TypedStmts, TypedTree, NoExprs, MoreExprs, NoStmts, MoreStmts, NoArms, MoreArms, NoCases, MoreCases, NoElse, Else}
+use Rattle.typed_trees.specs.Plain.{TypedArg, TypedArgs, TypedArms, TypedCases, TypedElse, TypedExpr, TypedExprs, TypedPlace, TypedRoutine, TypedStmt, TypedStmts, TypedTree, NoExprs, MoreExprs, NoArms, MoreArms, NoCases, MoreCases, NoElse, Else}
 use Rattle.rapid_meaning.specs.Doings.{Doing, Gives, Raises, Ends, Misfit, Act, ◌>>=◌, calls, fault, goes_to}
 use Rattle.rapid_meaning.specs.Errors.{header, raised_again}
 use Rattle.rapid_meaning.specs.Expressions.{arguments, expr, place}
-use Rattle.rapid_meaning.specs.Flows.{Flow, Normal, Jumps, Returns, Retries, Skips, Where, Part, Attempt, Turn, Rest}
-use Rattle.rapid_meaning.specs.Instructions.{instructed, marked, needed, options, truth}
+use Rattle.rapid_meaning.specs.Flows.{Flow, Normal, Jumps, Returns, Retries, Skips, Way, Where, Part, Attempt, Turn, Leg, Rest}
+use Rattle.rapid_meaning.specs.Instructions.{aimed, instructed, marked, needed, options, truth}
 use Rattle.rapid_meaning.specs.Interrupts.{connect}
 use Rattle.rapid_meaning.specs.Looks.{hold, look}
 use Rattle.rapid_meaning.specs.Loops.{bounds, counts_on, turn_due}
+use Rattle.rapid_meaning.specs.Moves.{further, has_next, point}
 use Rattle.rapid_meaning.specs.Places.{write_value}
 use Rattle.rapid_meaning.specs.Values.{applied, truth_in}
 
@@ -91,10 +94,19 @@ selected tree routine v (MoreCases es list more) other = do
   b ← is_among tree routine v es
   if b then Gives (Else list) else selected tree routine v more other
 
+-- a move from its next setpoint on; a Look stands before each of the others
+abbrev pub points : Where → TypedStmt → Way → Doing Flow
+points w s way = point way (if has_next (further way) then goes_to (Leg w s (further way)) else Gives Normal)
+
+-- an instruction; setpoints raise no errors
+abbrev pub instructs : TypedTree → Where → TypedStmt → Instruction → List TypedArg → List TypedArg → Doing Flow
+instructs tree w s instructions.MoveAbsJ args options = header w s (aimed tree w.routine args) (points w s)
+instructs tree w s instruction args options = header w s (instructed tree w.routine instruction args options) (done_or_held (Attempt w s))
+
 -- what follows the Look of a statement, by its form
 abbrev pub follows : TypedTree → Where → TypedStmt → TypedStmt → Doing Flow
 follows tree w s (trees.Assign at p e) = header w s (assign tree w.routine p e) goes_on
-follows tree w s (trees.Instruct at instruction args) = header w s (instructed tree w.routine instruction (needed args) (options args)) (done_or_held (Attempt w s))
+follows tree w s (trees.Instruct at instruction args) = instructs tree w s instruction (needed args) (options args)
 follows tree w s (trees.Call at called args) = header w s (call tree w.routine called args) goes_on
 follows tree w s (trees.Label at label) = Gives Normal
 follows tree w s (trees.Goto at label) = Gives (Jumps label)
@@ -144,3 +156,7 @@ turned w next _ = Misfit
 -- an iteration of a FOR, from its Look
 abbrev pub turn : Where → TypedStmt → Doing Flow
 turn w s = look w (byte_of s) (Turn w s) (turned w (Turn w s) s)
+
+-- a move from the Look before its next setpoint
+abbrev pub leg : Where → TypedStmt → Way → Doing Flow
+leg w s way = look w (byte_of s) (Leg w s way) (points w s way)

@@ -7,8 +7,7 @@ use Rattle.rapid_model.specs.declared.fate.Fault.TheVariants.{NumRange, SignalVa
 use Rattle.rapid_model.specs.declared.value.Value.{Value}
 use Rattle.rapid_model.specs.declared.value.Value.TheVariants as values
 use Rattle.rapid_model.specs.declared.operator.Operator.{Operator}
-use Rattle.rapid_model.specs.declared.operator.Operator.TheVariants as operators
-use Rattle.rapid_values.specs.Operators.{apply}
+use Rattle.rapid_values.specs.Operators.{apply, decides}
 use Rattle.rapid_values.specs.declared.applied.Applied.{Applied}
 use Rattle.rapid_values.specs.declared.applied.Applied.TheVariants as applies
 use Rattle.typed_trees.specs.declared.datum.Datum.{Datum}
@@ -74,14 +73,6 @@ applied (applies.Gives v) = Gives v
 applied (applies.Raises n) = Raises n
 applied applies.OutOfRange = fault NumRange
 applied applies.Unfit = Misfit
-
--- whether the left operand decides the result, as FALSE does before AND, and TRUE before OR; both take bools only
-abbrev pub decides : Operator → Value → Option Bool
-decides operators.And (values.Bool b) = Some (not b)
-decides operators.And v = None
-decides operators.Or (values.Bool b) = Some b
-decides operators.Or v = None
-decides o v = Some false
 
 abbrev pub unless_decided : Option Bool → Value → Doing Value → Doing Value
 unless_decided None v more = Misfit

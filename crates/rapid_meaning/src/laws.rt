@@ -1,4 +1,4 @@
-ghost use Rattle.std.specs.Prelude.{◌≡◌, ◌≢◌, ◌⊎◌, ℕ, suc, ◌+◌, ◌*◌, ◌<◌, ◌≤◌, Bool, true, false, ℤ, pos, ◌+ℤ◌, int_lt, List, [], ◌∷◌, ◌++◌, length, replicate, IsTrue, IsFalse, Option, Some, None, slice_get};
+ghost use Rattle.std.specs.Prelude.{◌≡◌, ◌≢◌, ◌⊎◌, ℕ, suc, ◌+◌, ◌*◌, ◌<◌, ◌≤◌, Bool, true, false, ℤ, pos, ◌+ℤ◌, int_lt, List, [], ◌∷◌, ◌++◌, length, IsTrue, IsFalse, Option, Some, None, slice_get};
 ghost use Rattle.rapid_limits.specs.declared.TheConstants.{MOST_FRAMES, MOST_FRAME_VALUES};
 ghost use Rattle.rapid_num.specs.Absent.{absent, is_absent};
 ghost use Rattle.rapid_num.specs.NumText.{fixed_text};
@@ -8,7 +8,7 @@ ghost use Rattle.rapid_num.specs.declared.joints.Joints.{Joints};
 ghost use Rattle.joint_planner.specs.Setpoints.{setpoint, setpoint_count};
 ghost use Rattle.rapid_model.specs.Fits.{Fitting, fits_request};
 ghost use Rattle.rapid_model.specs.declared.answer.Answer.{Answer};
-ghost use Rattle.rapid_model.specs.declared.answer.Answer.TheVariants.{At, Given, Ok, Stopped};
+ghost use Rattle.rapid_model.specs.declared.answer.Answer.TheVariants.{At, Given, Go, Ok, Stopped};
 ghost use Rattle.rapid_model.specs.declared.fate.Fate.TheVariants as fates;
 ghost use Rattle.rapid_model.specs.declared.fate.Fault.TheVariants.{IndexRange, JointRange, NumRange, Speed, ZoneStop};
 ghost use Rattle.rapid_model.specs.declared.request.Request.{Request};
@@ -23,14 +23,17 @@ ghost use Rattle.rapid_meaning.specs.Answering.{Asking, Ended, Gave, Misfits, No
 ghost use Rattle.rapid_meaning.specs.Asking.{tree_asks};
 ghost use Rattle.rapid_meaning.specs.Constants.{HoldsArrays};
 ghost use Rattle.rapid_meaning.specs.Data.{Data, seen_in, values_in};
-ghost use Rattle.rapid_meaning.specs.Errors.{failed_in};
+ghost use Rattle.rapid_meaning.specs.Errors.{failed_in, header};
 ghost use Rattle.rapid_meaning.specs.Expressions.{expr};
 ghost use Rattle.rapid_meaning.specs.Flows.{Guarded, Normal, Unguarded, Where, Turn};
 ghost use Rattle.rapid_meaning.specs.Frames.{initial};
 ghost use Rattle.rapid_meaning.specs.Functions.{num_text};
+ghost use Rattle.rapid_meaning.specs.Legs.{let_on, looked_along};
+ghost use Rattle.rapid_meaning.specs.Looks.{place_of};
 ghost use Rattle.rapid_meaning.specs.Loops.{turn_due};
-ghost use Rattle.rapid_meaning.specs.Moves.{cap_of, move};
+ghost use Rattle.rapid_meaning.specs.Moves.{aim, cap_of};
 ghost use Rattle.rapid_meaning.specs.Runs.{FitsSteps, asks, asked_after, data_after, deep, state_after, task};
+ghost use Rattle.rapid_meaning.specs.Statements.{byte_of, points};
 ghost use Rattle.rapid_meaning.specs.Turns.{Counts, EndsNormally, turn_by_turn, turns};
 ghost use Rattle.rapid_meaning.specs.Zones.{home_high, home_low, on_axes};
 
@@ -65,19 +68,21 @@ pub fn constants_fail_as_their_values()
     ensures array { (tree : TypedTree) (routine : TypedRoutine) (known : Elements) (d : Data) → HoldsArrays tree routine known d → (e : TypedExpr) → constant_value known e ≡ constant.OutOfArray → (by : Bool → Fitting) (run : Run) → performed by run (expr tree routine e) d [] ≢ Misfits → performed by run (expr tree routine e) d [] ≡ Asking (End (fates.Fault IndexRange)) d }
 {}
 
-/// A law: a move asks for each setpoint that is planned from the arm's position, in order.
+/// A law: a move asks for each setpoint that is planned from the arm's position, in order. Between two setpoints it
+/// looks, and changes no data except the place and the count of that Look.
 pub fn moves_are_planned()
-    ensures { (by : Bool → Fitting) (run : Run) (axes : ℕ) (start target : Joints) (speed : ℤ) (given : ℕ) (d : Data) → IsTrue (is_position (by d.trapped).axes start) → IsTrue (is_reachable axes target) → IsTrue (int_lt (pos 0) speed) → given < setpoint_count axes start target (cap_of speed) → performed by run (move axes target speed) d (At start ∷ replicate given Given) ≡ Asking (Setpoint (setpoint axes start target (setpoint_count axes start target (cap_of speed)) (given + 1))) d }
+    ensures asks { (tree : TypedTree) (n : ℕ) (w : Where) (s : TypedStmt) (axes : ℕ) (start target : Joints) (speed : ℤ) (seens : List ℕ) (d : Data) → IsTrue (is_position tree.axes start) → IsTrue (is_reachable axes target) → IsTrue (int_lt (pos 0) speed) → length seens < setpoint_count axes start target (cap_of speed) → length seens ≤ n → performed (fitting_of tree) (deep tree n) (header w s (aim axes target speed) (points w s)) d (At start ∷ let_on seens) ≡ Asking (Setpoint (setpoint axes start target (setpoint_count axes start target (cap_of speed)) (length seens + 1))) (looked_along w (byte_of s) seens d) }
+    ensures looks { (tree : TypedTree) (n : ℕ) (w : Where) (s : TypedStmt) (axes : ℕ) (start target : Joints) (speed : ℤ) (seens : List ℕ) (d : Data) → IsTrue (is_position tree.axes start) → IsTrue (is_reachable axes target) → IsTrue (int_lt (pos 0) speed) → length seens + 1 < setpoint_count axes start target (cap_of speed) → length seens < n → performed (fitting_of tree) (deep tree n) (header w s (aim axes target speed) (points w s)) d (At start ∷ let_on seens ++ Given ∷ []) ≡ Asking Look (record (looked_along w (byte_of s) seens d) { place = place_of w (byte_of s) }) }
 {}
 
-/// A law: once all its setpoints are given, a move is done: it asks nothing more and has changed no data. A stopped
-/// setpoint ends the task. A target out of reach ends it before any request, whatever the speed. So does a speed that
-/// is not positive, for any target within reach.
+/// A law: once all its setpoints are given, a move is done: it asks nothing more, no Look either, and has changed no
+/// data except the place and the count of its Looks. A stopped setpoint ends the task. A target out of reach ends it
+/// before any request, whatever the speed. So does a speed that is not positive, for any target within reach.
 pub fn moves_end()
-    ensures done { (by : Bool → Fitting) (run : Run) (axes : ℕ) (start target : Joints) (speed : ℤ) (d : Data) (left : List Answer) → IsTrue (is_position (by d.trapped).axes start) → IsTrue (is_reachable axes target) → IsTrue (int_lt (pos 0) speed) → performed by run (move axes target speed) d (At start ∷ replicate (setpoint_count axes start target (cap_of speed)) Given ++ left) ≡ Gave tt d left }
-    ensures stopped { (by : Bool → Fitting) (run : Run) (axes : ℕ) (start target : Joints) (speed : ℤ) (given : ℕ) (zone : ZoneName) (d : Data) → IsTrue (is_position (by d.trapped).axes start) → IsTrue (is_reachable axes target) → IsTrue (int_lt (pos 0) speed) → given < setpoint_count axes start target (cap_of speed) → performed by run (move axes target speed) d (At start ∷ replicate given Given ++ Stopped zone ∷ []) ≡ Asking (End (fates.Fault ZoneStop)) d }
-    ensures out_of_reach { (by : Bool → Fitting) (run : Run) (axes : ℕ) (target : Joints) (speed : ℤ) (d : Data) → is_reachable axes target ≡ false → performed by run (move axes target speed) d [] ≡ Asking (End (fates.Fault JointRange)) d }
-    ensures no_speed { (by : Bool → Fitting) (run : Run) (axes : ℕ) (target : Joints) (speed : ℤ) (d : Data) → IsTrue (is_reachable axes target) → int_lt (pos 0) speed ≡ false → performed by run (move axes target speed) d [] ≡ Asking (End (fates.Fault Speed)) d }
+    ensures done { (tree : TypedTree) (n : ℕ) (w : Where) (s : TypedStmt) (axes : ℕ) (start target : Joints) (speed : ℤ) (seens : List ℕ) (d : Data) (left : List Answer) → IsTrue (is_position tree.axes start) → IsTrue (is_reachable axes target) → IsTrue (int_lt (pos 0) speed) → length seens + 1 ≡ setpoint_count axes start target (cap_of speed) → length seens ≤ n → performed (fitting_of tree) (deep tree n) (header w s (aim axes target speed) (points w s)) d (At start ∷ let_on seens ++ Given ∷ left) ≡ Gave Normal (looked_along w (byte_of s) seens d) left }
+    ensures stopped { (tree : TypedTree) (n : ℕ) (w : Where) (s : TypedStmt) (axes : ℕ) (start target : Joints) (speed : ℤ) (seens : List ℕ) (zone : ZoneName) (d : Data) → IsTrue (is_position tree.axes start) → IsTrue (is_reachable axes target) → IsTrue (int_lt (pos 0) speed) → length seens < setpoint_count axes start target (cap_of speed) → length seens ≤ n → performed (fitting_of tree) (deep tree n) (header w s (aim axes target speed) (points w s)) d (At start ∷ let_on seens ++ Stopped zone ∷ []) ≡ Asking (End (fates.Fault ZoneStop)) (looked_along w (byte_of s) seens d) }
+    ensures out_of_reach { (by : Bool → Fitting) (run : Run) (axes : ℕ) (target : Joints) (speed : ℤ) (d : Data) → is_reachable axes target ≡ false → performed by run (aim axes target speed) d [] ≡ Asking (End (fates.Fault JointRange)) d }
+    ensures no_speed { (by : Bool → Fitting) (run : Run) (axes : ℕ) (target : Joints) (speed : ℤ) (d : Data) → IsTrue (is_reachable axes target) → int_lt (pos 0) speed ≡ false → performed by run (aim axes target speed) d [] ≡ Asking (End (fates.Fault Speed)) d }
 {}
 
 /// A law: the most that an axis moves in one setpoint, in thousandths of a degree, is the whole part of the speed, and
@@ -118,9 +123,11 @@ pub fn frames_have_room()
 {}
 
 /// A law: a wait that is not ready holds with the count that the innermost frame keeps from a Look of its own
-/// statements. After Rise, the task looks again.
+/// statements. If no Look with as many frames came after a Look that may go on, it is the count of that Look. After
+/// Rise, the task looks again.
 pub fn waits_look_again()
     ensures holds { (tree : TypedTree) (answers : List Answer) (seen : ℕ) (d : Data) → state_after tree answers ≡ Asking (Hold seen) d → seen ≡ seen_in d.frames }
+    ensures own { (tree : TypedTree) (before more : List Answer) (seen count below : ℕ) (d e : Data) → state_after tree before ≡ Asking Look d → length d.frames ≡ suc below → state_after tree (before ++ Go seen ∷ more) ≡ Asking (Hold count) e → length e.frames ≡ suc below → ((some rest : List Answer) (f : Data) → more ≡ some ++ rest → state_after tree (before ++ Go seen ∷ some) ≡ Asking Look f → length f.frames ≢ suc below) → count ≡ seen }
     ensures looks { (tree : TypedTree) (answers : List Answer) → asked_after tree answers ≡ asks Rise → asked_after tree (answers ++ Ok ∷ []) ≡ asks Look }
 {}
 

@@ -1,6 +1,10 @@
 -- The elements of a list, also with more elements after it.
-use Rattle.std.proofs.Common.{◌≡◌, ℕ, zero, suc, ◌<◌, ◌≤◌, Bool, true, false, List, [], ◌∷◌, ◌++◌, length, map, cond, Some, slice_get, refl, arith}
-use Rattle.std.specs.List.{filter}
+use Rattle.std.proofs.Common.{◌≡◌, ℕ, zero, suc, ◌<◌, ◌≤◌, Bool, true, false, List, [], ◌∷◌, ◌++◌, length, map, cond, Some, slice_get, refl, sym, ◌∙◌, subst, arith}
+use Rattle.std.proofs.lemmas.List.{same_lists}
+use Rattle.std.proofs.lemmas.List.FromFn.{get_or-map-range_with_len, length-map-range_with_len}
+use Rattle.std.proofs.lemmas.Option.{get_or_from_slice_get, slice_get_within}
+use Rattle.std.specs.List.{AllByRecursion, filter, range_with_len}
+use Rattle.std.specs.Prelude.{Any}
 
 -- a list has an element at each index below its length
 pub there_is : {A : Type 0} (xs : List A) (k : ℕ) → k < length xs → (x : A) × (slice_get xs k ≡ Some x)
@@ -28,6 +32,22 @@ at_left (x ∷ xs) ys (suc k) few = at_left xs ys k (omega (arith, few))
 pub between : {A : Type 0} (xs ys : List A) (x : A) → slice_get (xs ++ x ∷ ys) (length xs) ≡ Some x
 between [] ys x = refl
 between (z ∷ xs) ys x = between xs ys x
+
+-- a property of the element at an index is a property of some element
+pub some_at : {A : Type 0} (Q : A → Type 0) (xs : List A) (k : ℕ) (x : A) → slice_get xs k ≡ Some x → Q x → Any Q xs
+some_at Q xs k x at so = (k, x, slice_get_within xs k x at, get_or_from_slice_get xs k x x at, so)
+
+-- a property of each element, and of one more
+pub all_more : {A : Type 0} (P : A → Type 0) (xs : List A) (x : A) → AllByRecursion P xs → P x → AllByRecursion P (xs ++ x ∷ [])
+all_more P [] x all last = (last, tt)
+all_more P (y ∷ xs) x all last = (all.0, all_more P xs x all.1 last)
+
+-- two lists made alike, index by index
+pub made_alike : {A : Type 0} (f g : ℕ → A) (count : ℕ) → ((k : ℕ) → k < count → f k ≡ g k) → map f (range_with_len 0 count) ≡ map g (range_with_len 0 count)
+made_alike f g count each =
+    same_lists (map f (range_with_len 0 count)) (map g (range_with_len 0 count)) (length-map-range_with_len f 0 count ∙ sym (length-map-range_with_len g 0 count))
+    (λ k d h. let below : k < count = subst (λ n. k < n) (length-map-range_with_len f 0 count) h in
+    get_or-map-range_with_len f 0 count k k d below (omega arith) ∙ each k below ∙ sym (get_or-map-range_with_len g 0 count k k d below (omega arith)))
 
 pub filter_short : {A : Type 0} (f : A → Bool) (xs : List A) → length (filter f xs) ≤ length xs
 filter_short f [] = omega arith

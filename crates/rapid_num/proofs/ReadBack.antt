@@ -123,16 +123,18 @@ fixed_reads_back n range =
     let r = n % 1000 in
     reads_three (n / 1000) (r / 100) (r / 10 % 10) (r % 10) n (omega arith) (omega arith) (omega arith) (omega arith) (omega arith) range
 
-fraction_none : (r : ℕ) → r ≡ 0 → fraction_text r ≡ []
+-- the fraction of a num, by the number of its digits
+
+pub fraction_none : (r : ℕ) → r ≡ 0 → fraction_text r ≡ []
 fraction_none r e = grind (arith, nat_tests)
 
-fraction_one : (r : ℕ) → r ≢ 0 → r % 100 ≡ 0 → fraction_text r ≡ 46 ∷ (48 + r / 100) ∷ []
+pub fraction_one : (r : ℕ) → r ≢ 0 → r % 100 ≡ 0 → fraction_text r ≡ 46 ∷ (48 + r / 100) ∷ []
 fraction_one r some e = grind (arith, nat_tests)
 
-fraction_two : (r : ℕ) → r ≢ 0 → r % 100 ≢ 0 → r % 10 ≡ 0 → fraction_text r ≡ 46 ∷ (48 + r / 100) ∷ (48 + r / 10 % 10) ∷ []
+pub fraction_two : (r : ℕ) → r ≢ 0 → r % 100 ≢ 0 → r % 10 ≡ 0 → fraction_text r ≡ 46 ∷ (48 + r / 100) ∷ (48 + r / 10 % 10) ∷ []
 fraction_two r some more e = grind (arith, nat_tests)
 
-fraction_three : (r : ℕ) → r ≢ 0 → r % 100 ≢ 0 → r % 10 ≢ 0 → fraction_text r ≡ 46 ∷ three_digits r
+pub fraction_three : (r : ℕ) → r ≢ 0 → r % 100 ≢ 0 → r % 10 ≢ 0 → fraction_text r ≡ 46 ∷ three_digits r
 fraction_three r some more most = grind (arith, nat_tests)
 
 reads_fraction : (q r n : ℕ) → q < 10 ^ 10 → r < 1000 → n ≡ q * 1000 + r → n ≤ greatest → literal_value (decimal q ++ fraction_text r) ≡ Some (pos n)

@@ -1,6 +1,6 @@
 -- The results of operators (RAPID Overview, expressions; RAPID Kernel, operators; the arithmetic of nums is this
 -- profile's own).
-use Rattle.std.specs.Prelude.{ℕ, Bool, not, ◌&&◌, ◌||◌, nat_le, ℤ, pos, int_lt, List, ◌++◌, length, Option, Some, None, if◌then◌else◌}
+use Rattle.std.specs.Prelude.{ℕ, Bool, false, not, ◌&&◌, ◌||◌, nat_le, ℤ, pos, int_lt, List, ◌++◌, length, Option, Some, None, if◌then◌else◌}
 use Rattle.std.specs.Ordering.{int_eq}
 use Rattle.rapid_limits.specs.declared.TheConstants.{LONGEST_STRING}
 use Rattle.rapid_num.specs.Arithmetic.{sum_of, difference_of, product_of, quotient_of, whole_quotient_of, remainder_of}
@@ -56,6 +56,14 @@ of_form o (values.Num m) (values.Num n) = of_nums o m n
 of_form o (values.Bool a) (values.Bool b) = of_truths o a b
 of_form o (values.Text s) (values.Text t) = of_texts o s t
 of_form o _ _ = Unfit
+
+-- whether the left operand decides the result, as FALSE does before AND, and TRUE before OR; both take bools only
+abbrev pub decides : Operator → Value → Option Bool
+decides operators.And (values.Bool b) = Some (not b)
+decides operators.And v = None
+decides operators.Or (values.Bool b) = Some b
+decides operators.Or v = None
+decides o v = Some false
 
 -- the result of an operator on its left and right operands
 abbrev pub apply : Operator → Value → Value → Applied

@@ -75,11 +75,13 @@ const ONE_MOVE_LINES: [&[u8]; 4] = [
 ];
 
 /// The whole history of the same.
-const ONE_MOVE_HISTORY: [&[u8]; 7] = [
+const ONE_MOVE_HISTORY: [&[u8]; 9] = [
     b"H A Look > Go 0\n",
     b"H A Position > 0 0 0 0 0 0\n",
     b"H A Setpoint 0.833 0 0 0 0 0 > Given\n",
+    b"H A Look > Go 0\n",
     b"H A Setpoint 1.667 0 0 0 0 0 > Given\n",
+    b"H A Look > Go 0\n",
     b"H A Setpoint 2.5 0 0 0 0 0 > Given\n",
     b"H A End Done > Ok\n",
     b"E A Done\n",
@@ -199,7 +201,7 @@ fn printed(
 fn one_move(rt: HostRuntime) -> Result<(), Fail> {
     let left = round(rt.alloc(), ONE_MOVE)?;
     printed(&rt, &left, 0, &ONE_MOVE_LINES, rt.alloc())?;
-    assert_eq!(rt; left.report.history.len(), 6);
+    assert_eq!(rt; left.report.history.len(), 8);
     assert_eq!(rt; left.report.fates.as_slice(), [Fate::Done].as_slice());
     Ok(())
 }
@@ -267,7 +269,7 @@ fn failing_writes(rt: HostRuntime) -> Result<(), Fail> {
         assert_eq!(rt; left.out.bytes(), bytes.as_slice());
         assert_eq!(rt; left.err.bytes(), b"rapid_cell: write\n".as_slice());
         assert_eq!(rt; left.report.status, 6);
-        assert_eq!(rt; left.report.history.len(), 6);
+        assert_eq!(rt; left.report.history.len(), 8);
         assert_eq!(rt; left.report.fates.len(), 1);
     }
     Ok(())
@@ -454,7 +456,7 @@ fn two_tasks(rt: HostRuntime) -> Result<(), Fail> {
         None,
     )?;
     printed(&rt, &left, 0, &lines, alloc)?;
-    assert_eq!(rt; left.report.history.len(), 12);
+    assert_eq!(rt; left.report.history.len(), 16);
     Ok(())
 }
 

@@ -85,7 +85,7 @@ fn core_of_one(rt: &impl Abort, alloc: Global, steps: u32) -> Core
 // `None` if the task may not ask it.
 fn ask(core: &mut Core, request: Request) -> Option<Served> {
     if core.fits(0, &request) {
-        Some(core.serve(0, request))
+        Some(core.serve(0, &request))
     } else {
         None
     }

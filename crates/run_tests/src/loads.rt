@@ -39,18 +39,18 @@ fn left_by(alloc: Global, words: &[&str]) -> Result<Left, Fail> {
 static LOADS: [(&[&str], usize, &[u8]); 3] = [
     (
         &["load", "1"],
-        294,
-        b"L events 294\nL setpoints 258\nL total 4\nE L1 Done\nE L2 Done\nE L3 Done\nE L4 Done\n",
+        548,
+        b"L events 548\nL setpoints 258\nL total 4\nE L1 Done\nE L2 Done\nE L3 Done\nE L4 Done\n",
     ),
     (
         &["load", "2"],
-        518,
-        b"L events 518\nL setpoints 454\nL total 8\nE L1 Done\nE L2 Done\nE L3 Done\nE L4 Done\n",
+        964,
+        b"L events 964\nL setpoints 454\nL total 8\nE L1 Done\nE L2 Done\nE L3 Done\nE L4 Done\n",
     ),
     (
         &["load", "--history", "2"],
-        518,
-        b"L events 518\nL setpoints 454\nL total 8\nE L1 Done\nE L2 Done\nE L3 Done\nE L4 Done\n",
+        964,
+        b"L events 964\nL setpoints 454\nL total 8\nE L1 Done\nE L2 Done\nE L3 Done\nE L4 Done\n",
     ),
 ];
 

@@ -12,17 +12,22 @@ use Rattle.std.specs.Fmt.{digits}
 use Rattle.typed_trees.specs.Plain.{Known}
 use Rattle.rapid_meaning.proofs.Trees.{first_at, first_bound, moves, number, proc, task_of}
 use Rattle.rapid_meaning.proofs.Asked.{go, joints}
-use Rattle.rapid_meaning.proofs.SmallTasks.{adding, connecting_twice, counting, disabled, diving, failing_again, interrupted, looping, meeting, moving, moving_in_trap, raising, raising_again, raising_too_high, reckoning, retrying, skipping, sleeping, trying, waiting, zoned}
+use Rattle.rapid_meaning.proofs.SmallTasks.{adding, connecting_twice, counting, disabled, diving, failing_again, interrupted, looping, meeting, moving, moving_in_trap, raising, raising_again, raising_too_high, reckoning, retrying, skipping, sleeping, trapped_on_the_way, trying, waiting, zoned}
 use Rattle.rapid_meaning.proofs.Forms.{choosing, computing, deciding, dozing, failing_trap, homing, homing_at, jumping, leaving, misnaming, ordering, reading, returning, shapeless, shaping, signalling, stepping, stepping_trapped, supervising, taking, tallying, writing}
 use Rattle.stack_code.proofs.CodeAsked.{StandsAlike, compiled_stands, tree_stands}
 
-moves_in_steps : StandsAlike moving (go ∷ At (joints (pos 0)) ∷ Let ∷ Let ∷ Let ∷ Ok ∷ [])
+moves_in_steps : StandsAlike moving (go ∷ At (joints (pos 0)) ∷ Let ∷ go ∷ Let ∷ go ∷ Let ∷ Ok ∷ [])
 unfolding compiled_stands tree_stands
 moves_in_steps = refl
 
-stops_before_a_zone : StandsAlike zoned (go ∷ go ∷ answers.Number 1 ∷ go ∷ At (joints (pos 0)) ∷ Let ∷ answers.Stopped (zone_names.Own 1) ∷ Ok ∷ [])
+stops_before_a_zone : StandsAlike zoned (go ∷ go ∷ answers.Number 1 ∷ go ∷ At (joints (pos 0)) ∷ Let ∷ go ∷ answers.Stopped (zone_names.Own 1) ∷ Ok ∷ [])
 unfolding compiled_stands tree_stands
 stops_before_a_zone = refl
+
+traps_on_the_way : StandsAlike trapped_on_the_way (go ∷ go ∷ answers.Number 1 ∷ go ∷ Ok ∷ go ∷ At (joints (pos 0)) ∷ Let
+    ∷ answers.Trap 1 1 ∷ go ∷ answers.Number 1 ∷ Ok ∷ go ∷ Let ∷ go ∷ answers.Stopped (zone_names.Own 1) ∷ Ok ∷ [])
+unfolding compiled_stands tree_stands
+traps_on_the_way = refl
 
 does_it_again : StandsAlike retrying (go ∷ go ∷ go ∷ go ∷ go ∷ Ok ∷ Ok ∷ [])
 unfolding compiled_stands tree_stands

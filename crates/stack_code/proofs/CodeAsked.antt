@@ -10,7 +10,6 @@ use Rattle.rapid_meaning.specs.Doings.{after}
 use Rattle.rapid_meaning.specs.Functions.{last_digits}
 use Rattle.rapid_meaning.specs.Instructions.{has}
 use Rattle.rapid_meaning.specs.Meetings.{with_tasks}
-use Rattle.rapid_meaning.specs.Moves.{setpoints}
 use Rattle.rapid_meaning.specs.Zones.{on_axes}
 use Rattle.rapid_meaning.specs.Runs.{Next, deep, next_of, state_after}
 use Rattle.stack_code.specs.CodeData.{CodeData}
@@ -28,7 +27,7 @@ enough = 1_000
 
 -- the state of code with its data before the first answer, before the second and so on, and after the last
 unfoldable pub code_stands : CodeData → List Answer → List Answer → List (Outcome ⊤)
-unfolding exec performed after frame_at with_frame sort_in last_digits on_axes has setpoints with_tasks greatest_change step_of owner_at raised_to
+unfolding exec performed after frame_at with_frame sort_in last_digits on_axes has with_tasks greatest_change step_of owner_at raised_to
 code_stands code before [] = code_after code enough before ∷ []
 code_stands code before (a ∷ more) = code_after code enough before ∷ code_stands code (before ++ a ∷ []) more
 
@@ -44,7 +43,7 @@ compiled_asks tree answers = map next_of (compiled_stands tree answers)
 
 -- the states of a tree
 unfoldable pub tree_stands : TypedTree → List Answer → List Answer → List (Outcome ⊤)
-unfolding state_after deep performed after frame_at with_frame sort_of_pers last_digits on_axes has setpoints with_tasks greatest_change step_of
+unfolding state_after deep performed after frame_at with_frame sort_of_pers last_digits on_axes has with_tasks greatest_change step_of
 tree_stands tree before [] = state_after tree before ∷ []
 tree_stands tree before (a ∷ more) = state_after tree before ∷ tree_stands tree (before ++ a ∷ []) more
 

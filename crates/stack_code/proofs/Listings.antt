@@ -1,18 +1,18 @@
--- Complete listings of two small tasks.
+-- Complete listings of two small tasks, and the setpoints of a third.
 use Rattle.std.proofs.Common.{◌≡◌, refl, ℕ, false, pos, neg_ℤ, List, [], ◌∷◌, None, Some}
-use Rattle.std.specs.Prelude.{codes, map}
+use Rattle.std.specs.Prelude.{codes, drop, map}
 use Rattle.rapid_model.specs.declared.request.Request.TheVariants as requests
 use Rattle.rapid_model.specs.declared.value.Value.TheVariants as values
 use Rattle.rapid_model.specs.declared.operator.Operator.TheVariants as operators
 use Rattle.typed_trees.specs.declared.datum.Datum.TheVariants.{Plain}
 use Rattle.rapid_meaning.specs.Runs.{asks, misfit, next_of}
 use Rattle.rapid_meaning.proofs.Asked.{go}
-use Rattle.rapid_meaning.proofs.SmallTasks.{adding, trying}
+use Rattle.rapid_meaning.proofs.SmallTasks.{adding, moving, trying}
 use Rattle.rapid_meaning.proofs.Trees.{number}
 use Rattle.stack_code.proofs.CodeAsked.{code_stands, compiled_stands}
 use Rattle.stack_code.specs.Compiled.{compiled}
 use Rattle.stack_code.specs.declared.op.Op.{Op}
-use Rattle.stack_code.specs.declared.op.Op.TheVariants.{Push, Errno, Slot, Local, Ref, Load, Store, Binary, Jump, JumpFalse, Look, Call, Back, Raise, Again, Retry, Next, Turn, Step, Say}
+use Rattle.stack_code.specs.declared.op.Op.TheVariants.{Push, Errno, Slot, Local, Ref, Load, Store, Binary, Jump, JumpFalse, Look, Call, Back, Raise, Again, Retry, Next, Turn, Step, Aim, Point, Say}
 use Rattle.stack_code.specs.declared.owner.Owner.{Owner}
 use Rattle.stack_code.specs.declared.routine_row.RoutineRow.{RoutineRow}
 use Rattle.stack_code.specs.declared.tail_kind.TailKind.TheVariants as tails
@@ -98,3 +98,12 @@ trying_owners = refl
 trying_handlers : (compiled trying).handlers ≡ Some 8 ∷ None ∷ []
 unfolding compiled_stands
 trying_handlers = refl
+
+-- MoveAbsJ, whose target and speed are on the stack after place 17: each setpoint but the last leads to a Look, and back
+moving_ops : drop 18 (compiled moving).ops ≡ Aim ∷ Point 22 ∷ Look ∷ Jump 19 ∷ Back ∷ []
+unfolding compiled_stands
+moving_ops = refl
+
+moving_owners : (compiled moving).owners ≡ owner 0 22 0 22 ∷ owner 22 23 22 23 ∷ []
+unfolding compiled_stands
+moving_owners = refl

@@ -7,7 +7,7 @@ use Rattle.rapid_model.specs.declared.operator.Operator.TheVariants as operators
 use Rattle.typed_trees.specs.Plain as trees
 use Rattle.typed_trees.specs.Plain.{TypedArgs, TypedArms, TypedCases, TypedElse, TypedExpr, TypedExprs, TypedPlace, TypedRoutine, TypedSteps, TypedStmt, TypedStmts, TypedTree, NoExprs, MoreExprs, NoSteps, MoreSteps, NotHeld, Held, PlaceOf, Given, Lent, OfSignal, NoArgs, MoreArgs, NoStmts, MoreStmts, NoArms, MoreArms, NoCases, MoreCases, NoElse, Else}
 use Rattle.rapid_meaning.specs.Layouts.{local_start}
-use Rattle.stack_code.specs.Pieces.{Piece, OfExpr, OfPlace, OfArgs, Does, Waits, GoesTo, Chooses, bounds_pieces, pieces}
+use Rattle.stack_code.specs.Pieces.{Piece, OfExpr, OfPlace, OfArgs, Does, Waits, GoesTo, Chooses, Travels, bounds_pieces, pieces}
 use Rattle.stack_code.specs.declared.op.Op.{Op}
 use Rattle.stack_code.specs.declared.op.Op.TheVariants as ops
 
@@ -84,6 +84,7 @@ pieces_need depth (Does op ∷ more) = max depth (pieces_need (depth_behind op d
 pieces_need depth (Waits ∷ more) = max depth (pieces_need (depth - 1) more)
 pieces_need depth (GoesTo label ∷ more) = max depth (pieces_need depth more)
 pieces_need depth (Chooses a b ∷ more) = max depth (pieces_need depth more)
+pieces_need depth (Travels ∷ more) = max depth (pieces_need (depth - 2) more)
 
 -- the values of a CASE, above the tested value and a copy of it
 unfoldable pub values_need : TypedExprs → ℕ

@@ -22,7 +22,8 @@ use Rattle.stack_code.specs.declared.tail_kind.TailKind.{TailKind}
 use Rattle.stack_code.specs.declared.tail_kind.TailKind.TheVariants as tails
 
 -- OfExpr, OfPlace, OfArgs: operands. Does: an operation. Waits: a Wait that goes back to the statement's Look. GoesTo:
--- a jump to a label. Chooses: pops a bool, and does the first operation if it is TRUE, else the second.
+-- a jump to a label. Chooses: pops a bool, and does the first operation if it is TRUE, else the second. Travels: pops
+-- a target and a speed, and moves the arm.
 pub data Piece : Type 0 where
   OfExpr : TypedExpr → Piece
   OfPlace : TypedPlace → Piece
@@ -31,6 +32,7 @@ pub data Piece : Type 0 where
   Waits : Piece
   GoesTo : ℕ → Piece
   Chooses : Op → Op → Piece
+  Travels : Piece
 
 -- pushes a whole number as a num
 abbrev pub push : ℕ → Op
@@ -116,7 +118,7 @@ piece_of tree routine args options steps.Load = Some (Does ops.Load)
 piece_of tree routine args options steps.Store = Some (Does ops.Store)
 piece_of tree routine args options steps.Bit = Some (Does ops.Bit)
 piece_of tree routine args options steps.Still = Some (Does ops.Still)
-piece_of tree routine args options steps.Move = Some (Does ops.Move)
+piece_of tree routine args options steps.Travel = Some Travels
 piece_of tree routine args options steps.TestSet = Some (Does ops.TestSet)
 piece_of tree routine args options (steps.Binary o) = Some (Does (ops.Binary o))
 piece_of tree routine args options (steps.Irq change) = Some (Does (ops.Irq change))

@@ -36,7 +36,7 @@ part_or (Some handler) own frame saved error outside = part_unless frame.failed 
 unfoldable pub raised_to : CodeData → List Saved → ℕ → Doing Conf
 raised_to code [] error = Misfit
 raised_to code (Started ∷ saved) error = fault (Unhandled error)
-raised_to code (Trapped at frame ∷ saved) error = fault (Unhandled error)
+raised_to code (Trapped at frame way ∷ saved) error = fault (Unhandled error)
 raised_to code (Called at own stack frame ∷ saved) error = part_or (handler_of code frame.routine) own frame saved error (leaves >> raised_to code saved error)
 
 -- an error leaves the running routine
@@ -56,10 +56,10 @@ with_result (Some v) stack = Plain v ∷ stack
 abbrev pub back_to : List Saved → Option Value → Doing Conf
 back_to [] v = Misfit
 back_to (Started ∷ saved) v = Ends fates.Done
-back_to (Trapped at frame ∷ saved) v = do
+back_to (Trapped at frame way ∷ saved) v = do
   tells Leave
   change (λ d. record d { trapped = false })
-  Gives (conf at [] frame saved)
+  Gives (record (conf at [] frame saved) { way = way })
 back_to (Called at own stack frame ∷ saved) v = Gives (conf (at + 1) (with_result v stack) frame saved)
 
 abbrev pub returned : List Saved → Option Value → Doing Conf

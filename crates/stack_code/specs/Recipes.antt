@@ -6,11 +6,11 @@ use Rattle.rapid_model.specs.declared.instruction.Instruction.TheVariants as ins
 use Rattle.rapid_model.specs.declared.operator.Operator.TheVariants.{Equal, Add, Sub}
 use Rattle.stack_code.specs.declared.irq_op.IrqOp.TheVariants.{Sleep, Watch, Delete, Disable, Enable}
 use Rattle.stack_code.specs.declared.step.Step.{Step}
-use Rattle.stack_code.specs.declared.step.Step.TheVariants.{Value, Place, Count, Drop, Dup, Over, Load, Store, Bit, Still, Move, TestSet, Binary, Irq, Zone, Wait, GetSignal, PutSignal, OrderSignal, OrderPers, TaskSet, Arrive, Shape, ZoneSet, Tail, Say}
+use Rattle.stack_code.specs.declared.step.Step.TheVariants.{Value, Place, Count, Drop, Dup, Over, Load, Store, Bit, Still, Travel, TestSet, Binary, Irq, Zone, Wait, GetSignal, PutSignal, OrderSignal, OrderPers, TaskSet, Arrive, Shape, ZoneSet, Tail, Say}
 use Rattle.stack_code.specs.declared.zone_op.ZoneOp.TheVariants.{On, Off, Free}
 
 abbrev pub recipe : Instruction → List Step
-recipe instructions.MoveAbsJ = Still ∷ Value 0 ∷ Value 1 ∷ Move ∷ []
+recipe instructions.MoveAbsJ = Still ∷ Value 0 ∷ Value 1 ∷ Travel ∷ []
 -- signals
 recipe instructions.Set = Count 1 ∷ PutSignal 0 ∷ []
 recipe instructions.Reset = Count 0 ∷ PutSignal 0 ∷ []

@@ -9,7 +9,7 @@ use Rattle.rapid_model.specs.declared.operator.Operator.TheVariants as operators
 use Rattle.typed_trees.specs.Plain as trees
 use Rattle.typed_trees.specs.Plain.{TypedArgs, TypedArms, TypedCases, TypedElse, TypedExpr, TypedExprs, TypedPlace, TypedRoutine, TypedSteps, TypedStmt, TypedStmts, TypedTree, NoExprs, MoreExprs, NoSteps, MoreSteps, NotHeld, Held, PlaceOf, Given, Lent, OfSignal, NoArgs, MoreArgs, NoStmts, MoreStmts, NoArms, MoreArms, NoCases, MoreCases, NoElse, Else}
 use Rattle.rapid_meaning.specs.Layouts.{local_start}
-use Rattle.stack_code.specs.Pieces.{Piece, OfExpr, OfPlace, OfArgs, Does, Waits, GoesTo, Chooses, bounds_pieces, pieces}
+use Rattle.stack_code.specs.Pieces.{Piece, OfExpr, OfPlace, OfArgs, Does, Waits, GoesTo, Chooses, Travels, bounds_pieces, pieces}
 
 -- the whole of a place needs no operation
 abbrev pub part_size : PartName → ℕ
@@ -79,6 +79,7 @@ piece_size (Does op) = 1
 piece_size Waits = 1
 piece_size (GoesTo label) = 1
 piece_size (Chooses a b) = 4
+piece_size Travels = 4
 
 unfoldable pub pieces_size : List Piece → ℕ
 pieces_size [] = 0

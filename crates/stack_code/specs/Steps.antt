@@ -19,12 +19,13 @@ use Rattle.typed_trees.specs.declared.datum.Datum.{Datum}
 use Rattle.typed_trees.specs.declared.datum.Datum.TheVariants.{Plain, Mark, Place}
 use Rattle.typed_trees.specs.declared.datum.Root.TheVariants as roots
 use Rattle.rapid_meaning.specs.Data.{seen_in, with_seen}
+use Rattle.rapid_meaning.specs.Flows.{Way}
 use Rattle.rapid_meaning.specs.Doings.{Doing, Gives, Asks, Ends, Misfit, Reads, Act, ◌>>=◌, ◌>>◌, after, change, fault, or_misfit, tells}
 use Rattle.rapid_meaning.specs.Functions.{read_signal, when_at}
 use Rattle.rapid_meaning.specs.Interrupts.{asks_of_number, connect, order}
 use Rattle.rapid_meaning.specs.Loops.{has_passed}
 use Rattle.rapid_meaning.specs.Meetings.{arrive, with_tasks}
-use Rattle.rapid_meaning.specs.Moves.{move, still}
+use Rattle.rapid_meaning.specs.Moves.{aim, further, has_next, point, still}
 use Rattle.rapid_meaning.specs.Places.{at_root, indexed, kept_place, load, own_place, part_at, read_value, store, test_and_set, write_value}
 use Rattle.rapid_meaning.specs.Signals.{write_signal}
 use Rattle.rapid_meaning.specs.Statements as statements
@@ -32,7 +33,7 @@ use Rattle.rapid_meaning.specs.Values.{applied, bit_in, num_in, of_bit, opposite
 use Rattle.rapid_meaning.specs.Zones.{asks_of_zone, define, define_home, defined, supervise}
 use Rattle.stack_code.specs.Functions.{of_value, of_values}
 use Rattle.stack_code.specs.CodeData.{CodeData}
-use Rattle.stack_code.specs.Confs.{Conf, Called, Trapped, conf}
+use Rattle.stack_code.specs.Confs.{Conf, Called, Trapped}
 use Rattle.stack_code.specs.Entering.{enter, entered}
 use Rattle.stack_code.specs.Operands.{on_many, on_mark, on_place, on_shape, on_top, on_truth, on_value, on_values}
 use Rattle.stack_code.specs.Placed.{Own, Placed, placed_at}
@@ -51,12 +52,12 @@ pub record Here : Type 0 where
   pub own : Own
   pub conf : Conf
 
--- goes on to the next operation, or to one at another place, with these operands
+-- goes on to the next operation, or to one at another place, with these operands, and in the same move
 abbrev pub to_next : Here → List Datum → Doing Conf
-to_next h stack = Gives (conf (h.conf.pc + 1) stack h.conf.frame h.conf.saved)
+to_next h stack = Gives (record h.conf { pc = h.conf.pc + 1; stack = stack })
 
 abbrev pub jumps : Here → ℕ → List Datum → Doing Conf
-jumps h to stack = Gives (conf to stack h.conf.frame h.conf.saved)
+jumps h to stack = Gives (record h.conf { pc = to; stack = stack })
 
 -- an error is the statement's
 abbrev pub fails : Here → ℕ → Doing Conf
@@ -75,7 +76,7 @@ as_truth b = Plain (values.Bool b)
 
 abbrev pub looked : Here → Answer → Doing Conf
 looked h (answers.Go seen) = change (λ d. record d { frames = with_seen seen d.frames }) >> to_next h h.conf.stack
-looked h (answers.Trap number trap) = change (λ d. record d { trapped = true }) >> enter h.code trap [] (Trapped h.conf.pc h.conf.frame ∷ h.conf.saved)
+looked h (answers.Trap number trap) = change (λ d. record d { trapped = true }) >> enter h.code trap [] (Trapped h.conf.pc h.conf.frame h.conf.way ∷ h.conf.saved)
 looked h answers.Flood = fault TrapFlood
 looked h _ = Misfit
 
@@ -120,6 +121,19 @@ stepped h k a (Some n) = set_counter_at k n >> jumps h a h.conf.stack
 -- a wait that is not ready holds with the count that its own Look found, and rises
 abbrev pub holds : Here → ℕ → List Datum → Doing Conf
 holds h to stack = Reads (λ d. tells (Hold (seen_in d.frames)) >> (tells Rise >> jumps h to stack))
+
+-- goes on to the next operation in a move
+abbrev pub sets_out : Here → List Datum → Way → Doing Conf
+sets_out h stack way = Gives (record h.conf { pc = h.conf.pc + 1; stack = stack; way = Some way })
+
+-- a setpoint is given: to the next operation if another one is left, else past the move
+abbrev pub moves_on : Here → ℕ → Option Way → Doing Conf
+moves_on h past None = Misfit
+moves_on h past (Some way) = if has_next (further way) then sets_out h h.conf.stack (further way) else Gives (record h.conf { pc = past; way = None })
+
+abbrev pub points : Here → ℕ → Option Way → Doing Conf
+points h past None = Misfit
+points h past (Some way) = point way (moves_on h past (Some way))
 
 -- a request names at most sixteen tasks
 abbrev pub task_set : ℕ → Doing ℕ
@@ -183,7 +197,8 @@ act h (ops.Arrive g) = on_value h.conf.stack (λ set rest. pushes h rest as_trut
 -- moves
 act h ops.Here = pushes h h.conf.stack Plain (Asks Position when_at)
 act h ops.Still = does h h.conf.stack still
-act h ops.Move = on_value h.conf.stack (λ speed rest. on_value rest (λ to below. does h below (target_in to >>= λ joints. tool_speed_in speed >>= λ n. move h.code.axes joints n)))
+act h ops.Aim = on_value h.conf.stack (λ speed rest. on_value rest (λ to below. after (target_in to >>= λ joints. tool_speed_in speed >>= λ n. aim h.code.axes joints n) (sets_out h below) (fails h)))
+act h (ops.Point past) = points h past h.conf.way
 -- interrupts
 act h (ops.Connect r) = on_mark h.conf.stack (λ old rest. on_place rest (λ p below. does h below (connect p old r)))
 act h (ops.Order (orders.Signal s) b) = on_mark h.conf.stack (λ n rest. on_value rest (λ v below. does h below (bit_in v >>= λ bit. order n (watched.Signal s bit) b)))

@@ -8,7 +8,7 @@ use Rattle.typed_trees.specs.Plain.{TypedArms, TypedCases, TypedElse, TypedExpr,
 use Rattle.rapid_meaning.specs.Layouts.{local_start}
 use Rattle.rapid_meaning.specs.Statements.{byte_of}
 use Rattle.stack_code.specs.ExprLayouts.{args_code, expr_code, place_code, put}
-use Rattle.stack_code.specs.Pieces.{Piece, OfExpr, OfPlace, OfArgs, Does, Waits, GoesTo, Chooses, bounds_pieces, pieces}
+use Rattle.stack_code.specs.Pieces.{Piece, OfExpr, OfPlace, OfArgs, Does, Waits, GoesTo, Chooses, Travels, bounds_pieces, pieces}
 use Rattle.stack_code.specs.Placed.{Own, Placed}
 use Rattle.stack_code.specs.Sizes.{args_size, arms_size, bounds_size, cases_size, expr_size, place_size, stmt_size, stmts_size, values_size}
 use Rattle.stack_code.specs.declared.op.Op.TheVariants as ops
@@ -34,6 +34,9 @@ pieces_code tree routine labels own pc (Waits ∷ more) ps = put own (ops.Wait o
 pieces_code tree routine labels own pc (GoesTo label ∷ more) ps = put own (ops.Jump (label_at labels label)) (pieces_code tree routine labels own (pc + 1) more ps)
 pieces_code tree routine labels own pc (Chooses a b ∷ more) ps =
     put own (ops.JumpFalse (pc + 1 + 1 + 1)) (put own a (put own (ops.Jump (pc + 1 + 1 + 1 + 1)) (put own b
+    (pieces_code tree routine labels own (pc + 1 + 1 + 1 + 1) more ps))))
+pieces_code tree routine labels own pc (Travels ∷ more) ps =
+    put own ops.Aim (put own (ops.Point (pc + 1 + 1 + 1 + 1)) (put own ops.Look (put own (ops.Jump (pc + 1))
     (pieces_code tree routine labels own (pc + 1 + 1 + 1 + 1) more ps))))
 
 -- the values of a CASE; the first one that equals the tested value jumps to the list

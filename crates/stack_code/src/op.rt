@@ -70,7 +70,10 @@ pub enum Op {
     Here,
     /// Checks that no trap is running.
     Still,
-    Move,
+    /// Pops a speed and a target, asks for the arm's position, and begins a move.
+    Aim,
+    /// Asks for the next setpoint of the move, and jumps if it was the last one.
+    Point(u32),
     /// Connects an interrupt to a trap, by the routine's number.
     Connect(u32),
     /// Orders an interrupt, for one firing only if the bool is true.

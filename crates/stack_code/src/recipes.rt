@@ -4,8 +4,8 @@ ghost use Rattle.stack_code.specs.Recipes;
 use crate::irq_op::IrqOp;
 use crate::step::Step;
 use crate::step::Step::{
-    Arrive, Binary, Bit, Count, Drop, Dup, GetSignal, Irq, Load, Move, OrderPers, OrderSignal,
-    Over, Place, PutSignal, Say, Shape, Still, Store, Tail, TaskSet, TestSet, Value, Wait, Zone,
+    Arrive, Binary, Bit, Count, Drop, Dup, GetSignal, Irq, Load, OrderPers, OrderSignal, Over,
+    Place, PutSignal, Say, Shape, Still, Store, Tail, TaskSet, TestSet, Travel, Value, Wait, Zone,
     ZoneSet,
 };
 use crate::zone_op::ZoneOp;
@@ -16,7 +16,7 @@ pub fn recipe(instruction: Instruction) -> &'static [Step]
     ensures { result.now ≡ Recipes.recipe instruction }
 {
     match instruction {
-        Instruction::MoveAbsJ => &[Still, Value(0), Value(1), Move],
+        Instruction::MoveAbsJ => &[Still, Value(0), Value(1), Travel],
         Instruction::Set => &[Count(1), PutSignal(0)],
         Instruction::Reset => &[Count(0), PutSignal(0)],
         Instruction::SetDO => &[Value(1), PutSignal(0)],

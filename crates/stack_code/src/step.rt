@@ -3,7 +3,8 @@ use crate::zone_op::ZoneOp;
 use rapid_model::Operator;
 
 /// A step of an instruction's layout. It refers to the arguments without the options, numbered from 0. Each step is an
-/// expression, a place or one operation. A step whose argument has another form is left out, which no checked tree has.
+/// expression, a place, one operation or a move. A step whose argument has another form is left out, which no checked
+/// tree has.
 #[derive(Clone, Copy)]
 pub enum Step {
     /// Evaluates a value argument.
@@ -19,7 +20,8 @@ pub enum Step {
     Store,
     Bit,
     Still,
-    Move,
+    /// Moves the arm: the setpoints of a move, with a Look between two of them.
+    Travel,
     TestSet,
     Binary(Operator),
     Irq(IrqOp),

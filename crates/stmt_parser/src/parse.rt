@@ -15,6 +15,7 @@ use std::alloc::Global;
 
 /// The statements from token `at` on, as many as there are, and the number of the token after them. `depth` levels of
 /// nesting are open before token `at`, including that of the list, and `end` is the length of the text in bytes.
+/// module_parser calls `list`, with one `Parser` for a text; this is for a tool that parses one list of statements.
 pub fn parse_list<'a>(
     alloc: Global,
     tokens: &[Token<'a>],

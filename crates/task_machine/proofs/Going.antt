@@ -14,8 +14,8 @@ use Rattle.task_steps.specs.Alike.{Alike, Follows}
 use Rattle.task_steps.specs.Doing.{doing_of}
 use Rattle.task_steps.specs.Points.{conf_in}
 use Rattle.task_steps.specs.Seen.{Seen}
-use Rattle.task_steps.specs.declared.steps.phase.Phase.{Phase}
-use Rattle.task_steps.specs.declared.steps.phase.Phase.TheVariants as phases
+use Rattle.task_steps.specs.Phases.{Phase}
+use Rattle.task_steps.specs.Phases as phases
 use Rattle.task_steps.proofs.Along.{reached_along, runs_along, runs_along-count}
 
 -- what a task that goes on does

@@ -14,7 +14,7 @@ use Rattle.task_machine.specs.MachineData.{MachineData}
 use Rattle.task_steps.specs.Seen.{Seen}
 use Rattle.task_machine.specs.Standing.{StandsFor, machine_of}
 use Rattle.task_steps.specs.declared.requests.pending.Pending.{Pending}
-use Rattle.task_steps.specs.declared.steps.phase.Phase.TheVariants as phases
+use Rattle.task_steps.specs.Phases as phases
 use Rattle.task_steps.proofs.Along.{reached_along}
 use Rattle.task_machine.proofs.Stands.{fits_on, reached_on}
 

@@ -18,7 +18,7 @@ use Rattle.task_machine.specs.MachineData.{MachineData, request_of}
 use Rattle.task_machine.specs.Standing.{StandsFor}
 use Rattle.task_steps.specs.declared.requests.pending.Pending.{Pending}
 use Rattle.task_machine.specs.Programs.{asks_with}
-use Rattle.task_steps.specs.declared.steps.phase.Phase.TheVariants as phases
+use Rattle.task_steps.specs.Phases as phases
 
 -- what is due is what code asks
 pub asked : (m : MachineData) (answers : List Answer) (r : Request) → StandsFor m answers → request_of m ≡ Some r → (k : ℕ) × (code_after m.code k answers ≡ Asking r m.data')

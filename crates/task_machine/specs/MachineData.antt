@@ -5,7 +5,7 @@ use Rattle.rapid_meaning.specs.Data.{Data}
 use Rattle.stack_code.specs.CodeData.{CodeData}
 use Rattle.task_steps.specs.Points.{Point}
 use Rattle.task_steps.specs.Seen.{request_in}
-use Rattle.task_steps.specs.declared.steps.phase.Phase.{Phase}
+use Rattle.task_steps.specs.Phases.{Phase}
 
 pub record MachineData : Type 0 where
   pub code : CodeData

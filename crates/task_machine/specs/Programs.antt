@@ -14,8 +14,8 @@ use Rattle.task_code.proofs.Reaching.{asks_by, ends_by}
 use Rattle.task_steps.specs.Doing.{answered, doing_of, here_of}
 use Rattle.task_steps.specs.Points.{Point}
 use Rattle.task_steps.specs.Seen.{request_in}
-use Rattle.task_steps.specs.declared.steps.phase.Phase.{Phase}
-use Rattle.task_steps.specs.declared.steps.phase.Phase.TheVariants as phases
+use Rattle.task_steps.specs.Phases.{Phase}
+use Rattle.task_steps.specs.Phases as phases
 use Rattle.task_code.specs.Asking.{AsksWith, CodeAsks}
 use Rattle.task_machine.specs.MachineData.{MachineData, request_of}
 use Rattle.task_machine.specs.Standing.{StandsFor}

@@ -29,8 +29,8 @@ impl Course {
     ghost use Rattle.task_code.specs.Reached.{Reached};
     ghost use Rattle.task_steps.specs.Seen.{request_in};
     ghost use Rattle.task_steps.specs.declared.requests.pending.Pending.{Pending};
-    ghost use Rattle.task_steps.specs.declared.steps.phase.Phase.TheVariants as phases;
-    ghost use Rattle.task_machine.specs.Standing.{StandsFor, machine_of};
+    ghost use Rattle.task_steps.specs.Phases as phases;
+    ghost use Rattle.task_machine.specs.Standing.{HasPlace, StandsFor, machine_of};
 
     /// A task of the code that has not begun. Returns the code if an allocation fails.
     pub(crate) fn new(alloc: Global, code: LoadedCode) -> Result<Course, LoadedCode>
@@ -53,6 +53,7 @@ impl Course {
         ensures code { self.new.code ≡ self.old.code }
         ensures begun { self.new.task.phase ≢ phases.New }
         ensures stands { StandsFor (machine_of self.old.code self.new.task) [] }
+        ensures place { HasPlace self.new.task.phase self.new.task.data' }
     {
         self.task.begin(&self.code);
     }
@@ -60,8 +61,10 @@ impl Course {
     /// Goes on until a request is due.
     pub(crate) fn settle(&mut self)
         requires begun { self.old.task.phase ≢ phases.New }
+        requires place { HasPlace self.old.task.phase self.old.task.data' }
         ensures code { self.new.code ≡ self.old.code }
         ensures due { IsSome (request_in self.new.task.phase) }
+        ensures place { HasPlace self.new.task.phase self.new.task.data' }
         ensures reached { (answers : List Answer) → Reached self.old.code (doing_of self.old.code self.old.task.phase self.old.task.conf) self.old.task.data' answers → Reached self.old.code (doing_of self.old.code self.new.task.phase self.new.task.conf) self.new.task.data' answers }
     {
         while self.task.is_going() {
@@ -75,6 +78,7 @@ impl Course {
         ensures code { self.new.code ≡ self.old.code }
         ensures begun { self.new.task.phase ≢ phases.New }
         ensures nearer { self.new.runs.0 < self.old.runs.0 }
+        ensures place { HasPlace self.new.task.phase self.new.task.data' }
         ensures reached { (answers : List Answer) → Reached self.old.code (doing_of self.old.code self.old.task.phase self.old.task.conf) self.old.task.data' answers → Reached self.old.code (doing_of self.old.code self.new.task.phase self.new.task.conf) self.new.task.data' answers }
     {
         self.task.step(&self.code);
@@ -88,15 +92,16 @@ impl Course {
         ensures code { self.new.code ≡ self.old.code }
         ensures begun { self.new.task.phase ≢ phases.New }
         ensures stands { (answers : List Answer) → StandsFor (machine_of self.old.code self.old.task) answers → StandsFor (machine_of self.old.code self.new.task) (answers ++ answer ∷ []) }
+        ensures place { HasPlace self.new.task.phase self.new.task.data' }
     {
         keep_live(self.code.code());
         self.task.reply(&self.code, answer);
     }
 
     /// The request that is due.
-    pub(crate) fn due(&self) -> Request
+    pub(crate) fn due(&self) -> &Request
         requires { IsSome (request_in self.now.task.phase) }
-        ensures { request_in self.now.task.phase ≡ Some result }
+        ensures { request_in self.now.task.phase ≡ Some result.now }
     {
         self.task.due()
     }

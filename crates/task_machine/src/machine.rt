@@ -2,11 +2,12 @@ ghost use Rattle.std.specs.Prelude.{◌≡◌, ◌<◌, List, [], ◌∷◌, ◌
 ghost use Rattle.rapid_model.specs.Fits.{fits_request};
 ghost use Rattle.rapid_model.specs.declared.answer.Answer.{Answer};
 ghost use Rattle.rapid_model.specs.declared.request.Request.{Request};
+ghost use Rattle.rapid_model.specs.declared.request.Request.TheVariants as requests;
 ghost use Rattle.stack_code.specs.CodeRuns.{fitting_by};
 ghost use Rattle.task_machine.specs.MachineData.{request_of};
 ghost use Rattle.task_machine.specs.Standing.{StandsFor};
 ghost use Rattle.task_steps.specs.declared.requests.pending.Pending.{Pending};
-ghost use Rattle.task_steps.specs.declared.steps.phase.Phase.TheVariants as phases;
+ghost use Rattle.task_steps.specs.Phases as phases;
 
 use crate::course::Course;
 use machine_stacks::Held;
@@ -56,7 +57,7 @@ impl Machine {
         ensures stands { StandsFor self.new [] }
     {
         self.begin();
-        self.last()
+        self.last().copy()
     }
 
     /// Asks the request that follows the answer to the last one, which did not end the task.
@@ -68,13 +69,13 @@ impl Machine {
         ensures stands { (answers : List Answer) → StandsFor self.old answers → StandsFor self.new (answers ++ answer ∷ []) }
     {
         self.go_on(answer);
-        self.last()
+        self.last().copy()
     }
 
     /// The request that is due.
-    pub fn last(&self) -> Request
+    pub fn last(&self) -> &Request
         requires { IsSome (request_of self.now) }
-        ensures { request_of self.now ≡ Some result }
+        ensures { request_of self.now ≡ Some result.now }
     {
         self.course.due()
     }
@@ -118,9 +119,10 @@ impl Machine {
         self.course.datum(slot)
     }
 
-    /// The position of the statement that began last, or asked to by a Look; none before the first.
+    /// The position of the statement that began last or, while a Look is due, asks to begin; none before the first Look.
     pub fn place(&self) -> Option<At>
-        ensures { result ≡ self.now.data'.place }
+        ensures kept { result ≡ self.now.data'.place }
+        ensures looks { request_of self.now ≡ Some requests.Look → IsSome result }
     {
         self.course.place()
     }

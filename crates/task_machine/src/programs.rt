@@ -8,7 +8,7 @@ impl TaskMachine for Machine {
     ghost use Rattle.std.specs.Prelude.{◌≡◌};
     ghost use Rattle.stack_code.specs.CodeData.{CodeData};
     ghost use Rattle.task_code.specs.Live.{CodeFits};
-    ghost use Rattle.task_steps.specs.declared.steps.phase.Phase.TheVariants as phases;
+    ghost use Rattle.task_steps.specs.Phases as phases;
     ghost use Rattle.task_code.specs.Asking.{CodeAsks};
     ghost use Rattle.task_machine.specs.MachineData.{request_of};
     ghost use Rattle.task_machine.specs.Programs.{asks_due};
@@ -36,7 +36,7 @@ impl TaskMachine for Machine {
         self.go_on(answer);
     }
 
-    fn last(&self) -> Request {
+    fn last(&self) -> &Request {
         Machine::last(self)
     }
 

@@ -75,7 +75,7 @@ unfolding performed after
 look_goes code h seen d = record { same = λ left. refl }
 
 pub look_traps : (code : CodeData) (h : Here) (number trap : ℕ) (d : Data)
-    → Alike code (looked h (answers.Trap number trap)) d (enter h.code trap [] (Trapped h.conf.pc h.conf.frame ∷ h.conf.saved)) (record d { trapped = true })
+    → Alike code (looked h (answers.Trap number trap)) d (enter h.code trap [] (Trapped h.conf.pc h.conf.frame h.conf.way ∷ h.conf.saved)) (record d { trapped = true })
 unfolding performed after
 look_traps code h number trap d = record { same = λ left. refl }
 

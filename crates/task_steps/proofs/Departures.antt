@@ -11,17 +11,17 @@ use Rattle.rapid_model.specs.declared.answer.Answer.TheVariants as answers
 use Rattle.rapid_model.specs.declared.request.Request.{Request}
 use Rattle.rapid_model.specs.declared.request.Request.TheVariants as requests
 use Rattle.rapid_meaning.specs.Doings.{Misfit}
-use Rattle.rapid_meaning.specs.Moves.{cap_of, move_from}
+use Rattle.rapid_meaning.specs.Moves.{cap_of, when_located}
 use Rattle.task_steps.specs.Doing.{departs}
 use Rattle.task_steps.specs.declared.requests.departure.Departure.{Departure}
 
 -- it is the move
-pub departs_so : (axes : ℕ) (departure : Departure) (a : Answer) → departure.axes ≡ axes → departs axes departure a ≡ move_from axes departure.target (cap_of departure.speed) a
-departs_so axes departure a same = ap (λ (own : Bool). if own then move_from axes departure.target (cap_of departure.speed) a else Misfit) (eq-eqb departure.axes axes same)
+pub departs_so : (axes : ℕ) (departure : Departure) (a : Answer) → departure.axes ≡ axes → departs axes departure a ≡ when_located axes departure.target (cap_of departure.speed) a
+departs_so axes departure a same = ap (λ (own : Bool). if own then when_located axes departure.target (cap_of departure.speed) a else Misfit) (eq-eqb departure.axes axes same)
 
 -- another arm's is none
 pub departs_none : (axes : ℕ) (departure : Departure) (a : Answer) → (departure.axes == axes) ≡ false → departs axes departure a ≡ Misfit
-departs_none axes departure a other = ap (λ (own : Bool). if own then move_from axes departure.target (cap_of departure.speed) a else Misfit) other
+departs_none axes departure a other = ap (λ (own : Bool). if own then when_located axes departure.target (cap_of departure.speed) a else Misfit) other
 
 -- a position that fits is one of the arm
 pub starts_reachable : (by : Fitting) (request : Request) (start : Joints) (axes : ℕ) → IsTrue (fits_request by request (answers.At start)) → by.axes ≡ axes → IsTrue (is_reachable axes start)

@@ -2,6 +2,7 @@
 use Rattle.std.proofs.Common.{◌≡◌, refl, ℕ}
 use Rattle.rapid_model.specs.declared.answer.Answer.{Answer}
 use Rattle.rapid_model.specs.declared.answer.Answer.TheVariants as answers
+use Rattle.rapid_model.specs.declared.zone_name.ZoneName.{ZoneName}
 use Rattle.typed_trees.specs.declared.datum.Lvalue.{Lvalue}
 use Rattle.rapid_meaning.specs.Data.{Data}
 use Rattle.rapid_meaning.specs.Doings.{Misfit, after}
@@ -33,6 +34,13 @@ unfolding after
 not_freed code h d place answers.Ok ok none = absurd (ok refl)
 not_freed code h d place answers.NoZone ok none = absurd (none refl)
 not_freed code h d place _ ok none = record { same = λ left. refl }
+
+pub not_pointed : (code : CodeData) (h : Here) (d : Data) (past : ℕ) (a : Answer) → (a ≡ answers.Given → ⊥) → ((zone : ZoneName) → a ≡ answers.Stopped zone → ⊥)
+    → Alike code (answered h (pendings.Pointed past) a) d Misfit d
+unfolding after
+not_pointed code h d past answers.Given given stopped = absurd (given refl)
+not_pointed code h d past (answers.Stopped zone) given stopped = absurd (stopped zone refl)
+not_pointed code h d past _ given stopped = record { same = λ left. refl }
 
 pub not_left : (code : CodeData) (h : Here) (d : Data) (a : Answer) → (a ≡ answers.Ok → ⊥) → Alike code (answered h pendings.Left a) d Misfit d
 unfolding after

@@ -10,6 +10,7 @@ pub mod Loads
 pub mod Popped
 pub mod Looks
 pub mod Readings
+pub mod Stages
 pub mod Storings
 pub mod InPlace
 pub mod Packs

@@ -4,11 +4,12 @@ use Rattle.rapid_model.specs.declared.answer.Answer.{Answer}
 use Rattle.rapid_model.specs.declared.request.Request.TheVariants.{Rise}
 use Rattle.rapid_model.specs.declared.value.Value.{Value}
 use Rattle.typed_trees.specs.declared.datum.Datum.TheVariants.{Plain, Mark}
-use Rattle.rapid_meaning.specs.Doings.{Act, Doing, Gives, Asks, Ends, Misfit, ◌>>=◌, ◌>>◌, change, tells, when_ok}
+use Rattle.rapid_meaning.specs.Doings.{Doing, Gives, Asks, Ends, Misfit, ◌>>=◌, ◌>>◌, after, change, tells, when_ok}
+use Rattle.rapid_meaning.specs.Flows as flows
 use Rattle.rapid_meaning.specs.Functions.{when_at, when_bit}
 use Rattle.rapid_meaning.specs.Interrupts.{when_connected, when_known, when_ordered}
 use Rattle.rapid_meaning.specs.Meetings.{task_or_fault, when_arrived, with_task, with_tasks}
-use Rattle.rapid_meaning.specs.Moves.{cap_of, move_from, setpoints, when_given}
+use Rattle.rapid_meaning.specs.Moves.{cap_of, when_given, when_located}
 use Rattle.rapid_meaning.specs.Places.{store, when_read, when_tested}
 use Rattle.rapid_meaning.specs.Signals.{when_written}
 use Rattle.rapid_meaning.specs.Values.{of_bit, text_in, value_in, whole}
@@ -17,15 +18,15 @@ use Rattle.stack_code.specs.CodeData.{CodeData}
 use Rattle.stack_code.specs.Confs.{Conf}
 use Rattle.stack_code.specs.Entering.{started}
 use Rattle.stack_code.specs.Raising.{raised, raised_out}
-use Rattle.stack_code.specs.Steps.{Here, as_truth, does, fails, jumps, looked, pushes, to_next}
+use Rattle.stack_code.specs.Steps.{Here, as_truth, does, fails, jumps, looked, moves_on, pushes, sets_out, to_next}
 use Rattle.task_steps.specs.declared.requests.departure.Departure.{Departure}
 use Rattle.task_steps.specs.declared.steps.done.Done.{Done}
 use Rattle.task_steps.specs.declared.steps.done.Done.TheVariants as dones
 use Rattle.task_steps.specs.declared.operands.gathering.Gathering.{Gathering}
 use Rattle.task_steps.specs.declared.requests.pending.Pending.{Pending}
 use Rattle.task_steps.specs.declared.requests.pending.Pending.TheVariants as pendings
-use Rattle.task_steps.specs.declared.steps.phase.Phase.{Phase}
-use Rattle.task_steps.specs.declared.steps.phase.Phase.TheVariants as phases
+use Rattle.task_steps.specs.Phases.{Phase}
+use Rattle.task_steps.specs.Phases as phases
 use Rattle.task_steps.specs.declared.steps.way.Way.{Way}
 use Rattle.task_steps.specs.declared.steps.way.Way.TheVariants as ways
 use Rattle.task_steps.specs.Points.{Point, conf_in, own_at, running_in, saved_in}
@@ -55,8 +56,8 @@ abbrev pub gathered : List (List ℕ) → Gathering → Value → Doing ℕ
 gathered names g v = named names g.set v >>= λ more. with_tasks names g.list (g.len - (g.read + 1)) (g.read + 1 + 1) more
 
 -- the move of an arm begins; a departure of another arm is none
-abbrev pub departs : ℕ → Departure → Answer → Act
-departs axes departure a = if departure.axes == axes then move_from axes departure.target (cap_of departure.speed) a else Misfit
+abbrev pub departs : ℕ → Departure → Answer → Doing flows.Way
+departs axes departure a = if departure.axes == axes then when_located axes departure.target (cap_of departure.speed) a else Misfit
 
 -- what an operation does with the answer that it waits for
 abbrev pub answered : Here → Pending → Answer → Doing Conf
@@ -69,8 +70,8 @@ answered h pendings.Sensed a = pushes h h.conf.stack (λ bit. Plain (of_bit bit)
 answered h pendings.Written a = does h h.conf.stack (when_written a)
 answered h pendings.Arrived a = pushes h h.conf.stack as_truth (when_arrived a)
 answered h pendings.Located a = pushes h h.conf.stack Plain (when_at a)
-answered h (pendings.Departed departure) a = does h h.conf.stack (departs h.code.axes departure a)
-answered h (pendings.Moved moving) a = does h h.conf.stack (when_given (setpoints moving.plan.axes moving.plan.start moving.plan.target moving.plan.count moving.left) a)
+answered h (pendings.Departed departure) a = after (departs h.code.axes departure a) (sets_out h h.conf.stack) (fails h)
+answered h (pendings.Pointed past) a = when_given (moves_on h past h.conf.way) a
 answered h (pendings.Connected place) a = does h h.conf.stack (when_connected place a)
 answered h pendings.Ordered a = does h h.conf.stack (when_ordered a)
 answered h pendings.Known a = does h h.conf.stack (when_known a)

@@ -1,5 +1,6 @@
 pub mod Points
 pub mod Savings
+pub mod Phases
 pub mod Seen
 pub mod Own
 pub mod Others

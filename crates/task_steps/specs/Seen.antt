@@ -5,8 +5,8 @@ use Rattle.rapid_model.specs.declared.request.Request.TheVariants.{End}
 use Rattle.rapid_meaning.specs.Data.{Data}
 use Rattle.stack_code.specs.CodeData.{CodeData}
 use Rattle.task_steps.specs.Points.{Point}
-use Rattle.task_steps.specs.declared.steps.phase.Phase.{Phase}
-use Rattle.task_steps.specs.declared.steps.phase.Phase.TheVariants as phases
+use Rattle.task_steps.specs.Phases.{Phase}
+use Rattle.task_steps.specs.Phases as phases
 
 -- the most operands of a frame, and the number of module data
 pub record Room : Type 0 where

@@ -10,10 +10,8 @@ mod task;
 
 pub use operands::gathering::Gathering;
 pub use requests::departure::Departure;
-pub use requests::moving::Moving;
 pub use requests::pending::Pending;
 pub use routines::failed::Failed;
 pub use routines::loaded::LoadedCode;
 pub use routines::running::Running;
-pub use steps::phase::Phase;
 pub use task::Task;

@@ -1,17 +1,23 @@
+use crate::requests::moving::Moving;
+use crate::requests::pending::Pending;
 use crate::routines::row::Row;
 use crate::routines::running::Running;
-use crate::steps::phase::Phase;
+use crate::steps::stage::Stage;
 use machine_stacks::{Frames, Held, Operands};
-use rapid_model::At;
+use rapid_model::{At, Request};
 use std::marker::Model;
 
-/// A running task without its code: its phase, its place in the operations, and its data. Contracts also see its room:
-/// the most operands of a frame and the number of module data. All of its memory is allocated when it is made.
+/// A running task without its code: its phase, its place in the operations, its move between two setpoints, and its
+/// data. Contracts also see its room: the most operands of a frame and the number of module data. All of its memory is
+/// allocated when it is made.
 #[derive(Drop)]
 pub struct Task {
-    pub(crate) phase: Phase,
+    pub(crate) stage: Stage,
+    pub(crate) asked: Request,
+    pub(crate) then: Pending,
     pub(crate) pc: u32,
     pub(crate) frame: Running,
+    pub(crate) way: Option<Moving>,
     pub(crate) rows: Vec<Row>,
     pub(crate) operands: Operands,
     pub(crate) frames: Frames,

@@ -1,15 +1,14 @@
 -- What instructions do with places, numbers, signals, zones and moves.
-use Rattle.std.proofs.Common.{◌≡◌, refl, sym, ap, ◌∙◌, subst, ℕ, zero, suc, ◌+◌, ◌-◌, ◌^◌, ◌<◌, ◌≤◌, Bool, true, false, not, ℤ, pos, int_lt, List, [], ◌∷◌, length, Option, Some, None, Result, Ok, Err, slice_get, position, bytes_eq, nat_lt, if◌then◌else◌, IsTrue, arith}
+use Rattle.std.proofs.Common.{◌≡◌, refl, sym, ap, ◌∙◌, subst, ℕ, zero, suc, ◌+◌, ◌-◌, ◌/◌, ◌^◌, ◌<◌, ◌≤◌, max, Bool, true, false, not, ℤ, pos, int_lt, List, [], ◌∷◌, length, Option, Some, None, Result, Ok, Err, slice_get, position, bytes_eq, if◌then◌else◌, IsTrue, arith}
 use Rattle.std.specs.Prelude.{⊤}
 use Rattle.std.specs.Option.{option_map}
-use Rattle.std.proofs.Math.Pow.{pow_mono}
 use Rattle.std.proofs.lemmas.Bool.{lt-ltb, not-false}
 use Rattle.std.proofs.lemmas.List.Quantifiers.{position-Some}
 use Rattle.std.specs.Ordering.{int_eq}
 use Rattle.rapid_num.specs.Reach.{is_position, is_reachable}
 use Rattle.rapid_num.specs.declared.joints.Joints.{Joints}
 use Rattle.rapid_num.specs.declared.shape.Shape.{Shape}
-use Rattle.joint_planner.specs.Setpoints.{setpoint, setpoint_count}
+use Rattle.joint_planner.specs.Setpoints.{greatest_change, setpoint}
 use Rattle.joint_planner.proofs.Setpoints.{setpoint_position}
 use Rattle.rapid_model.specs.declared.answer.Answer.TheVariants as answers
 use Rattle.rapid_model.specs.declared.fate.Fault.TheVariants as faults
@@ -29,13 +28,14 @@ use Rattle.typed_trees.specs.declared.datum.Root.{Root}
 use Rattle.typed_trees.specs.declared.datum.Root.TheVariants as roots
 use Rattle.typed_trees.specs.declared.expr.TreeRoot.TheVariants as tree_roots
 use Rattle.rapid_meaning.specs.Answering.{is_trap_row}
-use Rattle.rapid_meaning.specs.Doings.{Act, Asks, Doing, Gives, Misfit, ◌>>=◌, ◌>>◌, done, fault, tells, when_ok}
+use Rattle.rapid_meaning.specs.Doings.{Asks, Doing, Gives, Misfit, ◌>>=◌, ◌>>◌, done, fault, tells, when_ok}
 use Rattle.rapid_meaning.specs.Expressions.{expr, lent_length, place}
+use Rattle.rapid_meaning.specs.Flows.{Way}
 use Rattle.rapid_meaning.specs.Functions.{read_signal}
 use Rattle.rapid_meaning.specs.Instructions.{bit, num, ready, target, text, truth}
 use Rattle.rapid_meaning.specs.Interrupts.{asks_of_number, connect, number_at, order, pers_at, when_connected, when_known, when_ordered}
 use Rattle.rapid_meaning.specs.Meetings.{arrive, task_or_fault, tasks_in, when_arrived, with_task, with_tasks}
-use Rattle.rapid_meaning.specs.Moves.{cap_of, move, move_from, setpoints, still, when_given}
+use Rattle.rapid_meaning.specs.Moves.{aim, cap_of, next_setpoint, point, still, way_from, when_given, when_located}
 use Rattle.rapid_meaning.specs.Places.{at_element, at_root, load, part_at, part_within, read_value, rooted}
 use Rattle.rapid_meaning.specs.Signals.{has_value, when_written, write_signal}
 use Rattle.rapid_meaning.specs.Values.{bit_in, mark_in, num_in, shape_in, target_in, text_in, tool_speed_in, truth_in}
@@ -49,7 +49,7 @@ use Rattle.rapid_meaning.proofs.Begins.{Anything}
 use Rattle.tree_typing.specs.Asked.{CanWatch}
 use Rattle.tree_typing.specs.Expressions.{IsArray, IsExpr, IsPersName}
 use Rattle.tree_typing.specs.Kinds.{kinds_of}
-use Rattle.tree_typing.specs.Setting.{has_arm}
+use Rattle.tree_typing.specs.Setting.{Setting, has_arm}
 use Rattle.tree_typing.specs.States.{IsPers}
 use Rattle.tree_typing.specs.WellTyped.{is_datum_of, is_marked}
 use Rattle.tree_typing.proofs.Data.{shape_form}
@@ -58,7 +58,7 @@ use Rattle.tree_typing.proofs.Forms.{num_form, speed_form, target_form, tasks_fo
 use Rattle.tree_typing.proofs.Loads.{load_safe, mark_safe, read_safe, store_safe, truth_safe}
 use Rattle.tree_typing.proofs.Places.{Inside, IsRooted, IsThere, at_element_safe, num_safe, root_len, rooted_safe, scene}
 use Rattle.tree_typing.proofs.Safe.{Answered, Safe, safe_any, safe_asks, safe_asks_in, safe_done, safe_fault, safe_gives, safe_or, safe_raises, safe_reads, safe_then}
-use Rattle.tree_typing.proofs.Scene.{Scene}
+use Rattle.tree_typing.proofs.Scene.{IsWay, Scene}
 
 pub when_safe : {A : Type 0} (s : Scene) (P : A → Type 0) (b : Bool) (m n : Doing A) → (b ≡ true → Safe s P m) → (b ≡ false → Safe s P n) → Safe s P (if b then m else n)
 when_safe s P true m n first second = first refl
@@ -334,30 +334,40 @@ still_safe s = safe_reads s (λ _. s.trapped ≡ false) (λ d. if d.trapped then
     (λ d is. when_safe s (λ _. s.trapped ≡ false) d.trapped (fault faults.MoveInTrap) done (λ _. safe_fault {A = ⊤} s (λ _. s.trapped ≡ false) faults.MoveInTrap)
     (λ untrapped. safe_gives {A = ⊤} s (λ _. s.trapped ≡ false) tt (sym is.in_trap ∙ untrapped)))
 
-given_answered : (s : Scene) (to : Joints) (next : Act) → Safe s Anything next → Answered s Anything (requests.Setpoint to) (λ a. when_given next a)
-given_answered s to next safe trapped answers.Given fits = (refl, safe)
-given_answered s to next safe trapped (answers.Stopped zone) fits = (refl, safe_fault {A = ⊤} s Anything faults.ZoneStop)
-given_answered s to next safe trapped a fits = absurd cc
+given_answered : {A : Type 0} (s : Scene) (P : A → Type 0) (to : Joints) (next : Doing A) → Safe s P next → Answered s P (requests.Setpoint to) (when_given next)
+given_answered s P to next safe trapped answers.Given fits = (refl, safe)
+given_answered {A = A} s P to next safe trapped (answers.Stopped zone) fits = (refl, safe_fault {A = A} s P faults.ZoneStop)
+given_answered s P to next safe trapped a fits = absurd cc
 
-setpoints_safe : (s : Scene) (start target : Joints) (n left : ℕ) → IsTrue (has_arm s.c) → s.trapped ≡ false → IsTrue (is_position s.c.tree.axes start) → IsTrue (is_reachable s.c.tree.axes target) → left ≤ n
-    → Safe s Anything (setpoints s.c.tree.axes start target n left)
-unfolding setpoints
-setpoints_safe s start target n zero arm untrapped from to few = safe_done s
-setpoints_safe s start target n (suc left) arm untrapped from to few =
-    safe_asks_in s Anything (requests.Setpoint (setpoint s.c.tree.axes start target n (n - left))) (λ a. when_given (setpoints s.c.tree.axes start target n left) a)
-    (record { no_rise = refl; no_hold = refl; no_leave = refl; no_end = refl })
-    (λ d is. (arm, setpoint_position s.c.tree.axes start target n (n - left) from to (omega (arith, few)) (omega arith), is.in_trap ∙ untrapped))
-    (given_answered s (setpoint s.c.tree.axes start target n (n - left)) (setpoints s.c.tree.axes start target n left) (setpoints_safe s start target n left arm untrapped from to (omega (arith, few))))
+-- the next setpoint of a move is a position of the arm
+next_position : (c : Setting) (trapped : Bool) (way : Way) → IsWay c trapped way → IsTrue (is_position c.tree.axes (next_setpoint way))
+next_position c trapped way on =
+    subst (λ (axes : ℕ). IsTrue (is_position c.tree.axes (setpoint axes way.plan.start way.plan.target way.plan.count (way.given + 1)))) (sym on.axes)
+    (setpoint_position c.tree.axes way.plan.start way.plan.target way.plan.count (way.given + 1) on.start on.target (omega arith) (omega (arith, on.left)))
 
-moved_answered : (s : Scene) (target : Joints) (cap : ℕ) → IsTrue (has_arm s.c) → s.trapped ≡ false → IsTrue (is_reachable s.c.tree.axes target) → Answered s Anything requests.Position (move_from s.c.tree.axes target cap)
-moved_answered s target cap arm untrapped to trapped (answers.At start) fits =
-    (refl, setpoints_safe s start target (setpoint_count s.c.tree.axes start target cap) (setpoint_count s.c.tree.axes start target cap) arm untrapped fits to (omega arith))
-moved_answered s target cap arm untrapped to trapped a fits = absurd cc
+pub point_safe : {A : Type 0} (s : Scene) (P : A → Type 0) (way : Way) (next : Doing A) → IsWay s.c s.trapped way → Safe s P next → Safe s P (point way next)
+point_safe s P way next on safe =
+    safe_asks_in s P (requests.Setpoint (next_setpoint way)) (when_given next) (record { no_rise = refl; no_hold = refl; no_leave = refl; no_end = refl })
+    (λ d is. (on.arm, next_position s.c s.trapped way on, is.in_trap ∙ on.untrapped)) (given_answered s P (next_setpoint way) next safe)
 
-pub move_safe : (s : Scene) (target : Joints) (speed : ℤ) → IsTrue (has_arm s.c) → s.trapped ≡ false → Safe s Anything (move s.c.tree.axes target speed)
-move_safe s target speed arm untrapped =
-    when_safe s Anything (not (is_reachable s.c.tree.axes target)) (fault faults.JointRange) (if not (int_lt (pos 0) speed) then fault faults.Speed else Asks requests.Position (move_from s.c.tree.axes target (cap_of speed)))
-    (λ _. safe_fault {A = ⊤} s Anything faults.JointRange)
-    (λ there. when_safe s Anything (not (int_lt (pos 0) speed)) (fault faults.Speed) (Asks requests.Position (move_from s.c.tree.axes target (cap_of speed))) (λ _. safe_fault {A = ⊤} s Anything faults.Speed)
-    (λ _. safe_asks s Anything requests.Position (move_from s.c.tree.axes target (cap_of speed)) (record { no_rise = refl; no_hold = refl; no_leave = refl; no_end = refl }) (λ d. arm)
-    (moved_answered s target (cap_of speed) arm untrapped (not-false (is_reachable s.c.tree.axes target) there))))
+at_least_one : (n : ℕ) → 0 < max 1 n
+at_least_one n = omega arith
+
+located_answered : (s : Scene) (target : Joints) (cap : ℕ) → IsTrue (has_arm s.c) → s.trapped ≡ false → IsTrue (is_reachable s.c.tree.axes target)
+    → Answered s (IsWay s.c s.trapped) requests.Position (when_located s.c.tree.axes target cap)
+located_answered s target cap arm untrapped to trapped (answers.At start) fits = (
+  refl,
+  safe_gives s (IsWay s.c s.trapped) (way_from s.c.tree.axes start target cap)
+      (record { arm = arm; untrapped = untrapped; axes = refl; start = fits; target = to; left = at_least_one ((greatest_change s.c.tree.axes start.axis target.axis + (cap - 1)) / cap) }),
+)
+located_answered s target cap arm untrapped to trapped a fits = absurd cc
+
+pub aim_safe : (s : Scene) (target : Joints) (speed : ℤ) → IsTrue (has_arm s.c) → s.trapped ≡ false → Safe s (IsWay s.c s.trapped) (aim s.c.tree.axes target speed)
+aim_safe s target speed arm untrapped =
+    when_safe s (IsWay s.c s.trapped) (not (is_reachable s.c.tree.axes target)) (fault faults.JointRange)
+    (if not (int_lt (pos 0) speed) then fault faults.Speed else Asks requests.Position (when_located s.c.tree.axes target (cap_of speed)))
+    (λ _. safe_fault {A = Way} s (IsWay s.c s.trapped) faults.JointRange)
+    (λ there. when_safe s (IsWay s.c s.trapped) (not (int_lt (pos 0) speed)) (fault faults.Speed) (Asks requests.Position (when_located s.c.tree.axes target (cap_of speed)))
+    (λ _. safe_fault {A = Way} s (IsWay s.c s.trapped) faults.Speed)
+    (λ _. safe_asks s (IsWay s.c s.trapped) requests.Position (when_located s.c.tree.axes target (cap_of speed)) (record { no_rise = refl; no_hold = refl; no_leave = refl; no_end = refl }) (λ d. arm)
+    (located_answered s target (cap_of speed) arm untrapped (not-false (is_reachable s.c.tree.axes target) there))))

@@ -8,7 +8,7 @@ use Rattle.typed_trees.specs.declared.datum.Datum.{Datum}
 use Rattle.rapid_meaning.specs.Calls.{body, called, errors_of, part, result, within}
 use Rattle.rapid_meaning.specs.Data.{Data}
 use Rattle.rapid_meaning.specs.Doings.{Doing, Gives, Raises, Writes, ◌>>◌, after, done, fault}
-use Rattle.rapid_meaning.specs.Flows.{Flow, Normal, Jumps, Returns, Retries, Skips, Part, Attempt, Turn, Rest, Call}
+use Rattle.rapid_meaning.specs.Flows.{Flow, Normal, Jumps, Returns, Retries, Skips, Attempt, Turn, Leg, Rest, Call}
 use Rattle.rapid_meaning.specs.Frames.{frame_of, has_room, leaves}
 use Rattle.tree_typing.specs.Kinds.{Cell, cells_of, kind_of, kinds_of, local_cells}
 use Rattle.tree_typing.specs.Setting.{Setting}
@@ -17,13 +17,13 @@ use Rattle.tree_typing.specs.Statements.{Around, AreStmts, into}
 use Rattle.tree_typing.specs.WellTyped.{IsHandler, IsRoutine}
 use Rattle.tree_typing.proofs.Frames.{frame_in, frames_below}
 use Rattle.tree_typing.proofs.Looks.{Goes}
-use Rattle.tree_typing.proofs.Meets.{Meets, meets_after}
+use Rattle.tree_typing.proofs.Meets.{meets_after}
 use Rattle.tree_typing.proofs.Rows.{all_at}
 use Rattle.tree_typing.proofs.Runs.{Keeps}
 use Rattle.tree_typing.proofs.Safe.{Safe, scene_of}
-use Rattle.tree_typing.proofs.Scene.{AreErrors, Facts, Ghost, IsEnd, IsFlow, IsPart, IsResult, IsResultBy, around_of, frames_in, is_in_part, rules_of}
-use Rattle.tree_typing.proofs.Statements.{rest_safe, stmt_safe, turn_safe}
-use Rattle.tree_typing.proofs.OwnState.{OwnState, calm}
+use Rattle.tree_typing.proofs.Scene.{AreErrors, Facts, Ghost, IsEnd, IsFlow, IsPart, IsResult, IsResultBy, around_of, is_in_part, rules_of}
+use Rattle.tree_typing.proofs.Statements.{leg_safe, rest_safe, stmt_safe, turn_safe}
+use Rattle.tree_typing.proofs.OwnState.{calm}
 
 no_part : (handler : Option TypedStmts) → is_in_part (errors_of handler) ≡ false
 no_part None = refl
@@ -115,5 +115,6 @@ call_keeps c facts g name args is =
 pub keeps : (c : Setting) → Facts c → Keeps (rules_of c)
 keeps c facts g (Attempt w s) d begins = stmt_safe c facts g w s begins.0 d begins.1
 keeps c facts g (Turn w s) d begins = turn_safe c facts g w s begins.0 d begins.1
+keeps c facts g (Leg w s way) d begins = leg_safe c facts g w s way begins.0 d begins.1
 keeps c facts g (Rest w list more) d begins = rest_safe c facts g w list more begins.0 d begins.1
 keeps c facts g (Call name args) d begins = call_keeps c facts g name args begins.0 d begins.1

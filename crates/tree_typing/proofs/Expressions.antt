@@ -1,5 +1,5 @@
 -- Expressions, places and arguments.
-use Rattle.std.proofs.Common.{◌≡◌, refl, sym, ◌∙◌, subst, ℕ, ◌*◌, ◌-◌, ◌<◌, ◌==◌, Bool, true, false, not, ◌&&◌, ◌||◌, ◌++◌, ℤ, pos, neg_ℤ, nat_abs, ◌*ℤ◌, List, [], ◌∷◌, length, map, flat_map, Option, Some, None, slice_get, drop, if◌then◌else◌, IsTrue, arith}
+use Rattle.std.proofs.Common.{◌≡◌, refl, sym, subst, ℕ, ◌*◌, ◌<◌, ◌==◌, Bool, true, false, not, ◌&&◌, ◌||◌, ◌++◌, ℤ, pos, neg_ℤ, nat_abs, ◌*ℤ◌, List, [], ◌∷◌, length, map, flat_map, Option, Some, None, slice_get, drop, if◌then◌else◌, IsTrue}
 use Rattle.std.specs.Prelude.{⊤}
 use Rattle.std.specs.List.{list_all}
 use Rattle.std.proofs.lemmas.Bool.{and_parts}

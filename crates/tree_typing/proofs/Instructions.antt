@@ -17,27 +17,29 @@ use Rattle.typed_trees.specs.declared.datum.Datum.TheVariants as datums
 use Rattle.typed_trees.specs.declared.datum.Lvalue.{Lvalue}
 use Rattle.rapid_meaning.specs.Doings.{Doing, Gives, ◌>>=◌, ◌>>◌, or_misfit, tells}
 use Rattle.rapid_meaning.specs.Expressions.{expr, lent_length, place}
-use Rattle.rapid_meaning.specs.Instructions.{bit, has, instructed, num, ready, tail, target, text, truth}
+use Rattle.rapid_meaning.specs.Instructions.{aimed, bit, has, instructed, num, ready, tail, target, text, truth}
 use Rattle.rapid_meaning.specs.Interrupts.{asks_of_number, number_at, order, pers_at}
 use Rattle.rapid_meaning.specs.Meetings.{arrive, tasks_in}
-use Rattle.rapid_meaning.specs.Moves.{move, still}
+use Rattle.rapid_meaning.specs.Moves.{aim, still}
 use Rattle.rapid_meaning.specs.Places.{read_value, store, test_and_set, write_value}
 use Rattle.rapid_meaning.specs.Signals.{has_value, write_signal}
 use Rattle.rapid_meaning.specs.Values.{in_range, num_in, tool_speed_in, whole}
 use Rattle.rapid_meaning.specs.Zones.{asks_of_zone, define, define_home, shape_at, supervise}
 use Rattle.rapid_meaning.proofs.Begins.{Anything}
+use Rattle.rapid_meaning.proofs.Moves.{IsOther}
 use Rattle.tree_typing.specs.Expressions.{IsArray, IsExpr, IsPlace, is_zone}
 use Rattle.tree_typing.specs.Instructions.{AreChosen, AreNeeded, AreOptions, IsOptionArg}
 use Rattle.tree_typing.specs.Kinds.{kinds_of}
 use Rattle.tree_typing.specs.Setting.{has_arm}
 use Rattle.tree_typing.specs.States.{IsPers}
 use Rattle.tree_typing.specs.WellTyped.{is_marked}
-use Rattle.tree_typing.proofs.Acts.{IsPersAt, arrive_safe, array_place, bit_expr, define_safe, delete_safe, disable_safe, enable_safe, home_safe, move_safe, name_safe, num_expr, number_safe, order_safe, pers_safe, say_safe, shape_at_safe, sleep_safe, speed_safe, still_safe, supervise_safe, target_expr, tasks_safe, text_expr, then_ready, truth_expr, value_safe, watch_safe, write_safe, zone_free_safe, zone_off_safe, zone_on_safe}
+use Rattle.tree_typing.proofs.Acts.{IsPersAt, aim_safe, arrive_safe, array_place, bit_expr, define_safe, delete_safe, disable_safe, enable_safe, home_safe, name_safe, num_expr, number_safe, order_safe, pers_safe, say_safe, shape_at_safe, sleep_safe, speed_safe, still_safe, supervise_safe, target_expr, tasks_safe, text_expr, then_ready, truth_expr, value_safe, watch_safe, write_safe, zone_free_safe, zone_off_safe, zone_on_safe}
 use Rattle.tree_typing.proofs.Expressions.{HasSort, expr_safe, place_safe}
 use Rattle.tree_typing.proofs.Loads.{read_safe, store_safe, test_safe}
 use Rattle.tree_typing.proofs.Operators.{range_safe}
 use Rattle.tree_typing.proofs.Places.{Inside, IsRooted, IsThere, num_safe, scene}
 use Rattle.tree_typing.proofs.Safe.{Safe, safe_any, safe_or, safe_then}
+use Rattle.tree_typing.proofs.Scene.{IsWay}
 use Rattle.tree_typing.proofs.Shapes.{fine_needed, four_needed, meeting_needed, name_needed, none_needed, one_needed, pers_needed, place_needed, signal_needed, tasks_needed, three_needed, tool_needed, two_needed, value_needed, var_needed, written_needed, zone_needed}
 
 -- an instruction with these arguments and options
@@ -86,14 +88,28 @@ zone_marked sorts.WzTemporary is = refl
 zone_marked sorts.WzStationary is = refl
 zone_marked sort is = absurd cc
 
-moves : (i : Inside) (to speed : TypedExpr) → IsTrue (has_arm i.c) → IsExpr i.c (kinds_of i.routine) to sorts.JointTarget → IsExpr i.c (kinds_of i.routine) speed sorts.SpeedData
-    → Safe (scene i) Anything (still >> (target i.c.tree i.routine to >>= λ joints. expr i.c.tree i.routine speed >>= λ v. tool_speed_in v >>= λ n. move i.c.tree.axes joints n >> ready))
-moves i to speed arm ist iss =
-    safe_then (scene i) (λ _. (scene i).trapped ≡ false) Anything still (λ _. target i.c.tree i.routine to >>= λ joints. expr i.c.tree i.routine speed >>= λ v. tool_speed_in v >>= λ n. move i.c.tree.axes joints n >> ready)
+-- MoveAbsJ before its first setpoint
+abbrev Aims : Inside → List TypedArg → Type 0
+Aims i args = Safe (scene i) (IsWay i.c i.trapped) (aimed i.c.tree i.routine args)
+
+aims : (i : Inside) (to speed : TypedExpr) → IsTrue (has_arm i.c) → IsExpr i.c (kinds_of i.routine) to sorts.JointTarget → IsExpr i.c (kinds_of i.routine) speed sorts.SpeedData
+    → Safe (scene i) (IsWay i.c i.trapped) (still >> (target i.c.tree i.routine to >>= λ joints. expr i.c.tree i.routine speed >>= λ v. tool_speed_in v >>= λ n. aim i.c.tree.axes joints n))
+aims i to speed arm ist iss =
+    safe_then (scene i) (λ _. (scene i).trapped ≡ false) (IsWay i.c i.trapped) still (λ _. target i.c.tree i.routine to >>= λ joints. expr i.c.tree i.routine speed >>= λ v. tool_speed_in v >>= λ n. aim i.c.tree.axes joints n)
     (still_safe (scene i))
-    (λ _ untrapped. on i (target i.c.tree i.routine to) (λ joints. expr i.c.tree i.routine speed >>= λ v. tool_speed_in v >>= λ n. move i.c.tree.axes joints n >> ready) (target_expr i to ist)
-    (λ joints. safe_then (scene i) (HasSort sorts.SpeedData) Anything (expr i.c.tree i.routine speed) (λ v. tool_speed_in v >>= λ n. move i.c.tree.axes joints n >> ready) (expr_safe i speed sorts.SpeedData iss)
-    (λ v h. on i (tool_speed_in v) (λ n. move i.c.tree.axes joints n >> ready) (speed_safe (scene i) v h) (λ n. then_ready (scene i) (move i.c.tree.axes joints n) (move_safe (scene i) joints n arm untrapped)))))
+    (λ _ untrapped. safe_then (scene i) Anything (IsWay i.c i.trapped) (target i.c.tree i.routine to) (λ joints. expr i.c.tree i.routine speed >>= λ v. tool_speed_in v >>= λ n. aim i.c.tree.axes joints n) (target_expr i to ist)
+    (λ joints _. safe_then (scene i) (HasSort sorts.SpeedData) (IsWay i.c i.trapped) (expr i.c.tree i.routine speed) (λ v. tool_speed_in v >>= λ n. aim i.c.tree.axes joints n) (expr_safe i speed sorts.SpeedData iss)
+    (λ v h. safe_then (scene i) Anything (IsWay i.c i.trapped) (tool_speed_in v) (λ n. aim i.c.tree.axes joints n) (speed_safe (scene i) v h) (λ n _. aim_safe (scene i) joints n arm untrapped))))
+
+pub aimed_safe : (i : Inside) (args : List TypedArg) → IsTrue (has_arm i.c) → AreNeeded i.c (kinds_of i.routine) args (instruction_needs instructions.MoveAbsJ) → Aims i args
+aimed_safe i args arm are =
+    four_needed i.c (kinds_of i.routine) (Aims i) (needs.Value sorts.JointTarget) (needs.Value sorts.SpeedData) needs.Fine needs.Tool
+    (λ a b x y ia ib ix iy.
+    value_needed i.c (kinds_of i.routine) (λ z. Aims i (z ∷ b ∷ x ∷ y ∷ [])) sorts.JointTarget
+    (λ to ist. value_needed i.c (kinds_of i.routine) (λ z. Aims i (Given to ∷ z ∷ x ∷ y ∷ [])) sorts.SpeedData
+    (λ speed iss. fine_needed i.c (kinds_of i.routine) (λ z. Aims i (Given to ∷ Given speed ∷ z ∷ y ∷ []))
+    (λ fine. tool_needed i.c (kinds_of i.routine) (λ z. Aims i (Given to ∷ Given speed ∷ Itself fine ∷ z ∷ []))
+    (λ tool. aims i to speed arm ist iss) y iy) x ix) b ib) a ia) args are
 
 meets : (i : Inside) (number : ℕ) (list : TypedPlace) → number < length i.c.tree.meetings → IsArray i.c (kinds_of i.routine) list sorts.Tasks
     → Safe (scene i) Anything (or_misfit (slice_get i.c.tree.meeting_of number) >>= λ meeting. place i.c.tree i.routine list >>= λ q. tasks_in i.c.tree.tasks q (lent_length i.c.tree i.routine list) >>= arrive meeting)
@@ -145,73 +161,66 @@ tail_safe i (Optional name value ∷ []) are few =
 tail_safe i (Optional name value ∷ x ∷ more) are few = absurd (omega (arith, few))
 tail_safe i (arg ∷ more) are few = absurd are
 
-pub instructed_safe : (i : Inside) (instruction : Instruction) (args given : List TypedArg) → IsTrue (not (needs_arm instruction) || has_arm i.c)
+pub instructed_safe : (i : Inside) (instruction : Instruction) (args given : List TypedArg) → IsOther instruction → IsTrue (not (needs_arm instruction) || has_arm i.c)
     → AreNeeded i.c (kinds_of i.routine) args (instruction_needs instruction) → AreOptions i.c (kinds_of i.routine) given (builtins.options instruction) → AreChosen (builtins.choice instruction) given
     → Does i instruction given args
-instructed_safe i instructions.MoveAbsJ args given arm are options chosen =
-    four_needed i.c (kinds_of i.routine) (Does i instructions.MoveAbsJ given) (needs.Value sorts.JointTarget) (needs.Value sorts.SpeedData) needs.Fine needs.Tool
-    (λ a b x y ia ib ix iy.
-    value_needed i.c (kinds_of i.routine) (λ z. Does i instructions.MoveAbsJ given (z ∷ b ∷ x ∷ y ∷ [])) sorts.JointTarget
-    (λ to ist. value_needed i.c (kinds_of i.routine) (λ z. Does i instructions.MoveAbsJ given (Given to ∷ z ∷ x ∷ y ∷ [])) sorts.SpeedData
-    (λ speed iss. fine_needed i.c (kinds_of i.routine) (λ z. Does i instructions.MoveAbsJ given (Given to ∷ Given speed ∷ z ∷ y ∷ []))
-    (λ fine. tool_needed i.c (kinds_of i.routine) (λ z. Does i instructions.MoveAbsJ given (Given to ∷ Given speed ∷ Itself fine ∷ z ∷ []))
-    (λ tool. moves i to speed arm ist iss) y iy) x ix) b ib) a ia) args are
-instructed_safe i instructions.Set args given arm are options chosen =
+instructed_safe i instructions.MoveAbsJ args given other arm are options chosen = absurd other
+instructed_safe i instructions.Set args given other arm are options chosen =
     one_needed i.c (kinds_of i.routine) (Does i instructions.Set given) (needs.Signal true)
     (λ a ia. signal_needed i.c (kinds_of i.routine) (λ z. Does i instructions.Set given (z ∷ [])) true
     (λ signal few. then_ready (scene i) (write_signal signal true) (write_safe (scene i) signal true few)) a ia) args are
-instructed_safe i instructions.Reset args given arm are options chosen =
+instructed_safe i instructions.Reset args given other arm are options chosen =
     one_needed i.c (kinds_of i.routine) (Does i instructions.Reset given) (needs.Signal true)
     (λ a ia. signal_needed i.c (kinds_of i.routine) (λ z. Does i instructions.Reset given (z ∷ [])) true
     (λ signal few. then_ready (scene i) (write_signal signal false) (write_safe (scene i) signal false few)) a ia) args are
-instructed_safe i instructions.SetDO args given arm are options chosen =
+instructed_safe i instructions.SetDO args given other arm are options chosen =
     two_needed i.c (kinds_of i.routine) (Does i instructions.SetDO given) (needs.Signal true) (needs.Value sorts.Num)
     (λ a b ia ib. signal_needed i.c (kinds_of i.routine) (λ z. Does i instructions.SetDO given (z ∷ b ∷ [])) true
     (λ signal few. value_needed i.c (kinds_of i.routine) (λ z. Does i instructions.SetDO given (OfSignal signal ∷ z ∷ [])) sorts.Num
     (λ e is. on i (bit i.c.tree i.routine e) (λ v. write_signal signal v >> ready) (bit_expr i e is) (λ v. then_ready (scene i) (write_signal signal v) (write_safe (scene i) signal v few))) b ib) a ia) args are
-instructed_safe i instructions.WaitDI args given arm are options chosen =
+instructed_safe i instructions.WaitDI args given other arm are options chosen =
     two_needed i.c (kinds_of i.routine) (Does i instructions.WaitDI given) (needs.Signal false) (needs.Value sorts.Num)
     (λ a b ia ib. signal_needed i.c (kinds_of i.routine) (λ z. Does i instructions.WaitDI given (z ∷ b ∷ [])) false
     (λ signal few. value_needed i.c (kinds_of i.routine) (λ z. Does i instructions.WaitDI given (OfSignal signal ∷ z ∷ [])) sorts.Num (λ e is. wait_signal i signal e few is) b ib) a ia) args are
-instructed_safe i instructions.WaitDO args given arm are options chosen =
+instructed_safe i instructions.WaitDO args given other arm are options chosen =
     two_needed i.c (kinds_of i.routine) (Does i instructions.WaitDO given) (needs.Signal true) (needs.Value sorts.Num)
     (λ a b ia ib. signal_needed i.c (kinds_of i.routine) (λ z. Does i instructions.WaitDO given (z ∷ b ∷ [])) true
     (λ signal few. value_needed i.c (kinds_of i.routine) (λ z. Does i instructions.WaitDO given (OfSignal signal ∷ z ∷ [])) sorts.Num (λ e is. wait_signal i signal e few is) b ib) a ia) args are
-instructed_safe i instructions.WaitUntil args given arm are options chosen =
+instructed_safe i instructions.WaitUntil args given other arm are options chosen =
     one_needed i.c (kinds_of i.routine) (Does i instructions.WaitUntil given) (needs.Value sorts.Bool)
     (λ a ia. value_needed i.c (kinds_of i.routine) (λ z. Does i instructions.WaitUntil given (z ∷ [])) sorts.Bool (λ e is. truth_expr i e is) a ia) args are
-instructed_safe i instructions.WaitTime args given arm are options chosen =
+instructed_safe i instructions.WaitTime args given other arm are options chosen =
     one_needed i.c (kinds_of i.routine) (Does i instructions.WaitTime given) (needs.Value sorts.Num)
     (λ a ia. value_needed i.c (kinds_of i.routine) (λ z. Does i instructions.WaitTime given (z ∷ [])) sorts.Num (λ e is. then_ready (scene i) (num i.c.tree i.routine e) (num_expr i e is)) a ia) args are
-instructed_safe i instructions.WaitTestAndSet args given arm are options chosen =
+instructed_safe i instructions.WaitTestAndSet args given other arm are options chosen =
     one_needed i.c (kinds_of i.routine) (Does i instructions.WaitTestAndSet given) (needs.Pers sorts.Bool)
     (λ a ia. pers_needed i.c (kinds_of i.routine) (λ z. Does i instructions.WaitTestAndSet given (z ∷ [])) sorts.Bool
     (λ p is. at_place i true p sorts.Bool test_and_set is (λ q at. test_safe (scene i) q at)) a ia) args are
-instructed_safe i instructions.WaitSyncTask args given arm are options chosen =
+instructed_safe i instructions.WaitSyncTask args given other arm are options chosen =
     two_needed i.c (kinds_of i.routine) (Does i instructions.WaitSyncTask given) needs.Meeting needs.TaskList
     (λ a b ia ib. meeting_needed i.c (kinds_of i.routine) (λ z. Does i instructions.WaitSyncTask given (z ∷ b ∷ []))
     (λ number few. tasks_needed i.c (kinds_of i.routine) (λ z. Does i instructions.WaitSyncTask given (OfMeeting number ∷ z ∷ [])) (λ list array. meets i number list few array) b ib) a ia) args are
-instructed_safe i instructions.TPWrite args given arm are options chosen =
+instructed_safe i instructions.TPWrite args given other arm are options chosen =
     one_needed i.c (kinds_of i.routine) (Does i instructions.TPWrite given) (needs.Value sorts.Text)
     (λ a ia. value_needed i.c (kinds_of i.routine) (λ z. Does i instructions.TPWrite given (z ∷ [])) sorts.Text
     (λ e is. on i (text i.c.tree i.routine e) (λ said. tail i.c.tree i.routine given >>= λ more. tells (requests.Say said more) >> ready) (text_expr i e is)
     (λ said. on i (tail i.c.tree i.routine given) (λ more. tells (requests.Say said more) >> ready) (tail_safe i given options chosen)
     (λ more. then_ready (scene i) (tells (requests.Say said more)) (say_safe (scene i) said more)))) a ia) args are
-instructed_safe i instructions.TPErase args given arm are options chosen =
+instructed_safe i instructions.TPErase args given other arm are options chosen =
     none_needed i.c (kinds_of i.routine) (Does i instructions.TPErase given) (safe_any (scene i) true) args are
-instructed_safe i instructions.ISignalDI args given arm are options chosen =
+instructed_safe i instructions.ISignalDI args given other arm are options chosen =
     three_needed i.c (kinds_of i.routine) (Does i instructions.ISignalDI given) (needs.Signal false) (needs.Value sorts.Num) (needs.Place sorts.IntNum)
     (λ a b x ia ib ix. signal_needed i.c (kinds_of i.routine) (λ z. Does i instructions.ISignalDI given (z ∷ b ∷ x ∷ [])) false
     (λ signal few. value_needed i.c (kinds_of i.routine) (λ z. Does i instructions.ISignalDI given (OfSignal signal ∷ z ∷ x ∷ [])) sorts.Num
     (λ e is. place_needed i.c (kinds_of i.routine) (λ z. Does i instructions.ISignalDI given (OfSignal signal ∷ Given e ∷ z ∷ [])) sorts.IntNum
     (λ p there. order_signal i signal e p (has (codes "Single") given) few is there) x ix) b ib) a ia) args are
-instructed_safe i instructions.ISignalDO args given arm are options chosen =
+instructed_safe i instructions.ISignalDO args given other arm are options chosen =
     three_needed i.c (kinds_of i.routine) (Does i instructions.ISignalDO given) (needs.Signal true) (needs.Value sorts.Num) (needs.Place sorts.IntNum)
     (λ a b x ia ib ix. signal_needed i.c (kinds_of i.routine) (λ z. Does i instructions.ISignalDO given (z ∷ b ∷ x ∷ [])) true
     (λ signal few. value_needed i.c (kinds_of i.routine) (λ z. Does i instructions.ISignalDO given (OfSignal signal ∷ z ∷ x ∷ [])) sorts.Num
     (λ e is. place_needed i.c (kinds_of i.routine) (λ z. Does i instructions.ISignalDO given (OfSignal signal ∷ Given e ∷ z ∷ [])) sorts.IntNum
     (λ p there. order_signal i signal e p (has (codes "Single") given) few is there) x ix) b ib) a ia) args are
-instructed_safe i instructions.IPers args given arm are options chosen =
+instructed_safe i instructions.IPers args given other arm are options chosen =
     two_needed i.c (kinds_of i.routine) (Does i instructions.IPers given) needs.PersName (needs.Place sorts.IntNum)
     (λ a b ia ib. name_needed i.c (kinds_of i.routine) (λ z. Does i instructions.IPers given (z ∷ b ∷ []))
     (λ w iw. place_needed i.c (kinds_of i.routine) (λ z. Does i instructions.IPers given (Lent w ∷ z ∷ [])) sorts.IntNum
@@ -221,23 +230,23 @@ instructed_safe i instructions.IPers args given arm are options chosen =
     (λ pers. place i.c.tree i.routine p >>= λ r. number_at r >>= λ number. order number (watched.Pers pers) (has (codes "Single") given) >> ready) (pers_safe (scene i) q at)
     (λ pers there. of_number i false p sorts.IntNum (λ number. order number (watched.Pers pers) (has (codes "Single") given)) refl is
     (λ number. order_safe (scene i) number (watched.Pers pers) (has (codes "Single") given) there)))) b ib) a ia) args are
-instructed_safe i instructions.ISleep args given arm are options chosen =
+instructed_safe i instructions.ISleep args given other arm are options chosen =
     one_needed i.c (kinds_of i.routine) (Does i instructions.ISleep given) (needs.Place sorts.IntNum)
     (λ a ia. place_needed i.c (kinds_of i.routine) (λ z. Does i instructions.ISleep given (z ∷ [])) sorts.IntNum
     (λ p is. of_number i false p sorts.IntNum (λ number. asks_of_number (requests.Sleep number)) refl is (λ number. sleep_safe (scene i) number)) a ia) args are
-instructed_safe i instructions.IWatch args given arm are options chosen =
+instructed_safe i instructions.IWatch args given other arm are options chosen =
     one_needed i.c (kinds_of i.routine) (Does i instructions.IWatch given) (needs.Place sorts.IntNum)
     (λ a ia. place_needed i.c (kinds_of i.routine) (λ z. Does i instructions.IWatch given (z ∷ [])) sorts.IntNum
     (λ p is. of_number i false p sorts.IntNum (λ number. asks_of_number (requests.Watch number)) refl is (λ number. watch_safe (scene i) number)) a ia) args are
-instructed_safe i instructions.IDelete args given arm are options chosen =
+instructed_safe i instructions.IDelete args given other arm are options chosen =
     one_needed i.c (kinds_of i.routine) (Does i instructions.IDelete given) (needs.Place sorts.IntNum)
     (λ a ia. place_needed i.c (kinds_of i.routine) (λ z. Does i instructions.IDelete given (z ∷ [])) sorts.IntNum
     (λ p is. of_number i false p sorts.IntNum (λ number. asks_of_number (requests.Delete number)) refl is (λ number. delete_safe (scene i) number)) a ia) args are
-instructed_safe i instructions.IDisable args given arm are options chosen =
+instructed_safe i instructions.IDisable args given other arm are options chosen =
     none_needed i.c (kinds_of i.routine) (Does i instructions.IDisable given) (then_ready (scene i) (tells requests.Disable) (disable_safe (scene i))) args are
-instructed_safe i instructions.IEnable args given arm are options chosen =
+instructed_safe i instructions.IEnable args given other arm are options chosen =
     none_needed i.c (kinds_of i.routine) (Does i instructions.IEnable given) (then_ready (scene i) (tells requests.Enable) (enable_safe (scene i))) args are
-instructed_safe i instructions.WZLimJointDef args given arm are options chosen =
+instructed_safe i instructions.WZLimJointDef args given other arm are options chosen =
     three_needed i.c (kinds_of i.routine) (Does i instructions.WZLimJointDef given) (needs.Var sorts.ShapeData) (needs.Value sorts.JointTarget) (needs.Value sorts.JointTarget)
     (λ a b x ia ib ix. var_needed i.c (kinds_of i.routine) (λ z. Does i instructions.WZLimJointDef given (z ∷ b ∷ x ∷ [])) sorts.ShapeData
     (λ p is. value_needed i.c (kinds_of i.routine) (λ z. Does i instructions.WZLimJointDef given (Lent p ∷ z ∷ x ∷ [])) sorts.JointTarget
@@ -246,7 +255,7 @@ instructed_safe i instructions.WZLimJointDef args given arm are options chosen =
     (λ q at. on i (target i.c.tree i.routine low) (λ l. target i.c.tree i.routine high >>= λ h. define i.c.tree.axes q (has (codes "Inside") given) l h >> ready) (target_expr i low il)
     (λ l. on i (target i.c.tree i.routine high) (λ h. define i.c.tree.axes q (has (codes "Inside") given) l h >> ready) (target_expr i high ih)
     (λ h. then_ready (scene i) (define i.c.tree.axes q (has (codes "Inside") given) l h) (define_safe (scene i) q (has (codes "Inside") given) l h at))))) x ix) b ib) a ia) args are
-instructed_safe i instructions.WZHomeJointDef args given arm are options chosen =
+instructed_safe i instructions.WZHomeJointDef args given other arm are options chosen =
     three_needed i.c (kinds_of i.routine) (Does i instructions.WZHomeJointDef given) (needs.Var sorts.ShapeData) (needs.Value sorts.JointTarget) (needs.Value sorts.JointTarget)
     (λ a b x ia ib ix. var_needed i.c (kinds_of i.routine) (λ z. Does i instructions.WZHomeJointDef given (z ∷ b ∷ x ∷ [])) sorts.ShapeData
     (λ p is. value_needed i.c (kinds_of i.routine) (λ z. Does i instructions.WZHomeJointDef given (Lent p ∷ z ∷ x ∷ [])) sorts.JointTarget
@@ -255,7 +264,7 @@ instructed_safe i instructions.WZHomeJointDef args given arm are options chosen 
     (λ q at. on i (target i.c.tree i.routine low) (λ l. target i.c.tree i.routine high >>= λ h. define_home i.c.tree.axes q (has (codes "Inside") given) l h >> ready) (target_expr i low il)
     (λ l. on i (target i.c.tree i.routine high) (λ h. define_home i.c.tree.axes q (has (codes "Inside") given) l h >> ready) (target_expr i high ih)
     (λ h. then_ready (scene i) (define_home i.c.tree.axes q (has (codes "Inside") given) l h) (home_safe (scene i) q (has (codes "Inside") given) l h at))))) x ix) b ib) a ia) args are
-instructed_safe i instructions.WZLimSup args given arm are options chosen =
+instructed_safe i instructions.WZLimSup args given other arm are options chosen =
     two_needed i.c (kinds_of i.routine) (Does i instructions.WZLimSup given) needs.WorldZone (needs.Place sorts.ShapeData)
     (λ a b ia ib. zone_needed i.c (kinds_of i.routine) (λ z. Does i instructions.WZLimSup given (z ∷ b ∷ []))
     (λ zone sort zoned iz. place_needed i.c (kinds_of i.routine) (λ z. Does i instructions.WZLimSup given (Lent zone ∷ z ∷ [])) sorts.ShapeData
@@ -266,38 +275,38 @@ instructed_safe i instructions.WZLimSup args given arm are options chosen =
     (λ old. at_place i false shape sorts.ShapeData (λ p. shape_at p >>= λ s. supervise q old (has (codes "Temp") given) s >> ready) is
     (λ p there. on i (shape_at p) (λ s. supervise q old (has (codes "Temp") given) s >> ready) (shape_at_safe (scene i) p there)
     (λ s. then_ready (scene i) (supervise q old (has (codes "Temp") given) s) (supervise_safe (scene i) q sort old (has (codes "Temp") given) s arm (zone_marked sort zoned) at)))))) b ib) a ia) args are
-instructed_safe i instructions.WZDOSet args given arm are options chosen = absurd chosen
-instructed_safe i instructions.WZDisable args given arm are options chosen =
+instructed_safe i instructions.WZDOSet args given other arm are options chosen = absurd chosen
+instructed_safe i instructions.WZDisable args given other arm are options chosen =
     one_needed i.c (kinds_of i.routine) (Does i instructions.WZDisable given) (needs.Var sorts.WzTemporary)
     (λ a ia. var_needed i.c (kinds_of i.routine) (λ z. Does i instructions.WZDisable given (z ∷ [])) sorts.WzTemporary
     (λ p is. of_number i true p sorts.WzTemporary (λ number. asks_of_zone (requests.ZoneOff number)) refl is (λ number. zone_off_safe (scene i) number arm)) a ia) args are
-instructed_safe i instructions.WZEnable args given arm are options chosen =
+instructed_safe i instructions.WZEnable args given other arm are options chosen =
     one_needed i.c (kinds_of i.routine) (Does i instructions.WZEnable given) (needs.Var sorts.WzTemporary)
     (λ a ia. var_needed i.c (kinds_of i.routine) (λ z. Does i instructions.WZEnable given (z ∷ [])) sorts.WzTemporary
     (λ p is. of_number i true p sorts.WzTemporary (λ number. asks_of_zone (requests.ZoneOn number)) refl is (λ number. zone_on_safe (scene i) number arm)) a ia) args are
-instructed_safe i instructions.WZFree args given arm are options chosen =
+instructed_safe i instructions.WZFree args given other arm are options chosen =
     one_needed i.c (kinds_of i.routine) (Does i instructions.WZFree given) (needs.Var sorts.WzTemporary)
     (λ a ia. var_needed i.c (kinds_of i.routine) (λ z. Does i instructions.WZFree given (z ∷ [])) sorts.WzTemporary
     (λ p is. at_place i true p sorts.WzTemporary (λ q. number_at q >>= λ number. asks_of_zone (requests.ZoneFree number) >> (store q (datums.Mark 0) >> ready)) is
     (λ q at. on i (number_at q) (λ number. asks_of_zone (requests.ZoneFree number) >> (store q (datums.Mark 0) >> ready)) (number_safe (scene i) true q sorts.WzTemporary refl at)
     (λ number. on i (asks_of_zone (requests.ZoneFree number)) (λ _. store q (datums.Mark 0) >> ready) (zone_free_safe (scene i) number arm)
     (λ _. then_ready (scene i) (store q (datums.Mark 0)) (store_safe (scene i) q sorts.WzTemporary (datums.Mark 0) at refl))))) a ia) args are
-instructed_safe i instructions.Incr args given arm are options chosen =
+instructed_safe i instructions.Incr args given other arm are options chosen =
     one_needed i.c (kinds_of i.routine) (Does i instructions.Incr given) (needs.Written sorts.Num)
     (λ a ia. written_needed i.c (kinds_of i.routine) (λ z. Does i instructions.Incr given (z ∷ [])) sorts.Num
     (λ p is. at_place i true p sorts.Num (λ q. read_value q >>= λ v. num_in v >>= λ n. in_range (sum_of n (pos 1_000)) >>= λ w. write_value q w >> ready) is
     (λ q at. counted_num i q (λ n. sum_of n (pos 1_000)) at)) a ia) args are
-instructed_safe i instructions.Decr args given arm are options chosen =
+instructed_safe i instructions.Decr args given other arm are options chosen =
     one_needed i.c (kinds_of i.routine) (Does i instructions.Decr given) (needs.Written sorts.Num)
     (λ a ia. written_needed i.c (kinds_of i.routine) (λ z. Does i instructions.Decr given (z ∷ [])) sorts.Num
     (λ p is. at_place i true p sorts.Num (λ q. read_value q >>= λ v. num_in v >>= λ n. in_range (difference_of n (pos 1_000)) >>= λ w. write_value q w >> ready) is
     (λ q at. counted_num i q (λ n. difference_of n (pos 1_000)) at)) a ia) args are
-instructed_safe i instructions.Clear args given arm are options chosen =
+instructed_safe i instructions.Clear args given other arm are options chosen =
     one_needed i.c (kinds_of i.routine) (Does i instructions.Clear given) (needs.Written sorts.Num)
     (λ a ia. written_needed i.c (kinds_of i.routine) (λ z. Does i instructions.Clear given (z ∷ [])) sorts.Num
     (λ p is. at_place i true p sorts.Num (λ q. write_value q (whole 0) >> ready) is
     (λ q at. then_ready (scene i) (write_value q (whole 0)) (store_safe (scene i) q sorts.Num (datums.Plain (whole 0)) at refl))) a ia) args are
-instructed_safe i instructions.Add args given arm are options chosen =
+instructed_safe i instructions.Add args given other arm are options chosen =
     two_needed i.c (kinds_of i.routine) (Does i instructions.Add given) (needs.Written sorts.Num) (needs.Value sorts.Num)
     (λ a b ia ib. written_needed i.c (kinds_of i.routine) (λ z. Does i instructions.Add given (z ∷ b ∷ [])) sorts.Num
     (λ p is. value_needed i.c (kinds_of i.routine) (λ z. Does i instructions.Add given (Lent p ∷ z ∷ [])) sorts.Num

@@ -1,6 +1,5 @@
 -- Doings that keep the types of data, and have the result that is claimed.
 use Rattle.std.proofs.Common.{◌≡◌, refl, sym, ap, ◌∙◌, subst, ℕ, Bool, true, false, Option, Some, None, if◌then◌else◌, IsTrue}
-use Rattle.std.specs.Prelude.{⊤}
 use Rattle.rapid_model.specs.Fits.{fits_request}
 use Rattle.rapid_model.specs.Own.{fate_of, is_hold, is_leave, is_rise, is_trap}
 use Rattle.rapid_model.specs.Requests.{may_tell}

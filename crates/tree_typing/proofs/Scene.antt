@@ -1,6 +1,7 @@
 -- The context of a doing of a well typed task, and the rules that its parts keep.
 use Rattle.std.proofs.Common.{◌≡◌, ℕ, ◌<◌, ◌≤◌, Bool, true, false, List, ◌∷◌, length, map, All, flat_map, Option, Some, None, slice_get, IsTrue}
 use Rattle.std.specs.Prelude.{⊤}
+use Rattle.rapid_num.specs.Reach.{is_position, is_reachable}
 use Rattle.rapid_model.specs.Paths.{has_sort}
 use Rattle.rapid_model.specs.Sorts.{has_values}
 use Rattle.rapid_model.specs.declared.request.Request.{Request}
@@ -11,10 +12,10 @@ use Rattle.typed_trees.specs.Plain as trees
 use Rattle.typed_trees.specs.Plain.{TypedPers, TypedRoutine, TypedStmt, TypedStmts}
 use Rattle.rapid_meaning.specs.Answering.{sort_of_pers}
 use Rattle.rapid_meaning.specs.Data.{Data}
-use Rattle.rapid_meaning.specs.Flows.{Flow, Normal, Jumps, Returns, Retries, Skips, Errors, Unguarded, Guarded, InPart, Where, Part, Attempt, Turn, Rest, Call}
+use Rattle.rapid_meaning.specs.Flows.{Flow, Normal, Jumps, Returns, Retries, Skips, Errors, Unguarded, Guarded, InPart, Way, Where, Part, Attempt, Turn, Leg, Rest, Call}
 use Rattle.tree_typing.specs.Asked.{IsAsked}
 use Rattle.tree_typing.specs.Kinds.{Cell, cells_of, kind_of, kinds_of, local_cells}
-use Rattle.tree_typing.specs.Setting.{Setting}
+use Rattle.tree_typing.specs.Setting.{Setting, has_arm}
 use Rattle.tree_typing.specs.States.{IsPers, IsState, AreInCells}
 use Rattle.tree_typing.specs.Statements.{Around, AreStmts, IsStmt, ReturnsNothing, Sees, into}
 use Rattle.tree_typing.specs.WellTyped.{IsRoutine, around_in}
@@ -49,6 +50,7 @@ pub record Ghost : Type 0 where
 abbrev pub frames_in : Ghost → Part → List (List Cell)
 frames_in g (Attempt w s) = local_cells w.routine ∷ g.frames
 frames_in g (Turn w s) = local_cells w.routine ∷ g.frames
+frames_in g (Leg w s way) = local_cells w.routine ∷ g.frames
 frames_in g (Rest w list more) = local_cells w.routine ∷ g.frames
 frames_in g (Call routine args) = g.frames
 
@@ -70,9 +72,19 @@ abbrev pub IsFor : TypedStmt → Type 0
 IsFor (trees.For at local first last step list) = ⊤
 IsFor _ = ⊥
 
+-- a move of the task's arm outside traps, from a position to a target in reach, with a setpoint left
+pub record IsWay (c : Setting) (trapped : Bool) (way : Way) : Type 0 where
+  pub arm : IsTrue (has_arm c)
+  pub untrapped : trapped ≡ false
+  pub axes : way.plan.axes ≡ c.tree.axes
+  pub start : IsTrue (is_position c.tree.axes way.plan.start)
+  pub target : IsTrue (is_reachable c.tree.axes way.plan.target)
+  pub left : way.given < way.plan.count
+
 abbrev pub IsPart : Setting → Ghost → Part → Type 0
 IsPart c g (Attempt w s) = AreErrors c w.routine w.errors × IsStmt c (around_of w g.lists) s
 IsPart c g (Turn w s) = AreErrors c w.routine w.errors × IsFor s × IsStmt c (around_of w g.lists) s
+IsPart c g (Leg w s way) = IsWay c g.trapped way
 IsPart c g (Rest w list more) = AreErrors c w.routine w.errors × AreStmts c (into (around_of w g.lists) list) list × AreStmts c (into (around_of w g.lists) list) more
 IsPart c g (Call called args) =
     (routine : TypedRoutine) × (slice_get c.tree.routines called ≡ Some routine) × AreInCells c.tree g.frames (flat_map cells_of (map kind_of routine.params)) args
@@ -99,6 +111,7 @@ IsResult (Some routine) flow = IsResultBy routine.kind routine.result flow
 abbrev pub IsEnd : Setting → Ghost → Part → Flow → Type 0
 IsEnd c g (Attempt w s) flow = IsFlow (around_of w g.lists) flow
 IsEnd c g (Turn w s) flow = IsFlow (around_of w g.lists) flow
+IsEnd c g (Leg w s way) flow = IsFlow (around_of w g.lists) flow
 IsEnd c g (Rest w list more) flow = IsFlow (around_of w g.lists) flow
 IsEnd c g (Call called args) flow = IsResult (slice_get c.tree.routines called) flow
 

@@ -1,9 +1,12 @@
 -- Statements and lists of them.
 use Rattle.std.proofs.Common.{◌≡◌, ◌⊎◌, ⊎_elim, refl, sym, ap, ◌∙◌, subst, ℕ, ◌+◌, ◌<◌, ◌/◌, ◌%◌, ◌==◌, ◌&&◌, nat_le, Bool, true, false, ℤ, pos, negsuc, List, [], ◌∷◌, map, flat_map, Option, Some, None, is_some, slice_get, if◌then◌else◌, IsTrue, arith}
 use Rattle.std.specs.Prelude.{⊤}
+use Rattle.std.proofs.lemmas.Bool.{ltb-true}
 use Rattle.rapid_num.specs.Arithmetic.{sum_of}
 use Rattle.rapid_model.specs.declared.fate.Fate.TheVariants as fates
 use Rattle.rapid_model.specs.declared.fate.Fault.TheVariants.{RaiseRange}
+use Rattle.rapid_model.specs.declared.instruction.Instruction.{Instruction}
+use Rattle.rapid_model.specs.declared.instruction.Instruction.TheVariants as instructions
 use Rattle.rapid_model.specs.declared.sort.Sort.{Sort}
 use Rattle.rapid_model.specs.declared.sort.Sort.TheVariants as sorts
 use Rattle.rapid_model.specs.declared.value.Value.{Value}
@@ -12,38 +15,40 @@ use Rattle.rapid_model.specs.Sorts.{is_compared}
 use Rattle.rapid_model.specs.declared.operator.Operator.TheVariants as operators
 use Rattle.rapid_values.specs.Operators.{apply}
 use Rattle.typed_trees.specs.Plain as trees
-use Rattle.typed_trees.specs.Plain.{TypedArms, TypedCases, TypedElse, TypedExpr, TypedExprs, TypedRoutine, TypedStmt, TypedStmts, NoExprs, MoreExprs, NoStmts, MoreStmts, NoArms, MoreArms, NoCases, MoreCases, NoElse, Else}
+use Rattle.typed_trees.specs.Plain.{TypedArgs, TypedArms, TypedCases, TypedElse, TypedExpr, TypedExprs, TypedRoutine, TypedStmt, TypedStmts, NoExprs, MoreExprs, NoStmts, MoreStmts, NoArms, MoreArms, NoCases, MoreCases, NoElse, Else}
 use Rattle.typed_trees.specs.declared.datum.Datum.TheVariants as datums
 use Rattle.rapid_meaning.specs.Answering.{is_trap_kind, is_trap_row}
-use Rattle.rapid_meaning.specs.Doings.{Doing, Ends, Gives, Raises, ◌>>=◌, ◌>>◌, after, calls, change, fault, goes_to}
+use Rattle.rapid_meaning.specs.Doings.{Doing, Gives, Raises, ◌>>=◌, after, calls, change, fault, goes_to}
 use Rattle.rapid_meaning.specs.Errors.{failed, failed_in, header, parted, raised_again}
 use Rattle.rapid_meaning.specs.Expressions.{arguments, expr, place}
-use Rattle.rapid_meaning.specs.Flows.{Flow, Normal, Jumps, Returns, Retries, Skips, Errors, Unguarded, Guarded, InPart, Where, Attempt, Turn, Rest}
-use Rattle.rapid_meaning.specs.Instructions.{instructed, needed, num, options, truth}
+use Rattle.rapid_meaning.specs.Flows.{Flow, Normal, Jumps, Returns, Retries, Skips, Errors, Unguarded, Guarded, InPart, Way, Where, Attempt, Turn, Leg, Rest}
+use Rattle.rapid_meaning.specs.Instructions.{aimed, instructed, needed, num, options, truth}
 use Rattle.rapid_meaning.specs.Interrupts.{connect, number_at}
 use Rattle.rapid_meaning.specs.Layouts.{local_start}
 use Rattle.rapid_meaning.specs.Lists.{behind, ended, items, jumped, rest}
 use Rattle.rapid_meaning.specs.Looks.{look}
 use Rattle.rapid_meaning.specs.Loops.{bounds, counted, counter, counter_place, counts_on, direction, has_passed, set_counter, step_value, turn_due}
+use Rattle.rapid_meaning.specs.Moves.{further, has_next}
 use Rattle.rapid_meaning.specs.Places.{own_place, read_value, write_value}
-use Rattle.rapid_meaning.specs.Statements.{again_behind, and_then, assign, byte_of, call, chosen, connects, done_or_held, follows, goes_on, inner, inner_or_not, is_among, raised, selected, stmt, turn, turned}
+use Rattle.rapid_meaning.specs.Statements.{again_behind, and_then, assign, byte_of, call, chosen, connects, done_or_held, follows, goes_on, inner, inner_or_not, instructs, is_among, leg, points, raised, selected, stmt, turn, turned}
 use Rattle.rapid_meaning.specs.Values.{applied, num_in, truth_in}
 use Rattle.rapid_meaning.specs.Doings as doings
 use Rattle.rapid_meaning.proofs.Begins.{Anything}
 use Rattle.tree_typing.specs.Expressions.{AreArgs, IsExpr, IsPlace}
+use Rattle.tree_typing.specs.Instructions.{IsInstruction}
 use Rattle.tree_typing.specs.Kinds.{Counts, Kind, cells_of, kind_of, kinds_of, need_of}
 use Rattle.tree_typing.specs.Setting.{Setting}
 use Rattle.tree_typing.specs.Statements.{Around, AreArms, AreCaseValues, AreCases, AreStmts, IsElse, IsStep, IsStmt, Sees, into}
-use Rattle.tree_typing.proofs.Acts.{connect_safe, number_safe, num_expr, truth_expr, when_safe}
+use Rattle.tree_typing.proofs.Acts.{connect_safe, number_safe, num_expr, point_safe, truth_expr, when_safe}
 use Rattle.tree_typing.proofs.Expressions.{AreArgsOf, HasSort, all_safe, args_safe, call_safe, expr_safe, place_safe}
 use Rattle.tree_typing.proofs.Forms.{num_form}
-use Rattle.tree_typing.proofs.Instructions.{instructed_safe}
+use Rattle.tree_typing.proofs.Instructions.{aimed_safe, instructed_safe}
 use Rattle.tree_typing.proofs.Loads.{read_safe, store_safe, truth_safe}
 use Rattle.tree_typing.proofs.Looks.{hold_safe, look_safe}
 use Rattle.tree_typing.proofs.Operators.{apply_is, applied_safe}
 use Rattle.tree_typing.proofs.Places.{Inside, IsThere, num_safe, count_cell, own_safe, scene}
 use Rattle.tree_typing.proofs.Safe.{Safe, safe_after, safe_any, safe_change, safe_does, safe_ends, safe_fault, safe_gives, safe_goes, safe_raises, safe_reads, safe_then}
-use Rattle.tree_typing.proofs.Scene.{AreErrors, Facts, Ghost, IsFlow, IsFor, IsPart, IsResult, Scene, around_of, is_in_part}
+use Rattle.tree_typing.proofs.Scene.{AreErrors, Facts, Ghost, IsFlow, IsFor, IsPart, IsResult, IsWay, Scene, around_of, is_in_part}
 
 -- in the routine of a part
 abbrev pub inside_of : (c : Setting) → Facts c → Ghost → TypedRoutine → Inside
@@ -230,17 +235,45 @@ turned_safe c facts g w s t part loops is = absurd loops
 pub turn_safe : (c : Setting) (facts : Facts c) (g : Ghost) (w : Where) (s : TypedStmt) → IsPart c g (Turn w s) → Flows c facts g w (turn w s)
 turn_safe c facts g w s part = look_safe c facts g (Turn w s) w (byte_of s) (turned w (Turn w s) s) part (turned_safe c facts g w s s part part.1 part.2)
 
+-- a move once its next setpoint is given
+on_further : (c : Setting) (trapped : Bool) (way : Way) → IsWay c trapped way → has_next (further way) ≡ true → IsWay c trapped (further way)
+on_further c trapped way on more = record {
+  arm = on.arm;
+  untrapped = on.untrapped;
+  axes = on.axes;
+  start = on.start;
+  target = on.target;
+  left = ltb-true (way.given + 1) way.plan.count more;
+}
+
+points_safe : (c : Setting) (facts : Facts c) (g : Ghost) (w : Where) (s : TypedStmt) (way : Way) → IsWay c g.trapped way → Flows c facts g w (points w s way)
+points_safe c facts g w s way on =
+    point_safe (place_of c facts g w) (IsFlow (around_of w g.lists)) way (if has_next (further way) then goes_to (Leg w s (further way)) else Gives Normal) on
+    (when_safe (place_of c facts g w) (IsFlow (around_of w g.lists)) (has_next (further way)) (goes_to (Leg w s (further way))) (Gives Normal)
+    (λ more. safe_goes c facts g (Leg w s (further way)) (on_further c g.trapped way on more)) (λ _. goes_normal c facts g w))
+
+pub leg_safe : (c : Setting) (facts : Facts c) (g : Ghost) (w : Where) (s : TypedStmt) (way : Way) → IsPart c g (Leg w s way) → Flows c facts g w (leg w s way)
+leg_safe c facts g w s way on = look_safe c facts g (Leg w s way) w (byte_of s) (points w s way) on (points_safe c facts g w s way on)
+
+held_safe : (c : Setting) (facts : Facts c) (g : Ghost) (w : Where) (s : TypedStmt) (is_done : Bool) → IsPart c g (Attempt w s) → Flows c facts g w (done_or_held (Attempt w s) is_done)
+held_safe c facts g w s true part = goes_normal c facts g w
+held_safe c facts g w s false part = hold_safe c facts g (Attempt w s) part
+
+-- an instruction
+instructs_safe : (c : Setting) (facts : Facts c) (g : Ghost) (w : Where) (s : TypedStmt) (instruction : Instruction) (args : TypedArgs) → IsPart c g (Attempt w s) → IsInstruction c (kinds_of w.routine) instruction args
+    → Flows c facts g w (instructs c.tree w s instruction (needed args) (options args))
+instructs_safe c facts g w s instructions.MoveAbsJ args part is =
+    header_safe c facts g w s (IsWay c g.trapped) (aimed c.tree w.routine (needed args)) (points w s) part (aimed_safe (inside_of c facts g w.routine) (needed args) is.arm is.are_needed)
+    (points_safe c facts g w s)
+instructs_safe c facts g w s instruction args part is =
+    header_safe c facts g w s Anything (instructed c.tree w.routine instruction (needed args) (options args)) (done_or_held (Attempt w s)) part
+    (instructed_safe (inside_of c facts g w.routine) instruction (needed args) (options args) tt is.arm is.are_needed is.are_options is.chosen) (λ b _. held_safe c facts g w s b part)
+
 -- what follows the Look of a statement, by its form
 follows_safe : (c : Setting) (facts : Facts c) (g : Ghost) (w : Where) (s t : TypedStmt) → IsPart c g (Attempt w s) → IsStmt c (around_of w g.lists) t → (IsFor t → IsFor s) → Flows c facts g w (follows c.tree w s t)
 follows_safe c facts g w s (trees.Assign at p e) part is loops =
     header_safe c facts g w s Anything (assign c.tree w.routine p e) goes_on part (assign_safe (inside_of c facts g w.routine) p e is.0 is.2 is.3) (λ _ _. goes_normal c facts g w)
-follows_safe c facts g w s (trees.Instruct at instruction args) part is loops =
-    header_safe c facts g w s Anything (instructed c.tree w.routine instruction (needed args) (options args)) (done_or_held (Attempt w s)) part
-    (instructed_safe (inside_of c facts g w.routine) instruction (needed args) (options args) is.arm is.are_needed is.are_options is.chosen) (λ b _. held_safe b)
-  where
-    held_safe : (b : Bool) → Flows c facts g w (done_or_held (Attempt w s) b)
-    held_safe true = goes_normal c facts g w
-    held_safe false = hold_safe c facts g (Attempt w s) part
+follows_safe c facts g w s (trees.Instruct at instruction args) part is loops = instructs_safe c facts g w s instruction args part is
 follows_safe c facts g w s (trees.Call at called args) part is loops =
     header_safe c facts g w s Anything (call c.tree w.routine called args) goes_on part (call_stmt (inside_of c facts g w.routine) called is.0 args is.1 is.3) (λ _ _. goes_normal c facts g w)
 follows_safe c facts g w s (trees.Label at label) part is loops = goes_normal c facts g w

@@ -2,7 +2,7 @@
 use Rattle.std.proofs.Common.{◌≡◌, refl, sym, ap, ◌∙◌, subst, ℕ, ◌<◌, ◌^◌, Bool, true, false, ◌&&◌, nat_le, nat_lt, List, length, Option, Some, None, is_some, slice_get, IsTrue, arith}
 use Rattle.std.proofs.lemmas.List.{length-map}
 use Rattle.std.proofs.lemmas.Bool.{and_from, and_parts, eqb-true, leb-true, lt-ltb}
-use Rattle.std.proofs.lemmas.Option.{slice_get_within}
+use Rattle.std.proofs.lemmas.Option.{same_Some, slice_get_within}
 use Rattle.rapid_num.specs.Reach.{is_position}
 use Rattle.rapid_num.specs.declared.joints.Joints.{Joints}
 use Rattle.rapid_model.specs.CellData.{CellData}
@@ -59,18 +59,15 @@ start_armed axes (Some arm) start =
     let within = (and_parts (is_within 6 12 axes) (is_position axes arm) start).0 in
     lt-ltb 0 axes (omega (arith, leb-true 6 axes (and_parts (nat_le 6 axes) (nat_le axes 12) within).0))
 
-one_row : (row other : TaskRow) (o : Option TaskRow) → o ≡ Some row → o ≡ Some other → row ≡ other
-one_row row other o is also = cc
-
 -- the task's row in the cell has as many axes as its tree, and an arm if there are any
 pub has_axes : (cell : CellData) (number : ℕ) (row : TaskRow) (tree : TypedTree) → slice_get cell.tasks number ≡ Some row → Numbered cell number tree → tree.axes ≡ row.axes
 has_axes cell number row tree there numbered =
-    numbered.axes ∙ ap (λ (r : TaskRow). r.axes) (one_row numbered.task_row row (slice_get cell.tasks number) numbered.there there)
+    numbered.axes ∙ ap (λ (r : TaskRow). r.axes) (same_Some numbered.task_row row (sym numbered.there ∙ there))
 
 pub is_armed : (cell : CellData) (number : ℕ) (row : TaskRow) (tree : TypedTree) → slice_get cell.tasks number ≡ Some row → Numbered cell number tree → nat_lt 0 tree.axes ≡ is_some row.arm
 is_armed cell number row tree there numbered =
     ap (nat_lt 0) numbered.axes ∙ start_armed numbered.task_row.axes numbered.task_row.arm numbered.starts
-    ∙ ap (λ (r : TaskRow). is_some r.arm) (one_row numbered.task_row row (slice_get cell.tasks number) numbered.there there)
+    ∙ ap (λ (r : TaskRow). is_some r.arm) (same_Some numbered.task_row row (sym numbered.there ∙ there))
 
 pub suits : (cell : CellData) (number : ℕ) (row : TaskRow) (mine : List Event) (c : Setting) (d : Data) (request : Request) → c.signals ≡ length cell.signals → has_arm c ≡ is_some row.arm → c.tree.axes ≡ row.axes
     → Numbered cell number c.tree → is_trapped mine ≡ d.trapped → IsAsked c d request → IsTrue (suits_task cell row mine request)

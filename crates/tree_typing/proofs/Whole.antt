@@ -1,9 +1,9 @@
 -- A well typed task asks or has ended, and its data have their types.
-use Rattle.std.proofs.Common.{◌≡◌, refl, sym, ap, ◌∙◌, subst, ℕ, zero, suc, ◌<◌, ◌==◌, Bool, true, false, List, [], ◌∷◌, ◌++◌, length, map, flat_map, Option, Some, slice_get, if◌then◌else◌, IsTrue, arith, length-append}
+use Rattle.std.proofs.Common.{◌≡◌, refl, sym, ap, ◌∙◌, subst, ℕ, zero, suc, ◌<◌, ◌==◌, Bool, true, false, List, [], ◌∷◌, ◌++◌, length, map, flat_map, Some, slice_get, if◌then◌else◌, IsTrue, arith, length-append}
 use Rattle.std.specs.Prelude.{⊤}
 use Rattle.std.proofs.lemmas.Bool.{eqb-true, eq-eqb}
 use Rattle.std.proofs.lemmas.List.{length-map}
-use Rattle.std.proofs.lemmas.Option.{slice_get_within}
+use Rattle.std.proofs.lemmas.Option.{same_Some, slice_get_within}
 use Rattle.rapid_model.specs.CellData.{CellData}
 use Rattle.rapid_model.specs.declared.answer.Answer.{Answer}
 use Rattle.rapid_model.specs.declared.pers_cell.PersCell.{PersCell}
@@ -55,9 +55,6 @@ sort_found (n ∷ ns) [] row number p one numbered there = absurd cc
 sort_found (n ∷ ns) (r ∷ rs) row number p one numbered there =
     sort_here (n == number) row number n r p ns rs refl one numbered there (λ k numbered_there found. sort_found ns rs k number p (λ j q e f. one (suc j) q e f) numbered_there found)
 
-one_row : (x y : PersCell) (o : Option PersCell) → o ≡ Some x → o ≡ Some y → x ≡ y
-one_row x y o e f = cc
-
 pub facts_of : (signals : ℕ) (cell : CellData) (number : ℕ) (tree : TypedTree) → WellTyped signals tree → Numbered cell number tree
     → Facts (record { signals = signals; tree = tree })
 facts_of signals cell number tree typed numbered = record {
@@ -66,7 +63,7 @@ facts_of signals cell number tree typed numbered = record {
       let own : IsOne cell p n = numbered.pers is.row n p is.numbered is.there in
       sort_found tree.pers_of tree.pers is.row n p
       (λ k q e f. let other : IsOne cell q n = numbered.pers k n q e f in
-      sym other.same_sort ∙ ap (λ (x : PersCell). x.sort) (one_row other.cell_row own.cell_row (slice_get cell.pers n) other.there own.there) ∙ own.same_sort) is.numbered is.there;
+      sym other.same_sort ∙ ap (λ (x : PersCell). x.sort) (same_Some other.cell_row own.cell_row (sym other.there ∙ own.there)) ∙ own.same_sort) is.numbered is.there;
   valued = λ n p is. all_at (λ (q : TypedPers). IsTrue (has_values q.sort)) tree.pers is.row p typed.pers is.there;
   routines = typed.routines;
   meetings = λ row few. there_is tree.meeting_of row (omega (arith, few, numbered.as_many_meetings));

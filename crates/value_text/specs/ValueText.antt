@@ -1,6 +1,7 @@
 -- How values are written, as RAPID writes them, without spaces; and the names of their parts and types.
 use Rattle.std.specs.Prelude.{ℕ, Bool, true, false, ℤ, List, [], ◌∷◌, ◌++◌, ◌==◌, ◌||◌, flat_map, take, drop, codes, slice_get, if◌then◌else◌}
 use Rattle.std.specs.Option.{unwrap_or}
+use Rattle.rapid_limits.specs.declared.TheConstants.{ROBOT_AXES}
 use Rattle.rapid_num.specs.NumText.{shortest_text}
 use Rattle.rapid_model.specs.declared.part_name.PartName.{PartName}
 use Rattle.rapid_model.specs.declared.part_name.PartName.TheVariants as parts
@@ -29,7 +30,7 @@ nums_text (z ∷ zs) = 91 ∷ shortest_text z ++ (flat_map (λ y. 44 ∷ shortes
 
 -- of a jointtarget: the axes of its robjoint, and those of its extjoint
 abbrev pub target_text : List ℤ → List ℕ
-target_text axes = 91 ∷ nums_text (take 6 axes) ++ (44 ∷ nums_text (drop 6 axes) ++ 93 ∷ [])
+target_text axes = 91 ∷ nums_text (take ROBOT_AXES axes) ++ (44 ∷ nums_text (drop ROBOT_AXES axes) ++ 93 ∷ [])
 
 abbrev pub value_text : Value → List ℕ
 value_text (values.Num n) = shortest_text n

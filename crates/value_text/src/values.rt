@@ -6,6 +6,7 @@ use crate::nums::push_nums;
 use crate::quoted::push_quoted;
 use crate::rooms::VALUE_BYTES;
 use arrayvec::ArrayString;
+use rapid_limits::ROBOT_AXES;
 use rapid_model::Value;
 use rapid_num::Joints;
 
@@ -43,8 +44,8 @@ fn push_target<const N: usize>(joints: &Joints, line: &mut ArrayString<N>)
 {
     let axes = &joints.axis[..];
     line.push('[');
-    push_nums(&axes[..6], line);
+    push_nums(&axes[..ROBOT_AXES], line);
     line.push(',');
-    push_nums(&axes[6..], line);
+    push_nums(&axes[ROBOT_AXES..], line);
     line.push(']');
 }

@@ -17,7 +17,7 @@ ghost use Rattle.task_steps.specs.Doing.{came, here_of};
 ghost use Rattle.task_steps.specs.Own.{IsNumAt, IsOwn};
 ghost use Rattle.task_steps.specs.Seen.{room_of};
 ghost use Rattle.task_steps.specs.declared.steps.done.Done.TheVariants as dones;
-ghost use Rattle.task_steps.specs.declared.steps.phase.Phase.TheVariants as phases;
+ghost use Rattle.task_steps.specs.Phases as phases;
 ghost use Rattle.task_steps.specs.declared.steps.way.Way.TheVariants as ways;
 
 use crate::operands::parts::{part_in, put_in};

@@ -19,8 +19,8 @@ ghost use Rattle.task_steps.specs.Doing.{came, gone, here_of};
 use crate::operands::pushing::{narrowed, of_one, of_two};
 use crate::operations::combining::{dropped, gone_on, jumped, minus, not, raised};
 use crate::requests::requests::{
-    connected, freed, known, move_to, ordered_on_pers, ordered_on_signal, said, said_num,
-    said_truth, signal_written, supervised, zoned,
+    aimed, connected, freed, known, ordered_on_pers, ordered_on_signal, said, said_num, said_truth,
+    signal_written, supervised, zoned,
 };
 use crate::steps::done::Done;
 use crate::steps::way::Way;
@@ -120,14 +120,14 @@ impl Task {
         dropped()
     }
 
-    /// A move.
-    pub(crate) fn move_arm(&mut self, code: &Code) -> Option<Done>
-        ensures on { act (here_of code.now self.old.conf) ops.Move ≡ came (here_of code.now self.new.conf) result }
+    /// Begins a move.
+    pub(crate) fn aim(&mut self, code: &Code) -> Option<Done>
+        ensures on { act (here_of code.now self.old.conf) ops.Aim ≡ came (here_of code.now self.new.conf) result }
         ensures rest { self.new ≡ with_stack self.new.conf.stack self.old }
     {
         let speed = self.pop_value()?;
         let target = self.pop_value()?;
-        move_to(&target, &speed, code.axes())
+        aimed(&target, &speed, code.axes())
     }
 
     /// Connects an interrupt to a trap.

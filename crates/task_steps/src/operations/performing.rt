@@ -7,7 +7,7 @@ ghost use Rattle.task_steps.specs.Alike.{Goes};
 ghost use Rattle.task_steps.specs.Doing.{here_of};
 ghost use Rattle.task_steps.specs.Others.{IsOther};
 ghost use Rattle.task_steps.specs.Seen.{room_of};
-ghost use Rattle.task_steps.specs.declared.steps.phase.Phase.TheVariants as phases;
+ghost use Rattle.task_steps.specs.Phases as phases;
 ghost use Rattle.task_steps.specs.declared.steps.way.Way.TheVariants as ways;
 
 use crate::operands::pushing::whole_at;

@@ -6,15 +6,16 @@ ghost use Rattle.stack_code.specs.Steps.{to_next};
 ghost use Rattle.task_steps.specs.Alike.{Follows, Goes, with_stack};
 ghost use Rattle.task_steps.specs.Doing.{came, gone, here_of};
 ghost use Rattle.task_steps.specs.Seen.{room_of};
-ghost use Rattle.task_steps.specs.declared.steps.phase.Phase.TheVariants as phases;
+ghost use Rattle.task_steps.specs.Phases as phases;
 ghost use Rattle.task_steps.specs.declared.steps.way.Way.TheVariants as ways;
 
 use crate::routines::living::keep_code;
 use crate::steps::done::Done;
-use crate::steps::phase::Phase;
+use crate::steps::stage::Stage;
 use crate::steps::way::Way;
 use crate::task::Task;
 use machine_stacks::Held;
+use rapid_model::{Fate, Request};
 use task_code::Code;
 
 impl Task {
@@ -49,7 +50,9 @@ impl Task {
             Some(Done::Raise(error)) => Some(Way::Raise(error)),
             Some(Done::Escape(error)) => Some(Way::Escape(error)),
             Some(Done::Ask { request, then }) => {
-                self.phase = Phase::Asking { request, then };
+                self.asked = request;
+                self.then = then;
+                self.stage = Stage::Asking;
                 Some(Way::Stay)
             }
             Some(Done::End(fate)) => Some(Way::End(fate)),
@@ -76,9 +79,17 @@ impl Task {
                 self.raise(code, place, error);
             }
             Some(Way::Escape(error)) => self.raise_out(code, error),
-            Some(Way::End(fate)) => self.phase = Phase::Over(fate),
+            Some(Way::End(fate)) => self.end(fate),
             None => unreachable!(),
         }
+    }
+
+    /// Ends: the End is the request that is due.
+    pub(crate) fn end(&mut self, fate: Fate)
+        ensures { self.new ≡ record self.old { phase = phases.Over fate } }
+    {
+        self.asked = Request::End { fate };
+        self.stage = Stage::Over(fate);
     }
 
     /// Goes on to the next operation.

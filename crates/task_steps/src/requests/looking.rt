@@ -6,13 +6,13 @@ ghost use Rattle.stack_code.specs.Steps.{act, looks};
 ghost use Rattle.stack_code.specs.declared.op.Op.TheVariants as ops;
 ghost use Rattle.task_steps.specs.Alike.{Goes, Turns, with_stack};
 ghost use Rattle.task_steps.specs.Doing.{here_of};
-ghost use Rattle.task_steps.specs.declared.steps.phase.Phase.TheVariants as phases;
+ghost use Rattle.task_steps.specs.Phases as phases;
 ghost use Rattle.task_steps.specs.declared.steps.way.Way.TheVariants as ways;
 
 use crate::requests::pending::Pending;
 use crate::routines::living::keep_code;
 use crate::steps::done::Done;
-use crate::steps::phase::Phase;
+use crate::steps::stage::Stage;
 use crate::steps::way::Way;
 use crate::task::Task;
 use rapid_model::Request;
@@ -30,10 +30,9 @@ impl Task {
         keep_code(code);
         let owner = owner_of(code.marks(), self.pc);
         self.place = Some(owner.at);
-        self.phase = Phase::Asking {
-            request: Request::Look,
-            then: Pending::Looked,
-        };
+        self.asked = Request::Look;
+        self.then = Pending::Looked;
+        self.stage = Stage::Asking;
         Some(Way::Stay)
     }
 

@@ -2,10 +2,10 @@ ghost use Rattle.std.specs.Prelude.{◌<◌};
 
 use joint_planner::Plan;
 
-/// A move in progress: its plan, and the number of setpoints left after the one that was asked.
+/// A move between two of its setpoints: its plan, and how many of them were given, at least one fewer than there are.
 #[derive(Drop)]
-pub struct Moving {
-    pub plan: Plan,
-    pub left: u32,
-    ghost within: { left < plan.count },
+pub(crate) struct Moving {
+    pub(crate) plan: Plan,
+    pub(crate) given: u32,
+    ghost left: { given < plan.count },
 }

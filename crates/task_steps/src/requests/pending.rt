@@ -1,6 +1,5 @@
 use crate::operands::gathering::Gathering;
 use crate::requests::departure::Departure;
-use crate::requests::moving::Moving;
 use typed_trees::Lvalue;
 
 /// What an operation that has asked does with the answer. Its operands are popped already. Places of operations count
@@ -27,8 +26,8 @@ pub enum Pending {
     Located,
     /// Begins a move from the arm's position.
     Departed(Departure),
-    /// A setpoint of a move was asked.
-    Moved(Moving),
+    /// A setpoint of a move was asked; the place after the move.
+    Pointed(u32),
     /// Stores the number of an interrupt.
     Connected(Lvalue),
     /// An order was given.

@@ -7,14 +7,13 @@ ghost use Rattle.task_steps.specs.Doing as doing;
 ghost use Rattle.task_steps.specs.Doing.{here_of};
 ghost use Rattle.task_steps.specs.Seen.{request_in, room_of};
 ghost use Rattle.task_steps.specs.declared.requests.pending.Pending.{Pending};
-ghost use Rattle.task_steps.specs.declared.steps.phase.Phase.TheVariants as phases;
+ghost use Rattle.task_steps.specs.Phases as phases;
 
 use crate::requests::answers;
-use crate::requests::motion::{departed, moved};
 use crate::requests::pending::Pending;
 use crate::routines::loaded::LoadedCode;
 use crate::steps::done::Done;
-use crate::steps::phase::Phase;
+use crate::steps::stage::Stage;
 use crate::task::Task;
 use rapid_model::{Answer, Request};
 use std::mem;
@@ -30,14 +29,16 @@ impl Task {
         ensures begun { self.new.phase ≢ phases.New }
         ensures on { (request : Request) (then : Pending) → self.old.phase ≡ phases.Asking request then → Follows loaded.now (doing.answered (here_of loaded.now self.old.conf) then answer) self.old.data' self.new }
     {
-        match mem::replace(&mut self.phase, Phase::Going) {
-            Phase::Asking { request: _, then } => {
+        match self.stage {
+            Stage::Asking => {
+                self.stage = Stage::Going;
+                let then = mem::replace(&mut self.then, Pending::Confirmed);
                 let done = self.answered(loaded, then, answer);
                 self.commit(loaded.code(), done);
             }
-            Phase::New => unreachable!(),
-            Phase::Going => unreachable!(),
-            Phase::Over(_) => unreachable!(),
+            Stage::New => unreachable!(),
+            Stage::Going => unreachable!(),
+            Stage::Over(_) => unreachable!(),
         }
     }
 
@@ -58,8 +59,8 @@ impl Task {
             Pending::Written => answers::written(answer),
             Pending::Arrived => answers::arrived(answer),
             Pending::Located => answers::located(answer),
-            Pending::Departed(departure) => departed(departure, answer, loaded.code().axes()),
-            Pending::Moved(moving) => moved(moving, answer),
+            Pending::Departed(departure) => self.depart(loaded.code(), departure, answer),
+            Pending::Pointed(past) => self.pointed(past, answer),
             Pending::Connected(place) => self.connected(place, answer),
             Pending::Ordered => answers::ordered(answer),
             Pending::Known => answers::known(answer),
@@ -73,15 +74,10 @@ impl Task {
     }
 
     /// The request that is due.
-    pub fn due(&self) -> Request
+    pub fn due(&self) -> &Request
         requires { IsSome (request_in self.now.phase) }
-        ensures { request_in self.now.phase ≡ Some result }
+        ensures { request_in self.now.phase ≡ Some result.now }
     {
-        match &self.phase {
-            Phase::Asking { request, then: _ } => request.copy(),
-            Phase::Over(fate) => Request::End { fate: *fate },
-            Phase::New => unreachable!(),
-            Phase::Going => unreachable!(),
-        }
+        &self.asked
     }
 }

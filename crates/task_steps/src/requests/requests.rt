@@ -12,12 +12,12 @@ ghost use Rattle.typed_trees.specs.declared.datum.Lvalue.{Lvalue};
 ghost use Rattle.rapid_meaning.specs.Doings.{Asks, Raises, after, tells};
 ghost use Rattle.rapid_meaning.specs.Functions.{read_signal, when_at};
 ghost use Rattle.rapid_meaning.specs.Interrupts.{asks_of_number, connect, order};
-ghost use Rattle.rapid_meaning.specs.Moves.{cap_of, move, move_from};
+ghost use Rattle.rapid_meaning.specs.Moves.{aim, cap_of, when_located};
 ghost use Rattle.rapid_meaning.specs.Places.{store};
 ghost use Rattle.rapid_meaning.specs.Signals.{write_signal};
 ghost use Rattle.rapid_meaning.specs.Values.{bit_in, num_in, of_bit, target_in, text_in, tool_speed_in, truth_in};
 ghost use Rattle.rapid_meaning.specs.Zones.{asks_of_zone, defined, supervise};
-ghost use Rattle.stack_code.specs.Steps.{Here, does, pushes};
+ghost use Rattle.stack_code.specs.Steps.{Here, does, fails, pushes, sets_out};
 ghost use Rattle.task_steps.specs.Doing.{came};
 ghost use Rattle.task_steps.specs.declared.steps.done.Done.TheVariants as dones;
 
@@ -78,9 +78,9 @@ pub(crate) fn position() -> Option<Done>
 }
 
 /// Begins a move of an arm with `axes` axes to a target at a speed.
-pub(crate) fn move_to(target: &Value, speed: &Value, axes: u8) -> Option<Done>
+pub(crate) fn aimed(target: &Value, speed: &Value, axes: u8) -> Option<Done>
     requires { axes ≤ MOST_AXES }
-    ensures { (h : Here) → h.code.axes ≡ axes → does h h.conf.stack (after (target_in target.now) (λ joints. after (tool_speed_in speed.now) (λ n. move axes joints n) Raises) Raises) ≡ came h result }
+    ensures { (h : Here) → h.code.axes ≡ axes → after (after (target_in target.now) (λ joints. after (tool_speed_in speed.now) (λ n. aim axes joints n) Raises) Raises) (sets_out h h.conf.stack) (fails h) ≡ came h result }
 {
     let target = target_of(target)?;
     let speed = tool_speed_of(speed)?;
@@ -96,7 +96,7 @@ pub(crate) fn move_to(target: &Value, speed: &Value, axes: u8) -> Option<Done>
 /// The move of an arm with `axes` axes to a target that it can reach.
 fn departing(axes: u8, target: Joints, speed: Num) -> Option<Done>
     requires { IsTrue (is_reachable axes target) }
-    ensures { (h : Here) → h.code.axes ≡ axes → Asks asked.Position (λ a. does h h.conf.stack (move_from axes target (cap_of speed) a)) ≡ came h result }
+    ensures { (h : Here) → h.code.axes ≡ axes → Asks asked.Position (λ a. after (when_located axes target (cap_of speed) a) (sets_out h h.conf.stack) (fails h)) ≡ came h result }
 {
     let departure = Departure {
         axes,

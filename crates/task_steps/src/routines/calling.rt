@@ -15,18 +15,19 @@ ghost use Rattle.task_steps.specs.Points.{Called, fresh, point, saved_in};
 ghost use Rattle.task_steps.specs.Savings.{saved_row};
 ghost use Rattle.task_steps.specs.Seen.{room_of};
 ghost use Rattle.task_steps.specs.declared.requests.pending.Pending.TheVariants as pendings;
-ghost use Rattle.task_steps.specs.declared.steps.phase.Phase.TheVariants as phases;
+ghost use Rattle.task_steps.specs.Phases as phases;
 
+use crate::requests::pending::Pending;
 use crate::routines::living::keep_code;
 use crate::routines::loaded::LoadedCode;
 use crate::routines::row::Row;
 use crate::routines::running::Running;
 use crate::steps::done::Done;
-use crate::steps::phase::Phase;
+use crate::steps::stage::Stage;
 use crate::task::Task;
 use machine_stacks::{Frames, Operands, slots_of};
 use rapid_limits::{MOST_FRAME_VALUES, MOST_FRAMES};
-use rapid_model::{Answer, Fate, Fault};
+use rapid_model::{Answer, Fate, Fault, Request};
 use stack_code::RoutineRow;
 use std::alloc::{AllocError, Global};
 
@@ -46,12 +47,15 @@ impl Task {
         let frames = Frames::new(alloc, MOST_FRAME_VALUES, MOST_FRAMES)?;
         let slots = slots_of(alloc, code.slots())?;
         Ok(Task {
-            phase: Phase::New,
+            stage: Stage::New,
+            asked: Request::Look,
+            then: Pending::Looked,
             pc: 0,
             frame: Running {
                 routine: 0,
                 failed: None,
             },
+            way: None,
             rows,
             operands,
             frames,
@@ -73,7 +77,7 @@ impl Task {
         ensures begun { self.new.phase ≢ phases.New }
         ensures on { Follows loaded.now (started loaded.now) self.old.data' self.new }
     {
-        self.phase = Phase::Going;
+        self.stage = Stage::Going;
         let done = self.enter_main(loaded);
         let code = loaded.code();
         keep_code(code);
@@ -162,6 +166,7 @@ impl Task {
             routine,
             failed: None,
         };
+        self.way = None;
         self.pc = row.entry;
     }
 
@@ -189,7 +194,7 @@ impl Task {
         Row::Called { at, frame }
     }
 
-    /// Goes on with the answer to a Look: the statement begins, or a trap does.
+    /// Goes on with the answer to a Look: with the statement, or a trap begins.
     pub(crate) fn looked(&mut self, loaded: &LoadedCode, answer: Answer) -> Option<Done>
         ensures phase { self.new.phase ≡ self.old.phase }
         ensures room { self.new.room ≡ self.old.room }
@@ -203,7 +208,7 @@ impl Task {
         }
     }
 
-    /// Begins the statement; other actors have made `seen` changes so far.
+    /// Goes on with the statement; other actors have made `seen` changes so far.
     fn go_on(&mut self, seen: u32) -> Option<Done>
         ensures phase { self.new.phase ≡ self.old.phase }
         ensures room { self.new.room ≡ self.old.room }
@@ -213,7 +218,7 @@ impl Task {
         Some(Done::Next)
     }
 
-    /// Begins a trap, by the number of its routine.
+    /// Begins a trap, by the number of its routine, and puts the move aside.
     fn interrupt(&mut self, loaded: &LoadedCode, trap: u32) -> Option<Done>
         ensures phase { self.new.phase ≡ self.old.phase }
         ensures room { self.new.room ≡ self.old.room }
@@ -221,7 +226,8 @@ impl Task {
     {
         let at = self.pc;
         let frame = self.frame;
+        let way = self.way.take();
         self.trapped = true;
-        self.enter_alone(loaded, trap, Row::Trapped { at, frame })
+        self.enter_alone(loaded, trap, Row::Trapped { at, frame, way })
     }
 }

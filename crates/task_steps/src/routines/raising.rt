@@ -1,33 +1,34 @@
 //! Errors (RAPID Overview, error recovery).
 
-ghost use Rattle.std.specs.Prelude.{◌≡◌, ◌≢◌, Some, []};
+ghost use Rattle.std.specs.Prelude.{◌≡◌, ◌≢◌, None, Some, []};
 ghost use Rattle.task_code.specs.Leads.{Runs};
 ghost use Rattle.rapid_meaning.specs.Data.{below_first};
 ghost use Rattle.task_steps.specs.Alike.{Follows};
 ghost use Rattle.task_steps.specs.Doing.{leaves_with, raised_at};
 ghost use Rattle.task_steps.specs.Savings.{left_by};
 ghost use Rattle.task_steps.specs.declared.routines.left.Left.TheVariants as lefts;
-ghost use Rattle.task_steps.specs.declared.steps.phase.Phase.TheVariants as phases;
+ghost use Rattle.task_steps.specs.Phases as phases;
 
 use crate::routines::failed::Failed;
 use crate::routines::left::Left;
 use crate::routines::row::Row;
-use crate::steps::phase::Phase;
 use crate::task::Task;
 use rapid_model::{Fate, Fault};
 use task_code::{Code, handler_of};
 
 impl Task {
-    /// Leaves the running routine; the one below it, if there is one, is again where it waited. `None` if there is
-    /// nothing below.
+    /// Leaves the running routine; the one below it, if there is one, is again where it waited, and in its move if a
+    /// trap put one aside. `None` if there is nothing below.
     pub(crate) fn leave(&mut self) -> Option<Left>
         ensures saved { self.old.conf.saved ≡ left_by result self.new.conf }
         ensures data { self.new.data' ≡ record self.old.data' { frames = below_first self.old.data'.frames } }
         ensures phase { self.new.phase ≡ self.old.phase }
         ensures room { self.new.room ≡ self.old.room }
         ensures trapped { result ≡ Some lefts.Trapped → self.new.conf.stack ≡ [] }
+        ensures called { result ≡ Some lefts.Called → self.new.conf.way ≡ None }
     {
         self.frames.leave();
+        self.way = None;
         let row = self.rows.pop()?;
         self.operands.close();
         match row {
@@ -37,10 +38,11 @@ impl Task {
                 self.frame = frame;
                 Some(Left::Called)
             }
-            Row::Trapped { at, frame } => {
+            Row::Trapped { at, frame, way } => {
                 self.operands.clear();
                 self.pc = at;
                 self.frame = frame;
+                self.way = way;
                 Some(Left::Trapped)
             }
         }
@@ -62,6 +64,7 @@ impl Task {
         match handler_of(code.marks(), self.frame.routine) {
             Some(handler) => {
                 self.operands.clear();
+                self.way = None;
                 self.frame.failed = Some(Failed { place, error });
                 self.errno = error;
                 self.pc = handler;
@@ -85,8 +88,8 @@ impl Task {
                 let place = self.pc;
                 self.raise(code, place, error);
             }
-            Some(Left::Started) => self.phase = Phase::Over(Fate::Fault(Fault::Unhandled(error))),
-            Some(Left::Trapped) => self.phase = Phase::Over(Fate::Fault(Fault::Unhandled(error))),
+            Some(Left::Started) => self.end(Fate::Fault(Fault::Unhandled(error))),
+            Some(Left::Trapped) => self.end(Fate::Fault(Fault::Unhandled(error))),
             None => unreachable!(),
         }
     }

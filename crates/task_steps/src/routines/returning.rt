@@ -78,6 +78,7 @@ impl Task {
         ensures { self.new ≡ record self.old { conf = point pc [] (behind_part self.old.conf.frame) self.old.conf.saved } }
     {
         self.operands.clear();
+        self.way = None;
         self.frame.failed = None;
         self.pc = pc;
     }

@@ -4,19 +4,20 @@ ghost use Rattle.stack_code.specs.Steps.{step};
 ghost use Rattle.task_steps.specs.Alike.{Follows};
 ghost use Rattle.task_steps.specs.Points.{conf_in};
 ghost use Rattle.task_steps.specs.Seen.{room_of};
-ghost use Rattle.task_steps.specs.declared.steps.phase.Phase.TheVariants as phases;
+ghost use Rattle.task_steps.specs.Phases as phases;
 
 use crate::routines::loaded::LoadedCode;
-use crate::steps::phase::Phase;
+use crate::steps::stage::Stage;
 use crate::task::Task;
 
 impl Task {
     /// Whether the task has begun and no request is due.
+    #[tactic(auto, using(crate::proofs::Stages::not_going))]
     pub fn is_going(&self) -> bool
         ensures going { result ≡ true → self.now.phase ≡ phases.Going }
         ensures other { result ≡ false → self.now.phase ≢ phases.Going }
     {
-        matches!(self.phase, Phase::Going)
+        matches!(self.stage, Stage::Going)
     }
 
     /// Runs the operation at the task's place.

@@ -1,6 +1,9 @@
 use Rattle.std.proofs.Common.{◌≡◌, length, map, drop, ◌∙◌, arith}
 use Rattle.std.proofs.lemmas.List.{length-map}
 use Rattle.std.proofs.Math.Seq.{take-append_seam}
+use Rattle.cell_meaning.specs.Asking.{with_inputs}
+use Rattle.cell_meaning.proofs.ByTurns.{by_turns_whole}
+use Rattle.cell_meaning.proofs.InputScript.{only_actors}
 use Rattle.cell_crew.proofs.Courses.{crew_asks_what_it_may}
 use Rattle.cell_crew.proofs.round.run_round.Goals as goal
 
@@ -9,6 +12,11 @@ run-requires-clause-may g c =
     let machines = c.args.machines.items in
     crew_asks_what_it_may g.M.TaskMachine.fits g.M.TaskMachine.asks g.A.Askers.asks c.args.core.cell (map g.M.TaskMachine.program machines)
     (length-map machines g.M.TaskMachine.program ∙ c.requires.crew.one_each) c.requires.programs c.requires.suit
+
+pub returns-clause-whole : goal.returns-clause-whole
+returns-clause-whole g c =
+    let cell = c.args.core.cell in
+    by_turns_whole (with_inputs g.A.Askers.asks cell) cell c.run.new.core.history (only_actors g.A.Askers.asks cell) c.run.ensures.by_turns
 
 -- The list of machines is that of the slice, which has the same length.
 pub returns-clause-stand : goal.returns-clause-stand

@@ -6,7 +6,7 @@ use Rattle.cell_crew.proofs.turn.turn.Goals as goal
 
 -- the task has not ended, and this request is due
 at_turn : (g : given.Over) (c : After-last g)
-    → AtTurn g.M.TaskMachine.program g.M.TaskMachine.fits g.M.TaskMachine.asks g.M.TaskMachine.stands_for g.M.TaskMachine.due g.A.Askers.asks c.args.core.now.cell c.args.task c.args.machine.now c.args.core.now.history c.last.result
+    → AtTurn g.M.TaskMachine.program g.M.TaskMachine.fits g.M.TaskMachine.asks g.M.TaskMachine.stands_for g.M.TaskMachine.due g.A.Askers.asks c.args.core.now.cell c.args.task c.args.machine.now c.args.core.now.history c.last.result.now
 at_turn g c = record {
   asks_due = g.met.M.TaskMachine.asks_due;
   within = c.requires.task;
@@ -36,10 +36,10 @@ returns-else-not-ended-clause-under_way g c =
     way_ends _ _ _ _ _ _ _ _ _ _ _ _ c.in-Some.answer (at_turn g (goal.at.returns-else-not-ended-clause-under_way g c).After-last) c.in-Some.ensures.came.1 (sym c.ended-in-Some.ensures ∙ c.if-not-ended.false)
 
 pub returns-then-not-ended-clause-turn : goal.returns-then-not-ended-clause-turn
-returns-then-not-ended-clause-turn g c = answered_turn _ _ _ _ _ c.last.result c.in-Some.answer c.in-Some.ensures.came
+returns-then-not-ended-clause-turn g c = answered_turn _ _ _ _ _ c.last.result.now c.in-Some.answer c.in-Some.ensures.came
 
 pub returns-else-not-ended-clause-turn : goal.returns-else-not-ended-clause-turn
-returns-else-not-ended-clause-turn g c = answered_turn _ _ _ _ _ c.last.result c.in-Some.answer c.in-Some.ensures.came
+returns-else-not-ended-clause-turn g c = answered_turn _ _ _ _ _ c.last.result.now c.in-Some.answer c.in-Some.ensures.came
 
 pub returns-in_default-clause-turn : goal.returns-in_default-clause-turn
 returns-in_default-clause-turn g c = came_turn _ _ _ _ _ _ _ (asks_only _ _ _ _ _ _ _ _ _ _ _ (at_turn g (goal.at.returns-in_default-clause-turn g c).After-last)) c.ask.ensures.came

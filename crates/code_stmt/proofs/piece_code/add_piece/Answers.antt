@@ -63,3 +63,11 @@ returns-in-Chooses c =
     let routine = routine_of c.args.context.now in
     let own = view_own c.args.own.now in
     on_ok_weaker c.add_choice.result (λ h. pieces_laid tree routine c.args.labels.now own _ _ (ap (λ p. view_piece p ∷ []) (sym c.in-Chooses.is)) (one_code tree routine c.args.labels.now own _ refl (h tree routine c.args.labels.now own))) c.add_choice.ensures
+
+pub returns-in-Travels : goal.returns-in-Travels
+unfolding pieces_code
+returns-in-Travels c =
+    let tree = tree_of c.args.context.now in
+    let routine = routine_of c.args.context.now in
+    let own = view_own c.args.own.now in
+    on_ok_weaker c.add_travel.result (λ h. pieces_laid tree routine c.args.labels.now own _ _ (ap (λ p. view_piece p ∷ []) (sym c.in-Travels.is)) (one_code tree routine c.args.labels.now own _ refl (h tree routine c.args.labels.now own))) c.add_travel.ensures

@@ -31,7 +31,7 @@ loop-k-preserved c =
           record {
             counted =
                 is ∙ ap (λ (n : ℕ). n + 1) c.loop-k.invariant.counted
-                ∙ sym (given_more history c.loop-k.k c.lend_event.result.now lt c.lend_event.ensures (sym c.is_given.ensures ∙ w.if-is_given.true));
+                ∙ sym (given_more history c.loop-k.k c.event.result lt c.event.ensures (sym c.is_given.ensures ∙ w.if-is_given.true));
             few = omega (arith, few, is);
           }
       | else-is_given w ↦
@@ -39,7 +39,7 @@ loop-k-preserved c =
           record {
             counted =
                 is ∙ c.loop-k.invariant.counted
-                ∙ sym (given_same history c.loop-k.k c.lend_event.result.now lt c.lend_event.ensures (sym c.is_given.ensures ∙ w.if-is_given.false));
+                ∙ sym (given_same history c.loop-k.k c.event.result lt c.event.ensures (sym c.is_given.ensures ∙ w.if-is_given.false));
             few = omega (arith, few, is);
           }
     ]

@@ -28,6 +28,9 @@ pub returns-in-Ok : goal.returns-in-Ok
 returns-in-Ok g c =
     let has = seen_script c.args.accepted.cell c.args.accepted.trees.items c.as_slice.result.now c.as_slice.ensures.value c.requires in
     turns_answered c.args.shown c.args.accepted.cell c.in-Ok.core.cell (map view_tree c.args.accepted.trees.items) (map view_tree c.as_slice.result.now) c.in-Ok.core.history _ _ _ c.in-Ok.ensures.cell
-    (ap (map view_tree) c.as_slice.ensures.value) c.within_limits.ensures.limits c.within_limits.ensures.full
-    (c.accepted_tasks_ask_well.ensures has.script (made_with c.args.accepted.cell c.as_slice.result.now) has.accepted)
-    c.in-Ok.ensures.by_turns c.report_run.ensures
+    (ap (map view_tree) c.as_slice.ensures.value)
+    (record {
+      well = c.accepted_tasks_ask_well.ensures has.script (made_with c.args.accepted.cell c.as_slice.result.now) has.accepted;
+      legal = c.in-Ok.ensures.legal;
+      whole = c.in-Ok.ensures.whole;
+    }) c.in-Ok.ensures.by_turns c.report_run.ensures

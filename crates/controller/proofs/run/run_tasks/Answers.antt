@@ -1,7 +1,7 @@
 use Rattle.std.proofs.Common.{ap, map}
 use Rattle.cell_core.specs.CoreData.{CoreData}
 use Rattle.typed_trees.specs.Views.{view_tree}
-use Rattle.controller.proofs.Running.{crew_is, programs_ask, programs_suit, turns_there}
+use Rattle.controller.proofs.Running.{crew_is, legal_there, programs_ask, programs_suit, turns_there, whole_there}
 use Rattle.controller.proofs.run.run_tasks.Goals as goal
 
 pub run_round-requires-clause-no_events : goal.run_round-requires-clause-no_events
@@ -24,3 +24,11 @@ run_round-requires-clause-suit g c =
 pub returns-in-Ok-clause-by_turns : goal.returns-in-Ok-clause-by_turns
 returns-in-Ok-clause-by_turns g c =
     turns_there g.A.Askers.asks c.args.cell c.in-Ok.core.cell c.run_round.result.core.history c.run_round.ensures.by_turns (ap (λ (x : CoreData). x.cell) c.in-Ok.ensures.ok)
+
+pub returns-in-Ok-clause-legal : goal.returns-in-Ok-clause-legal
+returns-in-Ok-clause-legal g c =
+    legal_there g.A.Askers.asks c.args.cell c.in-Ok.core.cell c.run_round.result.core.history c.run_round.ensures.legal (ap (λ (x : CoreData). x.cell) c.in-Ok.ensures.ok)
+
+pub returns-in-Ok-clause-whole : goal.returns-in-Ok-clause-whole
+returns-in-Ok-clause-whole g c =
+    whole_there g.A.Askers.asks c.args.cell c.in-Ok.core.cell c.run_round.result.core.history c.run_round.ensures.whole (ap (λ (x : CoreData). x.cell) c.in-Ok.ensures.ok)

@@ -8,5 +8,5 @@ pub returns : goal.returns
 returns c =
     let core = c.self.inside in
     let rows = c.as_slice.ensures ∙ c.inputs.ensures in
-    let is : c.inputs_done-done.result ≡ inputs_done core.cell core.events.items = rw (← c.self.view_is) at c.inputs_done-done.ensures in
-    rw (← c.self.view_is) (ap (λ (n : ℕ). nat_le (length c.as_slice.result.now) n) is ∙ ap (λ (rs : List InputRow). nat_le (length rs) (inputs_done core.cell core.events.items)) rows)
+    let is : c.inputs_done-done.result ≡ inputs_done core.cell core.pages.events = rw (← c.self.view_is) at c.inputs_done-done.ensures in
+    rw (← c.self.view_is) (ap (λ (n : ℕ). nat_le (length c.as_slice.result.now) n) is ∙ ap (λ (rs : List InputRow). nat_le (length rs) (inputs_done core.cell core.pages.events)) rows)

@@ -10,7 +10,7 @@ lets_pass-requires c =
     let core = c.self.inside in
     let rows = c.as_slice.ensures ∙ c.inputs.ensures in
     let done = c.inputs_done-done.result in
-    let is : done ≡ inputs_done core.cell core.events.items = rw (← c.self.view_is) at c.inputs_done-done.ensures in
+    let is : done ≡ inputs_done core.cell core.pages.events = rw (← c.self.view_is) at c.inputs_done-done.ensures in
     let at : slice_get core.cell.inputs done ≡ Some c.in-Some.row.now =
     ap (λ (rows : List InputRow). slice_get rows done) (sym rows)
     ∙ slice_get_read c.as_slice.result.now (length c.as_slice.result.now) done c.in-Some.row.now refl c.in-Some.ensures.lookup.3.0 c.in-Some.ensures.lookup.1 in
@@ -21,7 +21,7 @@ returns-in-None c =
     let core = c.self.inside in
     let rows = c.as_slice.ensures ∙ c.inputs.ensures in
     let done = c.inputs_done-done.result in
-    let is : done ≡ inputs_done core.cell core.events.items = rw (← c.self.view_is) at c.inputs_done-done.ensures in
+    let is : done ≡ inputs_done core.cell core.pages.events = rw (← c.self.view_is) at c.inputs_done-done.ensures in
     let at : slice_get core.cell.inputs done ≡ None =
     ap (λ (rows : List InputRow). slice_get rows done) (sym rows) ∙ slice_get_past c.as_slice.result.now done c.in-None.ensures.lookup.3 in
-    rw (← c.self.view_is) (closed_is core.cell core.events.items (subst (λ (k : ℕ). slice_get core.cell.inputs k ≡ None) is at))
+    rw (← c.self.view_is) (closed_is core.cell core.pages.events (subst (λ (k : ℕ). slice_get core.cell.inputs k ≡ None) is at))

@@ -8,5 +8,5 @@ pub returns-clause-going : goal.returns-clause-going
 returns-clause-going c =
     let core = c.self.inside in
     let within = rw (← c.self.view_is) at c.requires in
-    let same : c.actor.result.held ≡ is_held (part_of c.args.task core.events.items) = ap (λ (a : Actor). a.held) c.actor.ensures ∙ (c.self.invariant.0.actors c.args.task (omega (arith, within))).held in
-    rw (← c.self.view_is) (λ held. held_going core.cell core.events.items c.args.task within c.self.invariant.0.sound (sym same ∙ held))
+    let same : c.actor.result.held ≡ is_held (part_of c.args.task core.pages.events) = ap (λ (a : Actor). a.held) c.actor.ensures ∙ (c.self.invariant.0.actors c.args.task (omega (arith, within))).held in
+    rw (← c.self.view_is) (λ held. held_going core.cell core.pages.events c.args.task within c.self.invariant.0.sound (sym same ∙ held))

@@ -5,5 +5,5 @@ use Rattle.cell_core.proofs.shared.Core.len.Goals as goal
 pub returns-clause-few : goal.returns-clause-few
 returns-clause-few c =
     let core = c.self.inside in
-    let few = few_events core.cell core.events.items core.boards core.steps c.self.invariant.0 in
-    rw (← c.self.view_is) (omega (arith, c.len.ensures, core.events.ok.0, few))
+    let few = few_events core.cell core.pages.events core.boards core.steps c.self.invariant.0 in
+    rw (← c.self.view_is) (omega (arith, c.len.ensures.same, few))

@@ -8,13 +8,15 @@ pub invariant_of-result : goal.invariant_of-result
 invariant_of-result c =
     let tasks : c.len-tasks.result ≡ length c.args.cell.tasks = c.len-tasks.ensures ∙ ap (λ (rows : List TaskRow). length rows) c.tasks.ensures in
     let inputs : c.len.result ≡ length c.args.cell.inputs = c.len.ensures ∙ ap (λ (rows : List InputRow). length rows) c.inputs.ensures in
-    let events = c.in-Ok.ensures in
-    let fates = c.in-Ok-with_capacity.ensures in (
-      rw events.items (Keeps-none c.args.cell c.in-Some.boards c.steps-steps.result c.steps-steps.ensures.limits c.starts_full.ensures c.in-Some.ensures c.steps-steps.ensures.same),
+    let pages = c.in-Ok.ensures in
+    let room = c.in-Some-reserve.ensures.room in (
+      rw pages (Keeps-none c.args.cell c.in-Some.boards c.steps-steps.result c.steps-steps.ensures.limits c.starts_full.ensures c.in-Some.ensures c.steps-steps.ensures.same),
       record {
-        events = omega (arith, events.exact, c.steps-steps.ensures.same, tasks, inputs);
-        fates = omega (arith, fates.exact, tasks);
+        pages = rw pages (omega (arith, c.steps-steps.ensures.same, tasks, inputs));
+        events = omega (arith, room.0, c.steps-steps.ensures.same, tasks, inputs);
+        fates = omega (arith, room.1, tasks);
       },
-      fates.items,
+      c.in-Some-reserve.ensures.none.0,
+      c.in-Some-reserve.ensures.none.1,
       tasks,
     )

@@ -10,7 +10,7 @@ value-requires c =
     let core = c.self.inside in
     let asked = rw (← c.self.view_is) at c.requires in
     let there = found core.cell c.args.pers (λ row. has_path row c.args.path.now) asked in
-    has_part core.cell core.events.items core.boards core.steps c.args.pers there.row c.args.path.now c.self.invariant.0 there.at there.so
+    has_part core.cell core.pages.events core.boards core.steps c.args.pers there.row c.args.path.now c.self.invariant.0 there.at there.so
 
 pub returns : goal.returns
 returns c =

@@ -1,7 +1,11 @@
 use Rattle.std.proofs.Common.{◌∙◌}
 use Rattle.task_code.specs.Leads.{Runs}
+use Rattle.stack_code.specs.Steps.{step}
 use Rattle.task_steps.specs.Doing.{doing_of}
+use Rattle.task_steps.specs.Points.{conf_in}
 use Rattle.task_machine.proofs.Going.{comes_it, goes_it, nearer, steps_it}
+use Rattle.task_machine.proofs.Looking.{has_place}
+use Rattle.task_machine.proofs.Operations.{placed_step}
 use Rattle.task_machine.proofs.course.Course.advance.Goals as goal
 
 pub step-requires-clause-runs : goal.step-requires-clause-runs
@@ -21,3 +25,9 @@ returns-clause-nearer c =
 
 pub returns-clause-reached : goal.returns-clause-reached
 returns-clause-reached c = λ answers here. comes_it c.args.self.now.code c.args.self.now.task c.step.new.self answers c.requires.going c.args.self.now.runs c.step.ensures.on here
+
+pub returns-clause-place : goal.returns-clause-place
+returns-clause-place c =
+    let code = c.args.self.now.code in
+    let s = c.args.self.now.task in
+    has_place code (step code (conf_in code s.conf)) s.data' c.step.new.self (placed_step code (conf_in code s.conf) s.data') c.step.ensures.on

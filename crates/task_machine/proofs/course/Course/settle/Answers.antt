@@ -7,5 +7,6 @@ loop-self-preserved c =
     record {
       code = c.advance.ensures.code ∙ c.loop-self.invariant.code;
       begun = c.advance.ensures.begun;
+      place = c.advance.ensures.place;
       reached = λ answers here. on answers (c.loop-self.invariant.reached answers here);
     }

@@ -8,7 +8,7 @@ invariant_of-self c =
     let code = c.self.inside.course.code in
     let on = rw c.begin.ensures.code at c.settle.ensures.reached in
     let stands : StandsFor (machine_of code c.settle.new.self.task) [] = stands_settled code c.begin.new.self.task c.settle.new.self.task [] c.begin.ensures.stands (on []) in
-    rw (c.settle.ensures.code, c.begin.ensures.code) (settled_machine code c.settle.new.self.task [] c.settle.ensures.due stands)
+    rw (c.settle.ensures.code, c.begin.ensures.code) (settled_machine code c.settle.new.self.task [] c.settle.ensures.due stands c.settle.ensures.place)
 
 pub returns-clause-stands : goal.returns-clause-stands
 returns-clause-stands c =

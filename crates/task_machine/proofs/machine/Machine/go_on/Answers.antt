@@ -14,7 +14,7 @@ invariant_of-self c =
     let on = rw c.reply.ensures.code at c.settle.ensures.reached in
     let stands : StandsFor (machine_of code c.settle.new.self.task) answers =
     stands_settled code c.reply.new.self.task c.settle.new.self.task answers (c.reply.ensures.stands before.0 before.1) (on answers) in
-    rw (c.settle.ensures.code, c.reply.ensures.code) (settled_machine code c.settle.new.self.task answers c.settle.ensures.due stands)
+    rw (c.settle.ensures.code, c.reply.ensures.code) (settled_machine code c.settle.new.self.task answers c.settle.ensures.due stands c.settle.ensures.place)
 
 pub returns-clause-stands : goal.returns-clause-stands
 returns-clause-stands c = λ before stood.

@@ -7,8 +7,8 @@ use Rattle.task_steps.specs.Alike.{Follows}
 use Rattle.task_steps.specs.Doing.{raised_at}
 use Rattle.task_steps.specs.Points.{Waiting, Started, Called, Trapped, own_at, running_in, saved_in}
 use Rattle.task_steps.specs.Seen.{Seen}
-use Rattle.task_steps.specs.Tasks.{seen_task}
-use Rattle.task_steps.specs.declared.steps.phase.Phase.TheVariants as phases
+use Rattle.task_steps.specs.Phases as phases
+use Rattle.task_steps.specs.Phases.{phase_of}
 use Rattle.task_steps.proofs.Along.{alike_then, runs_along}
 use Rattle.task_steps.proofs.Errors.{not_some, out_called, out_none, out_started, out_trapped, part_stands}
 use Rattle.task_steps.proofs.task.Task.+raising.Goals as goal
@@ -18,7 +18,7 @@ raise-returns-in-Some-clause-on t c =
     let none : c.self.inside.frame.failed ≡ None = not_some c.self.inside.frame.failed (sym c.is_some.ensures ∙ c.if-is_some.false) in
     let there : handler_of c.args.code.now c.self.inside.frame.routine ≡ Some c.in-Some.handler =
     sym (ap (λ (hs : List (Option ℕ)). handler_in hs c.self.inside.frame.routine) c.marks.ensures.handlers) ∙ (sym c.handler_of.ensures ∙ c.in-Some.is) in
-    let going : c.self.inside.phase ≡ phases.Going = ap (λ (s : Seen). s.phase) c.self.view_is ∙ c.requires.going in
+    let going : phase_of c.self.inside.stage c.self.inside.asked c.self.inside.then ≡ phases.Going = ap (λ (s : Seen). s.phase) c.self.view_is ∙ c.requires.going in
     rw (← c.self.view_is) (part_stands c.args.code.now c.self.inside c.clear.new.self c.args.place c.args.error c.in-Some.handler going c.clear.ensures none there)
 
 pub raise_out-raise-requires : goal.raise_out-raise-requires
@@ -53,11 +53,11 @@ pub raise_out-returns-in-Some-Started-clause-on : goal.raise_out-returns-in-Some
 unfolding saved_in
 raise_out-returns-in-Some-Started-clause-on t c =
     let saved : c.args.self.now.conf.saved ≡ Started ∷ c.leave.new.self.conf.saved = rw c.in-Some-Started.field-0-is at c.in-Some-Started.ensures.saved in
-    out_started c.args.code.now (saved_in c.args.code.now c.args.self.now.conf.saved) c.args.self.now.data' (seen_task c.self-in-Some-Started.inside).data' (saved_in c.args.code.now c.leave.new.self.conf.saved) c.args.error (ap (saved_in c.args.code.now) saved) (ap (λ (s : Seen). s.data') c.self-in-Some-Started.view_is ∙ c.leave.ensures.data)
+    rw c.end.ensures (out_started c.args.code.now (saved_in c.args.code.now c.args.self.now.conf.saved) c.args.self.now.data' c.leave.new.self.data' (saved_in c.args.code.now c.leave.new.self.conf.saved) c.args.error (ap (saved_in c.args.code.now) saved) c.leave.ensures.data)
 
 pub raise_out-returns-in-Some-Trapped-clause-on : goal.raise_out-returns-in-Some-Trapped-clause-on
 unfolding saved_in
 raise_out-returns-in-Some-Trapped-clause-on t c =
     let after = c.leave.new.self.conf in
-    let saved : c.args.self.now.conf.saved ≡ Trapped after.pc after.frame ∷ after.saved = rw c.in-Some-Trapped.field-0-is at c.in-Some-Trapped.ensures.saved in
-    out_trapped c.args.code.now (saved_in c.args.code.now c.args.self.now.conf.saved) c.args.self.now.data' (seen_task c.self-in-Some-Trapped.inside).data' after.pc (running_in c.args.code.now after.frame) (saved_in c.args.code.now after.saved) c.args.error (ap (saved_in c.args.code.now) saved) (ap (λ (s : Seen). s.data') c.self-in-Some-Trapped.view_is ∙ c.leave.ensures.data)
+    let saved : c.args.self.now.conf.saved ≡ Trapped after.pc after.frame after.way ∷ after.saved = rw c.in-Some-Trapped.field-0-is at c.in-Some-Trapped.ensures.saved in
+    rw c.end-in-Some-Trapped.ensures (out_trapped c.args.code.now (saved_in c.args.code.now c.args.self.now.conf.saved) c.args.self.now.data' c.leave.new.self.data' after.pc (running_in c.args.code.now after.frame) after.way (saved_in c.args.code.now after.saved) c.args.error (ap (saved_in c.args.code.now) saved) c.leave.ensures.data)

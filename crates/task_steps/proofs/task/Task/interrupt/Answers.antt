@@ -10,4 +10,5 @@ unfolding saved_in
 returns-clause-turns c = λ number.
     let code = c.args.loaded.now in
     let t = seen_task c.self.inside in
-    rw (← c.self.view_is) (alike_then code _ _ _ _ _ _ (look_traps code (here_of code t.conf) number c.args.trap t.data') c.enter_alone.ensures.turns)
+    let trapped = rw c.take-way.ensures.value at c.enter_alone.ensures.turns in
+    rw (← c.self.view_is) (alike_then code _ _ _ _ _ _ (look_traps code (here_of code t.conf) number c.args.trap t.data') trapped)

@@ -25,6 +25,7 @@ invariant_of-self-in-Started c =
       values = rw c.leave.ensures k.values;
       few_values = rw c.leave.ensures (omega (arith, fewer_values c.self.inside.frames.frames));
       few_slots = k.few_slots;
+      over = k.over;
     }
 
 pub invariant_of-self-in-Called : goal.invariant_of-self-in-Called
@@ -48,6 +49,7 @@ invariant_of-self-in-Called c =
       values = rw c.leave.ensures k.values;
       few_values = rw c.leave.ensures (omega (arith, fewer_values c.self.inside.frames.frames));
       few_slots = k.few_slots;
+      over = k.over;
     }
 
 pub invariant_of-self-in-Trapped : goal.invariant_of-self-in-Trapped
@@ -71,4 +73,5 @@ invariant_of-self-in-Trapped c =
       values = rw c.leave.ensures k.values;
       few_values = rw c.leave.ensures (omega (arith, fewer_values c.self.inside.frames.frames));
       few_slots = k.few_slots;
+      over = k.over;
     }

@@ -18,4 +18,5 @@ invariant_of-self c =
       values = k.values;
       few_values = k.few_values;
       few_slots = k.few_slots;
+      over = k.over;
     }

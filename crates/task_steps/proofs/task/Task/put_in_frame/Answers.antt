@@ -18,4 +18,5 @@ invariant_of-self c =
       values = rw c.put.ensures k.values;
       few_values = rw (c.put.ensures, put_values c.self.inside.frames.frames c.args.frame c.args.at c.in_ok-held.held) k.few_values;
       few_slots = k.few_slots;
+      over = k.over;
     }

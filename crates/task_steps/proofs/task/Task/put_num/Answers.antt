@@ -21,4 +21,5 @@ invariant_of-self-in-Frame c =
       values = rw c.put_num.ensures k.values;
       few_values = rw (c.put_num.ensures, put_values c.self.inside.frames.frames c.in-Frame.frame c.in-Frame.at new) k.few_values;
       few_slots = k.few_slots;
+      over = k.over;
     }

@@ -52,6 +52,7 @@ invariant_of-self c =
       values = rw c.put_num.ensures k.values;
       few_values = rw c.put_num.ensures (rw (put_values c.self.inside.frames.frames (c.count-count.result - 1) c.args.at new) k.few_values);
       few_slots = k.few_slots;
+      over = k.over;
     }
 
 pub returns-clause-turns : goal.returns-clause-turns

@@ -1,0 +1,14 @@
+use Rattle.std.proofs.Common.{sym}
+use Rattle.std.proofs.lemmas.Bool.{false≢true}
+use Rattle.controller.proofs.Printing.{line_skipped, unlined, without_line}
+use Rattle.controller.proofs.print.print_event.Goals as goal
+
+pub returns-then-not-is_lined : goal.returns-then-not-is_lined
+returns-then-not-is_lined g c = λ e at.
+    line_skipped c.args.full c.args.core.now.cell.tasks e _ c.if-not-full.true (unlined c.args.core.now.cell.tasks e (sym (c.if-not-is_lined.ensures e at)))
+
+pub returns-then-not-has_line : goal.returns-then-not-has_line
+returns-then-not-has_line g c = λ e at.
+    line_skipped c.args.full c.args.core.now.cell.tasks e _ c.if-not-full-2.true
+    (without_line c.args.core.now.cell.tasks c.args.core.now.history c.args.k c.event-event.result e c.event-event.ensures at
+    (λ some. false≢true ((c.if-not-has_line.ensures c.args.core.now.cell.tasks).1 some)))

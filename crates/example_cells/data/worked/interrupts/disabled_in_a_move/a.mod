@@ -1,0 +1,15 @@
+MODULE M
+VAR intnum i1;
+TRAP t1
+TPWrite "t1";
+ENDTRAP
+PROC main()
+CONNECT i1 WITH t1;
+ISignalDI di1, 1, i1;
+IDisable;
+MoveAbsJ [[3,0,0,0,0,0],[9E9,9E9,9E9,9E9,9E9,9E9]], v1000, fine, tool0;
+TPWrite "moved";
+IEnable;
+TPWrite "end";
+ENDPROC
+ENDMODULE

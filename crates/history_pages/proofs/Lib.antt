@@ -1,0 +1,9 @@
+pub mod Paging
+pub mod Written
+pub mod Kept
+pub mod Packed
+pub mod Reading
+pub mod Writing
+pub mod Replies
+pub mod Lined
+pub mod Examples
